@@ -1,0 +1,5 @@
+//! Sets of flags.
+
+mod features;
+
+pub use features::{VhostUserProtocolFeatures, VhostUserVirtioFeatures};

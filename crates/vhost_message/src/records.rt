@@ -1,0 +1,21 @@
+//! The bodies of messages.
+
+mod config;
+mod inflight;
+mod log;
+mod memory;
+mod plain;
+mod shared;
+mod shmem;
+mod transfer;
+mod vring;
+
+pub use config::VhostUserConfig;
+pub use inflight::VhostUserInflight;
+pub use log::VhostUserLog;
+pub use memory::{VhostUserMemory, VhostUserMemoryRegion, VhostUserSingleMemoryRegion};
+pub use plain::{VhostUserEmpty, VhostUserU64};
+pub use shared::VhostUserSharedMsg;
+pub use shmem::{VhostUserMMap, VhostUserShMemConfig};
+pub use transfer::VhostUserTransferDeviceState;
+pub use vring::{VhostUserVringAddr, VhostUserVringState};
