@@ -1,5 +1,5 @@
 -- The requests of a frontend and their numbers.
-use Rattle.std.specs.Prelude.{◌≡◌, ℕ, suc, Bool, true, false, ◌||◌, List, [], ◌∷◌, Option, Some, None, Result, ok_or, unwrap_or, is_some, ◌==◌, if◌then◌else◌, refl, ⊤}
+use Rattle.std.specs.Prelude.{◌≡◌, ℕ, suc, Bool, true, false, List, [], ◌∷◌, Option, Some, None, Result, ok_or, unwrap_or, is_some, ◌==◌, if◌then◌else◌, refl, ⊤}
 use Rattle.std.proofs.Common.{ap, sym, ◌∙◌}
 use Rattle.std.proofs.lemmas.Bool.{eqb-true, false≢true}
 use Rattle.vhost_message.specs.declared.frontend_req.FrontendReq.{FrontendReq}

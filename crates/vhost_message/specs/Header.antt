@@ -1,5 +1,6 @@
 -- The twelve bytes at the head of a message.
-use Rattle.std.specs.Prelude.{ℕ, ◌+◌, ◌*◌, ◌/◌, ◌%◌, Bool, ◌&&◌, List, ◌++◌, ◌==◌, nat_le, nat_lt}
+use Rattle.std.specs.Prelude.{ℕ, ◌+◌, ◌*◌, ◌/◌, ◌%◌, Bool, not, ◌&&◌, List, ◌++◌, ◌==◌, nat_le, nat_lt, Option, is_some}
+use Rattle.vhost_message.specs.Bits.{has_bit}
 use Rattle.vhost_message.specs.Text.{digits, number_at}
 
 -- the three numbers: the request, the flags, and the size of the body
@@ -23,3 +24,11 @@ is_valid_header h = h.flags % 4 == 1 && nat_lt h.flags 16 && nat_le h.size 4096
 -- of the flags only REPLY and NEED_REPLY, with the version 1
 abbrev pub with_version : ℕ → ℕ
 with_version flags = flags / 4 % 4 * 4 + 1
+
+-- the first answers the second: both have the same known code, the first has REPLY, and the second has not
+abbrev pub is_reply_for : {R : Type 0} → (ℕ → Option R) → Header → Header → Bool
+is_reply_for code_of reply request = is_some (code_of reply.code) && reply.code == request.code && has_bit reply.flags 2 && not (has_bit request.flags 2)
+
+-- the same three numbers
+abbrev pub is_same : Header → Header → Bool
+is_same a b = a.code == b.code && a.flags == b.flags && a.size == b.size

@@ -1,4 +1,5 @@
 pub mod Text
+pub mod Bits
 pub mod Cause
 pub mod FrontendReq
 pub mod Header

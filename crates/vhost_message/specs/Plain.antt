@@ -1,6 +1,6 @@
 -- The record of one number.
-use Rattle.std.specs.Prelude.{◌≡◌, ℕ, ◌<◌, ◌^◌, [], ◌++◌}
-use Rattle.std.proofs.Common.{ap, ◌∙◌, sym}
+use Rattle.std.specs.Prelude.{◌≡◌, ℕ, ◌<◌, ◌^◌, []}
+use Rattle.std.proofs.Common.{ap}
 use Rattle.byteorder.specs.Numbers.{little_number-reads_back}
 use Rattle.vhost_message.specs.declared.records.plain.VhostUserU64.{VhostUserU64}
 use Rattle.vhost_message.specs.Text.{digits, number_at}
