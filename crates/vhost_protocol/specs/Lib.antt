@@ -1,1 +1,14 @@
 pub mod Stream
+pub mod Error
+pub mod Features
+pub mod Codes
+pub mod Split
+pub mod Session
+pub mod Written
+pub mod Served
+pub mod DeviceCall
+pub mod Step
+pub mod Socket
+pub mod Row
+pub mod Run
+pub mod Handler

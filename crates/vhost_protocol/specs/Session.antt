@@ -1,0 +1,36 @@
+-- What a handler remembers of its frontend.
+use Rattle.std.specs.Prelude.{ℕ, ℤ, Bool, true, false, ◌&&◌, Option, None}
+use Rattle.vhost_message.specs.declared.postcopy.PostcopyState.{PostcopyState}
+use Rattle.vhost_message.specs.declared.postcopy.PostcopyState.TheVariants.{Inactive, Advise, Listen}
+use Rattle.vhost_protocol.specs.Features.{has_bit, PROTOCOL_FEATURES, REPLY_ACK}
+
+-- postcopy has not begun ("Postcopy")
+abbrev pub is_inactive : PostcopyState → Bool
+is_inactive Inactive = true
+is_inactive _ = false
+
+-- the frontend advised of it
+abbrev pub is_advise : PostcopyState → Bool
+is_advise Advise = true
+is_advise _ = false
+
+-- the backend listens for page faults
+abbrev pub is_listen : PostcopyState → Bool
+is_listen Listen = true
+is_listen _ = false
+
+-- the features offered and acknowledged, the protocol features acknowledged, how far postcopy is, and the number of a failure
+pub record Session : Type 0 where
+  pub offered : ℕ
+  pub acked : ℕ
+  pub acked_p : ℕ
+  pub postcopy : PostcopyState
+  pub failed : Option ℤ
+
+-- a new session
+abbrev pub fresh : Session
+fresh = record { offered = 0; acked = 0; acked_p = 0; postcopy = Inactive; failed = None }
+
+-- requests are acknowledged where they ask for it: the virtio feature was offered, and REPLY_ACK acknowledged
+abbrev pub ack_on : Session → Bool
+ack_on s = has_bit s.offered PROTOCOL_FEATURES && has_bit s.acked_p REPLY_ACK
