@@ -1,10 +1,10 @@
 -- The flags of a header, as numbers.
-use Rattle.std.proofs.Common.{◌≡◌, ◌≤◌, ◌<◌, ℕ, zero, suc, zero-mul, one-mul, ◌+◌, ◌-◌, ◌*◌, ◌/◌, ◌%◌, ◌^◌, ◌==◌, not, true, false, bit_and, bit_or, arith, ◌∙◌, ap}
+use Rattle.std.proofs.Common.{◌≡◌, ◌≤◌, ◌<◌, ℕ, zero, suc, zero-mul, one-mul, ◌+◌, ◌-◌, ◌*◌, ◌/◌, ◌%◌, ◌^◌, ◌==◌, not, Bool, true, false, if◌then◌else◌, lit≤, bit_and, bit_or, arith, ◌∙◌, ap}
 use Rattle.std.specs.Int.{bit_at}
 use Rattle.std.specs.Int.Bits.{or_add_and}
 use Rattle.std.proofs.lemmas.Bool.Decides.{nat_tests}
-use Rattle.std.proofs.lemmas.Nat.{and_mask, and_comm, and-not, or_disjoint, pow_pos, shr_split, mod-pow-add}
-use Rattle.std.proofs.lemmas.Nat.Bits.{and_high, and_pow, bit_at-lt}
+use Rattle.std.proofs.lemmas.Nat.{and_mask, and_comm, and-not, or_disjoint, or_shifted, pow_pos, shr_split, mod-pow-add}
+use Rattle.std.proofs.lemmas.Nat.Bits.{and_high, and_high_mask, and_pow, bit_at-lt}
 use Rattle.vhost_message.specs.Bits.{has_bit, with_bit}
 use Rattle.vhost_message.specs.Header.{with_version, is_valid_header}
 
@@ -63,3 +63,16 @@ with_bit-cleared f k fits small =
     let turned_bit : bit_and (2 ^ k) f ≡ bit_and f (2 ^ k) = and_comm (2 ^ k) f in
     let bit : bit_and f (2 ^ k) ≡ bit_at f k * 2 ^ k = and_pow f k in
     omega arith
+
+-- to set or clear a flag writes its bit
+pub with_bit-written : (f k : ℕ) → f < 2 ^ 32 → 2 ^ k < 2 ^ 32 → (on : Bool) → (if on then bit_or f (2 ^ k) else bit_and f (2 ^ 32 - 1 - 2 ^ k)) ≡ with_bit k on f
+with_bit-written f k fits small true = with_bit-set f k
+with_bit-written f k fits small false = with_bit-cleared f k fits small
+
+-- to write the version leaves the flags above it
+pub version-written : (f v : ℕ) → f < 2 ^ 32 → bit_or (bit_and f (2 ^ 32 - 1 - 3)) (bit_and v 3) ≡ f / 4 * 4 + v % 4
+version-written f v fits =
+    let high : bit_and f (2 ^ 32 - 4) ≡ f / 4 * 4 = and_high_mask 32 2 (lit≤ tt) f fits in
+    let low : bit_and v 3 ≡ v % 4 = and_mask v 2 in
+    let small : v % 4 < 4 = omega arith in
+    rw (high, low) (or_shifted (f / 4) 2 (v % 4) small)

@@ -11,7 +11,7 @@ fields_of h = record { code = h.request; flags = h.flags; size = h.size }
 
 -- the header of three numbers
 abbrev pub of_fields : {R : Type 0} → Header → VhostUserMsgHeader R
-of_fields h = record { request = h.code; flags = h.flags; size = h.size; of = record { } }
+of_fields h = record { request = h.code; flags = h.flags; size = h.size; of = record {} }
 
 -- each number has 32 bits
 pub record Fits (h : Header) : Type 0 where

@@ -1,16 +1,21 @@
 //! The header of each message.
 
-ghost use Rattle.std.specs.Prelude.{◌≡◌, ◌<◌, ◌^◌, ◌&&◌, is_some, refl};
-ghost use Rattle.vhost_message.specs.Header.{header_text, header_of, is_valid_header, with_version};
+ghost use Rattle.std.specs.Prelude.{◌≡◌, ◌<◌, ◌^◌, ◌+◌, ◌-◌, ◌*◌, ◌/◌, ◌%◌, ◌&&◌, is_some, refl, ok_or, bit_and, bit_or, if◌then◌else◌};
+ghost use Rattle.std.proofs.Common.{rules};
+ghost use Rattle.std.specs.Cmp.Rules.{comparing};
+ghost use Rattle.vhost_message.specs.Bits.{has_bit, with_bit};
+ghost use Rattle.vhost_message.specs.Header.{header_text, header_of, is_valid_header, with_version, is_reply_for, is_same};
 ghost use Rattle.vhost_message.specs.MsgHeader.{fields_of, of_fields, Fits, header-reads_back};
 
 use crate::bytes::{ByteValued, VhostUserMsgValidator};
+use crate::error::{Error, Result};
+use crate::flags::VhostUserHeaderFlag;
+use crate::limits::MAX_MSG_SIZE;
 use crate::req::{MsgHeader, Req};
+use bitflags::Flags;
 use byteorder::{ByteOrder, LittleEndian};
+use std::fmt;
 use std::marker::PhantomData;
-
-/// The greatest size of a message's body, in bytes.
-pub const MAX_MSG_SIZE: usize = 0x1000;
 
 /// The header of a message: the number of its request, flags, and the size of its body in bytes. The number may be
 /// none of the codes of `R`: then the header isn't valid.
@@ -34,6 +39,134 @@ impl<R: Req> VhostUserMsgHeader<R> {
             size,
             of: PhantomData,
         }
+    }
+
+    /// The code of the request; InvalidMessage where its number is none of the codes.
+    pub fn get_code(&self) -> Result<R>
+        ensures { result ≡ ok_or (R.code (fields_of self.now).code) Error.InvalidMessage }
+    {
+        R::code(self.request).ok_or(Error::InvalidMessage)
+    }
+
+    /// Changes the code, and nothing else.
+    pub fn set_code(&mut self, request: R)
+        ensures { fields_of self.new ≡ record (fields_of self.old) { code = R.number request } }
+    {
+        self.request = request.number();
+    }
+
+    /// The size of the body, in bytes.
+    pub fn get_size(&self) -> u32
+        ensures { result ≡ (fields_of self.now).size }
+    {
+        self.size
+    }
+
+    /// Changes the size of the body, in bytes, and nothing else.
+    pub fn set_size(&mut self, size: u32)
+        ensures { fields_of self.new ≡ record (fields_of self.old) { size = size } }
+    {
+        self.size = size;
+    }
+
+    /// The version of the protocol: the two low bits of the flags.
+    pub fn get_version(&self) -> u32
+        ensures { result ≡ (fields_of self.now).flags % 4 }
+    {
+        self.flags & VhostUserHeaderFlag::VERSION.bits()
+    }
+
+    /// Changes the version to the two low bits of `version`, and no other bit.
+    pub fn set_version(&mut self, version: u32)
+        ensures { fields_of self.new ≡ record (fields_of self.old) { flags = (fields_of self.old).flags / 4 * 4 + version % 4 } }
+    {
+        let flags = self.flags;
+        let mask = VhostUserHeaderFlag::VERSION.bits();
+        self.flags = flags & !mask | version & mask;
+    }
+
+    /// Whether the message is a reply.
+    pub fn is_reply(&self) -> bool
+        ensures { result ≡ has_bit (fields_of self.now).flags 2 }
+    {
+        self.flags & VhostUserHeaderFlag::REPLY.bits() != 0
+    }
+
+    /// Says whether the message is a reply, and changes nothing else.
+    pub fn set_reply(&mut self, is_reply: bool)
+        ensures { fields_of self.new ≡ record (fields_of self.old) { flags = with_bit 2 is_reply (fields_of self.old).flags } }
+    {
+        self.set_flag(VhostUserHeaderFlag::REPLY, is_reply);
+    }
+
+    /// Whether the sender asks for an acknowledgement.
+    pub fn is_need_reply(&self) -> bool
+        ensures { result ≡ has_bit (fields_of self.now).flags 3 }
+    {
+        self.flags & VhostUserHeaderFlag::NEED_REPLY.bits() != 0
+    }
+
+    /// Says whether the sender asks for an acknowledgement, and changes nothing else.
+    pub fn set_need_reply(&mut self, need_reply: bool)
+        ensures { fields_of self.new ≡ record (fields_of self.old) { flags = with_bit 3 need_reply (fields_of self.old).flags } }
+    {
+        self.set_flag(VhostUserHeaderFlag::NEED_REPLY, need_reply);
+    }
+
+    /// Whether this header answers that of `request`: both have the same known code, this one has REPLY, and the
+    /// other has not. Sizes are not compared.
+    pub fn is_reply_for(&self, request: &VhostUserMsgHeader<R>) -> bool
+        ensures { result ≡ is_reply_for R.code (fields_of self.now) (fields_of request.now) }
+    {
+        R::code(self.request).is_some()
+            && self.request == request.request
+            && self.is_reply()
+            && !request.is_reply()
+    }
+
+    // Sets or clears one flag.
+    fn set_flag(&mut self, flag: VhostUserHeaderFlag, on: bool)
+        ensures fits { (fields_of self.old).flags < 2 ^ 32 }
+        ensures flags { fields_of self.new ≡ record (fields_of self.old) { flags = if on then bit_or (fields_of self.old).flags flag.bits else bit_and (fields_of self.old).flags (2 ^ 32 - 1 - flag.bits) } }
+    {
+        let mut flags = VhostUserHeaderFlag::from_bits_retain(self.flags);
+        flags.set(flag, on);
+        self.flags = flags.bits();
+    }
+}
+
+impl<R: Req> Default for VhostUserMsgHeader<R> {
+    ghost is_default = { λ h. fields_of h ≡ record { code = 0; flags = 1; size = 0 } };
+
+    /// The request 0, which is no code, with version 1 and no body.
+    fn default() -> Self {
+        VhostUserMsgHeader {
+            request: 0,
+            flags: 1,
+            size: 0,
+            of: PhantomData,
+        }
+    }
+}
+
+impl<R: Req> PartialEq for VhostUserMsgHeader<R> {
+    ghost eq = { λ a b. is_same (fields_of a) (fields_of b) };
+
+    ghost laws = { Prim.search (comparing, rules) };
+
+    /// Whether all three numbers are equal.
+    fn eq(&self, other: &Self) -> bool {
+        self.request == other.request && self.flags == other.flags && self.size == other.size
+    }
+}
+
+impl<R: Req> fmt::Debug for VhostUserMsgHeader<R> {
+    fn fmt<W: fmt::Write>(&self, f: &mut fmt::Formatter<W>) -> fmt::Result {
+        f.debug_struct("VhostUserMsgHeader")
+            .field("request", &self.request)
+            .field("flags", &self.flags)
+            .field("size", &self.size)
+            .finish()
     }
 }
 

@@ -7,6 +7,7 @@ mod error;
 mod flags;
 mod frontend_req;
 mod header;
+mod limits;
 mod postcopy;
 mod records;
 mod req;
@@ -14,9 +15,16 @@ mod req;
 pub use bytes::{ByteValued, VhostUserMsgValidator};
 pub use cause::IoCause;
 pub use error::{Error, Result};
-pub use flags::{VhostUserProtocolFeatures, VhostUserVirtioFeatures};
+pub use flags::{
+    VhostUserConfigFlags, VhostUserHeaderFlag, VhostUserMMapFlags, VhostUserProtocolFeatures,
+    VhostUserVirtioFeatures, VhostUserVringAddrFlags,
+};
 pub use frontend_req::FrontendReq;
 pub use header::VhostUserMsgHeader;
+pub use limits::{
+    MAX_ATTACHED_FD_ENTRIES, MAX_MSG_SIZE, VHOST_USER_CONFIG_OFFSET, VHOST_USER_CONFIG_SIZE,
+    VHOST_USER_MAX_VRINGS,
+};
 pub use postcopy::PostcopyState;
 pub use records::{VhostUserEmpty, VhostUserU64};
 pub use req::{MsgHeader, Req};

@@ -13,7 +13,9 @@ pub struct VhostUserVirtioFeatures {
 impl VhostUserVirtioFeatures {
     pub const LOG_ALL: VhostUserVirtioFeatures = VhostUserVirtioFeatures { bits: 0x4000000 };
 
-    pub const PROTOCOL_FEATURES: VhostUserVirtioFeatures = VhostUserVirtioFeatures { bits: 0x40000000 };
+    pub const PROTOCOL_FEATURES: VhostUserVirtioFeatures = VhostUserVirtioFeatures {
+        bits: 0x40000000,
+    };
 
     const FLAGS: &'static [Flag<VhostUserVirtioFeatures>] = &[
         Flag {
@@ -76,29 +78,43 @@ impl VhostUserProtocolFeatures {
 
     pub const CONFIG: VhostUserProtocolFeatures = VhostUserProtocolFeatures { bits: 0x200 };
 
-    pub const BACKEND_SEND_FD: VhostUserProtocolFeatures = VhostUserProtocolFeatures { bits: 0x400 };
+    pub const BACKEND_SEND_FD: VhostUserProtocolFeatures = VhostUserProtocolFeatures {
+        bits: 0x400,
+    };
 
     pub const HOST_NOTIFIER: VhostUserProtocolFeatures = VhostUserProtocolFeatures { bits: 0x800 };
 
-    pub const INFLIGHT_SHMFD: VhostUserProtocolFeatures = VhostUserProtocolFeatures { bits: 0x1000 };
+    pub const INFLIGHT_SHMFD: VhostUserProtocolFeatures = VhostUserProtocolFeatures {
+        bits: 0x1000,
+    };
 
     pub const RESET_DEVICE: VhostUserProtocolFeatures = VhostUserProtocolFeatures { bits: 0x2000 };
 
-    pub const INBAND_NOTIFICATIONS: VhostUserProtocolFeatures = VhostUserProtocolFeatures { bits: 0x4000 };
+    pub const INBAND_NOTIFICATIONS: VhostUserProtocolFeatures = VhostUserProtocolFeatures {
+        bits: 0x4000,
+    };
 
-    pub const CONFIGURE_MEM_SLOTS: VhostUserProtocolFeatures = VhostUserProtocolFeatures { bits: 0x8000 };
+    pub const CONFIGURE_MEM_SLOTS: VhostUserProtocolFeatures = VhostUserProtocolFeatures {
+        bits: 0x8000,
+    };
 
     pub const STATUS: VhostUserProtocolFeatures = VhostUserProtocolFeatures { bits: 0x10000 };
 
     pub const XEN_MMAP: VhostUserProtocolFeatures = VhostUserProtocolFeatures { bits: 0x20000 };
 
-    pub const SHARED_OBJECT: VhostUserProtocolFeatures = VhostUserProtocolFeatures { bits: 0x40000 };
+    pub const SHARED_OBJECT: VhostUserProtocolFeatures = VhostUserProtocolFeatures {
+        bits: 0x40000,
+    };
 
     pub const DEVICE_STATE: VhostUserProtocolFeatures = VhostUserProtocolFeatures { bits: 0x80000 };
 
-    pub const GET_VRING_BASE_INFLIGHT: VhostUserProtocolFeatures = VhostUserProtocolFeatures { bits: 0x100000 };
+    pub const GET_VRING_BASE_INFLIGHT: VhostUserProtocolFeatures = VhostUserProtocolFeatures {
+        bits: 0x100000,
+    };
 
-    pub const GPA_ADDRESSES: VhostUserProtocolFeatures = VhostUserProtocolFeatures { bits: 0x200000 };
+    pub const GPA_ADDRESSES: VhostUserProtocolFeatures = VhostUserProtocolFeatures {
+        bits: 0x200000,
+    };
 
     pub const SHMEM: VhostUserProtocolFeatures = VhostUserProtocolFeatures { bits: 0x400000 };
 

@@ -32,7 +32,7 @@ impl ByteValued for VhostUserEmpty {
 
     ghost text = { λ _. [] };
 
-    ghost read = { λ _. record { } };
+    ghost read = { λ _. record {} };
 
     ghost fits = { λ _. ⊤ };
 
