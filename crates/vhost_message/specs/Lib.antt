@@ -1,6 +1,8 @@
 pub mod Text
 pub mod Bits
 pub mod Cause
+pub mod Reconnect
+pub mod IoError
 pub mod FrontendReq
 pub mod Header
 pub mod MsgHeader

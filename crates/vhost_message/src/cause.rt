@@ -1,5 +1,6 @@
 //! Why a call of the system failed.
 
+use std::error::Error;
 use std::fmt;
 
 /// The number of the system's error, or the name of a cause that has no number.
@@ -17,3 +18,5 @@ impl fmt::Display for IoCause {
         }
     }
 }
+
+impl Error for IoCause {}

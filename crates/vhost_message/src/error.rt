@@ -2,6 +2,7 @@
 
 ghost use Rattle.std.specs.Prelude.{◌≡◌};
 ghost use Rattle.vhost_message.specs.Cause.{error_of, is_retry};
+ghost use Rattle.vhost_message.specs.Reconnect.{should_reconnect};
 
 use crate::cause::IoCause;
 use crate::flags::{VhostUserProtocolFeatures, VhostUserVirtioFeatures};
@@ -98,6 +99,21 @@ impl From<IoCause> for Error {
             IoCause::Raw(13) => Error::SocketConnect(cause),
             _ => Error::SocketError(cause),
         }
+    }
+}
+
+impl Error {
+    /// Whether the connection should be closed and made again.
+    pub fn should_reconnect(&self) -> bool
+        ensures { result ≡ should_reconnect self.now }
+    {
+        matches!(
+            self,
+            Error::PartialMessage
+                | Error::SocketBroken(_)
+                | Error::BackendInternalError
+                | Error::FrontendInternalError
+        )
     }
 }
 

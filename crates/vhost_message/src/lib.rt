@@ -7,6 +7,7 @@ mod error;
 mod flags;
 mod frontend_req;
 mod header;
+mod io_error;
 mod limits;
 mod postcopy;
 mod records;
@@ -21,6 +22,7 @@ pub use flags::{
 };
 pub use frontend_req::FrontendReq;
 pub use header::VhostUserMsgHeader;
+pub use io_error::{HandlerResult, IoError};
 pub use limits::{
     MAX_ATTACHED_FD_ENTRIES, MAX_MSG_SIZE, VHOST_USER_CONFIG_OFFSET, VHOST_USER_CONFIG_SIZE,
     VHOST_USER_MAX_VRINGS,
