@@ -31,7 +31,7 @@ pub trait ByteValued {
         ensures fits { fits result };
 
     /// Each text has the one length.
-    ghost text_length: { (v : Self) → length (text v) ≡ SIZE };
+    ghost text_length: { (v : Self) → fits v → length (text v) ≡ SIZE };
 
     /// What was written is read again.
     ghost reads_back: { (v : Self) → fits v → read (text v) ≡ v };

@@ -181,7 +181,7 @@ impl<R: Req> ByteValued for VhostUserMsgHeader<R> {
 
     ghost fits = { λ h. Fits (fields_of h) };
 
-    ghost text_length = { λ h. refl };
+    ghost text_length = { λ h _. refl };
 
     ghost reads_back = { header-reads_back };
 

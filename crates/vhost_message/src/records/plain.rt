@@ -36,7 +36,7 @@ impl ByteValued for VhostUserEmpty {
 
     ghost fits = { λ _. ⊤ };
 
-    ghost text_length = { λ _. refl };
+    ghost text_length = { λ _ _. refl };
 
     ghost reads_back = { λ v _. refl };
 
@@ -66,7 +66,7 @@ impl ByteValued for VhostUserU64 {
 
     ghost fits = { λ v. v.value < 2 ^ 64 };
 
-    ghost text_length = { λ v. refl };
+    ghost text_length = { λ v _. refl };
 
     ghost reads_back = { u64-reads_back };
 
