@@ -9,3 +9,4 @@ pub mod MsgHeader
 pub mod Plain
 pub mod Records
 pub mod Valid
+pub mod RecordLaws
