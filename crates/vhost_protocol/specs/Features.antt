@@ -1,10 +1,5 @@
 -- Features that both sides negotiate, by their bits ("Feature negotiation" and "Protocol features").
-use Rattle.std.specs.Int.{bit_at}
-use Rattle.std.specs.Prelude.{ℕ, Bool, ◌==◌}
-
--- bit k of a word is set
-abbrev pub has_bit : ℕ → ℕ → Bool
-has_bit word k = bit_at word k == 1
+use Rattle.std.specs.Prelude.{ℕ}
 
 -- the virtio feature that opens the protocol features (VHOST_USER_F_PROTOCOL_FEATURES)
 abbrev pub PROTOCOL_FEATURES : ℕ

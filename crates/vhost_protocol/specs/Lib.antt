@@ -12,3 +12,10 @@ pub mod Socket
 pub mod Row
 pub mod Run
 pub mod Handler
+pub mod Ring
+pub mod FrontendCall
+pub mod Ask
+pub mod AnswerTable
+pub mod ReplySplit
+pub mod Take
+pub mod Joined

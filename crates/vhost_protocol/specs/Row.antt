@@ -1,6 +1,7 @@
 -- The protocol table: what a handler does with each request ("Front-end message types").
 use Rattle.std.specs.Prelude.{ℕ, ◌+◌, ◌*◌, ◌%◌, ◌^◌, Bool, true, false, not, ◌&&◌, List, [], ◌∷◌, drop, length, Option, Some, None, Result, Ok, Err, if◌then◌else◌, ◌==◌, nat_le, bit_or, codes, ⊤}
 use Rattle.std.specs.List.{list_all}
+use Rattle.vhost_message.specs.Bits.{has_bit}
 use Rattle.vhost_message.specs.declared.frontend_req.FrontendReq.{FrontendReq}
 use Rattle.vhost_message.specs.declared.frontend_req.FrontendReq.TheVariants.{GET_FEATURES, SET_FEATURES, SET_OWNER, RESET_OWNER, SET_MEM_TABLE, SET_LOG_BASE, SET_VRING_NUM, SET_VRING_ADDR, SET_VRING_BASE, GET_VRING_BASE, SET_VRING_KICK, SET_VRING_CALL, SET_VRING_ERR, GET_PROTOCOL_FEATURES, SET_PROTOCOL_FEATURES, GET_QUEUE_NUM, SET_VRING_ENABLE, SET_BACKEND_REQ_FD, GET_CONFIG, SET_CONFIG, POSTCOPY_ADVISE, POSTCOPY_LISTEN, POSTCOPY_END, GET_INFLIGHT_FD, SET_INFLIGHT_FD, GPU_SET_SOCKET, RESET_DEVICE, GET_MAX_MEM_SLOTS, ADD_MEM_REG, REM_MEM_REG, GET_SHARED_OBJECT, SET_DEVICE_STATE_FD, CHECK_DEVICE_STATE, GET_SHMEM_CONFIG}
 use Rattle.vhost_message.specs.declared.postcopy.PostcopyState.{PostcopyState}
@@ -14,7 +15,7 @@ use Rattle.vhost_message.specs.Records.{u64_at, memory_of, regions_of, single_re
 use Rattle.vhost_message.specs.Valid.{is_valid_region, is_valid_memory, is_valid_vring_addr, is_valid_config, is_valid_inflight, is_valid_log, is_valid_uuid, is_valid_transfer}
 use Rattle.vhost_protocol.specs.DeviceCall.{SetOwner, ResetOwner, ResetDevice, GetFeatures, SetFeatures, SetMemTable, SetVringNum, SetVringAddr, SetVringBase, GetVringBase, SetVringKick, SetVringCall, SetVringErr, GetProtocolFeatures, SetProtocolFeatures, GetQueueNum, SetVringEnable, GetConfig, SetConfig, SetBackendReqFd, SetGpuSocket, GetSharedObject, GetInflightFd, SetInflightFd, GetMaxMemSlots, AddMemRegion, RemoveMemRegion, SetDeviceStateFd, CheckDeviceState, GetShmemConfig, PostcopyAdvice, PostcopyListen, PostcopyEnd, PostcopyAckMemRegions, SetLogBase}
 use Rattle.vhost_protocol.specs.Error.{Error, InvalidParam, InvalidOperation, InactiveFeature, InactiveOperation, InvalidMessage, IncorrectFds, BackendInternalError, FrontendInternalError}
-use Rattle.vhost_protocol.specs.Features.{has_bit, PROTOCOL_FEATURES, MQ, LOG_SHMFD, REPLY_ACK, BACKEND_REQ, PAGEFAULT, CONFIG, INFLIGHT_SHMFD, RESETS_DEVICE, CONFIGURE_MEM_SLOTS, SHARED_OBJECT, SHMEM}
+use Rattle.vhost_protocol.specs.Features.{PROTOCOL_FEATURES, MQ, LOG_SHMFD, REPLY_ACK, BACKEND_REQ, PAGEFAULT, CONFIG, INFLIGHT_SHMFD, RESETS_DEVICE, CONFIGURE_MEM_SLOTS, SHARED_OBJECT, SHMEM}
 use Rattle.vhost_protocol.specs.Session.{Session, is_inactive, is_advise, is_listen}
 use Rattle.vhost_protocol.specs.Split.{Message}
 use Rattle.vhost_protocol.specs.Step.{Outcome, Refusal, Step, Refused, Calls, OpensBackend, OpensGpu, ◌>>=◌, ◌>>◌, silently, acknowledged, test, acked, failed_with, replied, replied_or_silent, unwritten}

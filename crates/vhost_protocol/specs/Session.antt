@@ -1,8 +1,9 @@
 -- What a handler remembers of its frontend.
 use Rattle.std.specs.Prelude.{ℕ, ℤ, Bool, true, false, ◌&&◌, Option, None}
+use Rattle.vhost_message.specs.Bits.{has_bit}
 use Rattle.vhost_message.specs.declared.postcopy.PostcopyState.{PostcopyState}
 use Rattle.vhost_message.specs.declared.postcopy.PostcopyState.TheVariants.{Inactive, Advise, Listen}
-use Rattle.vhost_protocol.specs.Features.{has_bit, PROTOCOL_FEATURES, REPLY_ACK}
+use Rattle.vhost_protocol.specs.Features.{PROTOCOL_FEATURES, REPLY_ACK}
 
 -- postcopy has not begun ("Postcopy")
 abbrev pub is_inactive : PostcopyState → Bool

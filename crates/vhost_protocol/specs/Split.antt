@@ -1,8 +1,8 @@
 -- How a stream is cut into messages ("Message Specification").
 use Rattle.std.specs.Prelude.{◌≡◌, ℕ, Bool, true, false, List, [], ◌∷◌, ◌++◌, take, drop, length, Option, Some, None, Result, Ok, Err, if◌then◌else◌}
+use Rattle.vhost_message.specs.Bits.{has_bit}
 use Rattle.vhost_message.specs.Header.{Header, header_of, is_valid_header}
 use Rattle.vhost_protocol.specs.Error.{Error, Disconnected, PartialMessage, InvalidMessage}
-use Rattle.vhost_protocol.specs.Features.{has_bit}
 use Rattle.vhost_protocol.specs.Stream.{Cell, bytes, brings_handles, is_shorter}
 
 -- a message: its request, the flags REPLY and NEED_REPLY, the body, and the handles on its first byte

@@ -12,7 +12,7 @@ use Rattle.vhost_message.specs.declared.records.shmem.VhostUserMMap.{VhostUserMM
 use Rattle.vhost_message.specs.declared.records.transfer.VhostUserTransferDeviceState.{VhostUserTransferDeviceState}
 use Rattle.vhost_message.specs.declared.records.vring.VhostUserVringState.{VhostUserVringState}
 use Rattle.vhost_message.specs.declared.records.vring.VhostUserVringAddr.{VhostUserVringAddr}
-use Rattle.vhost_message.specs.Header.{header_text}
+use Rattle.vhost_message.specs.Header.{Header, header_text}
 use Rattle.vhost_message.specs.Records.{region_text, memory_text, single_region_text, shmem_config_text, vring_state_text, vring_addr_text, config_text, inflight_text, log_text, transfer_text, mmap_text}
 use Rattle.vhost_message.specs.Text.{digits}
 use Rattle.vhost_protocol.specs.Stream.{Cell, carrying}
@@ -68,11 +68,13 @@ header_flags true false = 5
 header_flags false true = 9
 header_flags true true = 13
 
--- the bytes on the stream; each type of requests has its numbers
+-- the header; each type of requests has its numbers
+abbrev pub head_of : {R H : Type 0} → (R → ℕ) → Written R H → Header
+head_of number_of w = record { code = number_of w.request; flags = header_flags w.reply w.need_reply; size = length (payload_text w.payload) }
+
+-- the bytes on the stream
 abbrev pub written_text : {R H : Type 0} → (R → ℕ) → Written R H → List ℕ
-written_text number_of w =
-    header_text (record { code = number_of w.request; flags = header_flags w.reply w.need_reply; size = length (payload_text w.payload) })
-    ++ payload_text w.payload
+written_text number_of w = header_text (head_of number_of w) ++ payload_text w.payload
 
 -- the bytes with the handles on the first
 abbrev pub written_cells : {R H : Type 0} → (R → ℕ) → Written R H → List (Cell H)

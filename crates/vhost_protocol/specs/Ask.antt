@@ -1,0 +1,278 @@
+-- What a call of the frontend sends, and what it then waits for ("Front-end message types").
+use Rattle.std.specs.Prelude.{ℕ, ◌+◌, ◌^◌, Bool, true, false, not, ◌&&◌, List, [], ◌∷◌, length, map, Option, Some, None, Result, Ok, Err, is_some, unwrap_or, if◌then◌else◌, ◌==◌, nat_le, nat_lt, bit_and, ⊤}
+use Rattle.std.specs.List.{list_all, filter_map}
+use Rattle.vhost_message.specs.Bits.{has_bit}
+use Rattle.vhost_message.specs.declared.frontend_req.FrontendReq.{FrontendReq}
+use Rattle.vhost_message.specs.declared.frontend_req.FrontendReq.TheVariants.{GET_FEATURES, SET_FEATURES, SET_OWNER, RESET_OWNER, SET_MEM_TABLE, SET_LOG_BASE, SET_LOG_FD, SET_VRING_NUM, SET_VRING_ADDR, SET_VRING_BASE, GET_VRING_BASE, SET_VRING_KICK, SET_VRING_CALL, SET_VRING_ERR, GET_PROTOCOL_FEATURES, SET_PROTOCOL_FEATURES, GET_QUEUE_NUM, SET_VRING_ENABLE, SET_BACKEND_REQ_FD, GET_CONFIG, SET_CONFIG, POSTCOPY_ADVISE, POSTCOPY_LISTEN, POSTCOPY_END, GET_INFLIGHT_FD, SET_INFLIGHT_FD, RESET_DEVICE, GET_MAX_MEM_SLOTS, ADD_MEM_REG, REM_MEM_REG, GET_SHARED_OBJECT, SET_DEVICE_STATE_FD, CHECK_DEVICE_STATE, GET_SHMEM_CONFIG}
+use Rattle.vhost_message.specs.declared.records.config.VhostUserConfig.{VhostUserConfig}
+use Rattle.vhost_message.specs.declared.records.log.VhostUserLog.{VhostUserLog}
+use Rattle.vhost_message.specs.declared.records.memory.VhostUserMemoryRegion.{VhostUserMemoryRegion}
+use Rattle.vhost_message.specs.declared.records.memory.VhostUserSingleMemoryRegion.{VhostUserSingleMemoryRegion}
+use Rattle.vhost_message.specs.declared.records.vring.VhostUserVringState.{VhostUserVringState}
+use Rattle.vhost_message.specs.declared.records.vring.VhostUserVringAddr.{VhostUserVringAddr}
+use Rattle.vhost_message.specs.Valid.{is_valid_config, is_valid_uuid}
+use Rattle.vhost_protocol.specs.Error.{Error, InvalidParam, InactiveFeature, InactiveOperation}
+use Rattle.vhost_protocol.specs.Features.{PROTOCOL_FEATURES, MQ, LOG_SHMFD, REPLY_ACK, BACKEND_REQ, PAGEFAULT, CONFIG, INFLIGHT_SHMFD, RESETS_DEVICE, CONFIGURE_MEM_SLOTS, SHARED_OBJECT, DEVICE_STATE, SHMEM}
+use Rattle.vhost_protocol.specs.FrontendCall.{Info, LogRegion, FrontendCall, GetFeatures, SetFeatures, SetOwner, ResetOwner, GetProtocolFeatures, SetProtocolFeatures, GetQueueNum, ResetDevice, SetMemTable, SetLogBase, SetLogFd, SetVringNum, SetVringBase, SetVringAddr, GetVringBase, SetVringCall, SetVringKick, SetVringErr, SetVringEnable, GetConfig, SetConfig, SetBackendRequestFd, GetSharedObject, GetInflightFd, SetInflightFd, GetMaxMemSlots, AddMemRegion, RemoveMemRegion, GetShmemConfig, SetDeviceStateFd, CheckDeviceState, PostcopyAdvise, PostcopyListen, PostcopyEnd, PostcopyAckMemRegions, SetHdrFlags, Value, Nothing, Frontend}
+use Rattle.vhost_protocol.specs.Ring.{RingConfig}
+use Rattle.vhost_protocol.specs.Session.{is_listen}
+use Rattle.vhost_protocol.specs.Written.{Payload, Empty, U64, Regions, OneRegion, RingState, RingAddr, ConfigBytes, InflightArea, LogArea, ObjectName, DeviceState, Written}
+
+-- the shape of a reply
+pub data Shape : Type 0 where
+  AnEmpty : Shape
+  AU64 : Shape
+  TheRegions : Shape
+  ARegion : Shape
+  AShmem : Shape
+  ARingState : Shape
+  AConfig : Shape
+  AnInflight : Shape
+  ALog : Shape
+
+-- what a frontend waits for once it has sent
+pub data Awaited : Type 0 where
+  Nobody : Awaited
+  Ack : Awaited
+  Reply : Shape → Awaited
+
+-- what becomes of a call: a refusal, an answer without a message, or a message, what is awaited, and the new session
+pub data Asked (H : Type 0) : Type 0 where
+  Refuses : Error → Asked H
+  Answers : Value H → Frontend → Asked H
+  Sends : Written FrontendReq H → Awaited → Frontend → Asked H
+
+-- ---- tests, in order
+
+infixl 10 ◌>>◌ ◌>>=◌
+-- a test, then the rest
+abbrev pub ◌>>◌ : {H : Type 0} → Result ⊤ Error → Asked H → Asked H
+(Ok u) >> next = next
+(Err e) >> next = Refuses e
+
+-- a test that gives a value, then the rest with it
+abbrev pub ◌>>=◌ : {H A : Type 0} → Result A Error → (A → Asked H) → Asked H
+(Ok a) >>= next = next a
+(Err e) >>= next = Refuses e
+
+-- a test that refuses with this error
+abbrev pub test : Bool → Error → Result ⊤ Error
+test holds e = if holds then Ok tt else Err e
+
+-- a test of the arguments
+abbrev pub param : Bool → Result ⊤ Error
+param holds = test holds InvalidParam
+
+-- a protocol feature is acknowledged
+abbrev pub operation : Frontend → ℕ → Result ⊤ Error
+operation f feature = test (has_bit f.acked_p feature) (InactiveOperation (2 ^ feature))
+
+-- protocol features are among these features ("Feature negotiation")
+abbrev pub protocol_in : ℕ → Result ⊤ Error
+protocol_in features = test (has_bit features PROTOCOL_FEATURES) (InactiveFeature (2 ^ PROTOCOL_FEATURES))
+
+-- a ring's index, which a message has in 32 bits
+abbrev pub index : Frontend → ℕ → Result ⊤ Error
+index f i = param (nat_lt i f.max_queue_num && nat_lt i (2 ^ 32))
+
+-- beside a handle an index has eight bits
+abbrev pub small_index : Frontend → ℕ → Result ⊤ Error
+small_index f i = param (nat_lt i f.max_queue_num && nat_le i 255)
+
+-- an argument that has to be there
+abbrev pub given : {A : Type 0} → Option A → Result A Error
+given None = Err InvalidParam
+given (Some a) = Ok a
+
+-- ---- messages
+
+-- a message with the session's flags REPLY and NEED_REPLY
+abbrev pub message : {H : Type 0} → Frontend → FrontendReq → Payload → List H → Written FrontendReq H
+message f r payload handles = record { request = r; reply = has_bit f.header_flags 2; need_reply = has_bit f.header_flags 3; payload = payload; handles = handles }
+
+-- the same without NEED_REPLY
+abbrev pub quietly : {H : Type 0} → Frontend → FrontendReq → Payload → List H → Written FrontendReq H
+quietly f r payload handles = record (message f r payload handles) { need_reply = false }
+
+-- acknowledgements are on, and the header asks for one
+abbrev pub ack : Frontend → Awaited
+ack f = if has_bit f.acked_p REPLY_ACK && has_bit f.header_flags 3 then Ack else Nobody
+
+-- sent, and perhaps acknowledged
+abbrev pub sends : {H : Type 0} → Frontend → FrontendReq → Payload → List H → Asked H
+sends f r payload handles = Sends (message f r payload handles) (ack f) f
+
+-- sent, and replied to
+abbrev pub asks : {H : Type 0} → Frontend → FrontendReq → Payload → List H → Shape → Asked H
+asks f r payload handles shape = Sends (message f r payload handles) (Reply shape) f
+
+-- sent without NEED_REPLY, and replied to
+abbrev pub asks_quietly : {H : Type 0} → Frontend → FrontendReq → Payload → List H → Shape → Asked H
+asks_quietly f r payload handles shape = Sends (quietly f r payload handles) (Reply shape) f
+
+-- ---- arguments
+
+-- the regions alone
+abbrev pub regions_in : {H : Type 0} → List (Info H) → List VhostUserMemoryRegion
+regions_in infos = map (λ info. info.region) infos
+
+-- all handles, where each region has one
+abbrev pub handles_in : {H : Type 0} → List (Info H) → List H
+handles_in infos = filter_map (λ info. info.handle) infos
+
+-- a region that is not empty and has a handle
+abbrev pub is_usable : {H : Type 0} → Info H → Bool
+is_usable info = not (info.region.memory_size == 0) && is_some info.handle
+
+-- one region on its own
+abbrev pub single : VhostUserMemoryRegion → VhostUserSingleMemoryRegion
+single region = record { padding = 0; region = region }
+
+-- a number for a ring
+abbrev pub ring_state : ℕ → ℕ → VhostUserVringState
+ring_state i n = record { index = i; num = n }
+
+-- a ring's place as a record; no log is address 0
+abbrev pub ring_addr : ℕ → RingConfig → VhostUserVringAddr
+ring_addr i c = record {
+  index = i;
+  flags = c.flags;
+  descriptor = c.desc_table_addr;
+  used = c.used_ring_addr;
+  available = c.avail_ring_addr;
+  log = unwrap_or c.log_addr 0;
+}
+
+-- a part of configuration space
+abbrev pub config : ℕ → ℕ → ℕ → VhostUserConfig
+config offset size flags = record { offset = offset; size = size; flags = flags }
+
+-- the area of the dirty log
+abbrev pub log_area : {H : Type 0} → LogRegion H → VhostUserLog
+log_area r = record { mmap_size = r.mmap_size; mmap_offset = r.mmap_offset }
+
+-- the two requests whose regions are mapped while listening
+abbrev pub is_mapping : FrontendReq → Bool
+is_mapping SET_MEM_TABLE = true
+is_mapping ADD_MEM_REG = true
+is_mapping _ = false
+
+-- ---- the calls
+
+-- what a call becomes
+abbrev pub ask : {H : Type 0} → Frontend → FrontendCall H → Asked H
+ask f GetFeatures = asks f GET_FEATURES Empty [] AU64
+ask f (SetFeatures n) = sends (record f { acked = bit_and n f.offered }) SET_FEATURES (U64 n) []
+ask f SetOwner = sends f SET_OWNER Empty []
+ask f ResetOwner = sends f RESET_OWNER Empty []
+ask f GetProtocolFeatures = do
+  protocol_in f.offered
+  asks f GET_PROTOCOL_FEATURES Empty [] AU64
+ask f (SetProtocolFeatures n) = do
+  protocol_in f.offered
+  sends (record f { acked_p = n }) SET_PROTOCOL_FEATURES (U64 n) []
+ask f GetQueueNum = do
+  operation f MQ
+  asks f GET_QUEUE_NUM Empty [] AU64
+ask f ResetDevice = do
+  operation f RESETS_DEVICE
+  sends f RESET_DEVICE Empty []
+ask f (SetMemTable infos) = do
+  param (nat_le 1 (length infos) && nat_le (length infos) 32 && list_all is_usable infos)
+  (if is_listen f.postcopy
+      then asks_quietly f SET_MEM_TABLE (Regions (regions_in infos)) (handles_in infos) TheRegions
+      else sends f SET_MEM_TABLE (Regions (regions_in infos)) (handles_in infos))
+ask f (SetLogBase base None) = Sends (message f SET_LOG_BASE (U64 base) []) Nobody f
+ask f (SetLogBase base (Some r)) =
+    if has_bit f.acked_p LOG_SHMFD then (do
+      h ← given r.handle
+      asks f SET_LOG_BASE (LogArea (log_area r)) (h ∷ []) ALog)
+    else Sends (message f SET_LOG_BASE (U64 base) []) Nobody f
+ask f (SetLogFd h) = sends f SET_LOG_FD Empty (h ∷ [])
+ask f (SetVringNum i n) = do
+  index f i
+  sends f SET_VRING_NUM (RingState (ring_state i n)) []
+ask f (SetVringBase i n) = do
+  index f i
+  sends f SET_VRING_BASE (RingState (ring_state i n)) []
+ask f (SetVringAddr i c) = do
+  index f i
+  param (nat_le c.flags 1)
+  sends f SET_VRING_ADDR (RingAddr (ring_addr i c)) []
+ask f (GetVringBase i) = do
+  index f i
+  asks f GET_VRING_BASE (RingState (ring_state i 0)) [] ARingState
+ask f (SetVringCall i h) = do
+  small_index f i
+  sends f SET_VRING_CALL (U64 i) (h ∷ [])
+ask f (SetVringKick i h) = do
+  small_index f i
+  sends f SET_VRING_KICK (U64 i) (h ∷ [])
+ask f (SetVringErr i h) = do
+  small_index f i
+  sends f SET_VRING_ERR (U64 i) (h ∷ [])
+ask f (SetVringEnable i on) = do
+  protocol_in f.acked
+  index f i
+  sends f SET_VRING_ENABLE (RingState (ring_state i (if on then 1 else 0))) []
+ask f (GetConfig offset size flags buffer) = do
+  param (is_valid_config (config offset size flags))
+  operation f CONFIG
+  param (nat_le (12 + length buffer) 4096)
+  asks f GET_CONFIG (ConfigBytes (config offset size flags) buffer) [] AConfig
+ask f (SetConfig offset flags buffer) = do
+  param (nat_le (length buffer) 4096)
+  param (is_valid_config (config offset (length buffer) flags))
+  operation f CONFIG
+  param (nat_le (12 + length buffer) 4096)
+  sends f SET_CONFIG (ConfigBytes (config offset (length buffer) flags) buffer) []
+ask f (SetBackendRequestFd h) = do
+  operation f BACKEND_REQ
+  sends f SET_BACKEND_REQ_FD Empty (h ∷ [])
+ask f (GetSharedObject name) = do
+  operation f SHARED_OBJECT
+  param (is_valid_uuid name.uuid)
+  asks f GET_SHARED_OBJECT (ObjectName name) [] AnEmpty
+ask f (GetInflightFd i) = do
+  operation f INFLIGHT_SHMFD
+  asks f GET_INFLIGHT_FD (InflightArea i) [] AnInflight
+ask f (SetInflightFd i h) = do
+  operation f INFLIGHT_SHMFD
+  param (not (i.mmap_size == 0) && not (i.num_queues == 0) && not (i.queue_size == 0))
+  sends f SET_INFLIGHT_FD (InflightArea i) (h ∷ [])
+ask f GetMaxMemSlots = do
+  operation f CONFIGURE_MEM_SLOTS
+  asks f GET_MAX_MEM_SLOTS Empty [] AU64
+ask f (AddMemRegion info) = do
+  operation f CONFIGURE_MEM_SLOTS
+  param (not (info.region.memory_size == 0))
+  h ← given info.handle
+  (if is_listen f.postcopy
+      then asks_quietly f ADD_MEM_REG (OneRegion (single info.region)) (h ∷ []) ARegion
+      else sends f ADD_MEM_REG (OneRegion (single info.region)) (h ∷ []))
+ask f (RemoveMemRegion info) = do
+  operation f CONFIGURE_MEM_SLOTS
+  param (not (info.region.memory_size == 0))
+  sends f REM_MEM_REG (OneRegion (single info.region)) []
+ask f GetShmemConfig = do
+  operation f SHMEM
+  asks f GET_SHMEM_CONFIG Empty [] AShmem
+ask f (SetDeviceStateFd t h) = do
+  operation f DEVICE_STATE
+  asks f SET_DEVICE_STATE_FD (DeviceState t) (h ∷ []) AU64
+ask f CheckDeviceState = do
+  operation f DEVICE_STATE
+  asks f CHECK_DEVICE_STATE Empty [] AU64
+ask f PostcopyAdvise = do
+  operation f PAGEFAULT
+  asks f POSTCOPY_ADVISE Empty [] AnEmpty
+ask f PostcopyListen = do
+  operation f PAGEFAULT
+  sends f POSTCOPY_LISTEN Empty []
+ask f PostcopyEnd = do
+  operation f PAGEFAULT
+  sends f POSTCOPY_END Empty []
+ask f (PostcopyAckMemRegions r) = do
+  param (is_mapping r)
+  Sends (quietly f r (U64 0) []) Nobody f
+ask f (SetHdrFlags flags) = Answers Nothing (record f { header_flags = flags })
