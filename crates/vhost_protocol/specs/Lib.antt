@@ -19,3 +19,4 @@ pub mod AnswerTable
 pub mod ReplySplit
 pub mod Take
 pub mod Joined
+pub mod Laws
