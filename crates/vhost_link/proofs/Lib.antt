@@ -1,2 +1,5 @@
 pub mod Moves
 pub mod Cells
+pub mod Holding
+pub mod Handing
+pub mod MemStream

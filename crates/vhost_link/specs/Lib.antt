@@ -1,1 +1,4 @@
 pub mod Law
+pub mod Cuts
+pub mod Ends
+pub mod Mem

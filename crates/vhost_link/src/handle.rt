@@ -5,7 +5,7 @@ ghost use Rattle.std.specs.Prelude.{Result};
 use vhost_message::IoCause;
 
 /// What a handle stands for. The crate `vhost` asks a file descriptor for it.
-#[derive(Clone, Copy, Debug)]
+#[derive(Clone, Copy, Debug, PartialEq, Eq)]
 pub enum Kind {
     /// No socket.
     NoSocket,

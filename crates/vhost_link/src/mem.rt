@@ -1,0 +1,144 @@
+//! A link in memory.
+
+ghost use Rattle.std.specs.Prelude.{◌≡◌, [], ◌++◌, ◌<◌, ◌≤◌, length, map, OnOk, OnErr, IsOk, vec_capacity};
+ghost use Rattle.vhost_protocol.specs.Stream.{carrying};
+ghost use Rattle.vhost_link.specs.Law.{Sends, Receives};
+ghost use Rattle.vhost_link.specs.Cuts.{allowed};
+ghost use Rattle.vhost_link.specs.Ends.{empty, Carried};
+ghost use Rattle.vhost_link.specs.Mem.{StreamLaw, SendsAll, received};
+
+use crate::cut::Cut;
+use crate::held::HeldByte;
+use crate::law::Link;
+use crate::pieces::{copied, next_cut, pop_first, push_bytes, take_plain};
+use crate::plain::PlainHandle;
+use std::alloc::{AllocError, Global};
+use std::collections::VecDeque;
+use std::marker::Model;
+use std::mem::swap;
+use vhost_message::IoCause;
+
+/// One end of a connection in memory: what it will hand out, what it took in, and how its next calls are cut.
+#[derive(Drop)]
+pub struct MemLink {
+    pending: VecDeque<HeldByte>,
+    sent: VecDeque<HeldByte>,
+    script: VecDeque<Cut>,
+    starved: bool,
+    alloc: Global,
+}
+
+impl Model for MemLink {
+    ghost use Rattle.vhost_link.specs.Ends.{Ends};
+
+    ghost Value = { Ends };
+
+    ghost view = { λ link. record { pending = link.pending.items; sent = link.sent.items; script = link.script.items; starved = link.starved } };
+}
+
+impl MemLink {
+    /// A link that holds nothing. Its calls follow the script, one cut each, and move all they can once it is used up.
+    pub fn new(alloc: Global, script: Vec<Cut>) -> MemLink
+        ensures { result ≡ empty script.items }
+    {
+        MemLink {
+            pending: VecDeque::new(alloc),
+            sent: VecDeque::new(alloc),
+            script: VecDeque::from_vec(script),
+            starved: false,
+            alloc,
+        }
+    }
+
+    /// What it took in and was not carried away, in order.
+    pub fn taken(&self) -> &VecDeque<HeldByte>
+        ensures { result.now.items ≡ self.now.sent }
+    {
+        &self.sent
+    }
+
+    /// Whether a send of it ever failed for want of memory.
+    pub fn is_starved(&self) -> bool
+        ensures { result ≡ self.now.starved }
+    {
+        self.starved
+    }
+
+    /// Moves what one end took in behind what the other will hand out.
+    ///
+    /// Where memory is refused, nothing moved. It is never asked for if the other end had nothing to hand out.
+    pub fn carry(from: &mut MemLink, to: &mut MemLink) -> Result<(), AllocError>
+        ensures carried { OnOk result (Carried from.old to.old from.new to.new) }
+        ensures refused { OnErr result ((from.new ≡ from.old) × (to.new ≡ to.old)) }
+        ensures succeeds { to.old.pending ≡ [] → IsOk result }
+    {
+        if to.pending.is_empty() {
+            swap(&mut from.sent, &mut to.pending);
+            return Ok(());
+        }
+        to.pending.append(&mut from.sent)
+    }
+
+    /// Puts bytes behind what it will hand out, with the handles on the first of them.
+    ///
+    /// There are at most 32 handles; without a byte they go nowhere. Where memory is refused, nothing changed.
+    pub fn push(&mut self, bytes: &[u8], handles: &[PlainHandle]) -> Result<(), AllocError>
+        requires { length handles.now ≤ 32 }
+        ensures pushed { OnOk result (self.new ≡ record self.old { pending = self.old.pending ++ carrying handles.now bytes.now }) }
+        ensures refused { OnErr result (self.new ≡ self.old) }
+    {
+        let handles = Vec::from_slice(self.alloc, handles)?;
+        push_bytes(&mut self.pending, self.alloc, bytes, handles)
+    }
+}
+
+impl Link for MemLink {
+    ghost use Rattle.std.specs.Prelude.{◌≡◌, Ok, []};
+    ghost use Rattle.vhost_link.specs.Ends.{empty};
+    ghost use Rattle.vhost_link.specs.Mem.{event, refuses_duplicate};
+
+    type Handle = PlainHandle;
+
+    ghost event = { event };
+
+    ghost duplicates = { λ link result. refuses_duplicate result };
+
+    ghost opens = { λ link handle result. result ≡ Ok (empty []) };
+
+    fn send(&mut self, bytes: &[u8], handles: &[&PlainHandle]) -> Result<usize, IoCause> {
+        let count = next_cut(&mut self.script, bytes.len())?;
+        let sent = match copied(self.alloc, handles) {
+            Ok(list) => push_bytes(&mut self.sent, self.alloc, &bytes[..count], list),
+            Err(refusal) => Err(refusal),
+        };
+        if sent.is_err() {
+            self.starved = true;
+            return Err(IoCause::Raw(12));
+        }
+        Ok(count)
+    }
+
+    fn recv(&mut self, room: &mut [u8], handles: &mut Vec<PlainHandle>) -> Result<usize, IoCause> {
+        let most = next_cut(&mut self.script, room.len())?;
+        match pop_first(&mut self.pending, handles) {
+            None => Ok(0),
+            Some(byte) => {
+                room[0] = byte;
+                Ok(1 + take_plain(&mut self.pending, &mut room[1..most]))
+            }
+        }
+    }
+
+    fn duplicate(&self) -> Result<MemLink, IoCause> {
+        Err(IoCause::Named("link cannot be duplicated"))
+    }
+
+    fn of_handle(&self, _handle: PlainHandle) -> Result<MemLink, IoCause> {
+        Ok(MemLink::new(self.alloc, Vec::new(self.alloc)))
+    }
+}
+
+/// The stream of a link in memory is known, however it is cut: what is handed out stood at the front, the end is told only where nothing is left, what is taken in is appended, and a failure is one of the script or a want of memory.
+pub fn stream_law()
+    ensures { StreamLaw }
+{}

@@ -1,0 +1,29 @@
+//! A handle that stands for nothing outside the program.
+
+ghost use Rattle.std.specs.Prelude.{◌≡◌, Ok};
+
+use crate::handle::{Handle, Kind};
+use vhost_message::IoCause;
+
+/// A handle that is a number and a kind. What it stands for is known to whoever made it.
+#[derive(Clone, Copy, Debug, PartialEq, Eq)]
+pub struct PlainHandle {
+    /// Its number.
+    pub id: u32,
+    /// What it says that it is.
+    pub kind: Kind,
+}
+
+impl Handle for PlainHandle {
+    ghost kinds = { λ handle result. result ≡ Ok handle.kind };
+
+    ghost duplicates = { λ handle result. result ≡ Ok handle };
+
+    fn kind(&self) -> Result<Kind, IoCause> {
+        Ok(self.kind)
+    }
+
+    fn duplicate(&self) -> Result<PlainHandle, IoCause> {
+        Ok(*self)
+    }
+}
