@@ -1,1 +1,3 @@
 pub mod HeaderFlags
+pub mod KnownFlags
+pub mod Numbers

@@ -1,18 +1,12 @@
 -- The requests of a frontend and their numbers.
-use Rattle.std.specs.Prelude.{◌≡◌, ℕ, suc, Bool, true, false, List, [], ◌∷◌, Option, Some, None, Result, ok_or, unwrap_or, is_some, ◌==◌, if◌then◌else◌, refl, ⊤}
-use Rattle.std.proofs.Common.{ap, sym, ◌∙◌}
-use Rattle.std.proofs.lemmas.Bool.{eqb-true, false≢true}
+use Rattle.std.specs.Prelude.{◌≡◌, ℕ, List, [], ◌∷◌, Option, Some, Result, ok_or, refl, ⊤}
+use Rattle.vhost_message.specs.Codes.{find, number-find}
 use Rattle.vhost_message.specs.declared.frontend_req.FrontendReq.{FrontendReq}
 use Rattle.vhost_message.specs.declared.frontend_req.FrontendReq.TheVariants.{GET_FEATURES, SET_FEATURES, SET_OWNER, RESET_OWNER, SET_MEM_TABLE, SET_LOG_BASE, SET_LOG_FD, SET_VRING_NUM, SET_VRING_ADDR, SET_VRING_BASE, GET_VRING_BASE, SET_VRING_KICK, SET_VRING_CALL, SET_VRING_ERR, GET_PROTOCOL_FEATURES, SET_PROTOCOL_FEATURES, GET_QUEUE_NUM, SET_VRING_ENABLE, SEND_RARP, NET_SET_MTU, SET_BACKEND_REQ_FD, IOTLB_MSG, SET_VRING_ENDIAN, GET_CONFIG, SET_CONFIG, CREATE_CRYPTO_SESSION, CLOSE_CRYPTO_SESSION, POSTCOPY_ADVISE, POSTCOPY_LISTEN, POSTCOPY_END, GET_INFLIGHT_FD, SET_INFLIGHT_FD, GPU_SET_SOCKET, RESET_DEVICE, VRING_KICK, GET_MAX_MEM_SLOTS, ADD_MEM_REG, REM_MEM_REG, SET_STATUS, GET_STATUS, GET_SHARED_OBJECT, SET_DEVICE_STATE_FD, CHECK_DEVICE_STATE, GET_SHMEM_CONFIG}
 
 -- the requests in the order of their numbers, from 1 on
 abbrev pub requests : List FrontendReq
 requests = GET_FEATURES ∷ SET_FEATURES ∷ SET_OWNER ∷ RESET_OWNER ∷ SET_MEM_TABLE ∷ SET_LOG_BASE ∷ SET_LOG_FD ∷ SET_VRING_NUM ∷ SET_VRING_ADDR ∷ SET_VRING_BASE ∷ GET_VRING_BASE ∷ SET_VRING_KICK ∷ SET_VRING_CALL ∷ SET_VRING_ERR ∷ GET_PROTOCOL_FEATURES ∷ SET_PROTOCOL_FEATURES ∷ GET_QUEUE_NUM ∷ SET_VRING_ENABLE ∷ SEND_RARP ∷ NET_SET_MTU ∷ SET_BACKEND_REQ_FD ∷ IOTLB_MSG ∷ SET_VRING_ENDIAN ∷ GET_CONFIG ∷ SET_CONFIG ∷ CREATE_CRYPTO_SESSION ∷ CLOSE_CRYPTO_SESSION ∷ POSTCOPY_ADVISE ∷ POSTCOPY_LISTEN ∷ POSTCOPY_END ∷ GET_INFLIGHT_FD ∷ SET_INFLIGHT_FD ∷ GPU_SET_SOCKET ∷ RESET_DEVICE ∷ VRING_KICK ∷ GET_MAX_MEM_SLOTS ∷ ADD_MEM_REG ∷ REM_MEM_REG ∷ SET_STATUS ∷ GET_STATUS ∷ GET_SHARED_OBJECT ∷ SET_DEVICE_STATE_FD ∷ CHECK_DEVICE_STATE ∷ GET_SHMEM_CONFIG ∷ []
-
--- the one of them that has this number, if they are numbered from k on
-abbrev pub find : ℕ → ℕ → List FrontendReq → Option FrontendReq
-find n k [] = None
-find n k (r ∷ rs) = if n == k then Some r else find n (suc k) rs
 
 -- the request of a number
 abbrev pub request_of : ℕ → Option FrontendReq
@@ -73,24 +67,5 @@ pub request_of-request_number : (r : FrontendReq) → request_of (request_number
 request_of-request_number GET_FEATURES = refl
 request_of-request_number _ = refl
 
--- the requests are numbered from k on
-abbrev pub are_numbered : ℕ → List FrontendReq → Bool
-are_numbered k [] = true
-are_numbered k (r ∷ rs) = if request_number r == k then are_numbered (suc k) rs else false
-
--- where the first has the number, the request that is found is the first; else it is found among the rest
-found : (n k : ℕ) (q : FrontendReq) (rs : List FrontendReq) (r : FrontendReq) (is_first in_order : Bool) → (n == k) ≡ is_first → (request_number q == k) ≡ in_order
-    → (are_numbered (suc k) rs ≡ true → find n (suc k) rs ≡ Some r → request_number r ≡ n)
-    → (if in_order then are_numbered (suc k) rs else false) ≡ true → (if is_first then Some q else find n (suc k) rs) ≡ Some r → request_number r ≡ n
-found n k q rs r true true same first rest numbered e =
-    ap request_number (sym (ap (λ o. unwrap_or o q) e)) ∙ eqb-true (request_number q) k first ∙ sym (eqb-true n k same)
-found n k q rs r false true same first rest numbered e = rest numbered e
-found n k q rs r is_first false same first rest numbered e = absurd (false≢true numbered)
-
-request_number-find : (n k : ℕ) (rs : List FrontendReq) (r : FrontendReq) → are_numbered k rs ≡ true → find n k rs ≡ Some r → request_number r ≡ n
-request_number-find n k [] r numbered e = absurd (false≢true (ap is_some e))
-request_number-find n k (q ∷ rs) r numbered e =
-    found n k q rs r (n == k) (request_number q == k) refl refl (request_number-find n (suc k) rs r) numbered e
-
 pub request_number-request_of : (n : ℕ) (r : FrontendReq) → request_of n ≡ Some r → request_number r ≡ n
-request_number-request_of n r e = request_number-find n 1 requests r refl e
+request_number-request_of n r e = number-find request_number n 1 requests r refl e

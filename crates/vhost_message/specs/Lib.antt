@@ -3,10 +3,14 @@ pub mod Bits
 pub mod Cause
 pub mod Reconnect
 pub mod IoError
+pub mod Codes
 pub mod FrontendReq
+pub mod BackendReq
 pub mod Header
 pub mod MsgHeader
 pub mod Plain
 pub mod Records
+pub mod Transfer
+pub mod FlagBits
 pub mod Valid
 pub mod RecordLaws

@@ -13,6 +13,16 @@ use Rattle.vhost_message.specs.declared.records.transfer.VhostUserTransferDevice
 use Rattle.vhost_message.specs.declared.records.vring.VhostUserVringState.{VhostUserVringState}
 use Rattle.vhost_message.specs.declared.records.vring.VhostUserVringAddr.{VhostUserVringAddr}
 
+-- ---- records from their parts
+
+-- one region, with padding 0
+abbrev pub single_region : VhostUserMemoryRegion → VhostUserSingleMemoryRegion
+single_region r = record { padding = 0; region = r }
+
+-- the region that a record of one region holds
+abbrev pub region_within : VhostUserSingleMemoryRegion → VhostUserMemoryRegion
+region_within r = r.region
+
 -- ---- texts
 
 -- of a region

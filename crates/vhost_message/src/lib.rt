@@ -1,6 +1,7 @@
 //! Messages of the vhost-user protocol: codes, headers, records as bytes, flags, and errors.
 #![tactic(auto)]
 
+mod backend_req;
 mod bytes;
 mod cause;
 mod error;
@@ -12,7 +13,9 @@ mod limits;
 mod postcopy;
 mod records;
 mod req;
+mod transfer_state;
 
+pub use backend_req::BackendReq;
 pub use bytes::{ByteValued, VhostUserMsgValidator};
 pub use cause::IoCause;
 pub use error::{Error, Result};
@@ -28,5 +31,11 @@ pub use limits::{
     VHOST_USER_MAX_VRINGS,
 };
 pub use postcopy::PostcopyState;
-pub use records::{VhostUserEmpty, VhostUserU64};
+pub use records::{
+    VhostUserConfig, VhostUserEmpty, VhostUserInflight, VhostUserLog, VhostUserMMap,
+    VhostUserMemory, VhostUserMemoryRegion, VhostUserShMemConfig, VhostUserSharedMsg,
+    VhostUserSingleMemoryRegion, VhostUserTransferDeviceState, VhostUserU64, VhostUserVringAddr,
+    VhostUserVringState,
+};
 pub use req::{MsgHeader, Req};
+pub use transfer_state::{VhostTransferStateDirection, VhostTransferStatePhase};

@@ -1,6 +1,6 @@
 //! Flags of headers and records.
 
-ghost use Rattle.std.specs.Prelude.{⊤, [], ◌∷◌, codes};
+ghost use Rattle.std.specs.Prelude.{⊤, ◌≡◌, nat_le, [], ◌∷◌, codes};
 
 use bitflags::{Flag, Flags};
 
@@ -86,6 +86,13 @@ impl VhostUserVringAddrFlags {
         name: "VHOST_VRING_F_LOG",
         value: VhostUserVringAddrFlags::VHOST_VRING_F_LOG,
     }];
+
+    // Whether all of these bits are flags.
+    pub(crate) fn is_known(bits: u32) -> bool
+        ensures { result ≡ nat_le bits 1 }
+    {
+        VhostUserVringAddrFlags::from_bits(bits).is_some()
+    }
 }
 
 impl Flags for VhostUserVringAddrFlags {
@@ -133,6 +140,13 @@ impl VhostUserConfigFlags {
             value: VhostUserConfigFlags::LIVE_MIGRATION,
         },
     ];
+
+    // Whether all of these bits are flags.
+    pub(crate) fn is_known(bits: u32) -> bool
+        ensures { result ≡ nat_le bits 3 }
+    {
+        VhostUserConfigFlags::from_bits(bits).is_some()
+    }
 }
 
 impl Flags for VhostUserConfigFlags {
@@ -171,6 +185,13 @@ impl VhostUserMMapFlags {
         name: "WRITABLE",
         value: VhostUserMMapFlags::WRITABLE,
     }];
+
+    // Whether all of these bits are flags.
+    pub(crate) fn is_known(bits: u64) -> bool
+        ensures { result ≡ nat_le bits 1 }
+    {
+        VhostUserMMapFlags::from_bits(bits).is_some()
+    }
 }
 
 impl Flags for VhostUserMMapFlags {

@@ -1,10 +1,81 @@
 //! The buffer for descriptors in flight.
 
-/// The area of shared memory that tracks descriptors in flight: its size and offset in bytes, the number of queues and their size.
+ghost use Rattle.std.specs.Prelude.{◌≡◌, refl};
+ghost use Rattle.vhost_message.specs.Records.{inflight_text, inflight_of};
+ghost use Rattle.vhost_message.specs.RecordLaws.{InflightFits, inflight-reads_back};
+ghost use Rattle.vhost_message.specs.Valid.{is_valid_inflight};
+
+use crate::bytes::{ByteValued, VhostUserMsgValidator};
+use byteorder::{ByteOrder, LittleEndian};
+
+/// The area of shared memory that tracks descriptors in flight: its size and offset in bytes, the number of queues and
+/// their size in descriptors (vhost-user specification, "Inflight description"). Four reserved bytes at the end are
+/// written 0 and not read.
 #[derive(Clone, Copy, Default)]
 pub struct VhostUserInflight {
     pub mmap_size: u64,
     pub mmap_offset: u64,
     pub num_queues: u16,
     pub queue_size: u16,
+}
+
+impl VhostUserInflight {
+    /// The area of these numbers.
+    pub fn new(mmap_size: u64, mmap_offset: u64, num_queues: u16, queue_size: u16) -> Self
+        ensures { result ≡ record { mmap_size = mmap_size; mmap_offset = mmap_offset; num_queues = num_queues; queue_size = queue_size } }
+    {
+        VhostUserInflight {
+            mmap_size,
+            mmap_offset,
+            num_queues,
+            queue_size,
+        }
+    }
+}
+
+impl ByteValued for VhostUserInflight {
+    const SIZE: usize = 24;
+
+    ghost SIZE = { 24 };
+
+    ghost text = { inflight_text };
+
+    ghost read = { inflight_of };
+
+    ghost fits = { InflightFits };
+
+    ghost text_length = { λ _ _. refl };
+
+    ghost reads_back = { inflight-reads_back };
+
+    fn encode_into(&self, out: &mut [u8]) {
+        let VhostUserInflight {
+            mmap_size,
+            mmap_offset,
+            num_queues,
+            queue_size,
+        } = *self;
+        LittleEndian::write_u64(out, mmap_size);
+        LittleEndian::write_u64(&mut out[8..], mmap_offset);
+        LittleEndian::write_u16(&mut out[16..], num_queues);
+        LittleEndian::write_u16(&mut out[18..], queue_size);
+        LittleEndian::write_u32(&mut out[20..], 0);
+    }
+
+    fn decode(b: &[u8]) -> Self {
+        VhostUserInflight {
+            mmap_size: LittleEndian::read_u64(b),
+            mmap_offset: LittleEndian::read_u64(&b[8..]),
+            num_queues: LittleEndian::read_u16(&b[16..]),
+            queue_size: LittleEndian::read_u16(&b[18..]),
+        }
+    }
+}
+
+impl VhostUserMsgValidator for VhostUserInflight {
+    ghost valid = { is_valid_inflight };
+
+    fn is_valid(&self) -> bool {
+        self.num_queues != 0 && self.queue_size != 0
+    }
 }
