@@ -1,0 +1,5 @@
+pub mod Sending
+pub mod Receiving
+pub mod Talking
+pub mod Fronts
+pub mod Messages

@@ -1,0 +1,95 @@
+-- Headers and bodies come in.
+use Rattle.std.proofs.Common.{◌≡◌, ℕ, ◌<◌, ◌≤◌, List, [], length, take, sym, ap, subst, ◌∙◌, arith, Bool, true, false, Option, Err, Ok, Vec}
+use Rattle.std.specs.Prelude.{if◌then◌else◌, not}
+use Rattle.std.specs.Global.{Global}
+use Rattle.vhost_message.specs.declared.cause.IoCause.{IoCause}
+use Rattle.vhost_message.specs.declared.error.Error.{Error}
+use Rattle.vhost_message.specs.declared.error.Error.TheVariants.{InvalidMessage, PartialMessage, Disconnected, SocketError, SocketConnect, SocketBroken, SocketRetry}
+use Rattle.vhost_message.specs.Cause.{is_retry, is_break, is_denial}
+use Rattle.vhost_protocol.specs.Stream.{Cell, bytes, has_some, items, heard}
+use Rattle.vhost_link.specs.Law.{Event}
+use Rattle.vhost_connection.specs.Pass.{receives}
+use Rattle.vhost_connection.specs.Talk.{State, Serves, Trouble}
+use Rattle.vhost_connection.specs.Talk.Trouble.{was_broken, no_memory, fault}
+use Rattle.vhost_connection.specs.Calls.{ReadsHeader, given}
+use Rattle.vhost_connection.specs.Front.{FrontCame, FrontFails, gives}
+use Rattle.vhost_connection.proofs.Receiving.{is-nil}
+use Rattle.vhost_connection.proofs.Fronts.{less, not-less, Serves-list, Serves-gives, list-gives, left-gives}
+
+-- an error of the link is none of the others
+socket : (P Q : Error → Type 0) (c : IoCause) (b d f : Bool) → (P (SocketRetry c) → Q (SocketRetry c)) → (P (SocketBroken c) → Q (SocketBroken c)) → (P (SocketConnect c) → Q (SocketConnect c)) → (P (SocketError c) → Q (SocketError c))
+    → P (if b then SocketRetry c else if d then SocketBroken c else if f then SocketConnect c else SocketError c)
+    → Q (if b then SocketRetry c else if d then SocketBroken c else if f then SocketConnect c else SocketError c)
+socket P Q c true d f p q r s x = p x
+socket P Q c false true f p q r s x = q x
+socket P Q c false false true p q r s x = r x
+socket P Q c false false false p q r s x = s x
+
+-- All that was asked for came.
+all-came : {L H : Type 0} {event : L → Event H → L → Type 0} {old mid : State L H} {len count : ℕ} {hs : List H} {text : List ℕ} (f : FrontCame event old len count hs text mid) → len ≤ count
+    → Serves event old old.budget (receives (items f.cs) f.retries) mid
+all-came {event = event} {old} {mid} {len} f most = subst (λ b. Serves event old old.budget (receives (heard f.cs b) f.retries) mid) (not-less (length f.cs) len (omega (arith, f.counted))) f.serves
+
+-- The end came first.
+some-came : {L H : Type 0} {event : L → Event H → L → Type 0} {old mid : State L H} {len count : ℕ} {hs : List H} {text : List ℕ} (f : FrontCame event old len count hs text mid) → count < len
+    → Serves event old old.budget (receives (heard f.cs true) f.retries) mid
+some-came {event = event} {old} {mid} {len} f most = subst (λ b. Serves event old old.budget (receives (heard f.cs b) f.retries) mid) (less (length f.cs) len (omega (arith, f.counted))) f.serves
+
+header-trouble : {M L H : Type 0} (event : L → Event H → L → Type 0) (read : List ℕ → M) (valid : M → Bool) (old new : State L H) (cs : List (Cell H)) (r : ℕ) (e : Error)
+    → length cs < 12 → Trouble event old old.budget false (receives (items cs) r) e new → ReadsHeader event read valid old (Err e) new
+header-trouble event read valid old new cs r e lt (was_broken b n s) = (cs, r, lt, was_broken b n s)
+header-trouble event read valid old new cs r e lt (no_memory b l n s) = (cs, r, lt, no_memory b l n s)
+header-trouble event read valid old new cs r e lt (fault c b t n most spent by f kept) =
+    socket (λ y. (ds : List (Cell _)) × (k : ℕ) × (length ds < 12) × Trouble event old old.budget false (receives (items ds) k) y new) (λ y. ReadsHeader event read valid old (Err y) new)
+    c (is_retry c) (is_break c) (is_denial c) (λ w. w) (λ w. w) (λ w. w) (λ w. w) (cs, r, lt, fault c b t n most spent by f kept)
+
+pub header-fails : {M L H : Type 0} (event : L → Event H → L → Type 0) (read : List ℕ → M) (valid : M → Bool) (old new : State L H) (len : ℕ) (e : Error)
+    → len ≡ 12 → FrontFails event old len e new → ReadsHeader event read valid old (Err e) new
+header-fails event read valid old new len e twelve f = header-trouble event read valid old new f.cs f.retries e (omega (arith, f.short)) f.trouble
+
+pub header-none : {M L H : Type 0} (event : L → Event H → L → Type 0) (read : List ℕ → M) (valid : M → Bool) (old mid new : State L H) (len count : ℕ) (hs : List H) (text : List ℕ)
+    → len ≡ 12 → FrontCame event old len count hs text mid → count ≡ 0 → new ≡ record mid { list = true } → ReadsHeader event read valid old (Err Disconnected) new
+header-none event read valid old mid new len count hs text twelve f none s =
+    let nil : f.cs ≡ [] = is-nil f.cs (sym f.counted ∙ none) in
+    let p : Serves event old old.budget (receives (heard [] true) f.retries) mid = subst (λ cs. Serves event old old.budget (receives (heard cs true) f.retries) mid) nil (some-came f (omega arith)) in
+    (f.retries, subst (λ x. Serves event old old.budget (receives (heard [] true) f.retries) x) (sym s) (Serves-list true p), ap (λ (y : State _ _). y.list) s)
+
+pub header-part : {M L H : Type 0} (event : L → Event H → L → Type 0) (read : List ℕ → M) (valid : M → Bool) (old mid new : State L H) (len count : ℕ) (hs : List H) (text : List ℕ)
+    → len ≡ 12 → FrontCame event old len count hs text mid → count < len → (count ≡ 0 → ⊥) → new ≡ record mid { list = true } → ReadsHeader event read valid old (Err PartialMessage) new
+header-part event read valid old mid new len count hs text twelve f short some s = (
+  f.cs,
+  f.retries,
+  subst (λ x. Serves event old old.budget (receives (heard f.cs true) f.retries) x) (sym s) (Serves-list true (some-came f short)),
+  omega (arith, f.counted, some),
+  omega (arith, f.counted),
+  ap (λ (y : State _ _). y.list) s,
+)
+
+pub header-bad : {M L H : Type 0} (event : L → Event H → L → Type 0) (read : List ℕ → M) (valid : M → Bool) (old mid new : State L H) (len count : ℕ) (hs : List H) (text : List ℕ) (x : M)
+    → len ≡ 12 → FrontCame event old len count hs text mid → len ≤ count → x ≡ read (take len text) → valid x ≡ false → new ≡ record mid { list = true } → ReadsHeader event read valid old (Err InvalidMessage) new
+header-bad event read valid old mid new len count hs text x twelve f most is bad s =
+    let full : count ≡ len = omega (arith, f.counted, f.within) in
+    let head : x ≡ read (bytes f.cs) = is ∙ ap read (ap (λ n. take n text) (sym full) ∙ f.bytes) in (
+      f.cs,
+      f.retries,
+      subst (λ y. Serves event old old.budget (receives (items f.cs) f.retries) y) (sym s) (Serves-list true (all-came f most)),
+      omega (arith, f.counted),
+      ap valid (sym head) ∙ bad,
+      ap (λ (y : State _ _). y.list) s,
+    )
+
+pub header-whole : {M L H : Type 0} (event : L → Event H → L → Type 0) (read : List ℕ → M) (valid : M → Bool) (old mid new : State L H) (len count : ℕ) (hs : List H) (text : List ℕ) (x : M × Option (Vec H Global))
+    → len ≡ 12 → FrontCame event old len count hs text mid → len ≤ count → x.0 ≡ read (take len text) → valid x.0 ≡ true → given x.1 ≡ hs → new ≡ gives mid hs → ReadsHeader event read valid old (Ok x) new
+header-whole event read valid old mid new len count hs text x twelve f most is ok h s =
+    let full : count ≡ len = omega (arith, f.counted, f.within) in
+    let left : new.left ≡ mid.left = ap (λ (y : State _ _). y.left) s ∙ left-gives mid hs in (
+      f.cs,
+      f.retries,
+      subst (λ y. Serves event old old.budget (receives (items f.cs) f.retries) y) (sym s) (Serves-gives hs (all-came f most)),
+      omega (arith, f.counted),
+      is ∙ ap read (ap (λ n. take n text) (sym full) ∙ f.bytes),
+      ok,
+      h ∙ f.first,
+      ap (λ (y : State _ _). y.list) s ∙ list-gives mid hs f.list ∙ ap (λ ys. not (has_some ys)) f.first,
+      omega (arith, f.left),
+    )

@@ -1,0 +1,18 @@
+use Rattle.std.proofs.Common.{refl}
+use Rattle.vhost_connection.specs.State.{ahead_of, state}
+use Rattle.vhost_connection.specs.Talk.Trouble.{was_broken}
+use Rattle.vhost_connection.proofs.Talking.{sent-all, sent-some}
+use Rattle.vhost_connection.proofs.endpoint.Endpoint.send_text.Goals as goal
+
+pub returns-in-Some : goal.returns-in-Some
+unfolding ahead_of
+returns-in-Some g c = (0, 0, was_broken c.in-Some.is refl refl)
+
+pub returns-in-None : goal.returns-in-None
+unfolding ahead_of
+returns-in-None g c = sent-all g.L.Link.event (state c.args.self.now) _ c.send_whole-sent.new.link _ c.send_whole-sent.result refl refl c.in_default.is c.in-None.is c.send_whole-sent.ensures
+
+pub returns-in-Some-fault : goal.returns-in-Some-fault
+unfolding ahead_of
+returns-in-Some-fault g c =
+    sent-some g.L.Link.event (state c.args.self.now) _ c.send_whole-sent.new.link _ c.send_whole-sent.result c.in-Some-fault.cause c.fail.result refl c.fail.ensures.state c.in_default.is c.fail.ensures.error c.in-Some-fault.is c.send_whole-sent.ensures

@@ -1,0 +1,43 @@
+-- What the calls that receive a message have in common.
+use Rattle.std.specs.Prelude.{◌≡◌, ℕ, ◌+◌, ◌<◌, ◌≤◌, List, length, take, None, true, false, if◌then◌else◌, nat_lt, Result, Ok, Err}
+use Rattle.vhost_message.specs.declared.error.Error.{Error}
+use Rattle.vhost_message.specs.declared.error.Error.TheVariants.{InvalidMessage}
+use Rattle.vhost_protocol.specs.Stream.{Cell, bytes, first_handles, brings_handles, has_some, items, heard}
+use Rattle.vhost_link.specs.Law.{Event}
+use Rattle.vhost_connection.specs.Pass.{receives}
+use Rattle.vhost_connection.specs.Talk.{State, Serves, Trouble}
+use Rattle.vhost_connection.specs.Calls.{ReadsBytes}
+use Rattle.vhost_connection.specs.declared.list.Front.{Front}
+
+-- So many bytes came, or fewer and then the end, with the handles of the first; the list of handles is given away.
+pub record FrontCame {L H : Type 0} (event : L → Event H → L → Type 0) (old : State L H) (len count : ℕ) (hs : List H) (text : List ℕ) (new : State L H) : Type 0 where
+  pub cs : List (Cell H)
+  pub retries : ℕ
+  pub serves : Serves event old old.budget (receives (heard cs (nat_lt (length cs) len)) retries) new
+  pub within : length cs ≤ len
+  pub counted : count ≡ length cs
+  pub first : hs ≡ first_handles cs
+  pub bytes : take count text ≡ bytes cs
+  pub left : new.left + retries ≡ old.budget
+  pub list : new.list ≡ false
+
+-- Fewer came, and then trouble.
+pub record FrontFails {L H : Type 0} (event : L → Event H → L → Type 0) (old : State L H) (len : ℕ) (e : Error) (new : State L H) : Type 0 where
+  pub cs : List (Cell H)
+  pub retries : ℕ
+  pub short : length cs < len
+  pub trouble : Trouble event old old.budget false (receives (items cs) retries) e new
+
+abbrev pub ReadsFront : {L H : Type 0} → (L → Event H → L → Type 0) → State L H → ℕ → Result (Front H) Error → List ℕ → State L H → Type 0
+ReadsFront event old len (Ok x) text new = FrontCame event old len x.count x.list.items text new
+ReadsFront event old len (Err e) text new = FrontFails event old len e new
+
+-- `recv_data`, whose bytes lie at the front of the text
+abbrev pub ReadsCount : {L H : Type 0} → (L → Event H → L → Type 0) → State L H → ℕ → Result ℕ Error → List ℕ → State L H → Type 0
+ReadsCount {H} event old len (Ok n) text new = (cs : List (Cell H)) × ReadsBytes event old len cs new × (brings_handles cs ≡ false) × (n ≡ length cs) × (take n text ≡ bytes cs)
+ReadsCount {H} event old len (Err InvalidMessage) text new = (cs : List (Cell H)) × ReadsBytes event old len cs new × (brings_handles cs ≡ true)
+ReadsCount {H} event old len (Err e) text new = (cs : List (Cell H)) × (r : ℕ) × (old.broken ≡ None → length cs < len) × Trouble event old old.left true (receives (items cs) r) e new
+
+-- the list of handles is given away where there are handles in it
+abbrev pub gives : {L H : Type 0} → State L H → List H → State L H
+gives old hs = if has_some hs then old else record old { list = true }

@@ -1,0 +1,5 @@
+pub mod Pass
+pub mod Talk
+pub mod Calls
+pub mod State
+pub mod Front

@@ -1,0 +1,97 @@
+-- What one pass over a link did: a text sent whole, or up to a fault.
+use Rattle.std.specs.Prelude.{◌≡◌, ◌++◌, ℕ, ◌+◌, ◌-◌, ◌<◌, ◌≤◌, List, [], length, take, drop, Option, Some, None, true, IsTrue, Result, Ok, Err}
+use Rattle.vhost_message.specs.declared.cause.IoCause.{IoCause}
+use Rattle.vhost_message.specs.Cause.{is_retry}
+use Rattle.vhost_protocol.specs.Stream.{Cell, carrying, bytes, brings_handles, first_handles, Item, items, heard}
+use Rattle.vhost_link.specs.Law.{Event, Handed, Ended, Taken, Refused, Move, Moved, move, ◌then◌, refused}
+use Rattle.vhost_connection.specs.declared.pass.Sent.{Sent}
+use Rattle.vhost_connection.specs.declared.pass.First.{First}
+use Rattle.vhost_connection.specs.declared.pass.Got.{Got}
+use Rattle.vhost_connection.specs.declared.pass.Stop.{Stop}
+use Rattle.vhost_connection.specs.declared.pass.Stop.TheVariants.{Whole, AtEnd, Fault}
+
+-- the link took in some of the carrying stand that from this count on
+abbrev pub SendsPiece : {S H : Type 0} → (S → Event H → S → Type 0) → S → List (Cell H) → ℕ → Result ℕ IoCause → S → Type 0
+SendsPiece event old text count (Ok n) new = (0 < n) × (count + n ≤ length text) × event old (Taken (take n (drop count text))) new
+SendsPiece event old text count (Err c) new = event old (Refused c) new
+
+-- these carrying out went, after so many retries
+abbrev pub sends : {H : Type 0} → List (Cell H) → ℕ → Move H
+sends cs retries = move [] cs retries 0
+
+-- how it ended: all went out; or a fault that was no retry, or one retry too many
+abbrev pub SentAs : {S H : Type 0} → (S → Event H → S → Type 0) → S → List (Cell H) → ℕ → ℕ → ℕ → Option IoCause → S → Type 0
+SentAs event old text budget count left None new = (count ≡ length text) × Moved event old (sends text (budget - left)) new
+SentAs event old text budget count left (Some c) new = (count < length text) × (IsTrue (is_retry c) → left ≡ 0)
+    × Moved event old (sends (take count text) (budget - left) then refused c) new
+
+abbrev pub SendsWhole : {S H : Type 0} → (S → Event H → S → Type 0) → S → List (Cell H) → ℕ → Sent → S → Type 0
+SendsWhole event old text budget sent new = (sent.left ≤ budget) × SentAs event old text budget sent.count sent.left sent.fault new
+
+-- these were handed out, after so many retries
+abbrev pub receives : {H : Type 0} → List (Item H) → ℕ → Move H
+receives is retries = move is [] retries 0
+
+-- The carrying at lie the front of the room.
+pub record Fills {H : Type 0} (cs : List (Cell H)) (before after : List ℕ) : Type 0 where
+  pub within : length cs ≤ length before
+  pub bytes : after ≡ bytes cs ++ drop (length cs) before
+
+-- Some bytes came, and lie in the room from this count on; or the end was told.
+pub record Arrives {S H : Type 0} (event : S → Event H → S → Type 0) (old : S) (before : List ℕ) (count n : ℕ) (after : List ℕ) (handles : List H) (new : S) : Type 0 where
+  pub front : List ℕ
+  pub long : length front ≡ n
+  pub within : count + n ≤ length before
+  pub room : after ≡ take count before ++ (front ++ drop (count + n) before)
+  pub some : 0 < n → event old (Handed (carrying handles front)) new
+  pub ended : n ≡ 0 → event old Ended new
+  pub none : n ≡ 0 → handles ≡ []
+  pub few : length handles ≤ 32
+
+abbrev pub GetsPiece : {S H : Type 0} → (S → Event H → S → Type 0) → S → List ℕ → ℕ → Result ℕ IoCause → List ℕ → List H → S → Type 0
+GetsPiece event old before count (Ok n) after handles new = Arrives event old before count n after handles new
+GetsPiece event old before count (Err c) after handles new = event old (Refused c) new × (after ≡ before) × (handles ≡ [])
+
+-- how it ended: the room is full; or the stream is at its end; or a fault that was no retry, or one retry too many
+abbrev pub GotAs : {S H : Type 0} → (S → Event H → S → Type 0) → S → ℕ → ℕ → ℕ → Stop → List (Cell H) → S → Type 0
+GotAs event old room budget left Whole cs new = (length cs ≡ room) × Moved event old (receives (items cs) (budget - left)) new
+GotAs event old room budget left AtEnd cs new = (length cs < room) × Moved event old (receives (heard cs true) (budget - left)) new
+GotAs event old room budget left (Fault c) cs new = (length cs < room) × (IsTrue (is_retry c) → left ≡ 0)
+    × Moved event old (receives (items cs) (budget - left) then refused c) new
+
+pub record GetsRest {S H : Type 0} (event : S → Event H → S → Type 0) (old : S) (before : List ℕ) (budget : ℕ) (got : Got) (after : List ℕ) (new : S) : Type 0 where
+  pub cs : List (Cell H)
+  pub fills : Fills cs before after
+  pub count : got.count ≡ length cs
+  pub surplus : got.surplus ≡ brings_handles cs
+  pub left : got.left ≤ budget
+  pub ended : GotAs event old (length before) budget got.left got.stop cs new
+
+-- The first bytes came, with their handles; or the end was told; or the link failed.
+pub record FrontCame {S H : Type 0} (event : S → Event H → S → Type 0) (old : S) (before : List ℕ) (retries n : ℕ) (after : List ℕ) (handles : List H) (new : S) : Type 0 where
+  pub front : List ℕ
+  pub long : length front ≡ n
+  pub within : n ≤ length before
+  pub room : after ≡ front ++ drop n before
+  pub some : 0 < n → Moved event old (receives (items (carrying handles front)) retries) new
+  pub ended : n ≡ 0 → Moved event old (receives (heard [] true) retries) new
+  pub none : n ≡ 0 → handles ≡ []
+  pub few : length handles ≤ 32
+
+abbrev pub FirstAs : {S H : Type 0} → (S → Event H → S → Type 0) → S → List ℕ → ℕ → ℕ → ℕ → Option IoCause → List ℕ → List H → S → Type 0
+FirstAs event old before budget n left None after handles new = FrontCame event old before (budget - left) n after handles new
+FirstAs event old before budget n left (Some c) after handles new = (n ≡ 0) × (after ≡ before) × (handles ≡ []) × (IsTrue (is_retry c) → left ≡ 0)
+    × Moved event old (receives [] (budget - left) then refused c) new
+
+abbrev pub GetsFirst : {S H : Type 0} → (S → Event H → S → Type 0) → S → List ℕ → ℕ → First → List ℕ → List H → S → Type 0
+GetsFirst event old before budget first after handles new = (first.left ≤ budget) × FirstAs event old before budget first.count first.left first.fault after handles new
+
+-- The room is filled from the first byte on, whose handles are kept.
+pub record GetsWhole {S H : Type 0} (event : S → Event H → S → Type 0) (old : S) (before : List ℕ) (budget : ℕ) (got : Got) (after : List ℕ) (hs : List H) (new : S) : Type 0 where
+  pub cs : List (Cell H)
+  pub fills : Fills cs before after
+  pub count : got.count ≡ length cs
+  pub handles : hs ≡ first_handles cs
+  pub few : length hs ≤ 32
+  pub left : got.left ≤ budget
+  pub ended : GotAs event old (length before) budget got.left got.stop cs new

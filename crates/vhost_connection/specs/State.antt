@@ -1,0 +1,16 @@
+-- How contracts see an endpoint.
+use Rattle.std.specs.Prelude.{ℕ, List, [], None, true, false, is_some}
+use Rattle.vhost_protocol.specs.Stream.{Item}
+use Rattle.vhost_connection.specs.declared.endpoint.Endpoint.{Endpoint}
+use Rattle.vhost_connection.specs.Talk.{State}
+
+-- what the endpoint has heard of its link, and not handed on yet
+unfoldable pub ahead_of : {M L H : Type 0} → Endpoint M L H → List (Item H)
+ahead_of e = []
+
+abbrev pub state : {M L H : Type 0} → Endpoint M L H → State L H
+state e = record { link = e.link; ahead = ahead_of e; budget = e.budget; left = e.left; broken = e.broken; list = is_some e.list; faulted = e.faulted }
+
+-- an endpoint that has not sent or received yet
+abbrev pub fresh : {L H : Type 0} → L → ℕ → State L H
+fresh link budget = record { link = link; ahead = []; budget = budget; left = budget; broken = None; list = true; faulted = false }

@@ -1,0 +1,249 @@
+//! Endpoints: whole messages over a link.
+
+ghost use Rattle.std.specs.Prelude.{◌≡◌, ◌+◌, ◌++◌, ◌<◌, ◌≤◌, length, take, map, min, vec_capacity, IfOk, IfErr};
+ghost use Rattle.vhost_protocol.specs.Stream.{carrying};
+
+use crate::list::{Front, HandleList, MAX_HANDLES};
+use crate::pass::{Stop, recv_message, send_whole};
+use std::alloc::Global;
+use std::marker::PhantomData;
+use vhost_link::Link;
+use vhost_message::{ByteValued, Error, IoCause, MsgHeader, Result};
+
+/// The greatest body of a message that is kept in an endpoint, in bytes.
+const MAX_BODY: usize = 4096;
+
+/// A header and the greatest body, in bytes.
+const MAX_TEXT: usize = 4108;
+
+/// One end of a connection, by which whole messages go out and come in: the header type is `M`.
+///
+/// A call that sends or receives a whole message calls its link again after a retry, up to a budget of retries for
+/// each message. A fault, or one retry more than the budget, after the first byte of a message moved breaks the
+/// endpoint: from then on each call that sends or receives answers `SocketBroken` with that cause.
+///
+/// Mirrors `vhost::vhost_user::connection::Endpoint`.
+#[derive(Drop)]
+pub struct Endpoint<M, L: Link> {
+    link: L,
+    /// How many retries one message may take, and how many are left for the body of the last header.
+    budget: u32,
+    left: u32,
+    /// The fault that broke it.
+    broken: Option<IoCause>,
+    /// Whether the last call that sent or received met a fault.
+    faulted: bool,
+    /// For the handles of the next message, unless it was given away.
+    list: Option<HandleList<L::Handle>>,
+    /// For handles that are dropped.
+    spare: HandleList<L::Handle>,
+    /// The bytes of one message on their way out or in.
+    text: [u8; 4108],
+    alloc: Global,
+    of: PhantomData<M>,
+}
+
+/// Writes a header and the body behind it.
+fn put<M: ByteValued, T: ByteValued>(out: &mut [u8], header: &M, body: &T)
+    requires { length out.old ≡ M.SIZE + T.SIZE }
+    ensures { out.new ≡ M.text header.now ++ T.text body.now }
+{
+    let (front, rest) = out.split_at_mut(M::SIZE);
+    header.encode_into(front);
+    body.encode_into(rest);
+}
+
+impl<M: MsgHeader, L: Link> Endpoint<M, L> {
+    ghost use Rattle.std.specs.Prelude.{if◌then◌else◌, true, is_some};
+    ghost use Rattle.vhost_message.specs.Cause.{error_of};
+    ghost use Rattle.vhost_message.specs.declared.error.Error.TheVariants.{OversizedMsg, IncorrectFds, OutOfMemory};
+    ghost use Rattle.vhost_connection.specs.Talk.{Refuses};
+    ghost use Rattle.vhost_connection.specs.Calls.{Sends, ReadsHeader, given};
+    ghost use Rattle.vhost_connection.specs.Front.{ReadsFront, gives};
+    ghost use Rattle.vhost_connection.specs.State.{state, fresh};
+
+    /// An endpoint over a link, with a budget of retries for each message.
+    ///
+    /// OutOfMemory: a growth was refused.
+    #[tactic(auto, unfolding(crate::specs::State::ahead_of))]
+    pub fn from_stream(alloc: Global, link: L, budget: u32) -> Result<Self>
+        ensures opened { IfOk result (λ e. state e ≡ fresh link budget) }
+        ensures memory { IfErr result (λ e. e ≡ OutOfMemory) }
+    {
+        let (Ok(list), Ok(spare)) = (HandleList::new(alloc), HandleList::new(alloc)) else {
+            return Err(Error::OutOfMemory);
+        };
+        Ok(Endpoint {
+            link,
+            budget,
+            left: budget,
+            broken: None,
+            faulted: false,
+            list: Some(list),
+            spare,
+            text: [0; 4108],
+            alloc,
+            of: PhantomData,
+        })
+    }
+
+    /// Sends a header, with the handles on its first byte.
+    ///
+    /// IncorrectFds: there are more than 32 handles; nothing was written, and nothing changed.
+    #[tactic(auto, unfolding(crate::specs::State::ahead_of))]
+    pub fn send_header(&mut self, header: &M, handles: &[&L::Handle]) -> Result<()>
+        ensures many { 32 < length handles.now → Refuses (state self.old) IncorrectFds result (state self.new) }
+        ensures sent { length handles.now ≤ 32 → Sends L.event (state self.old) (carrying (map (λ h. h.now) handles.now) (M.text header.now)) result (state self.new) }
+    {
+        if handles.len() > MAX_HANDLES {
+            return Err(Error::IncorrectFds);
+        }
+        header.encode_into(&mut self.text[..M::SIZE]);
+        self.send_text(M::SIZE, handles)
+    }
+
+    /// Sends a header and a body, with the handles on the first byte.
+    ///
+    /// OversizedMsg: the body is longer than 4096 bytes, or than a header of this type may say. IncorrectFds: there
+    /// are more than 32 handles. In both cases nothing was written, and nothing changed.
+    #[tactic(auto, unfolding(crate::specs::State::ahead_of))]
+    pub fn send_message<T: ByteValued>(
+        &mut self,
+        header: &M,
+        body: &T,
+        handles: &[&L::Handle],
+    ) -> Result<()>
+        ensures long { min 4096 M.MAX_MSG_SIZE < T.SIZE → Refuses (state self.old) OversizedMsg result (state self.new) }
+        ensures many { T.SIZE ≤ min 4096 M.MAX_MSG_SIZE → 32 < length handles.now → Refuses (state self.old) IncorrectFds result (state self.new) }
+        ensures sent { T.SIZE ≤ min 4096 M.MAX_MSG_SIZE → length handles.now ≤ 32 →
+            Sends L.event (state self.old) (carrying (map (λ h. h.now) handles.now) (M.text header.now ++ T.text body.now)) result (state self.new) }
+    {
+        if T::SIZE > MAX_BODY || T::SIZE > M::MAX_MSG_SIZE {
+            return Err(Error::OversizedMsg);
+        }
+        if handles.len() > MAX_HANDLES {
+            return Err(Error::IncorrectFds);
+        }
+        let len = M::SIZE + T::SIZE;
+        put(&mut self.text[..len], header, body);
+        self.send_text(len, handles)
+    }
+
+    /// Sends the first bytes of the text.
+    fn send_text(&mut self, len: usize, handles: &[&L::Handle]) -> Result<()>
+        requires some { 0 < len }
+        requires len { len ≤ 4108 }
+        requires handles { length handles.now ≤ 32 }
+        ensures { Sends L.event (state self.old) (carrying (map (λ h. h.now) handles.now) (take len self.old.text)) result (state self.new) }
+    {
+        self.faulted = false;
+        if let Some(cause) = self.broken {
+            return Err(Error::SocketBroken(cause));
+        }
+        let sent = send_whole(&mut self.link, &self.text[..len], handles, self.budget);
+        match sent.fault {
+            None => Ok(()),
+            Some(cause) => Err(self.fail(cause, sent.count > 0)),
+        }
+    }
+
+    /// The link failed: this breaks the endpoint if something has moved.
+    #[tactic(auto, unfolding(crate::specs::State::ahead_of))]
+    fn fail(&mut self, cause: IoCause, moved: bool) -> Error
+        ensures error { result ≡ error_of cause }
+        ensures state { state self.new ≡ record (state self.old) { broken = (if moved then Some cause else self.old.broken); faulted = true } }
+    {
+        self.faulted = true;
+        if moved {
+            self.broken = Some(cause);
+        }
+        cause.into()
+    }
+
+    /// Receives a header, with the handles of its first byte.
+    ///
+    /// Disconnected: the stream ended before the first byte. PartialMessage: it ended within the header.
+    /// InvalidMessage: the header was received, and is not valid. OutOfMemory: the endpoint had given its list of
+    /// handles away, and no memory for another was found; nothing was received.
+    pub fn recv_header(&mut self) -> Result<(M, Option<Vec<L::Handle>>)>
+        ensures { ReadsHeader L.event M.read M.valid (state self.old) result (state self.new) }
+    {
+        let len = M::SIZE;
+        let Front { count, list } = self.recv_front(len)?;
+        if count < len {
+            self.put_back(list);
+            if count == 0 {
+                return Err(Error::Disconnected);
+            }
+            return Err(Error::PartialMessage);
+        }
+        let header = M::decode(&self.text[..len]);
+        if !header.is_valid() {
+            self.put_back(list);
+            return Err(Error::InvalidMessage);
+        }
+        Ok((header, self.give(list)))
+    }
+
+    /// Receives so many bytes to the front of the text, or fewer and then the end, with the handles of the first.
+    fn recv_front(&mut self, len: usize) -> Result<Front<L::Handle>>
+        requires some { 0 < len }
+        requires len { len ≤ 4108 }
+        ensures { ReadsFront L.event (state self.old) len result self.new.text (state self.new) }
+    {
+        self.faulted = false;
+        if let Some(cause) = self.broken {
+            return Err(Error::SocketBroken(cause));
+        }
+        let HandleList { mut list } = match self.list.take() {
+            Some(list) => list,
+            None => match HandleList::new(self.alloc) {
+                Ok(list) => list,
+                Err(_) => return Err(Error::OutOfMemory),
+            },
+        };
+        let got = recv_message(
+            &mut self.link,
+            &mut self.text[..],
+            len,
+            &mut list,
+            &mut self.spare.list,
+            self.budget,
+        );
+        self.left = got.left;
+        if let Stop::Fault(cause) = got.stop {
+            self.put_back(list);
+            return Err(self.fail(cause, got.count > 0));
+        }
+        Ok(Front {
+            count: got.count,
+            list,
+        })
+    }
+
+    /// Takes the list back; its handles are dropped.
+    #[tactic(auto, unfolding(crate::specs::State::ahead_of))]
+    fn put_back(&mut self, mut list: Vec<L::Handle>)
+        requires { 32 ≤ vec_capacity list }
+        ensures state { state self.new ≡ record (state self.old) { list = true } }
+        ensures text { self.new.text ≡ self.old.text }
+    {
+        list.clear();
+        self.list = Some(HandleList { list });
+    }
+
+    /// Gives the list away where it has handles, and else takes it back.
+    #[tactic(auto, unfolding(crate::specs::State::ahead_of))]
+    fn give(&mut self, list: Vec<L::Handle>) -> Option<Vec<L::Handle>>
+        requires { 32 ≤ vec_capacity list }
+        ensures given { given result ≡ list.items }
+        ensures state { state self.new ≡ gives (state self.old) list.items }
+    {
+        if list.is_empty() {
+            self.put_back(list);
+            None
+        } else {
+            Some(list)
+        }
+    }
+}

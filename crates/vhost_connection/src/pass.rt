@@ -1,0 +1,284 @@
+//! One pass over a link, with a budget of retries.
+
+ghost use Rattle.std.specs.Prelude.{◌≡◌, ◌<◌, ◌≤◌, [], length, take, vec_capacity, map};
+ghost use Rattle.vhost_protocol.specs.Stream.{carrying};
+ghost use Rattle.vhost_connection.specs.Pass.{SendsPiece, SendsWhole, GetsPiece, GetsFirst, GetsRest, GetsWhole};
+
+use vhost_link::Link;
+use vhost_message::IoCause;
+
+/// How bytes went out: how many, how many retries are left, and the fault that stopped them.
+#[derive(Drop)]
+pub struct Sent {
+    pub count: usize,
+    pub left: u32,
+    pub fault: Option<IoCause>,
+}
+
+/// Sends some of the bytes from this count on, the handles with the first of all.
+fn send_piece<L: Link>(
+    link: &mut L,
+    bytes: &[u8],
+    handles: &[&L::Handle],
+    count: usize,
+) -> Result<usize, IoCause>
+    requires handles { length handles.now ≤ 32 }
+    requires count { count < length bytes.now }
+    ensures { SendsPiece L.event link.old (carrying (map (λ h. h.now) handles.now) bytes.now) count result link.new }
+{
+    if count == 0 {
+        link.send(bytes, handles)
+    } else {
+        link.send(&bytes[count..], &[])
+    }
+}
+
+/// Sends all of the bytes, with the handles on the first of them.
+pub fn send_whole<L: Link>(link: &mut L, bytes: &[u8], handles: &[&L::Handle], budget: u32) -> Sent
+    requires { length handles.now ≤ 32 }
+    ensures { SendsWhole L.event link.old (carrying (map (λ h. h.now) handles.now) bytes.now) budget result link.new }
+{
+    let mut count = 0;
+    let mut left = budget;
+    while count < bytes.len() {
+        match send_piece(link, bytes, handles, count) {
+            Ok(n) => count += n,
+            Err(cause) => {
+                if !cause.is_retry() || left == 0 {
+                    return Sent {
+                        count,
+                        left,
+                        fault: Some(cause),
+                    };
+                }
+                left -= 1;
+            }
+        }
+    }
+    Sent {
+        count,
+        left,
+        fault: None,
+    }
+}
+
+/// Why a receiver stopped.
+#[derive(Drop)]
+pub enum Stop {
+    /// The room is full.
+    Whole,
+    /// The stream has ended.
+    AtEnd,
+    /// The link failed, or retried once too often.
+    Fault(IoCause),
+}
+
+/// What came: how many bytes, whether one of them brought handles, how many retries are left, and why it stopped.
+#[derive(Drop)]
+pub struct Got {
+    pub count: usize,
+    pub surplus: bool,
+    pub left: u32,
+    pub stop: Stop,
+}
+
+/// Receives some bytes into the room, from this count on.
+fn recv_piece<L: Link>(
+    link: &mut L,
+    room: &mut [u8],
+    count: usize,
+    list: &mut Vec<L::Handle>,
+) -> Result<usize, IoCause>
+    requires count { count < length room.old }
+    requires list { list.old.items ≡ [] }
+    requires places { 32 ≤ vec_capacity list.old }
+    ensures got { GetsPiece L.event link.old room.old count result room.new list.new.items link.new }
+    ensures places { vec_capacity list.old ≤ vec_capacity list.new }
+{
+    link.recv(&mut room[count..], list)
+}
+
+/// What came first: how many bytes, how many retries are left, and the fault, if any. No bytes and no fault is the
+/// stream's end.
+#[derive(Drop)]
+pub struct First {
+    pub count: usize,
+    pub left: u32,
+    pub fault: Option<IoCause>,
+}
+
+/// Receives the first bytes, and their handles.
+pub fn recv_first<L: Link>(
+    link: &mut L,
+    room: &mut [u8],
+    list: &mut Vec<L::Handle>,
+    budget: u32,
+) -> First
+    requires room { 0 < length room.old }
+    requires list { list.old.items ≡ [] }
+    requires places { 32 ≤ vec_capacity list.old }
+    ensures got { GetsFirst L.event link.old room.old budget result room.new list.new.items link.new }
+    ensures places { vec_capacity list.old ≤ vec_capacity list.new }
+{
+    let mut left = budget;
+    loop {
+        match recv_piece(link, room, 0, list) {
+            Ok(count) => {
+                return First {
+                    count,
+                    left,
+                    fault: None,
+                };
+            }
+            Err(cause) => {
+                if !cause.is_retry() || left == 0 {
+                    return First {
+                        count: 0,
+                        left,
+                        fault: Some(cause),
+                    };
+                }
+                left -= 1;
+            }
+        }
+    }
+}
+
+/// Receives until the room is full. The handles of what comes are dropped.
+pub fn recv_rest<L: Link>(
+    link: &mut L,
+    room: &mut [u8],
+    spare: &mut Vec<L::Handle>,
+    budget: u32,
+) -> Got
+    requires list { spare.old.items ≡ [] }
+    requires places { 32 ≤ vec_capacity spare.old }
+    ensures got { GetsRest L.event link.old room.old budget result room.new link.new }
+    ensures list { spare.new.items ≡ [] }
+    ensures places { vec_capacity spare.old ≤ vec_capacity spare.new }
+{
+    let mut count = 0;
+    let mut left = budget;
+    let mut surplus = false;
+    while count < room.len() {
+        match recv_piece(link, room, count, spare) {
+            Ok(0) => {
+                return Got {
+                    count,
+                    surplus,
+                    left,
+                    stop: Stop::AtEnd,
+                };
+            }
+            Ok(n) => {
+                count += n;
+                if !spare.is_empty() {
+                    surplus = true;
+                    spare.clear();
+                }
+            }
+            Err(cause) => {
+                if !cause.is_retry() || left == 0 {
+                    return Got {
+                        count,
+                        surplus,
+                        left,
+                        stop: Stop::Fault(cause),
+                    };
+                }
+                left -= 1;
+            }
+        }
+    }
+    Got {
+        count,
+        surplus,
+        left,
+        stop: Stop::Whole,
+    }
+}
+
+/// Receives until the room is full, and keeps the handles of the first byte.
+pub fn recv_whole<L: Link>(
+    link: &mut L,
+    room: &mut [u8],
+    list: &mut Vec<L::Handle>,
+    spare: &mut Vec<L::Handle>,
+    budget: u32,
+) -> Got
+    requires room { 0 < length room.old }
+    requires list { list.old.items ≡ [] }
+    requires places { 32 ≤ vec_capacity list.old }
+    requires spare { spare.old.items ≡ [] }
+    requires spare_places { 32 ≤ vec_capacity spare.old }
+    ensures got { GetsWhole L.event link.old room.old budget result room.new list.new.items link.new }
+    ensures places { vec_capacity list.old ≤ vec_capacity list.new }
+    ensures spare { spare.new.items ≡ [] }
+    ensures spare_places { vec_capacity spare.old ≤ vec_capacity spare.new }
+{
+    let first = recv_first(link, room, list, budget);
+    if let Some(cause) = first.fault {
+        return Got {
+            count: 0,
+            surplus: false,
+            left: first.left,
+            stop: Stop::Fault(cause),
+        };
+    }
+    if first.count == 0 {
+        return Got {
+            count: 0,
+            surplus: false,
+            left: first.left,
+            stop: Stop::AtEnd,
+        };
+    }
+    let rest = recv_rest(link, &mut room[first.count..], spare, first.left);
+    Got {
+        count: first.count + rest.count,
+        surplus: rest.surplus,
+        left: rest.left,
+        stop: rest.stop,
+    }
+}
+
+/// Receives so many bytes to the front of the text, and keeps the handles of the first.
+pub fn recv_message<L: Link>(
+    link: &mut L,
+    text: &mut [u8],
+    len: usize,
+    list: &mut Vec<L::Handle>,
+    spare: &mut Vec<L::Handle>,
+    budget: u32,
+) -> Got
+    requires some { 0 < len }
+    requires len { len ≤ length text.old }
+    requires list { list.old.items ≡ [] }
+    requires places { 32 ≤ vec_capacity list.old }
+    requires spare { spare.old.items ≡ [] }
+    requires spare_places { 32 ≤ vec_capacity spare.old }
+    ensures got { GetsWhole L.event link.old (take len text.old) budget result (take len text.new) list.new.items link.new }
+    ensures places { vec_capacity list.old ≤ vec_capacity list.new }
+    ensures spare { spare.new.items ≡ [] }
+    ensures spare_places { vec_capacity spare.old ≤ vec_capacity spare.new }
+{
+    recv_whole(link, &mut text[..len], list, spare, budget)
+}
+
+/// Receives so many bytes to the front of the text, and drops all handles.
+pub fn recv_bytes<L: Link>(
+    link: &mut L,
+    text: &mut [u8],
+    len: usize,
+    spare: &mut Vec<L::Handle>,
+    budget: u32,
+) -> Got
+    requires len { len ≤ length text.old }
+    requires list { spare.old.items ≡ [] }
+    requires places { 32 ≤ vec_capacity spare.old }
+    ensures got { GetsRest L.event link.old (take len text.old) budget result (take len text.new) link.new }
+    ensures list { spare.new.items ≡ [] }
+    ensures places { vec_capacity spare.old ≤ vec_capacity spare.new }
+{
+    recv_rest(link, &mut text[..len], spare, budget)
+}
