@@ -1,2 +1,4 @@
 pub mod SplitLaws
 pub mod TextLaws
+pub mod ReplyLaws
+pub mod TakeLaws

@@ -40,13 +40,13 @@ header-read h code flags size =
     λ i. record { code = a i; flags = b i; size = c i }
 
 -- the flags of a message that is sent
-flags-small : (a b : Bool) → header_flags a b < 2 ^ 32
+pub flags-small : (a b : Bool) → header_flags a b < 2 ^ 32
 flags-small false false = lit< tt
 flags-small true false = lit< tt
 flags-small false true = lit< tt
 flags-small true true = lit< tt
 
-sendable-valid : (a b : Bool) (code size : ℕ) → size ≤ 4096 → is_valid_header (record { code = code; flags = header_flags a b; size = size }) ≡ true
+pub sendable-valid : (a b : Bool) (code size : ℕ) → size ≤ 4096 → is_valid_header (record { code = code; flags = header_flags a b; size = size }) ≡ true
 sendable-valid false false code size h = le-leb size 4096 h
 sendable-valid true false code size h = le-leb size 4096 h
 sendable-valid false true code size h = le-leb size 4096 h

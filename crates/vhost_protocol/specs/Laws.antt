@@ -1,10 +1,20 @@
 -- Laws of the definitions. Functions without a body, in `src/laws`, have them as contracts.
-use Rattle.std.specs.Prelude.{◌≡◌, ℕ, ◌+◌, ◌^◌, ◌<◌, ◌≤◌, ◌⊎◌, Bool, true, false, List, [], ◌++◌, length, Option, Some, Result, Ok}
+use Rattle.std.specs.Prelude.{◌≡◌, ℕ, ◌+◌, ◌^◌, ◌<◌, ◌≤◌, ◌⊎◌, Bool, true, false, List, [], ◌++◌, length, Option, Some, Result, Ok, ⊤}
+use Rattle.vhost_message.specs.Bits.{has_bit}
+use Rattle.vhost_message.specs.declared.frontend_req.FrontendReq.{FrontendReq}
+use Rattle.vhost_message.specs.FrontendReq.{request_number}
+use Rattle.vhost_message.specs.Header.{Header}
+use Rattle.vhost_protocol.specs.AnswerTable.{answer}
+use Rattle.vhost_protocol.specs.Ask.{Awaited, Ack, Reply, AU64, AnEmpty}
 use Rattle.vhost_protocol.specs.Error.{Error}
+use Rattle.vhost_protocol.specs.FrontendCall.{FrontendCall, SetMemTable, GetConfig, Frontend}
 use Rattle.vhost_protocol.specs.Joined.{read_as}
 use Rattle.vhost_protocol.specs.Split.{Message, split, Splits}
+use Rattle.vhost_protocol.specs.ReplySplit.{reply_split}
+use Rattle.vhost_protocol.specs.Served.{Served, Acknowledged, Replied, reply, cells_of}
 use Rattle.vhost_protocol.specs.Stream.{Cell}
-use Rattle.vhost_protocol.specs.Written.{Written, payload_text, written_cells}
+use Rattle.vhost_protocol.specs.Take.{take}
+use Rattle.vhost_protocol.specs.Written.{Empty, U64, Written, head_of, payload_text, written_cells}
 
 -- ---- how a stream is cut; for every type of codes, and whatever handles are wanted
 
@@ -29,3 +39,43 @@ module _ (R H : Type 0) (request_of : ℕ → Option R) where
       → request_of (number_of w.request) ≡ Some w.request → number_of w.request < 2 ^ 32
       → wanted w.request (length w.handles) ≡ true → length (payload_text w.payload) ≤ 4096
       → split request_of wanted (written_cells number_of w ++ rest) ≡ (Ok (read_as w), rest)
+
+-- ---- replies
+
+-- a reply is read by its record and the payload behind it, whatever follows
+abbrev pub ReplyIsRead : (R H : Type 0) → (R → ℕ) → Type 0
+ReplyIsRead R H number_of = (is_known : Header → Bool) (is_valid : List ℕ → Bool) (w : Written R H) (body more : List ℕ) (rest : List (Cell H))
+    → payload_text w.payload ≡ body ++ more → number_of w.request < 2 ^ 32 → length (payload_text w.payload) < 2 ^ 32
+    → is_known (head_of number_of w) ≡ true → is_valid body ≡ true
+    → reply_split is_known (length body) is_valid (length more) (written_cells number_of w ++ rest)
+    ≡ (Ok (record { header = head_of number_of w; body = body; payload = more; handles = w.handles }), rest)
+
+-- a call whose reply has nothing behind its record
+abbrev pub IsShort : {H : Type 0} → FrontendCall H → Type 0
+IsShort (SetMemTable infos) = ⊥
+IsShort (GetConfig offset size flags buffer) = ⊥
+IsShort _ = ⊤
+
+-- a header that was sent for a request, without REPLY
+abbrev pub IsSentFor : FrontendReq → Header → Type 0
+IsSentFor r sent = (sent.code ≡ request_number r) × (has_bit sent.flags 2 ≡ false)
+
+-- what a handler served is taken from the stream as the answer table says, and what follows it is left
+abbrev pub IsTaken : {H : Type 0} → FrontendCall H → Awaited → Header → Frontend → FrontendReq → Served H → Type 0
+IsTaken {H} call awaited sent f r served =
+    (rest : List (Cell H)) → take call awaited sent f (cells_of request_number (reply r served) ++ rest) ≡ (answer call awaited f served, rest)
+
+-- an acknowledgement is taken
+abbrev pub TakesAck : (H : Type 0) → Type 0
+TakesAck H = (call : FrontendCall H) (sent : Header) (f : Frontend) (r : FrontendReq) → IsSentFor r sent
+    → (agreed : Bool) → IsTaken call Ack sent f r (Acknowledged agreed)
+
+-- a reply of one number is taken
+abbrev pub TakesNumber : (H : Type 0) → Type 0
+TakesNumber H = (call : FrontendCall H) (sent : Header) (f : Frontend) (r : FrontendReq) → IsShort call → IsSentFor r sent
+    → (n : ℕ) (handles : List H) → n < 2 ^ 64 → IsTaken call (Reply AU64) sent f r (Replied (U64 n) handles)
+
+-- a reply without a body is taken
+abbrev pub TakesEmpty : (H : Type 0) → Type 0
+TakesEmpty H = (call : FrontendCall H) (sent : Header) (f : Frontend) (r : FrontendReq) → IsShort call → IsSentFor r sent
+    → (handles : List H) → IsTaken call (Reply AnEmpty) sent f r (Replied Empty handles)

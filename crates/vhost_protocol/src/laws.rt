@@ -1,3 +1,4 @@
 //! Laws of the definitions.
 
 pub mod messages;
+pub mod replies;

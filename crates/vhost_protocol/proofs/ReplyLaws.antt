@@ -1,0 +1,70 @@
+-- A reply that is written is read again, whatever follows it.
+use Rattle.std.proofs.Common.{◌≡◌, ℕ, ◌+◌, ◌^◌, ◌≤◌, ◌<◌, Bool, true, ◌&&◌, cond, List, [], ◌∷◌, ◌++◌, length, take, drop, Result, Ok, Err, refl, ◌∙◌, ap, arith}
+use Rattle.std.proofs.lemmas.List.{take_at, drop_at, append_assoc, length-append}
+use Rattle.vhost_message.specs.Header.{Header, header_of, header_text}
+use Rattle.vhost_protocol.specs.Stream.{Cell, cell, bytes, plain}
+use Rattle.vhost_protocol.specs.Error.{Error, InvalidMessage}
+use Rattle.vhost_protocol.specs.ReplySplit.{Received, received, reply_split}
+use Rattle.vhost_protocol.specs.Written.{Written, head_of, payload_text, written_cells}
+use Rattle.vhost_protocol.proofs.SplitLaws.{le-shorter}
+use Rattle.vhost_protocol.proofs.TextLaws.{header-read, flags-small, bytes-plain, length-plain}
+
+pub plain-append : (H : Type 0) (bs more : List ℕ) → plain {H = H} (bs ++ more) ≡ plain bs ++ plain more
+plain-append H [] more = refl
+plain-append H (b ∷ bs) more = ap (λ x. cell b [] ∷ x) (plain-append H bs more)
+
+module _ {R H : Type 0} (number_of : R → ℕ) (is_known : Header → Bool) (is_valid : List ℕ → Bool) where
+  -- behind the header
+  tail : Header → List H → ℕ → ℕ → List (Cell H) → Result (Received H) Error × List (Cell H)
+  tail h handles size room cells = received is_known h is_valid handles (bytes (take size cells)) room (drop size cells)
+
+  reply-header : (w : Written R H) (size room : ℕ) (rest : List (Cell H)) → 12 + size ≤ length (written_cells number_of w ++ rest)
+      → reply_split is_known size is_valid room (written_cells number_of w ++ rest)
+      ≡ tail (header_of (header_text (head_of number_of w))) w.handles size room (plain (payload_text w.payload) ++ rest)
+  unfolding reply_split tail
+  reply-header w size room rest long = rw (le-shorter (12 + size) (written_cells number_of w ++ rest) long) refl
+
+  reply-payload : (h : Header) (handles : List H) (body more : List ℕ) (rest : List (Cell H)) → is_known h ≡ true → is_valid body ≡ true
+      → received is_known h is_valid handles body (length more) (plain more ++ rest) ≡ (Ok (record { header = h; body = body; payload = more; handles = handles }), rest)
+  unfolding received
+  reply-payload h handles body more rest known valid =
+      ap (λ b. cond (b && is_valid body) (found (bytes (take (length more) cells)) (drop (length more) cells)) (Err InvalidMessage, drop (length more) cells)) known
+      ∙ ap (λ b. cond b (found (bytes (take (length more) cells)) (drop (length more) cells)) (Err InvalidMessage, drop (length more) cells)) valid
+      ∙ ap (λ x. found (bytes x) (drop (length more) cells)) (take_at (plain more) rest (length more) (length-plain H more))
+      ∙ ap (λ x. found (bytes (plain {H = H} more)) x) (drop_at (plain more) rest (length more) (length-plain H more))
+      ∙ ap (λ x. found x rest) (bytes-plain H more)
+    where
+      cells : List (Cell H)
+      cells = plain more ++ rest
+
+      found : List ℕ → List (Cell H) → Result (Received H) Error × List (Cell H)
+      found payload behind = (Ok (record { header = h; body = body; payload = payload; handles = handles }), behind)
+
+  reply-behind : (h : Header) (handles : List H) (body more : List ℕ) (rest : List (Cell H)) → is_known h ≡ true → is_valid body ≡ true
+      → tail h handles (length body) (length more) (plain body ++ (plain more ++ rest))
+      ≡ (Ok (record { header = h; body = body; payload = more; handles = handles }), rest)
+  unfolding tail
+  reply-behind h handles body more rest known valid =
+      ap (λ x. received is_known h is_valid handles (bytes x) (length more) (drop (length body) (plain body ++ (plain more ++ rest)))) (take_at (plain body) (plain more ++ rest) (length body) (length-plain H body))
+      ∙ ap (λ x. received is_known h is_valid handles (bytes (plain {H = H} body)) (length more) x) (drop_at (plain body) (plain more ++ rest) (length body) (length-plain H body))
+      ∙ ap (λ x. received is_known h is_valid handles x (length more) (plain more ++ rest)) (bytes-plain H body)
+      ∙ reply-payload h handles body more rest known valid
+
+  -- a reply is read by its record and the payload behind it
+  pub reply-read : (w : Written R H) (body more : List ℕ) (rest : List (Cell H)) → payload_text w.payload ≡ body ++ more
+      → number_of w.request < 2 ^ 32 → length (payload_text w.payload) < 2 ^ 32 → is_known (head_of number_of w) ≡ true → is_valid body ≡ true
+      → reply_split is_known (length body) is_valid (length more) (written_cells number_of w ++ rest)
+      ≡ (Ok (record { header = head_of number_of w; body = body; payload = more; handles = w.handles }), rest)
+  reply-read w body more rest text code size known valid =
+      let long : 12 + length body ≤ length (written_cells number_of w ++ rest) = lengths in
+      reply-header w (length body) (length more) rest long
+      ∙ ap (λ h. tail h w.handles (length body) (length more) (plain (payload_text w.payload) ++ rest))
+      (header-read (head_of number_of w) code (flags-small w.reply w.need_reply) size)
+      ∙ ap (λ cells. tail (head_of number_of w) w.handles (length body) (length more) cells) cells
+      ∙ reply-behind (head_of number_of w) w.handles body more rest known valid
+    where
+      cells : plain (payload_text w.payload) ++ rest ≡ plain body ++ (plain more ++ rest)
+      cells = ap (λ x. plain x ++ rest) text ∙ ap (λ x. x ++ rest) (plain-append H body more) ∙ append_assoc (plain body) (plain more) rest
+
+      lengths : 12 + length body ≤ length (written_cells number_of w ++ rest)
+      lengths = omega (arith, ap (λ x. length x) cells, length-append (plain {H = H} body) (plain more ++ rest), length-plain H body)

@@ -1,0 +1,158 @@
+-- A frontend takes from the stream what the handler served, and nothing else.
+use Rattle.std.proofs.Common.{◌≡◌, ℕ, ◌^◌, ◌≤◌, ◌<◌, Bool, true, false, not, ◌&&◌, cond, List, [], ◌++◌, length, Some, None, Ok, Err, refl, sym, ◌∙◌, ap, arith, is_some, lit<}
+use Rattle.std.specs.Prelude.{◌==◌}
+use Rattle.std.proofs.lemmas.Bool.{eq-eqb}
+use Rattle.byteorder.specs.Numbers.{little_number-reads_back}
+use Rattle.vhost_message.specs.Bits.{has_bit}
+use Rattle.vhost_message.specs.declared.frontend_req.FrontendReq.{FrontendReq}
+use Rattle.vhost_message.specs.FrontendReq.{request_of, request_number, request_of-request_number}
+use Rattle.vhost_message.specs.Header.{Header}
+use Rattle.vhost_message.specs.Text.{digits}
+use Rattle.vhost_protocol.specs.Stream.{Cell}
+use Rattle.vhost_protocol.specs.Error.{InvalidParam, InvalidMessage}
+use Rattle.vhost_protocol.specs.Written.{Payload, Empty, U64, Written, head_of, payload_text, written_cells, reply_to}
+use Rattle.vhost_protocol.specs.Served.{Acknowledged, Replied, reply, cells_of}
+use Rattle.vhost_protocol.specs.FrontendCall.{FrontendCall, SetMemTable, GetConfig, Frontend}
+use Rattle.vhost_protocol.specs.Ask.{Shape, AnEmpty, AU64, Ack, Reply}
+use Rattle.vhost_protocol.specs.AnswerTable.{answered, answer}
+use Rattle.vhost_protocol.specs.ReplySplit.{Received, reply_split}
+use Rattle.vhost_protocol.specs.Take.{record_size, is_valid_record, payload_of, room, is_sized, is_known, answers, understood, take_reply, take}
+use Rattle.vhost_protocol.specs.Laws.{IsShort, TakesNumber, TakesEmpty}
+use Rattle.vhost_protocol.proofs.TextLaws.{request-small, sendable-valid}
+use Rattle.vhost_protocol.proofs.ReplyLaws.{reply-read}
+
+-- a reply's header is known
+pub reply-known : {H : Type 0} (r : FrontendReq) (payload : Payload) (handles : List H) → length (payload_text payload) ≤ 4096
+    → is_known (head_of request_number (reply_to r payload handles)) ≡ true
+reply-known r payload handles small =
+    ap (λ b. is_some (cond b (request_of (request_number r)) None)) (sendable-valid true false (request_number r) (length (payload_text payload)) small)
+    ∙ ap (λ x. is_some x) (request_of-request_number r)
+
+-- a reply answers each header of its code that was sent without REPLY
+pub reply-answers : {H : Type 0} (r : FrontendReq) (payload : Payload) (handles : List H) (sent : Header)
+    → sent.code ≡ request_number r → has_bit sent.flags 2 ≡ false → answers sent (head_of request_number (reply_to r payload handles)) ≡ true
+reply-answers r payload handles sent code flag =
+    ap (λ x. is_some x && request_number r == sent.code && true && not (has_bit sent.flags 2)) (request_of-request_number r)
+    ∙ ap (λ b. b && true && not (has_bit sent.flags 2)) (eq-eqb (request_number r) sent.code (sym code))
+    ∙ ap (λ b. not b) flag
+
+module _ (H : Type 0) where
+  -- what a reply to a request is received as
+  pub the_reply : FrontendReq → Payload → List H → List ℕ → List ℕ → Received H
+  the_reply r payload handles body more = record { header = head_of request_number (reply_to r payload handles); body = body; payload = more; handles = handles }
+
+  -- A payload that the call's reply may have: a record of the shape, and as much behind it as there is room for.
+  pub record IsReadable (call : FrontendCall H) (shape : Shape) (r : FrontendReq) (payload : Payload) (handles : List H) : Type 0 where
+    pub body : List ℕ
+    pub more : List ℕ
+    pub text : payload_text payload ≡ body ++ more
+    pub size : length body ≡ record_size shape
+    pub rest : length more ≡ room call
+    pub small : length (payload_text payload) ≤ 4096
+    pub valid : is_valid_record shape body ≡ true
+    pub read : payload_of shape body more ≡ payload
+    pub sized : is_sized call (the_reply r payload handles body more) ≡ true
+
+  -- the reply is cut from the stream as it was written
+  pub reply-cut : (call : FrontendCall H) (shape : Shape) (r : FrontendReq) (payload : Payload) (handles : List H) (rest : List (Cell H)) (k : IsReadable call shape r payload handles)
+      → reply_split is_known (record_size shape) (is_valid_record shape) (room call) (written_cells request_number (reply_to r payload handles) ++ rest)
+      ≡ (Ok (the_reply r payload handles k.body k.more), rest)
+  unfolding the_reply
+  reply-cut call shape r payload handles rest k =
+      let w : Written FrontendReq H = reply_to r payload handles in
+      ap (λ n. reply_split is_known n (is_valid_record shape) (room call) (written_cells request_number w ++ rest)) (sym k.size)
+      ∙ ap (λ n. reply_split is_known (length (k.body)) (is_valid_record shape) n (written_cells request_number w ++ rest)) (sym k.rest)
+      ∙ reply-read request_number is_known (is_valid_record shape) w k.body k.more rest k.text (request-small r) (omega (arith, k.small)) (reply-known r payload handles k.small) k.valid
+
+  -- a reply that answers is understood as what was served
+  reply-understood : (call : FrontendCall H) (shape : Shape) (sent : Header) (f : Frontend) (r : FrontendReq) (payload : Payload) (handles : List H) (k : IsReadable call shape r payload handles)
+      → sent.code ≡ request_number r → has_bit sent.flags 2 ≡ false
+      → understood call (Reply shape) sent f (Ok (the_reply r payload handles k.body k.more)) ≡ answer call (Reply shape) f (Replied payload handles)
+  unfolding the_reply
+  reply-understood call shape sent f r payload handles k code flag =
+      ap (λ b. cond (b && is_sized call (the_reply r payload handles k.body k.more)) (answer call (Reply shape) f (Replied (payload_of shape k.body k.more) handles)) (Some (answered f (Err InvalidMessage)))) (reply-answers r payload handles sent code flag)
+      ∙ ap (λ b. cond b (answer call (Reply shape) f (Replied (payload_of shape k.body k.more) handles)) (Some (answered f (Err InvalidMessage)))) k.sized
+      ∙ ap (λ p. answer call (Reply shape) f (Replied p handles)) k.read
+
+  -- every call but one reads its reply by the shape alone
+  abbrev pub IsPlainly : FrontendCall H → Type 0
+  IsPlainly (GetConfig offset size flags buffer) = ⊥
+  IsPlainly _ = Unit {0}
+
+  -- what is awaited by its shape alone
+  plainly : (call : FrontendCall H) (shape : Shape) (sent : Header) (f : Frontend) (cells : List (Cell H)) → IsPlainly call
+      → let cut = reply_split is_known (record_size shape) (is_valid_record shape) (room call) cells in take_reply call shape sent f cells ≡ (understood call (Reply shape) sent f cut.0, cut.1)
+  plainly (GetConfig offset size flags buffer) shape sent f cells plain = absurd plain
+  plainly _ shape sent f cells plain = refl
+
+  -- the reply that was served is taken, and what follows it is left
+  pub take-replied : (call : FrontendCall H) (shape : Shape) (sent : Header) (f : Frontend) (r : FrontendReq) (payload : Payload) (handles : List H) (rest : List (Cell H))
+      → IsPlainly call → IsReadable call shape r payload handles → sent.code ≡ request_number r → has_bit sent.flags 2 ≡ false
+      → take call (Reply shape) sent f (cells_of request_number (reply r (Replied payload handles)) ++ rest) ≡ (answer call (Reply shape) f (Replied payload handles), rest)
+  take-replied call shape sent f r payload handles rest plain k code flag =
+      let cells : List (Cell H) = written_cells request_number (reply_to r payload handles) ++ rest in
+      ap (λ b. cond b (Some (answered f (Err InvalidParam)), cells) (take_reply call shape sent f cells)) flag
+      ∙ plainly call shape sent f cells plain
+      ∙ ap (λ cut. (understood call (Reply shape) sent f cut.0, cut.1)) (reply-cut call shape r payload handles rest k)
+      ∙ ap (λ x. (x, rest)) (reply-understood call shape sent f r payload handles k code flag)
+
+  -- an acknowledgement is taken, and what follows it is left
+  pub take-acknowledged : (call : FrontendCall H) (sent : Header) (f : Frontend) (r : FrontendReq) (agreed : Bool) (rest : List (Cell H))
+      → sent.code ≡ request_number r → has_bit sent.flags 2 ≡ false
+      → take call Ack sent f (cells_of request_number (reply r (Acknowledged agreed)) ++ rest) ≡ (answer call Ack f (Acknowledged agreed), rest)
+  take-acknowledged call sent f r true rest code flag =
+      ap (λ cut. (understood call Ack sent f cut.0, cut.1)) (reply-read request_number is_known (is_valid_record AU64) (reply_to r (U64 0) []) (digits 8 0) [] rest refl (request-small r) (lit< tt) (reply-known {H = H} r (U64 0) [] (omega arith)) refl)
+      ∙ ap (λ b. (cond b (answer call Ack f (Acknowledged true)) (Some (answered f (Err InvalidMessage))), rest)) (reply-answers {H = H} r (U64 0) [] sent code flag)
+  take-acknowledged call sent f r false rest code flag =
+      ap (λ cut. (understood call Ack sent f cut.0, cut.1)) (reply-read request_number is_known (is_valid_record AU64) (reply_to r (U64 1) []) (digits 8 1) [] rest refl (request-small r) (lit< tt) (reply-known {H = H} r (U64 1) [] (omega arith)) refl)
+      ∙ ap (λ b. (cond b (answer call Ack f (Acknowledged false)) (Some (answered f (Err InvalidMessage))), rest)) (reply-answers {H = H} r (U64 1) [] sent code flag)
+
+  -- ---- replies without payload
+
+  short-plainly : (call : FrontendCall H) → IsShort call → IsPlainly call
+  short-plainly (GetConfig offset size flags buffer) short = absurd short
+  short-plainly _ short = tt
+
+  short-room : (call : FrontendCall H) → IsShort call → 0 ≡ room call
+  short-room (SetMemTable infos) short = absurd short
+  short-room (GetConfig offset size flags buffer) short = absurd short
+  short-room _ short = refl
+
+  short-sized : (call : FrontendCall H) (r : Received H) → IsShort call → is_sized call r ≡ true
+  short-sized (SetMemTable infos) r short = absurd short
+  short-sized (GetConfig offset size flags buffer) r short = absurd short
+  short-sized _ r short = refl
+
+  pub readable-number : (call : FrontendCall H) (r : FrontendReq) (n : ℕ) (handles : List H) → IsShort call → n < 2 ^ 64 → IsReadable call AU64 r (U64 n) handles
+  readable-number call r n handles short fits = record {
+    body = digits 8 n;
+    more = [];
+    text = refl;
+    size = refl;
+    rest = short-room call short;
+    small = lit< tt;
+    valid = refl;
+    read = ap (λ k. U64 k) (little_number-reads_back 8 n [] fits);
+    sized = short-sized call (the_reply r (U64 n) handles (digits 8 n) []) short;
+  }
+
+  pub readable-empty : (call : FrontendCall H) (r : FrontendReq) (handles : List H) → IsShort call → IsReadable call AnEmpty r Empty handles
+  readable-empty call r handles short = record {
+    body = [];
+    more = [];
+    text = refl;
+    size = refl;
+    rest = short-room call short;
+    small = omega arith;
+    valid = refl;
+    read = refl;
+    sized = short-sized call (the_reply r Empty handles [] []) short;
+  }
+
+  pub take-number : TakesNumber H
+  take-number call sent f r short of_r n handles fits rest =
+      take-replied call AU64 sent f r (U64 n) handles rest (short-plainly call short) (readable-number call r n handles short fits) of_r.0 of_r.1
+
+  pub take-empty : TakesEmpty H
+  take-empty call sent f r short of_r handles rest =
+      take-replied call AnEmpty sent f r Empty handles rest (short-plainly call short) (readable-empty call r handles short) of_r.0 of_r.1
