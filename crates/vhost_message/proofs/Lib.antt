@@ -1,3 +1,4 @@
 pub mod HeaderFlags
 pub mod KnownFlags
+pub mod LongRecords
 pub mod Numbers

@@ -14,3 +14,4 @@ pub mod Transfer
 pub mod FlagBits
 pub mod Valid
 pub mod RecordLaws
+pub mod LongRecords

@@ -1,5 +1,5 @@
 -- The bodies of messages: their bytes, and the record that bytes are read as.
-use Rattle.std.specs.Prelude.{ℕ, zero, suc, ◌+◌, List, [], ◌∷◌, ◌++◌, take, drop, flat_map}
+use Rattle.std.specs.Prelude.{ℕ, zero, suc, ◌+◌, ◌-◌, List, [], ◌∷◌, ◌++◌, length, take, drop, replicate, flat_map}
 use Rattle.vhost_message.specs.Text.{digits, number_at}
 use Rattle.vhost_message.specs.declared.records.config.VhostUserConfig.{VhostUserConfig}
 use Rattle.vhost_message.specs.declared.records.inflight.VhostUserInflight.{VhostUserInflight}
@@ -22,6 +22,10 @@ single_region r = record { padding = 0; region = r }
 -- the region that a record of one region holds
 abbrev pub region_within : VhostUserSingleMemoryRegion → VhostUserMemoryRegion
 region_within r = r.region
+
+-- n regions of shared memory with these sizes: the first 256 of them, and 0 where there are fewer
+abbrev pub shmem_config : ℕ → List ℕ → VhostUserShMemConfig
+shmem_config n sizes = record { nregions = n; padding = 0; memory_sizes = take 256 sizes ++ replicate (256 - length sizes) 0 }
 
 -- ---- texts
 
