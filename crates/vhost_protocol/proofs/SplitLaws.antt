@@ -74,7 +74,7 @@ module _ {R H : Type 0} (request_of : ℕ → Option R) (wanted : R → ℕ → 
       (λ cut. none-cut (λ x. (Err InvalidMessage, x)) cells o rest (λ more. ap (λ x. (x, more)) (ap (λ x. x.0) cut)) (ap (λ x. x.1) cut)) e
 
   -- a stream that begins with a whole header goes on after it
-  split-on : (c : Cell H) (eleven tail : List (Cell H)) → length eleven ≡ 11 → split request_of wanted (c ∷ (eleven ++ tail))
+  pub split-on : (c : Cell H) (eleven tail : List (Cell H)) → length eleven ≡ 11 → split request_of wanted (c ∷ (eleven ++ tail))
       ≡ split_after request_of wanted (header_of (bytes (c ∷ eleven))) (announced request_of (header_of (bytes (c ∷ eleven)))) c.handles tail
   unfolding split
   split-on c eleven tail len = rw (le-shorter 12 (c ∷ (eleven ++ tail)) (omega (arith, length-append eleven tail, len)), take_at eleven tail 11 len, drop_at eleven tail 11 len) refl
