@@ -2,3 +2,5 @@ pub mod SplitLaws
 pub mod TextLaws
 pub mod ReplyLaws
 pub mod TakeLaws
+pub mod RowLaws
+pub mod AgreeLaws

@@ -20,3 +20,4 @@ pub mod ReplySplit
 pub mod Take
 pub mod Joined
 pub mod Laws
+pub mod Agreement

@@ -1,0 +1,67 @@
+-- What stays true of both sides: laws of the protocol table and of the calls of a frontend.
+use Rattle.std.specs.Prelude.{◌≡◌, ◌^◌, ◌<◌, true, false, Some, Result, Err, is_err, ⊤}
+use Rattle.vhost_message.specs.Bits.{has_bit}
+use Rattle.vhost_message.specs.declared.frontend_req.FrontendReq.{FrontendReq}
+use Rattle.vhost_protocol.specs.AnswerTable.{Answered, answer}
+use Rattle.vhost_protocol.specs.Ask.{Awaited, Asked, Refuses, Answers, Sends, ask}
+use Rattle.vhost_protocol.specs.DeviceCall.{Answer}
+use Rattle.vhost_protocol.specs.Error.{Error}
+use Rattle.vhost_protocol.specs.Features.{PROTOCOL_FEATURES, REPLY_ACK}
+use Rattle.vhost_protocol.specs.FrontendCall.{FrontendCall, SetFeatures, SetProtocolFeatures, Frontend}
+use Rattle.vhost_protocol.specs.Joined.{AgreeOn, is_last, is_silent, read_as}
+use Rattle.vhost_protocol.specs.Row.{row, row_of}
+use Rattle.vhost_protocol.specs.Session.{Session}
+use Rattle.vhost_protocol.specs.Split.{Message}
+use Rattle.vhost_protocol.specs.Step.{Outcome, Step, Refused, Calls, OpensBackend, OpensGpu}
+
+-- ---- the table
+
+-- whatever the device answers, the failure mark stays
+abbrev pub KeepsMark : {H B G : Type 0} → Session → Step H B G → Type 0
+KeepsMark s (Refused refusal) = ⊤
+KeepsMark s (Calls c next) = (a : Answer c) → (next a).session.failed ≡ s.failed
+KeepsMark {B = B} s (OpensBackend h next) = (opened : Result B Error) → KeepsMark s (next opened)
+KeepsMark {G = G} s (OpensGpu h next) = (opened : Result G Error) → KeepsMark s (next opened)
+
+-- no row changes the failure mark
+abbrev pub RowsKeepMark : (H B G : Type 0) → Type 0
+RowsKeepMark H B G = (r : FrontendReq) (s : Session) (m : Message FrontendReq H) → KeepsMark {B = B} {G = G} s (row_of r s m)
+
+-- an error in silence is the last step
+abbrev pub SilentIsLast : (H : Type 0) → Type 0
+SilentIsLast H = (r : FrontendReq) (o : Outcome H) → is_err o.answer ≡ true → is_silent o.served ≡ true → is_last r o ≡ true
+
+-- ---- both sides
+
+-- at the frontend acknowledgements are on only where protocol features were offered
+abbrev pub IsNegotiated : Frontend → Type 0
+IsNegotiated f = has_bit f.acked_p REPLY_ACK ≡ true → has_bit f.offered PROTOCOL_FEATURES ≡ true
+
+-- the features of a call have 64 bits
+abbrev pub Fits : {H : Type 0} → FrontendCall H → Type 0
+Fits (SetFeatures n) = n < 2 ^ 64
+Fits (SetProtocolFeatures n) = n < 2 ^ 64
+Fits _ = ⊤
+
+-- the answer table knows what came, and both sides agree from then on, unless this was the last step
+pub record IsKnown {H : Type 0} (call : FrontendCall H) (awaited : Awaited) (g : Frontend) (r : FrontendReq) (o : Outcome H) : Type 0 where
+  pub answered : Answered H
+  pub known : answer call awaited g o.served ≡ Some answered
+  pub agree : is_last r o ≡ false → AgreeOn (answered.session) o.session
+
+-- whatever the device answers
+abbrev pub AllKnown : {H B G : Type 0} → FrontendCall H → Awaited → Frontend → FrontendReq → Session → Step H B G → Type 0
+AllKnown call awaited g r s (Refused refusal) = IsKnown call awaited g r (record { answer = Err refusal.error; served = refusal.served; session = s })
+AllKnown call awaited g r s (Calls c next) = (a : Answer c) → IsKnown call awaited g r (next a)
+AllKnown {B = B} call awaited g r s (OpensBackend h next) = (opened : Result B Error) → AllKnown call awaited g r s (next opened)
+AllKnown {G = G} call awaited g r s (OpensGpu h next) = (opened : Result G Error) → AllKnown call awaited g r s (next opened)
+
+-- whatever becomes of a call: the handler serves what was sent
+abbrev pub StaysInStep : {H : Type 0} → (B G : Type 0) → Session → FrontendCall H → Asked H → Type 0
+StaysInStep B G s call (Refuses e) = ⊤
+StaysInStep B G s call (Answers v g) = AgreeOn g s
+StaysInStep B G s call (Sends w awaited g) = AllKnown {B = B} {G = G} call awaited g w.request s (row s (read_as w))
+
+-- For each call of two sides that agree: the answer table knows what the handler lets the frontend know, and both agree after it, unless it was the last step.
+abbrev pub KeepsStep : (H B G : Type 0) → Type 0
+KeepsStep H B G = (f : Frontend) (s : Session) (call : FrontendCall H) → AgreeOn f s → IsNegotiated f → Fits call → StaysInStep B G s call (ask f call)
