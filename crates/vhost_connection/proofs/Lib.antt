@@ -3,3 +3,5 @@ pub mod Receiving
 pub mod Talking
 pub mod Fronts
 pub mod Messages
+pub mod Data
+pub mod Bodies

@@ -17,7 +17,7 @@ use Rattle.vhost_connection.proofs.Receiving.{is-nil}
 use Rattle.vhost_connection.proofs.Fronts.{less, not-less, Serves-list, Serves-gives, list-gives, left-gives}
 
 -- an error of the link is none of the others
-socket : (P Q : Error → Type 0) (c : IoCause) (b d f : Bool) → (P (SocketRetry c) → Q (SocketRetry c)) → (P (SocketBroken c) → Q (SocketBroken c)) → (P (SocketConnect c) → Q (SocketConnect c)) → (P (SocketError c) → Q (SocketError c))
+pub socket : (P Q : Error → Type 0) (c : IoCause) (b d f : Bool) → (P (SocketRetry c) → Q (SocketRetry c)) → (P (SocketBroken c) → Q (SocketBroken c)) → (P (SocketConnect c) → Q (SocketConnect c)) → (P (SocketError c) → Q (SocketError c))
     → P (if b then SocketRetry c else if d then SocketBroken c else if f then SocketConnect c else SocketError c)
     → Q (if b then SocketRetry c else if d then SocketBroken c else if f then SocketConnect c else SocketError c)
 socket P Q c true d f p q r s x = p x
@@ -26,12 +26,12 @@ socket P Q c false false true p q r s x = r x
 socket P Q c false false false p q r s x = s x
 
 -- All that was asked for came.
-all-came : {L H : Type 0} {event : L → Event H → L → Type 0} {old mid : State L H} {len count : ℕ} {hs : List H} {text : List ℕ} (f : FrontCame event old len count hs text mid) → len ≤ count
+pub all-came : {L H : Type 0} {event : L → Event H → L → Type 0} {old mid : State L H} {len count : ℕ} {hs : List H} {text : List ℕ} (f : FrontCame event old len count hs text mid) → len ≤ count
     → Serves event old old.budget (receives (items f.cs) f.retries) mid
 all-came {event = event} {old} {mid} {len} f most = subst (λ b. Serves event old old.budget (receives (heard f.cs b) f.retries) mid) (not-less (length f.cs) len (omega (arith, f.counted))) f.serves
 
 -- The end came first.
-some-came : {L H : Type 0} {event : L → Event H → L → Type 0} {old mid : State L H} {len count : ℕ} {hs : List H} {text : List ℕ} (f : FrontCame event old len count hs text mid) → count < len
+pub some-came : {L H : Type 0} {event : L → Event H → L → Type 0} {old mid : State L H} {len count : ℕ} {hs : List H} {text : List ℕ} (f : FrontCame event old len count hs text mid) → count < len
     → Serves event old old.budget (receives (heard f.cs true) f.retries) mid
 some-came {event = event} {old} {mid} {len} f most = subst (λ b. Serves event old old.budget (receives (heard f.cs b) f.retries) mid) (less (length f.cs) len (omega (arith, f.counted))) f.serves
 

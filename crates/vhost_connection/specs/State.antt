@@ -1,5 +1,6 @@
 -- How contracts see an endpoint.
-use Rattle.std.specs.Prelude.{ℕ, List, [], None, true, false, is_some}
+use Rattle.std.specs.Prelude.{ℕ, List, [], Option, Some, None, true, false, is_some}
+use Rattle.vhost_message.specs.declared.cause.IoCause.{IoCause}
 use Rattle.vhost_protocol.specs.Stream.{Item}
 use Rattle.vhost_connection.specs.declared.endpoint.Endpoint.{Endpoint}
 use Rattle.vhost_connection.specs.Talk.{State}
@@ -14,3 +15,12 @@ state e = record { link = e.link; ahead = ahead_of e; budget = e.budget; left = 
 -- an endpoint that has not sent or received yet
 abbrev pub fresh : {L H : Type 0} → L → ℕ → State L H
 fresh link budget = record { link = link; ahead = []; budget = budget; left = budget; broken = None; list = true; faulted = false }
+
+-- the endpoint over another link
+abbrev pub with_link : {M L H : Type 0} → Endpoint M L H → L → Endpoint M L H
+with_link e link = record e { link = link }
+
+-- the cause that broke an endpoint first
+abbrev pub first_cause : Option IoCause → IoCause → Option IoCause
+first_cause None c = Some c
+first_cause (Some b) c = Some b

@@ -4,11 +4,11 @@ ghost use Rattle.std.specs.Prelude.{◌≡◌, ◌+◌, ◌++◌, ◌<◌, ◌�
 ghost use Rattle.vhost_protocol.specs.Stream.{carrying};
 
 use crate::list::{Front, HandleList, MAX_HANDLES};
-use crate::pass::{Stop, recv_message, send_whole};
+use crate::pass::{Stop, recv_bytes, recv_message, send_whole};
 use std::alloc::Global;
 use std::marker::PhantomData;
 use vhost_link::Link;
-use vhost_message::{ByteValued, Error, IoCause, MsgHeader, Result};
+use vhost_message::{ByteValued, Error, IoCause, MsgHeader, Result, VhostUserMsgValidator};
 
 /// The greatest body of a message that is kept in an endpoint, in bytes.
 const MAX_BODY: usize = 4096;
@@ -54,13 +54,17 @@ fn put<M: ByteValued, T: ByteValued>(out: &mut [u8], header: &M, body: &T)
 }
 
 impl<M: MsgHeader, L: Link> Endpoint<M, L> {
-    ghost use Rattle.std.specs.Prelude.{if◌then◌else◌, true, is_some};
+    ghost use Rattle.std.specs.Prelude.{if◌then◌else◌, true, false, is_some, ⊤};
+    ghost use Rattle.std.specs.Borrow.{sem, Lends};
+    ghost use Rattle.vhost_connection.specs.contracts.endpoint.Endpoint.{the_row};
+    ghost use mathlib.Core.Option.{none};
+    ghost use denote.Follow.{follows_so};
     ghost use Rattle.vhost_message.specs.Cause.{error_of};
     ghost use Rattle.vhost_message.specs.declared.error.Error.TheVariants.{OversizedMsg, IncorrectFds, OutOfMemory};
     ghost use Rattle.vhost_connection.specs.Talk.{Refuses};
-    ghost use Rattle.vhost_connection.specs.Calls.{Sends, ReadsHeader, given};
-    ghost use Rattle.vhost_connection.specs.Front.{ReadsFront, gives};
-    ghost use Rattle.vhost_connection.specs.State.{state, fresh};
+    ghost use Rattle.vhost_connection.specs.Calls.{Sends, ReadsHeader, ReadsData, ReadsBody, given};
+    ghost use Rattle.vhost_connection.specs.Front.{ReadsFront, ReadsCount, gives};
+    ghost use Rattle.vhost_connection.specs.State.{state, fresh, first_cause, with_link};
 
     /// An endpoint over a link, with a budget of retries for each message.
     ///
@@ -185,6 +189,71 @@ impl<M: MsgHeader, L: Link> Endpoint<M, L> {
         Ok((header, self.give(list)))
     }
 
+    /// Receives the next bytes of a message, up to so many, and lends them from the endpoint's buffer: fewer than
+    /// asked for are all up to the end of the stream.
+    ///
+    /// InvalidMessage: all of them were received, and one brought handles. A fault, or one retry more than were left
+    /// of the budget, breaks the endpoint.
+    pub fn recv_data(&mut self, len: usize) -> Result<(usize, &[u8])>
+        requires { len ≤ 4096 }
+        ensures* lender { sem 𝓛 (follows_so (the_row M.row L.row L.Handle.row) (the_row M.row L.row L.Handle.row) self.entry.ghost_name none (λ _ _. ⊤) (λ v. ReadsData L.event (state self.old) len result (state v))) }
+    {
+        let count = self.read_data(len)?;
+        Ok((count, &self.text[..count]))
+    }
+
+    /// Receives bytes to the front of the text, up to so many or the end.
+    fn read_data(&mut self, len: usize) -> Result<usize>
+        requires { len ≤ 4096 }
+        ensures { ReadsCount L.event (state self.old) len result self.new.text (state self.new) }
+    {
+        self.faulted = false;
+        if let Some(cause) = self.broken {
+            return Err(Error::SocketBroken(cause));
+        }
+        let got = recv_bytes(
+            &mut self.link,
+            &mut self.text[..],
+            len,
+            &mut self.spare.list,
+            self.left,
+        );
+        self.left = got.left;
+        if let Stop::Fault(cause) = got.stop {
+            return Err(self.fail(cause, true));
+        }
+        if got.surplus {
+            return Err(Error::InvalidMessage);
+        }
+        Ok(got.count)
+    }
+
+    /// Receives a header and a record, with the handles of the first byte. The header's size is not looked at.
+    ///
+    /// PartialMessage: the stream ended before or within them. InvalidMessage: both were received, and one is not
+    /// valid. OutOfMemory: as in `recv_header`.
+    pub fn recv_body<T: VhostUserMsgValidator + Drop>(
+        &mut self,
+    ) -> Result<(M, T, Option<Vec<L::Handle>>)>
+        requires { T.SIZE ≤ 4096 }
+        ensures { ReadsBody L.event M.read M.valid T.SIZE T.read T.valid (state self.old) result (state self.new) }
+    {
+        let head = M::SIZE;
+        let len = head + T::SIZE;
+        let Front { count, list } = self.recv_front(len)?;
+        if count < len {
+            self.put_back(list);
+            return Err(Error::PartialMessage);
+        }
+        let header = M::decode(&self.text[..head]);
+        let body = T::decode(&self.text[head..len]);
+        if !header.is_valid() || !body.is_valid() {
+            self.put_back(list);
+            return Err(Error::InvalidMessage);
+        }
+        Ok((header, body, self.give(list)))
+    }
+
     /// Receives so many bytes to the front of the text, or fewer and then the end, with the handles of the first.
     fn recv_front(&mut self, len: usize) -> Result<Front<L::Handle>>
         requires some { 0 < len }
@@ -245,5 +314,47 @@ impl<M: MsgHeader, L: Link> Endpoint<M, L> {
         } else {
             Some(list)
         }
+    }
+
+    /// The link below, to be called past the endpoint.
+    pub fn link(&mut self) -> &mut L
+        ensures* lender { sem 𝓛 (Lends (the_row M.row L.row L.Handle.row) L.row self.entry result (λ w. with_link self.old w)) }
+        ensures value { result.now ≡ (state self.old).link }
+    {
+        &mut self.link
+    }
+
+    /// Makes the list for the next message's handles, where the last one was given away.
+    ///
+    /// OutOfMemory: its growth was refused, and nothing changed.
+    #[tactic(auto, unfolding(crate::specs::State::ahead_of))]
+    pub fn make_list(&mut self) -> Result<()>
+        ensures made { IfOk result (λ _. state self.new ≡ record (state self.old) { list = true }) }
+        ensures memory { IfErr result (λ e. (e ≡ OutOfMemory) × ((state self.old).list ≡ false) × (state self.new ≡ state self.old)) }
+    {
+        if self.list.is_none() {
+            match HandleList::new(self.alloc) {
+                Ok(list) => self.list = Some(list),
+                Err(_) => return Err(Error::OutOfMemory),
+            }
+        }
+        Ok(())
+    }
+
+    /// Breaks the endpoint with this cause, unless it is broken already.
+    #[tactic(auto, unfolding(crate::specs::State::ahead_of))]
+    pub fn break_with(&mut self, cause: IoCause)
+        ensures { state self.new ≡ record (state self.old) { broken = first_cause (state self.old).broken cause } }
+    {
+        if self.broken.is_none() {
+            self.broken = Some(cause);
+        }
+    }
+
+    /// Whether the last call that sent or received met a fault: the link failed, or retried once too often.
+    pub fn faulted(&self) -> bool
+        ensures { result ≡ (state self.now).faulted }
+    {
+        self.faulted
     }
 }
