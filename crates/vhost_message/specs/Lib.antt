@@ -15,3 +15,4 @@ pub mod FlagBits
 pub mod Valid
 pub mod RecordLaws
 pub mod LongRecords
+pub mod Descriptors

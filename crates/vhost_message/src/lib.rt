@@ -4,6 +4,7 @@
 mod backend_req;
 mod bytes;
 mod cause;
+mod descriptors;
 mod error;
 mod flags;
 mod frontend_req;
@@ -18,6 +19,7 @@ mod transfer_state;
 pub use backend_req::BackendReq;
 pub use bytes::{ByteValued, VhostUserMsgValidator};
 pub use cause::IoCause;
+pub use descriptors::{DescStatePacked, DescStateSplit, QueueRegionPacked, QueueRegionSplit};
 pub use error::{Error, Result};
 pub use flags::{
     VhostUserConfigFlags, VhostUserHeaderFlag, VhostUserMMapFlags, VhostUserProtocolFeatures,
@@ -32,8 +34,9 @@ pub use limits::{
 };
 pub use postcopy::PostcopyState;
 pub use records::{
-    VhostUserConfig, VhostUserEmpty, VhostUserInflight, VhostUserLog, VhostUserMMap,
-    VhostUserMemory, VhostUserMemoryRegion, VhostUserShMemConfig, VhostUserSharedMsg,
+    VhostUserConfig, VhostUserConfigPayload, VhostUserEmpty, VhostUserInflight, VhostUserLog,
+    VhostUserMMap, VhostUserMemory, VhostUserMemoryPayload, VhostUserMemoryRegion,
+    VhostUserMemoryRegionBase, VhostUserShMemConfig, VhostUserSharedMsg,
     VhostUserSingleMemoryRegion, VhostUserTransferDeviceState, VhostUserU64, VhostUserVringAddr,
     VhostUserVringState,
 };

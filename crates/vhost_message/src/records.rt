@@ -10,10 +10,13 @@ mod shmem;
 mod transfer;
 mod vring;
 
-pub use config::VhostUserConfig;
+pub use config::{VhostUserConfig, VhostUserConfigPayload};
 pub use inflight::VhostUserInflight;
 pub use log::VhostUserLog;
-pub use memory::{VhostUserMemory, VhostUserMemoryRegion, VhostUserSingleMemoryRegion};
+pub use memory::{
+    VhostUserMemory, VhostUserMemoryPayload, VhostUserMemoryRegion, VhostUserMemoryRegionBase,
+    VhostUserSingleMemoryRegion,
+};
 pub use plain::{VhostUserEmpty, VhostUserU64};
 pub use shared::VhostUserSharedMsg;
 pub use shmem::{VhostUserMMap, VhostUserShMemConfig};

@@ -78,3 +78,6 @@ impl VhostUserMsgValidator for VhostUserConfig {
             && u64::from(self.offset) + u64::from(self.size) <= u64::from(VHOST_USER_CONFIG_SIZE)
     }
 }
+
+/// The bytes of a part of the configuration space.
+pub type VhostUserConfigPayload = Vec<u8>;

@@ -210,3 +210,9 @@ impl VhostUserMsgValidator for VhostUserSingleMemoryRegion {
         true
     }
 }
+
+/// The regions that follow the head of a memory table.
+pub type VhostUserMemoryPayload = Vec<VhostUserMemoryRegion>;
+
+/// Where the backend has mapped a region, in its own memory.
+pub type VhostUserMemoryRegionBase = u64;

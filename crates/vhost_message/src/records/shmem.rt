@@ -93,7 +93,7 @@ impl VhostUserMsgValidator for VhostUserShMemConfig {
 #[derive(Clone, Copy, Default, Debug)]
 pub struct VhostUserMMap {
     pub shmid: u8,
-    padding: [u8; 7],
+    pub padding: [u8; 7],
     pub fd_offset: u64,
     pub shm_offset: u64,
     pub len: u64,
