@@ -21,3 +21,8 @@ pub mod Take
 pub mod Joined
 pub mod Laws
 pub mod Agreement
+pub mod IoError
+pub mod Reverse
+pub mod JoinedReverse
+pub mod Pieces
+pub mod Log
