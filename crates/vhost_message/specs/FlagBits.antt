@@ -1,7 +1,7 @@
 -- The numbers of sets of flags.
 use Rattle.std.specs.Prelude.{ℕ}
-use Rattle.vhost_message.specs.declared.flags.message.VhostUserConfigFlags.{VhostUserConfigFlags}
-use Rattle.vhost_message.specs.declared.flags.message.VhostUserVringAddrFlags.{VhostUserVringAddrFlags}
+use Rattle.vhost_message.specs.declared.flags.config.VhostUserConfigFlags.{VhostUserConfigFlags}
+use Rattle.vhost_message.specs.declared.flags.ring.VhostUserVringAddrFlags.{VhostUserVringAddrFlags}
 
 -- the bits of a set of flags of configuration space
 abbrev pub config_bits : VhostUserConfigFlags → ℕ

@@ -1,9 +1,13 @@
 //! Sets of flags.
 
+mod config;
 mod features;
-mod message;
+mod header;
+mod mapping;
+mod ring;
 
+pub use config::VhostUserConfigFlags;
 pub use features::{VhostUserProtocolFeatures, VhostUserVirtioFeatures};
-pub use message::{
-    VhostUserConfigFlags, VhostUserHeaderFlag, VhostUserMMapFlags, VhostUserVringAddrFlags,
-};
+pub use header::VhostUserHeaderFlag;
+pub use mapping::VhostUserMMapFlags;
+pub use ring::VhostUserVringAddrFlags;

@@ -14,6 +14,8 @@ mod limits;
 mod postcopy;
 mod records;
 mod req;
+#[cfg(test)]
+mod tests;
 mod transfer_state;
 
 pub use backend_req::BackendReq;

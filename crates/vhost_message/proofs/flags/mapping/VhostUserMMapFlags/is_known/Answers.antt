@@ -1,7 +1,7 @@
 use Rattle.std.proofs.Common.{refl, ◌∙◌}
 use Rattle.bitflags.specs.Sets.{known_from}
 use Rattle.vhost_message.proofs.KnownFlags.{known_below}
-use Rattle.vhost_message.proofs.flags.message.VhostUserVringAddrFlags.is_known.Goals as goal
+use Rattle.vhost_message.proofs.flags.mapping.VhostUserMMapFlags.is_known.Goals as goal
 
 pub returns : goal.returns
 unfolding known_from

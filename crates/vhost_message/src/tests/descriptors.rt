@@ -1,0 +1,35 @@
+//! Areas of descriptors in flight.
+
+use crate::{DescStatePacked, DescStateSplit, QueueRegionPacked, QueueRegionSplit};
+
+#[test]
+fn areas(rt: HostRuntime) {
+    let split = QueueRegionSplit::new(3, 256);
+    assert_eq!(rt;
+        (
+            split.features,
+            split.version,
+            split.desc_num,
+            split.used_idx
+        ),
+        (3, 1, 256, 0)
+    );
+    let packed = QueueRegionPacked::new(4, 16);
+    assert_eq!(rt;
+        (
+            packed.features,
+            packed.version,
+            packed.desc_num,
+            packed.desc
+        ),
+        (4, 1, 16, 0)
+    );
+    assert_eq!(rt;
+        DescStateSplit::new().counter,
+        DescStateSplit::default().counter
+    );
+    assert_eq!(rt;
+        DescStatePacked::new().addr,
+        DescStatePacked::default().addr
+    );
+}
