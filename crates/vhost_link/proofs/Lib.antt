@@ -3,3 +3,4 @@ pub mod Cells
 pub mod Holding
 pub mod Handing
 pub mod MemStream
+pub mod MemUse

@@ -1,8 +1,10 @@
 -- What a link in memory does.
-use Rattle.std.specs.Prelude.{◌≡◌, ℕ, pos, ◌+◌, ◌<◌, List, [], ◌∷◌, ◌++◌, length, take, drop, replicate, sum_by, Result, Ok, Err, true, if◌then◌else◌, codes}
+use Rattle.std.specs.Prelude.{◌≡◌, ℕ, pos, ◌+◌, ◌<◌, List, [], ◌∷◌, ◌++◌, ◌⊎◌, length, take, drop, replicate, sum_by, Result, Ok, Err, true, if◌then◌else◌, codes}
 use Rattle.vhost_message.specs.declared.cause.IoCause.{IoCause}
 use Rattle.vhost_message.specs.declared.cause.IoCause.TheVariants.{Raw, Named}
 use Rattle.vhost_protocol.specs.Stream.{Cell, has_some, Item, End, items}
+use Rattle.vhost_link.specs.declared.cut.Cut.{Cut}
+use Rattle.vhost_link.specs.declared.cut.Cut.TheVariants.{Give, Retry, Fault}
 use Rattle.vhost_link.specs.declared.plain.PlainHandle.{PlainHandle}
 use Rattle.vhost_link.specs.Ends.{Ends}
 use Rattle.vhost_link.specs.Law.{Event, Handed, Ended, Taken, Refused, Move, Moved}
@@ -73,3 +75,14 @@ pub record Runs (old : Ends) (m : Move PlainHandle) (new : Ends) : Type 0 where
 -- The stream of a link in memory is known, however it is cut.
 abbrev pub StreamLaw : Type 0
 StreamLaw = (old new : Ends) (m : Move PlainHandle) → Moved event old m new → Runs old m new
+
+-- every cut moves bytes
+abbrev pub AreGives : List Cut → Type 0
+AreGives [] = Unit {0}
+AreGives (Give n ∷ cuts) = AreGives cuts
+AreGives (Retry ∷ cuts) = ⊥
+AreGives (Fault e ∷ cuts) = ⊥
+
+-- Where every cut moves bytes, only a want of memory is a failure.
+abbrev pub GivesLaw : Type 0
+GivesLaw = (old new : Ends) (m : Move PlainHandle) → Moved event old m new → AreGives old.script → (m.failures ≡ 0) × ((m.retries ≡ 0) ⊎ (new.starved ≡ true)) × AreGives new.script

@@ -5,7 +5,7 @@ ghost use Rattle.vhost_protocol.specs.Stream.{carrying};
 ghost use Rattle.vhost_link.specs.Law.{Sends, Receives};
 ghost use Rattle.vhost_link.specs.Cuts.{allowed};
 ghost use Rattle.vhost_link.specs.Ends.{empty, Carried};
-ghost use Rattle.vhost_link.specs.Mem.{StreamLaw, SendsAll, received};
+ghost use Rattle.vhost_link.specs.Mem.{StreamLaw, GivesLaw, SendsAll, received};
 
 use crate::cut::Cut;
 use crate::held::HeldByte;
@@ -105,7 +105,13 @@ impl Link for MemLink {
 
     ghost opens = { λ link handle result. result ≡ Ok (empty []) };
 
-    fn send(&mut self, bytes: &[u8], handles: &[&PlainHandle]) -> Result<usize, IoCause> {
+    /// Takes in all that the cut allows. The only failure beside the script's is want of memory, `Raw(12)`.
+    fn send(&mut self, bytes: &[u8], handles: &[&PlainHandle]) -> Result<usize, IoCause>
+        requires bytes { 0 < length bytes.now }
+        requires handles { length handles.now ≤ 32 }
+        ensures law { Sends event self.old bytes.now (map (λ h. h.now) handles.now) result self.new }
+        ensures exact { SendsAll (allowed self.old.script (length bytes.now)) result }
+    {
         let count = next_cut(&mut self.script, bytes.len())?;
         let sent = match copied(self.alloc, handles) {
             Ok(list) => push_bytes(&mut self.sent, self.alloc, &bytes[..count], list),
@@ -118,7 +124,15 @@ impl Link for MemLink {
         Ok(count)
     }
 
-    fn recv(&mut self, room: &mut [u8], handles: &mut Vec<PlainHandle>) -> Result<usize, IoCause> {
+    /// Hands out all that the cut, the room and the next byte with handles allow. It fails only where the script says so.
+    fn recv(&mut self, room: &mut [u8], handles: &mut Vec<PlainHandle>) -> Result<usize, IoCause>
+        requires room { 0 < length room.old }
+        requires list { handles.old.items ≡ [] }
+        requires places { 32 ≤ vec_capacity handles.old }
+        ensures law { Receives event self.old room.old result room.new handles.new.items self.new }
+        ensures places { vec_capacity handles.old ≤ vec_capacity handles.new }
+        ensures exact { result ≡ received (allowed self.old.script (length room.old)) self.old.pending }
+    {
         let most = next_cut(&mut self.script, room.len())?;
         match pop_first(&mut self.pending, handles) {
             None => Ok(0),
@@ -140,5 +154,6 @@ impl Link for MemLink {
 
 /// The stream of a link in memory is known, however it is cut: what is handed out stood at the front, the end is told only where nothing is left, what is taken in is appended, and a failure is one of the script or a want of memory.
 pub fn stream_law()
-    ensures { StreamLaw }
+    ensures stream { StreamLaw }
+    ensures gives { GivesLaw }
 {}
