@@ -4,3 +4,12 @@ pub mod ReplyLaws
 pub mod TakeLaws
 pub mod RowLaws
 pub mod AgreeLaws
+mod SplitRows
+mod RecordRows
+mod RunRows
+mod RingRows
+mod LargeRows
+mod TakeRows
+mod TableRows
+mod JoinedRows
+mod ReverseRows

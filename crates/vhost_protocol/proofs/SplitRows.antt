@@ -1,0 +1,45 @@
+-- Worked rows on how a stream is cut: each holds by computing.
+use Rattle.std.proofs.Common.{◌≡◌, ℕ, false, List, [], ◌∷◌, ◌++◌, replicate, Result, Ok, Err, refl}
+use Rattle.vhost_message.specs.FrontendReq.{request_of}
+use Rattle.vhost_message.specs.declared.frontend_req.FrontendReq.{FrontendReq}
+use Rattle.vhost_message.specs.declared.frontend_req.FrontendReq.TheVariants.{SET_FEATURES}
+use Rattle.vhost_protocol.specs.Codes.{wanted}
+use Rattle.vhost_protocol.specs.Error.{Error, Disconnected, PartialMessage, InvalidMessage}
+use Rattle.vhost_protocol.specs.Split.{Message, split, split_after, split_body, body_outcome}
+use Rattle.vhost_protocol.specs.Stream.{Cell, plain, carrying}
+
+-- the first message of a stream of the frontend, with numbers for handles
+cut : List (Cell ℕ) → Result (Message FrontendReq ℕ) Error × List (Cell ℕ)
+cut = split request_of wanted
+
+empty_stream : cut [] ≡ (Err Disconnected, [])
+unfolding cut split
+empty_stream = refl
+
+eleven_bytes : cut (plain (replicate 11 1)) ≡ (Err PartialMessage, [])
+unfolding cut split
+eleven_bytes = refl
+
+features : List ℕ
+features = 2 ∷ 0 ∷ 0 ∷ 0 ∷ 1 ∷ 0 ∷ 0 ∷ 0 ∷ 8 ∷ 0 ∷ 0 ∷ 0 ∷ []
+
+value : List ℕ
+value = 3 ∷ 0 ∷ 0 ∷ 0x40 ∷ 0 ∷ 0 ∷ 0 ∷ 0 ∷ []
+
+whole : cut (plain (features ++ value ++ 7 ∷ [])) ≡ (Ok (record { request = SET_FEATURES; reply = false; need_reply = false; body = value; handles = [] }), plain (7 ∷ []))
+unfolding cut split split_after split_body body_outcome features value
+whole = refl
+
+half_a_body : cut (plain (features ++ 3 ∷ 0 ∷ 0 ∷ [])) ≡ (Err InvalidMessage, [])
+unfolding cut split split_after split_body body_outcome features value
+half_a_body = refl
+
+-- handles that the code does not want: the body stays
+unwanted : cut (carrying (7 ∷ []) (features ++ value)) ≡ (Err InvalidMessage, plain value)
+unfolding cut split split_after split_body body_outcome features value
+unwanted = refl
+
+-- a handle on the first byte of the body: the body is read
+strayed : cut (plain features ++ carrying (7 ∷ []) value) ≡ (Err InvalidMessage, [])
+unfolding cut split split_after split_body body_outcome features value
+strayed = refl
