@@ -50,15 +50,15 @@ impl ByteValued for VhostUserInflight {
 
     fn encode_into(&self, out: &mut [u8]) {
         let VhostUserInflight {
-            mmap_size,
-            mmap_offset,
-            num_queues,
-            queue_size,
+            mmap_size: size,
+            mmap_offset: offset,
+            num_queues: queues,
+            queue_size: length,
         } = *self;
-        LittleEndian::write_u64(out, mmap_size);
-        LittleEndian::write_u64(&mut out[8..], mmap_offset);
-        LittleEndian::write_u16(&mut out[16..], num_queues);
-        LittleEndian::write_u16(&mut out[18..], queue_size);
+        LittleEndian::write_u64(out, size);
+        LittleEndian::write_u64(&mut out[8..], offset);
+        LittleEndian::write_u16(&mut out[16..], queues);
+        LittleEndian::write_u16(&mut out[18..], length);
         LittleEndian::write_u32(&mut out[20..], 0);
     }
 

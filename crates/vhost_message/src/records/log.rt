@@ -45,11 +45,11 @@ impl ByteValued for VhostUserLog {
 
     fn encode_into(&self, out: &mut [u8]) {
         let VhostUserLog {
-            mmap_size,
-            mmap_offset,
+            mmap_size: size,
+            mmap_offset: offset,
         } = *self;
-        LittleEndian::write_u64(out, mmap_size);
-        LittleEndian::write_u64(&mut out[8..], mmap_offset);
+        LittleEndian::write_u64(out, size);
+        LittleEndian::write_u64(&mut out[8..], offset);
     }
 
     fn decode(b: &[u8]) -> Self {

@@ -112,15 +112,15 @@ impl ByteValued for VhostUserMemoryRegion {
 
     fn encode_into(&self, out: &mut [u8]) {
         let VhostUserMemoryRegion {
-            guest_phys_addr,
-            memory_size,
-            user_addr,
-            mmap_offset,
+            guest_phys_addr: start,
+            memory_size: size,
+            user_addr: user,
+            mmap_offset: offset,
         } = *self;
-        LittleEndian::write_u64(out, guest_phys_addr);
-        LittleEndian::write_u64(&mut out[8..], memory_size);
-        LittleEndian::write_u64(&mut out[16..], user_addr);
-        LittleEndian::write_u64(&mut out[24..], mmap_offset);
+        LittleEndian::write_u64(out, start);
+        LittleEndian::write_u64(&mut out[8..], size);
+        LittleEndian::write_u64(&mut out[16..], user);
+        LittleEndian::write_u64(&mut out[24..], offset);
     }
 
     fn decode(b: &[u8]) -> Self {
@@ -157,15 +157,13 @@ impl VhostUserSingleMemoryRegion {
     pub fn new(guest_phys_addr: u64, memory_size: u64, user_addr: u64, mmap_offset: u64) -> Self
         ensures { result ≡ single_region (record { guest_phys_addr = guest_phys_addr; memory_size = memory_size; user_addr = user_addr; mmap_offset = mmap_offset }) }
     {
-        VhostUserSingleMemoryRegion {
-            padding: 0,
-            region: VhostUserMemoryRegion::new(
-                guest_phys_addr,
-                memory_size,
-                user_addr,
-                mmap_offset,
-            ),
-        }
+        let region = VhostUserMemoryRegion::new(
+            guest_phys_addr,
+            memory_size,
+            user_addr,
+            mmap_offset,
+        );
+        VhostUserSingleMemoryRegion { padding: 0, region }
     }
 
     /// Lends the region.

@@ -44,7 +44,7 @@ impl ByteValued for VhostUserVringState {
     ghost reads_back = { vring_state-reads_back };
 
     fn encode_into(&self, out: &mut [u8]) {
-        let VhostUserVringState { index, num } = *self;
+        let VhostUserVringState { num, index } = *self;
         LittleEndian::write_u32(out, index);
         LittleEndian::write_u32(&mut out[4..], num);
     }
