@@ -1,0 +1,2 @@
+pub mod GpuBackendReq
+pub mod GpuHeader
