@@ -12,17 +12,17 @@ use Rattle.vhost_link.proofs.Cells.{length-bytes}
 use Rattle.vhost_connection.specs.Pass.{receives}
 use Rattle.vhost_connection.specs.Talk.{State, Serves, Trouble}
 use Rattle.vhost_connection.specs.Talk.Trouble.{was_broken, no_memory, fault}
-use Rattle.vhost_connection.specs.Calls.{ReadsBody, given}
+use Rattle.vhost_connection.specs.Calls.{ReadsBody, HandsOver}
 use Rattle.vhost_connection.specs.Front.{FrontCame, FrontFails, gives}
 use Rattle.vhost_connection.proofs.Fronts.{Serves-list, Serves-gives, list-gives}
 use Rattle.vhost_connection.proofs.Messages.{socket, all-came, some-came}
 
 body-trouble : {M T L H : Type 0} (event : L → Event H → L → Type 0) (read : List ℕ → M) (valid : M → Bool) (size : ℕ) (read_body : List ℕ → T) (valid_body : T → Bool) (old new : State L H) (cs : List (Cell H)) (r : ℕ) (e : Error)
-    → length cs < 12 + size → Trouble event old old.budget false (receives (items cs) r) e new → ReadsBody event read valid size read_body valid_body old (Err e) new
+    → length cs < 12 + size → Trouble event old old.budget true false (receives (items cs) r) e new → ReadsBody event read valid size read_body valid_body old (Err e) new
 body-trouble event read valid size read_body valid_body old new cs r e lt (was_broken b n s) = (cs, r, lt, was_broken b n s)
-body-trouble event read valid size read_body valid_body old new cs r e lt (no_memory b l n s) = (cs, r, lt, no_memory b l n s)
+body-trouble event read valid size read_body valid_body old new cs r e lt (no_memory w b l n s) = (cs, r, lt, no_memory w b l n s)
 body-trouble event read valid size read_body valid_body old new cs r e lt (fault c b t n most spent by f kept) =
-    socket (λ y. (ds : List (Cell _)) × (k : ℕ) × (length ds < 12 + size) × Trouble event old old.budget false (receives (items ds) k) y new) (λ y. ReadsBody event read valid size read_body valid_body old (Err y) new)
+    socket (λ y. (ds : List (Cell _)) × (k : ℕ) × (length ds < 12 + size) × Trouble event old old.budget true false (receives (items ds) k) y new) (λ y. ReadsBody event read valid size read_body valid_body old (Err y) new)
     c (is_retry c) (is_break c) (is_denial c) (λ w. w) (λ w. w) (λ w. w) (λ w. w) (cs, r, lt, fault c b t n most spent by f kept)
 
 pub body-fails : {M T L H : Type 0} (event : L → Event H → L → Type 0) (read : List ℕ → M) (valid : M → Bool) (size : ℕ) (read_body : List ℕ → T) (valid_body : T → Bool) (old new : State L H) (len : ℕ) (e : Error)
@@ -77,7 +77,7 @@ body-bad event read valid size read_body valid_body old mid new head len count h
 pub body-whole : {M T L H : Type 0} (event : L → Event H → L → Type 0) (read : List ℕ → M) (valid : M → Bool) (size : ℕ) (read_body : List ℕ → T) (valid_body : T → Bool) (old mid new : State L H) (head len count : ℕ) (hs : List H) (text : List ℕ)
     (x : M × T × Option (Vec H Global))
     → head ≡ 12 → len ≡ 12 + size → FrontCame event old len count hs text mid → len ≤ count → x.0 ≡ read (take head text) → x.1 ≡ read_body (take size (drop head text))
-    → valid x.0 ≡ true → valid_body x.1 ≡ true → given x.2 ≡ hs → new ≡ gives mid hs → ReadsBody event read valid size read_body valid_body old (Ok x) new
+    → valid x.0 ≡ true → valid_body x.1 ≡ true → HandsOver x.2 hs → new ≡ gives mid hs → ReadsBody event read valid size read_body valid_body old (Ok x) new
 body-whole event read valid size read_body valid_body old mid new head len count hs text x twelve whole f most is_x is_y ok_x ok_y h s =
     let long : length f.cs ≡ 12 + size = omega (arith, f.counted, f.within) in (
       f.cs,
@@ -88,6 +88,6 @@ body-whole event read valid size read_body valid_body old mid new head len count
       ok_x,
       is_y ∙ ap read_body (tail-of f.cs text (drop count text) head size (begins f) twelve long),
       ok_y,
-      h ∙ f.first,
+      subst (λ ys. HandsOver x.2 ys) f.first h,
       ap (λ (z : State _ _). z.list) s ∙ list-gives mid hs f.list ∙ ap (λ ys. not (has_some ys)) f.first,
     )

@@ -52,10 +52,10 @@ pub data-fault : {L H : Type 0} (event : L → Event H → L → Type 0) (old ne
 data-fault event old new link before after text got len c e a s broken is g fault long =
     let q = rw fault at g.ended in
     let r = old.left - got.left in
-    let t : Trouble event old old.left true (receives (items g.cs) r) (error_of c) new =
-    gave-up event old new link old.list got.left (Some c) old.left true (receives (items g.cs) r) c (error_of c) a s broken refl refl (λ h. h) refl (omega arith) (λ h. let z = q.1 h in omega arith) q.2 in
+    let t : Trouble event old old.left false true (receives (items g.cs) r) (error_of c) new =
+    gave-up event old new link old.list got.left (Some c) old.left false true (receives (items g.cs) r) c (error_of c) a s broken refl refl (λ h. h) refl (omega arith) (λ h. let z = q.1 h in omega arith) q.2 in
     subst (λ y. ReadsCount event old len (Err y) text new) (sym is)
-    (socket (λ y. (cs : List (Cell _)) × (k : ℕ) × (old.broken ≡ None → length cs < len) × Trouble event old old.left true (receives (items cs) k) y new) (λ y. ReadsCount event old len (Err y) text new)
+    (socket (λ y. (cs : List (Cell _)) × (k : ℕ) × (old.broken ≡ None → length cs < len) × Trouble event old old.left false true (receives (items cs) k) y new) (λ y. ReadsCount event old len (Err y) text new)
     c (is_retry c) (is_break c) (is_denial c) (λ w. w) (λ w. w) (λ w. w) (λ w. w) (g.cs, r, (λ h. omega (arith, q.0)), t))
 
 pub data-fails : {L H : Type 0} (event : L → Event H → L → Type 0) (old new : State L H) (len : ℕ) (text : List ℕ) (e : Error) → ReadsCount event old len (Err e) text new → ReadsData event old len (Err e) new

@@ -76,7 +76,7 @@ front-fails event old new link before after got hs len c e a s broken is g fault
       cs = g.cs;
       retries = r;
       short = omega (arith, q.0);
-      trouble = gave-up event old new link true got.left (if nat_lt 0 got.count then Some c else old.broken) old.budget false (receives (items g.cs) r) c e a s broken is
+      trouble = gave-up event old new link true got.left (if nat_lt 0 got.count then Some c else old.broken) old.budget true false (receives (items g.cs) r) c e a s broken is
           (rw (broken, moved-some g.cs got.count g.count) refl) (λ h. refl) refl (omega arith) (λ h. let z = q.1 h in omega arith) q.2;
     }
 

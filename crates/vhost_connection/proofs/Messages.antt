@@ -11,7 +11,7 @@ use Rattle.vhost_link.specs.Law.{Event}
 use Rattle.vhost_connection.specs.Pass.{receives}
 use Rattle.vhost_connection.specs.Talk.{State, Serves, Trouble}
 use Rattle.vhost_connection.specs.Talk.Trouble.{was_broken, no_memory, fault}
-use Rattle.vhost_connection.specs.Calls.{ReadsHeader, given}
+use Rattle.vhost_connection.specs.Calls.{ReadsHeader, HandsOver}
 use Rattle.vhost_connection.specs.Front.{FrontCame, FrontFails, gives}
 use Rattle.vhost_connection.proofs.Receiving.{is-nil}
 use Rattle.vhost_connection.proofs.Fronts.{less, not-less, Serves-list, Serves-gives, list-gives, left-gives}
@@ -36,11 +36,11 @@ pub some-came : {L H : Type 0} {event : L → Event H → L → Type 0} {old mid
 some-came {event = event} {old} {mid} {len} f most = subst (λ b. Serves event old old.budget (receives (heard f.cs b) f.retries) mid) (less (length f.cs) len (omega (arith, f.counted))) f.serves
 
 header-trouble : {M L H : Type 0} (event : L → Event H → L → Type 0) (read : List ℕ → M) (valid : M → Bool) (old new : State L H) (cs : List (Cell H)) (r : ℕ) (e : Error)
-    → length cs < 12 → Trouble event old old.budget false (receives (items cs) r) e new → ReadsHeader event read valid old (Err e) new
+    → length cs < 12 → Trouble event old old.budget true false (receives (items cs) r) e new → ReadsHeader event read valid old (Err e) new
 header-trouble event read valid old new cs r e lt (was_broken b n s) = (cs, r, lt, was_broken b n s)
-header-trouble event read valid old new cs r e lt (no_memory b l n s) = (cs, r, lt, no_memory b l n s)
+header-trouble event read valid old new cs r e lt (no_memory w b l n s) = (cs, r, lt, no_memory w b l n s)
 header-trouble event read valid old new cs r e lt (fault c b t n most spent by f kept) =
-    socket (λ y. (ds : List (Cell _)) × (k : ℕ) × (length ds < 12) × Trouble event old old.budget false (receives (items ds) k) y new) (λ y. ReadsHeader event read valid old (Err y) new)
+    socket (λ y. (ds : List (Cell _)) × (k : ℕ) × (length ds < 12) × Trouble event old old.budget true false (receives (items ds) k) y new) (λ y. ReadsHeader event read valid old (Err y) new)
     c (is_retry c) (is_break c) (is_denial c) (λ w. w) (λ w. w) (λ w. w) (λ w. w) (cs, r, lt, fault c b t n most spent by f kept)
 
 pub header-fails : {M L H : Type 0} (event : L → Event H → L → Type 0) (read : List ℕ → M) (valid : M → Bool) (old new : State L H) (len : ℕ) (e : Error)
@@ -79,7 +79,7 @@ header-bad event read valid old mid new len count hs text x twelve f most is bad
     )
 
 pub header-whole : {M L H : Type 0} (event : L → Event H → L → Type 0) (read : List ℕ → M) (valid : M → Bool) (old mid new : State L H) (len count : ℕ) (hs : List H) (text : List ℕ) (x : M × Option (Vec H Global))
-    → len ≡ 12 → FrontCame event old len count hs text mid → len ≤ count → x.0 ≡ read (take len text) → valid x.0 ≡ true → given x.1 ≡ hs → new ≡ gives mid hs → ReadsHeader event read valid old (Ok x) new
+    → len ≡ 12 → FrontCame event old len count hs text mid → len ≤ count → x.0 ≡ read (take len text) → valid x.0 ≡ true → HandsOver x.1 hs → new ≡ gives mid hs → ReadsHeader event read valid old (Ok x) new
 header-whole event read valid old mid new len count hs text x twelve f most is ok h s =
     let full : count ≡ len = omega (arith, f.counted, f.within) in
     let left : new.left ≡ mid.left = ap (λ (y : State _ _). y.left) s ∙ left-gives mid hs in (
@@ -89,7 +89,7 @@ header-whole event read valid old mid new len count hs text x twelve f most is o
       omega (arith, f.counted),
       is ∙ ap read (ap (λ n. take n text) (sym full) ∙ f.bytes),
       ok,
-      h ∙ f.first,
+      subst (λ ys. HandsOver x.1 ys) f.first h,
       ap (λ (y : State _ _). y.list) s ∙ list-gives mid hs f.list ∙ ap (λ ys. not (has_some ys)) f.first,
       omega (arith, f.left),
     )

@@ -6,7 +6,7 @@ use Rattle.std.proofs.lemmas.Bool.Decides.{nat_tests}
 use Rattle.vhost_message.specs.declared.cause.IoCause.{IoCause}
 use Rattle.vhost_message.specs.declared.error.Error.{Error}
 use Rattle.vhost_message.specs.Cause.{is_retry, error_of}
-use Rattle.vhost_protocol.specs.Stream.{Cell, has_some}
+use Rattle.vhost_protocol.specs.Stream.{Cell, has_some, items}
 use Rattle.vhost_link.specs.Law.{Event, Move, Moved, ◌then◌, refused}
 use Rattle.vhost_link.proofs.Moves.{Moved-then}
 use Rattle.vhost_connection.specs.declared.pass.Sent.{Sent}
@@ -20,8 +20,8 @@ pub Talks-then : {L H : Type 0} {event : L → Event H → L → Type 0} {old mi
 Talks-then {old = old} {mid} {new} {m} {n} p q = record {
   below = p.below then q.below;
   moved = Moved-then p.moved q.moved;
-  handed = sym (append_assoc old.ahead p.below.handed q.below.handed) ∙ ap (λ xs. xs ++ q.below.handed) p.handed ∙ append_assoc m.handed mid.ahead q.below.handed
-      ∙ ap (λ xs. m.handed ++ xs) q.handed ∙ sym (append_assoc m.handed n.handed new.ahead);
+  handed = sym (append_assoc (items old.ahead) p.below.handed q.below.handed) ∙ ap (λ xs. xs ++ q.below.handed) p.handed ∙ append_assoc m.handed (items mid.ahead) q.below.handed
+      ∙ ap (λ xs. m.handed ++ xs) q.handed ∙ sym (append_assoc m.handed n.handed (items new.ahead));
   taken = rw (p.taken, q.taken) refl;
   retries = rw (p.retries, q.retries) refl;
   failures = rw (p.failures, q.failures) refl;
@@ -96,15 +96,15 @@ abbrev pub failed : {L H : Type 0} → State L H → L → Bool → ℕ → Opti
 failed old link list left broken = record old { link = link; list = list; left = left; broken = broken; faulted = true }
 
 -- the link failed
-pub gave-up : {L H : Type 0} (event : L → Event H → L → Type 0) (old new : State L H) (link : L) (list : Bool) (left : ℕ) (broken : Option IoCause) (limit : ℕ) (breaks : Bool) (m : Move H) (c : IoCause) (e : Error)
+pub gave-up : {L H : Type 0} (event : L → Event H → L → Type 0) (old new : State L H) (link : L) (list : Bool) (left : ℕ) (broken : Option IoCause) (limit : ℕ) (grows breaks : Bool) (m : Move H) (c : IoCause) (e : Error)
     → old.ahead ≡ [] → new ≡ failed old link list left broken → old.broken ≡ None → e ≡ error_of c
     → broken ≡ (if breaks || has_moved m then Some c else None) → (old.list ≡ true → list ≡ true)
     → m.failures ≡ 0 → m.retries ≤ limit → (IsTrue (is_retry c) → m.retries ≡ limit)
-    → Moved event old.link (m then refused c) link → Trouble event old limit breaks m e new
-gave-up event old new link list left broken limit breaks m c e a s before is b kept none most spent p =
-    let t : Trouble event old limit breaks m (error_of c) (failed old link list left broken) =
+    → Moved event old.link (m then refused c) link → Trouble event old limit grows breaks m e new
+gave-up event old new link list left broken limit grows breaks m c e a s before is b kept none most spent p =
+    let t : Trouble event old limit grows breaks m (error_of c) (failed old link list left broken) =
     fault c before (talks old (failed old link list left broken) (m then refused c) a a refl p) none most spent b refl kept in
-    subst (λ x. Trouble event old limit breaks m x new) (sym is) (subst (λ x. Trouble event old limit breaks m (error_of c) x) (sym s) t)
+    subst (λ x. Trouble event old limit grows breaks m x new) (sym is) (subst (λ x. Trouble event old limit grows breaks m (error_of c) x) (sym s) t)
 
 -- a text that went out
 pub sent-all : {L H : Type 0} (event : L → Event H → L → Type 0) (old new : State L H) (link : L) (text : List (Cell H)) (sent : Sent)
@@ -128,6 +128,6 @@ sent-some event old new link text sent c e a s before is some p =
     let r = old.budget - sent.left in (
       sent.count,
       r,
-      gave-up event old new link old.list old.left (if nat_lt 0 sent.count then Some c else old.broken) old.budget false (sends (take sent.count text) r) c e a s before is
+      gave-up event old new link old.list old.left (if nat_lt 0 sent.count then Some c else old.broken) old.budget false false (sends (take sent.count text) r) c e a s before is
           (rw (before, some-take sent.count text q.0) refl) (λ h. h) refl (omega arith) (λ h. let z = q.1 h in omega arith) q.2,
     )

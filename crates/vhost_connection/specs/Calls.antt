@@ -12,24 +12,24 @@ use Rattle.vhost_connection.specs.Talk.{State, Serves, Trouble}
 -- A text goes out, all of it; or a front of it, and then trouble.
 abbrev pub Sends : {L H : Type 0} → (L → Event H → L → Type 0) → State L H → List (Cell H) → Result (Unit {0}) Error → State L H → Type 0
 Sends event old text (Ok _) new = (r : ℕ) × Serves event old old.budget (sends text r) new × (new.list ≡ old.list) × (new.left ≡ old.left)
-Sends event old text (Err e) new = (n r : ℕ) × Trouble event old old.budget false (sends (take n text) r) e new
+Sends event old text (Err e) new = (n r : ℕ) × Trouble event old old.budget false false (sends (take n text) r) e new
 
--- the handles that a call gives
-abbrev pub given : {H : Type 0} → Option (Vec H Global) → List H
-given None = []
-given (Some v) = v.items
+-- the handles of a message are given where there are any
+abbrev pub HandsOver : {H : Type 0} → Option (Vec H Global) → List H → Type 0
+HandsOver None handles = handles ≡ []
+HandsOver (Some v) handles = (v.items ≡ handles) × (has_some handles ≡ true)
 
 -- A header comes in: 12 cells, with the handles of the first; or fewer and then the end; or trouble. The body may take the retries that are left.
 abbrev pub ReadsHeader : {M L H : Type 0} → (L → Event H → L → Type 0) → (List ℕ → M) → (M → Bool) → State L H → Result (M × Option (Vec H Global)) Error → State L H → Type 0
 ReadsHeader {H} event read valid old (Ok x) new = (cs : List (Cell H)) × (r : ℕ) × Serves event old old.budget (receives (items cs) r) new
-    × (length cs ≡ 12) × (x.0 ≡ read (bytes cs)) × (valid x.0 ≡ true) × (given x.1 ≡ first_handles cs)
+    × (length cs ≡ 12) × (x.0 ≡ read (bytes cs)) × (valid x.0 ≡ true) × HandsOver x.1 (first_handles cs)
     × (new.list ≡ not (has_some (first_handles cs))) × (new.left + r ≡ old.budget)
 ReadsHeader {H} event read valid old (Err Disconnected) new = (r : ℕ) × Serves event old old.budget (receives (heard [] true) r) new × (new.list ≡ true)
 ReadsHeader {H} event read valid old (Err PartialMessage) new = (cs : List (Cell H)) × (r : ℕ) × Serves event old old.budget (receives (heard cs true) r) new
     × (0 < length cs) × (length cs < 12) × (new.list ≡ true)
 ReadsHeader {H} event read valid old (Err InvalidMessage) new = (cs : List (Cell H)) × (r : ℕ) × Serves event old old.budget (receives (items cs) r) new
     × (length cs ≡ 12) × (valid (read (bytes cs)) ≡ false) × (new.list ≡ true)
-ReadsHeader {H} event read valid old (Err e) new = (cs : List (Cell H)) × (r : ℕ) × (length cs < 12) × Trouble event old old.budget false (receives (items cs) r) e new
+ReadsHeader {H} event read valid old (Err e) new = (cs : List (Cell H)) × (r : ℕ) × (length cs < 12) × Trouble event old old.budget true false (receives (items cs) r) e new
 
 -- The body's bytes come in: so many, or fewer and then the end. They are known where none of them brought handles.
 pub record ReadsBytes {L H : Type 0} (event : L → Event H → L → Type 0) (old : State L H) (len : ℕ) (cs : List (Cell H)) (new : State L H) : Type 0 where
@@ -43,16 +43,16 @@ pub record ReadsBytes {L H : Type 0} (event : L → Event H → L → Type 0) (o
 abbrev pub ReadsData : {L H : Type 0} → (L → Event H → L → Type 0) → State L H → ℕ → Result (ℕ × Bor (List ℕ)) Error → State L H → Type 0
 ReadsData {H} event old len (Ok x) new = (cs : List (Cell H)) × ReadsBytes event old len cs new × (brings_handles cs ≡ false) × (x.0 ≡ length cs) × (x.1.now ≡ bytes cs)
 ReadsData {H} event old len (Err InvalidMessage) new = (cs : List (Cell H)) × ReadsBytes event old len cs new × (brings_handles cs ≡ true)
-ReadsData {H} event old len (Err e) new = (cs : List (Cell H)) × (r : ℕ) × (old.broken ≡ None → length cs < len) × Trouble event old old.left true (receives (items cs) r) e new
+ReadsData {H} event old len (Err e) new = (cs : List (Cell H)) × (r : ℕ) × (old.broken ≡ None → length cs < len) × Trouble event old old.left false true (receives (items cs) r) e new
 
 -- A header and a record of so many bytes come in, whatever the size in the header; or fewer and then the end; or trouble.
 abbrev pub ReadsBody : {M T L H : Type 0} → (L → Event H → L → Type 0) → (List ℕ → M) → (M → Bool) → ℕ → (List ℕ → T) → (T → Bool) → State L H
     → Result (M × T × Option (Vec H Global)) Error → State L H → Type 0
 ReadsBody {H} event read valid size read_body valid_body old (Ok x) new = (cs : List (Cell H)) × (r : ℕ) × Serves event old old.budget (receives (items cs) r) new
     × (length cs ≡ 12 + size) × (x.0 ≡ read (take 12 (bytes cs))) × (valid x.0 ≡ true) × (x.1 ≡ read_body (drop 12 (bytes cs))) × (valid_body x.1 ≡ true)
-    × (given x.2 ≡ first_handles cs) × (new.list ≡ not (has_some (first_handles cs)))
+    × HandsOver x.2 (first_handles cs) × (new.list ≡ not (has_some (first_handles cs)))
 ReadsBody {H} event read valid size read_body valid_body old (Err PartialMessage) new = (cs : List (Cell H)) × (r : ℕ) × Serves event old old.budget (receives (heard cs true) r) new
     × (length cs < 12 + size) × (new.list ≡ true)
 ReadsBody {H} event read valid size read_body valid_body old (Err InvalidMessage) new = (cs : List (Cell H)) × (r : ℕ) × Serves event old old.budget (receives (items cs) r) new
     × (length cs ≡ 12 + size) × ((valid (read (take 12 (bytes cs))) && valid_body (read_body (drop 12 (bytes cs)))) ≡ false) × (new.list ≡ true)
-ReadsBody {H} event read valid size read_body valid_body old (Err e) new = (cs : List (Cell H)) × (r : ℕ) × (length cs < 12 + size) × Trouble event old old.budget false (receives (items cs) r) e new
+ReadsBody {H} event read valid size read_body valid_body old (Err e) new = (cs : List (Cell H)) × (r : ℕ) × (length cs < 12 + size) × Trouble event old old.budget true false (receives (items cs) r) e new

@@ -26,7 +26,7 @@ pub record FrontFails {L H : Type 0} (event : L → Event H → L → Type 0) (o
   pub cs : List (Cell H)
   pub retries : ℕ
   pub short : length cs < len
-  pub trouble : Trouble event old old.budget false (receives (items cs) retries) e new
+  pub trouble : Trouble event old old.budget true false (receives (items cs) retries) e new
 
 abbrev pub ReadsFront : {L H : Type 0} → (L → Event H → L → Type 0) → State L H → ℕ → Result (Front H) Error → List ℕ → State L H → Type 0
 ReadsFront event old len (Ok x) text new = FrontCame event old len x.count x.list.items text new
@@ -36,7 +36,7 @@ ReadsFront event old len (Err e) text new = FrontFails event old len e new
 abbrev pub ReadsCount : {L H : Type 0} → (L → Event H → L → Type 0) → State L H → ℕ → Result ℕ Error → List ℕ → State L H → Type 0
 ReadsCount {H} event old len (Ok n) text new = (cs : List (Cell H)) × ReadsBytes event old len cs new × (brings_handles cs ≡ false) × (n ≡ length cs) × (take n text ≡ bytes cs)
 ReadsCount {H} event old len (Err InvalidMessage) text new = (cs : List (Cell H)) × ReadsBytes event old len cs new × (brings_handles cs ≡ true)
-ReadsCount {H} event old len (Err e) text new = (cs : List (Cell H)) × (r : ℕ) × (old.broken ≡ None → length cs < len) × Trouble event old old.left true (receives (items cs) r) e new
+ReadsCount {H} event old len (Err e) text new = (cs : List (Cell H)) × (r : ℕ) × (old.broken ≡ None → length cs < len) × Trouble event old old.left false true (receives (items cs) r) e new
 
 -- the list of handles is given away where there are handles in it
 abbrev pub gives : {L H : Type 0} → State L H → List H → State L H

@@ -1,12 +1,12 @@
 -- How contracts see an endpoint.
 use Rattle.std.specs.Prelude.{ℕ, List, [], Option, Some, None, true, false, is_some}
 use Rattle.vhost_message.specs.declared.cause.IoCause.{IoCause}
-use Rattle.vhost_protocol.specs.Stream.{Item}
+use Rattle.vhost_protocol.specs.Stream.{Cell}
 use Rattle.vhost_connection.specs.declared.endpoint.Endpoint.{Endpoint}
 use Rattle.vhost_connection.specs.Talk.{State}
 
 -- what the endpoint has heard of its link, and not handed on yet
-unfoldable pub ahead_of : {M L H : Type 0} → Endpoint M L H → List (Item H)
+unfoldable pub ahead_of : {M L H : Type 0} → Endpoint M L H → List (Cell H)
 ahead_of e = []
 
 abbrev pub state : {M L H : Type 0} → Endpoint M L H → State L H

@@ -4,14 +4,14 @@ use Rattle.vhost_message.specs.declared.cause.IoCause.{IoCause}
 use Rattle.vhost_message.specs.Cause.{is_retry, error_of}
 use Rattle.vhost_message.specs.declared.error.Error.{Error}
 use Rattle.vhost_message.specs.declared.error.Error.TheVariants.{SocketBroken, OutOfMemory}
-use Rattle.vhost_protocol.specs.Stream.{Item, has_some}
+use Rattle.vhost_protocol.specs.Stream.{Cell, items, has_some}
 use Rattle.vhost_link.specs.Law.{Event, Move, Moved, nothing, ◌then◌, refused}
 
 -- An endpoint, as contracts see it.
 pub record State (L H : Type 0) : Type 0 where
   pub link : L
   -- heard of the link, and not handed on yet
-  pub ahead : List (Item H)
+  pub ahead : List (Cell H)
   -- how many retries one message may take
   pub budget : ℕ
   -- how many of them are left for the body of the message whose header came last
@@ -27,7 +27,7 @@ pub record State (L H : Type 0) : Type 0 where
 pub record Talks {L H : Type 0} (event : L → Event H → L → Type 0) (old : State L H) (m : Move H) (new : State L H) : Type 0 where
   pub below : Move H
   pub moved : Moved event old.link below new.link
-  pub handed : old.ahead ++ below.handed ≡ m.handed ++ new.ahead
+  pub handed : items old.ahead ++ below.handed ≡ m.handed ++ items new.ahead
   pub taken : below.taken ≡ m.taken
   pub retries : below.retries ≡ m.retries
   pub failures : below.failures ≡ m.failures
@@ -46,18 +46,18 @@ pub record Serves {L H : Type 0} (event : L → Event H → L → Type 0) (old :
 abbrev pub has_moved : {H : Type 0} → Move H → Bool
 has_moved m = has_some m.handed || has_some m.taken
 
--- The call was not served: this moved before that, and this is the error. A call may break the endpoint even where nothing moved.
-pub data Trouble {L H : Type 0} (event : L → Event H → L → Type 0) (old : State L H) (limit : ℕ) (breaks : Bool) (m : Move H) : Error → State L H → Type 0 where
+-- The call was not served: this moved before that, and this is the error. A call that grows may want memory for a list, and one that breaks does so even where nothing moved.
+pub data Trouble {L H : Type 0} (event : L → Event H → L → Type 0) (old : State L H) (limit : ℕ) (grows breaks : Bool) (m : Move H) : Error → State L H → Type 0 where
   -- it was broken before, and nothing changed
   was_broken : {c : IoCause} {new : State L H} → old.broken ≡ Some c → m ≡ nothing → new ≡ record old { faulted = false }
-      → Trouble event old limit breaks m (SocketBroken c) new
+      → Trouble event old limit grows breaks m (SocketBroken c) new
   -- its list had been given away, there is no memory for another, and nothing changed
-  no_memory : {new : State L H} → old.broken ≡ None → old.list ≡ false → m ≡ nothing → new ≡ record old { faulted = false }
-      → Trouble event old limit breaks m OutOfMemory new
+  no_memory : {new : State L H} → grows ≡ true → old.broken ≡ None → old.list ≡ false → m ≡ nothing → new ≡ record old { faulted = false }
+      → Trouble event old limit grows breaks m OutOfMemory new
   -- the link failed, or retried once more than the limit allows: the endpoint is broken where something had moved, and else as before
   fault : (c : IoCause) {new : State L H} → old.broken ≡ None → Talks event old (m then refused c) new → m.failures ≡ 0 → m.retries ≤ limit
       → (IsTrue (is_retry c) → m.retries ≡ limit) → new.broken ≡ (if breaks || has_moved m then Some c else None) → new.faulted ≡ true
-      → (old.list ≡ true → new.list ≡ true) → Trouble event old limit breaks m (error_of c) new
+      → (old.list ≡ true → new.list ≡ true) → Trouble event old limit grows breaks m (error_of c) new
 
 -- A call that was refused before anything was done.
 abbrev pub Refuses : {L H T : Type 0} → State L H → Error → Result T Error → State L H → Type 0

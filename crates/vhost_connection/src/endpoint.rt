@@ -62,7 +62,7 @@ impl<M: MsgHeader, L: Link> Endpoint<M, L> {
     ghost use Rattle.vhost_message.specs.Cause.{error_of};
     ghost use Rattle.vhost_message.specs.declared.error.Error.TheVariants.{OversizedMsg, IncorrectFds, OutOfMemory};
     ghost use Rattle.vhost_connection.specs.Talk.{Refuses};
-    ghost use Rattle.vhost_connection.specs.Calls.{Sends, ReadsHeader, ReadsData, ReadsBody, given};
+    ghost use Rattle.vhost_connection.specs.Calls.{Sends, ReadsHeader, ReadsData, ReadsBody, HandsOver};
     ghost use Rattle.vhost_connection.specs.Front.{ReadsFront, ReadsCount, gives};
     ghost use Rattle.vhost_connection.specs.State.{state, fresh, first_cause, with_link};
 
@@ -305,7 +305,7 @@ impl<M: MsgHeader, L: Link> Endpoint<M, L> {
     #[tactic(auto, unfolding(crate::specs::State::ahead_of))]
     fn give(&mut self, list: Vec<L::Handle>) -> Option<Vec<L::Handle>>
         requires { 32 ≤ vec_capacity list }
-        ensures given { given result ≡ list.items }
+        ensures given { HandsOver result list.items }
         ensures state { state self.new ≡ gives (state self.old) list.items }
     {
         if list.is_empty() {

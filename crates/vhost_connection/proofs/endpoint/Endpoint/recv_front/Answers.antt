@@ -20,7 +20,7 @@ returns-in-Err g c =
       cs = [];
       retries = 0;
       short = c.requires.some;
-      trouble = no_memory c.in_default.is none refl (ap (λ (b : Bool). record (state c.args.self.now) { list = b; faulted = false }) same);
+      trouble = no_memory refl c.in_default.is none refl (ap (λ (b : Bool). record (state c.args.self.now) { list = b; faulted = false }) same);
     }
 
 pub returns-in-Fault : goal.returns-in-Fault
