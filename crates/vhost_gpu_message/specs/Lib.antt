@@ -1,2 +1,4 @@
 pub mod GpuBackendReq
 pub mod GpuHeader
+pub mod Words
+pub mod WordRecords
