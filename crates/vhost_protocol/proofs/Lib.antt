@@ -13,3 +13,4 @@ mod TakeRows
 mod TableRows
 mod JoinedRows
 mod ReverseRows
+pub mod PlainLaws

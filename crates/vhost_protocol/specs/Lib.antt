@@ -26,3 +26,4 @@ pub mod Reverse
 pub mod JoinedReverse
 pub mod Pieces
 pub mod Log
+pub mod Plain

@@ -1,0 +1,5 @@
+//! Plain, slow programs that compute the definitions, for tests.
+
+mod stream;
+
+pub use stream::{Cut, PlainMessage, StreamCell, split};
