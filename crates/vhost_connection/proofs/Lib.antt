@@ -5,3 +5,4 @@ pub mod Fronts
 pub mod Messages
 pub mod Data
 pub mod Bodies
+pub mod States

@@ -3,3 +3,4 @@ pub mod Talk
 pub mod Calls
 pub mod State
 pub mod Front
+pub mod Lending

@@ -13,9 +13,6 @@ use vhost_message::{ByteValued, Error, IoCause, MsgHeader, Result, VhostUserMsgV
 /// The greatest body of a message that is kept in an endpoint, in bytes.
 const MAX_BODY: usize = 4096;
 
-/// A header and the greatest body, in bytes.
-const MAX_TEXT: usize = 4108;
-
 /// One end of a connection, by which whole messages go out and come in: the header type is `M`.
 ///
 /// A call that sends or receives a whole message calls its link again after a retry, up to a budget of retries for
@@ -37,7 +34,7 @@ pub struct Endpoint<M, L: Link> {
     list: Option<HandleList<L::Handle>>,
     /// For handles that are dropped.
     spare: HandleList<L::Handle>,
-    /// The bytes of one message on their way out or in.
+    /// The bytes of one message on their way out or in: a header and the greatest body.
     text: [u8; 4108],
     alloc: Global,
     of: PhantomData<M>,
@@ -54,11 +51,10 @@ fn put<M: ByteValued, T: ByteValued>(out: &mut [u8], header: &M, body: &T)
 }
 
 impl<M: MsgHeader, L: Link> Endpoint<M, L> {
-    ghost use Rattle.std.specs.Prelude.{if◌then◌else◌, true, false, is_some, ⊤};
+    ghost use Rattle.std.specs.Prelude.{if◌then◌else◌, true, false, is_some};
     ghost use Rattle.std.specs.Borrow.{sem, Lends};
     ghost use Rattle.vhost_connection.specs.contracts.endpoint.Endpoint.{the_row};
-    ghost use mathlib.Core.Option.{none};
-    ghost use denote.Follow.{follows_so};
+    ghost use Rattle.vhost_connection.specs.Lending.{Leaves};
     ghost use Rattle.vhost_message.specs.Cause.{error_of};
     ghost use Rattle.vhost_message.specs.declared.error.Error.TheVariants.{OversizedMsg, IncorrectFds, OutOfMemory};
     ghost use Rattle.vhost_connection.specs.Talk.{Refuses};
@@ -196,7 +192,8 @@ impl<M: MsgHeader, L: Link> Endpoint<M, L> {
     /// of the budget, breaks the endpoint.
     pub fn recv_data(&mut self, len: usize) -> Result<(usize, &[u8])>
         requires { len ≤ 4096 }
-        ensures* lender { sem 𝓛 (follows_so (the_row M.row L.row L.Handle.row) (the_row M.row L.row L.Handle.row) self.entry.ghost_name none (λ _ _. ⊤) (λ v. ReadsData L.event (state self.old) len result (state v))) }
+        ensures* lender { sem 𝓛 (Leaves (the_row M.row L.row L.Handle.row) self.entry (λ end. ReadsData L.event (state self.old) len result (state end))) }
+        ensures count { IfOk result (λ x. (x.0 ≤ len) × (length x.1.now ≡ x.0)) }
     {
         let count = self.read_data(len)?;
         Ok((count, &self.text[..count]))
