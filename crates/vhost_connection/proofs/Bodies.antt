@@ -15,7 +15,8 @@ use Rattle.vhost_connection.specs.Talk.Trouble.{was_broken, no_memory, fault}
 use Rattle.vhost_connection.specs.Calls.{ReadsBody, HandsOver}
 use Rattle.vhost_connection.specs.Front.{FrontCame, FrontFails, gives}
 use Rattle.vhost_connection.proofs.Fronts.{Serves-list, Serves-gives, list-gives}
-use Rattle.vhost_connection.proofs.Messages.{socket, all-came, some-came}
+use Rattle.vhost_connection.proofs.Errors.{socket}
+use Rattle.vhost_connection.proofs.Messages.{all-came, some-came}
 
 body-trouble : {M T L H : Type 0} (event : L → Event H → L → Type 0) (read : List ℕ → M) (valid : M → Bool) (size : ℕ) (read_body : List ℕ → T) (valid_body : T → Bool) (old new : State L H) (cs : List (Cell H)) (r : ℕ) (e : Error)
     → length cs < 12 + size → Trouble event old old.budget true false (receives (items cs) r) e new → ReadsBody event read valid size read_body valid_body old (Err e) new

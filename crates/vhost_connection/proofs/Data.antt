@@ -15,7 +15,7 @@ use Rattle.vhost_connection.specs.Calls.{ReadsBytes, ReadsData}
 use Rattle.vhost_connection.specs.Front.{ReadsCount}
 use Rattle.vhost_connection.proofs.Talking.{served, serves, failed, gave-up}
 use Rattle.vhost_connection.proofs.Fronts.{heard-as, front-of}
-use Rattle.vhost_connection.proofs.Messages.{socket}
+use Rattle.vhost_connection.proofs.Errors.{socket}
 
 -- up to so many bytes, or the end
 pub data-came : {L H : Type 0} (event : L → Event H → L → Type 0) (old new : State L H) (link : L) (before after : List ℕ) (got : Got) (len : ℕ)

@@ -6,3 +6,4 @@ pub mod Messages
 pub mod Data
 pub mod Bodies
 pub mod States
+pub mod Errors

@@ -1,10 +1,9 @@
 -- Headers and bodies come in.
 use Rattle.std.proofs.Common.{◌≡◌, ℕ, ◌<◌, ◌≤◌, List, [], length, take, sym, ap, subst, ◌∙◌, arith, Bool, true, false, Option, Err, Ok, Vec}
-use Rattle.std.specs.Prelude.{if◌then◌else◌, not}
+use Rattle.std.specs.Prelude.{not}
 use Rattle.std.specs.Global.{Global}
-use Rattle.vhost_message.specs.declared.cause.IoCause.{IoCause}
 use Rattle.vhost_message.specs.declared.error.Error.{Error}
-use Rattle.vhost_message.specs.declared.error.Error.TheVariants.{InvalidMessage, PartialMessage, Disconnected, SocketError, SocketConnect, SocketBroken, SocketRetry}
+use Rattle.vhost_message.specs.declared.error.Error.TheVariants.{InvalidMessage, PartialMessage, Disconnected}
 use Rattle.vhost_message.specs.Cause.{is_retry, is_break, is_denial}
 use Rattle.vhost_protocol.specs.Stream.{Cell, bytes, has_some, items, heard}
 use Rattle.vhost_link.specs.Law.{Event}
@@ -13,17 +12,9 @@ use Rattle.vhost_connection.specs.Talk.{State, Serves, Trouble}
 use Rattle.vhost_connection.specs.Talk.Trouble.{was_broken, no_memory, fault}
 use Rattle.vhost_connection.specs.Calls.{ReadsHeader, HandsOver}
 use Rattle.vhost_connection.specs.Front.{FrontCame, FrontFails, gives}
+use Rattle.vhost_connection.proofs.Errors.{socket}
 use Rattle.vhost_connection.proofs.Receiving.{is-nil}
 use Rattle.vhost_connection.proofs.Fronts.{less, not-less, Serves-list, Serves-gives, list-gives, left-gives}
-
--- an error of the link is none of the others
-pub socket : (P Q : Error → Type 0) (c : IoCause) (b d f : Bool) → (P (SocketRetry c) → Q (SocketRetry c)) → (P (SocketBroken c) → Q (SocketBroken c)) → (P (SocketConnect c) → Q (SocketConnect c)) → (P (SocketError c) → Q (SocketError c))
-    → P (if b then SocketRetry c else if d then SocketBroken c else if f then SocketConnect c else SocketError c)
-    → Q (if b then SocketRetry c else if d then SocketBroken c else if f then SocketConnect c else SocketError c)
-socket P Q c true d f p q r s x = p x
-socket P Q c false true f p q r s x = q x
-socket P Q c false false true p q r s x = r x
-socket P Q c false false false p q r s x = s x
 
 -- All that was asked for came.
 pub all-came : {L H : Type 0} {event : L → Event H → L → Type 0} {old mid : State L H} {len count : ℕ} {hs : List H} {text : List ℕ} (f : FrontCame event old len count hs text mid) → len ≤ count

@@ -1,6 +1,6 @@
 //! Endpoints: whole messages over a link.
 
-ghost use Rattle.std.specs.Prelude.{◌≡◌, ◌+◌, ◌++◌, ◌<◌, ◌≤◌, length, take, map, min, vec_capacity, IfOk, IfErr};
+ghost use Rattle.std.specs.Prelude.{◌≡◌, ◌≢◌, ◌+◌, ◌++◌, ◌<◌, ◌≤◌, length, take, map, min, vec_capacity, IfOk, IfErr};
 ghost use Rattle.vhost_protocol.specs.Stream.{carrying};
 
 use crate::list::{Front, HandleList, MAX_HANDLES};
@@ -94,6 +94,7 @@ impl<M: MsgHeader, L: Link> Endpoint<M, L> {
     pub fn send_header(&mut self, header: &M, handles: &[&L::Handle]) -> Result<()>
         ensures many { 32 < length handles.now → Refuses (state self.old) IncorrectFds result (state self.new) }
         ensures sent { length handles.now ≤ 32 → Sends L.event (state self.old) (carrying (map (λ h. h.now) handles.now) (M.text header.now)) result (state self.new) }
+        ensures memory { IfErr result (λ e. e ≢ OutOfMemory) }
     {
         if handles.len() > MAX_HANDLES {
             return Err(Error::IncorrectFds);
@@ -117,6 +118,7 @@ impl<M: MsgHeader, L: Link> Endpoint<M, L> {
         ensures many { T.SIZE ≤ min 4096 M.MAX_MSG_SIZE → 32 < length handles.now → Refuses (state self.old) IncorrectFds result (state self.new) }
         ensures sent { T.SIZE ≤ min 4096 M.MAX_MSG_SIZE → length handles.now ≤ 32 →
             Sends L.event (state self.old) (carrying (map (λ h. h.now) handles.now) (M.text header.now ++ T.text body.now)) result (state self.new) }
+        ensures memory { IfErr result (λ e. e ≢ OutOfMemory) }
     {
         if T::SIZE > MAX_BODY || T::SIZE > M::MAX_MSG_SIZE {
             return Err(Error::OversizedMsg);
@@ -134,7 +136,8 @@ impl<M: MsgHeader, L: Link> Endpoint<M, L> {
         requires some { 0 < len }
         requires len { len ≤ 4108 }
         requires handles { length handles.now ≤ 32 }
-        ensures { Sends L.event (state self.old) (carrying (map (λ h. h.now) handles.now) (take len self.old.text)) result (state self.new) }
+        ensures sent { Sends L.event (state self.old) (carrying (map (λ h. h.now) handles.now) (take len self.old.text)) result (state self.new) }
+        ensures memory { IfErr result (λ e. e ≢ OutOfMemory) }
     {
         self.faulted = false;
         if let Some(cause) = self.broken {
@@ -148,9 +151,10 @@ impl<M: MsgHeader, L: Link> Endpoint<M, L> {
     }
 
     /// The link failed: this breaks the endpoint if something has moved.
-    #[tactic(auto, unfolding(crate::specs::State::ahead_of))]
+    #[tactic(auto, using(crate::proofs::Errors::no_memory_error), unfolding(crate::specs::State::ahead_of))]
     fn fail(&mut self, cause: IoCause, moved: bool) -> Error
         ensures error { result ≡ error_of cause }
+        ensures memory { result ≢ OutOfMemory }
         ensures state { state self.new ≡ record (state self.old) { broken = (if moved then Some cause else self.old.broken); faulted = true } }
     {
         self.faulted = true;
@@ -194,6 +198,7 @@ impl<M: MsgHeader, L: Link> Endpoint<M, L> {
         requires { len ≤ 4096 }
         ensures* lender { sem 𝓛 (Leaves (the_row M.row L.row L.Handle.row) self.entry (λ end. ReadsData L.event (state self.old) len result (state end))) }
         ensures count { IfOk result (λ x. (x.0 ≤ len) × (length x.1.now ≡ x.0)) }
+        ensures memory { IfErr result (λ e. e ≢ OutOfMemory) }
     {
         let count = self.read_data(len)?;
         Ok((count, &self.text[..count]))
@@ -202,7 +207,8 @@ impl<M: MsgHeader, L: Link> Endpoint<M, L> {
     /// Receives bytes to the front of the text, up to so many or the end.
     fn read_data(&mut self, len: usize) -> Result<usize>
         requires { len ≤ 4096 }
-        ensures { ReadsCount L.event (state self.old) len result self.new.text (state self.new) }
+        ensures read { ReadsCount L.event (state self.old) len result self.new.text (state self.new) }
+        ensures memory { IfErr result (λ e. e ≢ OutOfMemory) }
     {
         self.faulted = false;
         if let Some(cause) = self.broken {

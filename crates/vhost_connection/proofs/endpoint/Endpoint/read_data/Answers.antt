@@ -5,24 +5,24 @@ use Rattle.vhost_connection.specs.Talk.Trouble.{was_broken}
 use Rattle.vhost_connection.proofs.Data.{data-plain, data-surplus, data-fault}
 use Rattle.vhost_connection.proofs.endpoint.Endpoint.read_data.Goals as goal
 
-pub returns-in-Some : goal.returns-in-Some
+pub returns-in-Some-clause-read : goal.returns-in-Some-clause-read
 unfolding ahead_of
-returns-in-Some g c = ([], 0, (λ h. absurd (cc (c.in-Some.is, h))), was_broken c.in-Some.is refl refl)
+returns-in-Some-clause-read g c = ([], 0, (λ h. absurd (cc (c.in-Some.is, h))), was_broken c.in-Some.is refl refl)
 
-pub returns-in-Fault : goal.returns-in-Fault
+pub returns-in-Fault-clause-read : goal.returns-in-Fault-clause-read
 unfolding ahead_of
-returns-in-Fault g c =
+returns-in-Fault-clause-read g c =
     data-fault g.L.Link.event (state c.args.self.now) _ c.recv_bytes-got.new.link _ _ _ c.recv_bytes-got.result c.args.len c.in-Fault.cause c.fail.result refl c.fail.ensures.state
     c.in_default.is c.fail.ensures.error c.recv_bytes-got.ensures.got c.in-Fault.is (length-take-le _ c.args.self.now.text (search rules))
 
-pub returns-then-got : goal.returns-then-got
+pub returns-then-got-clause-read : goal.returns-then-got-clause-read
 unfolding ahead_of
-returns-then-got g c =
+returns-then-got-clause-read g c =
     data-surplus g.L.Link.event (state c.args.self.now) _ c.recv_bytes-got.new.link _ _ c.recv_bytes-got.result c.args.len refl refl
     c.in_default.is c.recv_bytes-got.ensures.got c.in_default-stop.not-Fault (length-take-le _ c.args.self.now.text (search rules)) c.if-got.true
 
-pub returns : goal.returns
+pub returns-clause-read : goal.returns-clause-read
 unfolding ahead_of
-returns g c =
+returns-clause-read g c =
     data-plain g.L.Link.event (state c.args.self.now) _ c.recv_bytes-got.new.link _ _ _ c.recv_bytes-got.result c.args.len refl refl
     c.in_default.is c.recv_bytes-got.ensures.got c.in_default-stop.not-Fault (length-take-le _ c.args.self.now.text (search rules)) (search rules) c.if-got.false

@@ -4,15 +4,15 @@ use Rattle.vhost_connection.specs.Talk.Trouble.{was_broken}
 use Rattle.vhost_connection.proofs.Talking.{sent-all, sent-some}
 use Rattle.vhost_connection.proofs.endpoint.Endpoint.send_text.Goals as goal
 
-pub returns-in-Some : goal.returns-in-Some
+pub returns-in-Some-clause-sent : goal.returns-in-Some-clause-sent
 unfolding ahead_of
-returns-in-Some g c = (0, 0, was_broken c.in-Some.is refl refl)
+returns-in-Some-clause-sent g c = (0, 0, was_broken c.in-Some.is refl refl)
 
-pub returns-in-None : goal.returns-in-None
+pub returns-in-None-clause-sent : goal.returns-in-None-clause-sent
 unfolding ahead_of
-returns-in-None g c = sent-all g.L.Link.event (state c.args.self.now) _ c.send_whole-sent.new.link _ c.send_whole-sent.result refl refl c.in_default.is c.in-None.is c.send_whole-sent.ensures
+returns-in-None-clause-sent g c = sent-all g.L.Link.event (state c.args.self.now) _ c.send_whole-sent.new.link _ c.send_whole-sent.result refl refl c.in_default.is c.in-None.is c.send_whole-sent.ensures
 
-pub returns-in-Some-fault : goal.returns-in-Some-fault
+pub returns-in-Some-fault-clause-sent : goal.returns-in-Some-fault-clause-sent
 unfolding ahead_of
-returns-in-Some-fault g c =
+returns-in-Some-fault-clause-sent g c =
     sent-some g.L.Link.event (state c.args.self.now) _ c.send_whole-sent.new.link _ c.send_whole-sent.result c.in-Some-fault.cause c.fail.result refl c.fail.ensures.state c.in_default.is c.fail.ensures.error c.in-Some-fault.is c.send_whole-sent.ensures
