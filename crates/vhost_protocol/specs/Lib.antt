@@ -27,3 +27,4 @@ pub mod JoinedReverse
 pub mod Pieces
 pub mod Log
 pub mod Plain
+pub mod PlainRow

@@ -1,5 +1,5 @@
 -- What the plain programs work on, as the definitions have it. Their handles are only counted.
-use Rattle.std.specs.Prelude.{ℕ, Bool, List, map, replicate, Result, Ok, Err, ⊤}
+use Rattle.std.specs.Prelude.{ℕ, Bool, List, [], map, replicate, Result, Ok, Err, ⊤}
 use Rattle.vhost_message.specs.declared.frontend_req.FrontendReq.{FrontendReq}
 use Rattle.vhost_protocol.specs.declared.plain.stream.StreamCell.{StreamCell}
 use Rattle.vhost_protocol.specs.declared.plain.stream.PlainMessage.{PlainMessage}
@@ -9,6 +9,7 @@ use Rattle.vhost_message.specs.declared.error.Error as declared
 use Rattle.vhost_message.specs.Header.{Header}
 use Rattle.vhost_protocol.specs.Error.{Error, seen}
 use Rattle.vhost_protocol.specs.Split.{Message}
+use Rattle.vhost_protocol.specs.Written.{Empty, U64, Written}
 use Rattle.vhost_protocol.specs.Stream.{Cell, cell, bytes, brings_handles}
 
 -- so many handles
@@ -49,3 +50,13 @@ outcome_of (Err e) = Err (seen e)
 -- an outcome and the rest of the stream
 abbrev pub cut_of : Cut → Result (Message FrontendReq ⊤) Error × List (Cell ⊤)
 cut_of cut = (outcome_of cut.outcome, cells_of cut.rest.now)
+
+-- ---- messages
+
+-- a message without a body
+abbrev pub empty_message : FrontendReq → Bool → Bool → Written FrontendReq ⊤
+empty_message r reply need_reply = record { request = r; reply = reply; need_reply = need_reply; payload = Empty; handles = [] }
+
+-- a message whose body is one number
+abbrev pub number_message : FrontendReq → Bool → Bool → ℕ → Written FrontendReq ⊤
+number_message r reply need_reply n = record { request = r; reply = reply; need_reply = need_reply; payload = U64 n; handles = [] }

@@ -19,6 +19,7 @@ pub struct StreamCell {
 
 /// A message of a frontend: its request, the flags REPLY and NEED_REPLY, the number of handles on its first byte, and
 /// the bytes of its body.
+#[derive(Drop)]
 pub struct PlainMessage<'a> {
     pub request: FrontendReq,
     pub reply: bool,
@@ -28,6 +29,7 @@ pub struct PlainMessage<'a> {
 }
 
 /// The first message of a stream, or why there is none, and the rest of the stream.
+#[derive(Drop)]
 pub struct Cut<'a> {
     pub outcome: Result<PlainMessage<'a>, Error>,
     pub rest: &'a [StreamCell],

@@ -1,0 +1,5 @@
+//! Values from outside, and each law at a concrete type.
+
+mod laws;
+mod rows;
+mod stream;

@@ -1,0 +1,18 @@
+//! Each law at concrete types.
+
+use crate::laws::messages::cut_in_order;
+use crate::laws::replies::{read_as_written, taken_as_served};
+use crate::laws::rows::{rows_keep_mark, silent_is_last, stays_in_step};
+use vhost_message::{BackendReq, FrontendReq};
+
+#[test]
+fn laws_of_both_channels() {
+    cut_in_order::<FrontendReq, u32>();
+    cut_in_order::<BackendReq, u32>();
+    read_as_written::<FrontendReq, u32>();
+    read_as_written::<BackendReq, u32>();
+    taken_as_served::<u32>();
+    rows_keep_mark::<u32, u32, u32>();
+    silent_is_last::<u32>();
+    stays_in_step::<u32, u32, u32>();
+}
