@@ -14,3 +14,4 @@ mod TableRows
 mod JoinedRows
 mod ReverseRows
 pub mod PlainLaws
+mod GpuRows

@@ -28,3 +28,4 @@ pub mod Pieces
 pub mod Log
 pub mod Plain
 pub mod PlainRow
+pub mod Gpu

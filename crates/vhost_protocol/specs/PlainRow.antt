@@ -1,5 +1,5 @@
 -- What the plain rows work on, as the definitions have it.
-use Rattle.std.specs.Prelude.{◌≡◌, [], Option, Result, ⊤}
+use Rattle.std.specs.Prelude.{◌≡◌, [], ⊤}
 use Rattle.vhost_message.specs.declared.frontend_req.FrontendReq.{FrontendReq}
 use Rattle.vhost_protocol.specs.declared.plain.rows.PlainSession.{PlainSession}
 use Rattle.vhost_protocol.specs.declared.plain.rows.PlainServed.{PlainServed}
@@ -7,7 +7,7 @@ use Rattle.vhost_protocol.specs.declared.plain.rows.PlainServed.TheVariants as p
 use Rattle.vhost_protocol.specs.declared.plain.rows.PlainOutcome.{PlainOutcome}
 use Rattle.vhost_protocol.specs.declared.plain.stream.PlainMessage.{PlainMessage}
 use Rattle.vhost_protocol.specs.DeviceCall.{Call, Answer}
-use Rattle.vhost_protocol.specs.Error.{Error, seen_result}
+use Rattle.vhost_protocol.specs.Error.{seen_result}
 use Rattle.vhost_protocol.specs.Handler.{Follows}
 use Rattle.vhost_protocol.specs.Plain.{message_of}
 use Rattle.vhost_protocol.specs.Row.{row_of}

@@ -4,7 +4,7 @@ use Rattle.vhost_protocol.specs.Error.{seen, seen_result}
 use Rattle.vhost_protocol.specs.Plain.{message_of}
 use Rattle.vhost_protocol.specs.PlainRow.{session_of}
 use Rattle.vhost_protocol.specs.Row.{is_bare}
-use Rattle.vhost_protocol.specs.Step.{Outcome, acked}
+use Rattle.vhost_protocol.specs.Step.{acked}
 use Rattle.vhost_protocol.proofs.plain.rows.set_owner_row.Goals as goal
 
 pub returns-in-Ok : goal.returns-in-Ok
