@@ -1,1 +1,3 @@
+pub mod ScreensAt
+pub mod Slices
 pub mod WordsAt

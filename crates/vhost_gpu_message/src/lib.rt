@@ -4,14 +4,17 @@
 mod flags;
 mod gpu_backend_req;
 mod header;
+mod limits;
 mod records;
 mod words;
 
 pub use flags::{VhostUserGpuHeaderFlag, VhostUserGpuProtocolFeatures};
 pub use gpu_backend_req::GpuBackendReq;
 pub use header::VhostUserGpuMsgHeader;
+pub use limits::VIRTIO_GPU_MAX_SCANOUTS;
 pub use records::{
     VhostUserGpuCursorPos, VhostUserGpuCursorUpdate, VhostUserGpuDMABUFScanout,
-    VhostUserGpuEdidRequest, VhostUserGpuScanout, VhostUserGpuUpdate, VirtioGpuDisplayOne,
-    VirtioGpuRect,
+    VhostUserGpuDMABUFScanout2, VhostUserGpuEdidRequest, VhostUserGpuScanout, VhostUserGpuUpdate,
+    VirtioGpuCtrlHdr, VirtioGpuDisplayOne, VirtioGpuRect, VirtioGpuRespDisplayInfo,
+    VirtioGpuRespGetEdid,
 };

@@ -3,8 +3,10 @@
 ghost use Rattle.std.specs.Prelude.{refl};
 ghost use Rattle.vhost_gpu_message.specs.Words.{AreWords};
 ghost use Rattle.vhost_gpu_message.specs.WordRecords.{update_words, update_text, update_of, update-reads_back, dmabuf_scanout_words, dmabuf_scanout_text, dmabuf_scanout_of, dmabuf_scanout-reads_back, scanout_words, scanout_text, scanout_of, scanout-reads_back};
+ghost use Rattle.vhost_gpu_message.specs.Records.{dmabuf_scanout2_text, dmabuf_scanout2_of, DmabufScanout2Fits, dmabuf_scanout2-reads_back};
 
 use crate::words::{read_words, write_words};
+use byteorder::{ByteOrder, LittleEndian};
 use vhost_message::{ByteValued, VhostUserMsgValidator};
 
 /// A rectangle of a screen, in pixels.
@@ -195,6 +197,52 @@ impl ByteValued for VhostUserGpuScanout {
 }
 
 impl VhostUserMsgValidator for VhostUserGpuScanout {
+    fn is_valid(&self) -> bool {
+        true
+    }
+}
+
+/// A rectangle of a screen that shows a buffer, with the modifier of the buffer's form.
+#[derive(Clone, Copy, Debug, Default, PartialEq, Eq)]
+pub struct VhostUserGpuDMABUFScanout2 {
+    /// The rectangle and the buffer.
+    pub dmabuf_scanout: VhostUserGpuDMABUFScanout,
+    /// The modifier of the form of a pixel.
+    pub modifier: u64,
+}
+
+impl ByteValued for VhostUserGpuDMABUFScanout2 {
+    const SIZE: usize = 48;
+
+    ghost SIZE = { 48 };
+
+    ghost text = { dmabuf_scanout2_text };
+
+    ghost read = { dmabuf_scanout2_of };
+
+    ghost fits = { DmabufScanout2Fits };
+
+    ghost text_length = { λ _ _. refl };
+
+    ghost reads_back = { dmabuf_scanout2-reads_back };
+
+    fn encode_into(&self, out: &mut [u8]) {
+        let modifier = self.modifier;
+        let (head, tail) = out.split_at_mut(40);
+        self.dmabuf_scanout.encode_into(head);
+        LittleEndian::write_u64(tail, modifier);
+    }
+
+    fn decode(b: &[u8]) -> Self {
+        let (head, tail) = b.split_at(40);
+        VhostUserGpuDMABUFScanout2 {
+            dmabuf_scanout: VhostUserGpuDMABUFScanout::decode(head),
+            modifier: LittleEndian::read_u64(tail),
+        }
+    }
+}
+
+impl VhostUserMsgValidator for VhostUserGpuDMABUFScanout2 {
     fn is_valid(&self) -> bool {
         true
     }
