@@ -1,5 +1,5 @@
 -- The bodies of a display's replies.
-use Rattle.std.specs.Prelude.{◌≡◌, ℕ, zero, suc, ◌+◌, ◌<◌, ◌^◌, List, [], ◌∷◌, ◌++◌, length, take, drop, refl, ⊤}
+use Rattle.std.specs.Prelude.{◌≡◌, ℕ, zero, suc, ◌+◌, ◌<◌, ◌^◌, List, [], ◌∷◌, ◌++◌, length, take, drop, replicate, refl, ⊤}
 use Rattle.std.specs.List.{flat_map}
 use Rattle.std.proofs.Common.{ap, sym, ◌∙◌, length-append}
 use Rattle.std.proofs.Math.Seq.{take-length}
@@ -17,6 +17,24 @@ use Rattle.vhost_gpu_message.specs.declared.records.replies.VirtioGpuRespGetEdid
 
 behind_hdr : (h : VirtioGpuCtrlHdr) (rest : List ℕ) → CtrlHdrFits h → drop 24 (ctrl_hdr_text h ++ rest) ≡ rest
 behind_hdr h rest fits = of_three (λ padding. drop 24 (ctrl_hdr_text (padded h padding) ++ rest) ≡ rest) (λ a b c. refl) h.padding fits.padding
+
+-- ---- all 0
+
+-- a head
+abbrev pub empty_hdr : VirtioGpuCtrlHdr
+empty_hdr = record { type_ = 0; flags = 0; fence_id = 0; ctx_id = 0; ring_idx = 0; padding = replicate 3 0 }
+
+-- a screen
+abbrev pub empty_screen : VirtioGpuDisplayOne
+empty_screen = record { r = record { x = 0; y = 0; width = 0; height = 0 }; enabled = 0; flags = 0 }
+
+-- a reply with screens
+abbrev pub empty_info : VirtioGpuRespDisplayInfo
+empty_info = record { hdr = empty_hdr; pmodes = replicate 16 empty_screen }
+
+-- a reply with an EDID
+abbrev pub empty_edid : VirtioGpuRespGetEdid
+empty_edid = record { hdr = empty_hdr; size = 0; padding = 0; edid = replicate 1024 0 }
 
 -- ---- the screens of a display
 

@@ -6,6 +6,8 @@ mod gpu_backend_req;
 mod header;
 mod limits;
 mod records;
+#[cfg(test)]
+mod tests;
 mod words;
 
 pub use flags::{VhostUserGpuHeaderFlag, VhostUserGpuProtocolFeatures};

@@ -2,7 +2,7 @@
 
 ghost use Rattle.std.specs.Prelude.{◌≡◌, ◌*◌, length};
 ghost use Rattle.std.specs.List.{flat_map};
-ghost use Rattle.vhost_gpu_message.specs.Replies.{screens_of, ScreensFit, display_info_text, display_info_of, DisplayInfoFits, display_info-length, display_info-reads_back, edid_text, edid_of, EdidFits, edid-length, edid-reads_back};
+ghost use Rattle.vhost_gpu_message.specs.Replies.{empty_info, empty_edid, screens_of, ScreensFit, display_info_text, display_info_of, DisplayInfoFits, display_info-length, display_info-reads_back, edid_text, edid_of, EdidFits, edid-length, edid-reads_back};
 ghost use Rattle.vhost_gpu_message.specs.WordRecords.{display_one_text};
 
 use crate::limits::VIRTIO_GPU_MAX_SCANOUTS;
@@ -21,6 +21,9 @@ pub struct VirtioGpuRespDisplayInfo {
 }
 
 impl Default for VirtioGpuRespDisplayInfo {
+    ghost is_default = { λ r. r ≡ empty_info };
+
+    /// All 0.
     fn default() -> Self {
         VirtioGpuRespDisplayInfo {
             hdr: VirtioGpuCtrlHdr::default(),
@@ -79,6 +82,9 @@ pub struct VirtioGpuRespGetEdid {
 }
 
 impl Default for VirtioGpuRespGetEdid {
+    ghost is_default = { λ r. r ≡ empty_edid };
+
+    /// All 0.
     fn default() -> Self {
         VirtioGpuRespGetEdid {
             hdr: VirtioGpuCtrlHdr::default(),
