@@ -15,3 +15,5 @@ mod JoinedRows
 mod ReverseRows
 pub mod PlainLaws
 mod GpuRows
+pub mod TakeShapes
+pub mod RegionLaws

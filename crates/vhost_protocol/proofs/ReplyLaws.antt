@@ -1,5 +1,5 @@
 -- A reply that is written is read again, whatever follows it.
-use Rattle.std.proofs.Common.{◌≡◌, ℕ, ◌+◌, ◌^◌, ◌≤◌, ◌<◌, Bool, true, ◌&&◌, cond, List, [], ◌∷◌, ◌++◌, length, take, drop, Result, Ok, Err, refl, ◌∙◌, ap, arith}
+use Rattle.std.proofs.Common.{◌≡◌, ℕ, ◌+◌, ◌^◌, ◌≤◌, ◌<◌, Bool, true, false, ◌&&◌, cond, List, [], ◌∷◌, ◌++◌, length, take, drop, Result, Ok, Err, refl, ◌∙◌, ap, arith}
 use Rattle.std.proofs.lemmas.List.{take_at, drop_at, append_assoc, length-append}
 use Rattle.vhost_message.specs.Header.{Header, header_of, header_text}
 use Rattle.vhost_protocol.specs.Stream.{Cell, cell, bytes, plain}
@@ -50,21 +50,52 @@ module _ {R H : Type 0} (number_of : R → ℕ) (is_known : Header → Bool) (is
       ∙ ap (λ x. received is_known h is_valid handles x (length more) (plain more ++ rest)) (bytes-plain H body)
       ∙ reply-payload h handles body more rest known valid
 
-  -- a reply is read by its record and the payload behind it
-  pub reply-read : (w : Written R H) (body more : List ℕ) (rest : List (Cell H)) → payload_text w.payload ≡ body ++ more
-      → number_of w.request < 2 ^ 32 → length (payload_text w.payload) < 2 ^ 32 → is_known (head_of number_of w) ≡ true → is_valid body ≡ true
+  reply-refused : (h : Header) (handles : List H) (body more : List ℕ) (rest : List (Cell H)) → is_known h ≡ true → is_valid body ≡ false
+      → tail h handles (length body) (length more) (plain body ++ (plain more ++ rest)) ≡ (Err InvalidMessage, rest)
+  unfolding tail received
+  reply-refused h handles body more rest known valid =
+      ap (λ x. received is_known h is_valid handles (bytes x) (length more) (drop (length body) (plain body ++ (plain more ++ rest)))) (take_at (plain body) (plain more ++ rest) (length body) (length-plain H body))
+      ∙ ap (λ x. received is_known h is_valid handles (bytes (plain {H = H} body)) (length more) x) (drop_at (plain body) (plain more ++ rest) (length body) (length-plain H body))
+      ∙ ap (λ x. received is_known h is_valid handles x (length more) (plain more ++ rest)) (bytes-plain H body)
+      ∙ ap (λ b. cond (b && is_valid body) (found (bytes (take (length more) cells)) (drop (length more) cells)) (Err InvalidMessage, drop (length more) cells)) known
+      ∙ ap (λ b. cond b (found (bytes (take (length more) cells)) (drop (length more) cells)) (Err InvalidMessage, drop (length more) cells)) valid
+      ∙ ap (λ x. (Err InvalidMessage, x)) (drop_at (plain more) rest (length more) (length-plain H more))
+    where
+      cells : List (Cell H)
+      cells = plain more ++ rest
+
+      found : List ℕ → List (Cell H) → Result (Received H) Error × List (Cell H)
+      found payload behind = (Ok (record { header = h; body = body; payload = payload; handles = handles }), behind)
+
+  -- the cut of a reply, by its record and the payload behind it
+  reply-parts : (w : Written R H) (body more : List ℕ) (rest : List (Cell H)) → payload_text w.payload ≡ body ++ more
+      → number_of w.request < 2 ^ 32 → length (payload_text w.payload) < 2 ^ 32
       → reply_split is_known (length body) is_valid (length more) (written_cells number_of w ++ rest)
-      ≡ (Ok (record { header = head_of number_of w; body = body; payload = more; handles = w.handles }), rest)
-  reply-read w body more rest text code size known valid =
+        ≡ tail (head_of number_of w) w.handles (length body) (length more) (plain body ++ (plain more ++ rest))
+  reply-parts w body more rest text code size =
       let long : 12 + length body ≤ length (written_cells number_of w ++ rest) = lengths in
       reply-header w (length body) (length more) rest long
       ∙ ap (λ h. tail h w.handles (length body) (length more) (plain (payload_text w.payload) ++ rest))
-      (header-read (head_of number_of w) code (flags-small w.reply w.need_reply) size)
+          (header-read (head_of number_of w) code (flags-small w.reply w.need_reply) size)
       ∙ ap (λ cells. tail (head_of number_of w) w.handles (length body) (length more) cells) cells
-      ∙ reply-behind (head_of number_of w) w.handles body more rest known valid
     where
       cells : plain (payload_text w.payload) ++ rest ≡ plain body ++ (plain more ++ rest)
       cells = ap (λ x. plain x ++ rest) text ∙ ap (λ x. x ++ rest) (plain-append H body more) ∙ append_assoc (plain body) (plain more) rest
 
       lengths : 12 + length body ≤ length (written_cells number_of w ++ rest)
       lengths = omega (arith, ap (λ x. length x) cells, length-append (plain {H = H} body) (plain more ++ rest), length-plain H body)
+
+  -- a reply is read by its record and the payload behind it
+  pub reply-read : (w : Written R H) (body more : List ℕ) (rest : List (Cell H)) → payload_text w.payload ≡ body ++ more
+      → number_of w.request < 2 ^ 32 → length (payload_text w.payload) < 2 ^ 32 → is_known (head_of number_of w) ≡ true → is_valid body ≡ true
+      → reply_split is_known (length body) is_valid (length more) (written_cells number_of w ++ rest)
+        ≡ (Ok (record { header = head_of number_of w; body = body; payload = more; handles = w.handles }), rest)
+  reply-read w body more rest text code size known valid =
+      reply-parts w body more rest text code size ∙ reply-behind (head_of number_of w) w.handles body more rest known valid
+
+  -- one whose record is not valid is read as far
+  pub reply-invalid : (w : Written R H) (body more : List ℕ) (rest : List (Cell H)) → payload_text w.payload ≡ body ++ more
+      → number_of w.request < 2 ^ 32 → length (payload_text w.payload) < 2 ^ 32 → is_known (head_of number_of w) ≡ true → is_valid body ≡ false
+      → reply_split is_known (length body) is_valid (length more) (written_cells number_of w ++ rest) ≡ (Err InvalidMessage, rest)
+  reply-invalid w body more rest text code size known valid =
+      reply-parts w body more rest text code size ∙ reply-refused (head_of number_of w) w.handles body more rest known valid

@@ -109,16 +109,16 @@ module _ (H : Type 0) where
 
   -- ---- replies without payload
 
-  short-plainly : (call : FrontendCall H) → IsShort call → IsPlainly call
+  pub short-plainly : (call : FrontendCall H) → IsShort call → IsPlainly call
   short-plainly (GetConfig offset size flags buffer) short = absurd short
   short-plainly _ short = tt
 
-  short-room : (call : FrontendCall H) → IsShort call → 0 ≡ room call
+  pub short-room : (call : FrontendCall H) → IsShort call → 0 ≡ room call
   short-room (SetMemTable infos) short = absurd short
   short-room (GetConfig offset size flags buffer) short = absurd short
   short-room _ short = refl
 
-  short-sized : (call : FrontendCall H) (r : Received H) → IsShort call → is_sized call r ≡ true
+  pub short-sized : (call : FrontendCall H) (r : Received H) → IsShort call → is_sized call r ≡ true
   short-sized (SetMemTable infos) r short = absurd short
   short-sized (GetConfig offset size flags buffer) r short = absurd short
   short-sized _ r short = refl

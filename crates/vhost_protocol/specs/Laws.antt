@@ -1,11 +1,16 @@
 -- Laws of the definitions. Functions without a body, in `src/laws`, have them as contracts.
-use Rattle.std.specs.Prelude.{◌≡◌, ℕ, ◌+◌, ◌^◌, ◌<◌, ◌≤◌, ◌⊎◌, Bool, true, false, List, [], ◌++◌, length, Option, Some, Result, Ok, ⊤}
+use Rattle.std.specs.Prelude.{◌≡◌, ℕ, ◌+◌, ◌^◌, ◌<◌, ◌≤◌, ◌⊎◌, Bool, true, false, List, [], ◌++◌, length, All, Option, Some, Result, Ok, ⊤}
 use Rattle.vhost_message.specs.Bits.{has_bit}
 use Rattle.vhost_message.specs.declared.frontend_req.FrontendReq.{FrontendReq}
+use Rattle.vhost_message.specs.declared.records.config.VhostUserConfig.{VhostUserConfig}
+use Rattle.vhost_message.specs.declared.records.memory.VhostUserMemoryRegion.{VhostUserMemoryRegion}
 use Rattle.vhost_message.specs.FrontendReq.{request_number}
 use Rattle.vhost_message.specs.Header.{Header}
+use Rattle.vhost_message.specs.LongRecords.{ShMemConfigFits}
+use Rattle.vhost_message.specs.RecordLaws.{RegionFits, SingleRegionFits, VringStateFits, ConfigFits, InflightFits, LogFits}
+use Rattle.vhost_message.specs.Valid.{is_valid_config, is_valid_inflight, is_valid_log}
 use Rattle.vhost_protocol.specs.AnswerTable.{answer}
-use Rattle.vhost_protocol.specs.Ask.{Awaited, Ack, Reply, AU64, AnEmpty}
+use Rattle.vhost_protocol.specs.Ask.{Awaited, Ack, Reply, Shape, AU64, AnEmpty, TheRegions, ARegion, AShmem, ARingState, AConfig, AnInflight, ALog}
 use Rattle.vhost_protocol.specs.Error.{Error}
 use Rattle.vhost_protocol.specs.FrontendCall.{FrontendCall, SetMemTable, GetConfig, Frontend}
 use Rattle.vhost_protocol.specs.Joined.{read_as}
@@ -14,7 +19,7 @@ use Rattle.vhost_protocol.specs.ReplySplit.{reply_split}
 use Rattle.vhost_protocol.specs.Served.{Served, Acknowledged, Replied, reply, cells_of}
 use Rattle.vhost_protocol.specs.Stream.{Cell}
 use Rattle.vhost_protocol.specs.Take.{take}
-use Rattle.vhost_protocol.specs.Written.{Empty, U64, Written, head_of, payload_text, written_cells}
+use Rattle.vhost_protocol.specs.Written.{Payload, Empty, U64, Regions, OneRegion, Shmem, RingState, ConfigBytes, InflightArea, LogArea, Written, head_of, payload_text, written_cells}
 
 -- ---- how a stream is cut; for every type of codes, and whatever handles are wanted
 
@@ -79,3 +84,45 @@ TakesNumber H = (call : FrontendCall H) (sent : Header) (f : Frontend) (r : Fron
 abbrev pub TakesEmpty : (H : Type 0) → Type 0
 TakesEmpty H = (call : FrontendCall H) (sent : Header) (f : Frontend) (r : FrontendReq) → IsShort call → IsSentFor r sent
     → (handles : List H) → IsTaken call (Reply AnEmpty) sent f r (Replied Empty handles)
+
+-- the numbers of a payload are within their fields
+abbrev pub PayloadFits : Payload → Type 0
+PayloadFits (U64 n) = n < 2 ^ 64
+PayloadFits (Regions rs) = All RegionFits rs
+PayloadFits (OneRegion r) = SingleRegionFits r
+PayloadFits (Shmem c) = ShMemConfigFits c
+PayloadFits (RingState v) = VringStateFits v
+PayloadFits (ConfigBytes c bytes) = ConfigFits c
+PayloadFits (InflightArea i) = InflightFits i
+PayloadFits (LogArea l) = LogFits l
+PayloadFits _ = ⊤
+
+-- as many regions as the call has, and at least one
+abbrev pub IsTableOf : {H : Type 0} → FrontendCall H → List VhostUserMemoryRegion → Type 0
+IsTableOf (SetMemTable infos) rs = (length rs ≡ length infos) × (1 ≤ length rs) × (length rs ≤ 32)
+IsTableOf _ rs = ⊥
+
+-- a bare record of size 0, or a valid one with as many bytes as the call has room for, which is at least one
+abbrev pub IsConfigOf : {H : Type 0} → FrontendCall H → VhostUserConfig → List ℕ → Type 0
+IsConfigOf (GetConfig offset size flags buffer) c bytes =
+    (1 ≤ length buffer) × (length buffer ≤ 4084)
+    × (((c.size ≡ 0) × (bytes ≡ [])) ⊎ ((length bytes ≡ length buffer) × (is_valid_config c ≡ true)))
+IsConfigOf _ c bytes = ⊥
+
+-- a payload is a reply that the call may have
+abbrev pub IsReplyOf : {H : Type 0} → FrontendCall H → Shape → Payload → Type 0
+IsReplyOf call AnEmpty Empty = IsShort call
+IsReplyOf call AU64 (U64 n) = IsShort call
+IsReplyOf call ARegion (OneRegion r) = IsShort call
+IsReplyOf call AShmem (Shmem c) = IsShort call
+IsReplyOf call ARingState (RingState v) = IsShort call
+IsReplyOf call AnInflight (InflightArea i) = IsShort call × (is_valid_inflight i ≡ true)
+IsReplyOf call ALog (LogArea l) = IsShort call × (is_valid_log l ≡ true)
+IsReplyOf call TheRegions (Regions rs) = IsTableOf call rs
+IsReplyOf call AConfig (ConfigBytes c bytes) = IsConfigOf call c bytes
+IsReplyOf call _ _ = ⊥
+
+-- a reply that the call may have is taken
+abbrev pub TakesReply : (H : Type 0) → Type 0
+TakesReply H = (call : FrontendCall H) (sent : Header) (f : Frontend) (r : FrontendReq) (shape : Shape) → IsSentFor r sent
+    → (payload : Payload) (handles : List H) → IsReplyOf call shape payload → PayloadFits payload → IsTaken call (Reply shape) sent f r (Replied payload handles)
