@@ -71,12 +71,12 @@ module _ {R H : Type 0} (number_of : R → ℕ) (is_known : Header → Bool) (is
   reply-parts : (w : Written R H) (body more : List ℕ) (rest : List (Cell H)) → payload_text w.payload ≡ body ++ more
       → number_of w.request < 2 ^ 32 → length (payload_text w.payload) < 2 ^ 32
       → reply_split is_known (length body) is_valid (length more) (written_cells number_of w ++ rest)
-        ≡ tail (head_of number_of w) w.handles (length body) (length more) (plain body ++ (plain more ++ rest))
+      ≡ tail (head_of number_of w) w.handles (length body) (length more) (plain body ++ (plain more ++ rest))
   reply-parts w body more rest text code size =
       let long : 12 + length body ≤ length (written_cells number_of w ++ rest) = lengths in
       reply-header w (length body) (length more) rest long
       ∙ ap (λ h. tail h w.handles (length body) (length more) (plain (payload_text w.payload) ++ rest))
-          (header-read (head_of number_of w) code (flags-small w.reply w.need_reply) size)
+      (header-read (head_of number_of w) code (flags-small w.reply w.need_reply) size)
       ∙ ap (λ cells. tail (head_of number_of w) w.handles (length body) (length more) cells) cells
     where
       cells : plain (payload_text w.payload) ++ rest ≡ plain body ++ (plain more ++ rest)
@@ -89,7 +89,7 @@ module _ {R H : Type 0} (number_of : R → ℕ) (is_known : Header → Bool) (is
   pub reply-read : (w : Written R H) (body more : List ℕ) (rest : List (Cell H)) → payload_text w.payload ≡ body ++ more
       → number_of w.request < 2 ^ 32 → length (payload_text w.payload) < 2 ^ 32 → is_known (head_of number_of w) ≡ true → is_valid body ≡ true
       → reply_split is_known (length body) is_valid (length more) (written_cells number_of w ++ rest)
-        ≡ (Ok (record { header = head_of number_of w; body = body; payload = more; handles = w.handles }), rest)
+      ≡ (Ok (record { header = head_of number_of w; body = body; payload = more; handles = w.handles }), rest)
   reply-read w body more rest text code size known valid =
       reply-parts w body more rest text code size ∙ reply-behind (head_of number_of w) w.handles body more rest known valid
 

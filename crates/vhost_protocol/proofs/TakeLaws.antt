@@ -38,7 +38,7 @@ reply-answers r payload handles sent code flag =
 
 module _ (H : Type 0) where
   -- what a reply to a request is received as
-  pub the_reply : FrontendReq → Payload → List H → List ℕ → List ℕ → Received H
+  abbrev pub the_reply : FrontendReq → Payload → List H → List ℕ → List ℕ → Received H
   the_reply r payload handles body more = record { header = head_of request_number (reply_to r payload handles); body = body; payload = more; handles = handles }
 
   -- A payload that the call's reply may have: a record of the shape, and as much behind it as there is room for.
@@ -57,7 +57,6 @@ module _ (H : Type 0) where
   pub reply-cut : (call : FrontendCall H) (shape : Shape) (r : FrontendReq) (payload : Payload) (handles : List H) (rest : List (Cell H)) (k : IsReadable call shape r payload handles)
       → reply_split is_known (record_size shape) (is_valid_record shape) (room call) (written_cells request_number (reply_to r payload handles) ++ rest)
       ≡ (Ok (the_reply r payload handles k.body k.more), rest)
-  unfolding the_reply
   reply-cut call shape r payload handles rest k =
       let w : Written FrontendReq H = reply_to r payload handles in
       ap (λ n. reply_split is_known n (is_valid_record shape) (room call) (written_cells request_number w ++ rest)) (sym k.size)
@@ -65,10 +64,9 @@ module _ (H : Type 0) where
       ∙ reply-read request_number is_known (is_valid_record shape) w k.body k.more rest k.text (request-small r) (omega (arith, k.small)) (reply-known r payload handles k.small) k.valid
 
   -- a reply that answers is understood as what was served
-  reply-understood : (call : FrontendCall H) (shape : Shape) (sent : Header) (f : Frontend) (r : FrontendReq) (payload : Payload) (handles : List H) (k : IsReadable call shape r payload handles)
+  pub reply-understood : (call : FrontendCall H) (shape : Shape) (sent : Header) (f : Frontend) (r : FrontendReq) (payload : Payload) (handles : List H) (k : IsReadable call shape r payload handles)
       → sent.code ≡ request_number r → has_bit sent.flags 2 ≡ false
       → understood call (Reply shape) sent f (Ok (the_reply r payload handles k.body k.more)) ≡ answer call (Reply shape) f (Replied payload handles)
-  unfolding the_reply
   reply-understood call shape sent f r payload handles k code flag =
       ap (λ b. cond (b && is_sized call (the_reply r payload handles k.body k.more)) (answer call (Reply shape) f (Replied (payload_of shape k.body k.more) handles)) (Some (answered f (Err InvalidMessage)))) (reply-answers r payload handles sent code flag)
       ∙ ap (λ b. cond b (answer call (Reply shape) f (Replied (payload_of shape k.body k.more) handles)) (Some (answered f (Err InvalidMessage)))) k.sized

@@ -156,7 +156,7 @@ from_reply CheckDeviceState f p hs = as_u64 p (λ n. answered f (alone hs (only_
 from_reply PostcopyAdvise f p hs = as_empty p (changed f (record f { postcopy = Advise }) (with_one hs HandleOf))
 from_reply _ f p hs = None
 
--- nothing came where something was awaited
+-- nothing came where a reply was awaited
 abbrev pub unanswered : {H : Type 0} → FrontendCall H → Error
 unanswered (GetConfig offset size flags []) = InvalidParam
 unanswered _ = PartialMessage
@@ -164,7 +164,7 @@ unanswered _ = PartialMessage
 -- The caller's answer, from what was awaited and what came; pairs that give None never come.
 abbrev pub answer : {H : Type 0} → FrontendCall H → Awaited → Frontend → Served H → Option (Answered H)
 answer call Nobody f Silent = Some (answered (after_success f call) (Ok (plain_value call)))
-answer call Ack f Silent = Some (answered f (Err (unanswered call)))
+answer call Ack f Silent = Some (answered f (Err PartialMessage))
 answer call (Reply shape) f Silent = Some (answered f (Err (unanswered call)))
 answer call Ack f (Acknowledged agreed) =
     Some (if agreed then answered (after_success f call) (Ok (plain_value call)) else answered f (Err BackendInternalError))

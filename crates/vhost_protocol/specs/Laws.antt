@@ -1,5 +1,5 @@
 -- Laws of the definitions. Functions without a body, in `src/laws`, have them as contracts.
-use Rattle.std.specs.Prelude.{◌≡◌, ℕ, ◌+◌, ◌^◌, ◌<◌, ◌≤◌, ◌⊎◌, Bool, true, false, List, [], ◌++◌, length, All, Option, Some, Result, Ok, ⊤}
+use Rattle.std.specs.Prelude.{◌≡◌, ℕ, ◌+◌, ◌^◌, ◌<◌, ◌≤◌, ◌⊎◌, Bool, true, false, List, [], ◌∷◌, ◌++◌, length, All, Option, Some, Result, Ok, ⊤}
 use Rattle.vhost_message.specs.Bits.{has_bit}
 use Rattle.vhost_message.specs.declared.frontend_req.FrontendReq.{FrontendReq}
 use Rattle.vhost_message.specs.declared.records.config.VhostUserConfig.{VhostUserConfig}
@@ -8,15 +8,15 @@ use Rattle.vhost_message.specs.FrontendReq.{request_number}
 use Rattle.vhost_message.specs.Header.{Header}
 use Rattle.vhost_message.specs.LongRecords.{ShMemConfigFits}
 use Rattle.vhost_message.specs.RecordLaws.{RegionFits, SingleRegionFits, VringStateFits, ConfigFits, InflightFits, LogFits}
-use Rattle.vhost_message.specs.Valid.{is_valid_config, is_valid_inflight, is_valid_log}
+use Rattle.vhost_message.specs.Valid.{is_valid_config, is_valid_log}
 use Rattle.vhost_protocol.specs.AnswerTable.{answer}
 use Rattle.vhost_protocol.specs.Ask.{Awaited, Ack, Reply, Shape, AU64, AnEmpty, TheRegions, ARegion, AShmem, ARingState, AConfig, AnInflight, ALog}
 use Rattle.vhost_protocol.specs.Error.{Error}
-use Rattle.vhost_protocol.specs.FrontendCall.{FrontendCall, SetMemTable, GetConfig, Frontend}
+use Rattle.vhost_protocol.specs.FrontendCall.{FrontendCall, SetMemTable, GetConfig, GetInflightFd, Frontend}
 use Rattle.vhost_protocol.specs.Joined.{read_as}
 use Rattle.vhost_protocol.specs.Split.{Message, split, Splits}
 use Rattle.vhost_protocol.specs.ReplySplit.{reply_split}
-use Rattle.vhost_protocol.specs.Served.{Served, Acknowledged, Replied, reply, cells_of}
+use Rattle.vhost_protocol.specs.Served.{Served, Silent, Acknowledged, Replied, reply, cells_of}
 use Rattle.vhost_protocol.specs.Stream.{Cell}
 use Rattle.vhost_protocol.specs.Take.{take}
 use Rattle.vhost_protocol.specs.Written.{Payload, Empty, U64, Regions, OneRegion, Shmem, RingState, ConfigBytes, InflightArea, LogArea, Written, head_of, payload_text, written_cells}
@@ -102,27 +102,37 @@ abbrev pub IsTableOf : {H : Type 0} → FrontendCall H → List VhostUserMemoryR
 IsTableOf (SetMemTable infos) rs = (length rs ≡ length infos) × (1 ≤ length rs) × (length rs ≤ 32)
 IsTableOf _ rs = ⊥
 
--- a bare record of size 0, or a valid one with as many bytes as the call has room for, which is at least one
-abbrev pub IsConfigOf : {H : Type 0} → FrontendCall H → VhostUserConfig → List ℕ → Type 0
-IsConfigOf (GetConfig offset size flags buffer) c bytes =
-    (1 ≤ length buffer) × (length buffer ≤ 4084)
-    × (((c.size ≡ 0) × (bytes ≡ [])) ⊎ ((length bytes ≡ length buffer) × (is_valid_config c ≡ true)))
-IsConfigOf _ c bytes = ⊥
+-- A bare record of size 0 without handles, or a valid one with as many bytes as the call has room for. There is room for one at least.
+abbrev pub IsConfigOf : {H : Type 0} → FrontendCall H → VhostUserConfig → List ℕ → List H → Type 0
+IsConfigOf (GetConfig offset size flags []) c bytes handles = ⊥
+IsConfigOf (GetConfig offset size flags (b ∷ buffer)) c bytes handles =
+    ((c.size ≡ 0) × (bytes ≡ []) × (handles ≡ [])) ⊎ ((length bytes ≡ length (b ∷ buffer)) × (12 + length bytes ≤ 4096) × (is_valid_config c ≡ true))
+IsConfigOf _ c bytes handles = ⊥
 
--- a payload is a reply that the call may have
-abbrev pub IsReplyOf : {H : Type 0} → FrontendCall H → Shape → Payload → Type 0
-IsReplyOf call AnEmpty Empty = IsShort call
-IsReplyOf call AU64 (U64 n) = IsShort call
-IsReplyOf call ARegion (OneRegion r) = IsShort call
-IsReplyOf call AShmem (Shmem c) = IsShort call
-IsReplyOf call ARingState (RingState v) = IsShort call
-IsReplyOf call AnInflight (InflightArea i) = IsShort call × (is_valid_inflight i ≡ true)
-IsReplyOf call ALog (LogArea l) = IsShort call × (is_valid_log l ≡ true)
-IsReplyOf call TheRegions (Regions rs) = IsTableOf call rs
-IsReplyOf call AConfig (ConfigBytes c bytes) = IsConfigOf call c bytes
-IsReplyOf call _ _ = ⊥
+-- the one call that is answered by an area, which need not be valid
+abbrev pub IsInflightOf : {H : Type 0} → FrontendCall H → Type 0
+IsInflightOf (GetInflightFd asked) = ⊤
+IsInflightOf _ = ⊥
+
+-- a payload with these handles is a reply that the call may have
+abbrev pub IsReplyOf : {H : Type 0} → FrontendCall H → Shape → Payload → List H → Type 0
+IsReplyOf call AnEmpty Empty handles = IsShort call
+IsReplyOf call AU64 (U64 n) handles = IsShort call
+IsReplyOf call ARegion (OneRegion r) handles = IsShort call
+IsReplyOf call AShmem (Shmem c) handles = IsShort call
+IsReplyOf call ARingState (RingState v) handles = IsShort call
+IsReplyOf call AnInflight (InflightArea i) handles = IsInflightOf call
+IsReplyOf call ALog (LogArea l) handles = IsShort call × (is_valid_log l ≡ true)
+IsReplyOf call TheRegions (Regions rs) handles = IsTableOf call rs
+IsReplyOf call AConfig (ConfigBytes c bytes) handles = IsConfigOf call c bytes handles
+IsReplyOf call _ _ handles = ⊥
 
 -- a reply that the call may have is taken
 abbrev pub TakesReply : (H : Type 0) → Type 0
 TakesReply H = (call : FrontendCall H) (sent : Header) (f : Frontend) (r : FrontendReq) (shape : Shape) → IsSentFor r sent
-    → (payload : Payload) (handles : List H) → IsReplyOf call shape payload → PayloadFits payload → IsTaken call (Reply shape) sent f r (Replied payload handles)
+    → (payload : Payload) (handles : List H) → IsReplyOf call shape payload handles → PayloadFits payload → IsTaken call (Reply shape) sent f r (Replied payload handles)
+
+-- from a stream at its end nothing is taken: the answer is that of a silent handler
+abbrev pub TakesNothing : (H : Type 0) → Type 0
+TakesNothing H = (call : FrontendCall H) (awaited : Awaited) (sent : Header) (f : Frontend) → has_bit sent.flags 2 ≡ false
+    → take call awaited sent f [] ≡ (answer call awaited f Silent, [])

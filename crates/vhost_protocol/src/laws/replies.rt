@@ -1,6 +1,6 @@
 //! How a reply is read, and what a frontend takes of it.
 
-ghost use Rattle.vhost_protocol.specs.Laws.{ReplyIsRead, TakesAck, TakesNumber, TakesEmpty};
+ghost use Rattle.vhost_protocol.specs.Laws.{ReplyIsRead, TakesAck, TakesNumber, TakesEmpty, TakesReply, TakesNothing};
 
 use vhost_message::Req;
 
@@ -14,4 +14,6 @@ pub fn taken_as_served<H>()
     ensures acknowledgement { TakesAck H }
     ensures number { TakesNumber H }
     ensures empty { TakesEmpty H }
+    ensures reply { TakesReply H }
+    ensures nothing { TakesNothing H }
 {}
