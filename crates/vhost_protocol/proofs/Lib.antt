@@ -17,3 +17,4 @@ pub mod PlainLaws
 mod GpuRows
 pub mod TakeShapes
 pub mod RegionLaws
+pub mod ReverseLaws

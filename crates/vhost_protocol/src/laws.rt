@@ -2,4 +2,5 @@
 
 pub mod messages;
 pub mod replies;
+pub mod reverse;
 pub mod rows;

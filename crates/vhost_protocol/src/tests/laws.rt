@@ -2,6 +2,7 @@
 
 use crate::laws::messages::cut_in_order;
 use crate::laws::replies::{read_as_written, taken_as_served};
+use crate::laws::reverse::answered_as_served;
 use crate::laws::rows::{rows_keep_mark, silent_is_last, stays_in_step};
 use vhost_message::{BackendReq, FrontendReq};
 
@@ -12,6 +13,7 @@ fn laws_of_both_channels() {
     read_as_written::<FrontendReq, u32>();
     read_as_written::<BackendReq, u32>();
     taken_as_served::<u32>();
+    answered_as_served::<u32>();
     rows_keep_mark::<u32, u32, u32>();
     silent_is_last::<u32>();
     stays_in_step::<u32, u32, u32>();
