@@ -35,7 +35,7 @@ unfolding gpu
 cursor_image = refl
 
 -- a record of 48 bytes
-modified : length (gpu (SetDmabufScanout2 (record { scanout_id = 0; x = 0; y = 0; width = 0; height = 0; fd_width = 0; fd_height = 0; fd_stride = 0; fd_flags = 0; fd_drm_fourcc = 0 }) 0 None)) ≡ 60
+modified : length (gpu (SetDmabufScanout2 (record { dmabuf_scanout = record { scanout_id = 0; x = 0; y = 0; width = 0; height = 0; fd_width = 0; fd_height = 0; fd_stride = 0; fd_flags = 0; fd_drm_fourcc = 0 }; modifier = 0 }) None)) ≡ 60
 unfolding gpu
 modified = refl
 

@@ -1,26 +1,22 @@
 -- The reverse channel: what came is known to the caller, and is read again.
-use Rattle.std.proofs.Common.{◌≡◌, ℕ, ◌^◌, ◌≤◌, ◌<◌, Bool, true, false, cond, not, ◌&&◌, List, [], ◌∷◌, ◌++◌, length, Option, Some, None, Result, Ok, Err, refl, sym, ◌∙◌, ap, subst, arith, lit<}
+use Rattle.std.proofs.Common.{◌≡◌, ℕ, ◌^◌, ◌<◌, Bool, true, false, cond, not, ◌&&◌, List, [], Option, Some, None, Result, Err, refl, sym, ◌∙◌, ap, arith, lit<}
 use Rattle.std.specs.Prelude.{ℤ, is_some, ◌==◌}
 use Rattle.std.proofs.lemmas.Bool.{eq-eqb}
 use Rattle.byteorder.specs.Numbers.{little_number-reads_back}
 use Rattle.vhost_message.specs.BackendReq.{backend_request_of, backend_request_number, backend_request_of-number}
 use Rattle.vhost_message.specs.Bits.{has_bit}
 use Rattle.vhost_message.specs.declared.backend_req.BackendReq.{BackendReq}
-use Rattle.vhost_message.specs.declared.backend_req.BackendReq.TheVariants.{IOTLB_MSG, CONFIG_CHANGE_MSG, SHARED_OBJECT_ADD, SHARED_OBJECT_REMOVE, SHARED_OBJECT_LOOKUP, SHMEM_MAP, SHMEM_UNMAP}
-use Rattle.vhost_message.specs.declared.records.shared.VhostUserSharedMsg.{VhostUserSharedMsg}
-use Rattle.vhost_message.specs.declared.records.shmem.VhostUserMMap.{VhostUserMMap}
-use Rattle.vhost_message.specs.Header.{Header}
+use Rattle.vhost_message.specs.declared.backend_req.BackendReq.TheVariants.{IOTLB_MSG}
 use Rattle.vhost_message.specs.Text.{digits, number_at}
-use Rattle.vhost_protocol.specs.Error.{Error, Raw, SocketBroken, InvalidMessage}
+use Rattle.vhost_protocol.specs.Error.{Error, InvalidMessage}
 use Rattle.vhost_protocol.specs.IoError.{IoError, Of}
 use Rattle.vhost_protocol.specs.Joined.{read_as}
-use Rattle.vhost_protocol.specs.Reverse.{ReverseCall, HandleConfigChange, SharedObjectAdd, SharedObjectRemove, SharedObjectLookup, ShmemMap, ShmemUnmap, Backend, ReverseAsked, Refuses, sends_unless, reverse_ask, of_number, reverse_understood, Server, ReverseOutcome, ReverseStep, Refused, reverse_row, handed_on, result_number}
+use Rattle.vhost_protocol.specs.Reverse.{HandleConfigChange, SharedObjectAdd, SharedObjectRemove, SharedObjectLookup, ShmemMap, ShmemUnmap, Backend, ReverseAsked, Refuses, sends_unless, of_number, reverse_understood, Server, ReverseStep, Refused, reverse_row}
 use Rattle.vhost_protocol.specs.ReverseLaws.{IsAnswered, AllAnswered, StaysAnswered, ReverseAnswers, ReverseTakes}
 use Rattle.vhost_protocol.specs.Row.{always}
 use Rattle.vhost_protocol.specs.Served.{Silent, Replied}
 use Rattle.vhost_protocol.specs.Split.{announced}
-use Rattle.vhost_protocol.specs.Stream.{Cell}
-use Rattle.vhost_protocol.specs.Written.{Payload, U64, Written, head_of, payload_text, reply_to}
+use Rattle.vhost_protocol.specs.Written.{Payload, U64, Written, head_of, reply_to}
 use Rattle.vhost_protocol.proofs.ReplyLaws.{reply-read}
 use Rattle.vhost_protocol.proofs.TextLaws.{sendable-valid}
 

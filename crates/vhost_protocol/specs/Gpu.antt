@@ -7,9 +7,11 @@ use Rattle.vhost_gpu_message.specs.declared.records.cursor.VhostUserGpuCursorUpd
 use Rattle.vhost_gpu_message.specs.declared.records.edid.VhostUserGpuEdidRequest.{VhostUserGpuEdidRequest}
 use Rattle.vhost_gpu_message.specs.declared.records.scanout.VhostUserGpuUpdate.{VhostUserGpuUpdate}
 use Rattle.vhost_gpu_message.specs.declared.records.scanout.VhostUserGpuDMABUFScanout.{VhostUserGpuDMABUFScanout}
+use Rattle.vhost_gpu_message.specs.declared.records.scanout.VhostUserGpuDMABUFScanout2.{VhostUserGpuDMABUFScanout2}
 use Rattle.vhost_gpu_message.specs.declared.records.scanout.VhostUserGpuScanout.{VhostUserGpuScanout}
 use Rattle.vhost_gpu_message.specs.GpuBackendReq.{gpu_request_of, gpu_request_number}
 use Rattle.vhost_gpu_message.specs.GpuHeader.{is_valid_gpu_header}
+use Rattle.vhost_gpu_message.specs.Records.{dmabuf_scanout2_text}
 use Rattle.vhost_gpu_message.specs.WordRecords.{edid_request_text, update_text, dmabuf_scanout_text, cursor_pos_text, cursor_update_text, scanout_text}
 use Rattle.vhost_message.specs.Header.{Header, header_text, is_reply_for}
 use Rattle.vhost_message.specs.Text.{digits}
@@ -28,7 +30,7 @@ pub data GpuCall (H : Type 0) : Type 0 where
   SetScanout : VhostUserGpuScanout → GpuCall H
   UpdateScanout : VhostUserGpuUpdate → (image : List ℕ) → GpuCall H
   SetDmabufScanout : VhostUserGpuDMABUFScanout → Option H → GpuCall H
-  SetDmabufScanout2 : VhostUserGpuDMABUFScanout → (modifier : ℕ) → Option H → GpuCall H
+  SetDmabufScanout2 : VhostUserGpuDMABUFScanout2 → Option H → GpuCall H
   UpdateDmabufScanout : VhostUserGpuUpdate → GpuCall H
   MoveCursor : VhostUserGpuCursorPos → GpuCall H
   HideCursor : VhostUserGpuCursorPos → GpuCall H
@@ -74,7 +76,7 @@ gpu_row (GetEdid e) = sent code.GET_EDID (edid_request_text e) [] (Some TheEdid)
 gpu_row (SetScanout s) = sent code.SCANOUT (scanout_text s) [] None
 gpu_row (UpdateScanout u image) = sent code.UPDATE (update_text u) image None
 gpu_row (SetDmabufScanout d h) = record (sent code.DMABUF_SCANOUT (dmabuf_scanout_text d) [] None) { handles = perhaps h }
-gpu_row (SetDmabufScanout2 d modifier h) = record (sent code.DMABUF_SCANOUT2 (dmabuf_scanout_text d ++ digits 8 modifier) [] None) { handles = perhaps h }
+gpu_row (SetDmabufScanout2 d h) = record (sent code.DMABUF_SCANOUT2 (dmabuf_scanout2_text d) [] None) { handles = perhaps h }
 gpu_row (UpdateDmabufScanout u) = sent code.DMABUF_UPDATE (update_text u) [] (Some TheEmpty)
 gpu_row (MoveCursor c) = sent code.CURSOR_POS (cursor_pos_text c) [] None
 gpu_row (HideCursor c) = sent code.CURSOR_POS_HIDE (cursor_pos_text c) [] None

@@ -1,14 +1,13 @@
 -- Laws of the reverse channel.
-use Rattle.std.specs.Prelude.{◌≡◌, ℕ, ◌^◌, ◌<◌, Bool, true, false, List, [], ◌++◌, length, is_err, Option, Some, Result, ⊤}
+use Rattle.std.specs.Prelude.{◌≡◌, ℕ, ◌^◌, ◌<◌, Bool, true, false, List, [], ◌++◌, Some, Result, ⊤}
 use Rattle.vhost_message.specs.BackendReq.{backend_request_number}
 use Rattle.vhost_message.specs.Bits.{has_bit}
 use Rattle.vhost_message.specs.declared.backend_req.BackendReq.{BackendReq}
 use Rattle.vhost_message.specs.Header.{Header}
-use Rattle.vhost_protocol.specs.Error.{Error}
 use Rattle.vhost_protocol.specs.IoError.{IoError}
 use Rattle.vhost_protocol.specs.Joined.{read_as}
 use Rattle.vhost_protocol.specs.Reverse.{ReverseCall, Backend, ReverseAsked, Refuses, Sends, reverse_ask, reverse_answer, reverse_take, of_number, Server, ReverseOutcome, ReverseStep, Refused, Calls, reverse_row}
-use Rattle.vhost_protocol.specs.Served.{Silent, Replied, reply, cells_of}
+use Rattle.vhost_protocol.specs.Served.{Replied, reply, cells_of}
 use Rattle.vhost_protocol.specs.Stream.{Cell}
 use Rattle.vhost_protocol.specs.Written.{U64}
 

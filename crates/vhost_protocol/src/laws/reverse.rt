@@ -7,5 +7,4 @@ ghost use Rattle.vhost_protocol.specs.ReverseLaws.{ReverseAnswers, ReverseTakes}
 pub fn answered_as_served<H>()
     ensures answers { ReverseAnswers H }
     ensures takes { ReverseTakes H }
-{
-}
+{}
