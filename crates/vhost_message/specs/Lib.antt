@@ -16,3 +16,4 @@ pub mod Valid
 pub mod RecordLaws
 pub mod LongRecords
 pub mod Descriptors
+pub mod VringConfig

@@ -17,6 +17,7 @@ mod req;
 #[cfg(test)]
 mod tests;
 mod transfer_state;
+mod vring_config;
 
 pub use backend_req::BackendReq;
 pub use bytes::{ByteValued, VhostUserMsgValidator};
@@ -44,3 +45,4 @@ pub use records::{
 };
 pub use req::{MsgHeader, Req};
 pub use transfer_state::{VhostTransferStateDirection, VhostTransferStatePhase};
+pub use vring_config::VringConfigData;
