@@ -18,3 +18,4 @@ mod GpuRows
 pub mod TakeShapes
 pub mod RegionLaws
 pub mod ReverseLaws
+pub mod NegotiationLaws

@@ -1,5 +1,5 @@
 -- What stays true of both sides: laws of the protocol table and of the calls of a frontend.
-use Rattle.std.specs.Prelude.{◌≡◌, ◌^◌, ◌<◌, true, false, Some, Result, Err, is_err, ⊤}
+use Rattle.std.specs.Prelude.{◌≡◌, ◌^◌, ◌<◌, Bool, true, false, Some, Result, Err, is_err, ⊤, IfSome}
 use Rattle.vhost_message.specs.Bits.{has_bit}
 use Rattle.vhost_message.specs.declared.frontend_req.FrontendReq.{FrontendReq}
 use Rattle.vhost_protocol.specs.AnswerTable.{Answered, answer}
@@ -7,12 +7,14 @@ use Rattle.vhost_protocol.specs.Ask.{Awaited, Asked, Refuses, Answers, Sends, as
 use Rattle.vhost_protocol.specs.DeviceCall.{Answer}
 use Rattle.vhost_protocol.specs.Error.{Error}
 use Rattle.vhost_protocol.specs.Features.{PROTOCOL_FEATURES, REPLY_ACK}
-use Rattle.vhost_protocol.specs.FrontendCall.{FrontendCall, SetFeatures, SetProtocolFeatures, Frontend}
+use Rattle.vhost_protocol.specs.FrontendCall.{FrontendCall, GetFeatures, SetFeatures, SetProtocolFeatures, Frontend}
 use Rattle.vhost_protocol.specs.Joined.{AgreeOn, is_last, is_silent, read_as}
 use Rattle.vhost_protocol.specs.Row.{row, row_of}
+use Rattle.vhost_protocol.specs.Served.{Served, Replied}
 use Rattle.vhost_protocol.specs.Session.{Session}
 use Rattle.vhost_protocol.specs.Split.{Message}
 use Rattle.vhost_protocol.specs.Step.{Outcome, Step, Refused, Calls, OpensBackend, OpensGpu}
+use Rattle.vhost_protocol.specs.Written.{U64}
 
 -- ---- the table
 
@@ -65,3 +67,29 @@ StaysInStep B G s call (Sends w awaited g) = AllKnown {B = B} {G = G} call await
 -- For each call of two sides that agree: the answer table knows what the handler lets the frontend know, and both agree after it, unless it was the last step.
 abbrev pub KeepsStep : (H B G : Type 0) → Type 0
 KeepsStep H B G = (f : Frontend) (s : Session) (call : FrontendCall H) → AgreeOn f s → IsNegotiated f → Fits call → StaysInStep B G s call (ask f call)
+
+-- ---- negotiation
+
+-- Acknowledgements are on only where protocol features were offered. All features that the device answers have the bit, or none has it.
+abbrev pub Negotiates : (bit : Bool) → Frontend → Type 0
+Negotiates bit f = IsNegotiated f × (has_bit f.acked_p REPLY_ACK ≡ true → bit ≡ true) × (has_bit f.offered PROTOCOL_FEATURES ≡ true → bit ≡ true)
+
+-- whatever becomes of a call
+abbrev pub AskedNegotiates : {H : Type 0} → Bool → Asked H → Type 0
+AskedNegotiates bit (Refuses e) = ⊤
+AskedNegotiates bit (Answers v g) = Negotiates bit g
+AskedNegotiates bit (Sends w awaited g) = Negotiates bit g
+
+-- the features that are replied have the bit, or none has it
+abbrev pub OffersBit : {H : Type 0} → Bool → FrontendCall H → Served H → Type 0
+OffersBit bit GetFeatures (Replied (U64 n) handles) = has_bit n PROTOCOL_FEATURES ≡ bit
+OffersBit bit _ _ = ⊤
+
+-- a call keeps it
+abbrev pub AsksNegotiate : (H : Type 0) → Type 0
+AsksNegotiate H = (bit : Bool) (f : Frontend) (call : FrontendCall H) → Negotiates bit f → AskedNegotiates bit (ask f call)
+
+-- and so does its answer
+abbrev pub AnswersNegotiate : (H : Type 0) → Type 0
+AnswersNegotiate H = (bit : Bool) (call : FrontendCall H) (awaited : Awaited) (f : Frontend) (served : Served H) → Negotiates bit f → OffersBit bit call served
+    → IfSome (answer call awaited f served) (λ a. Negotiates bit a.session)

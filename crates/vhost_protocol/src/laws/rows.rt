@@ -1,6 +1,6 @@
 //! The protocol table, and both sides of a connection.
 
-ghost use Rattle.vhost_protocol.specs.Agreement.{RowsKeepMark, SilentIsLast, KeepsStep};
+ghost use Rattle.vhost_protocol.specs.Agreement.{AnswersNegotiate, AsksNegotiate, RowsKeepMark, SilentIsLast, KeepsStep};
 
 /// No row of the table changes the failure mark of a session.
 pub fn rows_keep_mark<H, B, G>()
@@ -16,4 +16,11 @@ pub fn silent_is_last<H>()
 /// know, and both agree after it, unless it was the last step.
 pub fn stays_in_step<H, B, G>()
     ensures { KeepsStep H B G }
+{}
+
+/// At the frontend acknowledgements are on only where protocol features were offered: each call keeps that, and each
+/// answer, where all features that the device answers have their bit, or none has.
+pub fn stays_negotiated<H>()
+    ensures asks { AsksNegotiate H }
+    ensures answers { AnswersNegotiate H }
 {}

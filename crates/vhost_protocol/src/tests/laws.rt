@@ -3,7 +3,7 @@
 use crate::laws::messages::cut_in_order;
 use crate::laws::replies::{read_as_written, taken_as_served};
 use crate::laws::reverse::answered_as_served;
-use crate::laws::rows::{rows_keep_mark, silent_is_last, stays_in_step};
+use crate::laws::rows::{rows_keep_mark, silent_is_last, stays_in_step, stays_negotiated};
 use vhost_message::{BackendReq, FrontendReq};
 
 #[test]
@@ -17,4 +17,5 @@ fn laws_of_both_channels() {
     rows_keep_mark::<u32, u32, u32>();
     silent_is_last::<u32>();
     stays_in_step::<u32, u32, u32>();
+    stays_negotiated::<u32>();
 }
