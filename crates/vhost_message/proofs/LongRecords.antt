@@ -49,8 +49,8 @@ pub all_same : (b : ℕ) (xs : List ℕ) → pointwise nat_eq xs (replicate (len
 all_same b [] = refl
 all_same b (x ∷ xs) = ap (λ r. (x == b) && r) (all_same b xs)
 
--- a byte written at the head of eight, and seven bytes behind it
-pub head_written : (out : List ℕ) (s : ℕ) (p : List ℕ) → length out ≡ 8 → s < 256 → put_mid 1 (length (set out 0 s) - 1) (set out 0 s) p ≡ s % 256 ∷ p
+-- a byte written at the head, and others behind it to the end
+pub head_written : (out : List ℕ) (s : ℕ) (p : List ℕ) → length out ≡ suc (length p) → s < 256 → put_mid 1 (length (set out 0 s) - 1) (set out 0 s) p ≡ s % 256 ∷ p
 head_written [] s p count small = absurd (omega arith)
 head_written (x ∷ xs) s p count small =
     let low : s ≡ s % 256 = sym (mod-eq_of_lt small) in

@@ -6,7 +6,9 @@ use std::fmt;
 /// The number of the system's error, or the name of a cause that has no number.
 #[derive(Clone, Copy, Debug)]
 pub enum IoCause {
+    /// The number of the system's error.
     Raw(i32),
+    /// A cause without a number, by its name.
     Named(&'static str),
 }
 
