@@ -17,17 +17,17 @@ use Rattle.vhost_message.specs.declared.records.transfer.VhostUserTransferDevice
 use Rattle.vhost_message.specs.declared.records.log.VhostUserLog.{VhostUserLog}
 use Rattle.vhost_message.specs.declared.records.shmem.VhostUserShMemConfig.{VhostUserShMemConfig}
 use Rattle.vhost_message.specs.declared.records.vring.VhostUserVringState.{VhostUserVringState}
-use Rattle.vhost_message.specs.Records.{u64_at, single_region_of}
+use Rattle.vhost_message.specs.declared.vring_config.VringConfigData.{VringConfigData}
+use Rattle.vhost_message.specs.Records.{u64_at, single_region, single_region_of}
 use Rattle.vhost_message.specs.Text.{digits}
 use Rattle.vhost_protocol.specs.Agreement.{IsNegotiated, IsKnown, AllKnown, StaysInStep, KeepsStep}
 use Rattle.vhost_protocol.specs.AnswerTable.{answered, after_success}
-use Rattle.vhost_protocol.specs.Ask.{Awaited, Nobody, Ack, Reply, Asked, Sends, ask, ack, message, quietly, sends, asks_quietly, param, regions_in, handles_in, is_usable, single, given, ◌>>◌, ◌>>=◌, Shape, AU64, AnEmpty, ARingState, AShmem, ALog, AConfig, AnInflight, TheRegions, ARegion}
+use Rattle.vhost_protocol.specs.Ask.{Awaited, Nobody, Ack, Reply, Asked, Sends, ask, ack, message, quietly, sends, asks_quietly, param, regions_in, handles_in, is_usable, given, ◌>>◌, ◌>>=◌, Shape, AU64, AnEmpty, ARingState, AShmem, ALog, AConfig, AnInflight, TheRegions, ARegion}
 use Rattle.vhost_protocol.specs.DeviceCall as device
 use Rattle.vhost_protocol.specs.Error.{Error, InvalidMessage, InactiveFeature, BackendInternalError}
 use Rattle.vhost_protocol.specs.Features.{PROTOCOL_FEATURES, REPLY_ACK}
 use Rattle.vhost_protocol.specs.FrontendCall.{FrontendCall, GetFeatures, SetFeatures, SetOwner, ResetOwner, GetProtocolFeatures, SetProtocolFeatures, GetQueueNum, ResetDevice, SetMemTable, SetLogBase, SetLogFd, SetVringNum, SetVringBase, SetVringAddr, GetVringBase, SetVringCall, SetVringKick, SetVringErr, SetVringEnable, GetConfig, SetConfig, SetBackendRequestFd, GetSharedObject, GetInflightFd, SetInflightFd, GetMaxMemSlots, AddMemRegion, RemoveMemRegion, GetShmemConfig, SetDeviceStateFd, CheckDeviceState, PostcopyAdvise, PostcopyListen, PostcopyEnd, PostcopyAckMemRegions, SetHdrFlags, Info, LogRegion, Number, Frontend}
 use Rattle.vhost_protocol.specs.Joined.{AgreeOn, is_end, read_as}
-use Rattle.vhost_protocol.specs.Ring.{RingConfig}
 use Rattle.vhost_protocol.specs.Row.{row, body, always, if_agreed, channel, is_valid_table, mapped_row, table, rebased, with_features, with_handle, with_inflight, with_state, with_check, with_config, with_base, with_bases}
 use Rattle.vhost_protocol.specs.Served.{Silent, Acknowledged}
 use Rattle.vhost_protocol.specs.Session.{Session, ack_on, is_listen}
@@ -209,7 +209,7 @@ module _ (H B G : Type 0) where
   simple-vring_enable : (f : Frontend) (s : Session) (i : ℕ) (b : Bool) → AgreeOn f s → IsNegotiated f → Stays s (SetVringEnable i b) (ask f (SetVringEnable i b))
   simple-vring_enable f s i b agree on = search known depth 12
 
-  simple-vring_addr : (f : Frontend) (s : Session) (i : ℕ) (c : RingConfig) → AgreeOn f s → IsNegotiated f → Stays s (SetVringAddr i c) (ask f (SetVringAddr i c))
+  simple-vring_addr : (f : Frontend) (s : Session) (i : ℕ) (c : VringConfigData) → AgreeOn f s → IsNegotiated f → Stays s (SetVringAddr i c) (ask f (SetVringAddr i c))
   simple-vring_addr f s i c agree on = search known depth 12
 
   simple-vring_call : (f : Frontend) (s : Session) (i : ℕ) (h : H) → AgreeOn f s → IsNegotiated f → Stays s (SetVringCall i h) (ask f (SetVringCall i h))
@@ -439,7 +439,7 @@ module _ (H B G : Type 0) where
   simple-add_region f s info agree on = search (silent, sent) depth 12
     where
       payload : Payload
-      payload = OneRegion (single info.region)
+      payload = OneRegion (single_region info.region)
 
       listening : Message FrontendReq H → Bool → H → Step H B G
       listening m b h = cond (b && length m.body == 8) (mapped_row s m) (step.◌>>=◌ (body 40 single_region_of always m)

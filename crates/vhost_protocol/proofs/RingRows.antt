@@ -2,9 +2,10 @@
 use Rattle.std.proofs.Common.{◌≡◌, ℕ, true, false, List, [], ◌∷◌, None, refl}
 use Rattle.std.specs.Int.Count.{ones}
 use Rattle.vhost_protocol.specs.Pieces.{sub_offset}
-use Rattle.vhost_protocol.specs.Ring.{RingConfig, is_valid_ring}
+use Rattle.vhost_message.specs.declared.vring_config.VringConfigData.{VringConfigData}
+use Rattle.vhost_message.specs.VringConfig.{is_valid_ring}
 
-ring : ℕ → RingConfig
+ring : ℕ → VringConfigData
 ring size = record { queue_max_size = 32; queue_size = size; flags = 0; desc_table_addr = 0x1000; used_ring_addr = 0x2000; avail_ring_addr = 0x3000; log_addr = None }
 
 whole : List (ℕ × ℕ)

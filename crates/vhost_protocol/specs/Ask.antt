@@ -1,5 +1,5 @@
 -- What a call of the frontend sends, and what it then waits for ("Front-end message types").
-use Rattle.std.specs.Prelude.{ℕ, ◌+◌, ◌^◌, Bool, true, false, not, ◌&&◌, List, [], ◌∷◌, length, map, Option, Some, None, Result, Ok, Err, is_some, unwrap_or, if◌then◌else◌, ◌==◌, nat_le, nat_lt, bit_and, ⊤}
+use Rattle.std.specs.Prelude.{ℕ, ◌+◌, ◌^◌, Bool, true, false, not, ◌&&◌, List, [], ◌∷◌, length, map, Option, Some, None, Result, Ok, Err, is_some, if◌then◌else◌, ◌==◌, nat_le, nat_lt, bit_and, ⊤}
 use Rattle.std.specs.List.{list_all, filter_map}
 use Rattle.vhost_message.specs.Bits.{has_bit}
 use Rattle.vhost_message.specs.declared.frontend_req.FrontendReq.{FrontendReq}
@@ -7,14 +7,13 @@ use Rattle.vhost_message.specs.declared.frontend_req.FrontendReq.TheVariants.{GE
 use Rattle.vhost_message.specs.declared.records.config.VhostUserConfig.{VhostUserConfig}
 use Rattle.vhost_message.specs.declared.records.log.VhostUserLog.{VhostUserLog}
 use Rattle.vhost_message.specs.declared.records.memory.VhostUserMemoryRegion.{VhostUserMemoryRegion}
-use Rattle.vhost_message.specs.declared.records.memory.VhostUserSingleMemoryRegion.{VhostUserSingleMemoryRegion}
 use Rattle.vhost_message.specs.declared.records.vring.VhostUserVringState.{VhostUserVringState}
-use Rattle.vhost_message.specs.declared.records.vring.VhostUserVringAddr.{VhostUserVringAddr}
+use Rattle.vhost_message.specs.VringConfig.{ring_addr}
+use Rattle.vhost_message.specs.Records.{single_region}
 use Rattle.vhost_message.specs.Valid.{is_valid_config, is_valid_uuid}
 use Rattle.vhost_protocol.specs.Error.{Error, InvalidParam, InactiveFeature, InactiveOperation}
 use Rattle.vhost_protocol.specs.Features.{PROTOCOL_FEATURES, MQ, LOG_SHMFD, REPLY_ACK, BACKEND_REQ, PAGEFAULT, CONFIG, INFLIGHT_SHMFD, RESETS_DEVICE, CONFIGURE_MEM_SLOTS, SHARED_OBJECT, DEVICE_STATE, SHMEM}
 use Rattle.vhost_protocol.specs.FrontendCall.{Info, LogRegion, FrontendCall, GetFeatures, SetFeatures, SetOwner, ResetOwner, GetProtocolFeatures, SetProtocolFeatures, GetQueueNum, ResetDevice, SetMemTable, SetLogBase, SetLogFd, SetVringNum, SetVringBase, SetVringAddr, GetVringBase, SetVringCall, SetVringKick, SetVringErr, SetVringEnable, GetConfig, SetConfig, SetBackendRequestFd, GetSharedObject, GetInflightFd, SetInflightFd, GetMaxMemSlots, AddMemRegion, RemoveMemRegion, GetShmemConfig, SetDeviceStateFd, CheckDeviceState, PostcopyAdvise, PostcopyListen, PostcopyEnd, PostcopyAckMemRegions, SetHdrFlags, Value, Nothing, Frontend}
-use Rattle.vhost_protocol.specs.Ring.{RingConfig}
 use Rattle.vhost_protocol.specs.Session.{is_listen}
 use Rattle.vhost_protocol.specs.Written.{Payload, Empty, U64, Regions, OneRegion, RingState, RingAddr, ConfigBytes, InflightArea, LogArea, ObjectName, DeviceState, Written}
 
@@ -124,24 +123,9 @@ handles_in infos = filter_map (λ info. info.handle) infos
 abbrev pub is_usable : {H : Type 0} → Info H → Bool
 is_usable info = not (info.region.memory_size == 0) && is_some info.handle
 
--- one region on its own
-abbrev pub single : VhostUserMemoryRegion → VhostUserSingleMemoryRegion
-single region = record { padding = 0; region = region }
-
 -- a number for a ring
 abbrev pub ring_state : ℕ → ℕ → VhostUserVringState
 ring_state i n = record { index = i; num = n }
-
--- a ring's place as a record; no log is address 0
-abbrev pub ring_addr : ℕ → RingConfig → VhostUserVringAddr
-ring_addr i c = record {
-  index = i;
-  flags = c.flags;
-  descriptor = c.desc_table_addr;
-  used = c.used_ring_addr;
-  available = c.avail_ring_addr;
-  log = unwrap_or c.log_addr 0;
-}
 
 -- a part of configuration space
 abbrev pub config : ℕ → ℕ → ℕ → VhostUserConfig
@@ -248,12 +232,12 @@ ask f (AddMemRegion info) = do
   param (not (info.region.memory_size == 0))
   h ← given info.handle
   (if is_listen f.postcopy
-      then asks_quietly f ADD_MEM_REG (OneRegion (single info.region)) (h ∷ []) ARegion
-      else sends f ADD_MEM_REG (OneRegion (single info.region)) (h ∷ []))
+      then asks_quietly f ADD_MEM_REG (OneRegion (single_region info.region)) (h ∷ []) ARegion
+      else sends f ADD_MEM_REG (OneRegion (single_region info.region)) (h ∷ []))
 ask f (RemoveMemRegion info) = do
   operation f CONFIGURE_MEM_SLOTS
   param (not (info.region.memory_size == 0))
-  sends f REM_MEM_REG (OneRegion (single info.region)) []
+  sends f REM_MEM_REG (OneRegion (single_region info.region)) []
 ask f GetShmemConfig = do
   operation f SHMEM
   asks f GET_SHMEM_CONFIG Empty [] AShmem

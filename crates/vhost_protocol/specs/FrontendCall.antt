@@ -9,7 +9,7 @@ use Rattle.vhost_message.specs.declared.records.memory.VhostUserMemoryRegion.{Vh
 use Rattle.vhost_message.specs.declared.records.shared.VhostUserSharedMsg.{VhostUserSharedMsg}
 use Rattle.vhost_message.specs.declared.records.shmem.VhostUserShMemConfig.{VhostUserShMemConfig}
 use Rattle.vhost_message.specs.declared.records.transfer.VhostUserTransferDeviceState.{VhostUserTransferDeviceState}
-use Rattle.vhost_protocol.specs.Ring.{RingConfig}
+use Rattle.vhost_message.specs.declared.vring_config.VringConfigData.{VringConfigData}
 
 -- a region of guest memory, and the handle of its mapping where there is one
 pub record Info (H : Type 0) : Type 0 where
@@ -37,7 +37,7 @@ pub data FrontendCall (H : Type 0) : Type 0 where
   SetLogFd : H → FrontendCall H
   SetVringNum : (index num : ℕ) → FrontendCall H
   SetVringBase : (index base : ℕ) → FrontendCall H
-  SetVringAddr : (index : ℕ) → RingConfig → FrontendCall H
+  SetVringAddr : (index : ℕ) → VringConfigData → FrontendCall H
   GetVringBase : (index : ℕ) → FrontendCall H
   SetVringCall : (index : ℕ) → H → FrontendCall H
   SetVringKick : (index : ℕ) → H → FrontendCall H

@@ -12,7 +12,6 @@ pub mod Socket
 pub mod Row
 pub mod Run
 pub mod Handler
-pub mod Ring
 pub mod FrontendCall
 pub mod Ask
 pub mod AnswerTable
