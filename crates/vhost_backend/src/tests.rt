@@ -1,0 +1,5 @@
+//! Texts, rings from outside, and each call through both wrappers.
+
+mod calls;
+mod errors;
+mod plain;
