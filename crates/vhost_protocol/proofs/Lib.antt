@@ -19,3 +19,4 @@ pub mod TakeShapes
 pub mod RegionLaws
 pub mod ReverseLaws
 pub mod NegotiationLaws
+pub mod HeardLaws

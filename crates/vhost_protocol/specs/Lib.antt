@@ -29,3 +29,4 @@ pub mod Plain
 pub mod PlainRow
 pub mod Gpu
 pub mod ReverseLaws
+pub mod Heard

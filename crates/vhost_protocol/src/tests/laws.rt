@@ -1,5 +1,6 @@
 //! Each law at concrete types.
 
+use crate::laws::lockstep::heard_as_served;
 use crate::laws::messages::cut_in_order;
 use crate::laws::replies::{read_as_written, taken_as_served};
 use crate::laws::reverse::answered_as_served;
@@ -14,6 +15,7 @@ fn laws_of_both_channels() {
     read_as_written::<BackendReq, u32>();
     taken_as_served::<u32>();
     answered_as_served::<u32>();
+    heard_as_served::<u32, u32, u32>();
     rows_keep_mark::<u32, u32, u32>();
     silent_is_last::<u32>();
     stays_in_step::<u32, u32, u32>();

@@ -1,0 +1,12 @@
+//! What the frontend hears of its handler.
+
+ghost use Rattle.vhost_protocol.specs.Heard.{RepliesWell, AwaitsItsShape, HearsTheAnswer};
+
+/// What the handler replies to a call is a reply that the call may have, where the device's answers have the bits of
+/// their types; the frontend awaits that shape; and from the bytes that the handler served the frontend takes the answer
+/// of the answer table, and leaves none.
+pub fn heard_as_served<H, B, G>()
+    ensures replies { RepliesWell H B G }
+    ensures awaits { AwaitsItsShape H }
+    ensures hears { HearsTheAnswer H }
+{}
