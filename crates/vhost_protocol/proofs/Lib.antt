@@ -20,3 +20,4 @@ pub mod RegionLaws
 pub mod ReverseLaws
 pub mod NegotiationLaws
 pub mod HeardLaws
+pub mod SendLaws

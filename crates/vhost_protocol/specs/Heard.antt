@@ -1,5 +1,5 @@
 -- What the handler serves is what the frontend awaits, and is read again.
-use Rattle.std.specs.Prelude.{◌≡◌, ◌^◌, ◌<◌, false, [], All, IfOk, IfSome, Some, Result, ⊤}
+use Rattle.std.specs.Prelude.{◌≡◌, ◌^◌, ◌<◌, ◌≤◌, true, false, [], length, All, IfOk, IfSome, Some, Result, ⊤}
 use Rattle.vhost_message.specs.Bits.{has_bit}
 use Rattle.vhost_message.specs.declared.frontend_req.FrontendReq.{FrontendReq}
 use Rattle.vhost_message.specs.FrontendReq.{request_number}
@@ -7,6 +7,7 @@ use Rattle.vhost_message.specs.LongRecords.{ShMemConfigFits}
 use Rattle.vhost_message.specs.RecordLaws.{RegionFits, VringStateFits, InflightFits, LogFits}
 use Rattle.vhost_protocol.specs.Ask.{Awaited, Reply, Asked, Refuses, Answers, Sends, ask, regions_in, log_area, Shape, AnEmpty, AU64, TheRegions, ARegion, AShmem, ARingState, AConfig, AnInflight, ALog}
 use Rattle.vhost_protocol.specs.AnswerTable.{Answered, answer}
+use Rattle.vhost_protocol.specs.Codes.{wanted}
 use Rattle.vhost_protocol.specs.DeviceCall as device
 use Rattle.vhost_protocol.specs.DeviceCall.{Call, Answer}
 use Rattle.vhost_protocol.specs.Error.{Error}
@@ -17,7 +18,7 @@ use Rattle.vhost_protocol.specs.Row.{row}
 use Rattle.vhost_protocol.specs.Served.{Served, Replied, reply, cells_of}
 use Rattle.vhost_protocol.specs.Session.{Session}
 use Rattle.vhost_protocol.specs.Take.{take}
-use Rattle.vhost_protocol.specs.Written.{Written, head_of}
+use Rattle.vhost_protocol.specs.Written.{Written, head_of, payload_text}
 use Rattle.vhost_protocol.specs.Step.{Step, Refused, Calls, OpensBackend, OpensGpu}
 
 -- the shape of the reply to a call
@@ -98,3 +99,25 @@ abbrev pub HearsTheAnswer : (H : Type 0) → Type 0
 HearsTheAnswer H = (call : FrontendCall H) (awaited : Awaited) (w : Written FrontendReq H) (g : Frontend) (served : Served H) (a : Answered H)
     → w.reply ≡ false → IsAwaitedBy call awaited → IsGoodReply call served → answer call awaited g served ≡ Some a
     → take call awaited (head_of request_number w) g (cells_of request_number (reply w.request served)) ≡ (Some a, [])
+
+-- ---- what is sent can be sent
+
+-- the handles are wanted and not too many, and the body is not too long
+pub record IsSendable {H : Type 0} (w : Written FrontendReq H) : Type 0 where
+  pub wants : wanted w.request (length w.handles) ≡ true
+  pub size : length (payload_text w.payload) ≤ 4096
+  pub few : length w.handles ≤ 32
+
+-- the name of an object has sixteen bytes
+abbrev pub IsNamedWell : {H : Type 0} → FrontendCall H → Type 0
+IsNamedWell (GetSharedObject name) = length name.uuid ≡ 16
+IsNamedWell _ = ⊤
+
+-- whatever becomes of a call
+abbrev pub AsksSendable : {H : Type 0} → Asked H → Type 0
+AsksSendable (Sends w awaited g) = IsSendable w
+AsksSendable _ = ⊤
+
+-- each call sends what can be sent
+abbrev pub SendsWhole : (H : Type 0) → Type 0
+SendsWhole H = (f : Frontend) (call : FrontendCall H) → IsNamedWell call → AsksSendable (ask f call)

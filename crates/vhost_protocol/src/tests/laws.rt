@@ -1,6 +1,6 @@
 //! Each law at concrete types.
 
-use crate::laws::lockstep::heard_as_served;
+use crate::laws::lockstep::{heard_as_served, sent_whole};
 use crate::laws::messages::cut_in_order;
 use crate::laws::replies::{read_as_written, taken_as_served};
 use crate::laws::reverse::answered_as_served;
@@ -16,6 +16,7 @@ fn laws_of_both_channels() {
     taken_as_served::<u32>();
     answered_as_served::<u32>();
     heard_as_served::<u32, u32, u32>();
+    sent_whole::<u32>();
     rows_keep_mark::<u32, u32, u32>();
     silent_is_last::<u32>();
     stays_in_step::<u32, u32, u32>();
