@@ -21,3 +21,4 @@ pub mod ReverseLaws
 pub mod NegotiationLaws
 pub mod HeardLaws
 pub mod SendLaws
+pub mod FollowLaws
