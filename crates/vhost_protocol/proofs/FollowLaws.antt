@@ -1,8 +1,8 @@
 -- What holds of a row whatever its device answers, holds of each row that was met.
-use Rattle.std.proofs.Common.{◌≡◌, List, Result, Err, refl, sym, ◌∙◌, ap, subst}
+use Rattle.std.proofs.Common.{◌≡◌, Result, sym, ◌∙◌, ap, subst}
 use Rattle.vhost_message.specs.declared.frontend_req.FrontendReq.{FrontendReq}
 use Rattle.vhost_protocol.specs.Agreement.{KeepsMark, IsKnown, AllKnown, IsNegotiated, Fits, StaysInStep}
-use Rattle.vhost_protocol.specs.Ask.{Awaited, Asked, Sends, ask}
+use Rattle.vhost_protocol.specs.Ask.{Awaited, Sends, ask}
 use Rattle.vhost_protocol.specs.DeviceCall.{Call, Answer}
 use Rattle.vhost_protocol.specs.Error.{Error}
 use Rattle.vhost_protocol.specs.FrontendCall.{FrontendCall, Frontend}

@@ -22,3 +22,4 @@ pub mod NegotiationLaws
 pub mod HeardLaws
 pub mod SendLaws
 pub mod FollowLaws
+mod TruncatedRows

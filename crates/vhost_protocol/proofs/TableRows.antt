@@ -1,6 +1,6 @@
 -- Worked rows of the protocol table: each holds by computing.
 use Rattle.std.proofs.Common.{◌≡◌, ℕ, Bool, true, false, List, [], ◌∷◌, ◌++◌, replicate, Option, Some, None, Result, Ok, Err, refl}
-use Rattle.std.specs.Prelude.{codes, if◌then◌else◌, nat_le}
+use Rattle.std.specs.Prelude.{codes, if◌then◌else◌, nat_le, flat_map}
 use Rattle.vhost_message.specs.FrontendReq.{request_number}
 use Rattle.vhost_message.specs.Records.{region_text, memory_text}
 use Rattle.vhost_message.specs.Text.{digits}
@@ -236,3 +236,29 @@ no_socket : does (acks 0x28) backend_fd
     ≡ record { call = None; answer = Err (InvalidSocketFd (Named (codes "not a socket"))); text = 0x15 ∷ 0 ∷ 0 ∷ 0 ∷ 5 ∷ 0 ∷ 0 ∷ 0 ∷ 8 ∷ 0 ∷ 0 ∷ 0 ∷ 1 ∷ replicate 7 0; handles = []; session = acks 0x28 }
 unfolding does done_by opens device message shown acks backend_fd
 no_socket = refl
+
+-- more handles than regions, and more regions than a table may have: acknowledged as errors, the device untouched
+refused : Done
+refused = record {
+  call = None;
+  answer = Err InvalidMessage;
+  text = 5 ∷ 0 ∷ 0 ∷ 0 ∷ 5 ∷ 0 ∷ 0 ∷ 0 ∷ 8 ∷ 0 ∷ 0 ∷ 0 ∷ 1 ∷ replicate 7 0;
+  handles = [];
+  session = acks 8;
+}
+
+regions : ℕ → List ℕ
+regions n = digits 4 n ++ digits 4 0 ++ flat_map region_text (replicate n (record { guest_phys_addr = 0; memory_size = 0x1000; user_addr = 0x7000; mmap_offset = 0 }))
+
+too_many_handles : does (acks 8) (message SET_MEM_TABLE true (regions 1) (1 ∷ 2 ∷ [])) ≡ refused
+unfolding does done_by opens device message shown acks regions refused
+too_many_handles = refl
+
+too_many_regions : does (acks 8) (message SET_MEM_TABLE true (regions 33) (replicate 32 1)) ≡ refused
+unfolding does done_by opens device message shown acks regions refused
+too_many_regions = refl
+
+-- a table of one region reaches the device
+one_region : (does (acks 8) (message SET_MEM_TABLE true (regions 1) (1 ∷ []))).call ≡ Some (SetMemTable (record { guest_phys_addr = 0; memory_size = 0x1000; user_addr = 0x7000; mmap_offset = 0 } ∷ []) (1 ∷ []) (Some false))
+unfolding does done_by opens device message shown acks regions
+one_region = refl
