@@ -16,8 +16,11 @@ use byteorder::{ByteOrder, LittleEndian};
 /// specification, "Virtio device config space").
 #[derive(Clone, Copy, Default)]
 pub struct VhostUserConfig {
+    /// The first byte.
     pub offset: u32,
+    /// How many bytes.
     pub size: u32,
+    /// Bits of `VhostUserConfigFlags`.
     pub flags: u32,
 }
 

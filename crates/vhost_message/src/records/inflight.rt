@@ -13,9 +13,13 @@ use byteorder::{ByteOrder, LittleEndian};
 /// written 0 and not read.
 #[derive(Clone, Copy, Default)]
 pub struct VhostUserInflight {
+    /// The size of the area.
     pub mmap_size: u64,
+    /// Where it begins in the memory that comes with it.
     pub mmap_offset: u64,
+    /// How many queues.
     pub num_queues: u16,
+    /// How many descriptors a queue has.
     pub queue_size: u16,
 }
 

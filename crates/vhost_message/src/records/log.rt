@@ -12,7 +12,9 @@ use byteorder::{ByteOrder, LittleEndian};
 /// description").
 #[derive(Clone, Copy, Default)]
 pub struct VhostUserLog {
+    /// The size of the area.
     pub mmap_size: u64,
+    /// Where it begins in the memory that comes with it.
     pub mmap_offset: u64,
 }
 

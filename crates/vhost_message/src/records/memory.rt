@@ -13,7 +13,9 @@ use byteorder::{ByteOrder, LittleEndian};
 /// description").
 #[derive(Clone, Copy, Default)]
 pub struct VhostUserMemory {
+    /// How many regions follow.
     pub num_regions: u32,
+    /// Always 0.
     pub padding1: u32,
 }
 
@@ -75,9 +77,13 @@ impl VhostUserMsgValidator for VhostUserMemory {
 /// offset in the memory that comes with it (vhost-user specification, "Memory region description").
 #[derive(Clone, Copy, Default)]
 pub struct VhostUserMemoryRegion {
+    /// Where the region begins in the guest.
     pub guest_phys_addr: u64,
+    /// Its size.
     pub memory_size: u64,
+    /// Where it begins in the frontend's memory.
     pub user_addr: u64,
+    /// Where it begins in the memory that comes with it.
     pub mmap_offset: u64,
 }
 

@@ -13,6 +13,7 @@ pub struct VhostUserEmpty;
 /// One number of 8 bytes.
 #[derive(Clone, Copy, Default)]
 pub struct VhostUserU64 {
+    /// The number.
     pub value: u64,
 }
 

@@ -9,6 +9,7 @@ use uuid::Uuid;
 /// The name of a shared object: 16 bytes (vhost-user specification, "VhostUserShared").
 #[derive(Clone, Copy, Default)]
 pub struct VhostUserSharedMsg {
+    /// The name.
     pub uuid: Uuid,
 }
 

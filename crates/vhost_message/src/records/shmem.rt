@@ -14,8 +14,10 @@ use byteorder::{ByteOrder, LittleEndian};
 /// `nregions` of them count.
 #[derive(Clone, Copy, Debug)]
 pub struct VhostUserShMemConfig {
+    /// How many regions there are.
     pub nregions: u32,
     padding: u32,
+    /// The size of each region, 0 where there is none.
     pub memory_sizes: [u64; 256],
 }
 
@@ -92,11 +94,17 @@ impl VhostUserMsgValidator for VhostUserShMemConfig {
 /// mapping message").
 #[derive(Clone, Copy, Default, Debug)]
 pub struct VhostUserMMap {
+    /// The number of the region.
     pub shmid: u8,
+    /// Bytes without a meaning, kept as they are read.
     pub padding: [u8; 7],
+    /// Where the mapping begins in the file.
     pub fd_offset: u64,
+    /// Where it begins in the region.
     pub shm_offset: u64,
+    /// How long it is.
     pub len: u64,
+    /// Bits of `VhostUserMMapFlags`.
     pub flags: u64,
 }
 

@@ -13,7 +13,9 @@ use byteorder::{ByteOrder, LittleEndian};
 /// Which way the device's state goes, and in which phase (vhost-user specification, "Device state transfer parameters").
 #[derive(Clone, Copy, Default)]
 pub struct VhostUserTransferDeviceState {
+    /// The number of a `VhostTransferStateDirection`.
     pub direction: u32,
+    /// The number of a `VhostTransferStatePhase`.
     pub phase: u32,
 }
 

@@ -15,7 +15,9 @@ use byteorder::{ByteOrder, LittleEndian};
 /// "A vring state description").
 #[derive(Clone, Copy, Default)]
 pub struct VhostUserVringState {
+    /// The ring.
     pub index: u32,
+    /// The number.
     pub num: u32,
 }
 
@@ -67,11 +69,17 @@ impl VhostUserMsgValidator for VhostUserVringState {
 /// "A vring address description").
 #[derive(Clone, Copy, Default)]
 pub struct VhostUserVringAddr {
+    /// The ring.
     pub index: u32,
+    /// Bits of `VhostUserVringAddrFlags`.
     pub flags: u32,
+    /// The table of descriptors, a multiple of 16.
     pub descriptor: u64,
+    /// The used ring, a multiple of 4.
     pub used: u64,
+    /// The available ring, a multiple of 2.
     pub available: u64,
+    /// Where writes to the used ring are logged, in the guest.
     pub log: u64,
 }
 
