@@ -7,7 +7,8 @@ use vhost_message::VringConfigData;
 
 /// Whether a ring can be used as it is configured, where the guest's memory has these ranges, each given by its start
 /// and length in bytes: its size is a power of two and at most the greatest, the ends of its three parts lie in the
-/// guest's memory, and there is an address for the log if writes are to be logged.
+/// guest's memory, and there is an address for the log if writes are to be logged. The crate `vhost` asks this before
+/// it hands a ring to the kernel. Nothing wraps: a part that ends beyond the addresses of 64 bits lies nowhere.
 pub fn vring_is_valid(config_data: &VringConfigData, ranges: &[(u64, u64)]) -> bool
     ensures { result ≡ is_valid_ring config_data.now ranges.now }
 {
