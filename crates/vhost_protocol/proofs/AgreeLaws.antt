@@ -17,7 +17,6 @@ use Rattle.vhost_message.specs.declared.records.transfer.VhostUserTransferDevice
 use Rattle.vhost_message.specs.declared.records.log.VhostUserLog.{VhostUserLog}
 use Rattle.vhost_message.specs.declared.records.shmem.VhostUserShMemConfig.{VhostUserShMemConfig}
 use Rattle.vhost_message.specs.declared.records.vring.VhostUserVringState.{VhostUserVringState}
-use Rattle.vhost_message.specs.declared.vring_config.VringConfigData.{VringConfigData}
 use Rattle.vhost_message.specs.Records.{u64_at, single_region, single_region_of}
 use Rattle.vhost_message.specs.Text.{digits}
 use Rattle.vhost_protocol.specs.Agreement.{IsNegotiated, IsKnown, AllKnown, StaysInStep, KeepsStep}
@@ -26,7 +25,7 @@ use Rattle.vhost_protocol.specs.Ask.{Awaited, Nobody, Ack, Reply, Asked, Sends, 
 use Rattle.vhost_protocol.specs.DeviceCall as device
 use Rattle.vhost_protocol.specs.Error.{Error, InvalidMessage, InactiveFeature, BackendInternalError}
 use Rattle.vhost_protocol.specs.Features.{PROTOCOL_FEATURES, REPLY_ACK}
-use Rattle.vhost_protocol.specs.FrontendCall.{FrontendCall, GetFeatures, SetFeatures, SetOwner, ResetOwner, GetProtocolFeatures, SetProtocolFeatures, GetQueueNum, ResetDevice, SetMemTable, SetLogBase, SetLogFd, SetVringNum, SetVringBase, SetVringAddr, GetVringBase, SetVringCall, SetVringKick, SetVringErr, SetVringEnable, GetConfig, SetConfig, SetBackendRequestFd, GetSharedObject, GetInflightFd, SetInflightFd, GetMaxMemSlots, AddMemRegion, RemoveMemRegion, GetShmemConfig, SetDeviceStateFd, CheckDeviceState, PostcopyAdvise, PostcopyListen, PostcopyEnd, PostcopyAckMemRegions, SetHdrFlags, Info, LogRegion, Number, Frontend}
+use Rattle.vhost_protocol.specs.FrontendCall.{FrontendCall, GetFeatures, SetFeatures, GetProtocolFeatures, SetProtocolFeatures, GetQueueNum, SetMemTable, SetLogBase, SetLogFd, GetVringBase, GetConfig, GetSharedObject, GetInflightFd, GetMaxMemSlots, AddMemRegion, GetShmemConfig, SetDeviceStateFd, CheckDeviceState, PostcopyAdvise, PostcopyListen, PostcopyEnd, PostcopyAckMemRegions, SetHdrFlags, Info, LogRegion, Number, Frontend}
 use Rattle.vhost_protocol.specs.Joined.{AgreeOn, is_end, read_as}
 use Rattle.vhost_protocol.specs.Row.{row, body, always, if_agreed, channel, is_valid_table, mapped_row, table, rebased, with_features, with_handle, with_inflight, with_state, with_check, with_config, with_base, with_bases}
 use Rattle.vhost_protocol.specs.Served.{Silent, Acknowledged}
@@ -185,65 +184,8 @@ module _ (H B G : Type 0) where
 
   ruleset known = (silent, known-same, known-unwritten, known-refused, known-channel, known-features, known-object, known-inflight, known-state, known-check)
 
-  simple-reset_owner : (f : Frontend) (s : Session) → AgreeOn f s → IsNegotiated f → Stays s ResetOwner (ask f ResetOwner)
-  simple-reset_owner f s agree on = search known depth 12
-
-  simple-owner : (f : Frontend) (s : Session) → AgreeOn f s → IsNegotiated f → Stays s SetOwner (ask f SetOwner)
-  simple-owner f s agree on = search known depth 12
-
-  simple-features : (f : Frontend) (s : Session) → AgreeOn f s → IsNegotiated f → Stays s GetFeatures (ask f GetFeatures)
-  simple-features f s agree on = search known depth 12
-
-  simple-reset_device : (f : Frontend) (s : Session) → AgreeOn f s → IsNegotiated f → Stays s ResetDevice (ask f ResetDevice)
-  simple-reset_device f s agree on = search known depth 12
-
   simple-log_fd : (f : Frontend) (s : Session) (h : H) → AgreeOn f s → IsNegotiated f → Stays s (SetLogFd h) (ask f (SetLogFd h))
   simple-log_fd f s h agree on = known-silent (SetLogFd h) _ _ _ _ _
-
-  simple-vring_num : (f : Frontend) (s : Session) (i n : ℕ) → AgreeOn f s → IsNegotiated f → Stays s (SetVringNum i n) (ask f (SetVringNum i n))
-  simple-vring_num f s i n agree on = search known depth 12
-
-  simple-vring_base : (f : Frontend) (s : Session) (i n : ℕ) → AgreeOn f s → IsNegotiated f → Stays s (SetVringBase i n) (ask f (SetVringBase i n))
-  simple-vring_base f s i n agree on = search known depth 12
-
-  simple-vring_enable : (f : Frontend) (s : Session) (i : ℕ) (b : Bool) → AgreeOn f s → IsNegotiated f → Stays s (SetVringEnable i b) (ask f (SetVringEnable i b))
-  simple-vring_enable f s i b agree on = search known depth 12
-
-  simple-vring_addr : (f : Frontend) (s : Session) (i : ℕ) (c : VringConfigData) → AgreeOn f s → IsNegotiated f → Stays s (SetVringAddr i c) (ask f (SetVringAddr i c))
-  simple-vring_addr f s i c agree on = search known depth 12
-
-  simple-vring_call : (f : Frontend) (s : Session) (i : ℕ) (h : H) → AgreeOn f s → IsNegotiated f → Stays s (SetVringCall i h) (ask f (SetVringCall i h))
-  simple-vring_call f s i h agree on = search known depth 12
-
-  simple-vring_kick : (f : Frontend) (s : Session) (i : ℕ) (h : H) → AgreeOn f s → IsNegotiated f → Stays s (SetVringKick i h) (ask f (SetVringKick i h))
-  simple-vring_kick f s i h agree on = search known depth 12
-
-  simple-vring_err : (f : Frontend) (s : Session) (i : ℕ) (h : H) → AgreeOn f s → IsNegotiated f → Stays s (SetVringErr i h) (ask f (SetVringErr i h))
-  simple-vring_err f s i h agree on = search known depth 12
-
-  simple-set_config : (f : Frontend) (s : Session) (o n : ℕ) (bytes : List ℕ) → AgreeOn f s → IsNegotiated f → Stays s (SetConfig o n bytes) (ask f (SetConfig o n bytes))
-  simple-set_config f s o n bytes agree on = search known depth 12
-
-  simple-backend_fd : (f : Frontend) (s : Session) (h : H) → AgreeOn f s → IsNegotiated f → Stays s (SetBackendRequestFd h) (ask f (SetBackendRequestFd h))
-  simple-backend_fd f s h agree on = search known depth 12
-
-  simple-object : (f : Frontend) (s : Session) (name : VhostUserSharedMsg) → AgreeOn f s → IsNegotiated f → Stays s (GetSharedObject name) (ask f (GetSharedObject name))
-  simple-object f s name agree on = search known depth 12
-
-  simple-get_inflight : (f : Frontend) (s : Session) (i : VhostUserInflight) → AgreeOn f s → IsNegotiated f → Stays s (GetInflightFd i) (ask f (GetInflightFd i))
-  simple-get_inflight f s i agree on = search known depth 12
-
-  simple-set_inflight : (f : Frontend) (s : Session) (i : VhostUserInflight) (h : H) → AgreeOn f s → IsNegotiated f → Stays s (SetInflightFd i h) (ask f (SetInflightFd i h))
-  simple-set_inflight f s i h agree on = search known depth 12
-
-  simple-remove_region : (f : Frontend) (s : Session) (i : Info H) → AgreeOn f s → IsNegotiated f → Stays s (RemoveMemRegion i) (ask f (RemoveMemRegion i))
-  simple-remove_region f s i agree on = search known depth 12
-
-  simple-state : (f : Frontend) (s : Session) (t : VhostUserTransferDeviceState) (h : H) → AgreeOn f s → IsNegotiated f → Stays s (SetDeviceStateFd t h) (ask f (SetDeviceStateFd t h))
-  simple-state f s t h agree on = search known depth 12
-
-  simple-check : (f : Frontend) (s : Session) → AgreeOn f s → IsNegotiated f → Stays s CheckDeviceState (ask f CheckDeviceState)
-  simple-check f s agree on = search known depth 12
 
   -- ---- replies that change no session
 
@@ -477,40 +419,22 @@ module _ (H B G : Type 0) where
   -- ---- all calls
 
   pub keeps-step : KeepsStep H B G
-  keeps-step f s GetFeatures agree on fits = simple-features f s agree on
   keeps-step f s (SetFeatures n) agree on fits = simple-set_features f s n fits agree on
-  keeps-step f s SetOwner agree on fits = simple-owner f s agree on
-  keeps-step f s ResetOwner agree on fits = simple-reset_owner f s agree on
   keeps-step f s GetProtocolFeatures agree on fits = simple-protocol_features f s agree on
   keeps-step f s (SetProtocolFeatures n) agree on fits = simple-set_protocol_features f s n fits agree
   keeps-step f s GetQueueNum agree on fits = simple-queues f s agree on
-  keeps-step f s ResetDevice agree on fits = simple-reset_device f s agree on
   keeps-step f s (SetMemTable infos) agree on fits = simple-mem_table f s infos agree on
   keeps-step f s (SetLogBase base None) agree on fits = simple-no_log f s base agree on
   keeps-step f s (SetLogBase base (Some r)) agree on fits = simple-log f s base r agree on
   keeps-step f s (SetLogFd h) agree on fits = simple-log_fd f s h agree on
-  keeps-step f s (SetVringNum i n) agree on fits = simple-vring_num f s i n agree on
-  keeps-step f s (SetVringBase i n) agree on fits = simple-vring_base f s i n agree on
-  keeps-step f s (SetVringAddr i c) agree on fits = simple-vring_addr f s i c agree on
   keeps-step f s (GetVringBase i) agree on fits = simple-get_base f s i agree on
-  keeps-step f s (SetVringCall i h) agree on fits = simple-vring_call f s i h agree on
-  keeps-step f s (SetVringKick i h) agree on fits = simple-vring_kick f s i h agree on
-  keeps-step f s (SetVringErr i h) agree on fits = simple-vring_err f s i h agree on
-  keeps-step f s (SetVringEnable i b) agree on fits = simple-vring_enable f s i b agree on
   keeps-step f s (GetConfig o n flags buffer) agree on fits = simple-get_config f s o n flags buffer agree on
-  keeps-step f s (SetConfig o n bytes) agree on fits = simple-set_config f s o n bytes agree on
-  keeps-step f s (SetBackendRequestFd h) agree on fits = simple-backend_fd f s h agree on
-  keeps-step f s (GetSharedObject name) agree on fits = simple-object f s name agree on
-  keeps-step f s (GetInflightFd i) agree on fits = simple-get_inflight f s i agree on
-  keeps-step f s (SetInflightFd i h) agree on fits = simple-set_inflight f s i h agree on
   keeps-step f s GetMaxMemSlots agree on fits = simple-slots f s agree on
   keeps-step f s (AddMemRegion info) agree on fits = simple-add_region f s info agree on
-  keeps-step f s (RemoveMemRegion info) agree on fits = simple-remove_region f s info agree on
   keeps-step f s GetShmemConfig agree on fits = simple-shmem f s agree on
-  keeps-step f s (SetDeviceStateFd t h) agree on fits = simple-state f s t h agree on
-  keeps-step f s CheckDeviceState agree on fits = simple-check f s agree on
   keeps-step f s PostcopyAdvise agree on fits = simple-advise f s agree on
   keeps-step f s PostcopyListen agree on fits = simple-listen f s agree on
   keeps-step f s PostcopyEnd agree on fits = simple-end f s agree on
   keeps-step f s (PostcopyAckMemRegions r) agree on fits = simple-mapped f s r agree
   keeps-step f s (SetHdrFlags flags) agree on fits = record { offered = agree.offered; acked_p = agree.acked_p; postcopy = agree.postcopy; acked = agree.acked }
+  keeps-step f s _ agree on fits = search known depth 12
