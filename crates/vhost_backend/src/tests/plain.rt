@@ -4,6 +4,8 @@ use crate::{
     VHOST_MAX_MEMORY_REGIONS, VhostAccess, VhostIotlbMsg, VhostIotlbType, VhostUserDirtyLogRegion,
     VhostUserMemoryRegionInfo, VringConfigData, vring_is_valid,
 };
+use std::alloc::AllocError;
+use std::test::Fail;
 use vhost_message::VhostUserVringAddr;
 
 // A ring of this size.
@@ -58,8 +60,13 @@ fn logs(rt: HostRuntime) {
     assert_eq!(rt; (address.index, address.flags, address.log), (3, 1, 0));
 }
 
+// A copy of the default.
+fn copy_of_default<T: Clone + Default>() -> Result<T, AllocError> {
+    T::default().clone()
+}
+
 #[test]
-fn regions(rt: HostRuntime) {
+fn regions(rt: HostRuntime) -> Result<(), Fail> {
     let handle: u32 = 7;
     let info = VhostUserMemoryRegionInfo::new(0x1000, 0x2000, 0x7000, 0x300, Some(&handle));
     let copy = info;
@@ -75,11 +82,12 @@ fn regions(rt: HostRuntime) {
         (single.region().user_addr, single.region().mmap_offset),
         (0x7000, 0x300)
     );
-    let empty: VhostUserMemoryRegionInfo<'_, u32> = VhostUserMemoryRegionInfo::default();
+    let empty: VhostUserMemoryRegionInfo<'_, u32> = copy_of_default()?;
     assert!(rt; empty.memory_size == 0 && empty.mmap_handle.is_none());
-    let log: VhostUserDirtyLogRegion<'_, u32> = VhostUserDirtyLogRegion::default();
+    let log: VhostUserDirtyLogRegion<'_, u32> = copy_of_default()?;
     assert!(rt; log.mmap_size == 0 && log.mmap_handle.is_none());
     assert_eq!(rt; VHOST_MAX_MEMORY_REGIONS, 255);
+    Ok(())
 }
 
 #[test]
