@@ -11,8 +11,10 @@ pub struct VhostUserVirtioFeatures {
 }
 
 impl VhostUserVirtioFeatures {
+    /// Writes to guest memory are logged.
     pub const LOG_ALL: VhostUserVirtioFeatures = VhostUserVirtioFeatures { bits: 0x4000000 };
 
+    /// The features of the protocol are negotiated too.
     pub const PROTOCOL_FEATURES: VhostUserVirtioFeatures = VhostUserVirtioFeatures {
         bits: 0x40000000,
     };
@@ -58,64 +60,87 @@ pub struct VhostUserProtocolFeatures {
 }
 
 impl VhostUserProtocolFeatures {
+    /// Several queues: GET_QUEUE_NUM.
     pub const MQ: VhostUserProtocolFeatures = VhostUserProtocolFeatures { bits: 0x1 };
 
+    /// The log of dirty pages comes as shared memory.
     pub const LOG_SHMFD: VhostUserProtocolFeatures = VhostUserProtocolFeatures { bits: 0x2 };
 
+    /// SEND_RARP.
     pub const RARP: VhostUserProtocolFeatures = VhostUserProtocolFeatures { bits: 0x4 };
 
+    /// A request may ask for an acknowledgement.
     pub const REPLY_ACK: VhostUserProtocolFeatures = VhostUserProtocolFeatures { bits: 0x8 };
 
+    /// NET_SET_MTU.
     pub const MTU: VhostUserProtocolFeatures = VhostUserProtocolFeatures { bits: 0x10 };
 
+    /// The backend may send requests, over a channel of its own.
     pub const BACKEND_REQ: VhostUserProtocolFeatures = VhostUserProtocolFeatures { bits: 0x20 };
 
+    /// SET_VRING_ENDIAN.
     pub const CROSS_ENDIAN: VhostUserProtocolFeatures = VhostUserProtocolFeatures { bits: 0x40 };
 
+    /// CREATE_CRYPTO_SESSION and CLOSE_CRYPTO_SESSION.
     pub const CRYPTO_SESSION: VhostUserProtocolFeatures = VhostUserProtocolFeatures { bits: 0x80 };
 
+    /// Migration by postcopy.
     pub const PAGEFAULT: VhostUserProtocolFeatures = VhostUserProtocolFeatures { bits: 0x100 };
 
+    /// GET_CONFIG and SET_CONFIG.
     pub const CONFIG: VhostUserProtocolFeatures = VhostUserProtocolFeatures { bits: 0x200 };
 
+    /// The backend may send handles over its channel.
     pub const BACKEND_SEND_FD: VhostUserProtocolFeatures = VhostUserProtocolFeatures {
         bits: 0x400,
     };
 
+    /// The backend may register notifiers of the host.
     pub const HOST_NOTIFIER: VhostUserProtocolFeatures = VhostUserProtocolFeatures { bits: 0x800 };
 
+    /// GET_INFLIGHT_FD and SET_INFLIGHT_FD.
     pub const INFLIGHT_SHMFD: VhostUserProtocolFeatures = VhostUserProtocolFeatures {
         bits: 0x1000,
     };
 
+    /// RESET_DEVICE.
     pub const RESET_DEVICE: VhostUserProtocolFeatures = VhostUserProtocolFeatures { bits: 0x2000 };
 
+    /// Rings are notified by messages.
     pub const INBAND_NOTIFICATIONS: VhostUserProtocolFeatures = VhostUserProtocolFeatures {
         bits: 0x4000,
     };
 
+    /// Regions are added and removed one by one.
     pub const CONFIGURE_MEM_SLOTS: VhostUserProtocolFeatures = VhostUserProtocolFeatures {
         bits: 0x8000,
     };
 
+    /// GET_STATUS and SET_STATUS.
     pub const STATUS: VhostUserProtocolFeatures = VhostUserProtocolFeatures { bits: 0x10000 };
 
+    /// Regions say how Xen maps them.
     pub const XEN_MMAP: VhostUserProtocolFeatures = VhostUserProtocolFeatures { bits: 0x20000 };
 
+    /// Objects are shared by name.
     pub const SHARED_OBJECT: VhostUserProtocolFeatures = VhostUserProtocolFeatures {
         bits: 0x40000,
     };
 
+    /// The state of the device is transferred.
     pub const DEVICE_STATE: VhostUserProtocolFeatures = VhostUserProtocolFeatures { bits: 0x80000 };
 
+    /// A ring may stop while descriptors are in flight.
     pub const GET_VRING_BASE_INFLIGHT: VhostUserProtocolFeatures = VhostUserProtocolFeatures {
         bits: 0x100000,
     };
 
+    /// Addresses may be those of the guest.
     pub const GPA_ADDRESSES: VhostUserProtocolFeatures = VhostUserProtocolFeatures {
         bits: 0x200000,
     };
 
+    /// Shared memory regions of the device.
     pub const SHMEM: VhostUserProtocolFeatures = VhostUserProtocolFeatures { bits: 0x400000 };
 
     const FLAGS: &'static [Flag<VhostUserProtocolFeatures>] = &[

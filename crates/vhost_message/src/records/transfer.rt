@@ -10,7 +10,8 @@ use crate::bytes::{ByteValued, VhostUserMsgValidator};
 use crate::transfer_state::{VhostTransferStateDirection, VhostTransferStatePhase};
 use byteorder::{ByteOrder, LittleEndian};
 
-/// Which way the device's state goes, and in which phase (vhost-user specification, "Device state transfer parameters").
+/// Which way the device's state goes, and in which phase (vhost-user specification, "Device state transfer
+/// parameters").
 #[derive(Clone, Copy, Default)]
 pub struct VhostUserTransferDeviceState {
     /// The number of a `VhostTransferStateDirection`.
