@@ -1,0 +1,17 @@
+pub mod Failing
+pub mod Faults
+pub mod Splitting
+pub mod Reading
+pub mod Rows
+pub mod Telling
+pub mod Handling
+pub mod Replies
+pub mod Numbers
+pub mod Bare
+pub mod Taking
+pub mod OnWay
+pub mod Carrying
+pub mod Spent
+pub mod Outcomes
+pub mod Exchange
+pub mod Running

@@ -1,0 +1,82 @@
+-- Runs of calls, one call after another.
+use Rattle.std.proofs.Common.{◌≡◌, ℕ, ◌+◌, suc, get_or, ◌<◌, List, [], ◌∷◌, ◌++◌, length, take, drop, Option, Some, None, Result, Ok, Err, refl, sym, ◌∙◌, ap, subst, arith, inl, inr, ◌⊎◌, append_assoc, false}
+use Rattle.std.proofs.lemmas.List.{append-nil, take-append-drop}
+use Rattle.std.proofs.Math.Seq.{take-suc, drop-cons}
+use Rattle.std.specs.Prelude.{⊤, is_some, is_err, OnOk}
+use Rattle.vhost_protocol.specs.DeviceCall.{Call, Answer}
+use Rattle.vhost_link.specs.declared.plain.PlainHandle.{PlainHandle}
+use Rattle.vhost_pair.specs.declared.call.FrontendCall as code
+use Rattle.vhost_pair.specs.declared.call.FrontendAnswer.{FrontendAnswer}
+use Rattle.vhost_pair.specs.declared.halt.Halt.{Halt}
+use Rattle.vhost_pair.specs.Joined.{View, Steps, StepsAll, RunsCalls, call_of}
+
+module _ {Dev : Type 0} (gives : Dev → (c : Call PlainHandle ⊤ ⊤) → Answer c → Dev → Type 0) where
+  -- each call was answered
+  pub data Did (old : View Dev) : List code.FrontendCall → List FrontendAnswer → View Dev → Type 0 where
+    none : Did old [] [] old
+    next : {cs : List code.FrontendCall} {as' : List FrontendAnswer} {mid new : View Dev} (c : code.FrontendCall) (a : FrontendAnswer)
+        → Did old cs as' mid → Steps gives mid (call_of c) (Ok a) new → Did old (cs ++ c ∷ []) (as' ++ a ∷ []) new
+
+  -- what follows answered calls
+  did-then : (old mid new : View Dev) (cs more : List code.FrontendCall) (as' bs : List FrontendAnswer) (end : Result ⊤ Halt)
+      → Did old cs as' mid → StepsAll gives mid more bs end new → StepsAll gives old (cs ++ more) (as' ++ bs) end new
+  did-then old mid new _ more _ bs end none s = s
+  did-then old mid new _ more _ bs end (next {cs = cs} {as' = as'} {mid = m} c a did step) s =
+      subst (λ xs. StepsAll gives old xs ((as' ++ a ∷ []) ++ bs) end new) (sym (append_assoc cs (c ∷ []) more))
+      (subst (λ ys. StepsAll gives old (cs ++ c ∷ more) ys end new) (sym (append_assoc as' (a ∷ []) bs))
+      (did-then old m new cs (c ∷ more) as' (a ∷ bs) end did (mid, step, s)))
+
+  pub did-all : (old new : View Dev) (cs : List code.FrontendCall) (as' : List FrontendAnswer) → Did old cs as' new → StepsAll gives old cs as' (Ok tt) new
+  did-all old new cs as' did =
+      subst (λ xs. StepsAll gives old xs as' (Ok tt) new) (append-nil cs) (subst (λ ys. StepsAll gives old (cs ++ []) ys (Ok tt) new) (append-nil as') (did-then old new new cs [] as' [] (Ok tt) did refl))
+
+  pub did-until : (old mid new : View Dev) (cs : List code.FrontendCall) (c : code.FrontendCall) (more : List code.FrontendCall) (as' : List FrontendAnswer) (h : Halt)
+      → Did old cs as' mid → Steps gives mid (call_of c) (Err h) new → StepsAll gives old (cs ++ c ∷ more) as' (Err h) new
+  did-until old mid new cs c more as' h did step =
+      subst (λ ys. StepsAll gives old (cs ++ c ∷ more) ys (Err h) new) (append-nil as') (did-then old mid new cs (c ∷ more) as' [] (Err h) did step)
+
+  -- Calls that were answered, and their answers behind others.
+  pub record Ran (old : View Dev) (calls : List code.FrontendCall) (before after : List FrontendAnswer) (new : View Dev) : Type 0 where
+    pub answers : List FrontendAnswer
+    pub grown : after ≡ before ++ answers
+    pub did : Did old calls answers new
+
+  pub ran-none : (old : View Dev) (before : List FrontendAnswer) → Ran old [] before before old
+  ran-none old before = record { answers = []; grown = sym (append-nil before); did = none }
+
+  pub ran-next : (old mid new : View Dev) (calls : List code.FrontendCall) (before after : List FrontendAnswer) (c : code.FrontendCall) (a : FrontendAnswer)
+      → Ran old calls before after mid → Steps gives mid (call_of c) (Ok a) new → Ran old (calls ++ c ∷ []) before (after ++ a ∷ []) new
+  ran-next old mid new calls before after c a r step = record {
+    answers = r.answers ++ a ∷ [];
+    grown = ap (λ xs. xs ++ a ∷ []) r.grown ∙ append_assoc before r.answers (a ∷ []);
+    did = next c a r.did step;
+  }
+
+  pub ran-all : (old new : View Dev) (calls : List code.FrontendCall) (before after : List FrontendAnswer) → Ran old calls before after new → RunsCalls gives old calls before (Ok tt) after new
+  ran-all old new calls before after r = record { answers = r.answers; appended = r.grown; steps = inl (did-all old new calls r.answers r.did) }
+
+  pub ran-until : (old mid new : View Dev) (calls : List code.FrontendCall) (before after : List FrontendAnswer) (c : code.FrontendCall) (more : List code.FrontendCall) (h : Halt)
+      → Ran old calls before after mid → Steps gives mid (call_of c) (Err h) new → RunsCalls gives old (calls ++ c ∷ more) before (Err h) after new
+  ran-until old mid new calls before after c more h r step = record { answers = r.answers; appended = r.grown; steps = inl (did-until old mid new calls c more r.answers h r.did step) }
+
+pub not-stopped : {A : Type 0} (o : Option A) → is_some o ≡ false → o ≡ None
+not-stopped None e = refl
+not-stopped (Some a) e = absurd (cc e)
+
+module _ {Dev : Type 0} (gives : Dev → (c : Call PlainHandle ⊤ ⊤) → Answer c → Dev → Type 0) (calls : List code.FrontendCall) (i : ℕ) (d : code.FrontendCall) (within : i < length calls) where
+  cut-there : take i calls ++ get_or calls i d ∷ drop (suc i) calls ≡ calls
+  cut-there = ap (λ xs. take i calls ++ xs) (sym (drop-cons calls i d within)) ∙ take-append-drop i calls
+
+  pub ran-one : (old mid new : View Dev) (before after : List FrontendAnswer) (a : FrontendAnswer)
+      → Ran gives old (take i calls) before after mid → Steps gives mid (call_of (get_or calls i d)) (Ok a) new → Ran gives old (take (i + 1) calls) before (after ++ a ∷ []) new
+  ran-one old mid new before after a r step =
+      let e : suc i ≡ i + 1 = omega arith in
+      subst (λ cs. Ran gives old cs before (after ++ a ∷ []) new) (sym (take-suc calls i d within) ∙ ap (λ n. take n calls) e) (ran-next gives old mid new (take i calls) before after (get_or calls i d) a r step)
+
+  pub ran-to : (old mid new : View Dev) (before after : List FrontendAnswer) (h : Halt)
+      → Ran gives old (take i calls) before after mid → Steps gives mid (call_of (get_or calls i d)) (Err h) new → RunsCalls gives old calls before (Err h) after new
+  ran-to old mid new before after h r step = subst (λ cs. RunsCalls gives old cs before (Err h) after new) cut-there (ran-until gives old mid new (take i calls) before after (get_or calls i d) (drop (suc i) calls) h r step)
+
+pub found : {A E : Type 0} (r : Result A E) (P : Type 0) → is_err r ≡ false → OnOk r P → P
+found (Ok a) P e p = p
+found (Err x) P e p = absurd (cc e)

@@ -1,0 +1,30 @@
+use Rattle.std.proofs.Common.{◌≡◌, ◌∙◌, ap, sym, subst, arith, take, [], Ok, ◌+◌}
+use Rattle.std.proofs.lemmas.List.{take_all}
+use Rattle.std.proofs.lemmas.Result.{err_from_is_err_and}
+use Rattle.vhost_pair.specs.declared.call.FrontendCall.TheVariants.{GetFeatures}
+use Rattle.vhost_pair.proofs.Running.{Ran, ran-none, ran-all, ran-one, ran-to, found}
+use Rattle.vhost_pair.specs.Joined.{RunsCalls}
+use Rattle.vhost_pair.proofs.joined.Joined.run.Goals as goal
+
+pub loop-call-init : goal.loop-call-init
+loop-call-init g c = record {
+  ran = subst (λ xs. Ran g.D.VhostUserBackendReqHandlerMut.gives c.args.self.now [] c.args.out.now.items xs c.args.self.now) (sym c.reserve.ensures.items) (ran-none g.D.VhostUserBackendReqHandlerMut.gives c.args.self.now c.args.out.now.items);
+  room = let room = found c.reserve.result _ (sym c.is_err.ensures.value ∙ c.if-is_err.false) c.reserve.ensures.ok in omega (arith, room);
+}
+
+pub loop-call-preserved : goal.loop-call-preserved
+loop-call-preserved g c = record {
+  ran = subst (λ xs. Ran g.D.VhostUserBackendReqHandlerMut.gives c.args.self.now (take (c.loop-call.call-index + 1) c.args.calls.now) c.args.out.now.items xs c.step.new.self) (sym c.push_reserved.ensures.items)
+      (ran-one g.D.VhostUserBackendReqHandlerMut.gives c.args.calls.now c.loop-call.call-index _ c.loop-call-test.true c.args.self.now c.loop-call.self c.step.new.self c.args.out.now.items c.loop-call.out.items c.in_ok-answer.answer c.loop-call.invariant.ran c.in_ok-answer.ensures);
+  room = omega (arith, c.loop-call.invariant.room, c.push_reserved.ensures.len, c.push_reserved.ensures.capacity, c.loop-call-test.true);
+}
+
+pub returns-in_err-answer : goal.returns-in_err-answer
+returns-in_err-answer g c =
+    let p = err_from_is_err_and c.from_residual.result c.from_residual.ensures.1 in
+    rw (p.1, p.2) (ran-to g.D.VhostUserBackendReqHandlerMut.gives c.args.calls.now c.loop-call.call-index GetFeatures c.loop-call-test.true c.args.self.now c.loop-call.self c.step.new.self c.args.out.now.items c.loop-call.out.items c.in_err-answer.field-0.0 c.loop-call.invariant.ran c.in_err-answer.ensures)
+
+pub returns : goal.returns
+returns g c =
+    subst (λ cs. RunsCalls g.D.VhostUserBackendReqHandlerMut.gives c.args.self.now cs c.args.out.now.items (Ok tt) c.loop-call.out.items c.loop-call.self) (take_all c.loop-call.call-index c.args.calls.now c.loop-call-test.false)
+    (ran-all g.D.VhostUserBackendReqHandlerMut.gives c.args.self.now c.loop-call.self (take c.loop-call.call-index c.args.calls.now) c.args.out.now.items c.loop-call.out.items c.loop-call.invariant.ran)

@@ -1,0 +1,116 @@
+-- Joined runs, as contracts see them.
+use Rattle.std.specs.Prelude.{◌≡◌, ℕ, ◌+◌, ◌<◌, List, [], ◌∷◌, ◌++◌, take, drop, sum_by, Option, Some, None, Bool, true, false, ◌⊎◌, if◌then◌else◌, Result, Ok, Err, ⊤, is_some}
+use Rattle.vhost_protocol.specs.Stream.{Cell}
+use Rattle.vhost_protocol.specs.Error.{Error, OutOfMemory, seen}
+use Rattle.vhost_protocol.specs.Session.{Session}
+use Rattle.vhost_protocol.specs.DeviceCall.{Call, Answer, GetFeatures, SetOwner}
+use Rattle.vhost_protocol.specs.FrontendCall.{FrontendCall, Value, Nothing, Number, Frontend}
+use Rattle.vhost_protocol.specs.FrontendCall as calls
+use Rattle.vhost_protocol.specs.Ask.{Awaited}
+use Rattle.vhost_protocol.specs.Joined.{Shown, InStep, JoinedStep}
+use Rattle.vhost_link.specs.declared.plain.PlainHandle.{PlainHandle}
+use Rattle.vhost_link.specs.declared.cut.Cut.{Cut}
+use Rattle.vhost_link.specs.Cuts.{retry, failure}
+use Rattle.vhost_pair.specs.Text.{Text, text_of}
+use Rattle.vhost_pair.specs.declared.call.FrontendCall as code
+use Rattle.vhost_pair.specs.declared.call.FrontendCall.TheVariants as call
+use Rattle.vhost_pair.specs.declared.call.FrontendAnswer.{FrontendAnswer}
+use Rattle.vhost_pair.specs.declared.call.FrontendAnswer.TheVariants as answer
+use Rattle.vhost_pair.specs.declared.halt.Halt.{Halt}
+use Rattle.vhost_pair.specs.declared.halt.Halt.TheVariants as halt
+use Rattle.vhost_pair.specs.declared.halt.Stop.{Stop}
+use Rattle.vhost_pair.specs.declared.halt.Stop.TheVariants as stop
+
+-- a call of the code
+abbrev pub call_of : {H : Type 0} → code.FrontendCall → FrontendCall H
+call_of call.GetFeatures = calls.GetFeatures
+call_of call.SetOwner = calls.SetOwner
+
+-- an answer of the code
+abbrev pub answer_of : {H : Type 0} → FrontendAnswer → Result (Value H) Error
+answer_of (answer.Failed e) = Err (seen e)
+answer_of answer.Done = Ok Nothing
+answer_of (answer.Number n) = Ok (Number n)
+
+-- the script of a link, and whether a send of it ever failed for want of memory
+pub record Cuts : Type 0 where
+  pub script : List Cut
+  pub starved : Bool
+
+-- A joined run: both sessions, what is awaited, the device, what is on the way, and what the last step wrote.
+pub record View (Dev : Type 0) : Type 0 where
+  pub frontend : Frontend
+  pub awaited : Awaited
+  pub session : Session
+  pub device : Dev
+  pub to_handler : List (Cell PlainHandle)
+  pub to_frontend : List (Cell PlainHandle)
+  -- the two links, and how many retries one message may take
+  pub asking : Cuts
+  pub serving : Cuts
+  pub budget : ℕ
+  -- the messages of the last step that was answered
+  pub request : Text
+  pub reply : Text
+  pub stopped : Option Stop
+
+-- So many cuts of a link's script were used, and among them a fault, or more retries than one message may take. Each want of memory is a retry, too.
+pub record IsSpent (budget : ℕ) (old new : Cuts) : Type 0 where
+  pub used : ℕ
+  pub wants : ℕ
+  pub script : new.script ≡ drop used old.script
+  pub want : 0 < wants → new.starved ≡ true
+  pub spent : (0 < sum_by failure (take used old.script)) ⊎ (budget < sum_by retry (take used old.script) + wants)
+
+-- So many cuts of a link's script were used; a want of memory is remembered.
+pub record IsUsed (old new : Cuts) : Type 0 where
+  pub used : ℕ
+  pub script : new.script ≡ drop used old.script
+  pub starved : old.starved ≡ true → new.starved ≡ true
+
+module _ {Dev : Type 0} (gives : Dev → (c : Call PlainHandle ⊤ ⊤) → Answer c → Dev → Type 0) where
+  -- A premise of the lockstep failed in a step: a link failed or spent a budget, or the device had no memory.
+  pub data Breaks (old new : View Dev) : Type 0 where
+    asking : IsSpent old.budget old.asking new.asking → Breaks old new
+    serving : IsSpent old.budget old.serving new.serving → Breaks old new
+    features : {d : Dev} → gives old.device GetFeatures (Err OutOfMemory) d → Breaks old new
+    owner : {d : Dev} → gives old.device SetOwner (Err OutOfMemory) d → Breaks old new
+
+  -- The step is that of the protocol: its messages, the device's move, the answer and both sessions. Nothing is left on the way,
+  -- and the run stops exactly where the definition says.
+  pub record Keeps (old : View Dev) (call : FrontendCall PlainHandle) (result : Result (Value PlainHandle) Error) (new : View Dev) : Type 0 where
+    pub shown : Shown PlainHandle
+    pub step : JoinedStep gives (λ h x. ⊤) (λ h x. ⊤) old.frontend old.session old.device call shown new.frontend new.session new.device
+    pub answered : result ≡ shown.result
+    pub request : new.request ≡ text_of shown.request
+    pub reply : new.reply ≡ text_of shown.reply
+    pub stopped : new.stopped ≡ (if shown.last then Some stop.Table else None)
+    pub in_step : shown.last ≡ false → InStep new.frontend new.session new.awaited new.to_handler new.to_frontend
+    pub no_request : new.to_handler ≡ []
+    pub no_reply : new.to_frontend ≡ []
+    pub asking : IsUsed old.asking new.asking
+    pub serving : IsUsed old.serving new.serving
+    pub budget : new.budget ≡ old.budget
+
+  -- an answered step: that of the protocol, or a premise failed and the run stopped
+  abbrev pub Answers : View Dev → FrontendCall PlainHandle → Result (Value PlainHandle) Error → View Dev → Type 0
+  Answers old call result new = Keeps old call result new ⊎ ((new.stopped ≡ Some stop.Premise) × Breaks old new)
+
+  -- one step: a run that stopped before, and want of memory before the first byte, change nothing
+  abbrev pub Steps : View Dev → FrontendCall PlainHandle → Result FrontendAnswer Halt → View Dev → Type 0
+  Steps old call (Ok a) new = (old.stopped ≡ None) × Answers old call (answer_of a) new
+  Steps old call (Err halt.Stopped) new = (is_some old.stopped ≡ true) × (new ≡ old)
+  Steps old call (Err halt.OutOfMemory) new = (old.stopped ≡ None) × (new ≡ old)
+
+  -- steps one after another, until one is not done
+  abbrev pub StepsAll : View Dev → List code.FrontendCall → List FrontendAnswer → Result ⊤ Halt → View Dev → Type 0
+  StepsAll old [] [] (Ok u) new = new ≡ old
+  StepsAll old (c ∷ cs) [] (Err h) new = Steps old (call_of c) (Err h) new
+  StepsAll old (c ∷ cs) (a ∷ as') end new = (mid : View Dev) × Steps old (call_of c) (Ok a) mid × StepsAll mid cs as' end new
+  StepsAll _ _ _ _ _ = ⊥
+
+  -- the answers that a run of calls appends; where there is no room for them, no call is done
+  pub record RunsCalls (old : View Dev) (calls : List code.FrontendCall) (before : List FrontendAnswer) (result : Result ⊤ Halt) (after : List FrontendAnswer) (new : View Dev) : Type 0 where
+    pub answers : List FrontendAnswer
+    pub appended : after ≡ before ++ answers
+    pub steps : StepsAll old calls answers result new ⊎ ((result ≡ Err halt.OutOfMemory) × (answers ≡ []) × (new ≡ old))

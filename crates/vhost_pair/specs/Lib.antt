@@ -1,0 +1,12 @@
+pub mod Session
+pub mod Core
+pub mod Dummy
+pub mod Hearing
+pub mod Serving
+pub mod Asking
+pub mod Frontend
+pub mod OnWay
+pub mod Text
+pub mod Wire
+pub mod Joined
+pub mod Sides

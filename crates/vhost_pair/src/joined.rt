@@ -1,0 +1,119 @@
+//! A frontend and a handler joined over two links in memory.
+
+ghost use Rattle.std.specs.Prelude.{◌≡◌, IfOk, IfErr};
+ghost use Rattle.vhost_pair.specs.declared.halt.Halt.TheVariants.{OutOfMemory};
+
+use crate::call::{FrontendAnswer, FrontendCall};
+use crate::device::VhostUserBackendReqHandlerMut;
+use crate::halt::{Halt, Stop};
+use crate::sides::Sides;
+use std::alloc::Global;
+use std::marker::Model;
+use vhost_link::{Cut, MemLink, PlainHandle};
+
+/// A frontend and a handler joined over two links in memory, with a device behind the handler.
+#[derive(Drop)]
+pub struct Joined<D: Drop> {
+    sides: Sides<D>,
+    stopped: Option<Stop>,
+}
+
+impl<D: Drop> Model for Joined<D> {
+    ghost use Rattle.std.specs.Prelude.{◌≡◌, None};
+    ghost use Rattle.vhost_pair.specs.Joined.{View};
+    ghost use Rattle.vhost_pair.specs.Sides.{view_of, AreAtRest};
+
+    ghost Value = { View D };
+
+    ghost view = { λ run. view_of run.sides run.stopped };
+
+    ghost invariant = { λ run. run.stopped ≡ None → AreAtRest run.sides };
+}
+
+impl<D: VhostUserBackendReqHandlerMut<Link = MemLink>> Joined<D> {
+    ghost use Rattle.vhost_pair.specs.Joined.{Steps, RunsCalls, call_of};
+    ghost use Rattle.vhost_pair.specs.Sides.{fresh_run};
+
+    /// Two new sessions over two new links, which are cut as the scripts say: the first that of the frontend. The
+    /// device has at most so many queues, and a message may take so many retries.
+    ///
+    /// `Halt::OutOfMemory`: a growth was refused.
+    pub fn new(
+        alloc: Global,
+        device: D,
+        max_queue_num: u64,
+        budget: u32,
+        scripts: (Vec<Cut>, Vec<Cut>),
+    ) -> Result<Self, Halt>
+        ensures fresh { IfOk result (λ run. run ≡ fresh_run device max_queue_num budget scripts.0.items scripts.1.items) }
+        ensures memory { IfErr result (λ halt. halt ≡ OutOfMemory) }
+    {
+        let (asking, serving) = scripts;
+        match Sides::new(alloc, device, max_queue_num, budget, asking, serving) {
+            Ok(sides) => Ok(Joined {
+                sides,
+                stopped: None,
+            }),
+            Err(_) => Err(Halt::OutOfMemory),
+        }
+    }
+
+    /// Does one call: the request goes to the handler, which asks the device, and the reply comes back.
+    ///
+    /// `Halt::Stopped`: the run has stopped before. `Halt::OutOfMemory`: a growth was refused before the first byte.
+    /// In both cases nothing changed.
+    pub fn step(&mut self, call: FrontendCall) -> Result<FrontendAnswer, Halt>
+        ensures { Steps D.gives self.old (call_of call) result self.new }
+    {
+        if self.stopped.is_some() {
+            return Err(Halt::Stopped);
+        }
+        if self.sides.prepare().is_err() {
+            return Err(Halt::OutOfMemory);
+        }
+        let done = self.sides.exchange(call);
+        self.stopped = done.stop;
+        Ok(done.answer)
+    }
+
+    /// Does calls one after another, until one is not done, and appends their answers to `out`.
+    ///
+    /// `Halt::OutOfMemory`: also where `out` could not grow, before the first call.
+    pub fn run(&mut self, calls: &[FrontendCall], out: &mut Vec<FrontendAnswer>) -> Result<(), Halt>
+        ensures { RunsCalls D.gives self.old calls.now out.old.items result out.new.items self.new }
+    {
+        if out.reserve(calls.len()).is_err() {
+            return Err(Halt::OutOfMemory);
+        }
+        for call in calls {
+            let answer = self.step(*call)?;
+            out.push_reserved(answer);
+        }
+        Ok(())
+    }
+
+    /// Whether and why the run has stopped.
+    pub fn stopped(&self) -> Option<Stop>
+        ensures { result ≡ self.now.stopped }
+    {
+        self.stopped
+    }
+
+    /// The bytes of the request that the last answered step wrote, and the handles on the first of them.
+    pub fn last_request(&self) -> (&[u8], &[PlainHandle])
+        ensures bytes { result.0.now ≡ self.now.request.bytes }
+        ensures handles { result.1.now ≡ self.now.request.handles }
+    {
+        let request = self.sides.request();
+        (request.bytes(), request.handles())
+    }
+
+    /// The bytes of the reply that the last answered step wrote, and the handles on the first of them.
+    pub fn last_reply(&self) -> (&[u8], &[PlainHandle])
+        ensures bytes { result.0.now ≡ self.now.reply.bytes }
+        ensures handles { result.1.now ≡ self.now.reply.handles }
+    {
+        let reply = self.sides.reply();
+        (reply.bytes(), reply.handles())
+    }
+}
