@@ -1,27 +1,26 @@
 -- A request without a body goes out.
-use Rattle.std.proofs.Common.{◌≡◌, ℕ, zero, suc, ◌+◌, ◌*◌, ◌/◌, ◌%◌, ◌<◌, ◌≤◌, List, [], ◌++◌, length, take, refl, sym, ap, subst, ◌∙◌, arith, Bool, true, false, Option, Some, None, Result, Ok, Err, length-take}
+use Rattle.std.proofs.Common.{◌≡◌, ℕ, zero, suc, ◌+◌, ◌*◌, ◌/◌, ◌%◌, ◌<◌, ◌≤◌, [], length, take, refl, sym, ap, subst, ◌∙◌, arith, Bool, true, false, Result, Ok, Err, length-take}
 use Rattle.std.specs.Prelude.{◌==◌, IfOk, IfErr, is_err}
 use Rattle.std.proofs.lemmas.List.{append-nil}
 use Rattle.vhost_message.specs.declared.error.Error as declared
-use Rattle.vhost_message.specs.declared.error.Error.TheVariants.{OutOfMemory}
 use Rattle.vhost_message.specs.declared.frontend_req.FrontendReq.{FrontendReq}
 use Rattle.vhost_message.specs.FrontendReq.{request_number}
 use Rattle.vhost_message.specs.Bits.{has_bit}
 use Rattle.vhost_message.specs.Header.{Header, header_text, with_version}
 use Rattle.vhost_message.specs.MsgHeader.{fields_of}
-use Rattle.vhost_protocol.specs.Stream.{Cell, carrying}
+use Rattle.vhost_protocol.specs.Stream.{carrying}
 use Rattle.vhost_protocol.specs.Written.{header_flags, head_of, written_cells}
 use Rattle.vhost_protocol.specs.FrontendCall.{Frontend}
 use Rattle.vhost_protocol.specs.Ask.{Awaited}
 use Rattle.vhost_link.specs.Law.{Event}
 use Rattle.vhost_link.proofs.Cells.{length-carrying}
 use Rattle.vhost_connection.specs.Pass.{sends}
-use Rattle.vhost_connection.specs.Talk.{State, Talks, Serves, Trouble}
+use Rattle.vhost_connection.specs.Talk.{State, Talks, Serves}
 use Rattle.vhost_connection.specs.Calls.{Sends}
 use Rattle.vhost_pair.specs.Hearing.{Fails}
 use Rattle.vhost_pair.specs.Hearing.Fails.{was_broken, no_memory, fault}
 use Rattle.vhost_pair.specs.Session.{awaited_of}
-use Rattle.vhost_pair.specs.Asking.{bare_request, BareGoes, SendsBare}
+use Rattle.vhost_pair.specs.Asking.{bare_request, BareGoes}
 use Rattle.vhost_pair.specs.declared.frontend.asked.Sent.{Sent}
 use Rattle.vhost_pair.specs.declared.frontend.asked.Awaited as declared_awaited
 use Rattle.vhost_pair.proofs.Failing.{trouble-fails}

@@ -1,5 +1,5 @@
 -- One exchange between both sides over links in memory.
-use Rattle.std.proofs.Common.{◌≡◌, ℕ, ◌+◌, ◌<◌, ◌≤◌, ◌⊎◌, inl, inr, Bool, true, false, cond, ◌&&◌, List, [], ◌∷◌, ◌++◌, length, Option, Some, None, Result, Ok, Err, refl, sym, ◌∙◌, ap, subst, arith, lit<, is_err, drop, append_assoc}
+use Rattle.std.proofs.Common.{◌≡◌, ◌≤◌, ◌⊎◌, inl, inr, Bool, true, false, cond, List, [], ◌∷◌, ◌++◌, length, Option, Some, None, Result, Ok, Err, refl, sym, ◌∙◌, ap, subst, append_assoc}
 use Rattle.std.specs.Prelude.{⊤, ◌||◌}
 use Rattle.std.proofs.lemmas.List.{append-nil}
 use Rattle.vhost_message.specs.Bits.{has_bit}
@@ -9,39 +9,34 @@ use Rattle.vhost_message.specs.declared.frontend_req.FrontendReq.{FrontendReq}
 use Rattle.vhost_message.specs.FrontendReq.{request_of, request_number}
 use Rattle.vhost_message.specs.Header.{Header}
 use Rattle.vhost_message.specs.MsgHeader.{fields_of}
-use Rattle.vhost_protocol.specs.AnswerTable.{Answered, answered, answer}
-use Rattle.vhost_protocol.specs.Ask.{Awaited, Nobody, Asked, Sends, Refuses, ask, ack}
+use Rattle.vhost_protocol.specs.AnswerTable.{Answered, answered}
+use Rattle.vhost_protocol.specs.Ask.{Awaited, Nobody, Asked, Sends}
 use Rattle.vhost_protocol.specs.Codes.{wanted}
 use Rattle.vhost_protocol.specs.DeviceCall.{Call, Answer, GetFeatures, SetOwner}
 use Rattle.vhost_protocol.specs.Error.{Error, OutOfMemory, seen, seen_result}
 use Rattle.vhost_protocol.specs.FrontendCall.{Frontend}
-use Rattle.vhost_protocol.specs.Handler.{Meets, MeetsRow}
-use Rattle.vhost_protocol.specs.Joined.{AgreeOn, InStep, Shown, Exchanges, is_last, is_silent, is_end, read_as}
+use Rattle.vhost_protocol.specs.Handler.{Meets}
+use Rattle.vhost_protocol.specs.Joined.{AgreeOn, InStep, Shown, Exchanges, is_last, is_end, read_as}
 use Rattle.vhost_protocol.specs.Run as handler
 use Rattle.vhost_protocol.specs.Served.{Served, Silent, Acknowledged, Replied, reply, cells_of}
 use Rattle.vhost_protocol.specs.Session.{Session}
-use Rattle.vhost_protocol.specs.Split.{Message, split}
+use Rattle.vhost_protocol.specs.Split.{split}
 use Rattle.vhost_protocol.specs.Step.{Outcome}
-use Rattle.vhost_protocol.specs.Stream.{Cell, bytes, heard}
+use Rattle.vhost_protocol.specs.Stream.{Cell, bytes}
 use Rattle.vhost_protocol.specs.Take.{take}
 use Rattle.vhost_protocol.specs.Written.{Written, header_flags, head_of, written_cells}
 use Rattle.vhost_protocol.proofs.TextLaws.{written-split}
 use Rattle.vhost_link.specs.declared.plain.PlainHandle.{PlainHandle}
 use Rattle.vhost_link.specs.Ends.{Ends}
-use Rattle.vhost_link.specs.Law.{Move}
 use Rattle.vhost_link.specs.Mem.{event}
-use Rattle.vhost_link.proofs.MemStream.{mem-stream}
-use Rattle.vhost_connection.specs.Talk.{State, Talks}
+use Rattle.vhost_connection.specs.Talk.{State}
 use Rattle.vhost_pair.specs.declared.call.FrontendAnswer.{FrontendAnswer}
-use Rattle.vhost_pair.specs.declared.call.FrontendAnswer.TheVariants.{Failed}
 use Rattle.vhost_pair.specs.declared.call.FrontendCall as code
 use Rattle.vhost_pair.specs.declared.frontend.asked.Sent.{Sent}
 use Rattle.vhost_pair.specs.declared.halt.Stop.{Stop}
 use Rattle.vhost_pair.specs.declared.halt.Stop.TheVariants.{Table, Premise}
 use Rattle.vhost_pair.specs.Session.{awaited_of}
-use Rattle.vhost_pair.specs.Hearing.{Hears, Fails}
 use Rattle.vhost_pair.specs.Asking.{Asks, AsksHalf, Takes, unread, read}
-use Rattle.vhost_pair.specs.Serving as serving
 use Rattle.vhost_pair.specs.Serving.{Handled, HandlesOne, MeetsServed, fitting}
 use Rattle.vhost_pair.specs.OnWay.{coming, gone, Carries}
 use Rattle.vhost_pair.specs.Text.{Text, text_of}

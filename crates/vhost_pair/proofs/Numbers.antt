@@ -1,27 +1,23 @@
 -- A reply of one number, from what the endpoint received.
-use Rattle.std.proofs.Common.{◌≡◌, ℕ, ◌+◌, ◌<◌, ◌≤◌, List, [], ◌++◌, length, take, drop, refl, sym, ap, subst, ◌∙◌, arith, lit≤, inl, inr, ◌⊎◌, Bool, true, false, Option, Some, None, Result, Ok, Err, Vec}
-use Rattle.std.specs.Prelude.{if◌then◌else◌, ◌&&◌, not, is_some, ◌==◌}
+use Rattle.std.proofs.Common.{◌≡◌, ℕ, List, [], length, take, drop, refl, sym, ap, subst, ◌∙◌, lit≤, Bool, true, false, Option, Some, None, Result, Ok, Err, Vec}
+use Rattle.std.specs.Prelude.{◌&&◌, not, is_some}
 use Rattle.std.specs.Global.{Global}
-use Rattle.std.proofs.lemmas.List.{append-nil}
 use Rattle.vhost_message.specs.declared.error.Error as declared
 use Rattle.vhost_message.specs.declared.error.Error.TheVariants as code
-use Rattle.vhost_message.specs.declared.cause.IoCause.{IoCause}
 use Rattle.vhost_message.specs.declared.header.VhostUserMsgHeader.{VhostUserMsgHeader}
 use Rattle.vhost_message.specs.declared.records.plain.VhostUserU64.{VhostUserU64}
-use Rattle.vhost_message.specs.Cause.{is_retry, is_break, is_denial}
 use Rattle.vhost_message.specs.FrontendReq.{request_of}
 use Rattle.vhost_message.specs.Header.{Header, header_of, is_valid_header, is_reply_for}
 use Rattle.vhost_message.specs.MsgHeader.{fields_of, of_fields}
 use Rattle.vhost_message.specs.Text.{number_at}
-use Rattle.vhost_protocol.specs.Stream.{Cell, bytes, first_handles, has_some, items, heard}
-use Rattle.vhost_protocol.specs.Error.{Error, PartialMessage, InvalidMessage, seen}
+use Rattle.vhost_protocol.specs.Stream.{Cell, bytes, first_handles, has_some, items}
+use Rattle.vhost_protocol.specs.Error.{Error, InvalidMessage}
 use Rattle.vhost_protocol.specs.ReplySplit.{Received}
-use Rattle.vhost_protocol.specs.Take.{is_known}
 use Rattle.vhost_link.specs.Law.{Event}
 use Rattle.vhost_connection.specs.Pass.{receives}
-use Rattle.vhost_connection.specs.Talk.{State, Serves, Trouble}
+use Rattle.vhost_connection.specs.Talk.{State, Serves}
 use Rattle.vhost_connection.specs.Calls.{ReadsBody, HandsOver}
-use Rattle.vhost_pair.specs.Hearing.{Hears, Fails, broken_on}
+use Rattle.vhost_pair.specs.Hearing.{Hears, broken_on}
 use Rattle.vhost_pair.specs.Asking.{number_cut, NumberFails, NumberComes}
 use Rattle.vhost_pair.specs.Asking.NumberFails.{unfit, none, failed}
 use Rattle.vhost_pair.proofs.Failing.{trouble-breaks}

@@ -1,11 +1,11 @@
 -- What becomes of each call, where the handler serves its request.
-use Rattle.std.proofs.Common.{◌≡◌, ℕ, ◌<◌, ◌≤◌, ◌^◌, ◌⊎◌, inl, inr, Bool, true, false, cond, ◌&&◌, List, [], ◌∷◌, ◌++◌, length, Some, None, Option, Result, Ok, Err, refl, sym, ◌∙◌, ap, subst, arith, lit<, is_err, is_ok}
-use Rattle.std.specs.Prelude.{⊤, ◌||◌}
+use Rattle.std.proofs.Common.{◌≡◌, ℕ, ◌≤◌, ◌⊎◌, inl, inr, Bool, true, false, cond, ◌&&◌, [], length, Some, Result, Ok, Err, refl, sym, ◌∙◌, ap, subst, arith, lit<, is_ok}
+use Rattle.std.specs.Prelude.{⊤}
 use Rattle.std.proofs.lemmas.List.{append-nil}
 use Rattle.vhost_message.specs.Bits.{has_bit}
 use Rattle.vhost_message.specs.declared.frontend_req.FrontendReq.{FrontendReq}
 use Rattle.vhost_message.specs.declared.frontend_req.FrontendReq.TheVariants.{GET_FEATURES, SET_OWNER}
-use Rattle.vhost_message.specs.FrontendReq.{request_of, request_number, request_of-request_number}
+use Rattle.vhost_message.specs.FrontendReq.{request_of, request_number}
 use Rattle.vhost_message.specs.Header.{Header}
 use Rattle.vhost_protocol.specs.AnswerTable.{Answered, answered, answer}
 use Rattle.vhost_protocol.specs.Ask.{Asked, Sends, Reply, AU64, Nobody, Ack, ask, ack}
@@ -20,18 +20,16 @@ use Rattle.vhost_protocol.specs.ReplySplit.{received, reply_split}
 use Rattle.vhost_protocol.specs.Row.{with_features}
 use Rattle.vhost_protocol.specs.Served.{Served, Silent, Acknowledged, reply, cells_of}
 use Rattle.vhost_protocol.specs.Session.{Session, ack_on}
-use Rattle.vhost_protocol.specs.Step as step
 use Rattle.vhost_protocol.specs.Step.{Outcome, acked, done}
-use Rattle.vhost_protocol.specs.Stream.{Cell}
 use Rattle.vhost_protocol.specs.Take.{take, take_reply}
-use Rattle.vhost_protocol.specs.Written.{Written, Empty, U64, written_cells}
+use Rattle.vhost_protocol.specs.Written.{Written, Empty, written_cells}
 use Rattle.vhost_protocol.proofs.TakeLaws.{take-number}
 use Rattle.vhost_protocol.proofs.TextLaws.{IsSendable, request-small}
 use Rattle.vhost_link.specs.declared.plain.PlainHandle.{PlainHandle}
 use Rattle.vhost_pair.specs.declared.call.FrontendCall as code
 use Rattle.vhost_pair.specs.declared.call.FrontendCall.TheVariants as call
 use Rattle.vhost_pair.specs.Joined.{call_of}
-use Rattle.vhost_pair.specs.Serving.{Fits, fitting, is_served}
+use Rattle.vhost_pair.specs.Serving.{fitting, is_served}
 use Rattle.vhost_pair.specs.Sides.{awaited_for}
 
 -- the request of a call

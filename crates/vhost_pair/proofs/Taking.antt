@@ -1,15 +1,14 @@
 -- The halves of the frontend's calls, from what their parts do.
-use Rattle.std.proofs.Common.{◌≡◌, ℕ, zero, suc, ◌+◌, arith, List, [], ◌∷◌, ◌++◌, length, refl, sym, ap, subst, ◌∙◌, inl, inr, ◌⊎◌, Bool, true, false, Option, Some, None, Result, Ok, Err}
+use Rattle.std.proofs.Common.{◌≡◌, ℕ, zero, suc, arith, List, [], ◌∷◌, ◌++◌, length, refl, sym, ap, subst, ◌∙◌, inl, inr, ◌⊎◌, Bool, true, false, Option, Some, Result, Ok, Err}
 use Rattle.std.specs.Prelude.{if◌then◌else◌, ◌&&◌, not, ◌==◌, ⊤}
 use Rattle.std.proofs.lemmas.Bool.Decides.{nat_tests}
 use Rattle.vhost_message.specs.declared.error.Error as declared
-use Rattle.vhost_message.specs.declared.error.Error.TheVariants as code
 use Rattle.vhost_message.specs.declared.frontend_req.FrontendReq.{FrontendReq}
 use Rattle.vhost_message.specs.Bits.{has_bit}
 use Rattle.vhost_message.specs.Header.{Header}
 use Rattle.vhost_message.specs.Records.{u64_at}
 use Rattle.vhost_protocol.specs.Stream.{Cell, has_some}
-use Rattle.vhost_protocol.specs.Error.{Error, InvalidParam, InvalidMessage, BackendInternalError, seen}
+use Rattle.vhost_protocol.specs.Error.{Error, InvalidMessage, BackendInternalError, seen}
 use Rattle.vhost_protocol.specs.Split.{Splits}
 use Rattle.vhost_protocol.specs.FrontendCall.{FrontendCall, GetFeatures, SetOwner, Value, Nothing, Number, Frontend}
 use Rattle.vhost_protocol.specs.Ask.{Shape, Awaited, Nobody, Ack, Reply, AU64, Sends, ack, ask}
@@ -20,7 +19,7 @@ use Rattle.vhost_protocol.specs.Take.{answers, understood, take}
 use Rattle.vhost_link.specs.Law.{Event}
 use Rattle.vhost_connection.specs.Talk.{State}
 use Rattle.vhost_pair.specs.Hearing.{Hears, Fails}
-use Rattle.vhost_pair.specs.Asking.{bare_request, BareGoes, SendsBare, number_cut, NumberComes, NumberFails, RecvsUnless, RecvsAck, RecvsAwaited, Asks, AsksHalf, Takes, TakesHalf}
+use Rattle.vhost_pair.specs.Asking.{bare_request, SendsBare, number_cut, NumberFails, RecvsUnless, RecvsAck, RecvsAwaited, AsksHalf, Takes, TakesHalf}
 use Rattle.vhost_pair.specs.Asking.NumberFails.{unfit, none, failed}
 use Rattle.vhost_pair.specs.Asking.Takes.{unread, read}
 use Rattle.vhost_pair.specs.Session.{awaited_of}

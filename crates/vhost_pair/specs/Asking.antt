@@ -6,7 +6,6 @@ use Rattle.vhost_message.specs.FrontendReq.{request_number}
 use Rattle.vhost_message.specs.declared.error.Error.TheVariants.{InvalidParam, InvalidMessage, BackendInternalError}
 use Rattle.vhost_message.specs.Header.{Header}
 use Rattle.vhost_message.specs.Records.{u64_at}
-use Rattle.vhost_message.specs.Bits.{has_bit}
 use Rattle.vhost_message.specs.MsgHeader.{fields_of}
 use Rattle.vhost_protocol.specs.Stream.{Cell, has_some}
 use Rattle.vhost_protocol.specs.Error.{Error, seen}

@@ -1,6 +1,4 @@
 -- A frontend's session, as contracts see it.
-use Rattle.vhost_message.specs.declared.frontend_req.FrontendReq.{FrontendReq}
-use Rattle.vhost_message.specs.declared.header.VhostUserMsgHeader.{VhostUserMsgHeader}
 use Rattle.vhost_protocol.specs.FrontendCall.{Frontend}
 use Rattle.vhost_protocol.specs.Ask.{Awaited}
 use Rattle.vhost_connection.specs.Talk.{State}

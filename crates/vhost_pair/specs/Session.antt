@@ -1,5 +1,4 @@
 -- Sessions of the code, as the definitions see them.
-use Rattle.std.specs.Prelude.{ℕ, ℤ, Option}
 use Rattle.vhost_protocol.specs.Session.{Session}
 use Rattle.vhost_protocol.specs.FrontendCall.{Frontend}
 use Rattle.vhost_protocol.specs.Ask.{Awaited, Nobody, Ack, Reply, AU64}

@@ -1,4 +1,3 @@
-use Rattle.std.proofs.Common.{◌≡◌}
 use Rattle.vhost_connection.specs.State.{ahead_of}
 use Rattle.vhost_pair.proofs.Carrying.{carries}
 use Rattle.vhost_pair.proofs.ways.carry_reply.Goals as goal

@@ -1,8 +1,5 @@
-use Rattle.std.proofs.Common.{◌≡◌}
 use Rattle.vhost_connection.specs.State.{ahead_of}
 use Rattle.vhost_pair.proofs.Carrying.{carries}
-use Rattle.vhost_pair.proofs.Spent.{fault-spent}
-use Rattle.vhost_pair.proofs.Exchange.{few-sent}
 use Rattle.vhost_pair.proofs.ways.carry_request.Goals as goal
 
 pub returns-clause-carried : goal.returns-clause-carried

@@ -1,4 +1,4 @@
-use Rattle.std.proofs.Common.{◌≡◌, List, take, vec_len}
+use Rattle.std.proofs.Common.{◌≡◌, take, vec_len}
 use Rattle.std.specs.Prelude.{vec_capacity}
 use Rattle.vhost_pair.proofs.wire.copy_handles.Given as goal
 

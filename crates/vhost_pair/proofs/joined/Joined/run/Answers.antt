@@ -1,4 +1,4 @@
-use Rattle.std.proofs.Common.{◌≡◌, ◌∙◌, ap, sym, subst, arith, take, [], Ok, ◌+◌}
+use Rattle.std.proofs.Common.{◌∙◌, sym, subst, arith, take, [], Ok, ◌+◌}
 use Rattle.std.proofs.lemmas.List.{take_all}
 use Rattle.std.proofs.lemmas.Result.{err_from_is_err_and}
 use Rattle.vhost_pair.specs.declared.call.FrontendCall.TheVariants.{GetFeatures}

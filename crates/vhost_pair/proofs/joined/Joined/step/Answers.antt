@@ -1,4 +1,4 @@
-use Rattle.std.proofs.Common.{◌≡◌, ◌∙◌, ap, sym, subst, None}
+use Rattle.std.proofs.Common.{◌∙◌, ap, sym, subst}
 use Rattle.vhost_pair.specs.Joined.{Answers, call_of, answer_of}
 use Rattle.vhost_pair.specs.Sides.{view_of}
 use Rattle.vhost_pair.proofs.Running.{not-stopped}

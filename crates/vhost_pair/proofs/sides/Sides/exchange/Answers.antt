@@ -1,7 +1,4 @@
-use Rattle.std.proofs.Common.{◌≡◌, ◌∙◌, ap, refl, Some, None, cond, subst, sym}
-use Rattle.vhost_pair.specs.declared.halt.Stop.TheVariants.{Premise}
-use Rattle.vhost_pair.specs.Core as core
-use Rattle.vhost_pair.specs.Frontend as frontend
+use Rattle.std.proofs.Common.{◌∙◌, sym}
 use Rattle.vhost_pair.specs.Wire.{text_in}
 use Rattle.vhost_pair.proofs.Exchange.{few-sent, unsent-so, reply-is-few, none-pending, awaits-asked, none-acked, exchanged-so}
 use Rattle.vhost_pair.proofs.sides.Sides.exchange.Goals as goal

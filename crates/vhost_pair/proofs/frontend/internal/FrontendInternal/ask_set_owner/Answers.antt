@@ -1,4 +1,4 @@
-use Rattle.std.proofs.Common.{refl, ap, ◌∙◌, sym}
+use Rattle.std.proofs.Common.{ap, sym}
 use Rattle.vhost_message.specs.declared.frontend_req.FrontendReq.TheVariants.{SET_OWNER}
 use Rattle.vhost_protocol.specs.Ask.{Sends, Awaited}
 use Rattle.vhost_protocol.specs.FrontendCall.{SetOwner}

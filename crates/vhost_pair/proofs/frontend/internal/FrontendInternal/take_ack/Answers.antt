@@ -1,4 +1,4 @@
-use Rattle.std.proofs.Common.{◌≡◌, ℕ, refl, ap, ◌∙◌, sym, subst, inl, Ok, Err}
+use Rattle.std.proofs.Common.{ℕ, refl, ap, ◌∙◌, subst, inl, Ok, Err}
 use Rattle.vhost_message.specs.declared.header.VhostUserMsgHeader.{VhostUserMsgHeader}
 use Rattle.vhost_message.specs.declared.error.Error.TheVariants.{BackendInternalError}
 use Rattle.vhost_message.specs.MsgHeader.{fields_of}

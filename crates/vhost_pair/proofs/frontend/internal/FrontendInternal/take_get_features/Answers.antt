@@ -1,4 +1,4 @@
-use Rattle.std.proofs.Common.{refl, ap, ◌∙◌, sym, subst, inl, inr, Some, Ok, Err}
+use Rattle.std.proofs.Common.{refl, sym, subst, Some, Ok}
 use Rattle.vhost_message.specs.MsgHeader.{fields_of}
 use Rattle.vhost_message.specs.Bits.{has_bit}
 use Rattle.vhost_protocol.specs.AnswerTable.{answered}

@@ -1,4 +1,3 @@
-use Rattle.std.proofs.Common.{refl, ap, ◌∙◌, sym}
 use Rattle.vhost_message.specs.MsgHeader.{fields_of}
 use Rattle.vhost_connection.specs.State.{state}
 use Rattle.vhost_pair.specs.Session.{awaited_of}
