@@ -1,0 +1,5 @@
+pub mod WordLaws
+pub mod LineLaws
+pub mod ShowLaws
+pub mod Progress
+pub mod Rows
