@@ -15,3 +15,4 @@ pub mod Spent
 pub mod Outcomes
 pub mod Exchange
 pub mod Running
+pub mod Lockstep

@@ -2,7 +2,7 @@
 use Rattle.std.proofs.Common.{◌≡◌, ℕ, ◌+◌, ◌<◌, ◌≤◌, Bool, true, false, ◌&&◌, ◌⊎◌, inl, inr, List, [], ◌∷◌, ◌++◌, length, Option, Some, None, Result, Ok, Err, refl, sym, ◌∙◌, ap, subst, append_assoc, arith, nat_lt}
 use Rattle.std.specs.Prelude.{is_some, ok_or, Vec}
 use Rattle.std.specs.Global.{Global}
-use Rattle.std.proofs.lemmas.List.{map-append}
+use Rattle.std.proofs.lemmas.List.{map-append, length-map}
 use Rattle.std.proofs.lemmas.Bool.Decides.{nat_tests}
 use Rattle.vhost_message.specs.declared.header.VhostUserMsgHeader.{VhostUserMsgHeader}
 use Rattle.vhost_message.specs.declared.error.Error as declared
@@ -11,7 +11,7 @@ use Rattle.vhost_message.specs.Header.{Header, header_of, is_valid_header}
 use Rattle.vhost_message.specs.MsgHeader.{fields_of, of_fields}
 use Rattle.vhost_protocol.specs.Error as protocol
 use Rattle.vhost_protocol.specs.Error.{seen}
-use Rattle.vhost_protocol.specs.Stream.{Cell, Byte, End, first_handles, brings_handles, items, heard}
+use Rattle.vhost_protocol.specs.Stream.{Cell, bytes, Byte, End, first_handles, brings_handles, items, heard}
 use Rattle.vhost_protocol.specs.Split.{split, Splits}
 use Rattle.vhost_link.specs.Law.{Event, move, ◌then◌}
 use Rattle.vhost_connection.specs.Pass.{receives}
@@ -129,20 +129,20 @@ module _ {R L H : Type 0} (event : L → Event H → L → Type 0) (request_of :
       hears-both event (split request_of wanted) cs ds h.retries size false _ h.serves h.left d long (whole-message request_of wanted cs ds r h.announces h.wants (omega (arith, is, d.within)) none)
 
   -- the header of a request came
-  pub header-came : (old mid : State L H) (x : VhostUserMsgHeader R × Option (Vec H Global)) (p : HeaderReads old (Ok x) mid) (r : R) (e : declared.Error)
-      → ok_or (request_of (fields_of x.0).code) e ≡ Ok r → wanted r (length (first_handles p.0)) ≡ true → HeaderCame event request_of wanted old p.0 r mid
-  header-came old mid x p r e known wants = record {
+  pub header-came : (old mid : State L H) (x : VhostUserMsgHeader R × Option (Vec H Global)) (p : HeaderReads old (Ok x) mid) (r : R) (e : declared.Error) (tested : Bool)
+      → Ok r ≡ ok_or (request_of (fields_of x.0).code) e → tested ≡ wanted r (length (first_handles p.0)) → tested ≡ true → HeaderCame event request_of wanted old p.0 r mid
+  header-came old mid x p r e tested known is so = record {
     retries = p.1;
     serves = p.2;
     left = p.8;
-    announces = announces request_of p.0 x.0 r e p.3 p.4 p.5 known;
-    wants = wants;
+    announces = announces request_of p.0 x.0 r e p.3 p.4 p.5 (sym known);
+    wants = sym is ∙ so;
   }
 
   -- and brought handles that it doesn't want
-  pub header-unwanted : (old mid : State L H) (x : VhostUserMsgHeader R × Option (Vec H Global)) (p : HeaderReads old (Ok x) mid) (r : R) (e : declared.Error)
-      → ok_or (request_of (fields_of x.0).code) e ≡ Ok r → wanted r (length (first_handles p.0)) ≡ false → Hears event (split request_of wanted) old (Err protocol.InvalidMessage) mid
-  header-unwanted old mid x p r e known not_wanted = unwanted old mid p.0 p.1 r p.2 (announces request_of p.0 x.0 r e p.3 p.4 p.5 known) not_wanted
+  pub header-unwanted : (old mid : State L H) (x : VhostUserMsgHeader R × Option (Vec H Global)) (p : HeaderReads old (Ok x) mid) (r : R) (e : declared.Error) (tested : Bool)
+      → Ok r ≡ ok_or (request_of (fields_of x.0).code) e → tested ≡ wanted r (length (first_handles p.0)) → tested ≡ false → Hears event (split request_of wanted) old (Err protocol.InvalidMessage) mid
+  header-unwanted old mid x p r e tested known is so = unwanted old mid p.0 p.1 r p.2 (announces request_of p.0 x.0 r e p.3 p.4 p.5 (sym known)) (sym is ∙ so)
 
   -- the size in the header
   pub header-size : (old mid : State L H) (x : VhostUserMsgHeader R × Option (Vec H Global)) (p : HeaderReads old (Ok x) mid) → (fields_of x.0).size ≡ (head_in p.0).size
@@ -154,3 +154,7 @@ valid-small h e = grind (arith, nat_tests, e)
 -- the body of a valid header has at most 4096 bytes
 pub valid-size : {R : Type 0} (known : Bool) (h : VhostUserMsgHeader R) → (known && is_valid_header (fields_of h)) ≡ true → (fields_of h).size ≤ 4096
 valid-size known h e = valid-small (fields_of h) (both-true known (is_valid_header (fields_of h)) e)
+
+-- as many bytes as cells
+pub body-length : {H : Type 0} (n : ℕ) (cells : List (Cell H)) → n ≡ length cells → n ≡ length (bytes cells)
+body-length n cells e = e ∙ sym (length-map cells (λ c. c.byte))

@@ -24,6 +24,10 @@ use Rattle.vhost_pair.proofs.Telling.{none-sent, number_cells}
 pub bare-read : {H : Type 0} {request : Request H} {m : Message FrontendReq H} (size : ℕ) → Reads request m → is_bare size m ≡ (request.len == size && not request.reply)
 bare-read {request} {m} size p = ap (λ n. n == size && not m.reply) (sym p.len) ∙ ap (λ b. request.len == size && not b) (sym p.reply)
 
+-- as the code's test said
+pub bare-tested : {H : Type 0} {request : Request H} {m : Message FrontendReq H} (size : ℕ) (tested b : Bool) → Reads request m → tested ≡ (request.len == size && not request.reply) → tested ≡ b → is_bare size m ≡ b
+bare-tested size tested b p is so = bare-read size p ∙ sym is ∙ so
+
 -- a refusal in silence
 abbrev pub refused_silently : {H : Type 0} → Session → Error → Outcome H
 refused_silently s e = record { answer = Err e; served = Silent; session = s }

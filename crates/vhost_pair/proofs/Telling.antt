@@ -26,7 +26,8 @@ use Rattle.vhost_connection.specs.Calls.{Sends}
 use Rattle.vhost_connection.specs.State.{first_cause}
 use Rattle.vhost_pair.specs.Hearing.{broken_on}
 use Rattle.vhost_pair.proofs.Failing.{broken-socket, first-is}
-use Rattle.vhost_pair.specs.Serving.{IsReady, Replies, Stops, Tells, told}
+use Rattle.vhost_pair.specs.Serving.{Reads, IsReady, Replies, Stops, Tells, told}
+use Rattle.vhost_pair.specs.declared.handler.request.Request.{Request}
 
 module _ {L H : Type 0} (event : L → Event H → L → Type 0) where
   trouble-stops : (old mid : State L H) (cells : List (Cell H)) (n r : ℕ) (e : Error) → IsReady old → length cells ≤ 4108
@@ -96,6 +97,10 @@ module _ {L H : Type 0} (event : L → Event H → L → Type 0) where
   -- the same cells by another name
   pub tells-as : (old new : State L H) (cells others : List (Cell H)) (answer : Result ⊤ protocol.Error) (result : Result ⊤ Error) → cells ≡ others → Tells event old cells answer result new → Tells event old others answer result new
   tells-as old new cells others answer result e p = subst (λ x. Tells event old x answer result new) e p
+
+-- whether an acknowledgement is wanted, as the code's test said
+pub ack-tested : {H : Type 0} {request : Request H} {m : Message FrontendReq H} (s : Session) (tested b : Bool) → Reads request m → tested ≡ (ack_on s && request.need_reply) → tested ≡ b → (ack_on s && m.need_reply) ≡ b
+ack-tested s tested b p is so = ap (λ x. ack_on s && x) (sym p.need_reply) ∙ sym is ∙ so
 
 -- the reply of one number
 abbrev pub number_cells : {H : Type 0} → FrontendReq → VhostUserU64 → List (Cell H)

@@ -10,3 +10,4 @@ pub mod Text
 pub mod Wire
 pub mod Joined
 pub mod Sides
+pub mod Lockstep

@@ -8,7 +8,10 @@ use vhost_message::{Error, Result};
 /// The virtio features that it offers: two of the device's own, and the protocol features.
 pub const VIRTIO_FEATURES: u64 = 0x4000_0003;
 
-/// A device without any function, that keeps the rules of the protocol.
+/// A device without any function, that keeps the rules of the protocol. A second owner is refused with
+/// `InvalidOperation`.
+///
+/// Mirrors the example device of the crate `vhost`.
 #[derive(Drop)]
 pub struct DummyBackendReqHandler<L: Link> {
     /// Whether a frontend owns the session.

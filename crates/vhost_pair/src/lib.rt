@@ -11,6 +11,7 @@ mod halt;
 mod halves;
 mod handler;
 mod joined;
+mod law;
 mod sides;
 #[cfg(test)]
 mod tests;
@@ -24,3 +25,4 @@ pub use frontend::{Awaited, FrontendInternal, Sent};
 pub use halt::{Halt, Stop};
 pub use handler::SessionCore;
 pub use joined::Joined;
+pub use law::lockstep_law;

@@ -32,7 +32,7 @@ pub fn are_wanted<H>(code: FrontendReq, handles: &Option<Vec<H>>) -> bool
     handles.is_none() || carries_handles(code)
 }
 
-/// Whether a request of this code may bring handles.
+/// Whether a request of this code may bring handles ("Communication").
 fn carries_handles(code: FrontendReq) -> bool
     ensures { result ≡ may_carry code }
 {

@@ -44,7 +44,9 @@ fn ack_body(answer: &Result<()>) -> VhostUserU64
     }
 }
 
-/// A handler's session, without its device.
+/// A handler's session over a link, without its device.
+///
+/// Mirrors `vhost::vhost_user::BackendReqHandler`, which holds its device behind a lock.
 #[derive(Drop)]
 pub struct SessionCore<L: Link> {
     pub(crate) end: Endpoint<Header, L>,

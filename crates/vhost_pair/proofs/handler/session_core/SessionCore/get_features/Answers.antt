@@ -1,5 +1,5 @@
 -- GET_FEATURES: its row.
-use Rattle.std.proofs.Common.{◌≡◌, true, false, refl, ap, sym, ◌∙◌, inl, inr, Ok, Err, lit≤}
+use Rattle.std.proofs.Common.{◌≡◌, true, false, refl, ap, inl, inr, Ok, Err, lit≤}
 use Rattle.std.proofs.lemmas.Result.{err_from_is_err_and}
 use Rattle.vhost_protocol.specs.Error.{InvalidMessage, seen}
 use Rattle.vhost_protocol.specs.Row.{is_bare, with_features}
@@ -10,13 +10,13 @@ use Rattle.vhost_pair.specs.Serving.{fitting}
 use Rattle.vhost_pair.specs.Session.{session_of}
 use Rattle.vhost_pair.specs.declared.handler.session.Session.{Session}
 use Rattle.vhost_pair.proofs.Telling.{number_cells}
-use Rattle.vhost_pair.proofs.Rows.{bare-read, passes, refuses, refused_silently, answered-silently, replies-number, stopped, went}
+use Rattle.vhost_pair.proofs.Rows.{bare-tested, passes, refuses, refused_silently, answered-silently, replies-number, stopped, went}
 use Rattle.vhost_pair.proofs.handler.session_core.SessionCore.get_features.Goals as goal
 
 pub returns-then-not-is_bare : goal.returns-then-not-is_bare
 returns-then-not-is_bare g c m reads is ready =
     let s = session_in c.args.self.now in
-    let not_bare : is_bare 0 m ≡ false = bare-read 0 reads ∙ sym c.is_bare.ensures ∙ c.if-not-is_bare.true in
+    let not_bare : is_bare 0 m ≡ false = bare-tested 0 c.is_bare.result false reads c.is_bare.ensures c.if-not-is_bare.true in
     inl (answered-silently g.L.Link.event (fitting g.D.VhostUserBackendReqHandlerMut.gives) GET_FEATURES _ s _ _ m (refused_silently s InvalidMessage)
     (refuses (fitting g.D.VhostUserBackendReqHandlerMut.gives) s _ (is_bare 0 m) InvalidMessage _ not_bare) refl ready)
 
@@ -24,7 +24,7 @@ pub returns-in_err-features : goal.returns-in_err-features
 returns-in_err-features g c m reads is ready =
     let p = err_from_is_err_and c.from_residual.result c.from_residual.ensures.1 in
     let s = session_in c.args.self.now in
-    let is_so : is_bare 0 m ≡ true = bare-read 0 reads ∙ sym c.is_bare.ensures ∙ c.if-not-is_bare.false in
+    let is_so : is_bare 0 m ≡ true = bare-tested 0 c.is_bare.result true reads c.is_bare.ensures c.if-not-is_bare.false in
     let e = seen c.in_err-features.field-0.0 in
     rw (p.1, p.2) (inl (answered-silently g.L.Link.event (fitting g.D.VhostUserBackendReqHandlerMut.gives) GET_FEATURES _ s _ _ m (refused_silently s e)
     (passes (fitting g.D.VhostUserBackendReqHandlerMut.gives) s _ _ (is_bare 0 m) (silently InvalidMessage) _ (refused_silently s e) is_so (Err e, (c.in_err-features.ensures, tt), refl)) refl ready))
@@ -34,7 +34,7 @@ returns-in_err-send_reply g c m reads is ready =
     let p = err_from_is_err_and c.from_residual-in_err-send_reply.result c.from_residual-in_err-send_reply.ensures.1 in
     let s = session_in c.args.self.now in
     let n = c.in_ok-features.features in
-    let is_so : is_bare 0 m ≡ true = bare-read 0 reads ∙ sym c.is_bare.ensures ∙ c.if-not-is_bare.false in
+    let is_so : is_bare 0 m ≡ true = bare-tested 0 c.is_bare.result true reads c.is_bare.ensures c.if-not-is_bare.false in
     let o = with_features s (Ok n) in
     rw (p.1, p.2) (inr (record {
       outcome = o;
@@ -47,7 +47,7 @@ pub returns : goal.returns
 returns g c m reads is ready =
     let s = session_in c.args.self.now in
     let n = c.in_ok-features.features in
-    let is_so : is_bare 0 m ≡ true = bare-read 0 reads ∙ sym c.is_bare.ensures ∙ c.if-not-is_bare.false in
+    let is_so : is_bare 0 m ≡ true = bare-tested 0 c.is_bare.result true reads c.is_bare.ensures c.if-not-is_bare.false in
     let o = with_features s (Ok n) in
     record {
       outcome = o;
