@@ -12,7 +12,7 @@ use Rattle.vhost_message.specs.MsgHeader.{fields_of}
 use Rattle.vhost_protocol.specs.AnswerTable.{Answered, answered}
 use Rattle.vhost_protocol.specs.Ask.{Awaited, Nobody, Asked, Sends}
 use Rattle.vhost_protocol.specs.Codes.{wanted}
-use Rattle.vhost_protocol.specs.DeviceCall.{Call, Answer, GetFeatures, SetOwner}
+use Rattle.vhost_protocol.specs.DeviceCall.{Call, Answer}
 use Rattle.vhost_protocol.specs.Error.{Error, OutOfMemory, seen, seen_result}
 use Rattle.vhost_protocol.specs.FrontendCall.{Frontend}
 use Rattle.vhost_protocol.specs.Handler.{Meets}
@@ -329,7 +329,7 @@ module _ {Dev : Type 0} (gives : Dev → (c : Call PlainHandle ⊤ ⊤) → Answ
       Goal = Answers gives opening (call_of c) (answer_of ans) ending × (stop ≡ None → IsAtRest fe4 he3 f4 aw4 s2)
 
       -- a fault on one side stops the run
-      premise : (fe4.faulted || he3.faulted) ≡ true → joined.Breaks gives opening ending → Goal
+      premise : (fe4.faulted || he3.faulted) ≡ true → joined.Breaks gives (call_of c) opening ending → Goal
       premise faulted breaks =
           let e : stop ≡ Some Premise = is_stop ∙ ap (λ b. stop_of b result (bytes (gone he2))) faulted in
           (inr (e, breaks), λ none. absurd (cc (sym e ∙ none)))
@@ -443,15 +443,11 @@ module _ {Dev : Type 0} (gives : Dev → (c : Call PlainHandle ⊤ ⊤) → Answ
           at-last : stop_of false result (bytes replied) ≡ last_stop (is_last (request_for c) (as_seen (h.outcome.served) (h.outcome.session) result)) → stop ≡ last_stop last
           at-last e = stops ∙ e ∙ ap {A = Result ⊤ Error} (λ a. last_stop (is_last (request_for c) (record { answer = a; served = h.outcome.served; session = h.outcome.session }))) h.answer
 
-          starved : gives d GetFeatures (Err OutOfMemory) d2 ⊎ gives d SetOwner (Err OutOfMemory) d2 → joined.Breaks gives opening ending
-          starved (inl g) = joined.features g
-          starved (inr g) = joined.owner g
-
           by-cases : ((stop_of false result (bytes replied) ≡ Some Premise) × (seen_result result ≡ Err OutOfMemory))
               ⊎ (stop_of false result (bytes replied) ≡ last_stop (is_last (request_for c) (as_seen (h.outcome.served) (h.outcome.session) result))) → Goal
           by-cases (inl (e, memory)) =
               let why : stop ≡ Some Premise = stops ∙ e in
-              (inr (why, starved (k.starved (sym h.answer ∙ memory))), λ none. absurd (cc (sym why ∙ none)))
+              (inr (why, joined.device (k.starved (sym h.answer ∙ memory))), λ none. absurd (cc (sym why ∙ none)))
           by-cases (inr e) = (inl (keeps (at-last e)), rests (at-last e))
 
       pub exchanged : Goal

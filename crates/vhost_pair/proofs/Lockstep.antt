@@ -8,6 +8,7 @@ use Rattle.vhost_link.specs.declared.cut.Cut.TheVariants.{Give, Retry, Fault}
 use Rattle.vhost_link.specs.Cuts.{retry, failure}
 use Rattle.vhost_link.specs.Mem.{AreGives}
 use Rattle.vhost_pair.specs.declared.call.FrontendCall as code
+use Rattle.vhost_pair.specs.declared.call.FrontendCall.TheVariants as call
 use Rattle.vhost_pair.specs.declared.call.FrontendAnswer.{FrontendAnswer}
 use Rattle.vhost_pair.specs.declared.halt.Halt.{Halt}
 use Rattle.vhost_pair.specs.declared.halt.Halt.TheVariants as halt
@@ -67,11 +68,11 @@ module _ {Dev : Type 0} (gives : Dev → (c : Call PlainHandle ⊤ ⊤) → Answ
   stopped-same old new (c ∷ cs) [] (Err h) stop e s = (halted-same old new c h s, refl)
   stopped-same old new (c ∷ cs) (a ∷ as') end stop e s = let none = s.1.0 in absurd (cc (sym e ∙ none))
 
-  unbroken : (old mid new : View Dev) → IsClean gives old new → new ≡ mid → joined.Breaks gives old mid → ⊥
-  unbroken old mid new clean same (joined.asking s) = unspent old.budget old.asking mid.asking clean.asking (ap (λ v. v.asking.starved) (sym same) ∙ clean.asking_fed) s
-  unbroken old mid new clean same (joined.serving s) = unspent old.budget old.serving mid.serving clean.serving (ap (λ v. v.serving.starved) (sym same) ∙ clean.serving_fed) s
-  unbroken old mid new clean same (joined.features g) = clean.features _ _ g
-  unbroken old mid new clean same (joined.owner g) = clean.owner _ _ g
+  unbroken : (c : code.FrontendCall) (old mid new : View Dev) → IsClean gives old new → new ≡ mid → joined.Breaks gives (call_of c) old mid → ⊥
+  unbroken c old mid new clean same (joined.asking s) = unspent old.budget old.asking mid.asking clean.asking (ap (λ v. v.asking.starved) (sym same) ∙ clean.asking_fed) s
+  unbroken c old mid new clean same (joined.serving s) = unspent old.budget old.serving mid.serving clean.serving (ap (λ v. v.serving.starved) (sym same) ∙ clean.serving_fed) s
+  unbroken call.GetFeatures old mid new clean same (joined.device g) = clean.features _ _ g
+  unbroken call.SetOwner old mid new clean same (joined.device g) = clean.owner _ _ g
 
   unstepped : (old new : View Dev) → new ≡ old → IsLockstep gives old new [] []
   unstepped old new same = record {
@@ -81,7 +82,7 @@ module _ {Dev : Type 0} (gives : Dev → (c : Call PlainHandle ⊤ ⊤) → Answ
   }
 
   lockstep-more : (old mid new : View Dev) (c : code.FrontendCall) (cs : List code.FrontendCall) (a : FrontendAnswer) (as' : List FrontendAnswer) (end : Result ⊤ Halt)
-      → Keeps gives old (call_of c) (answer_of a) mid ⊎ ((mid.stopped ≡ Some Premise) × joined.Breaks gives old mid) → StepsAll gives mid cs as' end new → IsClean gives old new
+      → Keeps gives old (call_of c) (answer_of a) mid ⊎ ((mid.stopped ≡ Some Premise) × joined.Breaks gives (call_of c) old mid) → StepsAll gives mid cs as' end new → IsClean gives old new
       → (IsClean gives mid new → IsLockstep gives mid new cs as') → IsLockstep gives old new (c ∷ cs) (a ∷ as')
   lockstep-more old mid new c cs a as' end answered steps clean before = by-cases answered
     where
@@ -119,9 +120,9 @@ module _ {Dev : Type 0} (gives : Dev → (c : Call PlainHandle ⊤ ⊤) → Answ
             no_premise = λ none premise. absurd (cc (sym (stops true e) ∙ ap (λ v. v.stopped) (sym (nothing e).0) ∙ premise));
           }
 
-      by-cases : Keeps gives old (call_of c) (answer_of a) mid ⊎ ((mid.stopped ≡ Some Premise) × joined.Breaks gives old mid) → IsLockstep gives old new (c ∷ cs) (a ∷ as')
+      by-cases : Keeps gives old (call_of c) (answer_of a) mid ⊎ ((mid.stopped ≡ Some Premise) × joined.Breaks gives (call_of c) old mid) → IsLockstep gives old new (c ∷ cs) (a ∷ as')
       by-cases (inl k) = kept k
-      by-cases (inr b) = absurd (unbroken old mid new clean (stopped-same mid new cs as' end Premise b.0 steps).0 b.1)
+      by-cases (inr b) = absurd (unbroken c old mid new clean (stopped-same mid new cs as' end Premise b.0 steps).0 b.1)
 
   pub lockstep : LockstepLaw gives
   lockstep old new [] [] (Ok u) s clean = unstepped old new s

@@ -1,5 +1,5 @@
 -- What becomes of each call, where the handler serves its request.
-use Rattle.std.proofs.Common.{◌≡◌, ℕ, ◌≤◌, ◌⊎◌, inl, inr, Bool, true, false, cond, ◌&&◌, [], length, Some, Result, Ok, Err, refl, sym, ◌∙◌, ap, subst, arith, lit<, is_ok}
+use Rattle.std.proofs.Common.{◌≡◌, ℕ, ◌≤◌, Bool, true, false, cond, ◌&&◌, [], length, Some, Result, Ok, Err, refl, sym, ◌∙◌, ap, subst, arith, lit<, is_ok}
 use Rattle.std.specs.Prelude.{⊤}
 use Rattle.std.proofs.lemmas.List.{append-nil}
 use Rattle.vhost_message.specs.Bits.{has_bit}
@@ -28,7 +28,7 @@ use Rattle.vhost_protocol.proofs.TextLaws.{IsSendable, request-small}
 use Rattle.vhost_link.specs.declared.plain.PlainHandle.{PlainHandle}
 use Rattle.vhost_pair.specs.declared.call.FrontendCall as code
 use Rattle.vhost_pair.specs.declared.call.FrontendCall.TheVariants as call
-use Rattle.vhost_pair.specs.Joined.{call_of}
+use Rattle.vhost_pair.specs.Joined.{Starves, call_of}
 use Rattle.vhost_pair.specs.Serving.{fitting, is_served}
 use Rattle.vhost_pair.specs.Sides.{awaited_for}
 
@@ -98,7 +98,7 @@ module _ {Dev : Type 0} (gives : Dev → (c : Call PlainHandle ⊤ ⊤) → Answ
     pub flags : answered.session.header_flags ≡ f.header_flags
     pub failed : o.session.failed ≡ s.failed
     pub few : length (cells_of request_number (reply (request_for c) o.served)) ≤ 4108
-    pub starved : o.answer ≡ Err OutOfMemory → gives d GetFeatures (Err OutOfMemory) d' ⊎ gives d SetOwner (Err OutOfMemory) d'
+    pub starved : o.answer ≡ Err OutOfMemory → Starves gives (call_of c) d d'
 
 module _ {Dev : Type 0} (gives : Dev → (c : Call PlainHandle ⊤ ⊤) → Answer c → Dev → Type 0) (n : Bool) (f : Frontend) (s : Session) (d d' : Dev) (sent : Header) (agree : AgreeOn f s) (flag : has_bit sent.flags 2 ≡ false) where
   features : (a : Result ℕ Error) → fitting gives d GetFeatures a d' → sent.code ≡ request_number GET_FEATURES → Outcomes gives call.GetFeatures n f s d sent (with_features s a) d'
@@ -125,7 +125,7 @@ module _ {Dev : Type 0} (gives : Dev → (c : Call PlainHandle ⊤ ⊤) → Answ
     flags = refl;
     failed = refl;
     few = omega arith;
-    starved = λ e. inl (subst (λ a. gives d GetFeatures a d') (ap at_number e) g.0);
+    starved = λ e. subst (λ a. gives d GetFeatures a d') (ap at_number e) g.0;
   }
     where
       none : take {H = PlainHandle} calls.GetFeatures (Reply AU64) sent f [] ≡ (Some (answered f (Err PartialMessage)), [])
@@ -162,7 +162,7 @@ module _ {Dev : Type 0} (gives : Dev → (c : Call PlainHandle ⊤ ⊤) → Answ
     flags = refl;
     failed = refl;
     few = omega arith;
-    starved = λ e. inr (subst (λ a. gives d SetOwner a d') e g.0);
+    starved = λ e. subst (λ a. gives d SetOwner a d') e g.0;
   }
 
   pub outcomes : (c : code.FrontendCall) (o : Outcome PlainHandle) → Meets (fitting gives) (λ h x. ⊤) (λ h x. ⊤) s d (read_as (asked_of c n)) o d'

@@ -69,12 +69,17 @@ pub record IsUsed (old new : Cuts) : Type 0 where
   pub starved : old.starved ≡ true → new.starved ≡ true
 
 module _ {Dev : Type 0} (gives : Dev → (c : Call PlainHandle ⊤ ⊤) → Answer c → Dev → Type 0) where
-  -- A premise of the lockstep failed in a step: a link failed or spent a budget, or the device had no memory.
-  pub data Breaks (old new : View Dev) : Type 0 where
-    asking : IsSpent old.budget old.asking new.asking → Breaks old new
-    serving : IsSpent old.budget old.serving new.serving → Breaks old new
-    features : {d : Dev} → gives old.device GetFeatures (Err OutOfMemory) d → Breaks old new
-    owner : {d : Dev} → gives old.device SetOwner (Err OutOfMemory) d → Breaks old new
+  -- the device had no memory for what the call asks of it
+  abbrev pub Starves : FrontendCall PlainHandle → Dev → Dev → Type 0
+  Starves calls.GetFeatures d d' = gives d GetFeatures (Err OutOfMemory) d'
+  Starves calls.SetOwner d d' = gives d SetOwner (Err OutOfMemory) d'
+  Starves _ _ _ = ⊥
+
+  -- A premise of the lockstep failed in a step: a link failed or spent a budget, or the device had no memory for the call.
+  pub data Breaks (call : FrontendCall PlainHandle) (old new : View Dev) : Type 0 where
+    asking : IsSpent old.budget old.asking new.asking → Breaks call old new
+    serving : IsSpent old.budget old.serving new.serving → Breaks call old new
+    device : Starves call old.device new.device → Breaks call old new
 
   -- The step is that of the protocol: its messages, the device's move, the answer and both sessions. Nothing is left on the way,
   -- and the run stops exactly where the definition says.
@@ -94,7 +99,7 @@ module _ {Dev : Type 0} (gives : Dev → (c : Call PlainHandle ⊤ ⊤) → Answ
 
   -- an answered step: that of the protocol, or a premise failed and the run stopped
   abbrev pub Answers : View Dev → FrontendCall PlainHandle → Result (Value PlainHandle) Error → View Dev → Type 0
-  Answers old call result new = Keeps old call result new ⊎ ((new.stopped ≡ Some stop.Premise) × Breaks old new)
+  Answers old call result new = Keeps old call result new ⊎ ((new.stopped ≡ Some stop.Premise) × Breaks call old new)
 
   -- one step: a run that stopped before, and want of memory before the first byte, change nothing
   abbrev pub Steps : View Dev → FrontendCall PlainHandle → Result FrontendAnswer Halt → View Dev → Type 0

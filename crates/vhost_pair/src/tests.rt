@@ -1,6 +1,8 @@
 //! Joined runs of the example device, however cut and wherever they fail.
 
-use crate::{DummyBackendReqHandler, FrontendAnswer, FrontendCall, Halt, Joined, Stop};
+use crate::{
+    DummyBackendReqHandler, FrontendAnswer, FrontendCall, Halt, Joined, Stop, lockstep_law,
+};
 use std::alloc::{AllocError, Global};
 use std::process::Abort;
 use std::test::Fail;
@@ -111,6 +113,7 @@ fn runs_calls(rt: HostRuntime) -> Result<(), Fail> {
     let mut out = Vec::new(alloc);
     let halted = run.run(&calls, &mut out);
     assert_eq!(rt; halted, Err(Halt::Stopped));
+    lockstep_law::<DummyBackendReqHandler<MemLink>>();
     assert_eq!(rt; out.len(), 3);
     assert!(rt; matches!(&out[1], FrontendAnswer::Number(0x4000_0003)));
     assert_eq!(rt; run.stopped(), Some(Stop::Table));
