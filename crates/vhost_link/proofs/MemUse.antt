@@ -40,21 +40,21 @@ front-end before left cs h =
     let e = cells-end cs h.cells h.ends h.order in (h.front ∙ ap (λ xs. xs ++ left) e.0, h.last e.1)
 
 -- where every cut gives
-give-retry : (cuts : List Cut) (n : ℕ) → AreGives cuts → sum_by retry (take n cuts) ≡ 0
+pub give-retry : (cuts : List Cut) (n : ℕ) → AreGives cuts → sum_by retry (take n cuts) ≡ 0
 give-retry cuts zero g = refl
 give-retry [] (suc n) g = refl
 give-retry (Give k ∷ cuts) (suc n) g = give-retry cuts n g
 give-retry (Retry ∷ cuts) (suc n) g = absurd g
 give-retry (Fault e ∷ cuts) (suc n) g = absurd g
 
-give-failure : (cuts : List Cut) (n : ℕ) → AreGives cuts → sum_by failure (take n cuts) ≡ 0
+pub give-failure : (cuts : List Cut) (n : ℕ) → AreGives cuts → sum_by failure (take n cuts) ≡ 0
 give-failure cuts zero g = refl
 give-failure [] (suc n) g = refl
 give-failure (Give k ∷ cuts) (suc n) g = give-failure cuts n g
 give-failure (Retry ∷ cuts) (suc n) g = absurd g
 give-failure (Fault e ∷ cuts) (suc n) g = absurd g
 
-give-later : (cuts : List Cut) (n : ℕ) → AreGives cuts → AreGives (drop n cuts)
+pub give-later : (cuts : List Cut) (n : ℕ) → AreGives cuts → AreGives (drop n cuts)
 give-later cuts zero g = g
 give-later [] (suc n) g = g
 give-later (Give k ∷ cuts) (suc n) g = give-later cuts n g

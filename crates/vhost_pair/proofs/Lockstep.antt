@@ -1,10 +1,8 @@
 -- Joined runs where no premise of the lockstep fails.
-use Rattle.std.proofs.Common.{◌≡◌, ℕ, zero, suc, ◌+◌, ◌<◌, ◌⊎◌, inl, inr, Bool, true, false, cond, List, [], ◌∷◌, take, drop, Some, None, Result, Ok, Err, refl, sym, ◌∙◌, ap, subst, arith}
+use Rattle.std.proofs.Common.{◌≡◌, ℕ, ◌+◌, ◌<◌, ◌⊎◌, inl, inr, Bool, true, false, cond, List, [], ◌∷◌, take, Some, None, Result, Ok, Err, refl, sym, ◌∙◌, ap, subst, arith}
 use Rattle.std.specs.Prelude.{⊤, sum_by}
 use Rattle.vhost_protocol.specs.DeviceCall.{Call, Answer}
 use Rattle.vhost_link.specs.declared.plain.PlainHandle.{PlainHandle}
-use Rattle.vhost_link.specs.declared.cut.Cut.{Cut}
-use Rattle.vhost_link.specs.declared.cut.Cut.TheVariants.{Give, Retry, Fault}
 use Rattle.vhost_link.specs.Cuts.{retry, failure}
 use Rattle.vhost_link.specs.Mem.{AreGives}
 use Rattle.vhost_pair.specs.declared.call.FrontendCall as code
@@ -14,40 +12,18 @@ use Rattle.vhost_pair.specs.declared.halt.Halt.{Halt}
 use Rattle.vhost_pair.specs.declared.halt.Halt.TheVariants as halt
 use Rattle.vhost_pair.specs.declared.halt.Stop.{Stop}
 use Rattle.vhost_pair.specs.declared.halt.Stop.TheVariants.{Table, Premise}
+use Rattle.vhost_link.proofs.MemUse.{give-retry, give-failure, give-later}
 use Rattle.vhost_pair.specs.Joined as joined
 use Rattle.vhost_pair.specs.Joined.{View, Cuts, IsSpent, Steps, StepsAll, Keeps, call_of, answer_of}
 use Rattle.vhost_pair.specs.Lockstep.{entries, IsInStep, IsClean, IsLockstep, LockstepLaw}
-
--- ---- scripts that only cut
-
-no-failure : (cuts : List Cut) (n : ℕ) → AreGives cuts → sum_by failure (take n cuts) ≡ 0
-no-failure cuts zero ok = refl
-no-failure [] (suc n) ok = refl
-no-failure (Give k ∷ cuts) (suc n) ok = no-failure cuts n ok
-no-failure (Retry ∷ cuts) (suc n) ok = absurd ok
-no-failure (Fault e ∷ cuts) (suc n) ok = absurd ok
-
-no-retry : (cuts : List Cut) (n : ℕ) → AreGives cuts → sum_by retry (take n cuts) ≡ 0
-no-retry cuts zero ok = refl
-no-retry [] (suc n) ok = refl
-no-retry (Give k ∷ cuts) (suc n) ok = no-retry cuts n ok
-no-retry (Retry ∷ cuts) (suc n) ok = absurd ok
-no-retry (Fault e ∷ cuts) (suc n) ok = absurd ok
-
-still-gives : (cuts : List Cut) (n : ℕ) → AreGives cuts → AreGives (drop n cuts)
-still-gives cuts zero ok = ok
-still-gives [] (suc n) ok = ok
-still-gives (Give k ∷ cuts) (suc n) ok = still-gives cuts n ok
-still-gives (Retry ∷ cuts) (suc n) ok = absurd ok
-still-gives (Fault e ∷ cuts) (suc n) ok = absurd ok
 
 unspent : (budget : ℕ) (old new : Cuts) → AreGives old.script → new.starved ≡ false → IsSpent budget old new → ⊥
 unspent budget old new ok fed s = by-cases s.spent
   where
     by-cases : (0 < sum_by failure (take (s.used) old.script)) ⊎ (budget < sum_by retry (take (s.used) old.script) + s.wants) → ⊥
-    by-cases (inl p) = let e = no-failure old.script (s.used) ok in omega (arith, e, p)
+    by-cases (inl p) = let e = give-failure old.script (s.used) ok in omega (arith, e, p)
     by-cases (inr p) =
-        let e = no-retry old.script (s.used) ok in
+        let e = give-retry old.script (s.used) ok in
         let wanted : 0 < s.wants = omega (arith, e, p) in
         absurd (cc (sym (s.want wanted) ∙ fed))
 
@@ -94,8 +70,8 @@ module _ {Dev : Type 0} (gives : Dev → (c : Call PlainHandle ⊤ ⊤) → Answ
 
           later : IsClean gives mid new
           later = record {
-            asking = subst AreGives (sym k.asking.script) (still-gives old.asking.script (k.asking.used) clean.asking);
-            serving = subst AreGives (sym k.serving.script) (still-gives old.serving.script (k.serving.used) clean.serving);
+            asking = subst AreGives (sym k.asking.script) (give-later old.asking.script (k.asking.used) clean.asking);
+            serving = subst AreGives (sym k.serving.script) (give-later old.serving.script (k.serving.used) clean.serving);
             asking_fed = clean.asking_fed;
             serving_fed = clean.serving_fed;
             features = clean.features;
