@@ -1,0 +1,58 @@
+//! One end of the channel from a device to its frontend.
+
+ghost use Rattle.std.specs.Prelude.{◌≡◌, Some, IfOk, IfErr};
+ghost use Rattle.vhost_message.specs.declared.error.Error.TheVariants.{OutOfMemory};
+
+use std::alloc::Global;
+use vhost_connection::Endpoint;
+use vhost_link::Link;
+use vhost_message::{BackendReq, Result, VhostUserMsgHeader};
+
+type Header = VhostUserMsgHeader<BackendReq>;
+
+/// One end of the channel from a device to its frontend: what both sides agreed on, and whether it was marked as
+/// failed. `Backend` holds it behind a lock.
+///
+/// Mirrors `BackendInternal` of `vhost::vhost_user::backend_req`.
+#[derive(Drop)]
+pub struct BackendInternal<L: Link> {
+    end: Endpoint<Header, L>,
+    reply_ack: bool,
+    shared_object: bool,
+    shmem: bool,
+    failed: Option<i32>,
+}
+
+impl<L: Link> BackendInternal<L> {
+    ghost use Rattle.vhost_backend_req.specs.Channel.{channel, opened};
+
+    /// A channel over a link, with nothing agreed on yet and not marked as failed. A message may take so many retries.
+    ///
+    /// OutOfMemory: a growth was refused.
+    pub fn from_stream(alloc: Global, link: L, budget: u32) -> Result<Self>
+        ensures opened { IfOk result (λ b. channel b ≡ opened link budget) }
+        ensures memory { IfErr result (λ e. e ≡ OutOfMemory) }
+    {
+        Ok(BackendInternal {
+            end: Endpoint::from_stream(alloc, link, budget)?,
+            reply_ack: false,
+            shared_object: false,
+            shmem: false,
+            failed: None,
+        })
+    }
+
+    /// Marks the channel as failed with the number of a system's error, also with 0. An earlier mark is replaced.
+    pub fn set_failed(&mut self, error: i32)
+        ensures { channel self.new ≡ record (channel self.old) { failed = Some error } }
+    {
+        self.failed = Some(error);
+    }
+
+    /// Whether the last call that sent or received met a fault: the link failed, or retried once too often.
+    pub fn faulted(&self) -> bool
+        ensures { result ≡ (channel self.now).end.faulted }
+    {
+        self.end.faulted()
+    }
+}

@@ -1,0 +1,10 @@
+//! The channel from a device to its frontend.
+#![tactic(auto)]
+
+mod backend;
+mod internal;
+#[cfg(test)]
+mod tests;
+
+pub use backend::Backend;
+pub use internal::BackendInternal;

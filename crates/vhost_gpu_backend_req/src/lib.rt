@@ -1,0 +1,10 @@
+//! The channel from a device to a display.
+#![tactic(auto)]
+
+mod backend;
+mod internal;
+#[cfg(test)]
+mod tests;
+
+pub use backend::GpuBackend;
+pub use internal::BackendInternal;
