@@ -1,8 +1,7 @@
 -- The first bytes of a message come in.
-use Rattle.std.proofs.Common.{◌≡◌, ℕ, ◌+◌, ◌-◌, ◌<◌, ◌≤◌, List, [], ◌∷◌, ◌++◌, length, take, drop, refl, sym, ap, ◌∙◌, arith, Bool, true, false, ◌||◌, Some, None, nat_lt, append_assoc}
+use Rattle.std.proofs.Common.{◌≡◌, ℕ, ◌+◌, ◌-◌, ◌≤◌, List, [], ◌∷◌, ◌++◌, length, take, drop, refl, sym, ap, ◌∙◌, arith, Bool, true, false, ◌||◌, Some, None, nat_lt, append_assoc}
 use Rattle.std.specs.Prelude.{if◌then◌else◌, not}
 use Rattle.std.proofs.lemmas.List.{take_at, take-append-drop}
-use Rattle.std.proofs.lemmas.Bool.Decides.{nat_tests}
 use Rattle.vhost_message.specs.declared.cause.IoCause.{IoCause}
 use Rattle.vhost_message.specs.declared.error.Error.{Error}
 use Rattle.vhost_message.specs.Cause.{error_of}
@@ -16,13 +15,8 @@ use Rattle.vhost_connection.specs.declared.pass.Stop.TheVariants.{Whole, AtEnd, 
 use Rattle.vhost_connection.specs.Pass.{receives, Fills, GotAs, GetsWhole}
 use Rattle.vhost_connection.specs.Talk.{State, Serves}
 use Rattle.vhost_connection.specs.Front.{FrontCame, FrontFails, gives}
-use Rattle.vhost_connection.proofs.Talking.{served, serves, failed, gave-up, suc-pos}
-
-pub less : (a b : ℕ) → a < b → nat_lt a b ≡ true
-less a b h = grind (arith, nat_tests)
-
-pub not-less : (a b : ℕ) → b ≤ a → nat_lt a b ≡ false
-not-less a b h = grind (arith, nat_tests)
+use Rattle.vhost_connection.proofs.Talking.{served, serves, failed, gave-up}
+use Rattle.vhost_connection.proofs.Tests.{suc-pos, less, not-less}
 
 -- what came, where it was no fault that stopped it
 pub heard-as : {S H : Type 0} (event : S → Event H → S → Type 0) (old new : S) (room budget left : ℕ) (stop : Stop) (cs : List (Cell H))

@@ -1,3 +1,4 @@
+pub mod Tests
 pub mod Sending
 pub mod Receiving
 pub mod Talking

@@ -14,7 +14,8 @@ use Rattle.vhost_connection.specs.Calls.{ReadsHeader, HandsOver}
 use Rattle.vhost_connection.specs.Front.{FrontCame, FrontFails, gives}
 use Rattle.vhost_connection.proofs.Errors.{socket}
 use Rattle.vhost_connection.proofs.Receiving.{is-nil}
-use Rattle.vhost_connection.proofs.Fronts.{less, not-less, Serves-list, Serves-gives, list-gives, left-gives}
+use Rattle.vhost_connection.proofs.Tests.{less, not-less}
+use Rattle.vhost_connection.proofs.Fronts.{Serves-list, Serves-gives, list-gives, left-gives}
 
 -- All that was asked for came.
 pub all-came : {L H : Type 0} {event : L → Event H → L → Type 0} {old mid : State L H} {len count : ℕ} {hs : List H} {text : List ℕ} (f : FrontCame event old len count hs text mid) → len ≤ count

@@ -2,7 +2,6 @@
 use Rattle.std.proofs.Common.{◌≡◌, ℕ, zero, suc, ◌+◌, ◌-◌, ◌<◌, ◌≤◌, List, [], ◌∷◌, ◌++◌, length, take, append_assoc, refl, sym, ap, subst, ◌∙◌, arith, Bool, true, false, ◌||◌, IsTrue, Option, Some, None, nat_lt, Err, Ok}
 use Rattle.std.specs.Prelude.{if◌then◌else◌}
 use Rattle.std.proofs.lemmas.List.{append-nil}
-use Rattle.std.proofs.lemmas.Bool.Decides.{nat_tests}
 use Rattle.vhost_message.specs.declared.cause.IoCause.{IoCause}
 use Rattle.vhost_message.specs.declared.error.Error.{Error}
 use Rattle.vhost_message.specs.Cause.{is_retry, error_of}
@@ -14,6 +13,7 @@ use Rattle.vhost_connection.specs.Pass.{sends, SendsWhole}
 use Rattle.vhost_connection.specs.Talk.{State, Talks, Serves, Trouble, has_moved}
 use Rattle.vhost_connection.specs.Talk.Trouble.{fault}
 use Rattle.vhost_connection.specs.Calls.{Sends}
+use Rattle.vhost_connection.proofs.Tests.{suc-pos}
 
 -- Calls compose, whatever is heard ahead.
 pub Talks-then : {L H : Type 0} {event : L → Event H → L → Type 0} {old mid new : State L H} {m n : Move H} → Talks event old m mid → Talks event mid n new → Talks event old (m then n) new
@@ -68,9 +68,6 @@ talks old new m a b k p = record {
   budget = k;
 }
 
-pub suc-pos : (n : ℕ) → nat_lt 0 (suc n) ≡ true
-suc-pos n = grind (arith, nat_tests)
-
 some-take : {A : Type 0} (n : ℕ) (xs : List A) → n < length xs → has_some (take n xs) ≡ nat_lt 0 n
 some-take zero xs h = refl
 some-take (suc n) [] h = absurd (omega arith)
@@ -121,13 +118,14 @@ sent-all event old new link text sent a s before none p =
 
 -- a text that went out in part
 pub sent-some : {L H : Type 0} (event : L → Event H → L → Type 0) (old new : State L H) (link : L) (text : List (Cell H)) (sent : Sent) (c : IoCause) (e : Error)
-    → old.ahead ≡ [] → new ≡ failed old link old.list old.left (if nat_lt 0 sent.count then Some c else old.broken) → old.broken ≡ None → e ≡ error_of c
+    → old.ahead ≡ [] → new ≡ failed old link old.list old.left (if sent.moved then Some c else old.broken) → old.broken ≡ None → e ≡ error_of c
     → sent.fault ≡ Some c → SendsWhole event old.link text old.budget sent link → Sends event old text (Err e) new
 sent-some event old new link text sent c e a s before is some p =
-    let q = rw some at p.1 in
+    let f = rw some at p.1 in
     let r = old.budget - sent.left in (
-      sent.count,
+      f.count,
       r,
-      gave-up event old new link old.list old.left (if nat_lt 0 sent.count then Some c else old.broken) old.budget false false (sends (take sent.count text) r) c e a s before is
-          (rw (before, some-take sent.count text q.0) refl) (λ h. h) refl (omega arith) (λ h. let z = q.1 h in omega arith) q.2,
+      gave-up event old new link old.list old.left (if sent.moved then Some c else old.broken) old.budget false false (sends (take f.count text) r) c e a s before is
+          (rw (before, f.told, some-take f.count text f.short) refl) (λ h. h) refl (omega arith) (λ h. let z = f.spent h in omega arith) f.link,
+      λ _. f.short,
     )

@@ -12,7 +12,7 @@ use Rattle.vhost_connection.specs.Talk.{State, Serves, Trouble}
 -- A text goes out, all of it; or a front of it, and then trouble.
 abbrev pub Sends : {L H : Type 0} → (L → Event H → L → Type 0) → State L H → List (Cell H) → Result (Unit {0}) Error → State L H → Type 0
 Sends event old text (Ok _) new = (r : ℕ) × Serves event old old.budget (sends text r) new × (new.list ≡ old.list) × (new.left ≡ old.left)
-Sends event old text (Err e) new = (n r : ℕ) × Trouble event old old.budget false false (sends (take n text) r) e new
+Sends event old text (Err e) new = (n r : ℕ) × Trouble event old old.budget false false (sends (take n text) r) e new × (old.broken ≡ None → n < length text)
 
 -- the handles of a message are given where there are any
 abbrev pub HandsOver : {H : Type 0} → Option (Vec H Global) → List H → Type 0

@@ -1,8 +1,10 @@
 -- What one pass over a link did: a text sent whole, or up to a fault.
-use Rattle.std.specs.Prelude.{◌≡◌, ◌++◌, ℕ, ◌+◌, ◌-◌, ◌<◌, ◌≤◌, List, [], length, take, drop, Option, Some, None, true, IsTrue, Result, Ok, Err}
+use Rattle.std.specs.Prelude.{◌≡◌, ◌++◌, ℕ, ◌+◌, ◌-◌, ◌<◌, ◌≤◌, List, [], length, take, drop, Option, Some, None, Bool, true, IsTrue, nat_lt, Result, Ok, Err}
+use Rattle.std.specs.List.{flat_map}
+use Rattle.std.specs.Borrow.{Bor}
 use Rattle.vhost_message.specs.declared.cause.IoCause.{IoCause}
 use Rattle.vhost_message.specs.Cause.{is_retry}
-use Rattle.vhost_protocol.specs.Stream.{Cell, carrying, bytes, brings_handles, first_handles, Item, items, heard}
+use Rattle.vhost_protocol.specs.Stream.{Cell, carrying, has_some, bytes, brings_handles, first_handles, Item, items, heard}
 use Rattle.vhost_link.specs.Law.{Event, Handed, Ended, Taken, Refused, Move, Moved, move, ◌then◌, refused}
 use Rattle.vhost_connection.specs.declared.pass.Sent.{Sent}
 use Rattle.vhost_connection.specs.declared.pass.First.{First}
@@ -10,29 +12,40 @@ use Rattle.vhost_connection.specs.declared.pass.Got.{Got}
 use Rattle.vhost_connection.specs.declared.pass.Stop.{Stop}
 use Rattle.vhost_connection.specs.declared.pass.Stop.TheVariants.{Whole, AtEnd, Fault}
 
--- the link took in some of the carrying stand that from this count on
-abbrev pub SendsPiece : {S H : Type 0} → (S → Event H → S → Type 0) → S → List (Cell H) → ℕ → Result ℕ IoCause → S → Type 0
-SendsPiece event old text count (Ok n) new = (0 < n) × (count + n ≤ length text) × event old (Taken (take n (drop count text))) new
-SendsPiece event old text count (Err c) new = event old (Refused c) new
+-- the pieces of a text, one after another
+abbrev pub joined : List (Bor (List ℕ)) → List ℕ
+joined pieces = flat_map (λ piece. piece.now) pieces
 
--- these carrying out went, after so many retries
+-- the link took in some of the cells that stand from this count on
+abbrev pub SendsPart : {S H : Type 0} → (S → Event H → S → Type 0) → S → List (Cell H) → ℕ → Result ℕ IoCause → S → Type 0
+SendsPart event old text count (Ok n) new = (0 < n) × (count + n ≤ length text) × event old (Taken (take n (drop count text))) new
+SendsPart event old text count (Err c) new = event old (Refused c) new
+
+-- these cells went out, after so many retries
 abbrev pub sends : {H : Type 0} → List (Cell H) → ℕ → Move H
 sends cs retries = move [] cs retries 0
 
--- how it ended: all went out; or a fault that was no retry, or one retry too many
-abbrev pub SentAs : {S H : Type 0} → (S → Event H → S → Type 0) → S → List (Cell H) → ℕ → ℕ → ℕ → Option IoCause → S → Type 0
-SentAs event old text budget count left None new = (count ≡ length text) × Moved event old (sends text (budget - left)) new
-SentAs event old text budget count left (Some c) new = (count < length text) × (IsTrue (is_retry c) → left ≡ 0)
-    × Moved event old (sends (take count text) (budget - left) then refused c) new
+-- A front of the cells went out, and then came a fault that was no retry, or one retry too many.
+pub record SentFront {S H : Type 0} (event : S → Event H → S → Type 0) (old : S) (text : List (Cell H)) (budget : ℕ) (moved : Bool) (left : ℕ) (c : IoCause) (new : S) : Type 0 where
+  pub count : ℕ
+  pub short : count < length text
+  pub told : moved ≡ nat_lt 0 count
+  pub spent : IsTrue (is_retry c) → left ≡ 0
+  pub link : Moved event old (sends (take count text) (budget - left) then refused c) new
+
+-- how it ended: all went out, or a front
+abbrev pub SentAs : {S H : Type 0} → (S → Event H → S → Type 0) → S → List (Cell H) → ℕ → Bool → ℕ → Option IoCause → S → Type 0
+SentAs event old text budget moved left None new = (moved ≡ has_some text) × Moved event old (sends text (budget - left)) new
+SentAs event old text budget moved left (Some c) new = SentFront event old text budget moved left c new
 
 abbrev pub SendsWhole : {S H : Type 0} → (S → Event H → S → Type 0) → S → List (Cell H) → ℕ → Sent → S → Type 0
-SendsWhole event old text budget sent new = (sent.left ≤ budget) × SentAs event old text budget sent.count sent.left sent.fault new
+SendsWhole event old text budget sent new = (sent.left ≤ budget) × SentAs event old text budget sent.moved sent.left sent.fault new
 
 -- these were handed out, after so many retries
 abbrev pub receives : {H : Type 0} → List (Item H) → ℕ → Move H
 receives is retries = move is [] retries 0
 
--- The carrying at lie the front of the room.
+-- The cells lie at the front of the room.
 pub record Fills {H : Type 0} (cs : List (Cell H)) (before after : List ℕ) : Type 0 where
   pub within : length cs ≤ length before
   pub bytes : after ≡ bytes cs ++ drop (length cs) before

@@ -4,7 +4,7 @@ ghost use Rattle.std.specs.Prelude.{◌≡◌, ◌≢◌, ◌+◌, ◌++◌, ◌
 ghost use Rattle.vhost_protocol.specs.Stream.{carrying};
 
 use crate::list::{Front, HandleList, MAX_HANDLES};
-use crate::pass::{Stop, recv_bytes, recv_message, send_whole};
+use crate::pass::{Stop, recv_bytes, recv_message, send_pieces};
 use std::alloc::Global;
 use std::marker::PhantomData;
 use vhost_link::Link;
@@ -100,7 +100,7 @@ impl<M: MsgHeader, L: Link> Endpoint<M, L> {
             return Err(Error::IncorrectFds);
         }
         header.encode_into(&mut self.text[..M::SIZE]);
-        self.send_text(M::SIZE, handles)
+        self.send_text(M::SIZE, &[], handles)
     }
 
     /// Sends a header and a body, with the handles on the first byte.
@@ -128,25 +128,61 @@ impl<M: MsgHeader, L: Link> Endpoint<M, L> {
         }
         let len = M::SIZE + T::SIZE;
         put(&mut self.text[..len], header, body);
-        self.send_text(len, handles)
+        self.send_text(len, &[], handles)
     }
 
-    /// Sends the first bytes of the text.
-    fn send_text(&mut self, len: usize, handles: &[&L::Handle]) -> Result<()>
+    /// Sends a header, a body and a payload, with the handles on the first byte. The payload goes out from where it
+    /// lies.
+    ///
+    /// OversizedMsg: the body is longer than 4096 bytes, or body and payload together than a header of this type may
+    /// say. IncorrectFds: there are more than 32 handles. In both cases nothing was written, and nothing changed.
+    #[tactic(auto, unfolding(crate::specs::State::ahead_of))]
+    pub fn send_message_with_payload<T: ByteValued>(
+        &mut self,
+        header: &M,
+        body: &T,
+        payload: &[u8],
+        handles: &[&L::Handle],
+    ) -> Result<()>
+        ensures long_body { 4096 < T.SIZE → Refuses (state self.old) OversizedMsg result (state self.new) }
+        ensures long { M.MAX_MSG_SIZE < T.SIZE + length payload.now → Refuses (state self.old) OversizedMsg result (state self.new) }
+        ensures many { T.SIZE ≤ 4096 → T.SIZE + length payload.now ≤ M.MAX_MSG_SIZE → 32 < length handles.now →
+            Refuses (state self.old) IncorrectFds result (state self.new) }
+        ensures sent { T.SIZE ≤ 4096 → T.SIZE + length payload.now ≤ M.MAX_MSG_SIZE → length handles.now ≤ 32 →
+            Sends L.event (state self.old) (carrying (map (λ h. h.now) handles.now) (M.text header.now ++ T.text body.now ++ payload.now)) result (state self.new) }
+        ensures memory { IfErr result (λ e. e ≢ OutOfMemory) }
+    {
+        if T::SIZE > MAX_BODY || T::SIZE > M::MAX_MSG_SIZE {
+            return Err(Error::OversizedMsg);
+        }
+        if payload.len() > M::MAX_MSG_SIZE - T::SIZE {
+            return Err(Error::OversizedMsg);
+        }
+        if handles.len() > MAX_HANDLES {
+            return Err(Error::IncorrectFds);
+        }
+        let len = M::SIZE + T::SIZE;
+        put(&mut self.text[..len], header, body);
+        self.send_text(len, payload, handles)
+    }
+
+    /// Sends the first bytes of the text, and a payload behind them.
+    fn send_text(&mut self, len: usize, payload: &[u8], handles: &[&L::Handle]) -> Result<()>
         requires some { 0 < len }
         requires len { len ≤ 4108 }
         requires handles { length handles.now ≤ 32 }
-        ensures sent { Sends L.event (state self.old) (carrying (map (λ h. h.now) handles.now) (take len self.old.text)) result (state self.new) }
+        ensures sent { Sends L.event (state self.old) (carrying (map (λ h. h.now) handles.now) (take len self.old.text ++ payload.now)) result (state self.new) }
         ensures memory { IfErr result (λ e. e ≢ OutOfMemory) }
     {
         self.faulted = false;
         if let Some(cause) = self.broken {
             return Err(Error::SocketBroken(cause));
         }
-        let sent = send_whole(&mut self.link, &self.text[..len], handles, self.budget);
+        let pieces = [&self.text[..len], payload];
+        let sent = send_pieces(&mut self.link, &pieces, handles, self.budget);
         match sent.fault {
             None => Ok(()),
-            Some(cause) => Err(self.fail(cause, sent.count > 0)),
+            Some(cause) => Err(self.fail(cause, sent.moved)),
         }
     }
 

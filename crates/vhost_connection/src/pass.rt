@@ -1,22 +1,22 @@
 //! One pass over a link, with a budget of retries.
 
-ghost use Rattle.std.specs.Prelude.{◌≡◌, ◌<◌, ◌≤◌, [], length, take, vec_capacity, map};
+ghost use Rattle.std.specs.Prelude.{◌≡◌, ◌<◌, ◌≤◌, [], length, take, vec_capacity, map, if◌then◌else◌};
 ghost use Rattle.vhost_protocol.specs.Stream.{carrying};
-ghost use Rattle.vhost_connection.specs.Pass.{SendsPiece, SendsWhole, GetsPiece, GetsFirst, GetsRest, GetsWhole};
+ghost use Rattle.vhost_connection.specs.Pass.{SendsPart, SendsWhole, joined, GetsPiece, GetsFirst, GetsRest, GetsWhole};
 
 use vhost_link::Link;
 use vhost_message::IoCause;
 
-/// How bytes went out: how many, how many retries are left, and the fault that stopped them.
+/// How bytes went out: whether any did, how many retries are left, and the fault that stopped them.
 #[derive(Drop)]
 pub struct Sent {
-    pub count: usize,
+    pub moved: bool,
     pub left: u32,
     pub fault: Option<IoCause>,
 }
 
 /// Sends some of the bytes from this count on, the handles with the first of all.
-fn send_piece<L: Link>(
+fn send_part<L: Link>(
     link: &mut L,
     bytes: &[u8],
     handles: &[&L::Handle],
@@ -24,7 +24,7 @@ fn send_piece<L: Link>(
 ) -> Result<usize, IoCause>
     requires handles { length handles.now ≤ 32 }
     requires count { count < length bytes.now }
-    ensures { SendsPiece L.event link.old (carrying (map (λ h. h.now) handles.now) bytes.now) count result link.new }
+    ensures { SendsPart L.event link.old (carrying (map (λ h. h.now) handles.now) bytes.now) count result link.new }
 {
     if count == 0 {
         link.send(bytes, handles)
@@ -34,19 +34,19 @@ fn send_piece<L: Link>(
 }
 
 /// Sends all of the bytes, with the handles on the first of them.
-pub fn send_whole<L: Link>(link: &mut L, bytes: &[u8], handles: &[&L::Handle], budget: u32) -> Sent
+fn send_whole<L: Link>(link: &mut L, bytes: &[u8], handles: &[&L::Handle], budget: u32) -> Sent
     requires { length handles.now ≤ 32 }
     ensures { SendsWhole L.event link.old (carrying (map (λ h. h.now) handles.now) bytes.now) budget result link.new }
 {
     let mut count = 0;
     let mut left = budget;
     while count < bytes.len() {
-        match send_piece(link, bytes, handles, count) {
+        match send_part(link, bytes, handles, count) {
             Ok(n) => count += n,
             Err(cause) => {
                 if !cause.is_retry() || left == 0 {
                     return Sent {
-                        count,
+                        moved: count > 0,
                         left,
                         fault: Some(cause),
                     };
@@ -56,7 +56,56 @@ pub fn send_whole<L: Link>(link: &mut L, bytes: &[u8], handles: &[&L::Handle], b
         }
     }
     Sent {
-        count,
+        moved: count > 0,
+        left,
+        fault: None,
+    }
+}
+
+/// Sends the next piece of a message, with the handles on its first byte unless something went out before.
+fn send_piece<L: Link>(
+    link: &mut L,
+    piece: &[u8],
+    handles: &[&L::Handle],
+    moved: bool,
+    budget: u32,
+) -> Sent
+    requires { length handles.now ≤ 32 }
+    ensures { SendsWhole L.event link.old (carrying (if moved then [] else map (λ h. h.now) handles.now) piece.now) budget result link.new }
+{
+    if moved {
+        send_whole(link, piece, &[], budget)
+    } else {
+        send_whole(link, piece, handles, budget)
+    }
+}
+
+/// Sends all of the pieces, one after another, with the handles on the first byte of all.
+pub fn send_pieces<L: Link>(
+    link: &mut L,
+    pieces: &[&[u8]],
+    handles: &[&L::Handle],
+    budget: u32,
+) -> Sent
+    requires { length handles.now ≤ 32 }
+    ensures { SendsWhole L.event link.old (carrying (map (λ h. h.now) handles.now) (joined pieces.now)) budget result link.new }
+{
+    let mut moved = false;
+    let mut left = budget;
+    for piece in pieces {
+        let sent = send_piece(link, piece, handles, moved, left);
+        moved |= sent.moved;
+        left = sent.left;
+        if let Some(cause) = sent.fault {
+            return Sent {
+                moved,
+                left,
+                fault: Some(cause),
+            };
+        }
+    }
+    Sent {
+        moved,
         left,
         fault: None,
     }

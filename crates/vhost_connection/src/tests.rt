@@ -1,5 +1,7 @@
 //! Endpoints over links in memory, however these are cut and wherever they fail.
 
+mod payloads;
+
 use crate::Endpoint;
 use std::alloc::{AllocError, Global};
 use std::process::Abort;

@@ -79,7 +79,7 @@ module _ {L H : Type 0} (event : L → Event H → L → Type 0) where
 
   pub bare-fails : (old mid new : State L H) (header : Header) (e : declared.Error) → mid ≡ record old { list = true }
       → Sends event mid (carrying [] (header_text header)) (Err e) new → Fails event old false e new
-  bare-fails old mid new header e is (n, r, t) =
+  bare-fails old mid new header e is (n, r, t, short) =
       let text = carrying {H = H} [] (header_text header) in
       let few : length (take n text) ≤ 4108 = omega (arith, length-take n text, length-carrying {H = H} [] (header_text header)) in
       fails-listed old false e new (subst (λ (x : State L H). Fails event x false e new) is (trouble-fails event mid false false (sends (take n text) r) e new t refl few))

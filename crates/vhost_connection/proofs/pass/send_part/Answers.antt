@@ -1,7 +1,7 @@
 use Rattle.std.proofs.Common.{arith, map}
 use Rattle.std.proofs.lemmas.List.{take_rest}
 use Rattle.vhost_connection.proofs.Sending.{first-piece, later-piece}
-use Rattle.vhost_connection.proofs.pass.send_piece.Goals as goal
+use Rattle.vhost_connection.proofs.pass.send_part.Goals as goal
 
 pub returns-then-count-eq0 : goal.returns-then-count-eq0
 returns-then-count-eq0 g c =
