@@ -14,7 +14,7 @@ use Rattle.vhost_connection.specs.Talk.{State, Serves, Trouble}
 use Rattle.vhost_connection.specs.Talk.Trouble.{was_broken, no_memory, fault}
 use Rattle.vhost_connection.specs.Calls.{ReadsBody, HandsOver}
 use Rattle.vhost_connection.specs.Front.{FrontCame, FrontFails, gives}
-use Rattle.vhost_connection.proofs.Fronts.{Serves-list, Serves-gives, list-gives}
+use Rattle.vhost_connection.proofs.Fronts.{Serves-list, Serves-gives, list-gives, left-gives}
 use Rattle.vhost_connection.proofs.Errors.{socket}
 use Rattle.vhost_connection.proofs.Messages.{all-came, some-came}
 
@@ -91,4 +91,5 @@ body-whole event read valid size read_body valid_body old mid new head len count
       ok_y,
       subst (λ ys. HandsOver x.2 ys) f.first h,
       ap (λ (z : State _ _). z.list) s ∙ list-gives mid hs f.list ∙ ap (λ ys. not (has_some ys)) f.first,
+      ap (λ (z : State _ _). z.left + f.retries) s ∙ ap (λ n. n + f.retries) (left-gives mid hs) ∙ f.left,
     )

@@ -50,7 +50,7 @@ abbrev pub ReadsBody : {M T L H : Type 0} → (L → Event H → L → Type 0) �
     → Result (M × T × Option (Vec H Global)) Error → State L H → Type 0
 ReadsBody {H} event read valid size read_body valid_body old (Ok x) new = (cs : List (Cell H)) × (r : ℕ) × Serves event old old.budget (receives (items cs) r) new
     × (length cs ≡ 12 + size) × (x.0 ≡ read (take 12 (bytes cs))) × (valid x.0 ≡ true) × (x.1 ≡ read_body (drop 12 (bytes cs))) × (valid_body x.1 ≡ true)
-    × HandsOver x.2 (first_handles cs) × (new.list ≡ not (has_some (first_handles cs)))
+    × HandsOver x.2 (first_handles cs) × (new.list ≡ not (has_some (first_handles cs))) × (new.left + r ≡ old.budget)
 ReadsBody {H} event read valid size read_body valid_body old (Err PartialMessage) new = (cs : List (Cell H)) × (r : ℕ) × Serves event old old.budget (receives (heard cs true) r) new
     × (length cs < 12 + size) × (new.list ≡ true)
 ReadsBody {H} event read valid size read_body valid_body old (Err InvalidMessage) new = (cs : List (Cell H)) × (r : ℕ) × Serves event old old.budget (receives (items cs) r) new

@@ -269,9 +269,23 @@ impl<M: MsgHeader, L: Link> Endpoint<M, L> {
 
     /// Receives a header and a record, with the handles of the first byte. The header's size is not looked at.
     ///
-    /// PartialMessage: the stream ended before or within them. InvalidMessage: both were received, and one is not
-    /// valid. OutOfMemory: as in `recv_header`.
+    /// OversizedMsg: the record is longer than 4096 bytes; nothing was received, and nothing changed. PartialMessage:
+    /// the stream ended before or within them. InvalidMessage: both were received, and one is not valid. OutOfMemory:
+    /// as in `recv_header`.
     pub fn recv_body<T: VhostUserMsgValidator + Drop>(
+        &mut self,
+    ) -> Result<(M, T, Option<Vec<L::Handle>>)>
+        ensures long { 4096 < T.SIZE → Refuses (state self.old) OversizedMsg result (state self.new) }
+        ensures received { T.SIZE ≤ 4096 → ReadsBody L.event M.read M.valid T.SIZE T.read T.valid (state self.old) result (state self.new) }
+    {
+        if T::SIZE > MAX_BODY {
+            return Err(Error::OversizedMsg);
+        }
+        self.recv_record()
+    }
+
+    /// Receives a header and a record that is not too long.
+    fn recv_record<T: VhostUserMsgValidator + Drop>(
         &mut self,
     ) -> Result<(M, T, Option<Vec<L::Handle>>)>
         requires { T.SIZE ≤ 4096 }

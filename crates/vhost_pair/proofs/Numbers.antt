@@ -75,7 +75,7 @@ module _ (R : Type 0) {L H : Type 0} (event : L → Event H → L → Type 0) wh
   pub number-comes : (old new : State L H) (sent : Header) (h : VhostUserMsgHeader R) (v : VhostUserU64) (hs : Option (Vec H Global)) → ReadsNumber old (Ok (h, v, hs)) new
       → hs ≡ None → is_reply_for request_of (fields_of h) sent ≡ true → NumberComes event old sent v.value new
   unfolding the_reply
-  number-comes old new sent h v hs (cs, r, s, len, is_h, ok, is_v, ok_v, over, list) alone answered =
+  number-comes old new sent h v hs (cs, r, s, len, is_h, ok, is_v, ok_v, over, list, left) alone answered =
       let head = header-is cs h is_h in
       record {
         reply = the_reply cs;
@@ -90,7 +90,7 @@ module _ (R : Type 0) {L H : Type 0} (event : L → Event H → L → Type 0) wh
       → ((cs : List (Cell H)) → HandsOver hs (first_handles cs) → (is_reply_for request_of (fields_of h) sent && not (has_some (first_handles cs))) ≡ false)
       → NumberFails event old sent code.InvalidMessage new
   unfolding the_reply
-  unfit-when old new sent h v hs (cs, r, s, len, is_h, ok, is_v, ok_v, over, list) bad =
+  unfit-when old new sent h v hs (cs, r, s, len, is_h, ok, is_v, ok_v, over, list, left) bad =
       let head = header-is cs h is_h in
       unfit (the_reply cs) (hears-whole event old new cs r (Ok (the_reply cs)) s len (outcome-known cs (ap (λ x. is_some (request_of x.code) && is_valid_header x) (sym head) ∙ ok)))
       (ap (λ x. is_reply_for request_of x sent && not (has_some (first_handles cs))) (sym head) ∙ bad cs over)

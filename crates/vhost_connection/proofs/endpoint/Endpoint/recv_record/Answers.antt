@@ -2,8 +2,8 @@ use Rattle.std.proofs.Common.{ℕ, ◌≡◌, ◌+◌, ◌-◌, rules, sym, ◌�
 use Rattle.std.proofs.lemmas.Result.{err_from_is_err_and}
 use Rattle.vhost_connection.specs.State.{state}
 use Rattle.vhost_connection.proofs.Bodies.{body-fails, body-bad, body-whole, bad-left, bad-right}
-use Rattle.vhost_connection.proofs.endpoint.Endpoint.recv_body.Goals as goal
-use Rattle.vhost_connection.proofs.endpoint.Endpoint.recv_body.Goals.{then-not-is_valid-via-then-not-is_valid, then-not-is_valid-via-else-not-is_valid+then-not-is_valid-2}
+use Rattle.vhost_connection.proofs.endpoint.Endpoint.recv_record.Goals as goal
+use Rattle.vhost_connection.proofs.endpoint.Endpoint.recv_record.Goals.{then-not-is_valid-via-then-not-is_valid, then-not-is_valid-via-else-not-is_valid+then-not-is_valid-2}
 
 -- the header's size and the record's
 sizes : (head size all : ℕ) → head ≡ 12 → size ≡ all → head + size ≡ 12 + all
