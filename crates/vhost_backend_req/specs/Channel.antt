@@ -2,6 +2,9 @@
 use Rattle.std.specs.Prelude.{ℕ, ℤ, Bool, false, Option, None}
 use Rattle.vhost_connection.specs.State.{state, fresh}
 use Rattle.vhost_connection.specs.Talk.{State}
+use Rattle.vhost_connection.specs.declared.endpoint.Endpoint.{Endpoint}
+use Rattle.vhost_message.specs.declared.header.VhostUserMsgHeader.{VhostUserMsgHeader}
+use Rattle.vhost_message.specs.declared.backend_req.BackendReq.{BackendReq}
 use Rattle.vhost_backend_req.specs.declared.internal.BackendInternal.{BackendInternal}
 
 -- its endpoint, what was agreed on, and the number of the error with which it was marked as failed
@@ -18,3 +21,7 @@ channel b = record { end = state b.end; reply_ack = b.reply_ack; shared_object =
 -- a channel that has not sent or received yet
 abbrev pub opened : {L H : Type 0} → L → ℕ → Channel L H
 opened link budget = record { end = fresh link budget; reply_ack = false; shared_object = false; shmem = false; failed = None }
+
+-- the channel over another endpoint
+abbrev pub with_end : {L H : Type 0} → BackendInternal L H → Endpoint (VhostUserMsgHeader BackendReq) L H → BackendInternal L H
+with_end b end = record b { end = end }

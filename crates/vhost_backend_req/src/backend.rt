@@ -39,6 +39,11 @@ impl<L: Link> Backend<L> {
 }
 
 impl<L: Link> Clone for Backend<L> {
+    ghost use Rattle.std.specs.Arc.{arc_value};
+
+    ghost is_clone = { λ backend other. arc_value other.inner ≡ arc_value backend.inner };
+
+    /// The same channel once more.
     fn clone(&self) -> std::result::Result<Self, AllocError> {
         Ok(Backend {
             inner: Arc::try_clone(&self.inner)?,

@@ -2,6 +2,8 @@
 #![tactic(auto)]
 
 mod backend;
+#[cfg(test)]
+mod callers;
 mod internal;
 #[cfg(test)]
 mod tests;

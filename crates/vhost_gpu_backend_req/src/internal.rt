@@ -21,7 +21,13 @@ pub struct BackendInternal<L: Link> {
 }
 
 impl<L: Link> BackendInternal<L> {
-    ghost use Rattle.vhost_gpu_backend_req.specs.Channel.{channel, opened};
+    ghost use Rattle.std.specs.Borrow.{sem, Lends};
+    ghost use Rattle.vhost_connection.specs.State.{state};
+    ghost use Rattle.vhost_connection.specs.contracts.endpoint.Endpoint.{the_row as endpoint_row};
+    ghost use Rattle.vhost_gpu_message.specs.contracts.gpu_backend_req.GpuBackendReq.{the_row as code_row};
+    ghost use Rattle.vhost_gpu_message.specs.contracts.header.VhostUserGpuMsgHeader.{the_row as header_row};
+    ghost use Rattle.vhost_gpu_backend_req.specs.contracts.internal.BackendInternal.{the_row};
+    ghost use Rattle.vhost_gpu_backend_req.specs.Channel.{channel, opened, with_end};
 
     /// A channel over a link, that is not marked as failed. A message may take so many retries.
     ///
@@ -41,6 +47,14 @@ impl<L: Link> BackendInternal<L> {
         ensures { channel self.new ≡ record (channel self.old) { failed = Some error } }
     {
         self.failed = Some(error);
+    }
+
+    /// Lends its endpoint.
+    pub fn end(&mut self) -> &mut Endpoint<Header, L>
+        ensures* lender { sem 𝓛 (Lends (the_row L.row L.Handle.row) (endpoint_row (header_row code_row) L.row L.Handle.row) self.entry result (λ e. with_end self.old e)) }
+        ensures value { state result.now ≡ (channel self.old).end }
+    {
+        &mut self.end
     }
 
     /// Whether the last call that sent or received met a fault: the link failed, or retried once too often.
