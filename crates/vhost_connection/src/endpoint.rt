@@ -43,7 +43,8 @@ pub struct Endpoint<M, L: Link> {
 /// Writes a header and the body behind it.
 fn put<M: ByteValued, T: ByteValued>(out: &mut [u8], header: &M, body: &T)
     requires { length out.old ≡ M.SIZE + T.SIZE }
-    ensures { out.new ≡ M.text header.now ++ T.text body.now }
+    ensures text { out.new ≡ M.text header.now ++ T.text body.now }
+    ensures fits { T.fits body.now }
 {
     let (front, rest) = out.split_at_mut(M::SIZE);
     header.encode_into(front);
@@ -118,6 +119,7 @@ impl<M: MsgHeader, L: Link> Endpoint<M, L> {
         ensures many { T.SIZE ≤ min 4096 M.MAX_MSG_SIZE → 32 < length handles.now → Refuses (state self.old) IncorrectFds result (state self.new) }
         ensures sent { T.SIZE ≤ min 4096 M.MAX_MSG_SIZE → length handles.now ≤ 32 →
             Sends L.event (state self.old) (carrying (map (λ h. h.now) handles.now) (M.text header.now ++ T.text body.now)) result (state self.new) }
+        ensures fits { T.SIZE ≤ min 4096 M.MAX_MSG_SIZE → length handles.now ≤ 32 → T.fits body.now }
         ensures memory { IfErr result (λ e. e ≢ OutOfMemory) }
     {
         if T::SIZE > MAX_BODY || T::SIZE > M::MAX_MSG_SIZE {
@@ -150,6 +152,7 @@ impl<M: MsgHeader, L: Link> Endpoint<M, L> {
             Refuses (state self.old) IncorrectFds result (state self.new) }
         ensures sent { T.SIZE ≤ 4096 → T.SIZE + length payload.now ≤ M.MAX_MSG_SIZE → length handles.now ≤ 32 →
             Sends L.event (state self.old) (carrying (map (λ h. h.now) handles.now) (M.text header.now ++ T.text body.now ++ payload.now)) result (state self.new) }
+        ensures fits { T.SIZE ≤ 4096 → T.SIZE + length payload.now ≤ M.MAX_MSG_SIZE → length handles.now ≤ 32 → T.fits body.now }
         ensures memory { IfErr result (λ e. e ≢ OutOfMemory) }
     {
         if T::SIZE > MAX_BODY || T::SIZE > M::MAX_MSG_SIZE {
