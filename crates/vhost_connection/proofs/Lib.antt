@@ -1,4 +1,5 @@
 pub mod Tests
+pub mod Joining
 pub mod Sending
 pub mod Receiving
 pub mod Talking

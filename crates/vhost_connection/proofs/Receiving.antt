@@ -10,6 +10,7 @@ use Rattle.vhost_link.proofs.Cells.{length-carrying, bytes-carrying, length-byte
 use Rattle.vhost_link.specs.Law.{Event, Handed, Refused, Move, Moved, ◌then◌, done, refused, Receives}
 use Rattle.vhost_link.specs.Law.Moved.{still, more}
 use Rattle.vhost_link.proofs.Moves.{Moved-as, Moved-then, then_assoc}
+use Rattle.vhost_connection.proofs.Tests.{is-nil}
 use Rattle.vhost_connection.specs.Pass.{receives, GetsWhole, FrontCame, Fills, Arrives, GetsPiece, GetsRest, GotAs}
 use Rattle.vhost_connection.specs.declared.pass.Got.{Got}
 use Rattle.vhost_connection.specs.declared.pass.Stop.{Stop}
@@ -25,7 +26,7 @@ pub record HasRead {S H : Type 0} (event : S → Event H → S → Type 0) (old 
   pub moved : Moved event old (receives (items cs) (budget - left)) new
 
 -- a write to the rest of the room, of which only a front counts
-piece_room : (count n : ℕ) (before piece : List ℕ) → count ≤ length before → drop n piece ≡ drop n (take (length before - count) (drop count before))
+pub piece_room : (count n : ℕ) (before piece : List ℕ) → count ≤ length before → drop n piece ≡ drop n (take (length before - count) (drop count before))
     → put_mid count (length before - count) before piece ≡ take count before ++ (take n piece ++ drop (count + n) before)
 piece_room count n before piece le e =
     let post : drop (length before - count) (drop count before) ≡ [] = drop_all (length before - count) (drop count before) (omega (arith, length-drop count before)) in
@@ -76,10 +77,6 @@ fills-more cs ds before mid after count n f k long within e =
 
 filled : {H : Type 0} {cs : List (Cell H)} {before after : List ℕ} → Fills cs before after → length after ≡ length before
 filled {cs = cs} {before} {after} f = ap length f.bytes ∙ length-append (bytes cs) (drop (length cs) before) ∙ omega (arith, length-bytes cs, length-drop (length cs) before, f.within)
-
-pub is-nil : {A : Type 0} (xs : List A) → length xs ≡ 0 → xs ≡ []
-is-nil [] h = refl
-is-nil (x ∷ xs) h = absurd cc
 
 same-room : (room after front : List ℕ) (count n : ℕ) → after ≡ take count room ++ (front ++ drop (count + n) room) → length front ≡ n → n ≡ 0 → after ≡ room
 same-room room after front count n e long none =

@@ -2,8 +2,7 @@
 use Rattle.std.proofs.Common.{◌≡◌, ℕ, ◌+◌, ◌-◌, ◌<◌, ◌≤◌, List, [], ◌∷◌, ◌++◌, length, take, drop, get_or, add-zero, zero-add, length-drop, refl, sym, ap, subst, ◌∙◌, arith, Bool, true, ◌||◌, IsTrue, nat_lt, Option, Some, None, Ok, Err, Result, Bor}
 use Rattle.std.specs.Prelude.{if◌then◌else◌}
 use Rattle.std.proofs.Math.Seq.{take-add, take-append-add}
-use Rattle.std.proofs.lemmas.List.{append-nil, take_all, take_more, take-append-drop, take-append-le, length-append}
-use Rattle.std.proofs.lemmas.List.Concat.{flat_map-append}
+use Rattle.std.proofs.lemmas.List.{append-nil, take_all, take-append-le, length-append}
 use Rattle.vhost_message.specs.declared.cause.IoCause.{IoCause}
 use Rattle.vhost_message.specs.Cause.{is_retry}
 use Rattle.vhost_protocol.specs.Stream.{Cell, cell, plain, carrying, has_some}
@@ -14,6 +13,7 @@ use Rattle.vhost_link.proofs.Cells.{length-carrying, piece-first, piece-later, p
 use Rattle.vhost_connection.specs.declared.pass.Sent.{Sent}
 use Rattle.vhost_connection.specs.Pass.{sends, joined, SendsPart, SentAs, SendsWhole}
 use Rattle.vhost_connection.proofs.Tests.{suc-pos, less}
+use Rattle.vhost_connection.proofs.Joining.{joined-more, joined-rest}
 
 pub first-piece : {S H : Type 0} (event : S → Event H → S → Type 0) (old new : S) (bytes : List ℕ) (hs : List H) (count : ℕ) (r : Result ℕ IoCause)
     → count ≡ 0 → Sends event old bytes hs r new → SendsPart event old (carrying hs bytes) count r new
@@ -91,14 +91,6 @@ ends event old mid new cs ds budget left fewer moved also (Some c) a b told p f 
       ∙ ap (λ (m : Move _). m then refused c) (both cs (take f.count ds) (budget - left) (left - fewer) (budget - fewer) (omega arith) ∙ ap (λ xs. sends xs (budget - fewer)) (sym (take-append-add cs ds f.count))))
       (Moved-then p f.link);
 }
-
--- the pieces up to the next one
-joined-more : (pieces : List (Bor (List ℕ))) (i : ℕ) (d : Bor (List ℕ)) → i < length pieces → joined (take (i + 1) pieces) ≡ joined (take i pieces) ++ (get_or pieces i d).now
-joined-more pieces i d lt = rw (take_more pieces i d lt, flat_map-append (λ (p : Bor (List ℕ)). p.now) (take i pieces) (get_or pieces i d ∷ []), append-nil (get_or pieces i d).now) refl
-
--- all pieces are some of them, and the rest
-joined-rest : (pieces : List (Bor (List ℕ))) (i : ℕ) → joined pieces ≡ joined (take i pieces) ++ joined (drop i pieces)
-joined-rest pieces i = ap joined (sym (take-append-drop i pieces)) ∙ flat_map-append (λ (p : Bor (List ℕ)). p.now) (take i pieces) (drop i pieces)
 
 -- what was sent before, and then a piece
 pub then-piece : {S H : Type 0} (event : S → Event H → S → Type 0) (old mid new : S) (hs : List H) (pieces : List (Bor (List ℕ))) (i : ℕ) (budget left : ℕ) (moved : Bool) (sent : Sent)

@@ -1,19 +1,20 @@
 -- What the calls of an endpoint add up to.
-use Rattle.std.proofs.Common.{◌≡◌, ℕ, zero, suc, ◌+◌, ◌-◌, ◌<◌, ◌≤◌, List, [], ◌∷◌, ◌++◌, length, take, append_assoc, refl, sym, ap, subst, ◌∙◌, arith, Bool, true, false, ◌||◌, IsTrue, Option, Some, None, nat_lt, Err, Ok}
+use Rattle.std.proofs.Common.{◌≡◌, ℕ, zero, suc, ◌+◌, ◌-◌, ◌<◌, ◌≤◌, List, [], ◌∷◌, ◌++◌, length, take, drop, min, append_assoc, refl, sym, ap, subst, ◌∙◌, arith, Bool, true, false, ◌||◌, IsTrue, Option, Some, None, nat_lt, Err, Ok, Result}
 use Rattle.std.specs.Prelude.{if◌then◌else◌}
-use Rattle.std.proofs.lemmas.List.{append-nil}
+use Rattle.std.proofs.lemmas.List.{append-nil, take_all, take-append-le, take-append-drop, length-take-le}
 use Rattle.vhost_message.specs.declared.cause.IoCause.{IoCause}
 use Rattle.vhost_message.specs.declared.error.Error.{Error}
 use Rattle.vhost_message.specs.Cause.{is_retry, error_of}
-use Rattle.vhost_protocol.specs.Stream.{Cell, has_some, items}
-use Rattle.vhost_link.specs.Law.{Event, Move, Moved, ◌then◌, refused}
-use Rattle.vhost_link.proofs.Moves.{Moved-then}
+use Rattle.vhost_protocol.specs.Stream.{Cell, carrying, has_some, items}
+use Rattle.vhost_link.specs.Law.{Event, Taken, Refused, Move, Moved, nothing, ◌then◌, refused}
+use Rattle.vhost_link.specs.Law.Moved.{still, more}
+use Rattle.vhost_link.proofs.Moves.{Moved-then, Moved-once, Moved-as}
 use Rattle.vhost_connection.specs.declared.pass.Sent.{Sent}
-use Rattle.vhost_connection.specs.Pass.{sends, SendsWhole}
-use Rattle.vhost_connection.specs.Talk.{State, Talks, Serves, Trouble, has_moved}
-use Rattle.vhost_connection.specs.Talk.Trouble.{fault}
-use Rattle.vhost_connection.specs.Calls.{Sends}
-use Rattle.vhost_connection.proofs.Tests.{suc-pos}
+use Rattle.vhost_connection.specs.Pass.{sends, SendsSome, SendsWhole}
+use Rattle.vhost_connection.specs.Talk.{State, Talks, Serves, Trouble, has_moved, IsBroken}
+use Rattle.vhost_connection.specs.Talk.Trouble.{was_broken, fault}
+use Rattle.vhost_connection.specs.Calls.{Sends, SendsOnce}
+use Rattle.vhost_connection.proofs.Tests.{suc-pos, is-nil}
 
 -- Calls compose, whatever is heard ahead.
 pub Talks-then : {L H : Type 0} {event : L → Event H → L → Type 0} {old mid new : State L H} {m n : Move H} → Talks event old m mid → Talks event mid n new → Talks event old (m then n) new
@@ -129,3 +130,57 @@ sent-some event old new link text sent c e a s before is some p =
           (rw (before, f.told, some-take f.count text f.short) refl) (λ h. h) refl (omega arith) (λ h. let z = f.spent h in omega arith) f.link,
       λ _. f.short,
     )
+
+-- it was broken before
+pub broken : {L H : Type 0} (event : L → Event H → L → Type 0) (old : State L H) (limit : ℕ) (grows breaks : Bool) (e : Error)
+    → IsBroken old e → Trouble event old limit grows breaks nothing e (record old { faulted = false })
+broken event old limit grows breaks e (c, b, is) = subst (λ y. Trouble event old limit grows breaks nothing y (record old { faulted = false })) (sym is) (was_broken b refl refl)
+
+pub sends-broken : {L H : Type 0} (event : L → Event H → L → Type 0) (old : State L H) (text : List (Cell H)) (e : Error)
+    → IsBroken old e → Sends event old text (Err e) (record old { faulted = false })
+sends-broken event old text e b = (0, 0, broken event old old.budget false false e b, λ h. absurd (cc (b.1, h)))
+
+-- ---- one call of the link
+
+pub once-broken : {L H : Type 0} (event : L → Event H → L → Type 0) (old : State L H) (handles : List H) (bytes : List ℕ) (e : Error)
+    → IsBroken old e → SendsOnce event old handles bytes (Err e) (record old { faulted = false })
+once-broken event old handles bytes e b = (broken event old 0 false false e b, (λ h. absurd (cc (b.1, h))), λ h. absurd (cc (b.1, h)))
+
+moved-once : {L H : Type 0} (event : L → Event H → L → Type 0) (old new : L) (handles : List H) (bytes : List ℕ) (n : ℕ) → SendsSome event old bytes handles (Ok n) new → Moved event old (sends (carrying handles (take n bytes)) 0) new
+moved-once event old new handles [] n (most, some, none) =
+    let nil : take n [] ≡ [] = take_all n [] (omega arith) in
+    subst (λ x. Moved event old (sends (carrying handles (take n [])) 0) x) (sym (none refl)) (Moved-as (ap (λ bs. sends (carrying handles bs) 0) (sym nil)) still)
+moved-once event old new handles (b ∷ bytes) n (most, some, none) = Moved-once (Taken (carrying handles (take n (b ∷ bytes)))) (some (omega arith)).1
+
+pub sent-once : {L H : Type 0} (event : L → Event H → L → Type 0) (old : State L H) (link : L) (handles : List H) (bytes : List ℕ) (n : ℕ)
+    → old.ahead ≡ [] → old.broken ≡ None → SendsSome event old.link bytes handles (Ok n) link → SendsOnce event old handles bytes (Ok n) (record old { link = link; faulted = false })
+sent-once event old link handles bytes n a before p = (
+  serves old (served old link old.list old.left) link old.list old.left 0 (sends (carrying handles (take n bytes)) 0) a refl before refl (omega arith) (moved-once event old.link link handles bytes n p),
+  p.0,
+  refl,
+  p.1,
+  p.2,
+)
+
+pub refused-once : {L H : Type 0} (event : L → Event H → L → Type 0) (old new : State L H) (link : L) (handles : List H) (bytes : List ℕ) (c : IoCause) (e : Error)
+    → old.ahead ≡ [] → new ≡ record old { link = link; broken = old.broken; faulted = true } → old.broken ≡ None → e ≡ error_of c → SendsSome event old.link bytes handles (Err c) link
+    → SendsOnce event old handles bytes (Err e) new
+refused-once event old new link handles bytes c e a s before is p = (
+  gave-up event old new link old.list old.left old.broken 0 false false nothing c e a s before is before (λ h. h) refl (omega arith) (λ h. refl) (more still p.1),
+  (λ h. rw s refl),
+  λ h. (p.0, c, is, subst (λ x. event old.link (Refused c) x) (sym (ap (λ (x : State _ _). x.link) s)) p.1),
+)
+
+-- what was sent of a front of the bytes was sent of them
+pub front-once : {S H : Type 0} (event : S → Event H → S → Type 0) (old new : S) (bytes part : List ℕ) (handles : List H) (k room : ℕ) (r : Result ℕ IoCause)
+    → k ≡ min room (length bytes) → 0 < room → part ≡ take k bytes → SendsSome event old part handles r new → SendsSome event old bytes handles r new
+front-once event old new bytes part handles k room (Ok n) count pos is (most, some, none) =
+    let len : length part ≡ k = ap length is ∙ length-take-le k bytes (omega (arith, count)) in
+    let same : take n part ≡ take n bytes = ap (take n) is ∙ sym (take-append-le n (take k bytes) (drop k bytes) (omega (arith, ap length is))) ∙ ap (take n) (take-append-drop k bytes) in (
+      omega (arith, count, len),
+      (λ h. subst (λ bs. (0 < n) × event old (Taken (carrying handles bs)) new) same (some (omega (arith, count, len)))),
+      λ h. none (is-nil part (omega (arith, count, len, ap length h))),
+    )
+front-once event old new bytes part handles k room (Err c) count pos is (some, p) =
+    let len : length part ≡ k = ap length is ∙ length-take-le k bytes (omega (arith, count)) in
+    (omega (arith, count, len), p)

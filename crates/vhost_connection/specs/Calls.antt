@@ -2,10 +2,12 @@
 use Rattle.std.specs.Prelude.{◌≡◌, ℕ, ◌+◌, ◌<◌, ◌≤◌, List, [], length, take, drop, Option, Some, None, Bool, true, false, ◌&&◌, not, nat_lt, Result, Ok, Err, Vec}
 use Rattle.std.specs.Global.{Global}
 use Rattle.std.specs.Borrow.{Bor}
+use Rattle.vhost_message.specs.declared.cause.IoCause.{IoCause}
+use Rattle.vhost_message.specs.Cause.{error_of}
 use Rattle.vhost_message.specs.declared.error.Error.{Error}
 use Rattle.vhost_message.specs.declared.error.Error.TheVariants.{InvalidMessage, PartialMessage, Disconnected}
-use Rattle.vhost_protocol.specs.Stream.{Cell, bytes, first_handles, has_some, brings_handles, items, heard}
-use Rattle.vhost_link.specs.Law.{Event}
+use Rattle.vhost_protocol.specs.Stream.{Cell, carrying, bytes, first_handles, has_some, brings_handles, items, heard}
+use Rattle.vhost_link.specs.Law.{Event, Taken, Refused, nothing}
 use Rattle.vhost_connection.specs.Pass.{sends, receives}
 use Rattle.vhost_connection.specs.Talk.{State, Serves, Trouble}
 
@@ -13,6 +15,18 @@ use Rattle.vhost_connection.specs.Talk.{State, Serves, Trouble}
 abbrev pub Sends : {L H : Type 0} → (L → Event H → L → Type 0) → State L H → List (Cell H) → Result (Unit {0}) Error → State L H → Type 0
 Sends event old text (Ok _) new = (r : ℕ) × Serves event old old.budget (sends text r) new × (new.list ≡ old.list) × (new.left ≡ old.left)
 Sends event old text (Err e) new = (n r : ℕ) × Trouble event old old.budget false false (sends (take n text) r) e new × (old.broken ≡ None → n < length text)
+
+-- All the bytes of some pieces go out, and are counted.
+abbrev pub SendsAll : {L H : Type 0} → (L → Event H → L → Type 0) → State L H → List (Cell H) → Result ℕ Error → State L H → Type 0
+SendsAll event old text (Ok n) new = (n ≡ length text) × Sends event old text (Ok tt) new
+SendsAll event old text (Err e) new = Sends event old text (Err e) new
+
+-- One call of the link, and nothing else: it takes a front of the bytes, with the handles on the first; or it fails, or the endpoint was broken. Without a byte it is not called.
+abbrev pub SendsOnce : {L H : Type 0} → (L → Event H → L → Type 0) → State L H → List H → List ℕ → Result ℕ Error → State L H → Type 0
+SendsOnce event old handles bytes (Ok n) new = Serves event old 0 (sends (carrying handles (take n bytes)) 0) new × (n ≤ length bytes) × (new ≡ record old { link = new.link; faulted = false })
+    × (0 < length bytes → (0 < n) × event old.link (Taken (carrying handles (take n bytes))) new.link) × (bytes ≡ [] → new.link ≡ old.link)
+SendsOnce event old handles bytes (Err e) new = Trouble event old 0 false false nothing e new × (old.broken ≡ None → new ≡ record old { link = new.link; faulted = true })
+    × (old.broken ≡ None → (0 < length bytes) × (c : IoCause) × (e ≡ error_of c) × event old.link (Refused c) new.link)
 
 -- the handles of a message are given where there are any
 abbrev pub HandsOver : {H : Type 0} → Option (Vec H Global) → List H → Type 0

@@ -21,6 +21,11 @@ abbrev pub SendsPart : {S H : Type 0} → (S → Event H → S → Type 0) → S
 SendsPart event old text count (Ok n) new = (0 < n) × (count + n ≤ length text) × event old (Taken (take n (drop count text))) new
 SendsPart event old text count (Err c) new = event old (Refused c) new
 
+-- one call of the link took some of the bytes; without a byte it was not called
+abbrev pub SendsSome : {S H : Type 0} → (S → Event H → S → Type 0) → S → List ℕ → List H → Result ℕ IoCause → S → Type 0
+SendsSome event old bytes handles (Ok n) new = (n ≤ length bytes) × (0 < length bytes → (0 < n) × event old (Taken (carrying handles (take n bytes))) new) × (bytes ≡ [] → new ≡ old)
+SendsSome event old bytes handles (Err c) new = (0 < length bytes) × event old (Refused c) new
+
 -- these cells went out, after so many retries
 abbrev pub sends : {H : Type 0} → List (Cell H) → ℕ → Move H
 sends cs retries = move [] cs retries 0

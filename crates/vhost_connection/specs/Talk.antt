@@ -59,6 +59,10 @@ pub data Trouble {L H : Type 0} (event : L → Event H → L → Type 0) (old : 
       → (IsTrue (is_retry c) → m.retries ≡ limit) → new.broken ≡ (if breaks || has_moved m then Some c else None) → new.faulted ≡ true
       → (old.list ≡ true → new.list ≡ true) → Trouble event old limit grows breaks m (error_of c) new
 
+-- it is broken, and this error says so
+abbrev pub IsBroken : {L H : Type 0} → State L H → Error → Type 0
+IsBroken old e = (c : IoCause) × (old.broken ≡ Some c) × (e ≡ SocketBroken c)
+
 -- A call that was refused before anything was done.
 abbrev pub Refuses : {L H T : Type 0} → State L H → Error → Result T Error → State L H → Type 0
 Refuses old e result new = (result ≡ Err e) × (new ≡ old)

@@ -6,7 +6,9 @@ mod callers;
 mod endpoint;
 mod list;
 mod pass;
+mod pieces;
 #[cfg(test)]
 mod tests;
 
 pub use endpoint::Endpoint;
+pub use pieces::get_sub_iovs_offset;

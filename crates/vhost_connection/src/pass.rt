@@ -2,7 +2,7 @@
 
 ghost use Rattle.std.specs.Prelude.{◌≡◌, ◌<◌, ◌≤◌, [], length, take, vec_capacity, map, if◌then◌else◌};
 ghost use Rattle.vhost_protocol.specs.Stream.{carrying};
-ghost use Rattle.vhost_connection.specs.Pass.{SendsPart, SendsWhole, joined, GetsPiece, GetsFirst, GetsRest, GetsWhole};
+ghost use Rattle.vhost_connection.specs.Pass.{SendsPart, SendsSome, SendsWhole, joined, GetsPiece, GetsFirst, GetsRest, GetsWhole};
 
 use vhost_link::Link;
 use vhost_message::IoCause;
@@ -31,6 +31,21 @@ fn send_part<L: Link>(
     } else {
         link.send(&bytes[count..], &[])
     }
+}
+
+/// Sends some of the bytes, at least one where there are any, by one call of the link.
+pub fn send_once<L: Link>(
+    link: &mut L,
+    bytes: &[u8],
+    handles: &[&L::Handle],
+) -> Result<usize, IoCause>
+    requires { length handles.now ≤ 32 }
+    ensures { SendsSome L.event link.old bytes.now (map (λ h. h.now) handles.now) result link.new }
+{
+    if bytes.is_empty() {
+        return Ok(0);
+    }
+    link.send(bytes, handles)
 }
 
 /// Sends all of the bytes, with the handles on the first of them.

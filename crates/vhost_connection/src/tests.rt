@@ -1,6 +1,7 @@
 //! Endpoints over links in memory, however these are cut and wherever they fail.
 
 mod payloads;
+mod pieces;
 
 use crate::Endpoint;
 use std::alloc::{AllocError, Global};

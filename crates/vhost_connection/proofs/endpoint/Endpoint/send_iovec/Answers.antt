@@ -1,0 +1,24 @@
+use Rattle.std.proofs.Common.{refl, map, length, rules, Ok, Err}
+use Rattle.std.proofs.lemmas.Result.{err_from_is_err_and}
+use Rattle.vhost_connection.specs.Pass.{joined}
+use Rattle.vhost_connection.specs.State.{ahead_of, state}
+use Rattle.vhost_connection.proofs.Talking.{once-broken, sent-once, refused-once, front-once}
+use Rattle.vhost_connection.proofs.endpoint.Endpoint.send_iovec.Goals as goal
+
+pub returns-in_err-expect_sound-clause-sent : goal.returns-in_err-expect_sound-clause-sent
+unfolding ahead_of
+returns-in_err-expect_sound-clause-sent g c =
+    let p = err_from_is_err_and c.from_residual.result c.from_residual.ensures.1 in
+    λ few some. rw (p.1, p.2) (once-broken g.L.Link.event (state c.args.self.now) (map (λ h. h.now) c.args.handles.now) (joined c.args.iovs.now) _ c.in_err-expect_sound.ensures.broken)
+
+pub returns-in-Ok-clause-sent : goal.returns-in-Ok-clause-sent
+unfolding ahead_of
+returns-in-Ok-clause-sent g c =
+    λ few some. sent-once g.L.Link.event (state c.args.self.now) c.send_once.new.link (map (λ h. h.now) c.args.handles.now) (joined c.args.iovs.now) c.in-Ok.count refl c.in_ok-expect_sound.ensures.sound
+    (front-once g.L.Link.event c.args.self.now.link c.send_once.new.link (joined c.args.iovs.now) _ (map (λ h. h.now) c.args.handles.now) c.gather-len.result (length c.args.self.now.text) (Ok c.in-Ok.count) c.gather-len.ensures.count (search rules) c.gather-len.ensures.bytes c.in-Ok.ensures)
+
+pub returns-in-Err-clause-sent : goal.returns-in-Err-clause-sent
+unfolding ahead_of
+returns-in-Err-clause-sent g c =
+    λ few some. refused-once g.L.Link.event (state c.args.self.now) (state c.fail.new.self) c.send_once.new.link (map (λ h. h.now) c.args.handles.now) (joined c.args.iovs.now) c.in-Err.cause c.fail.result refl c.fail.ensures.state c.in_ok-expect_sound.ensures.sound
+    c.fail.ensures.error (front-once g.L.Link.event c.args.self.now.link c.send_once.new.link (joined c.args.iovs.now) _ (map (λ h. h.now) c.args.handles.now) c.gather-len.result (length c.args.self.now.text) (Err c.in-Err.cause) c.gather-len.ensures.count (search rules) c.gather-len.ensures.bytes c.in-Err.ensures)
