@@ -1,0 +1,121 @@
+//! The example device and what it remembers.
+
+ghost use Rattle.std.specs.Prelude.{◌≡◌, ◌<◌, Some, IfOk, IfErr, true, false, bit_or};
+ghost use Rattle.vhost_message.specs.Bits.{has_bit};
+ghost use Rattle.vhost_message.specs.declared.error.Error.TheVariants.{InvalidParam};
+
+use crate::spares::Spares;
+use bitflags::Flags;
+use std::alloc::Global;
+use vhost_link::Link;
+use vhost_message::{Error, Result, VhostUserProtocolFeatures, VhostUserShMemConfig};
+
+/// How many rings it has.
+pub const MAX_QUEUE_NUM: usize = 2;
+
+/// The greatest size of a ring, in descriptors.
+pub const MAX_VRING_NUM: usize = 256;
+
+/// How many regions of memory it takes.
+pub const MAX_MEM_SLOTS: usize = 509;
+
+/// The virtio features that it offers: two of the device's own, and the protocol features.
+pub const VIRTIO_FEATURES: u64 = 0x4000_0003;
+
+/// A device without any function, that keeps the rules of the protocol. Where it has to give a handle, it gives one of
+/// those that it was made with, the last one first.
+///
+/// Mirrors the example device of the crate `vhost`, which makes temporary files.
+#[derive(Drop)]
+pub struct DummyBackendReqHandler<L: Link> {
+    /// Whether a frontend owns the session.
+    pub owned: bool,
+    /// Whether virtio features were chosen.
+    pub features_acked: bool,
+    /// The virtio features that were chosen.
+    pub acked_features: u64,
+    /// The features of the protocol that were chosen, and SHMEM where a configuration was set.
+    pub acked_protocol_features: u64,
+    /// How many rings may be named.
+    pub queue_num: usize,
+    /// The size of each ring, in descriptors.
+    pub vring_num: [u32; MAX_QUEUE_NUM],
+    /// At which descriptor each ring goes on.
+    pub vring_base: [u32; MAX_QUEUE_NUM],
+    /// By what it would tell of used buffers.
+    pub call_fd: [Option<L::Handle>; MAX_QUEUE_NUM],
+    /// By what it is told of available buffers.
+    pub kick_fd: [Option<L::Handle>; MAX_QUEUE_NUM],
+    /// By what it would tell of errors.
+    pub err_fd: [Option<L::Handle>; MAX_QUEUE_NUM],
+    /// Whether each ring was kicked, and not stopped since.
+    pub vring_started: [bool; MAX_QUEUE_NUM],
+    /// Whether each ring is on.
+    pub vring_enabled: [bool; MAX_QUEUE_NUM],
+    /// A copy of the handle that it gave out last for descriptors in flight.
+    pub inflight_file: Option<L::Handle>,
+    /// A copy of the handle that it gave out last for a shared object.
+    pub shared_file: Option<L::Handle>,
+    /// Its regions of shared memory, if any.
+    pub shmem_config: Option<VhostUserShMemConfig>,
+    pub(crate) spare: Spares<L::Handle>,
+    pub(crate) alloc: Global,
+}
+
+impl<L: Link> DummyBackendReqHandler<L> {
+    ghost use Rattle.vhost_dummy_backend.specs.Dummy.{fresh, has_ring};
+
+    /// A device that nobody owns, with handles to give out.
+    pub fn new(alloc: Global, spare: Vec<L::Handle>) -> Self
+        ensures { result ≡ fresh alloc spare.items }
+    {
+        DummyBackendReqHandler {
+            owned: false,
+            features_acked: false,
+            acked_features: 0,
+            acked_protocol_features: 0,
+            queue_num: MAX_QUEUE_NUM,
+            vring_num: [0; MAX_QUEUE_NUM],
+            vring_base: [0; MAX_QUEUE_NUM],
+            call_fd: [None, None],
+            kick_fd: [None, None],
+            err_fd: [None, None],
+            vring_started: [false; MAX_QUEUE_NUM],
+            vring_enabled: [false; MAX_QUEUE_NUM],
+            inflight_file: None,
+            shared_file: None,
+            shmem_config: None,
+            spare: Spares::new(spare),
+            alloc,
+        }
+    }
+
+    /// Gives it regions of shared memory, and the feature SHMEM of the protocol.
+    pub fn set_shmem_config(&mut self, config: VhostUserShMemConfig)
+        ensures { self.new ≡ record self.old { shmem_config = Some config; acked_protocol_features = bit_or self.old.acked_protocol_features 0x400000 } }
+    {
+        self.acked_protocol_features |= VhostUserProtocolFeatures::SHMEM.bits();
+        self.shmem_config = Some(config);
+    }
+
+    /// The place of a ring; InvalidParam where there is none of this index.
+    pub(crate) fn ring(&self, index: u32) -> Result<usize>
+        ensures found { IfOk result (λ ring. (has_ring self.now index ≡ true) × (ring ≡ index)) }
+        ensures missing { IfErr result (λ e. (has_ring self.now index ≡ false) × (e ≡ InvalidParam)) }
+    {
+        let ring = index as usize;
+        if ring < self.queue_num && ring < MAX_QUEUE_NUM {
+            Ok(ring)
+        } else {
+            Err(Error::InvalidParam)
+        }
+    }
+}
+
+/// Whether a word has this bit, counted from 0.
+pub(crate) fn is_set(word: u64, bit: u32) -> bool
+    requires { bit < 64 }
+    ensures { result ≡ has_bit word bit }
+{
+    (word >> bit) % 2 == 1
+}

@@ -1,0 +1,12 @@
+//! An example device, that keeps the rules of the protocol and has no function of its own.
+#![tactic(auto)]
+
+mod dummy;
+mod handler;
+mod spares;
+#[cfg(test)]
+mod tests;
+
+pub use dummy::{
+    DummyBackendReqHandler, MAX_MEM_SLOTS, MAX_QUEUE_NUM, MAX_VRING_NUM, VIRTIO_FEATURES,
+};
