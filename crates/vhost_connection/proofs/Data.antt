@@ -14,7 +14,8 @@ use Rattle.vhost_connection.specs.Talk.{State, Trouble}
 use Rattle.vhost_connection.specs.Calls.{ReadsBytes, ReadsData}
 use Rattle.vhost_connection.specs.Front.{ReadsCount}
 use Rattle.vhost_connection.proofs.Talking.{served, serves, failed, gave-up}
-use Rattle.vhost_connection.proofs.Fronts.{heard-as, front-of}
+use Rattle.vhost_connection.proofs.Fronts.{heard-as}
+use Rattle.vhost_connection.proofs.Receiving.{front-of}
 use Rattle.vhost_connection.proofs.Errors.{socket}
 
 -- up to so many bytes, or the end

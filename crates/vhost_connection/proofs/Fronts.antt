@@ -1,22 +1,24 @@
 -- The first bytes of a message come in.
-use Rattle.std.proofs.Common.{◌≡◌, ℕ, ◌+◌, ◌-◌, ◌≤◌, List, [], ◌∷◌, ◌++◌, length, take, drop, refl, sym, ap, ◌∙◌, arith, Bool, true, false, ◌||◌, Some, None, nat_lt, append_assoc}
+use Rattle.std.proofs.Common.{◌≡◌, ℕ, ◌+◌, ◌-◌, ◌<◌, ◌≤◌, List, [], ◌∷◌, ◌++◌, length, take, drop, min, add-zero, refl, subst, sym, ap, ◌∙◌, arith, Bool, true, false, ◌||◌, Some, None, nat_lt, Result, Ok, Err}
 use Rattle.std.specs.Prelude.{if◌then◌else◌, not}
-use Rattle.std.proofs.lemmas.List.{take_at, take-append-drop}
+use Rattle.std.proofs.lemmas.List.{take_all, drop_all}
 use Rattle.vhost_message.specs.declared.cause.IoCause.{IoCause}
 use Rattle.vhost_message.specs.declared.error.Error.{Error}
 use Rattle.vhost_message.specs.Cause.{error_of}
 use Rattle.vhost_protocol.specs.Stream.{Cell, bytes, has_some, items, heard}
-use Rattle.vhost_link.specs.Law.{Event, Move, Moved}
+use Rattle.vhost_link.specs.Law.{Event, Move, Moved, nothing}
 use Rattle.vhost_link.proofs.Cells.{length-bytes}
 use Rattle.vhost_link.proofs.Moves.{Moved-as}
-use Rattle.vhost_connection.specs.declared.pass.Got.{Got}
+use Rattle.vhost_connection.specs.declared.pass.Parts.{Parts}
 use Rattle.vhost_connection.specs.declared.pass.Stop.{Stop}
 use Rattle.vhost_connection.specs.declared.pass.Stop.TheVariants.{Whole, AtEnd, Fault}
-use Rattle.vhost_connection.specs.Pass.{receives, Fills, GotAs, GetsWhole}
-use Rattle.vhost_connection.specs.Talk.{State, Serves}
-use Rattle.vhost_connection.specs.Front.{FrontCame, FrontFails, gives}
+use Rattle.vhost_connection.specs.Pass.{receives, GotAs, GetsParts}
+use Rattle.vhost_connection.specs.Talk.{State, Serves, Trouble}
+use Rattle.vhost_connection.specs.Calls.{MessageFails}
+use Rattle.vhost_connection.specs.Front.{FrontCame, FrontFails, PartsCame, ReadsParts, ReadsFront, gives}
+use Rattle.vhost_connection.specs.declared.list.Front.{Front}
 use Rattle.vhost_connection.proofs.Talking.{served, serves, failed, gave-up}
-use Rattle.vhost_connection.proofs.Tests.{suc-pos, less, not-less}
+use Rattle.vhost_connection.proofs.Tests.{less, not-less}
 
 -- what came, where it was no fault that stopped it
 pub heard-as : {S H : Type 0} (event : S → Event H → S → Type 0) (old new : S) (room budget left : ℕ) (stop : Stop) (cs : List (Cell H))
@@ -28,51 +30,70 @@ heard-as event old new room budget left AtEnd cs miss (len, p) =
     (omega arith, Moved-as (ap (λ b. receives (heard cs b) (budget - left)) (sym (less (length cs) room len))) p)
 heard-as event old new room budget left (Fault c) cs miss p = absurd (miss c refl)
 
--- the cells lie at the front of what holds the room
-pub front-of : {H : Type 0} (cs : List (Cell H)) (before after text : List ℕ) (len count : ℕ) → Fills cs before after → take len text ≡ after → count ≡ length cs → take count text ≡ bytes cs
-front-of cs before after text len count f front counted =
-    let rest = drop (length cs) before in
-    let whole : text ≡ bytes cs ++ (rest ++ drop len text) =
-    sym (take-append-drop len text) ∙ ap (λ xs. xs ++ drop len text) (front ∙ f.bytes) ∙ append_assoc (bytes cs) rest (drop len text) in
-    ap (take count) whole ∙ take_at (bytes cs) (rest ++ drop len text) count (length-bytes cs ∙ sym counted)
-
-pub front-came : {L H : Type 0} (event : L → Event H → L → Type 0) (old new : State L H) (link : L) (before after text : List ℕ) (got : Got) (hs : List H) (len : ℕ)
-    → old.ahead ≡ [] → new ≡ served old link false got.left → old.broken ≡ None → GetsWhole event old.link before old.budget got after hs link
-    → ((c : IoCause) → got.stop ≡ Fault c → ⊥) → length before ≡ len → take len text ≡ after → FrontCame event old len got.count hs text new
-front-came event old new link before after text got hs len a s broken g miss long front =
-    let q = heard-as event old.link link (length before) old.budget got.left got.stop g.cs miss g.ended in
+pub parts-came : {L H : Type 0} (event : L → Event H → L → Type 0) (old new : State L H) (link : L) (before after text : List ℕ) (got : Parts) (hs : List H) (len : ℕ)
+    → old.ahead ≡ [] → new ≡ served old link false got.left → old.broken ≡ None → GetsParts event old.link len before old.budget got text after hs link
+    → ((c : IoCause) → got.stop ≡ Fault c → ⊥) → PartsCame event old len got.count got.more hs text before after new
+parts-came event old new link before after text got hs len a s broken g miss =
+    let q = heard-as event old.link link (len + length before) old.budget got.left got.stop g.cs miss g.ended in
     let r = old.budget - got.left in
-    let m = receives (heard g.cs (nat_lt (length g.cs) len)) r in
-    let moved : Moved event old.link m link = Moved-as (ap (λ n. receives (heard g.cs (nat_lt (length g.cs) n)) r) long) q.1 in
     record {
       cs = g.cs;
       retries = r;
-      serves = serves old new link false got.left old.budget m a s broken refl (omega arith) moved;
-      within = omega (arith, q.0);
+      serves = serves old new link false got.left old.budget (receives (heard g.cs (nat_lt (length g.cs) (len + length before))) r) a s broken refl (omega arith) q.1;
+      within = q.0;
       counted = g.count;
+      rest = g.more;
       first = g.handles;
-      bytes = front-of g.cs before after text len got.count g.fills front g.count;
+      bytes = g.text;
+      room = g.room;
       left = ap (λ (x : State _ _). x.left + r) s ∙ omega (arith, g.left);
       list = ap (λ (x : State _ _). x.list) s;
     }
 
-pub moved-some : {H : Type 0} (cs : List (Cell H)) (n : ℕ) → n ≡ length cs → nat_lt 0 n ≡ (has_some (items cs) || false)
-moved-some [] n e = rw e refl
-moved-some (c ∷ cs) n e = rw e (suc-pos (length cs))
+pub moved-some : {H : Type 0} (cs : List (Cell H)) (n len : ℕ) → 0 < len → n ≡ min len (length cs) → nat_lt 0 n ≡ (has_some (items cs) || false)
+moved-some [] n len pos e = not-less 0 n (omega (arith, e))
+moved-some (c ∷ cs) n len pos e = less 0 n (omega (arith, e))
 
-pub front-fails : {L H : Type 0} (event : L → Event H → L → Type 0) (old new : State L H) (link : L) (before after : List ℕ) (got : Got) (hs : List H) (len : ℕ) (c : IoCause) (e : Error)
-    → old.ahead ≡ [] → new ≡ failed old link true got.left (if nat_lt 0 got.count then Some c else old.broken) → old.broken ≡ None → e ≡ error_of c
-    → GetsWhole event old.link before old.budget got after hs link → got.stop ≡ Fault c → length before ≡ len → FrontFails event old len e new
-front-fails event old new link before after got hs len c e a s broken is g fault long =
+pub parts-fail : {L H : Type 0} (event : L → Event H → L → Type 0) (old new : State L H) (link : L) (before after text : List ℕ) (got : Parts) (hs : List H) (len : ℕ) (c : IoCause) (e : Error)
+    → 0 < len → old.ahead ≡ [] → new ≡ failed old link true got.left (if nat_lt 0 got.count then Some c else old.broken) → old.broken ≡ None → e ≡ error_of c
+    → GetsParts event old.link len before old.budget got text after hs link → got.stop ≡ Fault c → MessageFails event old len before after e new
+parts-fail event old new link before after text got hs len c e pos a s broken is g fault =
     let q = rw fault at g.ended in
     let r = old.budget - got.left in
     record {
       cs = g.cs;
       retries = r;
-      short = omega (arith, q.0);
+      short = q.0;
       trouble = gave-up event old new link true got.left (if nat_lt 0 got.count then Some c else old.broken) old.budget true false (receives (items g.cs) r) c e a s broken is
-          (rw (broken, moved-some g.cs got.count g.count) refl) (λ h. refl) refl (omega arith) (λ h. let z = q.1 h in omega arith) q.2;
+          (rw (broken, moved-some g.cs got.count len pos g.count) refl) (λ h. refl) refl (omega arith) (λ h. let z = q.1 h in omega arith) q.2;
+      room = g.room ∙ ap (λ n. drop len (bytes g.cs) ++ drop n before) g.more;
     }
+
+-- nothing moved, and nothing came
+pub nothing-comes : {L H : Type 0} {event : L → Event H → L → Type 0} {old new : State L H} {e : Error} (len : ℕ) (before : List ℕ) → 0 < len → Trouble event old old.budget true false nothing e new → MessageFails event old len before before e new
+nothing-comes len before pos t = record { cs = []; retries = 0; short = omega arith; trouble = t; room = let none : drop {A = ℕ} len [] ≡ [] = drop_all len [] (omega arith) in let zero : 0 - len ≡ 0 = omega arith in rw (none, zero) refl }
+
+-- ---- without a room
+
+pub front-came : {L H : Type 0} {event : L → Event H → L → Type 0} {old new : State L H} {len count more : ℕ} {hs : List H} {text after : List ℕ} → PartsCame event old len count more hs text [] after new → FrontCame event old len count hs text new
+front-came {event = event} {old} {new} {len} f = record {
+  cs = f.cs;
+  retries = f.retries;
+  serves = subst (λ n. Serves event old old.budget (receives (heard f.cs (nat_lt (length f.cs) n)) f.retries) new) (add-zero len) f.serves;
+  within = omega (arith, f.within);
+  counted = omega (arith, f.counted, f.within);
+  first = f.first;
+  bytes = f.bytes ∙ take_all len (bytes f.cs) (omega (arith, f.within, length-bytes f.cs));
+  left = f.left;
+  list = f.list;
+}
+
+pub front-fails : {L H : Type 0} {event : L → Event H → L → Type 0} {old new : State L H} {len : ℕ} {after : List ℕ} {e : Error} → MessageFails event old len [] after e new → FrontFails event old len e new
+front-fails f = record { cs = f.cs; retries = f.retries; short = omega (arith, f.short); trouble = f.trouble }
+
+pub front-reads : {L H : Type 0} (event : L → Event H → L → Type 0) (old new : State L H) (len : ℕ) (r : Result (Front H) Error) (text after : List ℕ) → ReadsParts event old len [] r text after new → ReadsFront event old len r text new
+front-reads event old new len (Ok x) text after p = front-came p
+front-reads event old new len (Err e) text after p = front-fails p
 
 -- ---- what becomes of the list of handles
 

@@ -1,17 +1,17 @@
 -- Cells come in piece by piece.
 use Rattle.std.proofs.Common.{◌≡◌, ℕ, ◌+◌, ◌-◌, ◌<◌, ◌≤◌, List, [], ◌∷◌, ◌++◌, length, take, drop, add-zero, zero-add, length-drop, refl, sym, ap, ◌∙◌, arith, Bool, true, false, IsTrue, Ok, Err, Result, ◌||◌, append_assoc, subst, ◌==◌}
-use Rattle.std.proofs.lemmas.List.{append-nil, take_rest, take_at, drop_at, drop-drop, drop_all, take-append-drop, length-take-le, map-append, length-append}
+use Rattle.std.proofs.lemmas.List.{append-nil, take_rest, take_at, drop_at, drop-drop, take_all, drop_all, take-append-drop, length-take-le, map-append, length-append}
 use Rattle.std.proofs.lemmas.Bool.Decides.{nat_tests}
 use borrow.Rule.Slice.PartMut.{put_mid}
 use Rattle.vhost_message.specs.declared.cause.IoCause.{IoCause}
 use Rattle.vhost_message.specs.Cause.{is_retry}
 use Rattle.vhost_protocol.specs.Stream.{Cell, carrying, Byte, End, items, heard, bytes, brings_handles, has_some, first_handles}
-use Rattle.vhost_link.proofs.Cells.{length-carrying, bytes-carrying, length-bytes, brings-append, brings-carrying}
+use Rattle.vhost_link.proofs.Cells.{length-carrying, bytes-carrying, bytes-append, length-bytes, brings-append, brings-carrying}
 use Rattle.vhost_link.specs.Law.{Event, Handed, Refused, Move, Moved, ◌then◌, done, refused, Receives}
 use Rattle.vhost_link.specs.Law.Moved.{still, more}
 use Rattle.vhost_link.proofs.Moves.{Moved-as, Moved-then, then_assoc}
 use Rattle.vhost_connection.proofs.Tests.{is-nil}
-use Rattle.vhost_connection.specs.Pass.{receives, GetsWhole, FrontCame, Fills, Arrives, GetsPiece, GetsRest, GotAs}
+use Rattle.vhost_connection.specs.Pass.{receives, GetsWhole, GetsParts, FrontCame, Fills, Arrives, GetsPiece, GetsRest, GotAs}
 use Rattle.vhost_connection.specs.declared.pass.Got.{Got}
 use Rattle.vhost_connection.specs.declared.pass.Stop.{Stop}
 use Rattle.vhost_connection.specs.declared.pass.Stop.TheVariants.{Whole, AtEnd, Fault}
@@ -239,6 +239,10 @@ first-of : {H : Type 0} (bs : List ℕ) (hs : List H) (ds : List (Cell H)) → 0
 first-of [] hs ds h = absurd (omega arith)
 first-of (b ∷ bs) hs ds h = refl
 
+first-append : {H : Type 0} (cs ds : List (Cell H)) → 0 < length cs → first_handles (cs ++ ds) ≡ first_handles cs
+first-append [] ds h = absurd (omega arith)
+first-append (c ∷ cs) ds h = refl
+
 pub first-and-rest : {S H : Type 0} (event : S → Event H → S → Type 0) (old mid new : S) (before room sub : List ℕ) (budget left n : ℕ) (handles : List H) (got : Got)
     → FrontCame event old before (budget - left) n room handles mid → 0 < n → left ≤ budget
     → GetsRest event mid (take (length room - n) (drop n room)) left got sub new
@@ -263,4 +267,62 @@ first-and-rest event old mid new before room sub budget left n handles got f pos
       few = f.few;
       left = omega (arith, g.left);
       ended = rest-ends event old mid new cs g.cs (length before) (length part) budget left got.left got.stop g.left le (omega arith) (f.some pos) g.ended;
+    }
+
+-- ---- a front, and then what fits into the room
+
+ends-early : {S H : Type 0} (event : S → Event H → S → Type 0) (old new : S) (room extra budget left : ℕ) (stop : Stop) (cs : List (Cell H))
+    → length cs < room → GotAs event old room budget left stop cs new → GotAs event old (room + extra) budget left stop cs new
+ends-early event old new room extra budget left Whole cs lt (len, p) = absurd (omega (arith, len))
+ends-early event old new room extra budget left AtEnd cs lt (len, p) = (omega arith, p)
+ends-early event old new room extra budget left (Fault c) cs lt (len, spent, p) = (omega arith, spent, p)
+
+is-whole : {S H : Type 0} (event : S → Event H → S → Type 0) (old new : S) (room budget left : ℕ) (stop : Stop) (cs : List (Cell H))
+    → room ≤ length cs → GotAs event old room budget left stop cs new → (length cs ≡ room) × Moved event old (receives (items cs) (budget - left)) new
+is-whole event old new room budget left Whole cs le p = p
+is-whole event old new room budget left AtEnd cs le (len, p) = absurd (omega arith)
+is-whole event old new room budget left (Fault c) cs le (len, spent, p) = absurd (omega arith)
+
+-- the front of a text that holds what came
+pub front-of : {H : Type 0} (cs : List (Cell H)) (before after text : List ℕ) (len count : ℕ) → Fills cs before after → take len text ≡ after → count ≡ length cs → take count text ≡ bytes cs
+front-of cs before after text len count f front counted =
+    let rest = drop (length cs) before in
+    let whole : text ≡ bytes cs ++ (rest ++ drop len text) =
+    sym (take-append-drop len text) ∙ ap (λ xs. xs ++ drop len text) (front ∙ f.bytes) ∙ append_assoc (bytes cs) rest (drop len text) in
+    ap (take count) whole ∙ take_at (bytes cs) (rest ++ drop len text) count (length-bytes cs ∙ sym counted)
+
+pub parts-short : {S H : Type 0} (event : S → Event H → S → Type 0) (old new : S) (len : ℕ) (before after text room : List ℕ) (budget : ℕ) (got : Got) (hs : List H)
+    → length before ≡ len → take len text ≡ after → GetsWhole event old before budget got after hs new → got.count < len
+    → GetsParts event old len room budget (record { count = got.count; more = 0; left = got.left; stop = got.stop }) text room hs new
+parts-short event old new len before after text room budget got hs long front g lt =
+    let k = length g.cs in
+    let all : take len (bytes g.cs) ≡ bytes g.cs = take_all len (bytes g.cs) (omega (arith, length-bytes g.cs, g.count)) in
+    let none : drop len (bytes g.cs) ≡ [] = drop_all len (bytes g.cs) (omega (arith, length-bytes g.cs, g.count)) in
+    record {
+      cs = g.cs;
+      count = omega (arith, g.count);
+      more = omega (arith, g.count);
+      text = front-of g.cs before after text len got.count g.fills front g.count ∙ sym all;
+      room = rw none refl;
+      handles = g.handles;
+      left = g.left;
+      ended = ends-early event old new len (length room) budget got.left got.stop g.cs (omega (arith, g.count)) (rw long at g.ended);
+    }
+
+pub parts-whole : {S H : Type 0} (event : S → Event H → S → Type 0) (old mid new : S) (len : ℕ) (before after text room full : List ℕ) (budget : ℕ) (got rest : Got) (hs : List H)
+    → 0 < len → length before ≡ len → take len text ≡ after → GetsWhole event old before budget got after hs mid → len ≤ got.count → GetsRest event mid room got.left rest full new
+    → GetsParts event old len room budget (record { count = got.count; more = rest.count; left = rest.left; stop = rest.stop }) text full hs new
+parts-whole event old mid new len before after text room full budget got rest hs pos long front g le q =
+    let w = is-whole event old mid len budget got.left got.stop g.cs (omega (arith, g.count)) (rw long at g.ended) in
+    let len-b : length (bytes g.cs) ≡ len = length-bytes g.cs ∙ w.0 in
+    let all = bytes-append g.cs q.cs in
+    record {
+      cs = g.cs ++ q.cs;
+      count = omega (arith, g.count, w.0, length-append g.cs q.cs);
+      more = omega (arith, q.count, w.0, length-append g.cs q.cs);
+      text = front-of g.cs before after text len got.count g.fills front g.count ∙ sym (take_at (bytes g.cs) (bytes q.cs) len len-b) ∙ ap (take len) (sym all);
+      room = q.fills.bytes ∙ rw (q.count, all) (ap (λ xs. xs ++ drop (length q.cs) room) (sym (drop_at (bytes g.cs) (bytes q.cs) len len-b)));
+      handles = g.handles ∙ sym (first-append g.cs q.cs (omega (arith, w.0)));
+      left = omega (arith, g.left, q.left);
+      ended = rest-ends event old mid new g.cs q.cs (len + length room) (length room) budget got.left rest.left rest.stop q.left g.left (omega (arith, w.0)) w.1 q.ended;
     }

@@ -1,5 +1,5 @@
 -- What each call of an endpoint does, by its result.
-use Rattle.std.specs.Prelude.{◌≡◌, ℕ, ◌+◌, ◌<◌, ◌≤◌, List, [], length, take, drop, Option, Some, None, Bool, true, false, ◌&&◌, not, nat_lt, Result, Ok, Err, Vec}
+use Rattle.std.specs.Prelude.{◌≡◌, ℕ, ◌+◌, ◌-◌, ◌<◌, ◌≤◌, List, [], ◌++◌, length, take, drop, Option, Some, None, Bool, true, false, ◌&&◌, not, nat_lt, Result, Ok, Err, Vec}
 use Rattle.std.specs.Global.{Global}
 use Rattle.std.specs.Borrow.{Bor}
 use Rattle.vhost_message.specs.declared.cause.IoCause.{IoCause}
@@ -70,3 +70,49 @@ ReadsBody {H} event read valid size read_body valid_body old (Err PartialMessage
 ReadsBody {H} event read valid size read_body valid_body old (Err InvalidMessage) new = (cs : List (Cell H)) × (r : ℕ) × Serves event old old.budget (receives (items cs) r) new
     × (length cs ≡ 12 + size) × ((valid (read (take 12 (bytes cs))) && valid_body (read_body (drop 12 (bytes cs)))) ≡ false) × (new.list ≡ true)
 ReadsBody {H} event read valid size read_body valid_body old (Err e) new = (cs : List (Cell H)) × (r : ℕ) × (length cs < 12 + size) × Trouble event old old.budget true false (receives (items cs) r) e new
+
+-- The head of a message came in, of so many bytes, and what fits of the rest lies in the room.
+pub record MessageCame {L H : Type 0} (event : L → Event H → L → Type 0) (old : State L H) (head : ℕ) (before after : List ℕ) (cs : List (Cell H)) (new : State L H) : Type 0 where
+  pub retries : ℕ
+  pub serves : Serves event old old.budget (receives (heard cs (nat_lt (length cs) (head + length before))) retries) new
+  pub whole : head ≤ length cs
+  pub within : length cs ≤ head + length before
+  pub room : after ≡ drop head (bytes cs) ++ drop (length cs - head) before
+  pub left : new.left + retries ≡ old.budget
+
+-- The stream ended before or within the head.
+pub record MessageEnds {L H : Type 0} (event : L → Event H → L → Type 0) (old : State L H) (head : ℕ) (before after : List ℕ) (new : State L H) : Type 0 where
+  pub cs : List (Cell H)
+  pub retries : ℕ
+  pub serves : Serves event old old.budget (receives (heard cs true) retries) new
+  pub short : length cs < head
+  pub room : after ≡ before
+  pub list : new.list ≡ true
+
+-- There was trouble before all of it came.
+pub record MessageFails {L H : Type 0} (event : L → Event H → L → Type 0) (old : State L H) (head : ℕ) (before after : List ℕ) (e : Error) (new : State L H) : Type 0 where
+  pub cs : List (Cell H)
+  pub retries : ℕ
+  pub short : length cs < head + length before
+  pub trouble : Trouble event old old.budget true false (receives (items cs) retries) e new
+  pub room : after ≡ drop head (bytes cs) ++ drop (length cs - head) before
+
+-- A header comes in, and then what fits into the room, up to the end.
+abbrev pub ReadsInto : {M L H : Type 0} → (L → Event H → L → Type 0) → (List ℕ → M) → (M → Bool) → State L H → List ℕ → Result (M × ℕ × Option (Vec H Global)) Error → List ℕ → State L H → Type 0
+ReadsInto {H} event read valid old before (Ok x) after new = (cs : List (Cell H)) × MessageCame event old 12 before after cs new
+    × (x.0 ≡ read (take 12 (bytes cs))) × (valid x.0 ≡ true) × (length cs ≡ 12 + x.1) × HandsOver x.2 (first_handles cs) × (new.list ≡ not (has_some (first_handles cs)))
+ReadsInto {H} event read valid old before (Err PartialMessage) after new = MessageEnds event old 12 before after new
+ReadsInto {H} event read valid old before (Err InvalidMessage) after new = (cs : List (Cell H)) × MessageCame event old 12 before after cs new
+    × (valid (read (take 12 (bytes cs))) ≡ false) × (new.list ≡ true)
+ReadsInto {H} event read valid old before (Err e) after new = MessageFails event old 12 before after e new
+
+-- A header and a record of so many bytes come in, whatever the size in the header, and then what fits into the room, up to the end.
+abbrev pub ReadsPayload : {M T L H : Type 0} → (L → Event H → L → Type 0) → (List ℕ → M) → (M → Bool) → ℕ → (List ℕ → T) → (T → Bool) → State L H → List ℕ
+    → Result (M × T × ℕ × Option (Vec H Global)) Error → List ℕ → State L H → Type 0
+ReadsPayload {H} event read valid size read_body valid_body old before (Ok x) after new = (cs : List (Cell H)) × MessageCame event old (12 + size) before after cs new
+    × (x.0 ≡ read (take 12 (bytes cs))) × (valid x.0 ≡ true) × (x.1 ≡ read_body (take size (drop 12 (bytes cs)))) × (valid_body x.1 ≡ true)
+    × (length cs ≡ 12 + size + x.2) × HandsOver x.3 (first_handles cs) × (new.list ≡ not (has_some (first_handles cs)))
+ReadsPayload {H} event read valid size read_body valid_body old before (Err PartialMessage) after new = MessageEnds event old (12 + size) before after new
+ReadsPayload {H} event read valid size read_body valid_body old before (Err InvalidMessage) after new = (cs : List (Cell H)) × MessageCame event old (12 + size) before after cs new
+    × ((valid (read (take 12 (bytes cs))) && valid_body (read_body (take size (drop 12 (bytes cs))))) ≡ false) × (new.list ≡ true)
+ReadsPayload {H} event read valid size read_body valid_body old before (Err e) after new = MessageFails event old (12 + size) before after e new

@@ -1,12 +1,12 @@
 -- What the calls that receive a message have in common.
-use Rattle.std.specs.Prelude.{◌≡◌, ℕ, ◌+◌, ◌<◌, ◌≤◌, List, length, take, None, true, false, if◌then◌else◌, nat_lt, Result, Ok, Err}
+use Rattle.std.specs.Prelude.{◌≡◌, ℕ, ◌+◌, ◌-◌, ◌<◌, ◌≤◌, List, ◌++◌, length, take, drop, min, None, true, false, if◌then◌else◌, nat_lt, Result, Ok, Err}
 use Rattle.vhost_message.specs.declared.error.Error.{Error}
 use Rattle.vhost_message.specs.declared.error.Error.TheVariants.{InvalidMessage}
 use Rattle.vhost_protocol.specs.Stream.{Cell, bytes, first_handles, brings_handles, has_some, items, heard}
 use Rattle.vhost_link.specs.Law.{Event}
 use Rattle.vhost_connection.specs.Pass.{receives}
 use Rattle.vhost_connection.specs.Talk.{State, Serves, Trouble}
-use Rattle.vhost_connection.specs.Calls.{ReadsBytes}
+use Rattle.vhost_connection.specs.Calls.{ReadsBytes, MessageFails}
 use Rattle.vhost_connection.specs.declared.list.Front.{Front}
 
 -- So many bytes came, or fewer and then the end, with the handles of the first; the list of handles is given away.
@@ -27,6 +27,24 @@ pub record FrontFails {L H : Type 0} (event : L → Event H → L → Type 0) (o
   pub retries : ℕ
   pub short : length cs < len
   pub trouble : Trouble event old old.budget true false (receives (items cs) retries) e new
+
+-- So many bytes came to the front of the text, and more into the room, with the handles of the first; the list of handles is given away.
+pub record PartsCame {L H : Type 0} (event : L → Event H → L → Type 0) (old : State L H) (len count more : ℕ) (hs : List H) (text before after : List ℕ) (new : State L H) : Type 0 where
+  pub cs : List (Cell H)
+  pub retries : ℕ
+  pub serves : Serves event old old.budget (receives (heard cs (nat_lt (length cs) (len + length before))) retries) new
+  pub within : length cs ≤ len + length before
+  pub counted : count ≡ min len (length cs)
+  pub rest : more ≡ length cs - len
+  pub first : hs ≡ first_handles cs
+  pub room : after ≡ drop len (bytes cs) ++ drop more before
+  pub bytes : take count text ≡ take len (bytes cs)
+  pub left : new.left + retries ≡ old.budget
+  pub list : new.list ≡ false
+
+abbrev pub ReadsParts : {L H : Type 0} → (L → Event H → L → Type 0) → State L H → ℕ → List ℕ → Result (Front H) Error → List ℕ → List ℕ → State L H → Type 0
+ReadsParts event old len before (Ok x) text after new = PartsCame event old len x.count x.more x.list.items text before after new
+ReadsParts event old len before (Err e) text after new = MessageFails event old len before after e new
 
 abbrev pub ReadsFront : {L H : Type 0} → (L → Event H → L → Type 0) → State L H → ℕ → Result (Front H) Error → List ℕ → State L H → Type 0
 ReadsFront event old len (Ok x) text new = FrontCame event old len x.count x.list.items text new

@@ -1,5 +1,5 @@
 -- What one pass over a link did: a text sent whole, or up to a fault.
-use Rattle.std.specs.Prelude.{◌≡◌, ◌++◌, ℕ, ◌+◌, ◌-◌, ◌<◌, ◌≤◌, List, [], length, take, drop, Option, Some, None, Bool, true, IsTrue, nat_lt, Result, Ok, Err}
+use Rattle.std.specs.Prelude.{◌≡◌, ◌++◌, ℕ, ◌+◌, ◌-◌, ◌<◌, ◌≤◌, List, [], length, take, drop, min, Option, Some, None, Bool, true, IsTrue, nat_lt, Result, Ok, Err}
 use Rattle.std.specs.List.{flat_map}
 use Rattle.std.specs.Borrow.{Bor}
 use Rattle.vhost_message.specs.declared.cause.IoCause.{IoCause}
@@ -9,6 +9,7 @@ use Rattle.vhost_link.specs.Law.{Event, Handed, Ended, Taken, Refused, Move, Mov
 use Rattle.vhost_connection.specs.declared.pass.Sent.{Sent}
 use Rattle.vhost_connection.specs.declared.pass.First.{First}
 use Rattle.vhost_connection.specs.declared.pass.Got.{Got}
+use Rattle.vhost_connection.specs.declared.pass.Parts.{Parts}
 use Rattle.vhost_connection.specs.declared.pass.Stop.{Stop}
 use Rattle.vhost_connection.specs.declared.pass.Stop.TheVariants.{Whole, AtEnd, Fault}
 
@@ -113,3 +114,14 @@ pub record GetsWhole {S H : Type 0} (event : S → Event H → S → Type 0) (ol
   pub few : length hs ≤ 32
   pub left : got.left ≤ budget
   pub ended : GotAs event old (length before) budget got.left got.stop cs new
+
+-- The text is filled first, and then the room; the handles of the first byte are kept.
+pub record GetsParts {S H : Type 0} (event : S → Event H → S → Type 0) (old : S) (len : ℕ) (before : List ℕ) (budget : ℕ) (got : Parts) (read after : List ℕ) (hs : List H) (new : S) : Type 0 where
+  pub cs : List (Cell H)
+  pub count : got.count ≡ min len (length cs)
+  pub more : got.more ≡ length cs - len
+  pub text : take got.count read ≡ take len (bytes cs)
+  pub room : after ≡ drop len (bytes cs) ++ drop got.more before
+  pub handles : hs ≡ first_handles cs
+  pub left : got.left ≤ budget
+  pub ended : GotAs event old (len + length before) budget got.left got.stop cs new

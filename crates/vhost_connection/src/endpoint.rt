@@ -4,8 +4,8 @@ ghost use Rattle.std.specs.Prelude.{◌≡◌, ◌≢◌, ◌+◌, ◌++◌, ◌
 ghost use Rattle.vhost_protocol.specs.Stream.{carrying};
 ghost use Rattle.vhost_connection.specs.Pass.{joined};
 
-use crate::list::{Front, HandleList, MAX_HANDLES};
-use crate::pass::{Stop, recv_bytes, recv_message, send_once, send_pieces};
+use crate::list::{Front, HandleList, MAX_HANDLES, take_list};
+use crate::pass::{Stop, recv_bytes, recv_parts, send_once, send_pieces};
 use crate::pieces::{gather, total_len};
 use std::alloc::Global;
 use std::marker::PhantomData;
@@ -62,7 +62,7 @@ impl<M: MsgHeader, L: Link> Endpoint<M, L> {
     ghost use Rattle.vhost_message.specs.declared.error.Error.TheVariants.{OversizedMsg, IncorrectFds, OutOfMemory};
     ghost use Rattle.vhost_connection.specs.Talk.{Refuses, IsBroken};
     ghost use Rattle.vhost_connection.specs.Calls.{Sends, SendsAll, SendsOnce, ReadsHeader, ReadsData, ReadsBody, HandsOver};
-    ghost use Rattle.vhost_connection.specs.Front.{ReadsFront, ReadsCount, gives};
+    ghost use Rattle.vhost_connection.specs.Front.{ReadsFront, ReadsParts, ReadsCount, gives};
     ghost use Rattle.vhost_connection.specs.State.{state, fresh, first_cause, with_link};
 
     /// An endpoint over a link, with a budget of retries for each message.
@@ -299,7 +299,7 @@ impl<M: MsgHeader, L: Link> Endpoint<M, L> {
         ensures { ReadsHeader L.event M.read M.valid (state self.old) result (state self.new) }
     {
         let len = M::SIZE;
-        let Front { count, list } = self.recv_front(len)?;
+        let Front { count, list, .. } = self.recv_front(len)?;
         if count < len {
             self.put_back(list);
             if count == 0 {
@@ -383,7 +383,7 @@ impl<M: MsgHeader, L: Link> Endpoint<M, L> {
     {
         let head = M::SIZE;
         let len = head + T::SIZE;
-        let Front { count, list } = self.recv_front(len)?;
+        let Front { count, list, .. } = self.recv_front(len)?;
         if count < len {
             self.put_back(list);
             return Err(Error::PartialMessage);
@@ -403,21 +403,26 @@ impl<M: MsgHeader, L: Link> Endpoint<M, L> {
         requires len { len ≤ 4108 }
         ensures { ReadsFront L.event (state self.old) len result self.new.text (state self.new) }
     {
+        self.recv_parts(len, &mut [])
+    }
+
+    /// Receives so many bytes to the front of the text, and then what fits into the room, or fewer and then the end;
+    /// with the handles of the first.
+    fn recv_parts(&mut self, len: usize, room: &mut [u8]) -> Result<Front<L::Handle>>
+        requires some { 0 < len }
+        requires len { len ≤ 4108 }
+        ensures { ReadsParts L.event (state self.old) len room.old result self.new.text room.new (state self.new) }
+    {
         self.faulted = false;
-        if let Some(cause) = self.broken {
-            return Err(Error::SocketBroken(cause));
-        }
-        let HandleList { mut list } = match self.list.take() {
-            Some(list) => list,
-            None => match HandleList::new(self.alloc) {
-                Ok(list) => list,
-                Err(_) => return Err(Error::OutOfMemory),
-            },
+        self.expect_sound()?;
+        let Ok(mut list) = take_list(&mut self.list, self.alloc) else {
+            return Err(Error::OutOfMemory);
         };
-        let got = recv_message(
+        let got = recv_parts(
             &mut self.link,
             &mut self.text[..],
             len,
+            room,
             &mut list,
             &mut self.spare.list,
             self.budget,
@@ -429,6 +434,7 @@ impl<M: MsgHeader, L: Link> Endpoint<M, L> {
         }
         Ok(Front {
             count: got.count,
+            more: got.more,
             list,
         })
     }

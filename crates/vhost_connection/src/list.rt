@@ -1,6 +1,6 @@
 //! Lists with room for the handles of one message.
 
-ghost use Rattle.std.specs.Prelude.{◌≡◌, ◌≤◌, vec_capacity, vec_len};
+ghost use Rattle.std.specs.Prelude.{◌≡◌, ◌≤◌, [], IfErr, IfOk, false, is_some, vec_capacity, vec_len};
 
 use std::alloc::{AllocError, Global};
 
@@ -24,10 +24,26 @@ impl<H> HandleList<H> {
     }
 }
 
-/// What came of a message: how many bytes, and the handles of the first.
+/// Takes the list out, or makes one where it was given away.
+pub fn take_list<H>(
+    place: &mut Option<HandleList<H>>,
+    alloc: Global,
+) -> Result<Vec<H>, AllocError>
+    ensures taken { IfOk result (λ v. (v.items ≡ []) × (32 ≤ vec_capacity v)) }
+    ensures memory { IfErr result (λ _. is_some place.old ≡ false) }
+    ensures left { is_some place.new ≡ false }
+{
+    match place.take() {
+        Some(HandleList { list }) => Ok(list),
+        None => Vec::with_capacity(alloc, MAX_HANDLES),
+    }
+}
+
+/// What came of a message: how many bytes of its front and how many more, and the handles of the first.
 #[derive(Drop)]
 pub struct Front<H> {
     pub count: usize,
+    pub more: usize,
     pub list: Vec<H>,
     ghost places: { 32 ≤ vec_capacity list },
 }

@@ -2,7 +2,7 @@
 
 ghost use Rattle.std.specs.Prelude.{◌≡◌, ◌<◌, ◌≤◌, [], length, take, vec_capacity, map, if◌then◌else◌};
 ghost use Rattle.vhost_protocol.specs.Stream.{carrying};
-ghost use Rattle.vhost_connection.specs.Pass.{SendsPart, SendsSome, SendsWhole, joined, GetsPiece, GetsFirst, GetsRest, GetsWhole};
+ghost use Rattle.vhost_connection.specs.Pass.{SendsPart, SendsSome, SendsWhole, joined, GetsPiece, GetsFirst, GetsRest, GetsWhole, GetsParts};
 
 use vhost_link::Link;
 use vhost_message::IoCause;
@@ -327,6 +327,72 @@ pub fn recv_message<L: Link>(
     ensures spare_places { vec_capacity spare.old ≤ vec_capacity spare.new }
 {
     recv_whole(link, &mut text[..len], list, spare, budget)
+}
+
+/// What came in two parts: how many bytes of each, how many retries are left, and why it stopped.
+#[derive(Drop)]
+pub struct Parts {
+    pub count: usize,
+    pub more: usize,
+    pub left: u32,
+    pub stop: Stop,
+}
+
+/// Receives so many bytes to the front of the text, and then into the room until it is full; keeps the handles of the
+/// first byte.
+pub fn recv_parts<L: Link>(
+    link: &mut L,
+    text: &mut [u8],
+    len: usize,
+    room: &mut [u8],
+    list: &mut Vec<L::Handle>,
+    spare: &mut Vec<L::Handle>,
+    budget: u32,
+) -> Parts
+    requires some { 0 < len }
+    requires len { len ≤ length text.old }
+    requires list { list.old.items ≡ [] }
+    requires places { 32 ≤ vec_capacity list.old }
+    requires spare { spare.old.items ≡ [] }
+    requires spare_places { 32 ≤ vec_capacity spare.old }
+    ensures got { GetsParts L.event link.old len room.old budget result text.new room.new list.new.items link.new }
+    ensures places { vec_capacity list.old ≤ vec_capacity list.new }
+    ensures spare { spare.new.items ≡ [] }
+    ensures spare_places { vec_capacity spare.old ≤ vec_capacity spare.new }
+{
+    let front = recv_message(link, text, len, list, spare, budget);
+    if front.count < len {
+        return Parts {
+            count: front.count,
+            more: 0,
+            left: front.left,
+            stop: front.stop,
+        };
+    }
+    let rest = recv_rest(link, room, spare, front.left);
+    Parts {
+        count: front.count,
+        more: rest.count,
+        left: rest.left,
+        stop: rest.stop,
+    }
+}
+
+/// Receives at most so many bytes to the front of the text by one call of the link, and their handles.
+pub fn recv_once<L: Link>(
+    link: &mut L,
+    text: &mut [u8],
+    len: usize,
+    list: &mut Vec<L::Handle>,
+) -> Result<usize, IoCause>
+    requires some { 0 < len }
+    requires len { len ≤ length text.old }
+    requires list { list.old.items ≡ [] }
+    requires places { 32 ≤ vec_capacity list.old }
+    ensures got { GetsPiece L.event link.old (take len text.old) 0 result (take len text.new) list.new.items link.new }
+    ensures places { vec_capacity list.old ≤ vec_capacity list.new }
+{
+    recv_piece(link, &mut text[..len], 0, list)
 }
 
 /// Receives so many bytes to the front of the text, and drops all handles.
