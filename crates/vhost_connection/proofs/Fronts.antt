@@ -1,5 +1,5 @@
 -- The first bytes of a message come in.
-use Rattle.std.proofs.Common.{◌≡◌, ℕ, ◌+◌, ◌-◌, ◌<◌, ◌≤◌, List, [], ◌∷◌, ◌++◌, length, take, drop, min, add-zero, refl, subst, sym, ap, ◌∙◌, arith, Bool, true, false, ◌||◌, Some, None, nat_lt, Result, Ok, Err}
+use Rattle.std.proofs.Common.{◌≡◌, ℕ, ◌+◌, ◌-◌, ◌<◌, ◌≤◌, List, [], ◌∷◌, ◌++◌, length, drop, min, add-zero, refl, subst, sym, ap, ◌∙◌, arith, Bool, true, false, ◌||◌, Some, None, nat_lt, Result, Ok, Err}
 use Rattle.std.specs.Prelude.{if◌then◌else◌, not}
 use Rattle.std.proofs.lemmas.List.{take_all, drop_all}
 use Rattle.vhost_message.specs.declared.cause.IoCause.{IoCause}

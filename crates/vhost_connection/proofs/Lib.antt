@@ -9,3 +9,4 @@ pub mod Data
 pub mod Bodies
 pub mod States
 pub mod Errors
+pub mod Once

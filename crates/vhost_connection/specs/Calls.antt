@@ -1,5 +1,5 @@
 -- What each call of an endpoint does, by its result.
-use Rattle.std.specs.Prelude.{◌≡◌, ℕ, ◌+◌, ◌-◌, ◌<◌, ◌≤◌, List, [], ◌++◌, length, take, drop, Option, Some, None, Bool, true, false, ◌&&◌, not, nat_lt, Result, Ok, Err, Vec}
+use Rattle.std.specs.Prelude.{◌≡◌, ℕ, ◌+◌, ◌-◌, ◌<◌, ◌≤◌, List, [], ◌++◌, length, take, drop, min, Option, Some, None, Bool, true, false, ◌&&◌, not, nat_lt, Result, Ok, Err, Vec}
 use Rattle.std.specs.Global.{Global}
 use Rattle.std.specs.Borrow.{Bor}
 use Rattle.vhost_message.specs.declared.cause.IoCause.{IoCause}
@@ -116,3 +116,18 @@ ReadsPayload {H} event read valid size read_body valid_body old before (Err Part
 ReadsPayload {H} event read valid size read_body valid_body old before (Err InvalidMessage) after new = (cs : List (Cell H)) × MessageCame event old (12 + size) before after cs new
     × ((valid (read (take 12 (bytes cs))) && valid_body (read_body (take size (drop 12 (bytes cs))))) ≡ false) × (new.list ≡ true)
 ReadsPayload {H} event read valid size read_body valid_body old before (Err e) after new = MessageFails event old (12 + size) before after e new
+
+-- One call of the link handed out these cells, or told the end; of no bytes it was not asked.
+pub record CameOnce {L H : Type 0} (event : L → Event H → L → Type 0) (old : State L H) (len : ℕ) (cs : List (Cell H)) (new : State L H) : Type 0 where
+  pub serves : Serves event old 0 (receives (heard cs (nat_lt (length cs) (min 1 len))) 0) new
+  pub within : length cs ≤ len
+  -- only the first of them brings handles
+  pub alone : brings_handles (drop 1 cs) ≡ false
+  pub left : new.left ≡ old.left
+  pub list : 0 < len → new.list ≡ not (has_some (first_handles cs))
+  pub unasked : len ≡ 0 → new ≡ record old { faulted = false }
+
+-- `recv_into_buf`: no fault breaks the endpoint, since nothing had moved
+abbrev pub ReadsOnce : {L H : Type 0} → (L → Event H → L → Type 0) → State L H → ℕ → Result (ℕ × Bor (List ℕ)) Error → Option (Vec H Global) → State L H → Type 0
+ReadsOnce {H} event old len (Ok x) given new = (cs : List (Cell H)) × CameOnce event old len cs new × (x.0 ≡ length cs) × (x.1.now ≡ bytes cs) × HandsOver given (first_handles cs)
+ReadsOnce event old len (Err e) given new = Trouble event old 0 true false nothing e new

@@ -1,12 +1,13 @@
 -- What the calls that receive a message have in common.
-use Rattle.std.specs.Prelude.{◌≡◌, ℕ, ◌+◌, ◌-◌, ◌<◌, ◌≤◌, List, ◌++◌, length, take, drop, min, None, true, false, if◌then◌else◌, nat_lt, Result, Ok, Err}
+use Rattle.std.specs.Prelude.{◌≡◌, ℕ, ◌+◌, ◌-◌, ◌<◌, ◌≤◌, List, ◌++◌, length, take, drop, min, None, true, false, if◌then◌else◌, nat_lt, Option, Vec, Result, Ok, Err}
+use Rattle.std.specs.Global.{Global}
 use Rattle.vhost_message.specs.declared.error.Error.{Error}
 use Rattle.vhost_message.specs.declared.error.Error.TheVariants.{InvalidMessage}
 use Rattle.vhost_protocol.specs.Stream.{Cell, bytes, first_handles, brings_handles, has_some, items, heard}
-use Rattle.vhost_link.specs.Law.{Event}
+use Rattle.vhost_link.specs.Law.{Event, nothing}
 use Rattle.vhost_connection.specs.Pass.{receives}
 use Rattle.vhost_connection.specs.Talk.{State, Serves, Trouble}
-use Rattle.vhost_connection.specs.Calls.{ReadsBytes, MessageFails}
+use Rattle.vhost_connection.specs.Calls.{ReadsBytes, MessageFails, CameOnce, HandsOver}
 use Rattle.vhost_connection.specs.declared.list.Front.{Front}
 
 -- So many bytes came, or fewer and then the end, with the handles of the first; the list of handles is given away.
@@ -55,6 +56,11 @@ abbrev pub ReadsCount : {L H : Type 0} → (L → Event H → L → Type 0) → 
 ReadsCount {H} event old len (Ok n) text new = (cs : List (Cell H)) × ReadsBytes event old len cs new × (brings_handles cs ≡ false) × (n ≡ length cs) × (take n text ≡ bytes cs)
 ReadsCount {H} event old len (Err InvalidMessage) text new = (cs : List (Cell H)) × ReadsBytes event old len cs new × (brings_handles cs ≡ true)
 ReadsCount {H} event old len (Err e) text new = (cs : List (Cell H)) × (r : ℕ) × (old.broken ≡ None → length cs < len) × Trouble event old old.left false true (receives (items cs) r) e new
+
+-- `recv_into_buf`, likewise
+abbrev pub ReadsCountOnce : {L H : Type 0} → (L → Event H → L → Type 0) → State L H → ℕ → Result (ℕ × Option (Vec H Global)) Error → List ℕ → State L H → Type 0
+ReadsCountOnce {H} event old len (Ok x) text new = (cs : List (Cell H)) × CameOnce event old len cs new × (x.0 ≡ length cs) × (take x.0 text ≡ bytes cs) × HandsOver x.1 (first_handles cs)
+ReadsCountOnce event old len (Err e) text new = Trouble event old 0 true false nothing e new
 
 -- the list of handles is given away where there are handles in it
 abbrev pub gives : {L H : Type 0} → State L H → List H → State L H

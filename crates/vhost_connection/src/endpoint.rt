@@ -5,7 +5,7 @@ ghost use Rattle.vhost_protocol.specs.Stream.{carrying};
 ghost use Rattle.vhost_connection.specs.Pass.{joined};
 
 use crate::list::{Front, HandleList, MAX_HANDLES, take_list};
-use crate::pass::{Stop, recv_bytes, recv_parts, send_once, send_pieces};
+use crate::pass::{Stop, recv_bytes, recv_once, recv_parts, send_once, send_pieces};
 use crate::pieces::{gather, total_len};
 use std::alloc::Global;
 use std::marker::PhantomData;
@@ -61,8 +61,8 @@ impl<M: MsgHeader, L: Link> Endpoint<M, L> {
     ghost use Rattle.vhost_message.specs.Cause.{error_of};
     ghost use Rattle.vhost_message.specs.declared.error.Error.TheVariants.{OversizedMsg, IncorrectFds, OutOfMemory};
     ghost use Rattle.vhost_connection.specs.Talk.{Refuses, IsBroken};
-    ghost use Rattle.vhost_connection.specs.Calls.{Sends, SendsAll, SendsOnce, ReadsHeader, ReadsData, ReadsBody, HandsOver};
-    ghost use Rattle.vhost_connection.specs.Front.{ReadsFront, ReadsParts, ReadsCount, gives};
+    ghost use Rattle.vhost_connection.specs.Calls.{Sends, SendsAll, SendsOnce, ReadsHeader, ReadsData, ReadsBody, ReadsInto, ReadsPayload, ReadsOnce, HandsOver};
+    ghost use Rattle.vhost_connection.specs.Front.{ReadsFront, ReadsParts, ReadsCount, ReadsCountOnce, gives};
     ghost use Rattle.vhost_connection.specs.State.{state, fresh, first_cause, with_link};
 
     /// An endpoint over a link, with a budget of retries for each message.
@@ -368,22 +368,67 @@ impl<M: MsgHeader, L: Link> Endpoint<M, L> {
         ensures long { 4096 < T.SIZE → Refuses (state self.old) OversizedMsg result (state self.new) }
         ensures received { T.SIZE ≤ 4096 → ReadsBody L.event M.read M.valid T.SIZE T.read T.valid (state self.old) result (state self.new) }
     {
+        let (header, body, _, handles) = self.recv_payload_into_buf(&mut [])?;
+        Ok((header, body, handles))
+    }
+
+    /// Receives a header, and then what fits into the buffer, up to the stream's end; the answer has how many bytes that
+    /// was, and the handles of the first byte. The header's size is not looked at.
+    ///
+    /// PartialMessage: the stream ended before or within the header. InvalidMessage: all of it was received, and the
+    /// header is not valid. OutOfMemory: as in `recv_header`.
+    pub fn recv_body_into_buf(
+        &mut self,
+        buf: &mut [u8],
+    ) -> Result<(M, usize, Option<Vec<L::Handle>>)>
+        ensures { ReadsInto L.event M.read M.valid (state self.old) buf.old result buf.new (state self.new) }
+    {
+        let len = M::SIZE;
+        let Front { count, more, list } = self.recv_parts(len, buf)?;
+        if count < len {
+            self.put_back(list);
+            return Err(Error::PartialMessage);
+        }
+        let header = M::decode(&self.text[..len]);
+        if !header.is_valid() {
+            self.put_back(list);
+            return Err(Error::InvalidMessage);
+        }
+        Ok((header, more, self.give(list)))
+    }
+
+    /// Receives a header and a record, and then what fits into the buffer, up to the stream's end; the answer has how
+    /// many bytes that was, and the handles of the first byte. The header's size is not looked at.
+    ///
+    /// OversizedMsg: the record is longer than 4096 bytes; nothing was received, and nothing changed. PartialMessage:
+    /// the stream ended before or within header and record. InvalidMessage: all of it was received, and one of the two
+    /// is not valid. OutOfMemory: as in `recv_header`.
+    #[tactic(auto, unfolding(crate::specs::State::ahead_of))]
+    pub fn recv_payload_into_buf<T: VhostUserMsgValidator + Drop>(
+        &mut self,
+        buf: &mut [u8],
+    ) -> Result<(M, T, usize, Option<Vec<L::Handle>>)>
+        ensures long { 4096 < T.SIZE → Refuses (state self.old) OversizedMsg result (state self.new) }
+        ensures unread { 4096 < T.SIZE → buf.new ≡ buf.old }
+        ensures received { T.SIZE ≤ 4096 → ReadsPayload L.event M.read M.valid T.SIZE T.read T.valid (state self.old) buf.old result buf.new (state self.new) }
+    {
         if T::SIZE > MAX_BODY {
             return Err(Error::OversizedMsg);
         }
-        self.recv_record()
+        self.recv_payload(buf)
     }
 
-    /// Receives a header and a record that is not too long.
-    fn recv_record<T: VhostUserMsgValidator + Drop>(
+    /// Receives a header, a record that is not too long, and what fits into the buffer.
+    fn recv_payload<T: VhostUserMsgValidator + Drop>(
         &mut self,
-    ) -> Result<(M, T, Option<Vec<L::Handle>>)>
+        buf: &mut [u8],
+    ) -> Result<(M, T, usize, Option<Vec<L::Handle>>)>
         requires { T.SIZE ≤ 4096 }
-        ensures { ReadsBody L.event M.read M.valid T.SIZE T.read T.valid (state self.old) result (state self.new) }
+        ensures { ReadsPayload L.event M.read M.valid T.SIZE T.read T.valid (state self.old) buf.old result buf.new (state self.new) }
     {
         let head = M::SIZE;
         let len = head + T::SIZE;
-        let Front { count, list, .. } = self.recv_front(len)?;
+        let Front { count, more, list } = self.recv_parts(len, buf)?;
         if count < len {
             self.put_back(list);
             return Err(Error::PartialMessage);
@@ -394,7 +439,50 @@ impl<M: MsgHeader, L: Link> Endpoint<M, L> {
             self.put_back(list);
             return Err(Error::InvalidMessage);
         }
-        Ok((header, body, self.give(list)))
+        Ok((header, body, more, self.give(list)))
+    }
+
+    /// Receives at most so many bytes by one call of the link, and lends them from the endpoint's buffer: how many, which
+    /// is 0 at the stream's end. The handles of the first of them are put into `handles`, in the place of what is there.
+    ///
+    /// With a length of 0 the link is not called. OutOfMemory: as in `recv_header`. A fault or a retry breaks nothing.
+    /// After an error `handles` is None.
+    pub fn recv_into_buf(
+        &mut self,
+        len: usize,
+        handles: &mut Option<Vec<L::Handle>>,
+    ) -> Result<(usize, &[u8])>
+        requires { len ≤ 4096 }
+        ensures* lender { sem 𝓛 (Leaves (the_row M.row L.row L.Handle.row) self.entry (λ end. ReadsOnce L.event (state self.old) len result handles.new (state end))) }
+        ensures count { IfOk result (λ x. (x.0 ≤ len) × (length x.1.now ≡ x.0)) }
+        ensures none { IfErr result (λ _. handles.new ≡ None) }
+    {
+        *handles = None;
+        let (count, list) = self.read_once(len)?;
+        *handles = list;
+        Ok((count, &self.text[..count]))
+    }
+
+    /// Receives at most so many bytes to the front of the text by one call of the link.
+    fn read_once(&mut self, len: usize) -> Result<(usize, Option<Vec<L::Handle>>)>
+        requires { len ≤ 4096 }
+        ensures { ReadsCountOnce L.event (state self.old) len result self.new.text (state self.new) }
+    {
+        self.faulted = false;
+        self.expect_sound()?;
+        if len == 0 {
+            return Ok((0, None));
+        }
+        let Ok(mut list) = take_list(&mut self.list, self.alloc) else {
+            return Err(Error::OutOfMemory);
+        };
+        match recv_once(&mut self.link, &mut self.text[..], len, &mut list) {
+            Ok(count) => Ok((count, self.give(list))),
+            Err(cause) => {
+                self.put_back(list);
+                Err(self.fail(cause, false))
+            }
+        }
     }
 
     /// Receives so many bytes to the front of the text, or fewer and then the end, with the handles of the first.
@@ -456,6 +544,7 @@ impl<M: MsgHeader, L: Link> Endpoint<M, L> {
         requires { 32 ≤ vec_capacity list }
         ensures given { HandsOver result list.items }
         ensures state { state self.new ≡ gives (state self.old) list.items }
+        ensures text { self.new.text ≡ self.old.text }
     {
         if list.is_empty() {
             self.put_back(list);

@@ -25,10 +25,7 @@ impl<H> HandleList<H> {
 }
 
 /// Takes the list out, or makes one where it was given away.
-pub fn take_list<H>(
-    place: &mut Option<HandleList<H>>,
-    alloc: Global,
-) -> Result<Vec<H>, AllocError>
+pub fn take_list<H>(place: &mut Option<HandleList<H>>, alloc: Global) -> Result<Vec<H>, AllocError>
     ensures taken { IfOk result (λ v. (v.items ≡ []) × (32 ≤ vec_capacity v)) }
     ensures memory { IfErr result (λ _. is_some place.old ≡ false) }
     ensures left { is_some place.new ≡ false }

@@ -172,7 +172,7 @@ pub struct First {
 }
 
 /// Receives the first bytes, and their handles.
-pub fn recv_first<L: Link>(
+fn recv_first<L: Link>(
     link: &mut L,
     room: &mut [u8],
     list: &mut Vec<L::Handle>,
@@ -209,12 +209,7 @@ pub fn recv_first<L: Link>(
 }
 
 /// Receives until the room is full. The handles of what comes are dropped.
-pub fn recv_rest<L: Link>(
-    link: &mut L,
-    room: &mut [u8],
-    spare: &mut Vec<L::Handle>,
-    budget: u32,
-) -> Got
+fn recv_rest<L: Link>(link: &mut L, room: &mut [u8], spare: &mut Vec<L::Handle>, budget: u32) -> Got
     requires list { spare.old.items ≡ [] }
     requires places { 32 ≤ vec_capacity spare.old }
     ensures got { GetsRest L.event link.old room.old budget result room.new link.new }
@@ -263,7 +258,7 @@ pub fn recv_rest<L: Link>(
 }
 
 /// Receives until the room is full, and keeps the handles of the first byte.
-pub fn recv_whole<L: Link>(
+fn recv_whole<L: Link>(
     link: &mut L,
     room: &mut [u8],
     list: &mut Vec<L::Handle>,
@@ -307,7 +302,7 @@ pub fn recv_whole<L: Link>(
 }
 
 /// Receives so many bytes to the front of the text, and keeps the handles of the first.
-pub fn recv_message<L: Link>(
+fn recv_message<L: Link>(
     link: &mut L,
     text: &mut [u8],
     len: usize,

@@ -1,4 +1,4 @@
-use Rattle.std.proofs.Common.{refl, rules}
+use Rattle.std.proofs.Common.{refl}
 use Rattle.std.proofs.lemmas.List.{length-take-le}
 use Rattle.vhost_connection.proofs.Receiving.{parts-short, parts-whole}
 use Rattle.vhost_connection.proofs.pass.recv_parts.Goals as goal

@@ -1,4 +1,4 @@
-use Rattle.std.proofs.Common.{refl, [], ap, sym, ◌∙◌, ◌≡◌, false, true, Some, nat_lt}
+use Rattle.std.proofs.Common.{refl, ap, sym, ◌∙◌, ◌≡◌, false, true, Some, nat_lt}
 use Rattle.std.specs.Prelude.{is_some, Bool, if◌then◌else◌}
 use Rattle.std.proofs.lemmas.Result.{err_from_is_err_and}
 use Rattle.vhost_connection.specs.State.{ahead_of, state}
