@@ -53,7 +53,7 @@ fn user_addresses(
 }
 
 /// InactiveOperation where the configuration was not negotiated.
-fn has_config(protocol_features: u64) -> Result<()>
+fn check_config(protocol_features: u64) -> Result<()>
     ensures { seen_result result ≡ (if has_bit protocol_features 9 then Ok tt else Err (InactiveOperation 0x200)) }
 {
     if !is_set(protocol_features, CONFIG_BIT) {
@@ -220,7 +220,7 @@ impl<L: Link> VhostUserBackendReqHandlerMut for DummyBackendReqHandler<L> {
         size: u32,
         _flags: VhostUserConfigFlags,
     ) -> Result<Vec<u8>> {
-        has_config(self.acked_protocol_features)?;
+        check_config(self.acked_protocol_features)?;
         if offset != VHOST_USER_CONFIG_OFFSET || size != 4 {
             return Err(Error::InvalidParam);
         }
@@ -231,7 +231,7 @@ impl<L: Link> VhostUserBackendReqHandlerMut for DummyBackendReqHandler<L> {
     }
 
     fn set_config(&mut self, offset: u32, buf: &[u8], _flags: VhostUserConfigFlags) -> Result<()> {
-        has_config(self.acked_protocol_features)?;
+        check_config(self.acked_protocol_features)?;
         if offset != VHOST_USER_CONFIG_OFFSET || buf != CONFIG_BYTES.as_slice() {
             return Err(Error::InvalidParam);
         }
