@@ -15,7 +15,7 @@ use Rattle.vhost_connection.specs.Talk.{State, Serves, Trouble}
 use Rattle.vhost_connection.specs.Talk.Trouble.{was_broken, no_memory, fault}
 use Rattle.vhost_connection.specs.Calls.{ReadsBody, ReadsInto, ReadsPayload, HandsOver, MessageCame, MessageEnds, MessageFails}
 use Rattle.vhost_connection.specs.Front.{PartsCame, gives}
-use Rattle.vhost_connection.proofs.Tests.{less, not-less}
+use Rattle.vhost_connection.proofs.Basics.{less, not-less}
 use Rattle.vhost_connection.proofs.Fronts.{Serves-list, Serves-gives, list-gives, left-gives}
 use Rattle.vhost_connection.proofs.Errors.{socket}
 

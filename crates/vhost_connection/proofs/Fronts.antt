@@ -18,7 +18,7 @@ use Rattle.vhost_connection.specs.Calls.{MessageFails}
 use Rattle.vhost_connection.specs.Front.{FrontCame, FrontFails, PartsCame, ReadsParts, ReadsFront, gives}
 use Rattle.vhost_connection.specs.declared.list.Front.{Front}
 use Rattle.vhost_connection.proofs.Talking.{served, serves, failed, gave-up}
-use Rattle.vhost_connection.proofs.Tests.{less, not-less}
+use Rattle.vhost_connection.proofs.Basics.{less, not-less}
 
 -- what came, where it was no fault that stopped it
 pub heard-as : {S H : Type 0} (event : S → Event H → S → Type 0) (old new : S) (room budget left : ℕ) (stop : Stop) (cs : List (Cell H))

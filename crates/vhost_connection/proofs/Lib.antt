@@ -1,4 +1,4 @@
-pub mod Tests
+pub mod Basics
 pub mod Joining
 pub mod Sending
 pub mod Receiving

@@ -13,7 +13,7 @@ use Rattle.vhost_connection.specs.Talk.Trouble.{was_broken, no_memory, fault}
 use Rattle.vhost_connection.specs.Calls.{ReadsHeader, HandsOver}
 use Rattle.vhost_connection.specs.Front.{FrontCame, FrontFails, gives}
 use Rattle.vhost_connection.proofs.Errors.{socket}
-use Rattle.vhost_connection.proofs.Tests.{less, not-less, is-nil}
+use Rattle.vhost_connection.proofs.Basics.{less, not-less, is-nil}
 use Rattle.vhost_connection.proofs.Fronts.{Serves-list, Serves-gives, list-gives, left-gives}
 
 -- All that was asked for came.

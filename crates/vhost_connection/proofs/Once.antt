@@ -15,7 +15,7 @@ use Rattle.vhost_connection.specs.Pass.{receives, GetsPiece, Arrives}
 use Rattle.vhost_connection.specs.Talk.{State, Serves, Trouble}
 use Rattle.vhost_connection.specs.Calls.{HandsOver}
 use Rattle.vhost_connection.specs.Front.{ReadsCountOnce, gives}
-use Rattle.vhost_connection.proofs.Tests.{less, not-less, is-nil}
+use Rattle.vhost_connection.proofs.Basics.{less, not-less, is-nil}
 use Rattle.vhost_connection.proofs.Talking.{served, serves, failed, gave-up}
 use Rattle.vhost_connection.proofs.Fronts.{Serves-gives, list-gives, left-gives}
 use Rattle.vhost_connection.proofs.Bodies.{take-front}

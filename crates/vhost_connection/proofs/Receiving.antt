@@ -10,7 +10,7 @@ use Rattle.vhost_link.proofs.Cells.{length-carrying, bytes-carrying, bytes-appen
 use Rattle.vhost_link.specs.Law.{Event, Handed, Refused, Move, Moved, ◌then◌, done, refused, Receives}
 use Rattle.vhost_link.specs.Law.Moved.{still, more}
 use Rattle.vhost_link.proofs.Moves.{Moved-as, Moved-then, then_assoc}
-use Rattle.vhost_connection.proofs.Tests.{is-nil}
+use Rattle.vhost_connection.proofs.Basics.{is-nil}
 use Rattle.vhost_connection.specs.Pass.{receives, GetsWhole, GetsParts, FrontCame, Fills, Arrives, GetsPiece, GetsRest, GotAs}
 use Rattle.vhost_connection.specs.declared.pass.Got.{Got}
 use Rattle.vhost_connection.specs.declared.pass.Stop.{Stop}

@@ -12,7 +12,7 @@ use Rattle.vhost_link.proofs.Moves.{Moved-as, Moved-then, then_assoc}
 use Rattle.vhost_link.proofs.Cells.{length-carrying, piece-first, piece-later, plain-is, plain-append}
 use Rattle.vhost_connection.specs.declared.pass.Sent.{Sent}
 use Rattle.vhost_connection.specs.Pass.{sends, joined, SendsPart, SentAs, SendsWhole}
-use Rattle.vhost_connection.proofs.Tests.{suc-pos, less}
+use Rattle.vhost_connection.proofs.Basics.{suc-pos, less}
 use Rattle.vhost_connection.proofs.Joining.{joined-more, joined-rest}
 
 pub first-piece : {S H : Type 0} (event : S → Event H → S → Type 0) (old new : S) (bytes : List ℕ) (hs : List H) (count : ℕ) (r : Result ℕ IoCause)

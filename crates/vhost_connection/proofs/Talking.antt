@@ -14,7 +14,7 @@ use Rattle.vhost_connection.specs.Pass.{sends, SendsSome, SendsWhole}
 use Rattle.vhost_connection.specs.Talk.{State, Talks, Serves, Trouble, has_moved, IsBroken}
 use Rattle.vhost_connection.specs.Talk.Trouble.{was_broken, fault}
 use Rattle.vhost_connection.specs.Calls.{Sends, SendsOnce}
-use Rattle.vhost_connection.proofs.Tests.{suc-pos, is-nil}
+use Rattle.vhost_connection.proofs.Basics.{suc-pos, is-nil}
 
 -- Calls compose, whatever is heard ahead.
 pub Talks-then : {L H : Type 0} {event : L → Event H → L → Type 0} {old mid new : State L H} {m n : Move H} → Talks event old m mid → Talks event mid n new → Talks event old (m then n) new

@@ -1,5 +1,7 @@
 //! Messages and bytes received into a buffer, however they are cut and wherever they fail.
 
+ghost use Rattle.std.specs.Prelude.{◌≤◌};
+
 use super::{End, FAULT, HANDLES, LOG, bytes_then, end};
 use std::alloc::Global;
 use std::process::Abort;
@@ -15,17 +17,30 @@ const CONFIG: [u8; 28] = [
 /// How many bytes of payload there are, and the handles.
 type Got = Answer<(usize, Option<Vec<PlainHandle>>)>;
 
-/// What the two calls have in common: how many bytes of a message stand before the buffer, and the call.
+/// The two calls.
 #[derive(Clone, Copy)]
 enum Call {
     Body,
     Payload,
 }
 
-fn head(call: Call) -> usize {
+/// How many bytes of the message stand before the buffer.
+fn head(call: Call) -> usize
+    ensures { result ≤ 24 }
+{
     match call {
         Call::Body => 12,
         Call::Payload => 24,
+    }
+}
+
+/// How many bytes of the message belong into the buffer.
+fn rest(call: Call) -> usize
+    ensures { result ≤ 16 }
+{
+    match call {
+        Call::Body => 16,
+        Call::Payload => 4,
     }
 }
 
@@ -59,7 +74,7 @@ fn expect_filled(rt: &impl Abort, call: Call, buf: &[u8], count: usize, what: us
 fn come_however_cut(rt: HostRuntime) -> Result<(), Fail> {
     let alloc = rt.alloc();
     for call in [Call::Body, Call::Payload] {
-        let rest = 28 - head(call);
+        let rest = rest(call);
         for cut in 1..29 {
             let script = vec![in alloc; Cut::Give(cut), Cut::Retry, Cut::Retry]?;
             let mut end = end(alloc, script, &CONFIG, &HANDLES)?;
@@ -109,7 +124,7 @@ fn leave_what_does_not_fit(rt: HostRuntime) -> Result<(), Fail> {
         let mut buf = [1; 16];
         assert_eq!(rt; receive(call, &mut end, &mut buf[..3])?.0, 3);
         expect_filled(&rt, call, &buf, 3, 3);
-        let rest = 28 - head(call) - 3;
+        let rest = rest(call).saturating_sub(3);
         assert_eq!(rt; end.recv_data(100)?.0, rest);
         end.link().push(&CONFIG, &[])?;
         assert_eq!(rt; receive(call, &mut end, &mut [])?.0, 0);
@@ -122,7 +137,7 @@ fn leave_what_does_not_fit(rt: HostRuntime) -> Result<(), Fail> {
 fn break_after_the_first_byte(rt: HostRuntime) -> Result<(), Fail> {
     let alloc = rt.alloc();
     for call in [Call::Body, Call::Payload] {
-        let rest = 28 - head(call);
+        let rest = rest(call);
         for got in 0..28 {
             let mut end = end(alloc, bytes_then(alloc, got, &[FAULT])?, &CONFIG, &HANDLES)?;
             let received = receive(call, &mut end, &mut [1; 16][..rest]);

@@ -1,0 +1,210 @@
+//! What an endpoint sends.
+
+ghost use Rattle.std.specs.Prelude.{◌≡◌, ◌≢◌, ◌+◌, ◌++◌, ◌<◌, ◌≤◌, ◌^◌, [], length, take, map, min, vec_capacity, IfOk, IfErr};
+ghost use Rattle.vhost_protocol.specs.Stream.{carrying};
+ghost use Rattle.vhost_connection.specs.Pass.{joined};
+
+use crate::endpoint::{Endpoint, MAX_BODY};
+use crate::list::MAX_HANDLES;
+use crate::pass::{send_once, send_pieces};
+use crate::pieces::{gather, total_len};
+use vhost_link::Link;
+use vhost_message::{ByteValued, Error, MsgHeader, Result};
+
+/// Writes a header and the body behind it.
+fn put<M: ByteValued, T: ByteValued>(out: &mut [u8], header: &M, body: &T)
+    requires { length out.old ≡ M.SIZE + T.SIZE }
+    ensures text { out.new ≡ M.text header.now ++ T.text body.now }
+    ensures fits { T.fits body.now }
+{
+    let (front, rest) = out.split_at_mut(M::SIZE);
+    header.encode_into(front);
+    body.encode_into(rest);
+}
+
+impl<M: MsgHeader, L: Link> Endpoint<M, L> {
+    ghost use Rattle.std.specs.Prelude.{if◌then◌else◌, None, true, false, is_some};
+    ghost use Rattle.std.specs.Borrow.{sem, Lends};
+    ghost use Rattle.vhost_connection.specs.contracts.endpoint.Endpoint.{the_row};
+    ghost use Rattle.vhost_connection.specs.Lending.{Leaves};
+    ghost use Rattle.vhost_message.specs.Cause.{error_of};
+    ghost use Rattle.vhost_message.specs.declared.error.Error.TheVariants.{OversizedMsg, IncorrectFds, OutOfMemory};
+    ghost use Rattle.vhost_connection.specs.Talk.{Refuses, IsBroken};
+    ghost use Rattle.vhost_connection.specs.Calls.{Sends, SendsAll, SendsOnce, ReadsHeader, ReadsData, ReadsBody, ReadsInto, ReadsPayload, ReadsOnce, HandsOver};
+    ghost use Rattle.vhost_connection.specs.Front.{ReadsFront, ReadsParts, ReadsCount, ReadsCountOnce, gives};
+    ghost use Rattle.vhost_connection.specs.State.{state, fresh, first_cause, with_link};
+
+    /// Sends a header, with the handles on its first byte.
+    ///
+    /// IncorrectFds: there are more than 32 handles; nothing was written, and nothing changed.
+    #[tactic(auto, unfolding(crate::specs::State::ahead_of))]
+    pub fn send_header(&mut self, header: &M, handles: &[&L::Handle]) -> Result<()>
+        ensures many { 32 < length handles.now → Refuses (state self.old) IncorrectFds result (state self.new) }
+        ensures sent { length handles.now ≤ 32 → Sends L.event (state self.old) (carrying (map (λ h. h.now) handles.now) (M.text header.now)) result (state self.new) }
+        ensures memory { IfErr result (λ e. e ≢ OutOfMemory) }
+    {
+        if handles.len() > MAX_HANDLES {
+            return Err(Error::IncorrectFds);
+        }
+        header.encode_into(&mut self.text[..M::SIZE]);
+        self.send_text(M::SIZE, &[], handles)
+    }
+
+    /// Sends a header and a body, with the handles on the first byte.
+    ///
+    /// OversizedMsg: the body is longer than 4096 bytes, or than a header of this type may say. IncorrectFds: there
+    /// are more than 32 handles. In both cases nothing was written, and nothing changed.
+    #[tactic(auto, unfolding(crate::specs::State::ahead_of))]
+    pub fn send_message<T: ByteValued>(
+        &mut self,
+        header: &M,
+        body: &T,
+        handles: &[&L::Handle],
+    ) -> Result<()>
+        ensures long { min 4096 M.MAX_MSG_SIZE < T.SIZE → Refuses (state self.old) OversizedMsg result (state self.new) }
+        ensures many { T.SIZE ≤ min 4096 M.MAX_MSG_SIZE → 32 < length handles.now → Refuses (state self.old) IncorrectFds result (state self.new) }
+        ensures sent { T.SIZE ≤ min 4096 M.MAX_MSG_SIZE → length handles.now ≤ 32 →
+            Sends L.event (state self.old) (carrying (map (λ h. h.now) handles.now) (M.text header.now ++ T.text body.now)) result (state self.new) }
+        ensures fits { T.SIZE ≤ min 4096 M.MAX_MSG_SIZE → length handles.now ≤ 32 → T.fits body.now }
+        ensures memory { IfErr result (λ e. e ≢ OutOfMemory) }
+    {
+        if T::SIZE > MAX_BODY || T::SIZE > M::MAX_MSG_SIZE {
+            return Err(Error::OversizedMsg);
+        }
+        if handles.len() > MAX_HANDLES {
+            return Err(Error::IncorrectFds);
+        }
+        let len = M::SIZE + T::SIZE;
+        put(&mut self.text[..len], header, body);
+        self.send_text(len, &[], handles)
+    }
+
+    /// Sends a header, a body and a payload, with the handles on the first byte. The payload goes out from where it
+    /// lies.
+    ///
+    /// OversizedMsg: the body is longer than 4096 bytes, or body and payload together than a header of this type may
+    /// say. IncorrectFds: there are more than 32 handles. In both cases nothing was written, and nothing changed.
+    #[tactic(auto, unfolding(crate::specs::State::ahead_of))]
+    pub fn send_message_with_payload<T: ByteValued>(
+        &mut self,
+        header: &M,
+        body: &T,
+        payload: &[u8],
+        handles: &[&L::Handle],
+    ) -> Result<()>
+        ensures long_body { 4096 < T.SIZE → Refuses (state self.old) OversizedMsg result (state self.new) }
+        ensures long { M.MAX_MSG_SIZE < T.SIZE + length payload.now → Refuses (state self.old) OversizedMsg result (state self.new) }
+        ensures many { T.SIZE ≤ 4096 → T.SIZE + length payload.now ≤ M.MAX_MSG_SIZE → 32 < length handles.now →
+            Refuses (state self.old) IncorrectFds result (state self.new) }
+        ensures sent { T.SIZE ≤ 4096 → T.SIZE + length payload.now ≤ M.MAX_MSG_SIZE → length handles.now ≤ 32 →
+            Sends L.event (state self.old) (carrying (map (λ h. h.now) handles.now) (M.text header.now ++ T.text body.now ++ payload.now)) result (state self.new) }
+        ensures fits { T.SIZE ≤ 4096 → T.SIZE + length payload.now ≤ M.MAX_MSG_SIZE → length handles.now ≤ 32 → T.fits body.now }
+        ensures memory { IfErr result (λ e. e ≢ OutOfMemory) }
+    {
+        if T::SIZE > MAX_BODY || T::SIZE > M::MAX_MSG_SIZE {
+            return Err(Error::OversizedMsg);
+        }
+        if payload.len() > M::MAX_MSG_SIZE - T::SIZE {
+            return Err(Error::OversizedMsg);
+        }
+        if handles.len() > MAX_HANDLES {
+            return Err(Error::IncorrectFds);
+        }
+        let len = M::SIZE + T::SIZE;
+        put(&mut self.text[..len], header, body);
+        self.send_text(len, payload, handles)
+    }
+
+    /// Sends the first bytes of the text, and a payload behind them.
+    fn send_text(&mut self, len: usize, payload: &[u8], handles: &[&L::Handle]) -> Result<()>
+        requires len { len ≤ 4108 }
+        requires handles { length handles.now ≤ 32 }
+        ensures sent { Sends L.event (state self.old) (carrying (map (λ h. h.now) handles.now) (take len self.old.text ++ payload.now)) result (state self.new) }
+        ensures memory { IfErr result (λ e. e ≢ OutOfMemory) }
+    {
+        self.faulted = false;
+        self.expect_sound()?;
+        let pieces = [&self.text[..len], payload];
+        let sent = send_pieces(&mut self.link, &pieces, handles, self.budget);
+        match sent.fault {
+            None => Ok(()),
+            Some(cause) => Err(self.fail(cause, sent.moved)),
+        }
+    }
+
+    /// Sends all bytes of the pieces, with the handles on the first byte; the answer is how many.
+    ///
+    /// OversizedMsg: there are more bytes than a `usize` can count. IncorrectFds: there are more than 32 handles, or
+    /// handles without a byte. In both cases nothing was written, and nothing changed.
+    #[tactic(auto, unfolding(crate::specs::State::ahead_of))]
+    pub fn send_iovec_all(&mut self, iovs: &[&[u8]], handles: &[&L::Handle]) -> Result<usize>
+        ensures long { 2 ^ 64 ≤ length (joined iovs.now) → Refuses (state self.old) OversizedMsg result (state self.new) }
+        ensures many { length (joined iovs.now) < 2 ^ 64 → 32 < length handles.now → Refuses (state self.old) IncorrectFds result (state self.new) }
+        ensures bare { joined iovs.now ≡ [] → 0 < length handles.now → Refuses (state self.old) IncorrectFds result (state self.new) }
+        ensures sent { length (joined iovs.now) < 2 ^ 64 → length handles.now ≤ 32 → (joined iovs.now ≡ [] → handles.now ≡ []) →
+            SendsAll L.event (state self.old) (carrying (map (λ h. h.now) handles.now) (joined iovs.now)) result (state self.new) }
+        ensures memory { IfErr result (λ e. e ≢ OutOfMemory) }
+    {
+        let Some(len) = total_len(iovs) else {
+            return Err(Error::OversizedMsg);
+        };
+        if handles.len() > MAX_HANDLES || (len == 0 && !handles.is_empty()) {
+            return Err(Error::IncorrectFds);
+        }
+        self.faulted = false;
+        self.expect_sound()?;
+        let sent = send_pieces(&mut self.link, iovs, handles, self.budget);
+        match sent.fault {
+            None => Ok(len),
+            Some(cause) => Err(self.fail(cause, sent.moved)),
+        }
+    }
+
+    /// Sends a front of the bytes by one call of the link, with the handles on the first byte; the answer is how many.
+    ///
+    /// Without bytes and handles the link is not called. IncorrectFds: there are more than 32 handles, or handles
+    /// without a byte; nothing was written, and nothing changed. A fault or a retry breaks nothing.
+    #[tactic(auto, unfolding(crate::specs::State::ahead_of))]
+    pub fn send_slice(&mut self, bytes: &[u8], handles: &[&L::Handle]) -> Result<usize>
+        ensures many { 32 < length handles.now → Refuses (state self.old) IncorrectFds result (state self.new) }
+        ensures bare { bytes.now ≡ [] → 0 < length handles.now → Refuses (state self.old) IncorrectFds result (state self.new) }
+        ensures sent { length handles.now ≤ 32 → (bytes.now ≡ [] → handles.now ≡ []) →
+            SendsOnce L.event (state self.old) (map (λ h. h.now) handles.now) bytes.now result (state self.new) }
+        ensures memory { IfErr result (λ e. e ≢ OutOfMemory) }
+    {
+        if handles.len() > MAX_HANDLES || (bytes.is_empty() && !handles.is_empty()) {
+            return Err(Error::IncorrectFds);
+        }
+        self.faulted = false;
+        self.expect_sound()?;
+        match send_once(&mut self.link, bytes, handles) {
+            Ok(count) => Ok(count),
+            Err(cause) => Err(self.fail(cause, false)),
+        }
+    }
+
+    /// Sends a front of the bytes of all pieces by one call of the link, with the handles on the first byte; the answer
+    /// is how many, 4108 at most.
+    ///
+    /// Without bytes and handles the link is not called. IncorrectFds: there are more than 32 handles, or handles
+    /// without a byte; nothing was written, and nothing changed. A fault or a retry breaks nothing.
+    #[tactic(auto, unfolding(crate::specs::State::ahead_of))]
+    pub fn send_iovec(&mut self, iovs: &[&[u8]], handles: &[&L::Handle]) -> Result<usize>
+        ensures many { 32 < length handles.now → Refuses (state self.old) IncorrectFds result (state self.new) }
+        ensures bare { joined iovs.now ≡ [] → 0 < length handles.now → Refuses (state self.old) IncorrectFds result (state self.new) }
+        ensures sent { length handles.now ≤ 32 → (joined iovs.now ≡ [] → handles.now ≡ []) →
+            SendsOnce L.event (state self.old) (map (λ h. h.now) handles.now) (joined iovs.now) result (state self.new) }
+        ensures memory { IfErr result (λ e. e ≢ OutOfMemory) }
+    {
+        let len = gather(&mut self.text[..], iovs);
+        if handles.len() > MAX_HANDLES || (len == 0 && !handles.is_empty()) {
+            return Err(Error::IncorrectFds);
+        }
+        self.faulted = false;
+        self.expect_sound()?;
+        match send_once(&mut self.link, &self.text[..len], handles) {
+            Ok(count) => Ok(count),
+            Err(cause) => Err(self.fail(cause, false)),
+        }
+    }
+}
