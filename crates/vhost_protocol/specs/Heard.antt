@@ -34,16 +34,16 @@ shape_of GetShmemConfig = AShmem
 shape_of PostcopyAdvise = AnEmpty
 shape_of _ = AU64
 
--- the numbers of a device's answer have the bits of their types
+-- the numbers of a device's answer that are replied have the bits of their types
 abbrev pub AnswerFits : {H B G : Type 0} → (c : Call H B G) → Answer c → Type 0
 AnswerFits device.GetFeatures a = IfOk a (λ n. n < 2 ^ 64)
-AnswerFits (device.SetMemTable regions handles postcopy) a = IfOk a (λ o. IfSome o (λ bases. All (λ base. base < 2 ^ 64) bases))
+AnswerFits (device.SetMemTable regions handles (Some true)) a = IfOk a (λ o. IfSome o (λ bases. All (λ base. base < 2 ^ 64) bases))
 AnswerFits (device.GetVringBase index) a = IfOk a VringStateFits
 AnswerFits device.GetProtocolFeatures a = IfOk a (λ n. n < 2 ^ 64)
 AnswerFits device.GetQueueNum a = IfOk a (λ n. n < 2 ^ 64)
 AnswerFits (device.GetInflightFd area) a = IfOk a (λ x. InflightFits x.0)
 AnswerFits device.GetMaxMemSlots a = IfOk a (λ n. n < 2 ^ 64)
-AnswerFits (device.AddMemRegion region handle postcopy) a = IfOk a (λ o. IfSome o (λ base. base < 2 ^ 64))
+AnswerFits (device.AddMemRegion region handle (Some true)) a = IfOk a (λ o. IfSome o (λ base. base < 2 ^ 64))
 AnswerFits device.GetShmemConfig a = IfOk a ShMemConfigFits
 AnswerFits _ a = ⊤
 

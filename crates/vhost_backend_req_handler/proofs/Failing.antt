@@ -1,0 +1,69 @@
+-- Calls of a side that fail.
+use Rattle.std.proofs.Common.{◌≡◌, ℕ, ◌≤◌, [], length, refl, sym, ap, subst, ◌∙◌, arith, inl, inr, Bool, true, false, ◌||◌, IsTrue, Option, Some, None}
+use Rattle.std.specs.Prelude.{if◌then◌else◌}
+use Rattle.std.proofs.lemmas.List.{append-nil}
+use Rattle.vhost_message.specs.declared.cause.IoCause.{IoCause}
+use Rattle.vhost_message.specs.declared.error.Error.{Error}
+use Rattle.vhost_message.specs.declared.error.Error.TheVariants.{SocketError, SocketConnect, SocketBroken, SocketRetry}
+use Rattle.vhost_message.specs.Cause.{is_retry, is_break, is_denial, error_of}
+use Rattle.vhost_link.specs.Law.{Event, Move, move, ◌then◌, refused}
+use Rattle.vhost_connection.specs.State.{first_cause}
+use Rattle.vhost_connection.specs.Talk.{State, Trouble, has_moved}
+use Rattle.vhost_connection.specs.Talk.Trouble.{was_broken as trouble_broken, no_memory as trouble_memory, fault as trouble_fault}
+use Rattle.vhost_backend_req_handler.specs.Hearing.{Spends, Fails, broken_on}
+use Rattle.vhost_backend_req_handler.specs.Hearing.Fails.{was_broken, no_memory, fault}
+
+-- a failure moves nothing
+pub refused-moved : {H : Type 0} (m : Move H) (c : IoCause) (b : Bool) → has_moved (m then (if b then move {H = H} [] [] 1 0 else move [] [] 0 1)) ≡ has_moved m
+refused-moved m c true = rw (append-nil m.handed, append-nil m.taken) refl
+refused-moved m c false = rw (append-nil m.handed, append-nil m.taken) refl
+
+pub refused-taken : {H : Type 0} (m : Move H) (c : IoCause) (b : Bool) → (m then (if b then move {H = H} [] [] 1 0 else move [] [] 0 1)).taken ≡ m.taken
+refused-taken m c true = append-nil m.taken
+refused-taken m c false = append-nil m.taken
+
+-- one retry more than the limit, or a failure
+pub spends : {H : Type 0} (limit : ℕ) (m : Move H) (b : Bool) → m.failures ≡ 0 → (IsTrue b → m.retries ≡ limit) → Spends limit (m then (if b then move {H = H} [] [] 1 0 else move [] [] 0 1))
+spends limit m true none most = inr (let e = most refl in omega arith)
+spends limit m false none most = inl (omega arith)
+
+-- an error of the link breaks the endpoint with its cause
+pub broken-socket : {L H : Type 0} (c : IoCause) (s : State L H) (b d f : Bool)
+    → broken_on (if b then SocketRetry c else if d then SocketBroken c else if f then SocketConnect c else SocketError c) s ≡ record s { broken = first_cause s.broken c }
+broken-socket c s true d f = refl
+broken-socket c s false true f = refl
+broken-socket c s false false true = refl
+broken-socket c s false false false = refl
+
+pub first-is : (c : IoCause) (moved : Bool) → first_cause (if moved then Some c else None) c ≡ Some c
+first-is c true = refl
+first-is c false = refl
+
+or-true : (b : Bool) → b || true ≡ true
+or-true true = refl
+or-true false = refl
+
+module _ {L H : Type 0} (event : L → Event H → L → Type 0) (old : State L H) (grows breaks : Bool) (m : Move H) where
+  -- an endpoint's trouble is a failure of the side
+  pub trouble-fails : (e : Error) (new : State L H) → Trouble event old old.budget grows breaks m e new → breaks ≡ false → length m.taken ≤ 4108 → Fails event old false e new
+  trouble-fails e new (trouble_broken b n s) whole few = was_broken b (s ∙ ap (λ (l : Bool). record old { list = l; faulted = false }) (sym (ap (λ (x : State L H). x.list) s)))
+  trouble-fails e new (trouble_memory w b l n s) whole few = no_memory l (s ∙ ap (λ (f : Bool). record old { faulted = f }) (sym (ap (λ (x : State L H). x.faulted) s)))
+  trouble-fails e new (trouble_fault c b t f r most k y l) whole few = fault c (m then refused c) b t (spends old.budget m (is_retry c) f most)
+      (rw (refused-taken m c (is_retry c)) few)
+      (k ∙ rw (whole, refused-moved m c (is_retry c)) refl) y
+
+  -- between a request and the end of its answer it breaks the endpoint, too
+  pub trouble-breaks : (e : Error) (new : State L H) → Trouble event old old.budget grows breaks m e new → length m.taken ≤ 4108 → Fails event old true e (broken_on e new)
+  trouble-breaks e new (trouble_broken {c = c} b n s) few = was_broken b
+      (ap (λ (x : State L H). record x { broken = first_cause x.broken c }) s ∙ ap (λ (x : Option IoCause). record old { broken = first_cause x c; faulted = false }) b
+      ∙ ap (λ (x : Option IoCause). record old { broken = x; faulted = false }) (sym b)
+      ∙ ap (λ (l : Bool). record old { list = l; faulted = false }) (sym (ap (λ (x : State L H). x.list) s)))
+  trouble-breaks e new (trouble_memory w b l n s) few = no_memory l (s ∙ ap (λ (f : Bool). record old { faulted = f }) (sym (ap (λ (x : State L H). x.faulted) s)))
+  trouble-breaks e new (trouble_fault c b t f r most k y l) few =
+      let after : broken_on (error_of c) new ≡ record new { broken = Some c } =
+      broken-socket c new (is_retry c) (is_break c) (is_denial c) ∙ ap (λ (x : Option IoCause). record new { broken = x }) (ap (λ (x : Option IoCause). first_cause x c) k ∙ first-is c (breaks || has_moved m)) in
+      let failed : Fails event old true (error_of c) (record new { broken = Some c }) =
+      fault c (m then refused c) b
+      (record { below = t.below; moved = t.moved; handed = t.handed; taken = t.taken; retries = t.retries; failures = t.failures; budget = t.budget })
+      (spends old.budget m (is_retry c) f most) (rw (refused-taken m c (is_retry c)) few) refl y in
+      subst (λ (x : State L H). Fails event old true (error_of c) x) (sym after) failed

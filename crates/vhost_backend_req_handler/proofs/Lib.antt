@@ -1,0 +1,12 @@
+pub mod Failing
+pub mod Faults
+pub mod Splitting
+pub mod Reading
+pub mod Tables
+pub mod Flags
+pub mod RingHandles
+pub mod Areas
+pub mod Channels
+pub mod Telling
+pub mod Arms
+pub mod Handling

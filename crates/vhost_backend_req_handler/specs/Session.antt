@@ -1,0 +1,7 @@
+-- Sessions of the code, as the definitions see them.
+use Rattle.vhost_protocol.specs.Session.{Session}
+use Rattle.vhost_backend_req_handler.specs.declared.session.Session as handler
+
+-- a handler's session
+abbrev pub session_of : handler.Session → Session
+session_of s = record { offered = s.offered; acked = s.acked; acked_p = s.acked_p; postcopy = s.postcopy; failed = s.failed }

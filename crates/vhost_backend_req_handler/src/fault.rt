@@ -1,0 +1,22 @@
+//! A fault between a request and the end of its answer.
+
+ghost use Rattle.std.specs.Prelude.{◌≡◌};
+ghost use Rattle.vhost_connection.specs.State.{state};
+ghost use Rattle.vhost_backend_req_handler.specs.Hearing.{broken_on};
+
+use vhost_connection::Endpoint;
+use vhost_link::Link;
+use vhost_message::{Error, MsgHeader};
+
+/// Breaks the endpoint where a call between a request and the end of its answer met a fault of the link.
+pub fn break_on_fault<M: MsgHeader, L: Link>(end: &mut Endpoint<M, L>, error: &Error)
+    ensures { state end.new ≡ broken_on error.now (state end.old) }
+{
+    match error {
+        Error::SocketRetry(cause) => end.break_with(*cause),
+        Error::SocketBroken(cause) => end.break_with(*cause),
+        Error::SocketConnect(cause) => end.break_with(*cause),
+        Error::SocketError(cause) => end.break_with(*cause),
+        _ => {}
+    }
+}

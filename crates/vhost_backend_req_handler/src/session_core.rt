@@ -1,0 +1,195 @@
+//! The session of a handler over any link.
+
+ghost use Rattle.std.specs.Prelude.{◌≡◌, ◌≤◌, ◌^◌, Some, None, Ok, Err, ℕ, ℤ, IfOk, IfErr, length, map, List, ⊤};
+ghost use Rattle.vhost_message.specs.declared.cause.IoCause.TheVariants.{Raw};
+ghost use Rattle.vhost_message.specs.declared.error.Error.TheVariants.{SocketBroken, OutOfMemory};
+ghost use Rattle.vhost_message.specs.declared.frontend_req.FrontendReq.{FrontendReq};
+ghost use Rattle.vhost_protocol.specs.Session.{fresh as new_session};
+ghost use Rattle.vhost_protocol.specs.Split.{Message};
+
+use crate::request::{Request, are_wanted, keep};
+use crate::session::Session;
+use std::alloc::Global;
+use vhost_connection::Endpoint;
+use vhost_device::VhostUserBackendReqHandlerMut;
+use vhost_link::Link;
+use vhost_message::{Error, FrontendReq, IoCause, Result, VhostUserMsgHeader};
+
+mod channels;
+mod checks;
+mod config;
+mod features;
+mod inflight;
+mod log;
+mod memory;
+mod ownership;
+mod postcopy;
+mod replies;
+mod ring_handles;
+mod rings;
+mod shared;
+mod transfer;
+
+type Header = VhostUserMsgHeader<FrontendReq>;
+
+/// A handler's session over a link, without its device.
+///
+/// Mirrors `vhost::vhost_user::BackendReqHandler`, which holds its device behind a lock.
+#[derive(Drop)]
+pub struct SessionCore<L: Link> {
+    end: Endpoint<Header, L>,
+    session: Session,
+    /// The body of the request that is served lies at its front.
+    body: [u8; 4096],
+    /// For the channels that a frontend opens.
+    budget: u32,
+    alloc: Global,
+}
+
+impl<L: Link> SessionCore<L> {
+    ghost use Rattle.vhost_connection.specs.State.{fresh};
+    ghost use Rattle.vhost_backend_req_handler.specs.Core.{end_of, session_in, MeetsRowWith};
+    ghost use Rattle.vhost_backend_req_handler.specs.Opening.{OpensAs};
+    ghost use Rattle.vhost_backend_req_handler.specs.Serving.{HandlesOne, ReadsRequest};
+
+    /// A new session over a link. A message may take so many retries.
+    ///
+    /// OutOfMemory: a growth was refused.
+    pub fn new(alloc: Global, link: L, budget: u32) -> Result<Self>
+        ensures end { IfOk result (λ c. end_of c ≡ fresh link budget) }
+        ensures session { IfOk result (λ c. session_in c ≡ new_session) }
+        ensures memory { IfErr result (λ e. e ≡ OutOfMemory) }
+    {
+        Ok(SessionCore {
+            end: Endpoint::from_stream(alloc, link, budget)?,
+            session: Session::new(),
+            body: [0; 4096],
+            budget,
+            alloc,
+        })
+    }
+
+    /// Whether the last call that sent or received met a fault: the link failed, or retried once too often.
+    pub fn faulted(&self) -> bool
+        ensures { result ≡ (end_of self.now).faulted }
+    {
+        self.end.faulted()
+    }
+
+    /// Marks the session as failed with the number of a system's error, also with 0: from now on each request is
+    /// answered `SocketBroken` with that number, and nothing is read.
+    pub fn set_failed(&mut self, number: i32)
+        ensures end { end_of self.new ≡ end_of self.old }
+        ensures session { session_in self.new ≡ record (session_in self.old) { failed = Some number } }
+    {
+        let session = &mut self.session;
+        session.failed = Some(number);
+    }
+
+    /// Reads one request and serves it.
+    ///
+    /// SocketBroken: the session is marked as failed, and nothing was read; or the endpoint is broken.
+    /// Disconnected: the stream ended between two requests. PartialMessage: it ended in a header.
+    /// InvalidMessage: the message is malformed, or its request is not served. OutOfMemory: the endpoint had given its
+    /// list of handles away, and no memory for another was found; nothing was read. Other errors are those of the
+    /// request's row, and those of the link, which break the endpoint once a byte of the request has moved.
+    pub fn handle_request<D: VhostUserBackendReqHandlerMut<Link = L>>(
+        &mut self,
+        device: &mut D,
+    ) -> Result<()>
+        ensures failed { (n : ℤ) → (session_in self.old).failed ≡ Some n
+            → (result ≡ Err (SocketBroken (Raw n))) × (end_of self.new ≡ end_of self.old) × (session_in self.new ≡ session_in self.old) × (device.new ≡ device.old) }
+        ensures handled { (session_in self.old).failed ≡ None
+            → HandlesOne L.event D.gives (λ h o. OpensAs L.opens L.Handle.kinds h o) (λ h o. OpensAs L.opens L.Handle.kinds h o) (end_of self.old) (session_in self.old) device.old result (end_of self.new) (session_in self.new) device.new }
+    {
+        if let Some(number) = self.session.failed {
+            return Err(Error::SocketBroken(IoCause::Raw(number)));
+        }
+        self.end.make_list()?;
+        let (request, handles) = self.read_request()?;
+        self.answer(device, request, handles)
+    }
+
+    /// Reads one request: its header and handles, and its body whole, however it is cut.
+    fn read_request(&mut self) -> Result<(Request, Option<Vec<L::Handle>>)>
+        ensures request { ReadsRequest L.event (end_of self.old) result self.new.body (end_of self.new) }
+        ensures session { self.new.session ≡ self.old.session }
+    {
+        let (header, handles) = self.end.recv_header()?;
+        let code = header.get_code()?;
+        if !are_wanted(code, &handles) {
+            return Err(Error::InvalidMessage);
+        }
+        let size = header.get_size() as usize;
+        let (len, bytes) = self.end.recv_data(size)?;
+        if len < size {
+            return Err(Error::InvalidMessage);
+        }
+        keep(&mut self.body[..], bytes);
+        let request = Request {
+            code,
+            reply: header.is_reply(),
+            need_reply: header.is_need_reply(),
+            len,
+        };
+        Ok((request, handles))
+    }
+
+    /// Answers a request that was read: the row of its code.
+    #[tactic(auto, using(crate::proofs::Arms::refused))]
+    fn answer<D: VhostUserBackendReqHandlerMut<Link = L>>(
+        &mut self,
+        device: &mut D,
+        request: Request,
+        handles: Option<Vec<L::Handle>>,
+    ) -> Result<()>
+        ensures { MeetsRowWith L.event L.opens L.Handle.kinds D.gives request.code self.old device.old request handles result self.new device.new }
+    {
+        match request.code {
+            FrontendReq::GET_FEATURES => self.get_features(device, request),
+            FrontendReq::SET_FEATURES => self.set_features(device, request),
+            FrontendReq::SET_OWNER => self.set_owner(device, request),
+            FrontendReq::RESET_OWNER => self.reset_owner(device, request),
+            FrontendReq::SET_MEM_TABLE => self.set_mem_table(device, request, handles),
+            FrontendReq::SET_LOG_BASE => self.set_log_base(device, request, handles),
+            FrontendReq::SET_VRING_NUM => self.set_vring_num(device, request),
+            FrontendReq::SET_VRING_ADDR => self.set_vring_addr(device, request),
+            FrontendReq::SET_VRING_BASE => self.set_vring_base(device, request),
+            FrontendReq::GET_VRING_BASE => self.get_vring_base(device, request),
+            FrontendReq::SET_VRING_KICK => self.set_vring_kick(device, request, handles),
+            FrontendReq::SET_VRING_CALL => self.set_vring_call(device, request, handles),
+            FrontendReq::SET_VRING_ERR => self.set_vring_err(device, request, handles),
+            FrontendReq::GET_PROTOCOL_FEATURES => self.get_protocol_features(device, request),
+            FrontendReq::SET_PROTOCOL_FEATURES => self.set_protocol_features(device, request),
+            FrontendReq::GET_QUEUE_NUM => self.get_queue_num(device, request),
+            FrontendReq::SET_VRING_ENABLE => self.set_vring_enable(device, request),
+            FrontendReq::GET_CONFIG => self.get_config(device, request),
+            FrontendReq::SET_CONFIG => self.set_config(device, request),
+            FrontendReq::POSTCOPY_ADVISE => self.postcopy_advise(device, request),
+            FrontendReq::POSTCOPY_LISTEN => self.postcopy_listen(device, request),
+            FrontendReq::POSTCOPY_END => self.postcopy_end(device, request),
+            FrontendReq::GET_INFLIGHT_FD => self.get_inflight_fd(device, request),
+            FrontendReq::SET_INFLIGHT_FD => self.set_inflight_fd(device, request, handles),
+            FrontendReq::SET_BACKEND_REQ_FD => self.set_backend_req_fd(device, request, handles),
+            FrontendReq::GPU_SET_SOCKET => self.gpu_set_socket(device, request, handles),
+            FrontendReq::RESET_DEVICE => self.reset_device(device, request),
+            FrontendReq::GET_MAX_MEM_SLOTS => self.get_max_mem_slots(device, request),
+            FrontendReq::ADD_MEM_REG => self.add_mem_reg(device, request, handles),
+            FrontendReq::REM_MEM_REG => self.rem_mem_reg(device, request),
+            FrontendReq::GET_SHARED_OBJECT => self.get_shared_object(device, request),
+            FrontendReq::SET_DEVICE_STATE_FD => self.set_device_state_fd(device, request, handles),
+            FrontendReq::CHECK_DEVICE_STATE => self.check_device_state(device, request),
+            FrontendReq::GET_SHMEM_CONFIG => self.get_shmem_config(device, request),
+            FrontendReq::SET_LOG_FD
+            | FrontendReq::SEND_RARP
+            | FrontendReq::NET_SET_MTU
+            | FrontendReq::IOTLB_MSG
+            | FrontendReq::SET_VRING_ENDIAN
+            | FrontendReq::CREATE_CRYPTO_SESSION
+            | FrontendReq::CLOSE_CRYPTO_SESSION
+            | FrontendReq::VRING_KICK
+            | FrontendReq::SET_STATUS
+            | FrontendReq::GET_STATUS => Err(Error::InvalidMessage),
+        }
+    }
+}

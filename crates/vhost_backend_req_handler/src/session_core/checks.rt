@@ -1,0 +1,142 @@
+//! The tests that rows have in common.
+
+ghost use Rattle.std.specs.Prelude.{◌≡◌, ◌≤◌, ◌^◌, ◌==◌, ℕ, List, Option, IfOk, true, ok_or, nat_le};
+ghost use Rattle.vhost_message.specs.declared.frontend_req.FrontendReq.{FrontendReq};
+ghost use Rattle.vhost_protocol.specs.Split.{Message};
+ghost use Rattle.vhost_protocol.specs.Error.{FrontendInternalError, InactiveFeature, InvalidMessage, InvalidOperation, InvalidParam, seen};
+ghost use Rattle.vhost_protocol.specs.Row as row;
+ghost use Rattle.vhost_protocol.specs.Step.{Refusal, silently, test};
+ghost use Rattle.vhost_message.specs.Bits.{has_bit};
+ghost use Rattle.vhost_connection.specs.Calls.{HandsOver};
+
+use crate::request::Request;
+use crate::session_core::SessionCore;
+use bitflags::Flags;
+use vhost_link::Link;
+use vhost_message::{
+    Error, Result, VhostUserMsgValidator, VhostUserProtocolFeatures, VhostUserU64,
+    VhostUserVirtioFeatures,
+};
+
+impl<L: Link> SessionCore<L> {
+    ghost use Rattle.vhost_backend_req_handler.specs.Core.{session_in};
+    ghost use Rattle.vhost_backend_req_handler.specs.Serving.{Reads, tested};
+
+    /// InvalidMessage: the body has another size, or the message is a reply.
+    pub(crate) fn bare(&self, request: Request, size: usize) -> Result<()>
+        ensures { (m : Message FrontendReq L.Handle) → Reads self.now.body request m → row.bare size m ≡ tested result }
+    {
+        if !request.is_bare(size) {
+            return Err(Error::InvalidMessage);
+        }
+        Ok(())
+    }
+
+    /// The one record that the body is. InvalidMessage: it is not that long, not valid, or the message is a reply.
+    pub(crate) fn record<T: VhostUserMsgValidator + Drop>(&self, request: Request) -> Result<T>
+        requires { T.SIZE ≤ 4096 }
+        ensures row { (m : Message FrontendReq L.Handle) → Reads self.now.body request m → row.body T.SIZE T.read T.valid m ≡ tested result }
+        ensures valid { IfOk result (λ r. T.valid r ≡ true) }
+    {
+        if !request.is_bare(T::SIZE) {
+            return Err(Error::InvalidMessage);
+        }
+        let record = T::decode(&self.body[..T::SIZE]);
+        if !record.is_valid() {
+            return Err(Error::InvalidMessage);
+        }
+        Ok(record)
+    }
+
+    /// The one number that the body is. InvalidMessage: it is not that long, or the message is a reply.
+    pub(crate) fn number(&self, request: Request) -> Result<u64>
+        ensures { (m : Message FrontendReq L.Handle) → Reads self.now.body request m → row.u64 m ≡ tested result }
+    {
+        let number: VhostUserU64 = self.record(request)?;
+        Ok(number.value)
+    }
+
+    /// InactiveOperation: the protocol feature is not acknowledged.
+    pub(crate) fn operation(&self, feature: VhostUserProtocolFeatures) -> Result<()>
+        ensures { (bit : ℕ) → feature.bits ≡ 2 ^ bit → row.operation {H = L.Handle} (session_in self.now) bit ≡ tested result }
+    {
+        if self.session.acked_p & feature.bits() == 0 {
+            return Err(Error::InactiveOperation(feature));
+        }
+        Ok(())
+    }
+
+    /// InactiveFeature: the virtio feature is not acknowledged.
+    pub(crate) fn feature(&self, feature: VhostUserVirtioFeatures) -> Result<()>
+        ensures { (bit : ℕ) → feature.bits ≡ 2 ^ bit → test {H = L.Handle} (has_bit (session_in self.now).acked bit) (silently (InactiveFeature (2 ^ bit))) ≡ tested result }
+    {
+        if self.session.acked & feature.bits() == 0 {
+            return Err(Error::InactiveFeature(feature));
+        }
+        Ok(())
+    }
+
+    /// InvalidParam: the number of a switch is neither 0 nor 1.
+    pub(crate) fn switch(&self, num: u32) -> Result<()>
+        ensures { test {H = L.Handle} (nat_le num 1) (silently InvalidParam) ≡ tested result }
+    {
+        if num > 1 {
+            return Err(Error::InvalidParam);
+        }
+        Ok(())
+    }
+
+    /// FrontendInternalError: the number is not 0.
+    pub(crate) fn zero(&self, number: u64) -> Result<()>
+        ensures { test {H = L.Handle} (number == 0) (silently FrontendInternalError) ≡ tested result }
+    {
+        if number != 0 {
+            return Err(Error::FrontendInternalError);
+        }
+        Ok(())
+    }
+
+    /// InvalidMessage: the message is not valid.
+    pub(crate) fn valid(&self, valid: bool) -> Result<()>
+        ensures { test {H = L.Handle} valid (silently InvalidMessage) ≡ tested result }
+    {
+        if !valid {
+            return Err(Error::InvalidMessage);
+        }
+        Ok(())
+    }
+
+    /// InvalidOperation with this reason: postcopy is in another state than that.
+    pub(crate) fn allowed(&self, allowed: bool, reason: &'static str) -> Result<()>
+        ensures { test {H = L.Handle} allowed (silently (InvalidOperation reason.now)) ≡ tested result }
+    {
+        if !allowed {
+            return Err(Error::InvalidOperation(reason));
+        }
+        Ok(())
+    }
+
+    /// The one handle of a message, or this error where it has none or several.
+    pub(crate) fn one_handle(
+        &self,
+        handles: Option<Vec<L::Handle>>,
+        error: Error,
+    ) -> Result<L::Handle>
+        ensures { (hs : List L.Handle) → HandsOver handles hs → row.only (silently {H = L.Handle} (seen error)) hs ≡ tested result }
+    {
+        only(handles).ok_or(error)
+    }
+}
+
+/// The one handle of a message, where it has exactly one.
+pub(crate) fn only<H: Drop>(handles: Option<Vec<H>>) -> Option<H>
+    ensures { (hs : List H) → HandsOver handles hs → (refusal : Refusal H) → row.only refusal hs ≡ ok_or result refusal }
+{
+    let mut handles = handles?;
+    let handle = handles.pop()?;
+    if handles.is_empty() {
+        Some(handle)
+    } else {
+        None
+    }
+}

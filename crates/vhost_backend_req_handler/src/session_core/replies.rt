@@ -1,0 +1,97 @@
+//! What goes back to the frontend.
+
+ghost use Rattle.std.specs.Prelude.{◌≡◌, ◌≤◌, ◌+◌, ◌++◌, [], length, map, Ok, is_ok, if◌then◌else◌};
+ghost use Rattle.vhost_message.specs.declared.frontend_req.FrontendReq.{FrontendReq};
+ghost use Rattle.vhost_protocol.specs.Error.{seen_result};
+ghost use Rattle.vhost_protocol.specs.Served.{Replied};
+ghost use Rattle.vhost_protocol.specs.Split.{Message};
+ghost use Rattle.vhost_protocol.specs.Step.{acked};
+ghost use Rattle.vhost_protocol.specs.Written.{Payload, payload_text};
+
+use crate::fault::break_on_fault;
+use crate::request::Request;
+use crate::session_core::{Header, SessionCore};
+use vhost_link::Link;
+use vhost_message::{ByteValued, Result, VhostUserU64};
+
+/// The flag of a reply.
+const REPLY: u32 = 4;
+
+/// The body of an acknowledgement: 0 for success, else 1.
+fn ack_body(answer: &Result<()>) -> VhostUserU64
+    ensures { result ≡ record { value = if is_ok (seen_result answer.now) then 0 else 1 } }
+{
+    match answer {
+        Ok(()) => VhostUserU64::new(0),
+        Err(_) => VhostUserU64::new(1),
+    }
+}
+
+impl<L: Link> SessionCore<L> {
+    ghost use Rattle.vhost_backend_req_handler.specs.Core.{end_of, session_in};
+    ghost use Rattle.vhost_backend_req_handler.specs.Serving.{Reads, IsReady, Tells, told};
+
+    /// Acknowledges a request that asks for it where acknowledgements are on, and answers the device's result.
+    pub(crate) fn send_ack(&mut self, request: Request, answer: Result<()>) -> Result<()>
+        ensures told { (r : FrontendReq) (m : Message FrontendReq L.Handle) → Reads self.old.body request m → request.code ≡ r → IsReady (end_of self.old)
+            → let outcome = acked (session_in self.old) m (seen_result answer) in Tells L.event (end_of self.old) (told r outcome.served) outcome.answer result (end_of self.new) }
+        ensures session { self.new.session ≡ self.old.session }
+    {
+        if !self.session.acknowledges(request.need_reply) {
+            return answer;
+        }
+        self.send_reply(request, &ack_body(&answer), &[])?;
+        answer
+    }
+
+    /// Replies to a request, with the handles on the first byte. A fault here is one between a request and the end of
+    /// its answer: it breaks the endpoint.
+    pub(crate) fn send_reply<T: ByteValued>(
+        &mut self,
+        request: Request,
+        body: &T,
+        handles: &[&L::Handle],
+    ) -> Result<()>
+        requires size { T.SIZE ≤ 4096 }
+        requires handles { length handles.now ≤ 32 }
+        ensures told { (r : FrontendReq) (payload : Payload) → request.code ≡ r → IsReady (end_of self.old) → T.text body.now ≡ payload_text payload → length (payload_text payload) ≡ T.SIZE
+            → Tells L.event (end_of self.old) (told r (Replied payload (map (λ h. h.now) handles.now))) (Ok tt) result (end_of self.new) }
+        ensures session { self.new.session ≡ self.old.session }
+        ensures fits { T.fits body.now }
+    {
+        let header = Header::new(request.code, REPLY, T::SIZE as u32);
+        match self.end.send_message(&header, body, handles) {
+            Ok(()) => Ok(()),
+            Err(error) => {
+                break_on_fault(&mut self.end, &error);
+                Err(error)
+            }
+        }
+    }
+
+    /// Replies with a record and the bytes behind it.
+    pub(crate) fn send_reply_with<T: ByteValued>(
+        &mut self,
+        request: Request,
+        body: &T,
+        payload: &[u8],
+    ) -> Result<()>
+        requires size { T.SIZE + length payload.now ≤ 4096 }
+        ensures told { (r : FrontendReq) (whole : Payload) → request.code ≡ r → IsReady (end_of self.old) → T.text body.now ++ payload.now ≡ payload_text whole → length (payload_text whole) ≡ T.SIZE + length payload.now
+            → Tells L.event (end_of self.old) (told r (Replied whole [])) (Ok tt) result (end_of self.new) }
+        ensures session { self.new.session ≡ self.old.session }
+        ensures fits { T.fits body.now }
+    {
+        let header = Header::new(request.code, REPLY, (T::SIZE + payload.len()) as u32);
+        let sent = self
+            .end
+            .send_message_with_payload(&header, body, payload, &[]);
+        match sent {
+            Ok(()) => Ok(()),
+            Err(error) => {
+                break_on_fault(&mut self.end, &error);
+                Err(error)
+            }
+        }
+    }
+}
