@@ -1,8 +1,6 @@
 //! Endpoints: whole messages over a link.
 
-ghost use Rattle.std.specs.Prelude.{◌≡◌, ◌≢◌, ◌+◌, ◌++◌, ◌<◌, ◌≤◌, ◌^◌, [], length, take, map, min, vec_capacity, IfOk, IfErr};
-ghost use Rattle.vhost_protocol.specs.Stream.{carrying};
-ghost use Rattle.vhost_connection.specs.Pass.{joined};
+ghost use Rattle.std.specs.Prelude.{◌≡◌, ◌≢◌, IfOk, IfErr};
 
 mod receives;
 mod sends;
@@ -45,15 +43,12 @@ pub struct Endpoint<M, L: Link> {
 }
 
 impl<M: MsgHeader, L: Link> Endpoint<M, L> {
-    ghost use Rattle.std.specs.Prelude.{if◌then◌else◌, None, true, false, is_some};
+    ghost use Rattle.std.specs.Prelude.{if◌then◌else◌, None, true, false};
     ghost use Rattle.std.specs.Borrow.{sem, Lends};
     ghost use Rattle.vhost_connection.specs.contracts.endpoint.Endpoint.{the_row};
-    ghost use Rattle.vhost_connection.specs.Lending.{Leaves};
     ghost use Rattle.vhost_message.specs.Cause.{error_of};
-    ghost use Rattle.vhost_message.specs.declared.error.Error.TheVariants.{OversizedMsg, IncorrectFds, OutOfMemory};
-    ghost use Rattle.vhost_connection.specs.Talk.{Refuses, IsBroken};
-    ghost use Rattle.vhost_connection.specs.Calls.{Sends, SendsAll, SendsOnce, ReadsHeader, ReadsData, ReadsBody, ReadsInto, ReadsPayload, ReadsOnce, HandsOver};
-    ghost use Rattle.vhost_connection.specs.Front.{ReadsFront, ReadsParts, ReadsCount, ReadsCountOnce, gives};
+    ghost use Rattle.vhost_message.specs.declared.error.Error.TheVariants.{OutOfMemory};
+    ghost use Rattle.vhost_connection.specs.Talk.{IsBroken};
     ghost use Rattle.vhost_connection.specs.State.{state, fresh, first_cause, with_link};
 
     /// An endpoint over a link, with a budget of retries for each message.

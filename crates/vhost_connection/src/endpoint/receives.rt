@@ -1,8 +1,6 @@
 //! What an endpoint receives.
 
-ghost use Rattle.std.specs.Prelude.{◌≡◌, ◌≢◌, ◌+◌, ◌++◌, ◌<◌, ◌≤◌, ◌^◌, [], length, take, map, min, vec_capacity, IfOk, IfErr};
-ghost use Rattle.vhost_protocol.specs.Stream.{carrying};
-ghost use Rattle.vhost_connection.specs.Pass.{joined};
+ghost use Rattle.std.specs.Prelude.{◌≡◌, ◌≢◌, ◌+◌, ◌<◌, ◌≤◌, length, vec_capacity, IfOk, IfErr};
 
 use crate::endpoint::{Endpoint, MAX_BODY};
 use crate::list::{Front, HandleList, take_list};
@@ -11,16 +9,15 @@ use vhost_link::Link;
 use vhost_message::{Error, MsgHeader, Result, VhostUserMsgValidator};
 
 impl<M: MsgHeader, L: Link> Endpoint<M, L> {
-    ghost use Rattle.std.specs.Prelude.{if◌then◌else◌, None, true, false, is_some};
-    ghost use Rattle.std.specs.Borrow.{sem, Lends};
+    ghost use Rattle.std.specs.Prelude.{None, true};
+    ghost use Rattle.std.specs.Borrow.{sem};
     ghost use Rattle.vhost_connection.specs.contracts.endpoint.Endpoint.{the_row};
     ghost use Rattle.vhost_connection.specs.Lending.{Leaves};
-    ghost use Rattle.vhost_message.specs.Cause.{error_of};
-    ghost use Rattle.vhost_message.specs.declared.error.Error.TheVariants.{OversizedMsg, IncorrectFds, OutOfMemory};
-    ghost use Rattle.vhost_connection.specs.Talk.{Refuses, IsBroken};
-    ghost use Rattle.vhost_connection.specs.Calls.{Sends, SendsAll, SendsOnce, ReadsHeader, ReadsData, ReadsBody, ReadsInto, ReadsPayload, ReadsOnce, HandsOver};
+    ghost use Rattle.vhost_message.specs.declared.error.Error.TheVariants.{OversizedMsg, OutOfMemory};
+    ghost use Rattle.vhost_connection.specs.Talk.{Refuses};
+    ghost use Rattle.vhost_connection.specs.Calls.{ReadsHeader, ReadsData, ReadsBody, ReadsInto, ReadsPayload, ReadsOnce, HandsOver};
     ghost use Rattle.vhost_connection.specs.Front.{ReadsFront, ReadsParts, ReadsCount, ReadsCountOnce, gives};
-    ghost use Rattle.vhost_connection.specs.State.{state, fresh, first_cause, with_link};
+    ghost use Rattle.vhost_connection.specs.State.{state};
 
     /// Receives a header, with the handles of its first byte.
     ///

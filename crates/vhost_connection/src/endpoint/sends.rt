@@ -1,6 +1,6 @@
 //! What an endpoint sends.
 
-ghost use Rattle.std.specs.Prelude.{◌≡◌, ◌≢◌, ◌+◌, ◌++◌, ◌<◌, ◌≤◌, ◌^◌, [], length, take, map, min, vec_capacity, IfOk, IfErr};
+ghost use Rattle.std.specs.Prelude.{◌≡◌, ◌≢◌, ◌+◌, ◌++◌, ◌<◌, ◌≤◌, ◌^◌, [], length, take, map, min, IfErr};
 ghost use Rattle.vhost_protocol.specs.Stream.{carrying};
 ghost use Rattle.vhost_connection.specs.Pass.{joined};
 
@@ -23,16 +23,10 @@ fn put<M: ByteValued, T: ByteValued>(out: &mut [u8], header: &M, body: &T)
 }
 
 impl<M: MsgHeader, L: Link> Endpoint<M, L> {
-    ghost use Rattle.std.specs.Prelude.{if◌then◌else◌, None, true, false, is_some};
-    ghost use Rattle.std.specs.Borrow.{sem, Lends};
-    ghost use Rattle.vhost_connection.specs.contracts.endpoint.Endpoint.{the_row};
-    ghost use Rattle.vhost_connection.specs.Lending.{Leaves};
-    ghost use Rattle.vhost_message.specs.Cause.{error_of};
     ghost use Rattle.vhost_message.specs.declared.error.Error.TheVariants.{OversizedMsg, IncorrectFds, OutOfMemory};
-    ghost use Rattle.vhost_connection.specs.Talk.{Refuses, IsBroken};
-    ghost use Rattle.vhost_connection.specs.Calls.{Sends, SendsAll, SendsOnce, ReadsHeader, ReadsData, ReadsBody, ReadsInto, ReadsPayload, ReadsOnce, HandsOver};
-    ghost use Rattle.vhost_connection.specs.Front.{ReadsFront, ReadsParts, ReadsCount, ReadsCountOnce, gives};
-    ghost use Rattle.vhost_connection.specs.State.{state, fresh, first_cause, with_link};
+    ghost use Rattle.vhost_connection.specs.Talk.{Refuses};
+    ghost use Rattle.vhost_connection.specs.Calls.{Sends, SendsAll, SendsOnce};
+    ghost use Rattle.vhost_connection.specs.State.{state};
 
     /// Sends a header, with the handles on its first byte.
     ///
