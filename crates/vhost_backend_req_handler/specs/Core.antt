@@ -4,6 +4,7 @@ use Rattle.std.specs.Global.{Global}
 use Rattle.vhost_message.specs.declared.cause.IoCause.{IoCause}
 use Rattle.vhost_message.specs.declared.error.Error as declared
 use Rattle.vhost_message.specs.declared.frontend_req.FrontendReq.{FrontendReq}
+use Rattle.vhost_message.specs.declared.header.VhostUserMsgHeader.{VhostUserMsgHeader}
 use Rattle.vhost_protocol.specs.DeviceCall.{Call, Answer}
 use Rattle.vhost_protocol.specs.Row.{row_of}
 use Rattle.vhost_protocol.specs.Session.{Session}
@@ -11,6 +12,7 @@ use Rattle.vhost_protocol.specs.Split.{Message}
 use Rattle.vhost_protocol.specs.Step.{Step}
 use Rattle.vhost_link.specs.Law.{Event}
 use Rattle.vhost_link.specs.declared.handle.Kind.{Kind}
+use Rattle.vhost_connection.specs.declared.endpoint.Endpoint.{Endpoint}
 use Rattle.vhost_connection.specs.State.{state}
 use Rattle.vhost_connection.specs.Talk.{State}
 use Rattle.vhost_connection.specs.Calls.{HandsOver}
@@ -27,6 +29,10 @@ end_of c = state c.end
 -- its session
 abbrev pub session_in : {L H : Type 0} → SessionCore L H → Session
 session_in c = session_of c.session
+
+-- a session over another endpoint
+abbrev pub with_end : {L H : Type 0} → SessionCore L H → Endpoint (VhostUserMsgHeader FrontendReq) L H → SessionCore L H
+with_end c end = record c { end = end }
 
 module _ {L H B G Dev : Type 0} (event : L → Event H → L → Type 0) (opens : L → H → Result L IoCause → Type 0) (kinds : H → Result Kind IoCause → Type 0)
     (gives : Dev → (c : Call H B G) → Answer c → Dev → Type 0) where

@@ -2,9 +2,11 @@
 #![tactic(auto)]
 
 mod fault;
+mod handler;
 mod regions;
 mod request;
 mod session;
 mod session_core;
 
+pub use handler::BackendReqHandler;
 pub use session_core::SessionCore;

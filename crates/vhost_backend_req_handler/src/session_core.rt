@@ -47,9 +47,16 @@ pub struct SessionCore<L: Link> {
 }
 
 impl<L: Link> SessionCore<L> {
-    ghost use Rattle.vhost_connection.specs.State.{fresh};
+    ghost use Rattle.vhost_connection.specs.State.{fresh, state};
     ghost use Rattle.vhost_backend_req_handler.specs.Core.{end_of, session_in, MeetsRowWith};
+    ghost use Rattle.std.specs.Borrow.{sem, Lends};
+    ghost use Rattle.vhost_backend_req_handler.specs.Core.{with_end};
+    ghost use Rattle.vhost_backend_req_handler.specs.contracts.session_core.SessionCore.{the_row};
+    ghost use Rattle.vhost_connection.specs.contracts.endpoint.Endpoint.{the_row as endpoint_row};
+    ghost use Rattle.vhost_message.specs.contracts.header.VhostUserMsgHeader.{the_row as header_row};
+    ghost use Rattle.vhost_message.specs.contracts.frontend_req.FrontendReq.{the_row as code_row};
     ghost use Rattle.vhost_backend_req_handler.specs.Opening.{OpensAs};
+    ghost use Rattle.vhost_backend_req_handler.specs.Running.{Runs};
     ghost use Rattle.vhost_backend_req_handler.specs.Serving.{HandlesOne, ReadsRequest};
 
     /// A new session over a link. A message may take so many retries.
@@ -108,6 +115,37 @@ impl<L: Link> SessionCore<L> {
         self.end.make_list()?;
         let (request, handles) = self.read_request()?;
         self.answer(device, request, handles)
+    }
+
+    /// Reads and serves so many requests, one after another, and appends their answers to `out`. A failed session is
+    /// asked as often.
+    ///
+    /// OutOfMemory: `out` could not grow; nothing was read.
+    pub fn run<D: VhostUserBackendReqHandlerMut<Link = L>>(
+        &mut self,
+        count: usize,
+        device: &mut D,
+        out: &mut Vec<Result<()>>,
+    ) -> Result<()>
+        ensures run { IfOk result (λ _. Runs L.event D.gives (λ h o. OpensAs L.opens L.Handle.kinds h o) (λ h o. OpensAs L.opens L.Handle.kinds h o) (end_of self.old) (session_in self.old) device.old count out.old.items out.new.items (end_of self.new) (session_in self.new) device.new) }
+        ensures memory { IfErr result (λ e. (e ≡ OutOfMemory) × (end_of self.new ≡ end_of self.old) × (session_in self.new ≡ session_in self.old) × (device.new ≡ device.old) × (out.new.items ≡ out.old.items)) }
+    {
+        if out.reserve(count).is_err() {
+            return Err(Error::OutOfMemory);
+        }
+        'calls: for _ in 0..count {
+            let answer = self.handle_request(device);
+            out.push_reserved(answer);
+        }
+        Ok(())
+    }
+
+    /// Lends its endpoint.
+    pub fn end(&mut self) -> &mut Endpoint<Header, L>
+        ensures* lender { sem 𝓛 (Lends (the_row L.row L.Handle.row) (endpoint_row (header_row code_row) L.row L.Handle.row) self.entry result (λ e. with_end self.old e)) }
+        ensures value { state result.now ≡ end_of self.old }
+    {
+        &mut self.end
     }
 
     /// Reads one request: its header and handles, and its body whole, however it is cut.

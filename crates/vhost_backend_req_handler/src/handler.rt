@@ -1,0 +1,49 @@
+//! Serving a frontend with a device that others may share.
+
+ghost use Rattle.std.specs.Prelude.{◌≡◌, IfErr};
+ghost use Rattle.vhost_message.specs.declared.error.Error.TheVariants.{OutOfMemory};
+
+use crate::session_core::SessionCore;
+use std::alloc::Global;
+use std::sync::{Arc, Wait};
+use vhost_device::{Served, VhostUserBackendReqHandler};
+use vhost_link::Link;
+use vhost_message::Result;
+
+/// The backend's side of a connection, and its device, which others may share.
+///
+/// Mirrors `vhost::vhost_user::BackendReqHandler`.
+#[derive(Drop)]
+pub struct BackendReqHandler<L: Link, S> {
+    core: SessionCore<L>,
+    backend: Arc<S, Global>,
+}
+
+impl<L: Link, S: VhostUserBackendReqHandler<Link = L>> BackendReqHandler<L, S> {
+    /// A new session over a link. A message may take so many retries.
+    ///
+    /// OutOfMemory: a growth was refused.
+    pub fn from_stream(alloc: Global, link: L, budget: u32, backend: Arc<S, Global>) -> Result<Self>
+        ensures { IfErr result (λ e. e ≡ OutOfMemory) }
+    {
+        Ok(BackendReqHandler {
+            core: SessionCore::new(alloc, link, budget)?,
+            backend,
+        })
+    }
+
+    /// Marks the session as failed with the number of a system's error, also with 0: from now on each request is
+    /// answered `SocketBroken` with that number, and nothing is read.
+    pub fn set_failed(&mut self, error: i32) {
+        self.core.set_failed(error);
+    }
+
+    /// Reads one request and serves it, as [`SessionCore::handle_request`] does. It may wait for the device.
+    pub fn handle_request<R: Wait>(&mut self, rt: &R) -> Result<()> {
+        let mut served = Served {
+            device: &self.backend,
+            rt,
+        };
+        self.core.handle_request(&mut served)
+    }
+}
