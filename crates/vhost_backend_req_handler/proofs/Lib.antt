@@ -11,3 +11,4 @@ pub mod Telling
 pub mod Arms
 pub mod Handling
 pub mod Running
+pub mod Sharing

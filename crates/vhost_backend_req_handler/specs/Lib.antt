@@ -4,3 +4,4 @@ pub mod Hearing
 pub mod Opening
 pub mod Serving
 pub mod Running
+pub mod Sharing

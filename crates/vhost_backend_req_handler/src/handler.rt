@@ -1,6 +1,6 @@
 //! Serving a frontend with a device that others may share.
 
-ghost use Rattle.std.specs.Prelude.{◌≡◌, IfErr};
+ghost use Rattle.std.specs.Prelude.{◌≡◌, IfErr, IfOk, Some};
 ghost use Rattle.vhost_message.specs.declared.error.Error.TheVariants.{OutOfMemory};
 
 use crate::session_core::SessionCore;
@@ -20,11 +20,18 @@ pub struct BackendReqHandler<L: Link, S> {
 }
 
 impl<L: Link, S: VhostUserBackendReqHandler<Link = L>> BackendReqHandler<L, S> {
+    ghost use Rattle.vhost_connection.specs.State.{fresh};
+    ghost use Rattle.vhost_protocol.specs.Session.{fresh as new_session};
+    ghost use Rattle.vhost_backend_req_handler.specs.Core.{end_of, session_in};
+    ghost use Rattle.vhost_backend_req_handler.specs.Sharing.{ServesShared};
+
     /// A new session over a link. A message may take so many retries.
     ///
     /// OutOfMemory: a growth was refused.
     pub fn from_stream(alloc: Global, link: L, budget: u32, backend: Arc<S, Global>) -> Result<Self>
-        ensures { IfErr result (λ e. e ≡ OutOfMemory) }
+        ensures end { IfOk result (λ h. end_of h.core ≡ fresh link budget) }
+        ensures session { IfOk result (λ h. session_in h.core ≡ new_session) }
+        ensures memory { IfErr result (λ e. e ≡ OutOfMemory) }
     {
         Ok(BackendReqHandler {
             core: SessionCore::new(alloc, link, budget)?,
@@ -34,12 +41,17 @@ impl<L: Link, S: VhostUserBackendReqHandler<Link = L>> BackendReqHandler<L, S> {
 
     /// Marks the session as failed with the number of a system's error, also with 0: from now on each request is
     /// answered `SocketBroken` with that number, and nothing is read.
-    pub fn set_failed(&mut self, error: i32) {
+    pub fn set_failed(&mut self, error: i32)
+        ensures end { end_of self.new.core ≡ end_of self.old.core }
+        ensures session { session_in self.new.core ≡ record (session_in self.old.core) { failed = Some error } }
+    {
         self.core.set_failed(error);
     }
 
     /// Reads one request and serves it, as [`SessionCore::handle_request`] does. It may wait for the device.
-    pub fn handle_request<R: Wait>(&mut self, rt: &R) -> Result<()> {
+    pub fn handle_request<R: Wait>(&mut self, rt: &R) -> Result<()>
+        ensures { ServesShared L.event L.opens L.Handle.kinds self.old.core result self.new.core }
+    {
         let mut served = Served {
             device: &self.backend,
             rt,
