@@ -22,13 +22,13 @@ use Rattle.vhost_link.specs.Law.{Event, Move, move, ◌then◌, refused}
 use Rattle.vhost_connection.specs.Pass.{sends, receives}
 use Rattle.vhost_connection.specs.Talk.{State, Talks, has_moved}
 use Rattle.vhost_connection.proofs.Talking.{Talks-then, Talks-as}
-use Rattle.vhost_backend_req_handler.specs.Hearing as hearing
-use Rattle.vhost_backend_req_handler.specs.Hearing.{Hears, Fails, Spends}
+use Rattle.vhost_connection.specs.Hearing as hearing
+use Rattle.vhost_connection.specs.Hearing.{Hears, Fails, Spends}
 use Rattle.vhost_backend_req_handler.specs.Serving as serving
 use Rattle.vhost_backend_req_handler.specs.Serving.{Reads, ReadsRequest, IsReady, Stops, Answered, Interrupted, Answers, Handled, Remains, Breaks, HandlesOne, fitting, told}
 use Rattle.vhost_connection.specs.Calls.{HandsOver}
 use Rattle.vhost_backend_req_handler.specs.declared.request.Request.{Request}
-use Rattle.vhost_backend_req_handler.proofs.Failing.{refused-taken, spends}
+use Rattle.vhost_connection.proofs.Failing.{refused-taken, spends}
 
 -- ---- a call that made its list of handles first
 

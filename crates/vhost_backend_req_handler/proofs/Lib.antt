@@ -1,7 +1,3 @@
-pub mod Failing
-pub mod Faults
-pub mod Splitting
-pub mod Reading
 pub mod Tables
 pub mod Flags
 pub mod RingHandles

@@ -24,11 +24,11 @@ use Rattle.vhost_connection.specs.Talk as talk
 use Rattle.vhost_connection.specs.Talk.{State, Talks, Trouble, has_moved}
 use Rattle.vhost_connection.specs.Calls.{Sends}
 use Rattle.vhost_connection.specs.State.{first_cause}
-use Rattle.vhost_backend_req_handler.specs.Hearing.{broken_on}
+use Rattle.vhost_connection.specs.Hearing.{broken_on}
 use Rattle.vhost_backend_req_handler.specs.Serving as serving
 use Rattle.vhost_backend_req_handler.specs.Serving.{Reads, IsReady, Replies, Stops, Tells, told}
 use Rattle.vhost_backend_req_handler.specs.declared.request.Request.{Request}
-use Rattle.vhost_backend_req_handler.proofs.Failing.{broken-socket, first-is}
+use Rattle.vhost_connection.proofs.Failing.{broken-socket, first-is}
 
 module _ {L H : Type 0} (event : L → Event H → L → Type 0) where
   trouble-stops : (old mid : State L H) (cells : List (Cell H)) (n r : ℕ) (e : Error) → IsReady old → length cells ≤ 4108

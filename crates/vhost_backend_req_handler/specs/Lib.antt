@@ -1,6 +1,5 @@
 pub mod Session
 pub mod Core
-pub mod Hearing
 pub mod Opening
 pub mod Serving
 pub mod Running

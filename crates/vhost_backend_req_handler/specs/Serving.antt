@@ -23,7 +23,7 @@ use Rattle.vhost_connection.specs.Pass.{sends}
 use Rattle.vhost_connection.specs.Talk as endpoint
 use Rattle.vhost_connection.specs.Talk.{State, Talks}
 use Rattle.vhost_connection.specs.Calls.{HandsOver}
-use Rattle.vhost_backend_req_handler.specs.Hearing.{Hears, Fails}
+use Rattle.vhost_connection.specs.Hearing.{Hears, Fails}
 use Rattle.vhost_backend_req_handler.specs.declared.request.Request.{Request}
 
 -- The request in the code's form, with its body at the front of these bytes, is this message.

@@ -1,7 +1,6 @@
 //! Serving a frontend: each request is read whole, tested, and answered by its row of the protocol table.
 #![tactic(auto)]
 
-mod fault;
 mod handler;
 mod regions;
 mod request;

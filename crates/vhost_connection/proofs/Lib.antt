@@ -10,3 +10,6 @@ pub mod Bodies
 pub mod States
 pub mod Errors
 pub mod Once
+pub mod Failing
+pub mod Faults
+pub mod Reading

@@ -4,3 +4,4 @@ pub mod Calls
 pub mod State
 pub mod Front
 pub mod Lending
+pub mod Hearing

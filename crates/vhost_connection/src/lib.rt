@@ -4,6 +4,7 @@
 #[cfg(test)]
 mod callers;
 mod endpoint;
+mod fault;
 mod list;
 mod pass;
 mod pieces;
@@ -11,4 +12,5 @@ mod pieces;
 mod tests;
 
 pub use endpoint::Endpoint;
+pub use fault::break_on_fault;
 pub use pieces::get_sub_iovs_offset;

@@ -17,13 +17,13 @@ use Rattle.vhost_link.proofs.Cells.{length-carrying}
 use Rattle.vhost_connection.specs.Pass.{sends}
 use Rattle.vhost_connection.specs.Talk.{State, Talks, Serves}
 use Rattle.vhost_connection.specs.Calls.{Sends}
-use Rattle.vhost_pair.specs.Hearing.{Fails}
-use Rattle.vhost_pair.specs.Hearing.Fails.{was_broken, no_memory, fault}
+use Rattle.vhost_connection.specs.Hearing.{Fails}
+use Rattle.vhost_connection.specs.Hearing.Fails.{was_broken, no_memory, fault}
 use Rattle.vhost_pair.specs.Session.{awaited_of}
 use Rattle.vhost_pair.specs.Asking.{bare_request, BareGoes}
 use Rattle.vhost_pair.specs.declared.frontend.asked.Sent.{Sent}
 use Rattle.vhost_pair.specs.declared.frontend.asked.Awaited as declared_awaited
-use Rattle.vhost_pair.proofs.Failing.{trouble-fails}
+use Rattle.vhost_connection.proofs.Failing.{trouble-fails}
 
 -- two bits make the flags of a header
 two-bits : (x y : ℕ) → x < 2 → y < 2 → header_flags (x == 1) (y == 1) ≡ 4 * x + 8 * y + 1

@@ -19,12 +19,12 @@ use Rattle.vhost_link.specs.Law.{Event, Move, move, ◌then◌, refused}
 use Rattle.vhost_connection.specs.Pass.{sends, receives}
 use Rattle.vhost_connection.specs.Talk.{State, Talks, has_moved}
 use Rattle.vhost_connection.proofs.Talking.{Talks-then, Talks-as}
-use Rattle.vhost_pair.specs.Hearing as hearing
-use Rattle.vhost_pair.specs.Hearing.{Hears, Fails, Spends}
+use Rattle.vhost_connection.specs.Hearing as hearing
+use Rattle.vhost_connection.specs.Hearing.{Hears, Fails, Spends}
 use Rattle.vhost_pair.specs.Serving as serving
 use Rattle.vhost_pair.specs.Serving.{Reads, ReadsRequest, AnswersRequest, IsReady, Replies, Stops, Answered, Interrupted, Answers, MeetsServed, Handled, Remains, Breaks, HandlesOne, is_served, told}
 use Rattle.vhost_pair.specs.declared.handler.request.Request.{Request}
-use Rattle.vhost_pair.proofs.Failing.{refused-taken, spends}
+use Rattle.vhost_connection.proofs.Failing.{refused-taken, spends}
 
 -- ---- a call that made its list of handles first
 

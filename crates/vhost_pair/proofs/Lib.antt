@@ -1,7 +1,3 @@
-pub mod Failing
-pub mod Faults
-pub mod Splitting
-pub mod Reading
 pub mod Rows
 pub mod Telling
 pub mod Handling

@@ -17,10 +17,10 @@ use Rattle.vhost_link.specs.Law.{Event}
 use Rattle.vhost_connection.specs.Pass.{receives}
 use Rattle.vhost_connection.specs.Talk.{State, Serves}
 use Rattle.vhost_connection.specs.Calls.{ReadsBody, HandsOver}
-use Rattle.vhost_pair.specs.Hearing.{Hears, broken_on}
+use Rattle.vhost_connection.specs.Hearing.{Hears, broken_on}
 use Rattle.vhost_pair.specs.Asking.{number_cut, NumberFails, NumberComes}
 use Rattle.vhost_pair.specs.Asking.NumberFails.{unfit, none, failed}
-use Rattle.vhost_pair.proofs.Failing.{trouble-breaks}
+use Rattle.vhost_connection.proofs.Failing.{trouble-breaks}
 use Rattle.vhost_pair.proofs.Replies.{known-is, number_outcome, number-whole, number-short}
 
 and-true : (b : Bool) → (b && true) ≡ false → b ≡ false

@@ -12,7 +12,7 @@ use Rattle.vhost_link.specs.Law.{Move}
 use Rattle.vhost_link.specs.Mem.{event, Runs}
 use Rattle.vhost_link.proofs.MemStream.{mem-stream}
 use Rattle.vhost_connection.specs.Talk.{State, Talks}
-use Rattle.vhost_pair.specs.Hearing.{Fails, Spends, was_broken, no_memory, fault}
+use Rattle.vhost_connection.specs.Hearing.{Fails, Spends, was_broken, no_memory, fault}
 use Rattle.vhost_pair.specs.Joined.{Cuts, IsSpent, IsUsed}
 use Rattle.vhost_pair.specs.Sides.{cuts_of}
 

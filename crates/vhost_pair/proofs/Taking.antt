@@ -18,7 +18,7 @@ use Rattle.vhost_protocol.specs.ReplySplit.{Received}
 use Rattle.vhost_protocol.specs.Take.{answers, understood, take}
 use Rattle.vhost_link.specs.Law.{Event}
 use Rattle.vhost_connection.specs.Talk.{State}
-use Rattle.vhost_pair.specs.Hearing.{Hears, Fails}
+use Rattle.vhost_connection.specs.Hearing.{Hears, Fails}
 use Rattle.vhost_pair.specs.Asking.{bare_request, SendsBare, number_cut, NumberFails, RecvsUnless, RecvsAck, RecvsAwaited, AsksHalf, Takes, TakesHalf}
 use Rattle.vhost_pair.specs.Asking.NumberFails.{unfit, none, failed}
 use Rattle.vhost_pair.specs.Asking.Takes.{unread, read}

@@ -24,8 +24,8 @@ use Rattle.vhost_connection.specs.Talk as talk
 use Rattle.vhost_connection.specs.Talk.{State, Talks, Trouble, has_moved}
 use Rattle.vhost_connection.specs.Calls.{Sends}
 use Rattle.vhost_connection.specs.State.{first_cause}
-use Rattle.vhost_pair.specs.Hearing.{broken_on}
-use Rattle.vhost_pair.proofs.Failing.{broken-socket, first-is}
+use Rattle.vhost_connection.specs.Hearing.{broken_on}
+use Rattle.vhost_connection.proofs.Failing.{broken-socket, first-is}
 use Rattle.vhost_pair.specs.Serving.{Reads, IsReady, Replies, Stops, Tells, told}
 use Rattle.vhost_pair.specs.declared.handler.request.Request.{Request}
 

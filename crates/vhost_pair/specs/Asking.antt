@@ -18,7 +18,7 @@ use Rattle.vhost_protocol.specs.Take.{is_known, is_valid_record, answers, take}
 use Rattle.vhost_link.specs.Law.{Event}
 use Rattle.vhost_connection.specs.Pass.{sends}
 use Rattle.vhost_connection.specs.Talk.{State, Serves}
-use Rattle.vhost_pair.specs.Hearing.{Hears, Fails}
+use Rattle.vhost_connection.specs.Hearing.{Hears, Fails}
 use Rattle.vhost_pair.specs.Session.{awaited_of}
 use Rattle.vhost_pair.specs.declared.frontend.asked.Sent.{Sent}
 

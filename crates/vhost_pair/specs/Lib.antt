@@ -1,7 +1,6 @@
 pub mod Session
 pub mod Core
 pub mod Dummy
-pub mod Hearing
 pub mod Serving
 pub mod Asking
 pub mod Frontend

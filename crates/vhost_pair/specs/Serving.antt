@@ -22,7 +22,7 @@ use Rattle.vhost_connection.specs.Pass.{sends}
 use Rattle.vhost_connection.specs.Talk as endpoint
 use Rattle.vhost_connection.specs.Talk.{State, Talks}
 use Rattle.vhost_connection.specs.Calls.{HandsOver}
-use Rattle.vhost_pair.specs.Hearing.{Hears, Fails}
+use Rattle.vhost_connection.specs.Hearing.{Hears, Fails}
 use Rattle.vhost_pair.specs.declared.handler.request.Request.{Request}
 
 -- The request in the code's form is this message.

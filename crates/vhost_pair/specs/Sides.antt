@@ -21,7 +21,7 @@ use Rattle.vhost_pair.specs.declared.call.FrontendCall.TheVariants as call
 use Rattle.vhost_pair.specs.declared.halt.Stop.{Stop}
 use Rattle.vhost_pair.specs.declared.halt.Stop.TheVariants.{Table, Premise}
 use Rattle.vhost_pair.specs.declared.sides.Sides.{Sides}
-use Rattle.vhost_pair.specs.Hearing.{Fails}
+use Rattle.vhost_connection.specs.Hearing.{Fails}
 use Rattle.vhost_pair.specs.Asking.{Takes}
 use Rattle.vhost_pair.specs.OnWay.{coming, gone}
 use Rattle.vhost_pair.specs.Text.{Text, no_text}

@@ -5,7 +5,6 @@ mod bits;
 mod call;
 mod device;
 mod dummy;
-mod fault;
 mod frontend;
 mod halt;
 mod halves;

@@ -1,4 +1,5 @@
 pub mod SplitLaws
+pub mod Splitting
 pub mod TextLaws
 pub mod ReplyLaws
 pub mod TakeLaws

@@ -8,9 +8,9 @@ ghost use Rattle.vhost_protocol.specs.Split.{Message};
 ghost use Rattle.vhost_protocol.specs.Step.{acked};
 ghost use Rattle.vhost_protocol.specs.Written.{Payload, payload_text};
 
-use crate::fault::break_on_fault;
 use crate::request::Request;
 use crate::session_core::{Header, SessionCore};
+use vhost_connection::break_on_fault;
 use vhost_link::Link;
 use vhost_message::{ByteValued, Result, VhostUserU64};
 

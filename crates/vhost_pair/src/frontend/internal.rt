@@ -11,11 +11,10 @@ ghost use Rattle.vhost_pair.specs.Asking.{AsksHalf, SendsBare, RecvsNumber, Recv
 ghost use Rattle.vhost_pair.specs.Session.{awaited_of};
 ghost use Rattle.vhost_pair.specs.Frontend.{end_of, session_of, awaits};
 
-use crate::fault::break_on_fault;
 use crate::frontend::asked::{Awaited, Sent};
 use crate::frontend::session::FrontendSession;
 use std::alloc::Global;
-use vhost_connection::Endpoint;
+use vhost_connection::{Endpoint, break_on_fault};
 use vhost_link::Link;
 use vhost_message::{Error, FrontendReq, Result, VhostUserMsgHeader, VhostUserU64};
 

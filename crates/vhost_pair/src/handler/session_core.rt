@@ -11,11 +11,10 @@ ghost use Rattle.vhost_protocol.specs.Session.{fresh as new_session};
 ghost use Rattle.vhost_protocol.specs.Stream.{carrying};
 
 use crate::device::VhostUserBackendReqHandlerMut;
-use crate::fault::break_on_fault;
 use crate::handler::request::{Request, are_wanted};
 use crate::handler::session::Session;
 use std::alloc::Global;
-use vhost_connection::Endpoint;
+use vhost_connection::{Endpoint, break_on_fault};
 use vhost_link::Link;
 use vhost_message::{
     ByteValued, Error, FrontendReq, IoCause, Result, VhostUserMsgHeader, VhostUserU64,

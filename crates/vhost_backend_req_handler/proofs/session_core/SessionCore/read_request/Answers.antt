@@ -6,8 +6,8 @@ use Rattle.vhost_message.specs.Bits.{has_bit}
 use Rattle.vhost_message.specs.MsgHeader.{fields_of}
 use Rattle.vhost_message.specs.FrontendReq.{request_of}
 use Rattle.vhost_protocol.specs.Codes.{wanted}
-use Rattle.vhost_backend_req_handler.proofs.Reading.{header-failed, header-came, header-unwanted, header-size, valid-size, body-failed, body-cut, message-came, body-length}
-use Rattle.vhost_backend_req_handler.proofs.Splitting.{message_in}
+use Rattle.vhost_connection.proofs.Reading.{header-failed, header-came, header-unwanted, header-size, valid-size, body-failed, body-cut, message-came, body-length}
+use Rattle.vhost_protocol.proofs.Splitting.{message_in}
 use Rattle.vhost_backend_req_handler.proofs.session_core.SessionCore.read_request.Goals as goal
 
 pub returns-in_err-header-clause-request : goal.returns-in_err-header-clause-request

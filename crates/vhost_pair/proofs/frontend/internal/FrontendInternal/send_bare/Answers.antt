@@ -2,7 +2,7 @@ use Rattle.std.proofs.Common.{Bool, refl, sym, ap, ◌∙◌, lit≤}
 use Rattle.vhost_message.specs.MsgHeader.{fields_of}
 use Rattle.vhost_connection.specs.State.{state}
 use Rattle.vhost_connection.specs.Talk.{State}
-use Rattle.vhost_pair.specs.Hearing.Fails.{no_memory}
+use Rattle.vhost_connection.specs.Hearing.Fails.{no_memory}
 use Rattle.vhost_pair.specs.Session.{frontend_of}
 use Rattle.vhost_pair.proofs.Bare.{at-err, at-ok, bare-goes, bare-fails}
 use Rattle.vhost_pair.specs.declared.frontend.asked.Sent.{Sent}

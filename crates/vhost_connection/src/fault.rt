@@ -2,13 +2,14 @@
 
 ghost use Rattle.std.specs.Prelude.{◌≡◌};
 ghost use Rattle.vhost_connection.specs.State.{state};
-ghost use Rattle.vhost_backend_req_handler.specs.Hearing.{broken_on};
+ghost use Rattle.vhost_connection.specs.Hearing.{broken_on};
 
-use vhost_connection::Endpoint;
+use crate::endpoint::Endpoint;
 use vhost_link::Link;
 use vhost_message::{Error, MsgHeader};
 
-/// Breaks the endpoint where a call between a request and the end of its answer met a fault of the link.
+/// Breaks the endpoint where a call between a request and the end of its answer met a fault of the link, whether or not a
+/// byte had moved. Its cause is that of the error, unless the endpoint was broken before.
 pub fn break_on_fault<M: MsgHeader, L: Link>(end: &mut Endpoint<M, L>, error: &Error)
     ensures { state end.new ≡ broken_on error.now (state end.old) }
 {

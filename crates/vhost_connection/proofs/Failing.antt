@@ -10,8 +10,8 @@ use Rattle.vhost_link.specs.Law.{Event, Move, move, ◌then◌, refused}
 use Rattle.vhost_connection.specs.State.{first_cause}
 use Rattle.vhost_connection.specs.Talk.{State, Trouble, has_moved}
 use Rattle.vhost_connection.specs.Talk.Trouble.{was_broken as trouble_broken, no_memory as trouble_memory, fault as trouble_fault}
-use Rattle.vhost_pair.specs.Hearing.{Spends, Fails, broken_on}
-use Rattle.vhost_pair.specs.Hearing.Fails.{was_broken, no_memory, fault}
+use Rattle.vhost_connection.specs.Hearing.{Spends, Fails, broken_on}
+use Rattle.vhost_connection.specs.Hearing.Fails.{was_broken, no_memory, fault}
 
 -- a failure moves nothing
 pub refused-moved : {H : Type 0} (m : Move H) (c : IoCause) (b : Bool) → has_moved (m then (if b then move {H = H} [] [] 1 0 else move [] [] 0 1)) ≡ has_moved m

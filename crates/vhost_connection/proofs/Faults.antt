@@ -8,9 +8,9 @@ use Rattle.vhost_connection.specs.Pass.{receives}
 use Rattle.vhost_connection.specs.Talk as talk
 use Rattle.vhost_connection.specs.Talk.{State, Serves, Trouble}
 use Rattle.vhost_connection.proofs.Talking.{Talks-then}
-use Rattle.vhost_backend_req_handler.specs.Hearing as hearing
-use Rattle.vhost_backend_req_handler.specs.Hearing.{Fails, Spends}
-use Rattle.vhost_backend_req_handler.proofs.Failing.{refused-taken, spends}
+use Rattle.vhost_connection.specs.Hearing as hearing
+use Rattle.vhost_connection.specs.Hearing.{Fails, Spends}
+use Rattle.vhost_connection.proofs.Failing.{refused-taken, spends}
 
 -- what is more than the retries that are left is more than the message may take
 spends-then : {H : Type 0} (m n : Move H) (rest budget : ℕ) → rest + m.retries ≡ budget → Spends rest n → Spends budget (m then n)

@@ -18,10 +18,10 @@ use Rattle.vhost_connection.specs.Pass.{receives}
 use Rattle.vhost_connection.specs.Talk.{State, Serves}
 use Rattle.vhost_connection.specs.Calls.{ReadsHeader, ReadsBytes, ReadsData}
 use Rattle.vhost_connection.proofs.Talking.{Serves-on}
-use Rattle.vhost_pair.specs.Hearing.{Hears, Fails}
-use Rattle.vhost_pair.proofs.Failing.{trouble-fails}
-use Rattle.vhost_pair.proofs.Faults.{body-fails}
-use Rattle.vhost_pair.proofs.Splitting.{head_in, message_in, Announces, no-byte, part-of-header, bad-header, unwanted-handles, cut-body, handles-in-body, whole-message}
+use Rattle.vhost_connection.specs.Hearing.{Hears, Fails}
+use Rattle.vhost_connection.proofs.Failing.{trouble-fails}
+use Rattle.vhost_connection.proofs.Faults.{body-fails}
+use Rattle.vhost_protocol.proofs.Splitting.{head_in, message_in, Announces, no-byte, part-of-header, bad-header, unwanted-handles, cut-body, handles-in-body, whole-message}
 
 add-cells : {H : Type 0} (cs ds : List (Cell H)) (b : Bool) → items cs ++ heard ds b ≡ heard (cs ++ ds) b
 add-cells cs ds true = sym (append_assoc (items cs) (items ds) (End ∷ [])) ∙ ap (λ xs. xs ++ End ∷ []) (sym (map-append Byte cs ds))
