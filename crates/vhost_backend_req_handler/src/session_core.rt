@@ -1,11 +1,9 @@
 //! The session of a handler over any link.
 
-ghost use Rattle.std.specs.Prelude.{◌≡◌, ◌≤◌, ◌^◌, Some, None, Ok, Err, ℕ, ℤ, IfOk, IfErr, length, map, List, ⊤};
+ghost use Rattle.std.specs.Prelude.{◌≡◌, Some, None, Err, ℤ, IfOk, IfErr};
 ghost use Rattle.vhost_message.specs.declared.cause.IoCause.TheVariants.{Raw};
 ghost use Rattle.vhost_message.specs.declared.error.Error.TheVariants.{SocketBroken, OutOfMemory};
-ghost use Rattle.vhost_message.specs.declared.frontend_req.FrontendReq.{FrontendReq};
 ghost use Rattle.vhost_protocol.specs.Session.{fresh as new_session};
-ghost use Rattle.vhost_protocol.specs.Split.{Message};
 
 use crate::request::{Request, are_wanted, keep};
 use crate::session::Session;

@@ -1,6 +1,6 @@
 //! Channels that a handle opens.
 
-ghost use Rattle.std.specs.Prelude.{◌≡◌, IfErr};
+ghost use Rattle.std.specs.Prelude.{◌≡◌};
 ghost use Rattle.vhost_message.specs.declared.frontend_req.FrontendReq.TheVariants.{SET_BACKEND_REQ_FD, GPU_SET_SOCKET};
 ghost use Rattle.vhost_protocol.specs.Error.{seen_result};
 
@@ -14,7 +14,7 @@ use vhost_link::{Handle, Kind, Link};
 use vhost_message::{Error, IoCause, Result, VhostUserProtocolFeatures};
 
 impl<L: Link> SessionCore<L> {
-    ghost use Rattle.vhost_backend_req_handler.specs.Core.{MeetsRowWith, session_in};
+    ghost use Rattle.vhost_backend_req_handler.specs.Core.{MeetsRowWith};
     ghost use Rattle.vhost_backend_req_handler.specs.Opening.{OpensAs, OpensLink};
 
     /// SET_BACKEND_REQ_FD: the device gets the channel to its frontend.
