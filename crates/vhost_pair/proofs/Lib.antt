@@ -1,6 +1,3 @@
-pub mod Rows
-pub mod Telling
-pub mod Handling
 pub mod Replies
 pub mod Numbers
 pub mod Bare
@@ -9,6 +6,9 @@ pub mod OnWay
 pub mod Carrying
 pub mod Spent
 pub mod Outcomes
+pub mod Calls
+pub mod Asked
+pub mod Served
 pub mod Exchange
 pub mod Running
 pub mod Lockstep

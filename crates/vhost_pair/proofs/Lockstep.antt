@@ -1,8 +1,6 @@
 -- Joined runs where no premise of the lockstep fails.
 use Rattle.std.proofs.Common.{◌≡◌, ℕ, ◌+◌, ◌<◌, ◌⊎◌, inl, inr, Bool, true, false, cond, List, [], ◌∷◌, take, Some, None, Result, Ok, Err, refl, sym, ◌∙◌, ap, subst, arith}
 use Rattle.std.specs.Prelude.{⊤, sum_by}
-use Rattle.vhost_protocol.specs.DeviceCall.{Call, Answer}
-use Rattle.vhost_link.specs.declared.plain.PlainHandle.{PlainHandle}
 use Rattle.vhost_link.specs.Cuts.{retry, failure}
 use Rattle.vhost_link.specs.Mem.{AreGives}
 use Rattle.vhost_pair.specs.declared.call.FrontendCall as code
@@ -13,6 +11,7 @@ use Rattle.vhost_pair.specs.declared.halt.Halt.TheVariants as halt
 use Rattle.vhost_pair.specs.declared.halt.Stop.{Stop}
 use Rattle.vhost_pair.specs.declared.halt.Stop.TheVariants.{Table, Premise}
 use Rattle.vhost_link.proofs.MemUse.{give-retry, give-failure, give-later}
+use Rattle.vhost_pair.specs.Device.{Gives}
 use Rattle.vhost_pair.specs.Joined as joined
 use Rattle.vhost_pair.specs.Joined.{View, Cuts, IsSpent, Steps, StepsAll, Keeps, call_of, answer_of}
 use Rattle.vhost_pair.specs.Lockstep.{entries, IsInStep, IsClean, IsLockstep, LockstepLaw}
@@ -29,7 +28,7 @@ unspent budget old new ok fed s = by-cases s.spent
 
 -- ---- steps
 
-module _ {Dev : Type 0} (gives : Dev → (c : Call PlainHandle ⊤ ⊤) → Answer c → Dev → Type 0) where
+module _ {Dev : Type 0} (gives : Gives Dev) where
   halted-same : (old new : View Dev) (c : code.FrontendCall) (h : Halt) → Steps gives old (call_of c) (Err h) new → new ≡ old
   halted-same old new c halt.Stopped s = s.1
   halted-same old new c halt.OutOfMemory s = s.1

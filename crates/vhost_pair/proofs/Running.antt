@@ -3,14 +3,13 @@ use Rattle.std.proofs.Common.{◌≡◌, ℕ, ◌+◌, suc, get_or, ◌<◌, Lis
 use Rattle.std.proofs.lemmas.List.{append-nil, take-append-drop}
 use Rattle.std.proofs.Math.Seq.{take-suc, drop-cons}
 use Rattle.std.specs.Prelude.{⊤, is_some, is_err, OnOk}
-use Rattle.vhost_protocol.specs.DeviceCall.{Call, Answer}
-use Rattle.vhost_link.specs.declared.plain.PlainHandle.{PlainHandle}
 use Rattle.vhost_pair.specs.declared.call.FrontendCall as code
 use Rattle.vhost_pair.specs.declared.call.FrontendAnswer.{FrontendAnswer}
 use Rattle.vhost_pair.specs.declared.halt.Halt.{Halt}
+use Rattle.vhost_pair.specs.Device.{Gives}
 use Rattle.vhost_pair.specs.Joined.{View, Steps, StepsAll, RunsCalls, call_of}
 
-module _ {Dev : Type 0} (gives : Dev → (c : Call PlainHandle ⊤ ⊤) → Answer c → Dev → Type 0) where
+module _ {Dev : Type 0} (gives : Gives Dev) where
   -- each call was answered
   pub data Did (old : View Dev) : List code.FrontendCall → List FrontendAnswer → View Dev → Type 0 where
     none : Did old [] [] old
@@ -63,7 +62,7 @@ pub not-stopped : {A : Type 0} (o : Option A) → is_some o ≡ false → o ≡ 
 not-stopped None e = refl
 not-stopped (Some a) e = absurd (cc e)
 
-module _ {Dev : Type 0} (gives : Dev → (c : Call PlainHandle ⊤ ⊤) → Answer c → Dev → Type 0) (calls : List code.FrontendCall) (i : ℕ) (d : code.FrontendCall) (within : i < length calls) where
+module _ {Dev : Type 0} (gives : Gives Dev) (calls : List code.FrontendCall) (i : ℕ) (d : code.FrontendCall) (within : i < length calls) where
   cut-there : take i calls ++ get_or calls i d ∷ drop (suc i) calls ≡ calls
   cut-there = ap (λ xs. take i calls ++ xs) (sym (drop-cons calls i d within)) ∙ take-append-drop i calls
 

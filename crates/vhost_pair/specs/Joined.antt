@@ -3,7 +3,7 @@ use Rattle.std.specs.Prelude.{◌≡◌, ℕ, ◌+◌, ◌<◌, List, [], ◌∷
 use Rattle.vhost_protocol.specs.Stream.{Cell}
 use Rattle.vhost_protocol.specs.Error.{Error, OutOfMemory, seen}
 use Rattle.vhost_protocol.specs.Session.{Session}
-use Rattle.vhost_protocol.specs.DeviceCall.{Call, Answer, GetFeatures, SetOwner}
+use Rattle.vhost_protocol.specs.DeviceCall.{GetFeatures, SetOwner}
 use Rattle.vhost_protocol.specs.FrontendCall.{FrontendCall, Value, Nothing, Number, Frontend}
 use Rattle.vhost_protocol.specs.FrontendCall as calls
 use Rattle.vhost_protocol.specs.Ask.{Awaited}
@@ -11,6 +11,7 @@ use Rattle.vhost_protocol.specs.Joined.{Shown, InStep, JoinedStep}
 use Rattle.vhost_link.specs.declared.plain.PlainHandle.{PlainHandle}
 use Rattle.vhost_link.specs.declared.cut.Cut.{Cut}
 use Rattle.vhost_link.specs.Cuts.{retry, failure}
+use Rattle.vhost_pair.specs.Device.{Gives, opens_backend, opens_gpu}
 use Rattle.vhost_pair.specs.Text.{Text, text_of}
 use Rattle.vhost_pair.specs.declared.call.FrontendCall as code
 use Rattle.vhost_pair.specs.declared.call.FrontendCall.TheVariants as call
@@ -68,7 +69,7 @@ pub record IsUsed (old new : Cuts) : Type 0 where
   pub script : new.script ≡ drop used old.script
   pub starved : old.starved ≡ true → new.starved ≡ true
 
-module _ {Dev : Type 0} (gives : Dev → (c : Call PlainHandle ⊤ ⊤) → Answer c → Dev → Type 0) where
+module _ {Dev : Type 0} (gives : Gives Dev) where
   -- the device had no memory for what the call asks of it
   abbrev pub Starves : FrontendCall PlainHandle → Dev → Dev → Type 0
   Starves calls.GetFeatures d d' = gives d GetFeatures (Err OutOfMemory) d'
@@ -85,7 +86,7 @@ module _ {Dev : Type 0} (gives : Dev → (c : Call PlainHandle ⊤ ⊤) → Answ
   -- and the run stops exactly where the definition says.
   pub record Keeps (old : View Dev) (call : FrontendCall PlainHandle) (result : Result (Value PlainHandle) Error) (new : View Dev) : Type 0 where
     pub shown : Shown PlainHandle
-    pub step : JoinedStep gives (λ h x. ⊤) (λ h x. ⊤) old.frontend old.session old.device call shown new.frontend new.session new.device
+    pub step : JoinedStep gives opens_backend opens_gpu old.frontend old.session old.device call shown new.frontend new.session new.device
     pub answered : result ≡ shown.result
     pub request : new.request ≡ text_of shown.request
     pub reply : new.reply ≡ text_of shown.reply

@@ -1,12 +1,10 @@
 pub mod Session
-pub mod Core
-pub mod Dummy
-pub mod Serving
 pub mod Asking
 pub mod Frontend
 pub mod OnWay
 pub mod Text
 pub mod Wire
+pub mod Device
 pub mod Joined
 pub mod Sides
 pub mod Lockstep

@@ -1,15 +1,9 @@
--- Sessions of the code, as the definitions see them.
-use Rattle.vhost_protocol.specs.Session.{Session}
+-- A frontend's session, as the definitions see it.
 use Rattle.vhost_protocol.specs.FrontendCall.{Frontend}
 use Rattle.vhost_protocol.specs.Ask.{Awaited, Nobody, Ack, Reply, AU64}
-use Rattle.vhost_pair.specs.declared.handler.session.Session as handler
 use Rattle.vhost_pair.specs.declared.frontend.session.FrontendSession as frontend
 use Rattle.vhost_pair.specs.declared.frontend.asked.Awaited as code
 use Rattle.vhost_pair.specs.declared.frontend.asked.Awaited.TheVariants as awaited
-
--- a handler's session
-abbrev pub session_of : handler.Session → Session
-session_of s = record { offered = s.offered; acked = s.acked; acked_p = s.acked_p; postcopy = s.postcopy; failed = s.failed }
 
 -- a frontend's session
 abbrev pub frontend_of : frontend.FrontendSession → Frontend

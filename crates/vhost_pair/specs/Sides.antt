@@ -4,7 +4,8 @@ use Rattle.vhost_message.specs.Bits.{has_bit}
 use Rattle.vhost_message.specs.declared.error.Error as declared
 use Rattle.vhost_message.specs.declared.error.Error.TheVariants.{OutOfMemory}
 use Rattle.vhost_message.specs.Header.{Header}
-use Rattle.vhost_protocol.specs.FrontendCall.{Frontend, new_frontend}
+use Rattle.vhost_protocol.specs.Error.{Error}
+use Rattle.vhost_protocol.specs.FrontendCall.{FrontendCall, Value, Frontend, new_frontend}
 use Rattle.vhost_protocol.specs.Ask.{Awaited, Nobody, Reply, AU64}
 use Rattle.vhost_protocol.specs.AnswerTable.{answered}
 use Rattle.vhost_protocol.specs.Session.{Session, fresh as new_session}
@@ -28,7 +29,7 @@ use Rattle.vhost_pair.specs.Text.{Text, no_text}
 use Rattle.vhost_pair.specs.Wire.{text_in}
 use Rattle.vhost_pair.specs.Joined.{View, Cuts, call_of, answer_of}
 use Rattle.vhost_pair.specs.Frontend as frontend
-use Rattle.vhost_pair.specs.Core as core
+use Rattle.vhost_backend_req_handler.specs.Core as core
 
 -- what a caller of a joined run sees of a link
 abbrev pub cuts_of : Ends → Cuts
@@ -56,10 +57,11 @@ abbrev pub view_of : {Dev : Type 0} → Sides Dev → Option Stop → View Dev
 view_of s stopped = view (frontend.end_of s.frontend) (core.end_of s.handler) (frontend.session_of s.frontend) (frontend.awaits s.frontend)
     (core.session_in s.handler) s.device (text_in s.request) (text_in s.reply) stopped
 
--- Between two steps: both sides are in step, no endpoint is broken, no session failed, no protocol feature was acknowledged, and no request is sent as a reply.
+-- Between two steps: both sides are in step, no endpoint is broken, the frontend's met no fault, no session failed, no protocol feature was acknowledged, and no request is sent as a reply.
 pub record IsAtRest (asking serving : State Ends PlainHandle) (f : Frontend) (awaited : Awaited) (s : Session) : Type 0 where
   pub asks : asking.broken ≡ None
   pub serves : serving.broken ≡ None
+  pub sound : asking.faulted ≡ false
   pub budget : serving.budget ≡ asking.budget
   pub acked_p : f.acked_p ≡ 0
   pub flags : has_bit f.header_flags 2 ≡ false
@@ -86,11 +88,15 @@ abbrev pub awaited_for : code.FrontendCall → Awaited
 awaited_for call.GetFeatures = Reply AU64
 awaited_for call.SetOwner = Nobody
 
--- the half that takes: the answer by the stream; or the link failed, and the session is as before
-abbrev pub TakesAnswer : code.FrontendCall → Header → State Ends PlainHandle → Frontend → FrontendAnswer → State Ends PlainHandle → Frontend → Type 0
-TakesAnswer c sent old f answer new f' =
-    Takes event (call_of c) (awaited_for c) sent f old (Some (answered f' (answer_of answer))) new
+-- the half that takes, of any call: the answer by the stream; or the link failed, and the session is as before
+abbrev pub TakesResult : FrontendCall PlainHandle → Awaited → Header → State Ends PlainHandle → Frontend → Result (Value PlainHandle) Error → State Ends PlainHandle → Frontend → Type 0
+TakesResult c awaited sent old f result new f' =
+    Takes event c awaited sent f old (Some (answered f' result)) new
     ⊎ ((f' ≡ f) × (e : declared.Error) × Fails event old true e new)
+
+-- the same of a call of the code
+abbrev pub TakesAnswer : code.FrontendCall → Header → State Ends PlainHandle → Frontend → FrontendAnswer → State Ends PlainHandle → Frontend → Type 0
+TakesAnswer c sent old f answer new f' = TakesResult (call_of c) (awaited_for c) sent old f (answer_of answer) new f'
 
 -- a run that begins: new sessions over new links with these scripts
 abbrev pub fresh_run : {Dev : Type 0} → Dev → ℕ → ℕ → List Cut → List Cut → View Dev

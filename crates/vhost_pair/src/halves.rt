@@ -1,6 +1,6 @@
 //! The two halves of each call.
 
-ghost use Rattle.std.specs.Prelude.{◌≡◌, None};
+ghost use Rattle.std.specs.Prelude.{◌≡◌};
 ghost use Rattle.vhost_message.specs.MsgHeader.{fields_of};
 ghost use Rattle.vhost_protocol.specs.Ask.{Nobody};
 ghost use Rattle.vhost_link.specs.Mem.{event};

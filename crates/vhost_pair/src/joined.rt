@@ -4,11 +4,11 @@ ghost use Rattle.std.specs.Prelude.{◌≡◌, IfOk, IfErr};
 ghost use Rattle.vhost_pair.specs.declared.halt.Halt.TheVariants.{OutOfMemory};
 
 use crate::call::{FrontendAnswer, FrontendCall};
-use crate::device::VhostUserBackendReqHandlerMut;
 use crate::halt::{Halt, Stop};
 use crate::sides::Sides;
 use std::alloc::Global;
 use std::marker::Model;
+use vhost_device::VhostUserBackendReqHandlerMut;
 use vhost_link::{Cut, MemLink, PlainHandle};
 
 /// A frontend and a handler joined over two links in memory, with a device behind the handler.

@@ -2,7 +2,7 @@
 
 ghost use Rattle.vhost_pair.specs.Lockstep.{LockstepLaw};
 
-use crate::device::VhostUserBackendReqHandlerMut;
+use vhost_device::VhostUserBackendReqHandlerMut;
 use vhost_link::MemLink;
 
 /// Where each cut of both scripts moves bytes, no link wanted memory and the device never does, the answered calls of

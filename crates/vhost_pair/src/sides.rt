@@ -1,6 +1,6 @@
 //! Both sides of a joined run, and one exchange between them.
 
-ghost use Rattle.std.specs.Prelude.{◌≡◌, ◌||◌, [], None, true, IfOk, IfErr, OnErr};
+ghost use Rattle.std.specs.Prelude.{◌≡◌, ◌||◌, None, IfOk, IfErr};
 ghost use Rattle.vhost_message.specs.declared.error.Error.TheVariants.{OutOfMemory};
 ghost use Rattle.vhost_protocol.specs.FrontendCall.{new_frontend};
 ghost use Rattle.vhost_protocol.specs.Ask.{Nobody};
@@ -9,14 +9,14 @@ ghost use Rattle.vhost_connection.specs.State.{fresh};
 ghost use Rattle.vhost_link.specs.Ends.{empty};
 
 use crate::call::{FrontendAnswer, FrontendCall};
-use crate::device::VhostUserBackendReqHandlerMut;
 use crate::frontend::FrontendInternal;
 use crate::halt::Stop;
 use crate::halves::{ask, take};
-use crate::handler::SessionCore;
-use crate::ways::{carry_reply, carry_request, copy_reply, copy_request};
+use crate::ways::{carry_reply, carry_request, copy_reply, copy_request, make_list};
 use crate::wire::Wire;
 use std::alloc::Global;
+use vhost_backend_req_handler::SessionCore;
+use vhost_device::VhostUserBackendReqHandlerMut;
 use vhost_link::{Cut, MemLink};
 use vhost_message::{Error, Result};
 
@@ -38,7 +38,7 @@ pub struct Sides<D: Drop> {
 }
 
 impl<D: VhostUserBackendReqHandlerMut<Link = MemLink>> Sides<D> {
-    ghost use Rattle.vhost_pair.specs.Core.{end_of as serving_end};
+    ghost use Rattle.vhost_backend_req_handler.specs.Core.{end_of as serving_end};
     ghost use Rattle.vhost_pair.specs.Frontend.{end_of as asking_end};
     ghost use Rattle.vhost_pair.specs.Joined.{Answers, call_of, answer_of};
     ghost use Rattle.vhost_pair.specs.Sides.{view, view_of, AreAtRest, HaveLists, stop_of};
@@ -84,7 +84,7 @@ impl<D: VhostUserBackendReqHandlerMut<Link = MemLink>> Sides<D> {
         ensures rest { AreAtRest self.old → AreAtRest self.new }
     {
         self.frontend.make_list()?;
-        self.handler.make_list()
+        make_list(&mut self.handler)
     }
 
     /// The last request.

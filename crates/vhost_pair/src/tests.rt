@@ -1,11 +1,10 @@
 //! Joined runs of the example device, however cut and wherever they fail.
 
-use crate::{
-    DummyBackendReqHandler, FrontendAnswer, FrontendCall, Halt, Joined, Stop, lockstep_law,
-};
+use crate::{FrontendAnswer, FrontendCall, Halt, Joined, Stop, lockstep_law};
 use std::alloc::{AllocError, Global};
 use std::process::Abort;
 use std::test::Fail;
+use vhost_dummy_backend::DummyBackendReqHandler;
 use vhost_link::{Cut, MemLink};
 use vhost_message::Error;
 
@@ -22,7 +21,7 @@ const SET_OWNER: [u8; 12] = [3, 0, 0, 0, 1, 0, 0, 0, 0, 0, 0, 0];
 fn joined(alloc: Global, budget: u32, asking: Vec<Cut>, serving: Vec<Cut>) -> Result<Run, Halt> {
     Joined::new(
         alloc,
-        DummyBackendReqHandler::new(),
+        DummyBackendReqHandler::new(alloc, Vec::new(alloc)),
         8,
         budget,
         (asking, serving),

@@ -1,14 +1,17 @@
 -- How the program sees its session.
-use Rattle.std.specs.Prelude.{◌≡◌, ℕ, List, [], false, Option, Result}
+use Rattle.std.specs.Prelude.{◌≡◌, ℕ, List, [], ◌∷◌, map, Option, Result, Ok}
+use Rattle.std.specs.declared.alloc.Global.{Global}
+use Rattle.vhost_message.specs.declared.cause.IoCause.{IoCause}
+use Rattle.vhost_dummy_backend.specs.Dummy.{DummyGives, fresh}
+use Rattle.vhost_dummy_backend.specs.declared.dummy.DummyBackendReqHandler.{DummyBackendReqHandler}
+use Rattle.vhost_link.specs.declared.handle.Kind.TheVariants.{NoSocket}
 use Rattle.vhost_link.specs.Ends.{Ends}
 use Rattle.vhost_link.specs.declared.plain.PlainHandle.{PlainHandle}
-use Rattle.vhost_pair.specs.Dummy.{DummyGives}
 use Rattle.vhost_pair.specs.Joined as joined
 use Rattle.vhost_pair.specs.Sides.{fresh_run}
 use Rattle.vhost_pair.specs.Text.{Text}
 use Rattle.vhost_pair.specs.declared.call.FrontendAnswer.{FrontendAnswer}
 use Rattle.vhost_pair.specs.declared.call.FrontendCall.{FrontendCall}
-use Rattle.vhost_pair.specs.declared.dummy.DummyBackendReqHandler.{DummyBackendReqHandler}
 use Rattle.vhost_pair.specs.declared.halt.Halt.{Halt}
 use Rattle.vhost_pair.specs.declared.halt.Stop.{Stop}
 use Rattle.vhost_run.specs.Shown.{AnswersCall, ShowsText}
@@ -21,13 +24,21 @@ Device = DummyBackendReqHandler Ends PlainHandle
 abbrev pub View : Type 0
 View = joined.View Device
 
--- a session as it begins: nobody owns the device, which has two queues; a message may take three retries, and no link is cut
+-- the handles that the device has to give out, the last one first
+abbrev pub spares : List PlainHandle
+spares = map (λ n. record { id = n; kind = NoSocket }) (107 ∷ 106 ∷ 105 ∷ 104 ∷ 103 ∷ 102 ∷ 101 ∷ 100 ∷ [])
+
+-- a session as it begins: the device is new and has two queues; a message may take three retries, and no link is cut
 abbrev pub IsFresh : View → Type 0
-IsFresh now = (device : Device) × (device.owned ≡ false) × (now ≡ fresh_run device 2 3 [] [])
+IsFresh now = (alloc : Global) × (now ≡ fresh_run (fresh alloc spares) 2 3 [] [])
+
+-- a handle is copied as it is
+abbrev pub copies : PlainHandle → Result PlainHandle IoCause → Type 0
+copies handle result = result ≡ Ok handle
 
 -- what a call does: a step of both sides
 abbrev pub Steps : View → FrontendCall → Result FrontendAnswer Halt → View → Type 0
-Steps old call result new = joined.Steps DummyGives old (joined.call_of call) result new
+Steps old call result new = joined.Steps (DummyGives copies) old (joined.call_of call) result new
 
 abbrev pub request_of : View → Text
 request_of now = now.request

@@ -7,16 +7,16 @@ ghost use Rattle.vhost_run.specs.Lines.{lines, bad_line, status_of, complaint_of
 ghost use Rattle.vhost_run.specs.Shown.{line_text};
 ghost use Rattle.vhost_run.specs.Session.{IsFresh, Answers, ShowsLines, request_of, reply_of, stopped_of};
 
+use crate::device::{Device, new_device};
 use crate::parse::call_of;
 use crate::show::{Answer, Message};
-use std::alloc::Global;
+use std::alloc::{AllocError, Global};
 use std::io;
 use std::io::{BufRead, Write};
-use vhost_link::MemLink;
-use vhost_pair::{DummyBackendReqHandler, FrontendAnswer, FrontendCall, Halt, Joined, Stop};
+use vhost_pair::{FrontendAnswer, FrontendCall, Halt, Joined, Stop};
 
 /// A frontend joined to the example device.
-type Session = Joined<DummyBackendReqHandler<MemLink>>;
+type Session = Joined<Device>;
 
 /// The lines can't go on: a reader, a writer or a link failed, or memory was refused.
 #[derive(Clone, Copy)]
@@ -24,6 +24,12 @@ struct Fault;
 
 impl From<io::Error> for Fault {
     fn from(_error: io::Error) -> Fault {
+        Fault
+    }
+}
+
+impl From<AllocError> for Fault {
+    fn from(_error: AllocError) -> Fault {
         Fault
     }
 }
@@ -96,8 +102,9 @@ fn answer_lines<I: BufRead, W: Write>(
 fn new_session(alloc: Global) -> Result<Session, Fault>
     ensures { IfOk result (λ session. IsFresh session) }
 {
+    let device = new_device(alloc)?;
     let scripts = (Vec::new(alloc), Vec::new(alloc));
-    Ok(Joined::new(alloc, DummyBackendReqHandler::new(), 2, 3, scripts)?)
+    Ok(Joined::new(alloc, device, 2, 3, scripts)?)
 }
 
 /// Reads the next line without its end. False where there is none.

@@ -1,6 +1,7 @@
 //! Runs the calls of a frontend, one a line, against an example device.
 #![tactic(auto)]
 
+mod device;
 mod lines;
 mod parse;
 mod show;

@@ -1,6 +1,6 @@
 //! The session of a frontend over any link.
 
-ghost use Rattle.std.specs.Prelude.{◌≡◌, ◌≤◌, IfOk, IfErr, true, false, ⊤};
+ghost use Rattle.std.specs.Prelude.{◌≡◌, IfOk, IfErr, true};
 ghost use Rattle.vhost_message.specs.MsgHeader.{fields_of};
 ghost use Rattle.vhost_message.specs.declared.error.Error.TheVariants.{OutOfMemory};
 ghost use Rattle.vhost_protocol.specs.FrontendCall.{GetFeatures, SetOwner, Number, Nothing, new_frontend};

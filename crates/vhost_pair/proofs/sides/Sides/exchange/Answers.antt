@@ -8,9 +8,18 @@ pub copy_request-requires : goal.copy_request-requires
 copy_request-requires g c = few-sent c.args.call _ _ _ _ _ c.requires.rest c.ask-asked.result _ _ _ c.requires.lists.0 c.ask-asked.ensures
 
 pub returns-in-Err-clause-answers : goal.returns-in-Err-clause-answers
-returns-in-Err-clause-answers g c = unsent-so g.D.VhostUserBackendReqHandlerMut.gives c.args.call _ _ _ _ _ c.args.self.now.device (text_in c.args.self.now.request) (text_in c.args.self.now.reply) c.requires.rest c.requires.lists.0
-    c.in-Err.error _ _ _ c.in-Err.ensures _ c.copy_request.ensures.same _ _ (text_in c.copy_request.new.wire) (text_in c.clear.new.self) c.if-faulted.result
+returns-in-Err-clause-answers g c = (unsent-so g.D.VhostUserBackendReqHandlerMut.gives c.args.call _ _ _ _ _ c.args.self.now.device (text_in c.args.self.now.request) (text_in c.args.self.now.reply) c.requires.rest c.requires.lists
+    c.in-Err.error _ _ _ c.in-Err.ensures _ c.copy_request.ensures.same _ c.copy_request.ensures.frontend.0 _ c.copy_request.ensures.frontend.1
+    (text_in c.copy_request.new.wire) (text_in c.clear.new.self) c.copy_request.ensures.text c.clear.ensures c.if-faulted.result
     (elim c.if-faulted.branch [ then-faulted w ↦ λ t. w.result-is | else-faulted w ↦ λ t. absurd (cc (sym t ∙ sym c.faulted.ensures ∙ w.if-faulted.false)) ])
+    (elim c.if-faulted.branch [ then-faulted w ↦ λ t. absurd (cc (sym t ∙ sym c.faulted.ensures ∙ w.if-faulted.true)) | else-faulted w ↦ λ t. w.result-is ])).0
+
+pub returns-in-Err-clause-rest : goal.returns-in-Err-clause-rest
+returns-in-Err-clause-rest g c = (unsent-so g.D.VhostUserBackendReqHandlerMut.gives c.args.call _ _ _ _ _ c.args.self.now.device (text_in c.args.self.now.request) (text_in c.args.self.now.reply) c.requires.rest c.requires.lists
+    c.in-Err.error _ _ _ c.in-Err.ensures _ c.copy_request.ensures.same _ c.copy_request.ensures.frontend.0 _ c.copy_request.ensures.frontend.1
+    (text_in c.copy_request.new.wire) (text_in c.clear.new.self) c.copy_request.ensures.text c.clear.ensures c.if-faulted.result
+    (elim c.if-faulted.branch [ then-faulted w ↦ λ t. w.result-is | else-faulted w ↦ λ t. absurd (cc (sym t ∙ sym c.faulted.ensures ∙ w.if-faulted.false)) ])
+    (elim c.if-faulted.branch [ then-faulted w ↦ λ t. absurd (cc (sym t ∙ sym c.faulted.ensures ∙ w.if-faulted.true)) | else-faulted w ↦ λ t. w.result-is ])).1
 
 pub copy_reply-requires : goal.copy_reply-requires
 copy_reply-requires g c = reply-is-few g.D.VhostUserBackendReqHandlerMut.gives c.args.call _ _ _ _ _ c.args.self.now.device (text_in c.args.self.now.request) (text_in c.args.self.now.reply) c.requires.rest c.requires.lists

@@ -1,0 +1,118 @@
+-- A request that was served.
+use Rattle.std.proofs.Common.{◌≡◌, ◌⊎◌, inl, inr, Bool, true, false, cond, [], ◌++◌, Option, Some, None, Result, Ok, Err, refl, sym, ◌∙◌, ap, subst}
+use Rattle.std.specs.Prelude.{⊤}
+use Rattle.std.proofs.lemmas.List.{append-nil}
+use Rattle.vhost_message.specs.declared.error.Error as declared
+use Rattle.vhost_message.specs.declared.error.Error.TheVariants as error
+use Rattle.vhost_message.specs.declared.frontend_req.FrontendReq.{FrontendReq}
+use Rattle.vhost_message.specs.FrontendReq.{request_of, request_number}
+use Rattle.vhost_protocol.specs.Codes.{wanted}
+use Rattle.vhost_protocol.specs.Error.{Error, OutOfMemory, seen_result}
+use Rattle.vhost_protocol.specs.Handler.{Meets, MeetsRow}
+use Rattle.vhost_protocol.specs.Joined.{is_last, is_end, read_as}
+use Rattle.vhost_protocol.specs.Run as run
+use Rattle.vhost_protocol.specs.Served.{Served, Silent, Acknowledged, Replied, reply, cells_of}
+use Rattle.vhost_protocol.specs.Session.{Session}
+use Rattle.vhost_protocol.specs.Split.{split}
+use Rattle.vhost_protocol.specs.Step.{Outcome}
+use Rattle.vhost_protocol.specs.Stream.{bytes}
+use Rattle.vhost_protocol.specs.Written.{Written, written_cells}
+use Rattle.vhost_protocol.proofs.TextLaws.{IsSendable, written-split}
+use Rattle.vhost_link.specs.declared.plain.PlainHandle.{PlainHandle}
+use Rattle.vhost_link.specs.Mem.{event}
+use Rattle.vhost_backend_req_handler.specs.Serving.{Handled, HandlesOne, fitting}
+use Rattle.vhost_pair.specs.declared.halt.Stop.{Stop}
+use Rattle.vhost_pair.specs.declared.halt.Stop.TheVariants.{Table, Premise}
+use Rattle.vhost_pair.specs.Device.{Gives, opens_backend, opens_gpu}
+use Rattle.vhost_pair.specs.OnWay.{coming, gone}
+use Rattle.vhost_pair.specs.Joined.{IsUsed}
+use Rattle.vhost_pair.specs.Sides.{cuts_of, stop_of}
+use Rattle.vhost_pair.proofs.Asked.{End}
+use Rattle.vhost_pair.proofs.OnWay.{coming-cut, gone-taken}
+use Rattle.vhost_pair.proofs.Spent.{Faults, faults, talk-used}
+
+pub pair-first : {A B : Type 0} {p q : A × B} → p ≡ q → p.0 ≡ q.0
+pair-first {A = A} {B = B} e = ap {A = A × B} (λ x. x.0) e
+
+pub pair-second : {A B : Type 0} {p q : A × B} → p ≡ q → p.1 ≡ q.1
+pair-second {A = A} {B = B} e = ap {A = A × B} (λ x. x.1) e
+
+module _ {Dev : Type 0} (gives : Gives Dev) (he he' : End) (s s' : Session) (d d' : Dev) where
+  abbrev pub IsHandled : Result ⊤ Error → Type 0
+  IsHandled r = Handled event gives opens_backend opens_gpu he s d r he' s' d'
+
+  pub split-handled : (r : Result ⊤ declared.Error) → HandlesOne event gives opens_backend opens_gpu he s d r he' s' d' → he.broken ≡ None → he.list ≡ true → IsHandled (seen_result r) ⊎ Faults he he'
+  split-handled (Ok u) h whole list = inl h
+  split-handled (Err e) (inl h) whole list = inl h
+  split-handled (Err e) (inr k) whole list = inr (faults he he' false e k.fails whole list)
+
+  -- The request was served.
+  pub record IsServed (w : Written FrontendReq PlainHandle) (r : Result ⊤ Error) : Type 0 where
+    pub outcome : Outcome PlainHandle
+    pub meets : Meets (fitting gives) opens_backend opens_gpu s d (read_as w) outcome d'
+    pub answer : r ≡ outcome.answer
+    pub written : gone he' ≡ cells_of request_number (reply w.request outcome.served)
+    pub session : s' ≡ outcome.session
+    pub nothing : coming he' ≡ []
+    pub used : IsUsed (cuts_of he.link) (cuts_of he'.link)
+    pub broken : he'.broken ≡ None
+    pub faulted : he'.faulted ≡ false
+    pub budget : he'.budget ≡ he.budget
+
+  pub is-served : (w : Written FrontendReq PlainHandle) (r : Result ⊤ Error) → IsSendable request_of wanted request_number w → IsHandled r → coming he ≡ written_cells request_number w → gone he ≡ [] → s.failed ≡ None → IsServed w r
+  is-served w r sendable h came clear failed =
+      let sv : run.ServesUnless request_of wanted (λ (t : Session). t.failed) (MeetsRow (fitting gives) opens_backend opens_gpu) None s d h.move.handed r h.move.taken s' d' =
+      subst (λ x. run.ServesUnless request_of wanted (λ (t : Session). t.failed) (MeetsRow (fitting gives) opens_backend opens_gpu) x s d h.move.handed r h.move.taken s' d') failed h.handles in
+      let cut = coming-cut he he' h.move h.talks (split request_of wanted) sv.1.0 sv.1.1 sv.0 sv.1.2 sv.1.3 in
+      let whole = written-split request_of wanted request_number w [] sendable in
+      let both = sym cut ∙ ap (λ cells. split request_of wanted cells) (came ∙ sym (append-nil (written_cells request_number w))) ∙ whole in
+      let m : MeetsRow (fitting gives) opens_backend opens_gpu s d (read_as w) r h.move.taken s' d' =
+      subst (λ x. run.Handles request_of wanted (λ (t : Session). t.failed) (MeetsRow (fitting gives) opens_backend opens_gpu) s d x r h.move.taken s' d') (pair-first both) sv.2 in
+      record {
+        outcome = m.0;
+        meets = m.1;
+        answer = m.2;
+        written = gone-taken he he' h.move h.talks ∙ ap (λ xs. xs ++ h.move.taken) clear ∙ m.3;
+        session = m.4;
+        nothing = pair-second both;
+        used = talk-used he he' h.move h.talks;
+        broken = h.after;
+        faulted = h.faulted;
+        budget = h.talks.budget;
+      }
+
+-- ---- where a run stops
+
+abbrev pub last_stop : Bool → Option Stop
+last_stop last = cond last (Some Table) None
+
+as_seen : Served PlainHandle → Session → Result ⊤ declared.Error → Outcome PlainHandle
+as_seen served s r = record { answer = seen_result r; served = served; session = s }
+
+stopped-as-seen : (r : FrontendReq) (result : Result ⊤ declared.Error) (served : Served PlainHandle) (s : Session) → is_end r ≡ false
+    → ((stop_of false result (bytes (cells_of request_number (reply r served))) ≡ Some Premise) × (seen_result result ≡ Err OutOfMemory))
+    ⊎ (stop_of false result (bytes (cells_of request_number (reply r served))) ≡ last_stop (is_last r (as_seen served s result)))
+unfolding as_seen
+stopped-as-seen r (Ok u) served s ended = inr refl
+stopped-as-seen r (Err error.OutOfMemory) served s ended = inl (refl, refl)
+stopped-as-seen r (Err e) Silent s ended = inr refl
+stopped-as-seen r (Err e) (Acknowledged b) s ended = inr (ap last_stop (sym ended))
+stopped-as-seen r (Err e) (Replied p hs) s ended = inr (ap last_stop (sym ended))
+
+-- without a fault of a link a run stops because the device had no memory, or exactly at the last step
+pub stopped-as : (r : FrontendReq) (result : Result ⊤ declared.Error) (o : Outcome PlainHandle) → is_end r ≡ false → seen_result result ≡ o.answer
+    → ((stop_of false result (bytes (cells_of request_number (reply r o.served))) ≡ Some Premise) × (o.answer ≡ Err OutOfMemory))
+    ⊎ (stop_of false result (bytes (cells_of request_number (reply r o.served))) ≡ last_stop (is_last r o))
+unfolding as_seen
+stopped-as r result o ended is = by-cases (stopped-as-seen r result o.served o.session ended)
+  where
+    by-cases : ((stop_of false result (bytes (cells_of request_number (reply r o.served))) ≡ Some Premise) × (seen_result result ≡ Err OutOfMemory))
+        ⊎ (stop_of false result (bytes (cells_of request_number (reply r o.served))) ≡ last_stop (is_last r (as_seen o.served o.session result)))
+        → ((stop_of false result (bytes (cells_of request_number (reply r o.served))) ≡ Some Premise) × (o.answer ≡ Err OutOfMemory))
+        ⊎ (stop_of false result (bytes (cells_of request_number (reply r o.served))) ≡ last_stop (is_last r o))
+    by-cases (inl p) = inl (p.0, sym is ∙ p.1)
+    by-cases (inr e) = inr (e ∙ ap {A = Result ⊤ Error} (λ a. last_stop (is_last r (record { answer = a; served = o.served; session = o.session }))) is)
+
+pub not-last : (last : Bool) → last_stop last ≡ None → last ≡ false
+not-last true e = absurd (cc e)
+not-last false e = refl

@@ -1,7 +1,0 @@
-use Rattle.vhost_connection.specs.State.{ahead_of}
-use Rattle.vhost_pair.proofs.Carrying.{carries}
-use Rattle.vhost_pair.proofs.ways.carry_reply.Goals as goal
-
-pub returns-clause-carried : goal.returns-clause-carried
-unfolding ahead_of
-returns-clause-carried c = carries _ _ _ _ _ _ c.carry-carried.result c.link.ensures.value c.link-2.ensures.value c.carry-carried.ensures.succeeds c.requires c.carry-carried.ensures.carried
