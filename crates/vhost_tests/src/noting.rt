@@ -2,13 +2,15 @@
 
 ghost use Rattle.std.specs.Prelude.{⊤};
 
+use crate::link::{TestHandle, TestLink};
+use crate::miss::{Miss, expect, told};
+use crate::probe::Probe;
+use crate::words::{handles_of, numbers_of};
 use bitflags::Flags;
 use std::alloc::{AllocError, Global};
-use std::process::Abort;
 use vhost_backend_req::Backend;
 use vhost_device::VhostUserBackendReqHandlerMut;
 use vhost_gpu_backend_req::GpuBackend;
-use vhost_link::{MemLink, PlainHandle};
 use vhost_message::{
     Error, IoCause, Result, VhostTransferStateDirection, VhostTransferStatePhase,
     VhostUserConfigFlags, VhostUserInflight, VhostUserLog, VhostUserMemoryRegion,
@@ -16,16 +18,15 @@ use vhost_message::{
     VhostUserSingleMemoryRegion, VhostUserVringAddrFlags, VhostUserVringState,
 };
 
-/// How often it was called, and the last call: its name, and the numbers among its arguments.
+/// A device that notes its calls: their names, and the numbers among their arguments.
 #[derive(Drop)]
 pub struct Noting {
-    pub calls: usize,
-    pub name: &'static str,
-    pub numbers: [u64; 6],
+    /// The calls since they were last tested.
+    calls: String,
     /// Whether it refuses each call that it may.
-    pub refuses: bool,
+    refuses: bool,
     /// The handle that it gives for the device's state.
-    file: Option<PlainHandle>,
+    file: Option<TestHandle>,
     /// Where it has mapped the regions of a table, or of one that was added.
     bases: Vec<u64>,
     alloc: Global,
@@ -35,9 +36,7 @@ impl Noting {
     /// A device that agrees to each call, and maps nothing.
     pub(crate) fn new(alloc: Global) -> Noting {
         Noting {
-            calls: 0,
-            name: "",
-            numbers: [0; 6],
+            calls: String::new(alloc),
             refuses: false,
             file: None,
             bases: Vec::new(alloc),
@@ -45,51 +44,67 @@ impl Noting {
         }
     }
 
-    /// The same, that maps regions here.
-    pub(crate) fn mapping(alloc: Global, bases: &[u64]) -> std::result::Result<Noting, AllocError> {
-        let mut device = Noting::new(alloc);
-        device.bases = Vec::from_slice(alloc, bases)?;
-        Ok(device)
-    }
-
-    /// Tests the last call, and forgets all calls: it was the only one since then.
-    pub(crate) fn expect_call(&mut self, rt: &impl Abort, name: &str, numbers: &[u64]) {
-        assert_eq!(rt; (self.calls, self.name), (1, name));
-        for (noted, number) in self.numbers.iter().zip(numbers) {
-            assert_eq!(rt; noted, number, "at {name}");
-        }
-        self.calls = 0;
-    }
-
-    /// From now on it gives this handle for its state.
-    pub(crate) fn give(&mut self, file: PlainHandle) {
-        self.file = Some(file);
-    }
-
-    /// Forgets the calls so far.
-    pub(crate) fn forget(&mut self) {
-        self.calls = 0;
-    }
-
     /// Notes a call.
-    fn note(&mut self, name: &'static str, numbers: &[u64]) -> Result<()> {
-        self.calls = self.calls.wrapping_add(1);
-        self.name = name;
-        self.numbers = [0; 6];
-        for (place, number) in self.numbers.iter_mut().zip(numbers) {
-            *place = *number;
+    fn note(&mut self, name: &str, numbers: &[u64]) -> Result<()> {
+        if self.write(name, numbers).is_err() {
+            return Err(Error::OutOfMemory);
         }
         if self.refuses {
             return Err(Error::ReqHandlerError(IoCause::Raw(5)));
         }
         Ok(())
     }
+
+    /// Writes a call behind the others.
+    fn write(&mut self, name: &str, numbers: &[u64]) -> std::result::Result<(), AllocError> {
+        if !self.calls.is_empty() {
+            self.calls.push_str("; ")?;
+        }
+        self.calls.push_str(name)?;
+        for number in numbers {
+            self.calls
+                .push_str(format!(in self.alloc; " {number}")?.as_str())?;
+        }
+        Ok(())
+    }
+
+    /// Tests the calls since they were last tested: `none`, or all of them.
+    fn expect_calls(&mut self, want: &str) -> std::result::Result<(), Miss> {
+        let want = if want == "none" { "" } else { want };
+        let met = expect(self.alloc, self.calls.as_str(), want);
+        self.calls.clear();
+        met
+    }
+}
+
+impl Probe for Noting {
+    /// `! CALL` tests the calls since the last such line, `refuse` and `agree` say how it answers from now on, `give 1`
+    /// which handle it gives for its state, and `map 4096 ..` where it maps regions.
+    fn obey(&mut self, alloc: Global, word: &str, rest: &str) -> std::result::Result<(), Miss> {
+        match word {
+            "!" => return self.expect_calls(rest),
+            "refuse" => self.refuses = true,
+            "agree" => self.refuses = false,
+            "give" => {
+                for plain in &handles_of(alloc, rest)? {
+                    self.file = Some(TestHandle { plain: *plain });
+                }
+            }
+            "map" => self.bases = numbers_of(alloc, rest)?,
+            _ => return Err(told(alloc, "no such line")),
+        }
+        Ok(())
+    }
+
+    fn forget(&mut self) {
+        self.calls.clear();
+    }
 }
 
 /// The number of a handle, or 0 for none.
-fn id_of(fd: &Option<PlainHandle>) -> u64 {
+fn id_of(fd: &Option<TestHandle>) -> u64 {
     match fd {
-        Some(fd) => fd.id.into(),
+        Some(fd) => fd.plain.id.into(),
         None => 0,
     }
 }
@@ -103,7 +118,7 @@ fn word(value: Option<bool>) -> u64 {
 }
 
 impl VhostUserBackendReqHandlerMut for Noting {
-    type Link = MemLink;
+    type Link = TestLink;
 
     ghost gives = { λ _ _ _ _. ⊤ };
 
@@ -132,7 +147,7 @@ impl VhostUserBackendReqHandlerMut for Noting {
     fn set_mem_table(
         &mut self,
         ctx: &[VhostUserMemoryRegion],
-        files: Vec<PlainHandle>,
+        files: Vec<TestHandle>,
         postcopy_listening: Option<bool>,
     ) -> Result<Option<Vec<VhostUserMemoryRegionBase>>>
         ensures { ⊤ }
@@ -189,19 +204,19 @@ impl VhostUserBackendReqHandlerMut for Noting {
         Ok(VhostUserVringState::new(index, 2))
     }
 
-    fn set_vring_kick(&mut self, index: u8, fd: Option<PlainHandle>) -> Result<()>
+    fn set_vring_kick(&mut self, index: u8, fd: Option<TestHandle>) -> Result<()>
         ensures { ⊤ }
     {
         self.note("set_vring_kick", &[index.into(), id_of(&fd)])
     }
 
-    fn set_vring_call(&mut self, index: u8, fd: Option<PlainHandle>) -> Result<()>
+    fn set_vring_call(&mut self, index: u8, fd: Option<TestHandle>) -> Result<()>
         ensures { ⊤ }
     {
         self.note("set_vring_call", &[index.into(), id_of(&fd)])
     }
 
-    fn set_vring_err(&mut self, index: u8, fd: Option<PlainHandle>) -> Result<()>
+    fn set_vring_err(&mut self, index: u8, fd: Option<TestHandle>) -> Result<()>
         ensures { ⊤ }
     {
         self.note("set_vring_err", &[index.into(), id_of(&fd)])
@@ -250,19 +265,19 @@ impl VhostUserBackendReqHandlerMut for Noting {
         )
     }
 
-    fn set_backend_req_fd(&mut self, _backend: Backend<MemLink>)
+    fn set_backend_req_fd(&mut self, _backend: Backend<TestLink>)
         ensures { ⊤ }
     {
         let _answer = self.note("set_backend_req_fd", &[]);
     }
 
-    fn set_gpu_socket(&mut self, _gpu_backend: GpuBackend<MemLink>) -> Result<()>
+    fn set_gpu_socket(&mut self, _gpu_backend: GpuBackend<TestLink>) -> Result<()>
         ensures { ⊤ }
     {
         self.note("set_gpu_socket", &[])
     }
 
-    fn get_shared_object(&mut self, _uuid: VhostUserSharedMsg) -> Result<PlainHandle> {
+    fn get_shared_object(&mut self, _uuid: VhostUserSharedMsg) -> Result<TestHandle> {
         self.note("get_shared_object", &[])?;
         Err(Error::InvalidParam)
     }
@@ -270,18 +285,18 @@ impl VhostUserBackendReqHandlerMut for Noting {
     fn get_inflight_fd(
         &mut self,
         inflight: &VhostUserInflight,
-    ) -> Result<(VhostUserInflight, PlainHandle)> {
+    ) -> Result<(VhostUserInflight, TestHandle)> {
         self.note("get_inflight_fd", &[inflight.num_queues.into()])?;
         Err(Error::InvalidParam)
     }
 
-    fn set_inflight_fd(&mut self, inflight: &VhostUserInflight, file: PlainHandle) -> Result<()> {
+    fn set_inflight_fd(&mut self, inflight: &VhostUserInflight, file: TestHandle) -> Result<()> {
         self.note(
             "set_inflight_fd",
             &[
                 inflight.num_queues.into(),
                 inflight.queue_size.into(),
-                file.id.into(),
+                file.plain.id.into(),
             ],
         )
     }
@@ -294,14 +309,14 @@ impl VhostUserBackendReqHandlerMut for Noting {
     fn add_mem_region(
         &mut self,
         region: &VhostUserSingleMemoryRegion,
-        fd: PlainHandle,
+        fd: TestHandle,
         postcopy_listening: Option<bool>,
     ) -> Result<Option<VhostUserMemoryRegionBase>> {
         self.note(
             "add_mem_region",
             &[
                 region.region().memory_size,
-                fd.id.into(),
+                fd.plain.id.into(),
                 word(postcopy_listening),
             ],
         )?;
@@ -316,14 +331,14 @@ impl VhostUserBackendReqHandlerMut for Noting {
         &mut self,
         direction: VhostTransferStateDirection,
         phase: VhostTransferStatePhase,
-        fd: PlainHandle,
-    ) -> Result<Option<PlainHandle>> {
+        fd: TestHandle,
+    ) -> Result<Option<TestHandle>> {
         self.note(
             "set_device_state_fd",
             &[
                 u32::from(direction).into(),
                 u32::from(phase).into(),
-                fd.id.into(),
+                fd.plain.id.into(),
             ],
         )?;
         Ok(self.file)
@@ -338,9 +353,9 @@ impl VhostUserBackendReqHandlerMut for Noting {
         Ok(VhostUserShMemConfig::new(2, &[0x1000, 0x2000]))
     }
 
-    fn postcopy_advice(&mut self) -> Result<PlainHandle> {
+    fn postcopy_advice(&mut self) -> Result<TestHandle> {
         self.note("postcopy_advice", &[])?;
-        Ok(super::handle(9))
+        Ok(TestHandle::new(9))
     }
 
     fn postcopy_listen(&mut self) -> Result<()> {
@@ -355,10 +370,10 @@ impl VhostUserBackendReqHandlerMut for Noting {
         self.note("postcopy_ack_mem_regions", &[])
     }
 
-    fn set_log_base(&mut self, log: &VhostUserLog, file: PlainHandle) -> Result<()> {
+    fn set_log_base(&mut self, log: &VhostUserLog, file: TestHandle) -> Result<()> {
         self.note(
             "set_log_base",
-            &[log.mmap_size, log.mmap_offset, file.id.into()],
+            &[log.mmap_size, log.mmap_offset, file.plain.id.into()],
         )
     }
 }
