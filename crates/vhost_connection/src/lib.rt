@@ -1,15 +1,11 @@
 //! Endpoints: whole messages over a link.
 #![tactic(auto)]
 
-#[cfg(test)]
-mod callers;
 mod endpoint;
 mod fault;
 mod list;
 mod pass;
 mod pieces;
-#[cfg(test)]
-mod tests;
 
 pub use endpoint::Endpoint;
 pub use fault::break_on_fault;

@@ -5,8 +5,6 @@ mod device;
 mod lock;
 mod served;
 mod shared;
-#[cfg(test)]
-mod tests;
 
 pub use device::VhostUserBackendReqHandlerMut;
 pub use served::Served;

@@ -4,8 +4,6 @@
 mod dummy;
 mod handler;
 mod spares;
-#[cfg(test)]
-mod tests;
 
 pub use dummy::{
     DummyBackendReqHandler, MAX_MEM_SLOTS, MAX_QUEUE_NUM, MAX_VRING_NUM, VIRTIO_FEATURES,

@@ -6,8 +6,6 @@ mod gpu_backend_req;
 mod header;
 mod limits;
 mod records;
-#[cfg(test)]
-mod tests;
 mod words;
 
 pub use flags::{VhostUserGpuHeaderFlag, VhostUserGpuProtocolFeatures};

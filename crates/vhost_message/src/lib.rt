@@ -14,8 +14,6 @@ mod limits;
 mod postcopy;
 mod records;
 mod req;
-#[cfg(test)]
-mod tests;
 mod transfer_state;
 mod vring_config;
 

@@ -4,10 +4,10 @@ mod asked;
 mod rings;
 mod spares;
 
-use crate::DummyBackendReqHandler;
 use std::alloc::{AllocError, Global};
 use std::process::Abort;
 use vhost_device::VhostUserBackendReqHandlerMut;
+use vhost_dummy_backend::DummyBackendReqHandler;
 use vhost_link::{Kind, Link, MemLink, PlainHandle};
 use vhost_message::{Error, Result};
 

@@ -1,7 +1,7 @@
 //! Headers as bytes.
 
-use crate::{ByteValued, FrontendReq, VhostUserMsgHeader, VhostUserMsgValidator};
 use std::test::Fail;
+use vhost_message::{ByteValued, FrontendReq, VhostUserMsgHeader, VhostUserMsgValidator};
 
 type Header = VhostUserMsgHeader<FrontendReq>;
 

@@ -1,10 +1,10 @@
 //! The calls on rings.
 
 use super::{device, expect_refused, handle, negotiate};
-use crate::MAX_VRING_NUM;
 use bitflags::Flags;
 use std::test::Fail;
 use vhost_device::VhostUserBackendReqHandlerMut;
+use vhost_dummy_backend::MAX_VRING_NUM;
 use vhost_message::{Error, VhostUserVringAddrFlags};
 
 #[test]

@@ -1,12 +1,12 @@
 //! Each call, by the trait for exclusive references, over one for shared references, over a lock.
 
 use super::noted::{Noted, handle};
-use crate::{Served, VhostUserBackendReqHandler, VhostUserBackendReqHandlerMut};
 use std::alloc::Global;
 use std::process::Abort;
 use std::sync::{Arc, Mutex, Wait};
 use std::test::Fail;
 use vhost_backend_req::Backend;
+use vhost_device::{Served, VhostUserBackendReqHandler, VhostUserBackendReqHandlerMut};
 use vhost_gpu_backend_req::GpuBackend;
 use vhost_link::{Link, MemLink};
 use vhost_message::{

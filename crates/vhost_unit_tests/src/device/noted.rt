@@ -2,9 +2,9 @@
 
 ghost use Rattle.std.specs.Prelude.{⊤};
 
-use crate::VhostUserBackendReqHandlerMut;
 use bitflags::Flags;
 use vhost_backend_req::Backend;
+use vhost_device::VhostUserBackendReqHandlerMut;
 use vhost_gpu_backend_req::GpuBackend;
 use vhost_link::{Kind, MemLink, PlainHandle};
 use vhost_message::{

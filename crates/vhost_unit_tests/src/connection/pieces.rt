@@ -1,9 +1,9 @@
 //! Bytes that are sent as they are, in one piece or several.
 
 use super::{End, FAULT, HANDLES, bytes_then, end, expect_sent};
-use crate::get_sub_iovs_offset;
 use std::alloc::Global;
 use std::test::Fail;
+use vhost_connection::get_sub_iovs_offset;
 use vhost_link::{Cut, PlainHandle};
 use vhost_message::{Error, IoCause, Result as Answer};
 

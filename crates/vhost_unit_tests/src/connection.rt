@@ -1,13 +1,14 @@
 //! Endpoints over links in memory, however these are cut and wherever they fail.
 
 mod buffers;
+mod callers;
 mod payloads;
 mod pieces;
 
-use crate::Endpoint;
 use std::alloc::{AllocError, Global};
 use std::process::Abort;
 use std::test::Fail;
+use vhost_connection::Endpoint;
 use vhost_link::{Cut, Kind, MemLink, PlainHandle};
 use vhost_message::{Error, FrontendReq, IoCause, VhostUserLog, VhostUserMsgHeader, VhostUserU64};
 

@@ -1,11 +1,11 @@
 //! Ownership, features, configuration, and what it always answers.
 
 use super::{device, expect_reason, expect_refused, handle, negotiate};
-use crate::{MAX_MEM_SLOTS, MAX_QUEUE_NUM, VIRTIO_FEATURES};
 use bitflags::Flags;
 use std::test::Fail;
 use vhost_backend_req::Backend;
 use vhost_device::VhostUserBackendReqHandlerMut;
+use vhost_dummy_backend::{MAX_MEM_SLOTS, MAX_QUEUE_NUM, VIRTIO_FEATURES};
 use vhost_gpu_backend_req::GpuBackend;
 use vhost_link::MemLink;
 use vhost_message::{

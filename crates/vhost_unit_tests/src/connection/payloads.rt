@@ -1,9 +1,9 @@
 //! Messages with a payload, however they are cut and wherever they fail.
 
 use super::{FAULT, HANDLES, bytes_then, end, expect_sent};
-use crate::Endpoint;
 use std::alloc::Global;
 use std::test::Fail;
+use vhost_connection::Endpoint;
 use vhost_gpu_message::{GpuBackendReq, VhostUserGpuMsgHeader, VhostUserGpuUpdate};
 use vhost_link::{Cut, MemLink};
 use vhost_message::{Error, FrontendReq, IoCause, VhostUserConfig, VhostUserMsgHeader};

@@ -1,6 +1,6 @@
 //! Areas of descriptors in flight.
 
-use crate::{DescStatePacked, DescStateSplit, QueueRegionPacked, QueueRegionSplit};
+use vhost_message::{DescStatePacked, DescStateSplit, QueueRegionPacked, QueueRegionSplit};
 
 #[test]
 fn areas(rt: HostRuntime) {

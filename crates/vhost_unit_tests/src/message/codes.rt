@@ -1,10 +1,10 @@
 //! Numbers of codes, and numbers that are none.
 
-use crate::{
+use bitflags::Flags;
+use vhost_message::{
     BackendReq, FrontendReq, Req, VhostTransferStateDirection, VhostTransferStatePhase,
     VhostUserProtocolFeatures,
 };
-use bitflags::Flags;
 
 // How many of the numbers from 0 on are codes.
 fn count_codes<R: Req>(numbers: u32) -> u32 {

@@ -1,14 +1,14 @@
 //! Records as bytes, and which of them are valid.
 
-use crate::{
+use bitflags::Flags;
+use uuid::Uuid;
+use vhost_message::{
     ByteValued, VhostTransferStateDirection, VhostTransferStatePhase, VhostUserConfig,
     VhostUserConfigFlags, VhostUserEmpty, VhostUserInflight, VhostUserLog, VhostUserMMap,
     VhostUserMemory, VhostUserMemoryRegion, VhostUserMsgValidator, VhostUserShMemConfig,
     VhostUserSharedMsg, VhostUserSingleMemoryRegion, VhostUserTransferDeviceState, VhostUserU64,
     VhostUserVringAddr, VhostUserVringAddrFlags, VhostUserVringState,
 };
-use bitflags::Flags;
-use uuid::Uuid;
 
 #[test]
 fn regions(rt: HostRuntime) {

@@ -1,9 +1,9 @@
 //! The texts of errors.
 
-use crate::{
+use std::test::Fail;
+use vhost_message::{
     Error, HandlerResult, IoCause, IoError, VhostUserProtocolFeatures, VhostUserVirtioFeatures,
 };
-use std::test::Fail;
 
 #[test]
 fn plain_texts(rt: HostRuntime) -> Result<(), Fail> {

@@ -1,13 +1,13 @@
 //! Values from outside.
 
-use crate::{
+use bitflags::Flags;
+use std::test::Fail;
+use vhost_gpu_message::{
     GpuBackendReq, VhostUserGpuCursorPos, VhostUserGpuCursorUpdate, VhostUserGpuDMABUFScanout,
     VhostUserGpuDMABUFScanout2, VhostUserGpuEdidRequest, VhostUserGpuMsgHeader,
     VhostUserGpuProtocolFeatures, VhostUserGpuScanout, VhostUserGpuUpdate, VirtioGpuCtrlHdr,
     VirtioGpuDisplayOne, VirtioGpuRect, VirtioGpuRespDisplayInfo, VirtioGpuRespGetEdid,
 };
-use bitflags::Flags;
-use std::test::Fail;
 use vhost_message::{ByteValued, MsgHeader, Req, VhostUserMsgValidator};
 
 type Header = VhostUserGpuMsgHeader<GpuBackendReq>;
