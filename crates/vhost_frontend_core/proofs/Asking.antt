@@ -1,0 +1,55 @@
+-- The half that asks, test by test.
+use Rattle.std.proofs.Common.{◌≡◌, ℕ, Bool, true, false, Result, Ok, Err, refl, sym, ap, subst, ◌∙◌}
+use Rattle.std.specs.Prelude.{⊤}
+use Rattle.vhost_message.specs.declared.error.Error as declared
+use Rattle.vhost_message.specs.declared.frontend_req.FrontendReq.{FrontendReq}
+use Rattle.vhost_protocol.specs.Error.{Error, seen}
+use Rattle.vhost_protocol.specs.FrontendCall.{Frontend}
+use Rattle.vhost_protocol.specs.Ask.{Awaited, Asked, Refuses, Sends, ◌>>◌}
+use Rattle.vhost_protocol.specs.Written.{Written}
+use Rattle.vhost_link.specs.Law.{Event}
+use Rattle.vhost_connection.specs.Talk.{State}
+use Rattle.vhost_frontend_core.specs.Asking as asking
+use Rattle.vhost_frontend_core.specs.Asking.{Asks, Tries}
+use Rattle.vhost_frontend_core.specs.declared.asked.Sent.{Sent}
+
+module _ {L H : Type 0} {event : L → Event H → L → Type 0} where
+  -- a test refused
+  pub stops : {t : Result ⊤ Error} (next : Asked H) {old : State L H} {f : Frontend} {before : Awaited} (e : declared.Error) → t ≡ Err (seen e)
+      → Asks event (t >> next) old f before (Err e) old f before
+  stops next e is = asking.refuses (rw is refl)
+
+  -- it passed: the rest decides
+  pub passes : {t : Result ⊤ Error} {next : Asked H} {old new : State L H} {f f' : Frontend} {before after : Awaited} {result : Result Sent declared.Error} → t ≡ Ok tt
+      → Asks event next old f before result new f' after → Asks event (t >> next) old f before result new f' after
+  passes {next = next} {old} {new} {f} {f'} {before} {after} {result} is p =
+      subst (λ (x : Asked H). Asks event x old f before result new f' after) (sym (ap (λ (x : Result ⊤ Error). x >> next) is)) p
+
+  -- the message was tried, and the session stays
+  pub tried : {w : Written FrontendReq H} {asked : Awaited} {old new : State L H} {f f' : Frontend} {before after : Awaited} {result : Result Sent declared.Error}
+      → f' ≡ f → Tries event w asked old before result new after → Asks event (Sends w asked f) old f before result new f' after
+  tried {w} {asked} {old} {new} {f} {f'} {before} {after} {result} same p = subst (λ (x : Frontend). Asks event (Sends w asked f) old f before result new x after) (sym same) (go p)
+    where
+      go : {result : Result Sent declared.Error} {new : State L H} {after : Awaited} → Tries event w asked old before result new after → Asks event (Sends w asked f) old f before result new f after
+      go (asking.whole g) = asking.goes refl g
+      go (asking.broke x) = asking.fails refl x
+
+  -- what is awaited, by another name
+  tries_as : {w : Written FrontendReq H} {asked other : Awaited} {old new : State L H} {before after : Awaited} {result : Result Sent declared.Error}
+      → asked ≡ other → Tries event w asked old before result new after → Tries event w other old before result new after
+  tries_as {w} {old = old} {new} {before} {after} {result} e p = subst (λ (x : Awaited). Tries event w x old before result new after) e p
+
+  -- the session changes once the message went out
+  pub went : {w : Written FrontendReq H} {asked other : Awaited} {old new : State L H} {f f' : Frontend} {before after : Awaited} {sent : Sent}
+      → asked ≡ other → Tries event w asked old before (Ok sent) new after → Asks event (Sends w other f') old f before (Ok sent) new f' after
+  went {w} {other = other} {old} {new} {f} {f'} {before} {after} {sent} e p = go (tries_as e p)
+    where
+      go : {new : State L H} {after : Awaited} → Tries event w other old before (Ok sent) new after → Asks event (Sends w other f') old f before (Ok sent) new f' after
+      go (asking.whole g) = asking.goes refl g
+
+  pub stayed : {w : Written FrontendReq H} {asked other : Awaited} {old new : State L H} {f f' g : Frontend} {before after : Awaited} {error : declared.Error}
+      → asked ≡ other → g ≡ f → Tries event w asked old before (Err error) new after → Asks event (Sends w other f') old f before (Err error) new g after
+  stayed {w} {other = other} {old} {new} {f} {f'} {before = before} {after} {error} e same p = subst (λ (x : Frontend). Asks event (Sends w other f') old f before (Err error) new x after) (sym same) (go (tries_as e p))
+    where
+      go : {new : State L H} {after : Awaited} → Tries event w other old before (Err error) new after → Asks event (Sends w other f') old f before (Err error) new f after
+      go (asking.broke x) = asking.fails refl x

@@ -1,0 +1,184 @@
+-- The half that takes, from what was received.
+use Rattle.std.proofs.Common.{◌≡◌, ℕ, List, [], ◌∷◌, ◌++◌, Bool, true, false, Option, Some, None, Result, Ok, Err, Vec, refl, sym, ap, subst, ◌∙◌}
+use Rattle.std.specs.Prelude.{is_some, if◌then◌else◌, ◌&&◌, ◌==◌, length, ⊤}
+use Rattle.std.specs.Global.{Global}
+use Rattle.vhost_message.specs.declared.error.Error as declared
+use Rattle.vhost_message.specs.declared.error.Error.TheVariants as code
+use Rattle.vhost_message.specs.Bits.{has_bit}
+use Rattle.vhost_message.specs.Header.{Header}
+use Rattle.vhost_message.specs.Records.{u64_at}
+use Rattle.vhost_protocol.specs.Stream.{Cell, has_some}
+use Rattle.vhost_protocol.specs.Error.{Error, InvalidParam, InvalidMessage, BackendInternalError, seen}
+use Rattle.vhost_protocol.specs.Split.{Splits}
+use Rattle.vhost_protocol.specs.FrontendCall.{FrontendCall, Frontend, Value}
+use Rattle.vhost_protocol.specs.Ask.{Shape, Awaited, Nobody, Ack, Reply}
+use Rattle.vhost_protocol.specs.AnswerTable.{Answered, answered, answer, after_success, plain_value, with_one}
+use Rattle.vhost_protocol.specs.Served.{Acknowledged, Replied}
+use Rattle.vhost_protocol.specs.ReplySplit.{Received}
+use Rattle.vhost_protocol.specs.Take.{answers, is_sized, understood, payload_of, take, take_reply}
+use Rattle.vhost_link.specs.Law.{Event}
+use Rattle.vhost_connection.specs.Talk.{State}
+use Rattle.vhost_connection.specs.Calls.{HandsOver}
+use Rattle.vhost_connection.specs.Hearing.{Hears, Fails}
+use Rattle.vhost_frontend_core.specs.Taking.{reply_cut, valued, Comes, Missing, Recvs, Awaits, AwaitsAlone, AwaitsOne, RecvsAck, Acks, IsAck, Reads, Takes}
+use Rattle.vhost_frontend_core.specs.Taking.Missing.{unfit, none, failed}
+use Rattle.vhost_frontend_core.specs.Taking.Awaits.{is_reply, is_request}
+use Rattle.vhost_frontend_core.specs.Taking.AwaitsAlone.{alone, crowded, absent}
+use Rattle.vhost_frontend_core.specs.Taking.AwaitsOne.{one, not_one, no_reply}
+use Rattle.vhost_frontend_core.specs.Taking.RecvsAck.{agreed, refused, crowded_ack, unacked}
+use Rattle.vhost_frontend_core.specs.Taking.Acks.{unasked, asked_for}
+use Rattle.vhost_frontend_core.specs.Taking.Reads.{unread, read}
+use Rattle.vhost_frontend_core.specs.Taking.Takes.{taken, stopped}
+use Rattle.vhost_frontend_core.proofs.Handed.{hands-none, hands-some, nonzero}
+
+module _ {T L H : Type 0} {event : L → Event H → L → Type 0} {size : ℕ} {decode : List ℕ → T} {valid : T → Bool} where
+  -- a reply that was received has no handle, or some
+  pub alone-comes : {old new : State L H} {sent : Header} {t : T} (hs : Option (Vec H Global)) → Awaits event size decode valid old sent (Ok (t, hs)) new → is_some hs ≡ false → AwaitsAlone event size decode valid old sent (Ok t) new
+  alone-comes hs (is_request plain x) e = alone x.0 plain x.1 x.2 x.3 (hands-none hs x.0.handles x.4 e)
+
+  pub alone-crowded : {old new : State L H} {sent : Header} {t : T} (hs : Option (Vec H Global)) → Awaits event size decode valid old sent (Ok (t, hs)) new → is_some hs ≡ true
+      → AwaitsAlone event size decode valid old sent (Err code.InvalidMessage) new
+  alone-crowded hs (is_request plain x) e = crowded x.0 plain x.1 (hands-some hs x.0.handles x.4 e)
+
+  -- it has one, or not
+  pub one-comes : {old new : State L H} {sent : Header} {t : T} {h : H} (hs : Option (Vec H Global)) → Awaits event size decode valid old sent (Ok (t, hs)) new
+      → ((handles : List H) → HandsOver hs handles → with_one handles (λ g. g) ≡ Ok h) → AwaitsOne event size decode valid old sent (Ok (t, h)) new
+  one-comes {h = h} hs (is_request plain x) e = one x.0 plain x.1 x.2 x.3 (only x.0.handles (e x.0.handles x.4))
+    where
+      only : (handles : List H) → with_one handles (λ g. g) ≡ Ok h → handles ≡ h ∷ []
+      only [] e = absurd cc
+      only (g ∷ []) e = cc
+      only (g ∷ k ∷ gs) e = absurd cc
+
+  pub one-missing : {old new : State L H} {sent : Header} {t : T} {e : declared.Error} (hs : Option (Vec H Global)) → Awaits event size decode valid old sent (Ok (t, hs)) new
+      → ((handles : List H) → HandsOver hs handles → with_one handles (λ g. g) ≡ Err (seen e)) → AwaitsOne event size decode valid old sent (Err e) new
+  one-missing hs (is_request plain x) e = not_one x.0 plain x.1 x.2 x.3 (e x.0.handles x.4)
+
+module _ {L H : Type 0} {event : L → Event H → L → Type 0} where
+  -- the same cells, read as more
+  hears-by : {A B : Type 0} {cut : List (Cell H) → A × List (Cell H)} {of : List (Cell H) → B × List (Cell H)} (read_as : A → B) {old new : State L H} (o : A)
+      → ((cells : List (Cell H)) → of cells ≡ (read_as (cut cells).0, (cut cells).1)) → Hears event cut old o new → Hears event of old (read_as o) new
+  hears-by {cut = cut} {of} read_as o by h = record { cells = h.cells; ended = h.ended; retries = h.retries; serves = h.serves; splits = go h.ended h.splits }
+    where
+      go : (ended : Bool) → Splits cut h.cells ended o → Splits of h.cells ended (read_as o)
+      go true e = by h.cells ∙ ap (λ x. (read_as x.0, x.1)) e
+      go false e = λ rest. by (h.cells ++ rest) ∙ ap (λ x. (read_as x.0, x.1)) (e rest)
+
+  -- ---- acknowledgements
+
+  module _ (call : FrontendCall H) {sent : Header} {f : Frontend} {old : State L H} where
+    reads-ack : {new : State L H} (o : Result (Received H) Error) {x : Answered H} → Hears event (reply_cut 8 (λ bs. true) 0) old o new → understood call Ack sent f o ≡ Some x → Reads event call Ack sent f old (Some x) new
+    reads-ack {new} o h e = read (subst (λ y. Hears event (take call Ack sent f) old y new) e (hears-by (λ r. understood call Ack sent f r) o (λ cells. refl) h))
+
+    -- the call succeeded
+    acked-ok : {new : State L H} (asked : Awaited) → IsAck asked → Acks event old sent asked (Ok tt) new → Reads event call asked sent f old (Some (answered (after_success f call) (Ok (plain_value call)))) new
+    acked-ok Nobody is (unasked e) = unread (λ cells. refl)
+    acked-ok Nobody is (asked_for waits x) = absurd (waits refl)
+    acked-ok Ack is (unasked e) = absurd cc
+    acked-ok Ack is (asked_for waits (agreed r x zero none_came)) = reads-ack (Ok r) x.hears (rw (x.answers, none_came, zero) refl)
+    acked-ok (Reply shape) is x = absurd is
+
+    -- it failed
+    pub acked-err : {new : State L H} {A : Type 0} {value : A → Value H} {e : declared.Error} (asked : Awaited) → IsAck asked → Acks event old sent asked (Err e) new → Takes event call value asked sent old f (Err e) new f
+    acked-err Nobody is (asked_for waits x) = absurd (waits refl)
+    acked-err Ack is (asked_for waits (refused r x some none_came)) = taken (reads-ack (Ok r) x.hears (rw (x.answers, none_came, some) refl))
+    acked-err Ack is (asked_for waits (crowded_ack r x some)) = taken (reads-ack (Ok r) x.hears (rw x.answers (many r.handles some)))
+      where
+        many : (hs : List H) → has_some hs ≡ true → (if length hs == 0 then answer call Ack f (Acknowledged (u64_at 0 r.body == 0)) else Some (answered f (Err InvalidMessage))) ≡ Some (answered f (Err InvalidMessage))
+        many [] e = absurd cc
+        many (h ∷ hs) e = rw (nonzero (length (h ∷ hs)) (λ e. cc)) refl
+    acked-err Ack is (asked_for waits (unacked (unfit r x bad))) = taken (reads-ack (Ok r) x (rw bad refl))
+    acked-err {e = e} Ack is (asked_for waits (unacked (none x))) = taken (reads-ack (Err (seen e)) x refl)
+    acked-err Ack is (asked_for waits (unacked (failed x))) = stopped x
+    acked-err (Reply shape) is x = absurd is
+
+    -- the call succeeded, with this answer
+    pub succeeds : {new : State L H} {A : Type 0} {value : A → Value H} (a : A) (asked : Awaited) {f' : Frontend} → value a ≡ plain_value call → f' ≡ after_success f call → IsAck asked → Acks event old sent asked (Ok tt) new
+        → Takes event call value asked sent old f (Ok a) new f'
+    succeeds {new} {value = value} a asked {f'} e same is x =
+        taken (subst (λ y. Reads event call asked sent f old (Some y) new) (ap (λ (g : Frontend). answered g (Ok (plain_value call))) (sym same) ∙ ap (λ (v : Value H). answered f' (Ok v)) (sym e)) (acked-ok asked is x))
+
+    -- a call that only answers whether it succeeded, and leaves the session as it is
+    pub acked : {new : State L H} {asked : Awaited} {f' : Frontend} {value : ⊤ → Value H} {result : Result ⊤ declared.Error} → value tt ≡ plain_value call → after_success f call ≡ f → IsAck asked → f' ≡ f
+        → Acks event old sent asked result new → Takes event call value asked sent old f result new f'
+    acked {asked = asked} {result = Ok u} e after is same x = succeeds u asked e (same ∙ sym after) is x
+    acked {new} {asked} {f'} {value} {result = Err error} e after is same x = subst (λ (g : Frontend). Takes event call value asked sent old f (Err error) new g) (sym same) (acked-err asked is x)
+
+  -- ---- replies
+
+  module _ (call : FrontendCall H) (shape : Shape) (size room : ℕ) (valid : List ℕ → Bool) {sent : Header} {f : Frontend} {old : State L H}
+      (by : (cells : List (Cell H)) → take_reply call shape sent f cells ≡ (understood call (Reply shape) sent f (reply_cut size valid room cells).0, (reply_cut {H = H} size valid room cells).1)) where
+    reads-reply : {new : State L H} (o : Result (Received H) Error) {x : Answered H} → has_bit sent.flags 2 ≡ false → Hears event (reply_cut size valid room) old o new → understood call (Reply shape) sent f o ≡ Some x
+        → Reads event call (Reply shape) sent f old (Some x) new
+    reads-reply {new} o plain h e =
+        read (subst (λ y. Hears event (take call (Reply shape) sent f) old y new) e
+        (hears-by (λ r. understood call (Reply shape) sent f r) o (λ cells. ap (λ b. if b then (Some (answered f (Err InvalidParam)), cells) else take_reply call shape sent f cells) plain ∙ by cells) h))
+
+    -- the reply decides
+    pub replied : {new : State L H} {x : Answered H} (r : Received H) → has_bit sent.flags 2 ≡ false → Comes event size valid room old sent r new → is_sized call r ≡ true
+        → answer call (Reply shape) f (Replied (payload_of shape r.body r.payload) r.handles) ≡ Some x → Reads event call (Reply shape) sent f old (Some x) new
+    replied r plain x sized e = reads-reply (Ok r) plain x.hears (rw (x.answers, sized) e)
+
+    -- there is none
+    pub missing : {new : State L H} {A : Type 0} {value : A → Value H} {e : declared.Error} → has_bit sent.flags 2 ≡ false → Missing event size valid room old sent e new → Takes event call value (Reply shape) sent old f (Err e) new f
+    missing plain (unfit r x bad) = taken (reads-reply (Ok r) plain x (rw bad refl))
+    missing {e = e} plain (none x) = taken (reads-reply (Err (seen e)) plain x refl)
+    missing plain (failed x) = stopped x
+
+    -- a request that was sent as a reply has none
+    pub none-for-reply : {A : Type 0} {value : A → Value H} → has_bit sent.flags 2 ≡ true → Takes event call value (Reply shape) sent old f (Err code.InvalidParam) old f
+    none-for-reply reply = taken (unread (λ cells. rw reply refl))
+
+-- ---- replies without a handle
+
+module _ {T L H : Type 0} {event : L → Event H → L → Type 0} (call : FrontendCall H) (shape : Shape) (size : ℕ) (decode : List ℕ → T) (valid : T → Bool) {sent : Header} {f : Frontend} {old : State L H}
+    (by : (cells : List (Cell H)) → take_reply call shape sent f cells ≡ (understood call (Reply shape) sent f (reply_cut size (λ bs. valid (decode bs)) 0 cells).0, (reply_cut {H = H} size (λ bs. valid (decode bs)) 0 cells).1))
+    (sized : (r : Received H) → is_sized call r ≡ true) where
+  -- there is none
+  pub unreplied : {new : State L H} {f' : Frontend} {A : Type 0} {value : A → Value H} {e : declared.Error} → f' ≡ f → Awaits event size decode valid old sent (Err e) new → Takes event call value (Reply shape) sent old f (Err e) new f'
+  unreplied {new} {f'} {value = value} {e} same x = subst (λ (g : Frontend). Takes event call value (Reply shape) sent old f (Err e) new g) (sym same) (go x)
+    where
+      go : {e : declared.Error} {new : State L H} → Awaits event size decode valid old sent (Err e) new → Takes event call value (Reply shape) sent old f (Err e) new f
+      go (is_reply flag) = none-for-reply call shape size 0 (λ bs. valid (decode bs)) by flag
+      go (is_request plain m) = missing call shape size 0 (λ bs. valid (decode bs)) by plain m
+
+  -- the answer from a reply that came alone
+  pub alone-replied : {new : State L H} {f' : Frontend} {A : Type 0} {value : A → Value H} {result : Result A declared.Error} {t : T} → AwaitsAlone event size decode valid old sent (Ok t) new
+      → ((r : Received H) → t ≡ decode r.body → valid t ≡ true → answer call (Reply shape) f (Replied (payload_of shape r.body r.payload) []) ≡ Some (answered f' (valued value result))) → Takes event call value (Reply shape) sent old f result new f'
+  alone-replied (alone r plain x is ok none_came) e =
+      taken (replied call shape size 0 (λ bs. valid (decode bs)) by r plain x (sized r) (ap (λ hs. answer call (Reply shape) f (Replied (payload_of shape r.body r.payload) hs)) none_came ∙ e r is ok))
+
+  -- no reply came alone
+  pub alone-fails : {new : State L H} {f' : Frontend} {A : Type 0} {value : A → Value H} {e : declared.Error}
+      → ((r : Received H) (h : H) (hs : List H) → answer call (Reply shape) f (Replied (payload_of shape r.body r.payload) (h ∷ hs)) ≡ Some (answered f (Err InvalidMessage)))
+      → f' ≡ f → AwaitsAlone event size decode valid old sent (Err e) new → Takes event call value (Reply shape) sent old f (Err e) new f'
+  alone-fails {new} {f'} {value = value} crowd same (crowded r plain x some) =
+      subst (λ (g : Frontend). Takes event call value (Reply shape) sent old f (Err code.InvalidMessage) new g) (sym same)
+      (taken (replied call shape size 0 (λ bs. valid (decode bs)) by r plain x (sized r) (many r.handles some)))
+    where
+      many : (hs : List H) → has_some hs ≡ true → answer call (Reply shape) f (Replied (payload_of shape r.body r.payload) hs) ≡ Some (answered f (Err InvalidMessage))
+      many [] e = absurd cc
+      many (h ∷ hs) e = crowd r h hs
+  alone-fails crowd same (absent x) = unreplied same x
+
+  -- the answer from a reply that came with one handle
+  pub one-replied : {new : State L H} {f' : Frontend} {A : Type 0} {value : A → Value H} {result : Result A declared.Error} {t : T} {h : H} → AwaitsOne event size decode valid old sent (Ok (t, h)) new
+      → ((r : Received H) → t ≡ decode r.body → valid t ≡ true → answer call (Reply shape) f (Replied (payload_of shape r.body r.payload) (h ∷ [])) ≡ Some (answered f' (valued value result)))
+      → Takes event call value (Reply shape) sent old f result new f'
+  one-replied (one r plain x is ok came) e =
+      taken (replied call shape size 0 (λ bs. valid (decode bs)) by r plain x (sized r) (ap (λ hs. answer call (Reply shape) f (Replied (payload_of shape r.body r.payload) hs)) came ∙ e r is ok))
+
+  -- no reply came with one
+  pub one-fails : {new : State L H} {f' : Frontend} {A : Type 0} {value : A → Value H} {e : declared.Error}
+      → ((r : Received H) (t : T) → t ≡ decode r.body → valid t ≡ true → with_one r.handles (λ h. h) ≡ Err (seen e) → answer call (Reply shape) f (Replied (payload_of shape r.body r.payload) r.handles) ≡ Some (answered f (Err (seen e))))
+      → f' ≡ f → AwaitsOne event size decode valid old sent (Err e) new → Takes event call value (Reply shape) sent old f (Err e) new f'
+  one-fails {new} {value = value} {e} wrong same (not_one r {t = t} plain x is ok several) =
+      subst (λ (g : Frontend). Takes event call value (Reply shape) sent old f (Err e) new g) (sym same)
+      (taken (replied call shape size 0 (λ bs. valid (decode bs)) by r plain x (sized r) (wrong r t is ok several)))
+  one-fails wrong same (no_reply x) = unreplied same x
+
+-- where one handle is needed, and another number came
+pub with-one-err : {H A : Type 0} (value : H → A) (hs : List H) (e : Error) → with_one hs (λ h. h) ≡ Err e → with_one hs value ≡ Err e
+with-one-err value [] e p = cc
+with-one-err value (h ∷ []) e p = absurd cc
+with-one-err value (h ∷ g ∷ hs) e p = cc

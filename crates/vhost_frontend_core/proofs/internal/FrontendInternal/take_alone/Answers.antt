@@ -1,0 +1,18 @@
+-- A reply without a handle.
+use Rattle.std.proofs.Common.{sym, ◌∙◌}
+use Rattle.std.proofs.lemmas.Result.{err_from_is_err_and}
+use Rattle.vhost_frontend_core.specs.Taking.Awaits.{is_request}
+use Rattle.vhost_frontend_core.specs.Taking.AwaitsAlone.{absent}
+use Rattle.vhost_frontend_core.proofs.Taking.{alone-comes, alone-crowded}
+use Rattle.vhost_frontend_core.proofs.internal.FrontendInternal.take_alone.Goals as goal
+
+pub returns-in_err-body-clause-taken : goal.returns-in_err-body-clause-taken
+returns-in_err-body-clause-taken g c =
+    let p = err_from_is_err_and c.from_residual.result c.from_residual.ensures.1 in
+    rw (p.1, p.2) (absent c.in_err-body.ensures.taken)
+
+pub returns-then-is_some-clause-taken : goal.returns-then-is_some-clause-taken
+returns-then-is_some-clause-taken g c = alone-crowded c.in_ok-body.handles c.in_ok-body.ensures.taken (sym c.is_some.ensures ∙ c.if-is_some.true)
+
+pub returns-clause-taken : goal.returns-clause-taken
+returns-clause-taken g c = alone-comes c.in_ok-body.handles c.in_ok-body.ensures.taken (sym c.is_some.ensures ∙ c.if-is_some.false)

@@ -1,0 +1,26 @@
+-- The two halves of a frontend's calls.
+use Rattle.std.specs.Prelude.{Result, ⊤}
+use Rattle.vhost_message.specs.declared.error.Error as declared
+use Rattle.vhost_message.specs.MsgHeader.{fields_of}
+use Rattle.vhost_protocol.specs.FrontendCall.{FrontendCall, Value, Nothing}
+use Rattle.vhost_protocol.specs.Ask.{Awaited, Reply, Shape, ask}
+use Rattle.vhost_link.specs.Law.{Event}
+use Rattle.vhost_frontend_core.specs.declared.asked.Sent.{Sent}
+use Rattle.vhost_frontend_core.specs.declared.internal.FrontendInternal.{FrontendInternal}
+use Rattle.vhost_frontend_core.specs.Asking.{Asks}
+use Rattle.vhost_frontend_core.specs.Taking.{Takes, IsAck}
+use Rattle.vhost_frontend_core.specs.Frontend.{end_of, session_of, awaits}
+use Rattle.vhost_frontend_core.specs.Session.{awaited_of}
+
+module _ {L H : Type 0} (event : L → Event H → L → Type 0) (call : FrontendCall H) where
+  -- the half of a call that asks
+  abbrev pub AsksHalf : FrontendInternal L H → Result Sent declared.Error → FrontendInternal L H → Type 0
+  AsksHalf old result new = Asks event (ask (session_of old) call) (end_of old) (session_of old) (awaits old) result (end_of new) (session_of new) (awaits new)
+
+  -- the half that takes its answer, which is shown as this value
+  abbrev pub TakesHalf : {A : Type 0} → (A → Value H) → Awaited → Sent → FrontendInternal L H → Result A declared.Error → FrontendInternal L H → Type 0
+  TakesHalf value asked sent old result new = Takes event call value asked (fields_of sent.request) (end_of old) (session_of old) result (end_of new) (session_of new)
+
+  -- the same of a call that is only acknowledged
+  abbrev pub TakesAck : Sent → FrontendInternal L H → Result ⊤ declared.Error → FrontendInternal L H → Type 0
+  TakesAck sent old result new = IsAck (awaited_of sent.awaited) → TakesHalf (λ _. Nothing) (awaited_of sent.awaited) sent old result new

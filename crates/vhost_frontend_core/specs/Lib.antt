@@ -1,0 +1,6 @@
+pub mod Asking
+pub mod Frontend
+pub mod Halves
+pub mod Regions
+pub mod Session
+pub mod Taking

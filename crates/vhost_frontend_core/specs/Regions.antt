@@ -1,0 +1,21 @@
+-- Regions of the code, as the definitions see them.
+use Rattle.std.specs.Prelude.{Option, Some, None}
+use Rattle.std.specs.Borrow.{Bor}
+use Rattle.vhost_protocol.specs.FrontendCall.{Info, LogRegion}
+use Rattle.vhost_backend.specs.Region.{region_in}
+use Rattle.vhost_backend.specs.declared.dirty_log.VhostUserDirtyLogRegion.{VhostUserDirtyLogRegion}
+use Rattle.vhost_backend.specs.declared.region.VhostUserMemoryRegionInfo.{VhostUserMemoryRegionInfo}
+
+-- a handle that is lent
+abbrev pub lent : {H : Type 0} → Option (Bor H) → Option H
+lent None = None
+lent (Some h) = Some h.now
+
+-- a region, and the handle of its mapping
+abbrev pub info_in : {H : Type 0} → VhostUserMemoryRegionInfo H → Info H
+info_in info = record { region = region_in info; handle = lent info.mmap_handle }
+
+-- where the dirty log is kept
+abbrev pub log_region_in : {H : Type 0} → Option (VhostUserDirtyLogRegion H) → Option (LogRegion H)
+log_region_in None = None
+log_region_in (Some r) = Some (record { mmap_size = r.mmap_size; mmap_offset = r.mmap_offset; handle = lent r.mmap_handle })

@@ -1,0 +1,102 @@
+-- What the half of a frontend's call does that takes the answer.
+use Rattle.std.specs.Prelude.{◌≡◌, ℕ, List, [], ◌∷◌, ◌++◌, length, drop, Option, Some, None, Bool, true, false, ◌==◌, ⊤, Result, Ok, Err, Vec}
+use Rattle.std.specs.Global.{Global}
+use Rattle.vhost_message.specs.declared.error.Error as declared
+use Rattle.vhost_message.specs.declared.error.Error.TheVariants as code
+use Rattle.vhost_message.specs.Bits.{has_bit}
+use Rattle.vhost_message.specs.Header.{Header}
+use Rattle.vhost_message.specs.Records.{u64_at}
+use Rattle.vhost_protocol.specs.Stream.{Cell, has_some}
+use Rattle.vhost_protocol.specs.Error.{Error, seen}
+use Rattle.vhost_protocol.specs.FrontendCall.{FrontendCall, Frontend, Value}
+use Rattle.vhost_protocol.specs.Ask.{Awaited, Nobody, Ack}
+use Rattle.vhost_protocol.specs.AnswerTable.{Answered, answered, with_one}
+use Rattle.vhost_protocol.specs.ReplySplit.{Received, reply_split}
+use Rattle.vhost_protocol.specs.Take.{is_known, answers, take}
+use Rattle.vhost_link.specs.Law.{Event}
+use Rattle.vhost_connection.specs.Talk.{State}
+use Rattle.vhost_connection.specs.Calls.{HandsOver}
+use Rattle.vhost_connection.specs.Hearing.{Hears, Fails}
+
+-- a reply on a stream, with a record of so many bytes and room for so much payload
+abbrev pub reply_cut : {H : Type 0} → (size : ℕ) → (List ℕ → Bool) → (room : ℕ) → List (Cell H) → Result (Received H) Error × List (Cell H)
+reply_cut size valid room cells = reply_split is_known size valid room cells
+
+-- a result, as a value of the definitions
+abbrev pub valued : {A H : Type 0} → (A → Value H) → Result A declared.Error → Result (Value H) Error
+valued value (Ok a) = Ok (value a)
+valued value (Err e) = Err (seen e)
+
+module _ {L H : Type 0} (event : L → Event H → L → Type 0) where
+  -- The reply for a request came.
+  pub record Comes (size : ℕ) (valid : List ℕ → Bool) (room : ℕ) (old : State L H) (sent : Header) (reply : Received H) (new : State L H) : Type 0 where
+    pub hears : Hears event (reply_cut size valid room) old (Ok reply) new
+    pub answers : answers sent reply.header ≡ true
+
+  -- None came: what came is no reply for the request; or there is no valid reply; or the link failed.
+  pub data Missing (size : ℕ) (valid : List ℕ → Bool) (room : ℕ) (old : State L H) (sent : Header) : declared.Error → State L H → Type 0 where
+    unfit : (r : Received H) {new : State L H} → Hears event (reply_cut size valid room) old (Ok r) new → answers sent r.header ≡ false → Missing size valid room old sent code.InvalidMessage new
+    none : {e : declared.Error} {new : State L H} → Hears event (reply_cut size valid room) old (Err (seen e)) new → Missing size valid room old sent e new
+    failed : {e : declared.Error} {new : State L H} → Fails event old true e new → Missing size valid room old sent e new
+
+  -- A reply is received: the size that its header says, its record, how many bytes of payload lie in the room, and its handles.
+  abbrev pub RecvsPayload : {T : Type 0} → ℕ → (List ℕ → T) → (T → Bool) → State L H → Header → List ℕ → Result (ℕ × T × ℕ × Option (Vec H Global)) declared.Error → List ℕ → State L H → Type 0
+  RecvsPayload size read valid old sent before (Ok x) after new =
+      (reply : Received H) × Comes size (λ bs. valid (read bs)) (length before) old sent reply new × (x.0 ≡ reply.header.size) × (x.1 ≡ read reply.body) × (valid x.1 ≡ true)
+      × (x.2 ≡ length reply.payload) × (after ≡ reply.payload ++ drop x.2 before) × HandsOver x.3 reply.handles
+  RecvsPayload size read valid old sent before (Err e) after new = Missing size (λ bs. valid (read bs)) (length before) old sent e new
+
+  -- The same without a payload.
+  abbrev pub Recvs : {T : Type 0} → ℕ → (List ℕ → T) → (T → Bool) → State L H → Header → Result (T × Option (Vec H Global)) declared.Error → State L H → Type 0
+  Recvs size read valid old sent (Ok x) new = (reply : Received H) × Comes size (λ bs. valid (read bs)) 0 old sent reply new × (x.0 ≡ read reply.body) × (valid x.0 ≡ true) × HandsOver x.1 reply.handles
+  Recvs size read valid old sent (Err e) new = Missing size (λ bs. valid (read bs)) 0 old sent e new
+
+  -- The same to a request that may have been sent as a reply: then it has none.
+  pub data Awaits {T : Type 0} (size : ℕ) (read : List ℕ → T) (valid : T → Bool) (old : State L H) (sent : Header) : Result (T × Option (Vec H Global)) declared.Error → State L H → Type 0 where
+    is_reply : has_bit sent.flags 2 ≡ true → Awaits size read valid old sent (Err code.InvalidParam) old
+    is_request : {result : Result (T × Option (Vec H Global)) declared.Error} {new : State L H} → has_bit sent.flags 2 ≡ false → Recvs size read valid old sent result new → Awaits size read valid old sent result new
+
+  -- The same of a reply that has no handle.
+  pub data AwaitsAlone {T : Type 0} (size : ℕ) (read : List ℕ → T) (valid : T → Bool) (old : State L H) (sent : Header) : Result T declared.Error → State L H → Type 0 where
+    alone : (reply : Received H) {t : T} {new : State L H} → has_bit sent.flags 2 ≡ false → Comes size (λ bs. valid (read bs)) 0 old sent reply new → t ≡ read reply.body → valid t ≡ true → reply.handles ≡ []
+        → AwaitsAlone size read valid old sent (Ok t) new
+    crowded : (reply : Received H) {new : State L H} → has_bit sent.flags 2 ≡ false → Comes size (λ bs. valid (read bs)) 0 old sent reply new → has_some reply.handles ≡ true
+        → AwaitsAlone size read valid old sent (Err code.InvalidMessage) new
+    absent : {e : declared.Error} {new : State L H} → Awaits size read valid old sent (Err e) new → AwaitsAlone size read valid old sent (Err e) new
+
+  -- The same of a reply that has one handle.
+  pub data AwaitsOne {T : Type 0} (size : ℕ) (read : List ℕ → T) (valid : T → Bool) (old : State L H) (sent : Header) : Result (T × H) declared.Error → State L H → Type 0 where
+    one : (reply : Received H) {t : T} {h : H} {new : State L H} → has_bit sent.flags 2 ≡ false → Comes size (λ bs. valid (read bs)) 0 old sent reply new → t ≡ read reply.body → valid t ≡ true
+        → reply.handles ≡ h ∷ [] → AwaitsOne size read valid old sent (Ok (t, h)) new
+    not_one : (reply : Received H) {t : T} {e : declared.Error} {new : State L H} → has_bit sent.flags 2 ≡ false → Comes size (λ bs. valid (read bs)) 0 old sent reply new → t ≡ read reply.body → valid t ≡ true
+        → with_one reply.handles (λ h. h) ≡ Err (seen e) → AwaitsOne size read valid old sent (Err e) new
+    no_reply : {e : declared.Error} {new : State L H} → Awaits size read valid old sent (Err e) new → AwaitsOne size read valid old sent (Err e) new
+
+  -- An acknowledgement is received: 0 is success.
+  pub data RecvsAck (old : State L H) (sent : Header) : Result ⊤ declared.Error → State L H → Type 0 where
+    agreed : (reply : Received H) {new : State L H} → Comes 8 (λ bs. true) 0 old sent reply new → u64_at 0 reply.body ≡ 0 → reply.handles ≡ [] → RecvsAck old sent (Ok tt) new
+    refused : (reply : Received H) {new : State L H} → Comes 8 (λ bs. true) 0 old sent reply new → (u64_at 0 reply.body == 0) ≡ false → reply.handles ≡ [] → RecvsAck old sent (Err code.BackendInternalError) new
+    crowded_ack : (reply : Received H) {new : State L H} → Comes 8 (λ bs. true) 0 old sent reply new → has_some reply.handles ≡ true → RecvsAck old sent (Err code.InvalidMessage) new
+    unacked : {e : declared.Error} {new : State L H} → Missing 8 (λ bs. true) 0 old sent e new → RecvsAck old sent (Err e) new
+
+  -- The same, where one is awaited.
+  pub data Acks (old : State L H) (sent : Header) (asked : Awaited) : Result ⊤ declared.Error → State L H → Type 0 where
+    unasked : asked ≡ Nobody → Acks old sent asked (Ok tt) old
+    asked_for : {result : Result ⊤ declared.Error} {new : State L H} → (asked ≡ Nobody → ⊥) → RecvsAck old sent result new → Acks old sent asked result new
+
+-- an acknowledgement, or nothing, is awaited
+abbrev pub IsAck : Awaited → Type 0
+IsAck Nobody = ⊤
+IsAck Ack = ⊤
+IsAck _ = ⊥
+
+module _ {L H : Type 0} (event : L → Event H → L → Type 0) (call : FrontendCall H) where
+  -- An answer is taken: nothing is read for it, or what is read decides.
+  pub data Reads (asked : Awaited) (sent : Header) (f : Frontend) (old : State L H) : Option (Answered H) → State L H → Type 0 where
+    unread : {x : Option (Answered H)} → ((cells : List (Cell H)) → take call asked sent f cells ≡ (x, cells)) → Reads asked sent f old x old
+    read : {x : Option (Answered H)} {new : State L H} → Hears event (take call asked sent f) old x new → Reads asked sent f old x new
+
+  -- The half that takes: the answer by the stream; or the link failed, and the session is as before.
+  pub data Takes {A : Type 0} (value : A → Value H) (asked : Awaited) (sent : Header) (old : State L H) (f : Frontend) : Result A declared.Error → State L H → Frontend → Type 0 where
+    taken : {result : Result A declared.Error} {new : State L H} {f' : Frontend} → Reads asked sent f old (Some (answered f' (valued value result))) new → Takes value asked sent old f result new f'
+    stopped : {e : declared.Error} {new : State L H} → Fails event old true e new → Takes value asked sent old f (Err e) new f

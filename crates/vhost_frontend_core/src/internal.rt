@@ -1,0 +1,97 @@
+//! The session of a frontend over any link.
+
+ghost use Rattle.std.specs.Prelude.{◌≡◌, IfOk, IfErr};
+ghost use Rattle.vhost_message.specs.declared.error.Error.TheVariants.{OutOfMemory};
+ghost use Rattle.vhost_protocol.specs.FrontendCall.{new_frontend};
+ghost use Rattle.vhost_protocol.specs.Ask.{Nobody};
+
+use crate::asked::Awaited;
+use crate::session::FrontendSession;
+use bitflags::Flags;
+use std::alloc::Global;
+use vhost_connection::Endpoint;
+use vhost_link::Link;
+use vhost_message::{FrontendReq, Result, VhostUserHeaderFlag, VhostUserMsgHeader};
+
+mod config;
+mod features;
+mod inflight;
+mod log;
+mod objects;
+mod ownership;
+mod postcopy;
+mod replies;
+mod ring_handles;
+mod rings;
+mod sending;
+mod transfer;
+
+type Header = VhostUserMsgHeader<FrontendReq>;
+
+/// A frontend's session over a link. Each call has a half that asks and a half that takes the answer.
+///
+/// Before the half of a call that asks, nothing is awaited, or the endpoint is broken; the half that takes is given what
+/// that call's other half answered last. A fault of the link between a request and the end of its answer breaks the
+/// endpoint.
+///
+/// Mirrors what `vhost::vhost_user::Frontend` holds behind its lock.
+#[derive(Drop)]
+pub struct FrontendInternal<L: Link> {
+    end: Endpoint<Header, L>,
+    session: FrontendSession,
+    /// What is awaited of the request that was sent last.
+    pub awaited: Awaited,
+    alloc: Global,
+}
+
+impl<L: Link> FrontendInternal<L> {
+    ghost use Rattle.std.specs.Borrow.{sem, Lends};
+    ghost use Rattle.vhost_connection.specs.State.{fresh, state};
+    ghost use Rattle.vhost_connection.specs.contracts.endpoint.Endpoint.{the_row as endpoint_row};
+    ghost use Rattle.vhost_message.specs.contracts.header.VhostUserMsgHeader.{the_row as header_row};
+    ghost use Rattle.vhost_message.specs.contracts.frontend_req.FrontendReq.{the_row as code_row};
+    ghost use Rattle.vhost_frontend_core.specs.contracts.internal.FrontendInternal.{the_row};
+    ghost use Rattle.vhost_frontend_core.specs.Frontend.{end_of, session_of, awaits, with_end};
+
+    /// A new session over a link, with a device of at most so many queues. A message may take so many retries.
+    ///
+    /// OutOfMemory: a growth was refused.
+    pub fn new(alloc: Global, link: L, max_queue_num: u64, budget: u32) -> Result<Self>
+        ensures end { IfOk result (λ f. end_of f ≡ fresh link budget) }
+        ensures session { IfOk result (λ f. session_of f ≡ new_frontend max_queue_num) }
+        ensures awaited { IfOk result (λ f. awaits f ≡ Nobody) }
+        ensures memory { IfErr result (λ e. e ≡ OutOfMemory) }
+    {
+        Ok(FrontendInternal {
+            end: Endpoint::from_stream(alloc, link, budget)?,
+            session: FrontendSession::new(max_queue_num),
+            awaited: Awaited::Nobody,
+            alloc,
+        })
+    }
+
+    /// The flags of each request from now on: of these, REPLY and NEED_REPLY are sent.
+    pub fn set_hdr_flags(&mut self, flags: VhostUserHeaderFlag)
+        ensures end { end_of self.new ≡ end_of self.old }
+        ensures session { session_of self.new ≡ record (session_of self.old) { header_flags = flags.bits } }
+        ensures awaited { awaits self.new ≡ awaits self.old }
+    {
+        let session = &mut self.session;
+        session.header_flags = flags.bits();
+    }
+
+    /// Whether the last call that sent or received met a fault: the link failed, or retried once too often.
+    pub fn faulted(&self) -> bool
+        ensures { result ≡ (end_of self.now).faulted }
+    {
+        self.end.faulted()
+    }
+
+    /// Lends its endpoint.
+    pub fn end(&mut self) -> &mut Endpoint<Header, L>
+        ensures* lender { sem 𝓛 (Lends (the_row L.row L.Handle.row) (endpoint_row (header_row code_row) L.row L.Handle.row) self.entry result (λ e. with_end self.old e)) }
+        ensures value { state result.now ≡ end_of self.old }
+    {
+        &mut self.end
+    }
+}

@@ -1,0 +1,38 @@
+//! Who owns the session, and starting anew.
+
+ghost use Rattle.std.specs.Prelude.{◌≡◌};
+ghost use Rattle.vhost_protocol.specs.FrontendCall as call;
+
+use crate::asked::Sent;
+use crate::internal::FrontendInternal;
+use vhost_link::Link;
+use vhost_message::{FrontendReq, Result, VhostUserEmpty, VhostUserProtocolFeatures};
+
+impl<L: Link> FrontendInternal<L> {
+    ghost use Rattle.vhost_frontend_core.specs.Halves.{AsksHalf};
+
+    /// Asks to become the owner of the session.
+    pub fn ask_set_owner(&mut self) -> Result<Sent>
+        ensures { AsksHalf L.event call.SetOwner self.old result self.new }
+    {
+        self.ask_ack(FrontendReq::SET_OWNER, &VhostUserEmpty, &[])
+    }
+
+    /// Gives the session up.
+    pub fn ask_reset_owner(&mut self) -> Result<Sent>
+        ensures { AsksHalf L.event call.ResetOwner self.old result self.new }
+    {
+        self.ask_ack(FrontendReq::RESET_OWNER, &VhostUserEmpty, &[])
+    }
+
+    /// Asks for the device to be reset.
+    ///
+    /// InactiveOperation: RESET_DEVICE is not acknowledged.
+    pub fn ask_reset_device(&mut self) -> Result<Sent>
+        ensures { AsksHalf L.event call.ResetDevice self.old result self.new }
+    {
+        self.session
+            .operation(VhostUserProtocolFeatures::RESET_DEVICE)?;
+        self.ask_ack(FrontendReq::RESET_DEVICE, &VhostUserEmpty, &[])
+    }
+}

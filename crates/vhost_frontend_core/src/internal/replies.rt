@@ -1,0 +1,152 @@
+//! What all halves that take have in common: an acknowledgement or a reply comes.
+
+ghost use Rattle.std.specs.Prelude.{◌≡◌, ◌≤◌, List};
+ghost use Rattle.vhost_message.specs.MsgHeader.{fields_of};
+ghost use Rattle.vhost_protocol.specs.Ask.{Nobody};
+ghost use Rattle.vhost_protocol.specs.AnswerTable.{with_one};
+ghost use Rattle.vhost_protocol.specs.Error.{seen_result};
+ghost use Rattle.vhost_connection.specs.Calls.{HandsOver};
+
+use crate::asked::{Awaited, Sent};
+use crate::internal::{FrontendInternal, Header};
+use vhost_connection::break_on_fault;
+use vhost_link::Link;
+use vhost_message::{Error, Result, VhostUserMsgValidator, VhostUserU64};
+
+impl<L: Link> FrontendInternal<L> {
+    ghost use Rattle.vhost_frontend_core.specs.Frontend.{end_of, session_of, awaits};
+    ghost use Rattle.vhost_frontend_core.specs.Session.{awaited_of};
+    ghost use Rattle.vhost_frontend_core.specs.Taking.{RecvsPayload, Recvs, Awaits, AwaitsAlone, AwaitsOne, RecvsAck, Acks};
+
+    /// Receives the reply for a request: the size that its header says, a record, how many bytes of payload lie in the room
+    /// now, and the handles.
+    pub(crate) fn recv_payload<T: VhostUserMsgValidator + Drop>(
+        &mut self,
+        request: &Header,
+        room: &mut [u8],
+    ) -> Result<(u32, T, usize, Option<Vec<L::Handle>>)>
+        requires { T.SIZE ≤ 4096 }
+        ensures same { self.new ≡ record self.old { end = self.new.end } }
+        ensures received { RecvsPayload L.event T.SIZE T.read T.valid (end_of self.old) (fields_of request.now) room.old result room.new (end_of self.new) }
+    {
+        match self.end.recv_payload_into_buf::<T>(room) {
+            Ok((header, body, count, handles)) => {
+                if !header.is_reply_for(request) {
+                    return Err(Error::InvalidMessage);
+                }
+                Ok((header.get_size(), body, count, handles))
+            }
+            Err(error) => {
+                break_on_fault(&mut self.end, &error);
+                Err(error)
+            }
+        }
+    }
+
+    /// Receives the reply for a request: a record, and the handles.
+    fn recv_record<T: VhostUserMsgValidator + Drop>(
+        &mut self,
+        request: &Header,
+    ) -> Result<(T, Option<Vec<L::Handle>>)>
+        requires { T.SIZE ≤ 4096 }
+        ensures same { self.new ≡ record self.old { end = self.new.end } }
+        ensures received { Recvs L.event T.SIZE T.read T.valid (end_of self.old) (fields_of request.now) result (end_of self.new) }
+    {
+        let (_, body, _, handles) = self.recv_payload(request, &mut [])?;
+        Ok((body, handles))
+    }
+
+    /// Takes an acknowledgement where one is awaited: 0 is success.
+    ///
+    /// BackendInternalError: another number. InvalidMessage: what came has handles, is not valid, or does not acknowledge
+    /// the request. PartialMessage: the stream ended.
+    pub(crate) fn take_ack(&mut self, sent: Sent) -> Result<()>
+        ensures session { session_of self.new ≡ session_of self.old }
+        ensures quiet { awaits self.new ≡ Nobody }
+        ensures taken { Acks L.event (end_of self.old) (fields_of sent.request) (awaited_of sent.awaited) result (end_of self.new) }
+    {
+        self.awaited = Awaited::Nobody;
+        match sent.awaited {
+            Awaited::Nobody => Ok(()),
+            _ => self.recv_ack(&sent.request),
+        }
+    }
+
+    /// Receives an acknowledgement of a request.
+    fn recv_ack(&mut self, request: &Header) -> Result<()>
+        ensures same { self.new ≡ record self.old { end = self.new.end } }
+        ensures received { RecvsAck L.event (end_of self.old) (fields_of request.now) result (end_of self.new) }
+    {
+        let (number, handles): (VhostUserU64, Option<Vec<L::Handle>>) = self.recv_record(request)?;
+        if handles.is_some() {
+            return Err(Error::InvalidMessage);
+        }
+        if number.value != 0 {
+            return Err(Error::BackendInternalError);
+        }
+        Ok(())
+    }
+
+    /// Takes a reply: a record, and the handles.
+    ///
+    /// InvalidParam: the request was sent as a reply, so there is none.
+    pub(crate) fn take_reply<T: VhostUserMsgValidator + Drop>(
+        &mut self,
+        sent: Sent,
+    ) -> Result<(T, Option<Vec<L::Handle>>)>
+        requires { T.SIZE ≤ 4096 }
+        ensures session { session_of self.new ≡ session_of self.old }
+        ensures quiet { awaits self.new ≡ Nobody }
+        ensures taken { Awaits L.event T.SIZE T.read T.valid (end_of self.old) (fields_of sent.request) result (end_of self.new) }
+    {
+        self.awaited = Awaited::Nobody;
+        if sent.request.is_reply() {
+            return Err(Error::InvalidParam);
+        }
+        self.recv_record(&sent.request)
+    }
+
+    /// Takes a reply that has no handle.
+    pub(crate) fn take_alone<T: VhostUserMsgValidator + Drop>(&mut self, sent: Sent) -> Result<T>
+        requires { T.SIZE ≤ 4096 }
+        ensures session { session_of self.new ≡ session_of self.old }
+        ensures quiet { awaits self.new ≡ Nobody }
+        ensures taken { AwaitsAlone L.event T.SIZE T.read T.valid (end_of self.old) (fields_of sent.request) result (end_of self.new) }
+    {
+        let (body, handles) = self.take_reply(sent)?;
+        if handles.is_some() {
+            return Err(Error::InvalidMessage);
+        }
+        Ok(body)
+    }
+
+    /// Takes a reply that has one handle.
+    ///
+    /// InvalidMessage: it has none. IncorrectFds: it has several.
+    pub(crate) fn take_one<T: VhostUserMsgValidator + Drop>(
+        &mut self,
+        sent: Sent,
+    ) -> Result<(T, L::Handle)>
+        requires { T.SIZE ≤ 4096 }
+        ensures session { session_of self.new ≡ session_of self.old }
+        ensures quiet { awaits self.new ≡ Nobody }
+        ensures taken { AwaitsOne L.event T.SIZE T.read T.valid (end_of self.old) (fields_of sent.request) result (end_of self.new) }
+    {
+        let (body, handles) = self.take_reply(sent)?;
+        let handle = one_of(handles)?;
+        Ok((body, handle))
+    }
+}
+
+/// The one handle that came. InvalidMessage: none came. IncorrectFds: several did.
+pub(crate) fn one_of<H: Drop>(handles: Option<Vec<H>>) -> Result<H>
+    ensures { (hs : List H) → HandsOver handles hs → with_one hs (λ h. h) ≡ seen_result result }
+{
+    let Some(mut handles) = handles else {
+        return Err(Error::InvalidMessage);
+    };
+    if handles.len() > 1 {
+        return Err(Error::IncorrectFds);
+    }
+    handles.pop().ok_or(Error::InvalidMessage)
+}

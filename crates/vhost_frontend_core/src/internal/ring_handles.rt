@@ -1,0 +1,55 @@
+//! The handles of rings.
+
+ghost use Rattle.std.specs.Prelude.{◌≡◌};
+ghost use Rattle.vhost_protocol.specs.FrontendCall as call;
+
+use crate::asked::Sent;
+use crate::internal::FrontendInternal;
+use vhost_link::Link;
+use vhost_message::{FrontendReq, Result, VhostUserU64};
+
+impl<L: Link> FrontendInternal<L> {
+    ghost use Rattle.vhost_frontend_core.specs.Halves.{AsksHalf};
+
+    /// Gives the handle by which the device tells that it used descriptors.
+    ///
+    /// InvalidParam: the device has no queue of this index, or the index is greater than 255.
+    pub fn ask_set_vring_call(&mut self, index: usize, handle: &L::Handle) -> Result<Sent>
+        ensures { AsksHalf L.event (call.SetVringCall index handle.now) self.old result self.new }
+    {
+        let index = self.session.small_index(index)?;
+        self.ask_ack(
+            FrontendReq::SET_VRING_CALL,
+            &VhostUserU64::new(index),
+            &[handle],
+        )
+    }
+
+    /// Gives the handle by which the driver tells that it added descriptors.
+    ///
+    /// InvalidParam: the device has no queue of this index, or the index is greater than 255.
+    pub fn ask_set_vring_kick(&mut self, index: usize, handle: &L::Handle) -> Result<Sent>
+        ensures { AsksHalf L.event (call.SetVringKick index handle.now) self.old result self.new }
+    {
+        let index = self.session.small_index(index)?;
+        self.ask_ack(
+            FrontendReq::SET_VRING_KICK,
+            &VhostUserU64::new(index),
+            &[handle],
+        )
+    }
+
+    /// Gives the handle by which the device tells of an error.
+    ///
+    /// InvalidParam: the device has no queue of this index, or the index is greater than 255.
+    pub fn ask_set_vring_err(&mut self, index: usize, handle: &L::Handle) -> Result<Sent>
+        ensures { AsksHalf L.event (call.SetVringErr index handle.now) self.old result self.new }
+    {
+        let index = self.session.small_index(index)?;
+        self.ask_ack(
+            FrontendReq::SET_VRING_ERR,
+            &VhostUserU64::new(index),
+            &[handle],
+        )
+    }
+}

@@ -1,0 +1,78 @@
+//! Numbers, places and switches of rings.
+
+ghost use Rattle.std.specs.Prelude.{◌≡◌};
+ghost use Rattle.vhost_protocol.specs.FrontendCall as call;
+ghost use Rattle.std.specs.Prelude.{nat_le};
+
+use crate::asked::{Sent, Shape};
+use crate::internal::FrontendInternal;
+use crate::session::{param, protocol_in};
+use vhost_link::Link;
+use vhost_message::{
+    FrontendReq, Result, VhostUserVringAddr, VhostUserVringState, VringConfigData,
+};
+
+impl<L: Link> FrontendInternal<L> {
+    ghost use Rattle.vhost_frontend_core.specs.Halves.{AsksHalf};
+
+    /// Sets a ring's size, in descriptors.
+    ///
+    /// InvalidParam: the device has no queue of this index, or the index has more than 32 bits.
+    pub fn ask_set_vring_num(&mut self, index: usize, num: u16) -> Result<Sent>
+        ensures { AsksHalf L.event (call.SetVringNum index num) self.old result self.new }
+    {
+        let index = self.session.index(index)?;
+        let ring = VhostUserVringState::new(index, num.into());
+        self.ask_ack(FrontendReq::SET_VRING_NUM, &ring, &[])
+    }
+
+    /// Sets a ring's next descriptor.
+    ///
+    /// InvalidParam: the device has no queue of this index, or the index has more than 32 bits.
+    pub fn ask_set_vring_base(&mut self, index: usize, base: u16) -> Result<Sent>
+        ensures { AsksHalf L.event (call.SetVringBase index base) self.old result self.new }
+    {
+        let index = self.session.index(index)?;
+        let ring = VhostUserVringState::new(index, base.into());
+        self.ask_ack(FrontendReq::SET_VRING_BASE, &ring, &[])
+    }
+
+    /// Says where a ring's parts lie.
+    ///
+    /// InvalidParam: the device has no queue of this index, or the index has more than 32 bits. Or the flags are neither 0 nor 1.
+    pub fn ask_set_vring_addr(
+        &mut self,
+        index: usize,
+        config_data: &VringConfigData,
+    ) -> Result<Sent>
+        ensures { AsksHalf L.event (call.SetVringAddr index config_data.now) self.old result self.new }
+    {
+        let index = self.session.index(index)?;
+        param(config_data.flags <= 1)?;
+        let ring = VhostUserVringAddr::from_config_data(index, config_data);
+        self.ask_ack(FrontendReq::SET_VRING_ADDR, &ring, &[])
+    }
+
+    /// Asks for a ring's next descriptor; the ring stops.
+    ///
+    /// InvalidParam: the device has no queue of this index, or the index has more than 32 bits.
+    pub fn ask_get_vring_base(&mut self, index: usize) -> Result<Sent>
+        ensures { AsksHalf L.event (call.GetVringBase index) self.old result self.new }
+    {
+        let index = self.session.index(index)?;
+        let ring = VhostUserVringState::new(index, 0);
+        self.ask_reply(FrontendReq::GET_VRING_BASE, Shape::VringState, &ring, &[])
+    }
+
+    /// Switches a ring on or off.
+    ///
+    /// InactiveFeature: the protocol features are not acknowledged. InvalidParam: the device has no queue of this index, or the index has more than 32 bits.
+    pub fn ask_set_vring_enable(&mut self, index: usize, enable: bool) -> Result<Sent>
+        ensures { AsksHalf L.event (call.SetVringEnable index enable) self.old result self.new }
+    {
+        protocol_in(self.session.acked)?;
+        let index = self.session.index(index)?;
+        let ring = VhostUserVringState::new(index, enable.into());
+        self.ask_ack(FrontendReq::SET_VRING_ENABLE, &ring, &[])
+    }
+}

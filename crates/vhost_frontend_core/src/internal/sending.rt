@@ -1,0 +1,104 @@
+//! What all halves that ask have in common: a request goes out whole.
+
+ghost use Rattle.std.specs.Prelude.{◌≡◌, ◌+◌, ◌++◌, ◌≤◌, length, map};
+ghost use Rattle.vhost_protocol.specs.Written.{Payload, payload_text};
+ghost use Rattle.vhost_protocol.specs.Ask as ask;
+
+use crate::asked::{Awaited, Sent, Shape};
+use crate::internal::FrontendInternal;
+use crate::session::FrontendSession;
+use vhost_link::Link;
+use vhost_message::{ByteValued, Error, FrontendReq, Result, VhostUserMsgHeader};
+
+impl<L: Link> FrontendInternal<L> {
+    ghost use Rattle.vhost_frontend_core.specs.Asking.{Asks, Tries, request_with};
+    ghost use Rattle.vhost_frontend_core.specs.Frontend.{end_of, session_of, awaits};
+    ghost use Rattle.vhost_frontend_core.specs.Session.{frontend_of, awaited_of, shape_of};
+
+    /// Sends a request with these flags: a record, and bytes behind it.
+    pub(crate) fn send<T: ByteValued>(
+        &mut self,
+        request: (FrontendReq, u32, Awaited),
+        body: &T,
+        payload: &[u8],
+        handles: &[&L::Handle],
+    ) -> Result<Sent>
+        requires size { T.SIZE + length payload.now ≤ 4096 }
+        requires handles { length handles.now ≤ 32 }
+        ensures session { session_of self.new ≡ session_of self.old }
+        ensures sent { (p : Payload) → payload_text p ≡ T.text body.now ++ payload.now
+            → Tries L.event (request_with request.1 request.0 p (map (λ h. h.now) handles.now)) (awaited_of request.2) (end_of self.old) (awaits self.old) result (end_of self.new) (awaits self.new) }
+    {
+        let (code, flags, awaited) = request;
+        if self.end.make_list().is_err() {
+            return Err(Error::OutOfMemory);
+        }
+        let size = (T::SIZE + payload.len()) as u32;
+        let header = VhostUserMsgHeader::new(code, flags, size);
+        match self
+            .end
+            .send_message_with_payload(&header, body, payload, handles)
+        {
+            Ok(()) => {
+                self.awaited = awaited;
+                Ok(Sent::new(header, awaited))
+            }
+            Err(error) => Err(error),
+        }
+    }
+
+    /// Asks by a request that is only acknowledged, where both sides agreed on that and its header asks for it.
+    pub(crate) fn ask_ack<T: ByteValued>(
+        &mut self,
+        code: FrontendReq,
+        body: &T,
+        handles: &[&L::Handle],
+    ) -> Result<Sent>
+        requires size { T.SIZE ≤ 4096 }
+        requires handles { length handles.now ≤ 32 }
+        ensures { (p : Payload) → payload_text p ≡ T.text body.now
+            → Asks L.event (ask.sends (session_of self.old) code p (map (λ h. h.now) handles.now)) (end_of self.old) (session_of self.old) (awaits self.old) result (end_of self.new) (session_of self.new) (awaits self.new) }
+    {
+        self.ask_change(self.session, code, body, handles)
+    }
+
+    /// The same, and the session is the next one once the request went out.
+    pub(crate) fn ask_change<T: ByteValued>(
+        &mut self,
+        next: FrontendSession,
+        code: FrontendReq,
+        body: &T,
+        handles: &[&L::Handle],
+    ) -> Result<Sent>
+        requires size { T.SIZE ≤ 4096 }
+        requires handles { length handles.now ≤ 32 }
+        ensures { (p : Payload) → payload_text p ≡ T.text body.now
+            → Asks L.event (ask.sends (frontend_of next) code p (map (λ h. h.now) handles.now)) (end_of self.old) (session_of self.old) (awaits self.old) result (end_of self.new) (session_of self.new) (awaits self.new) }
+    {
+        let request = (code, next.header_flags, next.acknowledgement());
+        match self.send(request, body, &[], handles) {
+            Ok(sent) => {
+                self.session = next;
+                Ok(sent)
+            }
+            Err(error) => Err(error),
+        }
+    }
+
+    /// Asks by a request that has a reply.
+    pub(crate) fn ask_reply<T: ByteValued>(
+        &mut self,
+        code: FrontendReq,
+        shape: Shape,
+        body: &T,
+        handles: &[&L::Handle],
+    ) -> Result<Sent>
+        requires size { T.SIZE ≤ 4096 }
+        requires handles { length handles.now ≤ 32 }
+        ensures { (p : Payload) → payload_text p ≡ T.text body.now
+            → Asks L.event (ask.asks (session_of self.old) code p (map (λ h. h.now) handles.now) (shape_of shape)) (end_of self.old) (session_of self.old) (awaits self.old) result (end_of self.new) (session_of self.new) (awaits self.new) }
+    {
+        let flags = self.session.header_flags;
+        self.send((code, flags, Awaited::Reply(shape)), body, &[], handles)
+    }
+}

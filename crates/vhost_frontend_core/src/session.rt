@@ -1,0 +1,126 @@
+//! What a frontend remembers of its backend, and the tests of its calls.
+
+ghost use Rattle.std.specs.Prelude.{◌≡◌, ◌^◌, ℕ, IfOk, true, false};
+ghost use Rattle.vhost_message.specs.Bits.{has_bit as is_set};
+ghost use Rattle.vhost_protocol.specs.Ask as ask;
+ghost use Rattle.vhost_protocol.specs.FrontendCall.{new_frontend};
+ghost use Rattle.vhost_protocol.specs.Session.{is_listen};
+ghost use Rattle.vhost_frontend_core.specs.Session.{frontend_of, awaited_of};
+ghost use Rattle.vhost_frontend_core.specs.Asking.{tested};
+
+use crate::asked::Awaited;
+use crate::bits::has_bit;
+use bitflags::Flags;
+use vhost_message::{
+    Error, PostcopyState, Result, VhostUserProtocolFeatures, VhostUserVirtioFeatures,
+};
+
+/// The features offered and acknowledged, the number of queues, the flags of each request, and how far postcopy has come.
+#[derive(Clone, Copy, Debug)]
+pub struct FrontendSession {
+    pub offered: u64,
+    pub acked: u64,
+    pub acked_p: u64,
+    pub max_queue_num: u64,
+    pub header_flags: u32,
+    pub postcopy: PostcopyState,
+}
+
+impl FrontendSession {
+    /// A new session with a device of at most so many queues.
+    pub fn new(max_queue_num: u64) -> FrontendSession
+        ensures { frontend_of result ≡ new_frontend max_queue_num }
+    {
+        FrontendSession {
+            offered: 0,
+            acked: 0,
+            acked_p: 0,
+            max_queue_num,
+            header_flags: 0,
+            postcopy: PostcopyState::Inactive,
+        }
+    }
+
+    /// What a request awaits that is only acknowledged: an acknowledgement, where both sides agreed on them and the
+    /// header asks for one.
+    pub fn acknowledgement(&self) -> Awaited
+        ensures { awaited_of result ≡ ask.ack (frontend_of self.now) }
+    {
+        let (acked_p, header_flags) = (self.acked_p, self.header_flags);
+        if has_bit(acked_p, 3) && has_bit(header_flags.into(), 3) {
+            Awaited::Ack
+        } else {
+            Awaited::Nobody
+        }
+    }
+
+    /// The flags of a request that asks for no acknowledgement.
+    pub fn quiet_flags(&self) -> u32
+        ensures reply { is_set result 2 ≡ is_set (frontend_of self.now).header_flags 2 }
+        ensures need_reply { is_set result 3 ≡ false }
+    {
+        let flags = self.header_flags;
+        if has_bit(flags.into(), 2) { 4 } else { 0 }
+    }
+
+    /// Whether the backend listens for page faults.
+    pub fn is_listening(&self) -> bool
+        ensures { result ≡ is_listen (frontend_of self.now).postcopy }
+    {
+        matches!(self.postcopy, PostcopyState::Listen)
+    }
+
+    /// InactiveOperation: the protocol feature is not acknowledged.
+    pub fn operation(&self, feature: VhostUserProtocolFeatures) -> Result<()>
+        ensures { (bit : ℕ) → feature.bits ≡ 2 ^ bit → ask.operation (frontend_of self.now) bit ≡ tested result }
+    {
+        if self.acked_p & feature.bits() == 0 {
+            return Err(Error::InactiveOperation(feature));
+        }
+        Ok(())
+    }
+
+    /// InvalidParam: the device has no queue of this index, or the index has more than 32 bits.
+    pub fn index(&self, index: usize) -> Result<u32>
+        ensures test { ask.index (frontend_of self.now) index ≡ tested result }
+        ensures same { IfOk result (λ i. i ≡ index) }
+    {
+        if index as u64 >= self.max_queue_num || index as u64 > u64::from(u32::MAX) {
+            return Err(Error::InvalidParam);
+        }
+        Ok(index as u32)
+    }
+
+    /// InvalidParam: the device has no queue of this index, or the index has more than the eight bits that it has beside a
+    /// handle.
+    pub fn small_index(&self, index: usize) -> Result<u64>
+        ensures test { ask.small_index (frontend_of self.now) index ≡ tested result }
+        ensures same { IfOk result (λ i. i ≡ index) }
+    {
+        if index as u64 >= self.max_queue_num || index as u64 > 255 {
+            return Err(Error::InvalidParam);
+        }
+        Ok(index as u64)
+    }
+}
+
+/// InactiveFeature: the protocol features are not among these features.
+pub fn protocol_in(features: u64) -> Result<()>
+    ensures { ask.protocol_in features ≡ tested result }
+{
+    let protocol = VhostUserVirtioFeatures::PROTOCOL_FEATURES;
+    if features & protocol.bits() == 0 {
+        return Err(Error::InactiveFeature(protocol));
+    }
+    Ok(())
+}
+
+/// InvalidParam: the test of an argument does not hold.
+pub fn param(holds: bool) -> Result<()>
+    ensures { ask.param holds ≡ tested result }
+{
+    if !holds {
+        return Err(Error::InvalidParam);
+    }
+    Ok(())
+}
