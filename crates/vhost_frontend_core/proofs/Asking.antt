@@ -1,16 +1,19 @@
 -- The half that asks, test by test.
-use Rattle.std.proofs.Common.{◌≡◌, ℕ, Bool, true, false, Result, Ok, Err, refl, sym, ap, subst, ◌∙◌}
-use Rattle.std.specs.Prelude.{⊤}
+use Rattle.std.proofs.Common.{◌≡◌, ℕ, Bool, true, false, List, Option, Some, None, Result, Ok, Err, refl, sym, ap, subst, ◌∙◌}
+use Rattle.std.specs.Prelude.{⊤, if◌then◌else◌}
 use Rattle.vhost_message.specs.declared.error.Error as declared
+use Rattle.vhost_message.specs.declared.error.Error.TheVariants as code
 use Rattle.vhost_message.specs.declared.frontend_req.FrontendReq.{FrontendReq}
+use Rattle.vhost_message.specs.Bits.{has_bit}
 use Rattle.vhost_protocol.specs.Error.{Error, seen}
 use Rattle.vhost_protocol.specs.FrontendCall.{Frontend}
-use Rattle.vhost_protocol.specs.Ask.{Awaited, Asked, Refuses, Sends, ◌>>◌}
-use Rattle.vhost_protocol.specs.Written.{Written}
+use Rattle.vhost_protocol.specs.Ask.{Awaited, Asked, Refuses, Sends, ◌>>◌, ◌>>=◌, given, quietly}
+use Rattle.vhost_protocol.specs.Written.{Payload, Written}
 use Rattle.vhost_link.specs.Law.{Event}
 use Rattle.vhost_connection.specs.Talk.{State}
 use Rattle.vhost_frontend_core.specs.Asking as asking
-use Rattle.vhost_frontend_core.specs.Asking.{Asks, Tries}
+use Rattle.vhost_frontend_core.specs.Asking.{Asks, Tries, request_with}
+use Rattle.vhost_frontend_core.specs.declared.asked.Kept.{Kept}
 use Rattle.vhost_frontend_core.specs.declared.asked.Sent.{Sent}
 
 module _ {L H : Type 0} {event : L → Event H → L → Type 0} where
@@ -53,3 +56,39 @@ module _ {L H : Type 0} {event : L → Event H → L → Type 0} where
     where
       go : {new : State L H} {after : Awaited} → Tries event w other old before (Err error) new after → Asks event (Sends w other f') old f before (Err error) new f after
       go (asking.broke x) = asking.fails refl x
+
+  -- what is awaited is an acknowledgement, or nothing
+  pub tried_acked : {w : Written FrontendReq H} {asked other : Awaited} {old new : State L H} {f f' : Frontend} {before after : Awaited} {result : Result Sent declared.Error}
+      → asked ≡ other → f' ≡ f → Tries event w asked old before result new after → Asks event (Sends w other f) old f before result new f' after
+  tried_acked e same p = tried same (tries_as e p)
+
+  -- the message by another name
+  pub tried-as : {w other : Written FrontendReq H} {asked : Awaited} {old new : State L H} {f f' : Frontend} {before after : Awaited} {result : Result Sent declared.Error}
+      → w ≡ other → f' ≡ f → Tries event w asked old before result new after → Asks event (Sends other asked f) old f before result new f' after
+  tried-as {asked = asked} {old} {new} {before = before} {after} {result} e same p = tried same (subst (λ (x : Written FrontendReq H). Tries event x asked old before result new after) e p)
+
+  -- an argument is there, or not
+  pub given-one : {A : Type 0} {o : Option A} (next : A → Asked H) {old new : State L H} {f f' : Frontend} {before after : Awaited} {result : Result Sent declared.Error} (a : A) → o ≡ Some a
+      → Asks event (next a) old f before result new f' after → Asks event (given o >>= next) old f before result new f' after
+  given-one next {old} {new} {f} {f'} {before} {after} {result} a is p = subst (λ (x : Asked H). Asks event x old f before result new f' after) (sym (ap (λ x. given x >>= next) is)) p
+
+  pub given-none : {A : Type 0} {o : Option A} (next : A → Asked H) {old : State L H} {f : Frontend} {before : Awaited} → o ≡ None → Asks event (given o >>= next) old f before (Err code.InvalidParam) old f before
+  given-none next is = asking.refuses (rw is refl)
+
+  -- one of two messages
+  pub then_as : {holds : Bool} {yes_asked : Asked H} (no_asked : Asked H) {old new : State L H} {f f' : Frontend} {before after : Awaited} {result : Result Sent declared.Error} → holds ≡ true
+      → Asks event yes_asked old f before result new f' after → Asks event (if holds then yes_asked else no_asked) old f before result new f' after
+  then_as {yes_asked = yes_asked} no_asked {old} {new} {f} {f'} {before} {after} {result} is p = subst (λ (b : Bool). Asks event (if b then yes_asked else no_asked) old f before result new f' after) (sym is) p
+
+  pub else_as : {holds : Bool} (yes_asked : Asked H) {no_asked : Asked H} {old new : State L H} {f f' : Frontend} {before after : Awaited} {result : Result Sent declared.Error} → holds ≡ false
+      → Asks event no_asked old f before result new f' after → Asks event (if holds then yes_asked else no_asked) old f before result new f' after
+  else_as yes_asked {no_asked} {old} {new} {f} {f'} {before} {after} {result} is p = subst (λ (b : Bool). Asks event (if b then yes_asked else no_asked) old f before result new f' after) (sym is) p
+
+  -- what is kept of the request makes no difference
+  pub keeping : {asked : Asked H} {old new : State L H} {f f' : Frontend} {before after : Awaited} {sent : Sent} (kept : Kept) → Asks event asked old f before (Ok sent) new f' after
+      → Asks event asked old f before (Ok (record sent { kept = kept })) new f' after
+  keeping kept (asking.goes e g) = asking.goes e (record { retries = g.retries; serves = g.serves; header = g.header; awaits = g.awaits; list = g.list })
+
+-- a request without NEED_REPLY
+pub quiet_is : {H : Type 0} (flags : ℕ) (f : Frontend) (r : FrontendReq) (p : Payload) (hs : List H) → has_bit flags 2 ≡ has_bit f.header_flags 2 → has_bit flags 3 ≡ false → request_with flags r p hs ≡ quietly f r p hs
+quiet_is flags f r p hs reply need = rw (reply, need) refl

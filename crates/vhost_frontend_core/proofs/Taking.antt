@@ -66,6 +66,10 @@ module _ {L H : Type 0} {event : L → Event H → L → Type 0} where
 
   -- ---- acknowledgements
 
+  -- what is awaited, by another name
+  pub acks-as : {old new : State L H} {sent : Header} {asked other : Awaited} {result : Result ⊤ declared.Error} → asked ≡ other → Acks event old sent asked result new → Acks event old sent other result new
+  acks-as {old} {new} {sent} {result = result} e x = subst (λ (a : Awaited). Acks event old sent a result new) e x
+
   module _ (call : FrontendCall H) {sent : Header} {f : Frontend} {old : State L H} where
     reads-ack : {new : State L H} (o : Result (Received H) Error) {x : Answered H} → Hears event (reply_cut 8 (λ bs. true) 0) old o new → understood call Ack sent f o ≡ Some x → Reads event call Ack sent f old (Some x) new
     reads-ack {new} o h e = read (subst (λ y. Hears event (take call Ack sent f) old y new) e (hears-by (λ r. understood call Ack sent f r) o (λ cells. refl) h))
@@ -98,11 +102,15 @@ module _ {L H : Type 0} {event : L → Event H → L → Type 0} where
     succeeds {new} {value = value} a asked {f'} e same is x =
         taken (subst (λ y. Reads event call asked sent f old (Some y) new) (ap (λ (g : Frontend). answered g (Ok (plain_value call))) (sym same) ∙ ap (λ (v : Value H). answered f' (Ok v)) (sym e)) (acked-ok asked is x))
 
+    -- it failed, and the session is as before
+    pub failed-as : {new : State L H} {A : Type 0} {value : A → Value H} {e : declared.Error} (asked : Awaited) {f' : Frontend} → f' ≡ f → IsAck asked → Acks event old sent asked (Err e) new → Takes event call value asked sent old f (Err e) new f'
+    failed-as {new} {value = value} {e} asked same is x = subst (λ (g : Frontend). Takes event call value asked sent old f (Err e) new g) (sym same) (acked-err asked is x)
+
     -- a call that only answers whether it succeeded, and leaves the session as it is
     pub acked : {new : State L H} {asked : Awaited} {f' : Frontend} {value : ⊤ → Value H} {result : Result ⊤ declared.Error} → value tt ≡ plain_value call → after_success f call ≡ f → IsAck asked → f' ≡ f
         → Acks event old sent asked result new → Takes event call value asked sent old f result new f'
     acked {asked = asked} {result = Ok u} e after is same x = succeeds u asked e (same ∙ sym after) is x
-    acked {new} {asked} {f'} {value} {result = Err error} e after is same x = subst (λ (g : Frontend). Takes event call value asked sent old f (Err error) new g) (sym same) (acked-err asked is x)
+    acked {asked = asked} {result = Err error} e after is same x = failed-as asked same is x
 
   -- ---- replies
 
@@ -141,6 +149,12 @@ module _ {T L H : Type 0} {event : L → Event H → L → Type 0} (call : Front
       go : {e : declared.Error} {new : State L H} → Awaits event size decode valid old sent (Err e) new → Takes event call value (Reply shape) sent old f (Err e) new f
       go (is_reply flag) = none-for-reply call shape size 0 (λ bs. valid (decode bs)) by flag
       go (is_request plain m) = missing call shape size 0 (λ bs. valid (decode bs)) by plain m
+
+  -- the answer from a reply, with whatever handles
+  pub any-replied : {new : State L H} {f' : Frontend} {A : Type 0} {value : A → Value H} {result : Result A declared.Error} {t : T} {hs : Option (Vec H Global)} → Awaits event size decode valid old sent (Ok (t, hs)) new
+      → ((r : Received H) → t ≡ decode r.body → valid t ≡ true → HandsOver hs r.handles → answer call (Reply shape) f (Replied (payload_of shape r.body r.payload) r.handles) ≡ Some (answered f' (valued value result)))
+      → Takes event call value (Reply shape) sent old f result new f'
+  any-replied (is_request plain x) e = taken (replied call shape size 0 (λ bs. valid (decode bs)) by x.0 plain x.1 (sized x.0) (e x.0 x.2 x.3 x.4))
 
   -- the answer from a reply that came alone
   pub alone-replied : {new : State L H} {f' : Frontend} {A : Type 0} {value : A → Value H} {result : Result A declared.Error} {t : T} → AwaitsAlone event size decode valid old sent (Ok t) new

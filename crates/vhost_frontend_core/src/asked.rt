@@ -2,7 +2,7 @@
 
 ghost use Rattle.std.specs.Prelude.{◌≡◌};
 
-use vhost_message::{FrontendReq, VhostUserMsgHeader};
+use vhost_message::{FrontendReq, VhostUserMemoryRegion, VhostUserMsgHeader};
 
 /// What a reply holds.
 #[derive(Clone, Copy, Debug, PartialEq, Eq)]
@@ -38,18 +38,34 @@ pub enum Awaited {
     Reply(Shape),
 }
 
+/// What is kept of a request, since its reply is compared with it.
+#[derive(Clone, Copy, Drop)]
+pub enum Kept {
+    /// Nothing.
+    Nothing,
+    /// The region that it gave.
+    Region(VhostUserMemoryRegion),
+}
+
 /// A request that was sent. Only the half of a call that asks makes one, and the half that takes uses it up.
 #[derive(Drop)]
 pub struct Sent {
     pub(crate) request: VhostUserMsgHeader<FrontendReq>,
     pub(crate) awaited: Awaited,
+    pub(crate) kept: Kept,
 }
 
 impl Sent {
+    ghost use Rattle.vhost_frontend_core.specs.declared.asked.Kept.TheVariants.{Nothing};
+
     pub(crate) fn new(request: VhostUserMsgHeader<FrontendReq>, awaited: Awaited) -> Sent
-        ensures { result ≡ record { request = request; awaited = awaited } }
+        ensures { result ≡ record { request = request; awaited = awaited; kept = Nothing } }
     {
-        Sent { request, awaited }
+        Sent {
+            request,
+            awaited,
+            kept: Kept::Nothing,
+        }
     }
 
     /// What is awaited.

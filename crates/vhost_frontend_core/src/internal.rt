@@ -17,6 +17,7 @@ mod config;
 mod features;
 mod inflight;
 mod log;
+mod memory;
 mod objects;
 mod ownership;
 mod postcopy;

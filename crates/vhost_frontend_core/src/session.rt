@@ -12,7 +12,8 @@ use crate::asked::Awaited;
 use crate::bits::has_bit;
 use bitflags::Flags;
 use vhost_message::{
-    Error, PostcopyState, Result, VhostUserProtocolFeatures, VhostUserVirtioFeatures,
+    Error, PostcopyState, Result, VhostUserMsgValidator, VhostUserProtocolFeatures,
+    VhostUserVirtioFeatures,
 };
 
 /// The features offered and acknowledged, the number of queues, the flags of each request, and how far postcopy has come.
@@ -120,6 +121,16 @@ pub fn param(holds: bool) -> Result<()>
     ensures { ask.param holds ≡ tested result }
 {
     if !holds {
+        return Err(Error::InvalidParam);
+    }
+    Ok(())
+}
+
+/// InvalidParam: the record is not valid.
+pub fn valid<T: VhostUserMsgValidator>(body: &T) -> Result<()>
+    ensures { ask.param (T.valid body.now) ≡ tested result }
+{
+    if !body.is_valid() {
         return Err(Error::InvalidParam);
     }
     Ok(())

@@ -1,12 +1,16 @@
 //! The device's configuration space.
 
-ghost use Rattle.std.specs.Prelude.{◌≡◌};
+ghost use Rattle.std.specs.Prelude.{◌≡◌, ℕ, List, IfOk};
 ghost use Rattle.vhost_protocol.specs.FrontendCall as call;
+ghost use Rattle.vhost_message.specs.Valid.{is_valid_config};
+ghost use Rattle.vhost_protocol.specs.Ask as ask;
+ghost use Rattle.vhost_frontend_core.specs.Asking.{tested};
+ghost use Rattle.vhost_protocol.specs.Ask.{Nobody};
 ghost use Rattle.vhost_message.specs.FlagBits.{config_bits};
 
 use crate::asked::Sent;
 use crate::internal::FrontendInternal;
-use crate::session::param;
+use crate::session::{param, valid};
 use vhost_link::Link;
 use vhost_message::{
     FrontendReq, Result, VhostUserConfig, VhostUserConfigFlags, VhostUserMsgValidator,
@@ -14,7 +18,8 @@ use vhost_message::{
 };
 
 impl<L: Link> FrontendInternal<L> {
-    ghost use Rattle.vhost_frontend_core.specs.Halves.{AsksHalf};
+    ghost use Rattle.vhost_frontend_core.specs.Frontend.{awaits};
+    ghost use Rattle.vhost_frontend_core.specs.Halves.{AsksHalf, TakesAck};
 
     /// Changes the configuration space from this byte on.
     ///
@@ -28,8 +33,7 @@ impl<L: Link> FrontendInternal<L> {
         ensures { AsksHalf L.event (call.SetConfig offset (config_bits flags) buffer.now) self.old result self.new }
     {
         param(buffer.len() <= 4096)?;
-        let part = VhostUserConfig::new(offset, buffer.len() as u32, flags);
-        param(part.is_valid())?;
+        let part = part_of(offset, buffer.len() as u32, flags)?;
         self.session.operation(VhostUserProtocolFeatures::CONFIG)?;
         param(12 + buffer.len() <= 4096)?;
         let request = (
@@ -39,4 +43,22 @@ impl<L: Link> FrontendInternal<L> {
         );
         self.send(request, &part, buffer, &[])
     }
+
+    /// Takes the acknowledgement, where there is one.
+    pub fn take_set_config(&mut self, sent: Sent) -> Result<()>
+        ensures taken { (offset flags : ℕ) (buffer : List ℕ) → TakesAck L.event (call.SetConfig offset flags buffer) sent self.old result self.new }
+        ensures quiet { awaits self.new ≡ Nobody }
+    {
+        self.take_ack(sent)
+    }
+}
+
+/// The part of so many bytes from this byte on. InvalidParam: there is no byte, or the part goes beyond the space.
+fn part_of(offset: u32, size: u32, flags: VhostUserConfigFlags) -> Result<VhostUserConfig>
+    ensures test { ask.param (is_valid_config (ask.config offset size (config_bits flags))) ≡ tested result }
+    ensures same { IfOk result (λ part. part ≡ ask.config offset size (config_bits flags)) }
+{
+    let part = VhostUserConfig::new(offset, size, flags);
+    valid(&part)?;
+    Ok(part)
 }

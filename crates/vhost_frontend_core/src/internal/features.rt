@@ -1,23 +1,47 @@
 //! Virtio features, protocol features, and the number of queues.
 
-ghost use Rattle.std.specs.Prelude.{◌≡◌};
+ghost use Rattle.std.specs.Prelude.{◌≡◌, ℕ, bit_and};
 ghost use Rattle.vhost_protocol.specs.FrontendCall as call;
+ghost use Rattle.vhost_protocol.specs.Ask.{Nobody, Reply, AU64};
 
 use crate::asked::{Sent, Shape};
 use crate::internal::FrontendInternal;
 use crate::session::protocol_in;
 use bitflags::Flags;
 use vhost_link::Link;
-use vhost_message::{FrontendReq, Result, VhostUserEmpty, VhostUserProtocolFeatures, VhostUserU64};
+use vhost_message::{
+    Error, FrontendReq, Result, VhostUserEmpty, VhostUserProtocolFeatures, VhostUserU64,
+};
+
+/// The bits of the protocol features that have a meaning.
+const KNOWN_FEATURES: u64 = 0x7f_ffff;
+
+/// The most queues that a device may have.
+const MAX_QUEUES: u64 = 0x8000;
 
 impl<L: Link> FrontendInternal<L> {
-    ghost use Rattle.vhost_frontend_core.specs.Halves.{AsksHalf};
+    ghost use Rattle.vhost_frontend_core.specs.Frontend.{awaits};
+    ghost use Rattle.vhost_frontend_core.specs.Halves.{AsksHalf, TakesHalf, TakesAck};
 
     /// Asks for the virtio features that the device offers.
     pub fn ask_get_features(&mut self) -> Result<Sent>
         ensures { AsksHalf L.event call.GetFeatures self.old result self.new }
     {
         self.ask_reply(FrontendReq::GET_FEATURES, Shape::U64, &VhostUserEmpty, &[])
+    }
+
+    /// Takes the features, and remembers them as offered.
+    pub fn take_get_features(&mut self, sent: Sent) -> Result<u64>
+        ensures taken { TakesHalf L.event call.GetFeatures call.Number (Reply AU64) sent self.old result self.new }
+        ensures quiet { awaits self.new ≡ Nobody }
+    {
+        match self.take_alone::<VhostUserU64>(sent) {
+            Ok(number) => {
+                self.session.offered = number.value;
+                Ok(number.value)
+            }
+            Err(error) => Err(error),
+        }
     }
 
     /// Acknowledges virtio features.
@@ -28,6 +52,14 @@ impl<L: Link> FrontendInternal<L> {
         next.acked = features & next.offered;
         let body = VhostUserU64::new(features);
         self.ask_change(next, FrontendReq::SET_FEATURES, &body, &[])
+    }
+
+    /// Takes the acknowledgement, where there is one.
+    pub fn take_set_features(&mut self, sent: Sent) -> Result<()>
+        ensures taken { (features : ℕ) → TakesAck L.event (call.SetFeatures features) sent self.old result self.new }
+        ensures quiet { awaits self.new ≡ Nobody }
+    {
+        self.take_ack(sent)
     }
 
     /// Asks for the protocol features that the device offers.
@@ -45,6 +77,17 @@ impl<L: Link> FrontendInternal<L> {
         )
     }
 
+    /// Takes the features; bits without a meaning are dropped.
+    pub fn take_get_protocol_features(&mut self, sent: Sent) -> Result<VhostUserProtocolFeatures>
+        ensures taken { TakesHalf L.event call.GetProtocolFeatures (λ features. call.Number features.bits) (Reply AU64) sent self.old result self.new }
+        ensures quiet { awaits self.new ≡ Nobody }
+    {
+        match self.take_alone::<VhostUserU64>(sent) {
+            Ok(number) => { Ok(known_features(number.value)) }
+            Err(error) => Err(error),
+        }
+    }
+
     /// Chooses protocol features.
     ///
     /// InactiveFeature: the device offers none.
@@ -58,6 +101,14 @@ impl<L: Link> FrontendInternal<L> {
         self.ask_change(next, FrontendReq::SET_PROTOCOL_FEATURES, &body, &[])
     }
 
+    /// Takes the acknowledgement, where there is one.
+    pub fn take_set_protocol_features(&mut self, sent: Sent) -> Result<()>
+        ensures taken { (features : ℕ) → TakesAck L.event (call.SetProtocolFeatures features) sent self.old result self.new }
+        ensures quiet { awaits self.new ≡ Nobody }
+    {
+        self.take_ack(sent)
+    }
+
     /// Asks how many queues the device has at most.
     ///
     /// InactiveOperation: MQ is not acknowledged.
@@ -67,4 +118,30 @@ impl<L: Link> FrontendInternal<L> {
         self.session.operation(VhostUserProtocolFeatures::MQ)?;
         self.ask_reply(FrontendReq::GET_QUEUE_NUM, Shape::U64, &VhostUserEmpty, &[])
     }
+
+    /// Takes the number, and remembers it.
+    ///
+    /// InvalidMessage: it is greater than 0x8000; the old number stays.
+    pub fn take_get_queue_num(&mut self, sent: Sent) -> Result<u64>
+        ensures taken { TakesHalf L.event call.GetQueueNum call.Number (Reply AU64) sent self.old result self.new }
+        ensures quiet { awaits self.new ≡ Nobody }
+    {
+        match self.take_alone::<VhostUserU64>(sent) {
+            Ok(number) => {
+                if number.value > MAX_QUEUES {
+                    return Err(Error::InvalidMessage);
+                }
+                self.session.max_queue_num = number.value;
+                Ok(number.value)
+            }
+            Err(error) => Err(error),
+        }
+    }
+}
+
+/// The protocol features among these bits; the others are dropped.
+fn known_features(bits: u64) -> VhostUserProtocolFeatures
+    ensures { result.bits ≡ bit_and bits 0x7FFFFF }
+{
+    VhostUserProtocolFeatures::from_bits_retain(bits & KNOWN_FEATURES)
 }

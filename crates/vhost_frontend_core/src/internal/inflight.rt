@@ -1,16 +1,20 @@
 //! The buffer for descriptors in flight.
 
-ghost use Rattle.std.specs.Prelude.{◌≡◌};
+ghost use Rattle.std.specs.Prelude.{◌≡◌, ◌==◌, ◌&&◌, not};
 ghost use Rattle.vhost_protocol.specs.FrontendCall as call;
+ghost use Rattle.vhost_message.specs.declared.records.inflight.VhostUserInflight.{VhostUserInflight};
+ghost use Rattle.vhost_protocol.specs.Ask as ask;
+ghost use Rattle.vhost_frontend_core.specs.Asking.{tested};
+ghost use Rattle.vhost_protocol.specs.Ask.{Nobody, Reply, AnInflight};
 
 use crate::asked::{Sent, Shape};
 use crate::internal::FrontendInternal;
-use crate::session::param;
 use vhost_link::Link;
-use vhost_message::{FrontendReq, Result, VhostUserInflight, VhostUserProtocolFeatures};
+use vhost_message::{Error, FrontendReq, Result, VhostUserInflight, VhostUserProtocolFeatures};
 
 impl<L: Link> FrontendInternal<L> {
-    ghost use Rattle.vhost_frontend_core.specs.Halves.{AsksHalf};
+    ghost use Rattle.vhost_frontend_core.specs.Frontend.{awaits};
+    ghost use Rattle.vhost_frontend_core.specs.Halves.{AsksHalf, TakesHalf, TakesAck};
 
     /// Asks for the buffer.
     ///
@@ -21,6 +25,19 @@ impl<L: Link> FrontendInternal<L> {
         self.session
             .operation(VhostUserProtocolFeatures::INFLIGHT_SHMFD)?;
         self.ask_reply(FrontendReq::GET_INFLIGHT_FD, Shape::Inflight, inflight, &[])
+    }
+
+    /// Takes the buffer: where it lies, and its handle.
+    ///
+    /// InvalidMessage: no handle came. IncorrectFds: several did.
+    pub fn take_get_inflight_fd(&mut self, sent: Sent) -> Result<(VhostUserInflight, L::Handle)>
+        ensures taken { (asked : VhostUserInflight) → TakesHalf L.event (call.GetInflightFd asked) (λ buffer. call.InflightOf buffer.0 buffer.1) (Reply AnInflight) sent self.old result self.new }
+        ensures quiet { awaits self.new ≡ Nobody }
+    {
+        match self.take_one::<VhostUserInflight>(sent) {
+            Ok(buffer) => Ok(buffer),
+            Err(error) => Err(error),
+        }
     }
 
     /// Gives the buffer.
@@ -36,7 +53,25 @@ impl<L: Link> FrontendInternal<L> {
     {
         self.session
             .operation(VhostUserProtocolFeatures::INFLIGHT_SHMFD)?;
-        param(inflight.mmap_size != 0 && inflight.num_queues != 0 && inflight.queue_size != 0)?;
+        used(inflight)?;
         self.ask_ack(FrontendReq::SET_INFLIGHT_FD, inflight, &[handle])
     }
+
+    /// Takes the acknowledgement, where there is one.
+    pub fn take_set_inflight_fd(&mut self, sent: Sent) -> Result<()>
+        ensures taken { (inflight : VhostUserInflight) (handle : L.Handle) → TakesAck L.event (call.SetInflightFd inflight handle) sent self.old result self.new }
+        ensures quiet { awaits self.new ≡ Nobody }
+    {
+        self.take_ack(sent)
+    }
+}
+
+/// InvalidParam: the buffer's size, or one of the numbers of queues and descriptors, is 0.
+fn used(inflight: &VhostUserInflight) -> Result<()>
+    ensures { ask.param (not (inflight.now.mmap_size == 0) && not (inflight.now.num_queues == 0) && not (inflight.now.queue_size == 0)) ≡ tested result }
+{
+    if inflight.mmap_size == 0 || inflight.num_queues == 0 || inflight.queue_size == 0 {
+        return Err(Error::InvalidParam);
+    }
+    Ok(())
 }

@@ -1,12 +1,16 @@
 //! The log of dirty pages.
 
-ghost use Rattle.std.specs.Prelude.{◌≡◌};
+ghost use Rattle.std.specs.Prelude.{◌≡◌, ℕ, Option, []};
 ghost use Rattle.vhost_protocol.specs.FrontendCall as call;
+ghost use Rattle.vhost_protocol.specs.FrontendCall.{LogRegion};
+ghost use Rattle.vhost_message.specs.declared.frontend_req.FrontendReq.TheVariants.{SET_LOG_BASE};
+ghost use Rattle.vhost_protocol.specs.Written.{U64};
+ghost use Rattle.vhost_protocol.specs.Ask.{Nobody, Reply, ALog, Sends, message};
 ghost use Rattle.vhost_frontend_core.specs.Regions.{log_region_in};
 
 use crate::asked::{Awaited, Sent, Shape};
+use crate::bits::has_bit;
 use crate::internal::FrontendInternal;
-use bitflags::Flags;
 use vhost_backend::VhostUserDirtyLogRegion;
 use vhost_link::Link;
 use vhost_message::{
@@ -15,7 +19,10 @@ use vhost_message::{
 };
 
 impl<L: Link> FrontendInternal<L> {
-    ghost use Rattle.vhost_frontend_core.specs.Halves.{AsksHalf};
+    ghost use Rattle.vhost_frontend_core.specs.Frontend.{end_of, session_of, awaits};
+    ghost use Rattle.vhost_frontend_core.specs.Asking.{Asks};
+    ghost use Rattle.vhost_frontend_core.specs.Session.{awaited_of};
+    ghost use Rattle.vhost_frontend_core.specs.Halves.{AsksHalf, TakesHalf, TakesAck};
 
     /// Says where the log lies: at this base, or in this region where shared memory is agreed on.
     ///
@@ -25,23 +32,49 @@ impl<L: Link> FrontendInternal<L> {
         base: u64,
         region: Option<VhostUserDirtyLogRegion<L::Handle>>,
     ) -> Result<Sent>
-        ensures { AsksHalf L.event (call.SetLogBase base (log_region_in region)) self.old result self.new }
+        ensures { AsksHalf L.event (call.SetLogBase base (log_region_in region.entry)) self.old result self.new }
     {
-        match region {
-            Some(region)
-                if self.session.acked_p & VhostUserProtocolFeatures::LOG_SHMFD.bits() != 0 => {
-                let handle = region.mmap_handle.ok_or(Error::InvalidParam)?;
-                let log = VhostUserLog::new(region.mmap_size, region.mmap_offset);
-                self.ask_reply(FrontendReq::SET_LOG_BASE, Shape::Log, &log, &[handle])
-            }
-            _ => {
-                let request = (
-                    FrontendReq::SET_LOG_BASE,
-                    self.session.header_flags,
-                    Awaited::Nobody,
-                );
-                self.send(request, &VhostUserU64::new(base), &[], &[])
-            }
+        let Some(area) = region else {
+            return self.ask_base(base);
+        };
+        if !has_bit(self.session.acked_p, 1) {
+            return self.ask_base(base);
+        }
+        let Some(handle) = area.mmap_handle else {
+            return Err(Error::InvalidParam);
+        };
+        let log = VhostUserLog::new(area.mmap_size, area.mmap_offset);
+        self.ask_reply(FrontendReq::SET_LOG_BASE, Shape::Log, &log, &[handle])
+    }
+
+    /// Says where the log lies, and awaits nothing.
+    fn ask_base(&mut self, base: u64) -> Result<Sent>
+        ensures { Asks L.event (Sends (message (session_of self.old) SET_LOG_BASE (U64 base) []) Nobody (session_of self.old)) (end_of self.old) (session_of self.old) (awaits self.old) result (end_of self.new) (session_of self.new) (awaits self.new) }
+    {
+        let request = (
+            FrontendReq::SET_LOG_BASE,
+            self.session.header_flags,
+            Awaited::Nobody,
+        );
+        self.send(request, &VhostUserU64::new(base), &[], &[])
+    }
+
+    /// Takes the reply, where there is one.
+    ///
+    /// InvalidMessage: the area in the reply is not valid.
+    pub fn take_set_log_base(&mut self, sent: Sent) -> Result<()>
+        ensures area { (base : ℕ) (region : Option (LogRegion L.Handle)) → awaited_of sent.awaited ≡ Reply ALog
+            → TakesHalf L.event (call.SetLogBase base region) (λ _. call.Nothing) (Reply ALog) sent self.old result self.new }
+        ensures base { (base : ℕ) (region : Option (LogRegion L.Handle)) → awaited_of sent.awaited ≡ Nobody
+            → TakesHalf L.event (call.SetLogBase base region) (λ _. call.Nothing) Nobody sent self.old result self.new }
+        ensures quiet { awaits self.new ≡ Nobody }
+    {
+        match sent.awaited {
+            Awaited::Nobody => self.take_ack(sent),
+            _ => match self.take_alone::<VhostUserLog>(sent) {
+                Ok(_) => Ok(()),
+                Err(error) => Err(error),
+            },
         }
     }
 
@@ -50,5 +83,13 @@ impl<L: Link> FrontendInternal<L> {
         ensures { AsksHalf L.event (call.SetLogFd handle.now) self.old result self.new }
     {
         self.ask_ack(FrontendReq::SET_LOG_FD, &VhostUserEmpty, &[handle])
+    }
+
+    /// Takes the acknowledgement, where there is one.
+    pub fn take_set_log_fd(&mut self, sent: Sent) -> Result<()>
+        ensures taken { (handle : L.Handle) → TakesAck L.event (call.SetLogFd handle) sent self.old result self.new }
+        ensures quiet { awaits self.new ≡ Nobody }
+    {
+        self.take_ack(sent)
     }
 }

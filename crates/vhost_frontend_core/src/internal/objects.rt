@@ -2,19 +2,22 @@
 
 ghost use Rattle.std.specs.Prelude.{◌≡◌};
 ghost use Rattle.vhost_protocol.specs.FrontendCall as call;
+ghost use Rattle.vhost_message.specs.declared.records.shared.VhostUserSharedMsg.{VhostUserSharedMsg};
+ghost use Rattle.vhost_protocol.specs.Ask.{Nobody, Reply, AnEmpty, AShmem};
 ghost use Rattle.vhost_message.specs.Valid.{is_valid_uuid};
 
 use crate::asked::{Sent, Shape};
 use crate::internal::FrontendInternal;
-use crate::session::param;
+use crate::session::valid;
 use vhost_link::Link;
 use vhost_message::{
-    FrontendReq, Result, VhostUserEmpty, VhostUserMsgValidator, VhostUserProtocolFeatures,
+    FrontendReq, Result, VhostUserEmpty, VhostUserProtocolFeatures, VhostUserShMemConfig,
     VhostUserSharedMsg,
 };
 
 impl<L: Link> FrontendInternal<L> {
-    ghost use Rattle.vhost_frontend_core.specs.Halves.{AsksHalf};
+    ghost use Rattle.vhost_frontend_core.specs.Frontend.{awaits};
+    ghost use Rattle.vhost_frontend_core.specs.Halves.{AsksHalf, TakesHalf, TakesAck};
 
     /// Asks for the handle of a shared object.
     ///
@@ -24,8 +27,21 @@ impl<L: Link> FrontendInternal<L> {
     {
         self.session
             .operation(VhostUserProtocolFeatures::SHARED_OBJECT)?;
-        param(name.is_valid())?;
+        valid(name)?;
         self.ask_reply(FrontendReq::GET_SHARED_OBJECT, Shape::Empty, name, &[])
+    }
+
+    /// Takes the handle.
+    ///
+    /// InvalidMessage: none came. IncorrectFds: several did.
+    pub fn take_get_shared_object(&mut self, sent: Sent) -> Result<L::Handle>
+        ensures taken { (name : VhostUserSharedMsg) → TakesHalf L.event (call.GetSharedObject name) call.HandleOf (Reply AnEmpty) sent self.old result self.new }
+        ensures quiet { awaits self.new ≡ Nobody }
+    {
+        match self.take_one::<VhostUserEmpty>(sent) {
+            Ok((_, handle)) => { Ok(handle) }
+            Err(error) => Err(error),
+        }
     }
 
     /// Asks for the regions of shared memory.
@@ -43,6 +59,17 @@ impl<L: Link> FrontendInternal<L> {
         )
     }
 
+    /// Takes the regions.
+    pub fn take_get_shmem_config(&mut self, sent: Sent) -> Result<VhostUserShMemConfig>
+        ensures taken { TakesHalf L.event call.GetShmemConfig call.ShmemOf (Reply AShmem) sent self.old result self.new }
+        ensures quiet { awaits self.new ≡ Nobody }
+    {
+        match self.take_alone::<VhostUserShMemConfig>(sent) {
+            Ok(config) => Ok(config),
+            Err(error) => Err(error),
+        }
+    }
+
     /// Gives the channel on which the device may ask.
     ///
     /// InactiveOperation: BACKEND_REQ is not acknowledged.
@@ -52,5 +79,13 @@ impl<L: Link> FrontendInternal<L> {
         self.session
             .operation(VhostUserProtocolFeatures::BACKEND_REQ)?;
         self.ask_ack(FrontendReq::SET_BACKEND_REQ_FD, &VhostUserEmpty, &[handle])
+    }
+
+    /// Takes the acknowledgement, where there is one.
+    pub fn take_set_backend_request_fd(&mut self, sent: Sent) -> Result<()>
+        ensures taken { (handle : L.Handle) → TakesAck L.event (call.SetBackendRequestFd handle) sent self.old result self.new }
+        ensures quiet { awaits self.new ≡ Nobody }
+    {
+        self.take_ack(sent)
     }
 }

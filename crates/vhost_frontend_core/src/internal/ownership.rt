@@ -2,6 +2,7 @@
 
 ghost use Rattle.std.specs.Prelude.{◌≡◌};
 ghost use Rattle.vhost_protocol.specs.FrontendCall as call;
+ghost use Rattle.vhost_protocol.specs.Ask.{Nobody};
 
 use crate::asked::Sent;
 use crate::internal::FrontendInternal;
@@ -9,7 +10,8 @@ use vhost_link::Link;
 use vhost_message::{FrontendReq, Result, VhostUserEmpty, VhostUserProtocolFeatures};
 
 impl<L: Link> FrontendInternal<L> {
-    ghost use Rattle.vhost_frontend_core.specs.Halves.{AsksHalf};
+    ghost use Rattle.vhost_frontend_core.specs.Frontend.{awaits};
+    ghost use Rattle.vhost_frontend_core.specs.Halves.{AsksHalf, TakesAck};
 
     /// Asks to become the owner of the session.
     pub fn ask_set_owner(&mut self) -> Result<Sent>
@@ -18,11 +20,27 @@ impl<L: Link> FrontendInternal<L> {
         self.ask_ack(FrontendReq::SET_OWNER, &VhostUserEmpty, &[])
     }
 
+    /// Takes the acknowledgement, where there is one.
+    pub fn take_set_owner(&mut self, sent: Sent) -> Result<()>
+        ensures taken { TakesAck L.event call.SetOwner sent self.old result self.new }
+        ensures quiet { awaits self.new ≡ Nobody }
+    {
+        self.take_ack(sent)
+    }
+
     /// Gives the session up.
     pub fn ask_reset_owner(&mut self) -> Result<Sent>
         ensures { AsksHalf L.event call.ResetOwner self.old result self.new }
     {
         self.ask_ack(FrontendReq::RESET_OWNER, &VhostUserEmpty, &[])
+    }
+
+    /// Takes the acknowledgement, where there is one.
+    pub fn take_reset_owner(&mut self, sent: Sent) -> Result<()>
+        ensures taken { TakesAck L.event call.ResetOwner sent self.old result self.new }
+        ensures quiet { awaits self.new ≡ Nobody }
+    {
+        self.take_ack(sent)
     }
 
     /// Asks for the device to be reset.
@@ -34,5 +52,13 @@ impl<L: Link> FrontendInternal<L> {
         self.session
             .operation(VhostUserProtocolFeatures::RESET_DEVICE)?;
         self.ask_ack(FrontendReq::RESET_DEVICE, &VhostUserEmpty, &[])
+    }
+
+    /// Takes the acknowledgement, where there is one.
+    pub fn take_reset_device(&mut self, sent: Sent) -> Result<()>
+        ensures taken { TakesAck L.event call.ResetDevice sent self.old result self.new }
+        ensures quiet { awaits self.new ≡ Nobody }
+    {
+        self.take_ack(sent)
     }
 }

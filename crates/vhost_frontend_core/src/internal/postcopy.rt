@@ -2,16 +2,23 @@
 
 ghost use Rattle.std.specs.Prelude.{◌≡◌};
 ghost use Rattle.vhost_protocol.specs.FrontendCall as call;
-ghost use Rattle.vhost_protocol.specs.Ask.{is_mapping as maps};
+ghost use Rattle.vhost_message.specs.declared.frontend_req.FrontendReq.{FrontendReq};
+ghost use Rattle.vhost_protocol.specs.Ask as ask;
+ghost use Rattle.vhost_frontend_core.specs.Asking.{tested};
+ghost use Rattle.vhost_protocol.specs.Ask.{Nobody, Reply, AnEmpty};
 
 use crate::asked::{Awaited, Sent, Shape};
 use crate::internal::FrontendInternal;
-use crate::session::param;
 use vhost_link::Link;
-use vhost_message::{FrontendReq, Result, VhostUserEmpty, VhostUserProtocolFeatures, VhostUserU64};
+use vhost_message::{
+    Error, FrontendReq, PostcopyState, Result, VhostUserEmpty, VhostUserProtocolFeatures,
+    VhostUserU64,
+};
 
 impl<L: Link> FrontendInternal<L> {
-    ghost use Rattle.vhost_frontend_core.specs.Halves.{AsksHalf};
+    ghost use Rattle.vhost_frontend_core.specs.Frontend.{awaits};
+    ghost use Rattle.vhost_frontend_core.specs.Session.{awaited_of};
+    ghost use Rattle.vhost_frontend_core.specs.Halves.{AsksHalf, TakesHalf, TakesAck};
 
     /// Tells that postcopy is going to begin, and asks for the handle of page faults.
     ///
@@ -29,6 +36,22 @@ impl<L: Link> FrontendInternal<L> {
         )
     }
 
+    /// Takes the handle; postcopy is advised from now on.
+    ///
+    /// InvalidMessage: none came. IncorrectFds: several did.
+    pub fn take_postcopy_advise(&mut self, sent: Sent) -> Result<L::Handle>
+        ensures taken { TakesHalf L.event call.PostcopyAdvise call.HandleOf (Reply AnEmpty) sent self.old result self.new }
+        ensures quiet { awaits self.new ≡ Nobody }
+    {
+        match self.take_one::<VhostUserEmpty>(sent) {
+            Ok((_, handle)) => {
+                self.session.postcopy = PostcopyState::Advise;
+                Ok(handle)
+            }
+            Err(error) => Err(error),
+        }
+    }
+
     /// Tells the device to listen for page faults.
     ///
     /// InactiveOperation: PAGEFAULT is not acknowledged.
@@ -38,6 +61,20 @@ impl<L: Link> FrontendInternal<L> {
         self.session
             .operation(VhostUserProtocolFeatures::PAGEFAULT)?;
         self.ask_ack(FrontendReq::POSTCOPY_LISTEN, &VhostUserEmpty, &[])
+    }
+
+    /// Takes the acknowledgement, where there is one. The device listens from now on.
+    pub fn take_postcopy_listen(&mut self, sent: Sent) -> Result<()>
+        ensures taken { TakesAck L.event call.PostcopyListen sent self.old result self.new }
+        ensures quiet { awaits self.new ≡ Nobody }
+    {
+        match self.take_ack(sent) {
+            Ok(()) => {
+                self.session.postcopy = PostcopyState::Listen;
+                Ok(())
+            }
+            Err(error) => Err(error),
+        }
     }
 
     /// Tells that postcopy has ended.
@@ -51,6 +88,20 @@ impl<L: Link> FrontendInternal<L> {
         self.ask_ack(FrontendReq::POSTCOPY_END, &VhostUserEmpty, &[])
     }
 
+    /// Takes the acknowledgement, where there is one. Postcopy has ended from now on.
+    pub fn take_postcopy_end(&mut self, sent: Sent) -> Result<()>
+        ensures taken { TakesAck L.event call.PostcopyEnd sent self.old result self.new }
+        ensures quiet { awaits self.new ≡ Nobody }
+    {
+        match self.take_ack(sent) {
+            Ok(()) => {
+                self.session.postcopy = PostcopyState::End;
+                Ok(())
+            }
+            Err(error) => Err(error),
+        }
+    }
+
     /// Acknowledges that the regions are mapped which this request brought: SET_MEM_TABLE or ADD_MEM_REG. Nothing is
     /// awaited.
     ///
@@ -58,15 +109,26 @@ impl<L: Link> FrontendInternal<L> {
     pub fn ask_postcopy_ack_mem_regions(&mut self, code: FrontendReq) -> Result<Sent>
         ensures { AsksHalf L.event (call.PostcopyAckMemRegions code) self.old result self.new }
     {
-        param(is_mapping(code))?;
+        mapping(code)?;
         let request = (code, self.session.quiet_flags(), Awaited::Nobody);
         self.send(request, &VhostUserU64::new(0), &[], &[])
     }
+
+    /// Nothing is to be taken.
+    pub fn take_postcopy_ack_mem_regions(&mut self, sent: Sent) -> Result<()>
+        ensures taken { (code : FrontendReq) → awaited_of sent.awaited ≡ Nobody → TakesHalf L.event (call.PostcopyAckMemRegions code) (λ _. call.Nothing) Nobody sent self.old result self.new }
+        ensures quiet { awaits self.new ≡ Nobody }
+    {
+        self.take_ack(sent)
+    }
 }
 
-/// Whether the regions that this request brings are mapped while postcopy listens.
-fn is_mapping(code: FrontendReq) -> bool
-    ensures { result ≡ maps code }
+/// InvalidParam: the regions that this request brings are not mapped while postcopy listens.
+fn mapping(code: FrontendReq) -> Result<()>
+    ensures { ask.param (ask.is_mapping code) ≡ tested result }
 {
-    matches!(code, FrontendReq::SET_MEM_TABLE | FrontendReq::ADD_MEM_REG)
+    match code {
+        FrontendReq::SET_MEM_TABLE | FrontendReq::ADD_MEM_REG => Ok(()),
+        _ => Err(Error::InvalidParam),
+    }
 }

@@ -1,7 +1,8 @@
 //! The handles of rings.
 
-ghost use Rattle.std.specs.Prelude.{◌≡◌};
+ghost use Rattle.std.specs.Prelude.{◌≡◌, ℕ};
 ghost use Rattle.vhost_protocol.specs.FrontendCall as call;
+ghost use Rattle.vhost_protocol.specs.Ask.{Nobody};
 
 use crate::asked::Sent;
 use crate::internal::FrontendInternal;
@@ -9,7 +10,8 @@ use vhost_link::Link;
 use vhost_message::{FrontendReq, Result, VhostUserU64};
 
 impl<L: Link> FrontendInternal<L> {
-    ghost use Rattle.vhost_frontend_core.specs.Halves.{AsksHalf};
+    ghost use Rattle.vhost_frontend_core.specs.Frontend.{awaits};
+    ghost use Rattle.vhost_frontend_core.specs.Halves.{AsksHalf, TakesAck};
 
     /// Gives the handle by which the device tells that it used descriptors.
     ///
@@ -23,6 +25,14 @@ impl<L: Link> FrontendInternal<L> {
             &VhostUserU64::new(index),
             &[handle],
         )
+    }
+
+    /// Takes the acknowledgement, where there is one.
+    pub fn take_set_vring_call(&mut self, sent: Sent) -> Result<()>
+        ensures taken { (index : ℕ) (handle : L.Handle) → TakesAck L.event (call.SetVringCall index handle) sent self.old result self.new }
+        ensures quiet { awaits self.new ≡ Nobody }
+    {
+        self.take_ack(sent)
     }
 
     /// Gives the handle by which the driver tells that it added descriptors.
@@ -39,6 +49,14 @@ impl<L: Link> FrontendInternal<L> {
         )
     }
 
+    /// Takes the acknowledgement, where there is one.
+    pub fn take_set_vring_kick(&mut self, sent: Sent) -> Result<()>
+        ensures taken { (index : ℕ) (handle : L.Handle) → TakesAck L.event (call.SetVringKick index handle) sent self.old result self.new }
+        ensures quiet { awaits self.new ≡ Nobody }
+    {
+        self.take_ack(sent)
+    }
+
     /// Gives the handle by which the device tells of an error.
     ///
     /// InvalidParam: the device has no queue of this index, or the index is greater than 255.
@@ -51,5 +69,13 @@ impl<L: Link> FrontendInternal<L> {
             &VhostUserU64::new(index),
             &[handle],
         )
+    }
+
+    /// Takes the acknowledgement, where there is one.
+    pub fn take_set_vring_err(&mut self, sent: Sent) -> Result<()>
+        ensures taken { (index : ℕ) (handle : L.Handle) → TakesAck L.event (call.SetVringErr index handle) sent self.old result self.new }
+        ensures quiet { awaits self.new ≡ Nobody }
+    {
+        self.take_ack(sent)
     }
 }

@@ -1,7 +1,9 @@
 //! Numbers, places and switches of rings.
 
-ghost use Rattle.std.specs.Prelude.{◌≡◌};
+ghost use Rattle.std.specs.Prelude.{◌≡◌, ℕ, Bool};
 ghost use Rattle.vhost_protocol.specs.FrontendCall as call;
+ghost use Rattle.vhost_message.specs.declared.vring_config.VringConfigData.{VringConfigData};
+ghost use Rattle.vhost_protocol.specs.Ask.{Nobody, Reply, ARingState};
 ghost use Rattle.std.specs.Prelude.{nat_le};
 
 use crate::asked::{Sent, Shape};
@@ -13,7 +15,8 @@ use vhost_message::{
 };
 
 impl<L: Link> FrontendInternal<L> {
-    ghost use Rattle.vhost_frontend_core.specs.Halves.{AsksHalf};
+    ghost use Rattle.vhost_frontend_core.specs.Frontend.{awaits};
+    ghost use Rattle.vhost_frontend_core.specs.Halves.{AsksHalf, TakesHalf, TakesAck};
 
     /// Sets a ring's size, in descriptors.
     ///
@@ -26,6 +29,14 @@ impl<L: Link> FrontendInternal<L> {
         self.ask_ack(FrontendReq::SET_VRING_NUM, &ring, &[])
     }
 
+    /// Takes the acknowledgement, where there is one.
+    pub fn take_set_vring_num(&mut self, sent: Sent) -> Result<()>
+        ensures taken { (index num : ℕ) → TakesAck L.event (call.SetVringNum index num) sent self.old result self.new }
+        ensures quiet { awaits self.new ≡ Nobody }
+    {
+        self.take_ack(sent)
+    }
+
     /// Sets a ring's next descriptor.
     ///
     /// InvalidParam: the device has no queue of this index, or the index has more than 32 bits.
@@ -35,6 +46,14 @@ impl<L: Link> FrontendInternal<L> {
         let index = self.session.index(index)?;
         let ring = VhostUserVringState::new(index, base.into());
         self.ask_ack(FrontendReq::SET_VRING_BASE, &ring, &[])
+    }
+
+    /// Takes the acknowledgement, where there is one.
+    pub fn take_set_vring_base(&mut self, sent: Sent) -> Result<()>
+        ensures taken { (index base : ℕ) → TakesAck L.event (call.SetVringBase index base) sent self.old result self.new }
+        ensures quiet { awaits self.new ≡ Nobody }
+    {
+        self.take_ack(sent)
     }
 
     /// Says where a ring's parts lie.
@@ -53,6 +72,14 @@ impl<L: Link> FrontendInternal<L> {
         self.ask_ack(FrontendReq::SET_VRING_ADDR, &ring, &[])
     }
 
+    /// Takes the acknowledgement, where there is one.
+    pub fn take_set_vring_addr(&mut self, sent: Sent) -> Result<()>
+        ensures taken { (index : ℕ) (config : VringConfigData) → TakesAck L.event (call.SetVringAddr index config) sent self.old result self.new }
+        ensures quiet { awaits self.new ≡ Nobody }
+    {
+        self.take_ack(sent)
+    }
+
     /// Asks for a ring's next descriptor; the ring stops.
     ///
     /// InvalidParam: the device has no queue of this index, or the index has more than 32 bits.
@@ -62,6 +89,17 @@ impl<L: Link> FrontendInternal<L> {
         let index = self.session.index(index)?;
         let ring = VhostUserVringState::new(index, 0);
         self.ask_reply(FrontendReq::GET_VRING_BASE, Shape::VringState, &ring, &[])
+    }
+
+    /// Takes the ring's next descriptor.
+    pub fn take_get_vring_base(&mut self, sent: Sent) -> Result<u32>
+        ensures taken { (index : ℕ) → TakesHalf L.event (call.GetVringBase index) call.Number (Reply ARingState) sent self.old result self.new }
+        ensures quiet { awaits self.new ≡ Nobody }
+    {
+        match self.take_alone::<VhostUserVringState>(sent) {
+            Ok(ring) => { Ok(ring.num) }
+            Err(error) => Err(error),
+        }
     }
 
     /// Switches a ring on or off.
@@ -74,5 +112,13 @@ impl<L: Link> FrontendInternal<L> {
         let index = self.session.index(index)?;
         let ring = VhostUserVringState::new(index, enable.into());
         self.ask_ack(FrontendReq::SET_VRING_ENABLE, &ring, &[])
+    }
+
+    /// Takes the acknowledgement, where there is one.
+    pub fn take_set_vring_enable(&mut self, sent: Sent) -> Result<()>
+        ensures taken { (index : ℕ) (enable : Bool) → TakesAck L.event (call.SetVringEnable index enable) sent self.old result self.new }
+        ensures quiet { awaits self.new ≡ Nobody }
+    {
+        self.take_ack(sent)
     }
 }

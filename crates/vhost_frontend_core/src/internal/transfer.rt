@@ -1,19 +1,26 @@
 //! The transfer of the device's state.
 
-ghost use Rattle.std.specs.Prelude.{◌≡◌};
+ghost use Rattle.std.specs.Prelude.{◌≡◌, List};
 ghost use Rattle.vhost_protocol.specs.FrontendCall as call;
+ghost use Rattle.vhost_message.specs.declared.records.transfer.VhostUserTransferDeviceState.{VhostUserTransferDeviceState};
+ghost use Rattle.vhost_protocol.specs.AnswerTable.{state_reply};
+ghost use Rattle.vhost_connection.specs.Calls.{HandsOver};
+ghost use Rattle.vhost_frontend_core.specs.Taking.{valued};
+ghost use Rattle.vhost_protocol.specs.Ask.{Nobody, Reply, AU64};
 ghost use Rattle.vhost_message.specs.Transfer.{direction_number, phase_number};
 
 use crate::asked::{Sent, Shape};
 use crate::internal::FrontendInternal;
+use crate::internal::replies::one_of;
 use vhost_link::Link;
 use vhost_message::{
-    FrontendReq, Result, VhostTransferStateDirection, VhostTransferStatePhase, VhostUserEmpty,
-    VhostUserProtocolFeatures, VhostUserTransferDeviceState,
+    Error, FrontendReq, Result, VhostTransferStateDirection, VhostTransferStatePhase,
+    VhostUserEmpty, VhostUserProtocolFeatures, VhostUserTransferDeviceState, VhostUserU64,
 };
 
 impl<L: Link> FrontendInternal<L> {
-    ghost use Rattle.vhost_frontend_core.specs.Halves.{AsksHalf};
+    ghost use Rattle.vhost_frontend_core.specs.Frontend.{awaits};
+    ghost use Rattle.vhost_frontend_core.specs.Halves.{AsksHalf, TakesHalf};
 
     /// Begins a transfer over this handle.
     ///
@@ -22,9 +29,9 @@ impl<L: Link> FrontendInternal<L> {
         &mut self,
         direction: VhostTransferStateDirection,
         phase: VhostTransferStatePhase,
-        handle: L::Handle,
+        handle: &L::Handle,
     ) -> Result<Sent>
-        ensures { AsksHalf L.event (call.SetDeviceStateFd (record { direction = direction_number direction; phase = phase_number phase }) handle) self.old result self.new }
+        ensures { AsksHalf L.event (call.SetDeviceStateFd (record { direction = direction_number direction; phase = phase_number phase }) handle.now) self.old result self.new }
     {
         self.session
             .operation(VhostUserProtocolFeatures::DEVICE_STATE)?;
@@ -33,8 +40,21 @@ impl<L: Link> FrontendInternal<L> {
             FrontendReq::SET_DEVICE_STATE_FD,
             Shape::U64,
             &transfer,
-            &[&handle],
+            &[handle],
         )
+    }
+
+    /// Takes the handle that the device wants in place of the one it was given, if any.
+    ///
+    /// BackendInternalError: the device failed. IncorrectFds: several handles came.
+    pub fn take_set_device_state_fd(&mut self, sent: Sent) -> Result<Option<L::Handle>>
+        ensures taken { (transfer : VhostUserTransferDeviceState) (handle : L.Handle) → TakesHalf L.event (call.SetDeviceStateFd transfer handle) call.StateHandle (Reply AU64) sent self.old result self.new }
+        ensures quiet { awaits self.new ≡ Nobody }
+    {
+        match self.take_reply::<VhostUserU64>(sent) {
+            Ok((number, handles)) => handle_for(number.value, handles),
+            Err(error) => Err(error),
+        }
     }
 
     /// Asks whether the transfer succeeded.
@@ -52,4 +72,39 @@ impl<L: Link> FrontendInternal<L> {
             &[],
         )
     }
+
+    /// Takes whether it did.
+    ///
+    /// BackendInternalError: it failed.
+    pub fn take_check_device_state(&mut self, sent: Sent) -> Result<()>
+        ensures taken { TakesHalf L.event call.CheckDeviceState (λ _. call.Nothing) (Reply AU64) sent self.old result self.new }
+        ensures quiet { awaits self.new ≡ Nobody }
+    {
+        match self.take_alone::<VhostUserU64>(sent) {
+            Ok(number) => {
+                if number.value != 0 {
+                    return Err(Error::BackendInternalError);
+                }
+                Ok(())
+            }
+            Err(error) => Err(error),
+        }
+    }
+}
+
+/// What a device answers that was given a handle for its state: 0x100 without a handle, or 0 with one in its place.
+fn handle_for<H: Drop>(number: u64, handles: Option<Vec<H>>) -> Result<Option<H>>
+    ensures { (hs : List H) → HandsOver handles hs → state_reply number hs ≡ valued call.StateHandle result }
+{
+    if handles.is_none() {
+        if number != 0x100 {
+            return Err(Error::BackendInternalError);
+        }
+        return Ok(None);
+    }
+    if number != 0 {
+        return Err(Error::BackendInternalError);
+    }
+    let handle = one_of(handles)?;
+    Ok(Some(handle))
 }

@@ -10,10 +10,10 @@ returns-in_err-operation g c =
     let p = err_from_is_err_and c.from_residual.result c.from_residual.ensures.1 in
     rw (p.1, p.2) (stops _ _ (c.in_err-operation.ensures 18 refl))
 
-pub returns-in_err-param : goal.returns-in_err-param
-returns-in_err-param g c =
-    let p = err_from_is_err_and c.from_residual-in_err-param.result c.from_residual-in_err-param.ensures.1 in
-    rw (p.1, p.2) (passes (c.in_ok-operation.ensures 18 refl) (stops _ _ c.in_err-param.ensures))
+pub returns-in_err-valid : goal.returns-in_err-valid
+returns-in_err-valid g c =
+    let p = err_from_is_err_and c.from_residual-in_err-valid.result c.from_residual-in_err-valid.ensures.1 in
+    rw (p.1, p.2) (passes (c.in_ok-operation.ensures 18 refl) (stops _ _ c.in_err-valid.ensures))
 
 pub returns : goal.returns
-returns g c = passes (c.in_ok-operation.ensures 18 refl) (passes c.in_ok-param.ensures (c.ask_reply.ensures (ObjectName c.args.name.now) refl))
+returns g c = passes (c.in_ok-operation.ensures 18 refl) (passes c.in_ok-valid.ensures (c.ask_reply.ensures (ObjectName c.args.name.now) refl))

@@ -1,0 +1,31 @@
+-- GET_INFLIGHT_FD: its reply.
+use Rattle.std.proofs.Common.{◌≡◌, List, [], ◌∷◌, ap, sym, refl, ◌∙◌, Bool, true, Result, Some, Ok, Err}
+use Rattle.std.specs.Prelude.{if◌then◌else◌}
+use Rattle.vhost_message.specs.Records.{inflight_of}
+use Rattle.vhost_message.specs.Valid.{is_valid_inflight}
+use Rattle.vhost_message.specs.declared.records.inflight.VhostUserInflight.{VhostUserInflight}
+use Rattle.vhost_protocol.specs.AnswerTable.{answered, with_one}
+use Rattle.vhost_protocol.specs.Ask.{AnInflight}
+use Rattle.vhost_protocol.specs.Error.{Error, InvalidMessage}
+use Rattle.vhost_protocol.specs.FrontendCall.{Frontend, GetInflightFd, InflightOf, Value}
+use Rattle.vhost_frontend_core.specs.Frontend.{session_of}
+use Rattle.vhost_frontend_core.proofs.Taking.{one-replied, one-fails, with-one-err}
+use Rattle.vhost_frontend_core.proofs.internal.FrontendInternal.take_get_inflight_fd.Goals as goal
+
+-- a valid buffer, with the handles that came
+buffer-is : {H : Type 0} (i j : VhostUserInflight) (hs : List H) → i ≡ j → is_valid_inflight i ≡ true
+    → (if is_valid_inflight j then with_one hs (InflightOf j) else Err InvalidMessage) ≡ with_one hs (InflightOf i)
+buffer-is i j hs e ok = rw (sym e, ok) refl
+
+pub returns-in-Ok-clause-taken : goal.returns-in-Ok-clause-taken
+returns-in-Ok-clause-taken g c asked =
+    one-replied (GetInflightFd asked) AnInflight 24 inflight_of is_valid_inflight (λ cells. refl) (λ r. refl) c.in-Ok.ensures.taken
+    (λ r is ok.
+    ap (λ (x : Result (Value _) Error). Some (answered (session_of c.args.self.now) x)) (buffer-is c.in-Ok.buffer.0 _ (c.in-Ok.buffer.1 ∷ []) is ok)
+    ∙ ap (λ (f : Frontend). Some (answered f (Ok (InflightOf c.in-Ok.buffer.0 c.in-Ok.buffer.1)))) (sym c.take_one.ensures.session))
+
+pub returns-in-Err-clause-taken : goal.returns-in-Err-clause-taken
+returns-in-Err-clause-taken g c asked =
+    one-fails (GetInflightFd asked) AnInflight 24 inflight_of is_valid_inflight (λ cells. refl) (λ r. refl)
+    (λ r t is ok several. ap (λ (x : Result (Value _) Error). Some (answered (session_of c.args.self.now) x)) (buffer-is t _ r.handles is ok ∙ with-one-err (λ h. InflightOf t h) r.handles _ several))
+    c.take_one.ensures.session c.in-Err.ensures.taken

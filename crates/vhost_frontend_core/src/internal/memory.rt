@@ -1,0 +1,185 @@
+//! Regions of guest memory, one by one.
+
+ghost use Rattle.std.specs.Prelude.{◌≡◌, ◌==◌, not, IfOk, Some};
+ghost use Rattle.vhost_protocol.specs.Ask as ask;
+ghost use Rattle.vhost_protocol.specs.Ask.{Nobody, Reply, AU64, ARegion};
+ghost use Rattle.vhost_protocol.specs.FrontendCall as call;
+ghost use Rattle.vhost_message.specs.Records.{region_within};
+ghost use Rattle.vhost_message.specs.declared.records.memory.VhostUserMemoryRegion.{VhostUserMemoryRegion};
+ghost use Rattle.vhost_protocol.specs.Error.{InvalidMessage, seen_result};
+ghost use Rattle.vhost_protocol.specs.AnswerTable.{is_same_range, only_if};
+ghost use Rattle.vhost_backend.specs.Region.{region_in};
+ghost use Rattle.vhost_frontend_core.specs.Asking.{tested};
+ghost use Rattle.vhost_frontend_core.specs.Regions.{info_in};
+ghost use Rattle.vhost_frontend_core.specs.declared.asked.Kept.TheVariants.{Region};
+
+use crate::asked::{Awaited, Kept, Sent, Shape};
+use crate::internal::FrontendInternal;
+use vhost_backend::VhostUserMemoryRegionInfo;
+use vhost_link::Link;
+use vhost_message::{
+    Error, FrontendReq, Result, VhostUserEmpty, VhostUserMemoryRegion, VhostUserProtocolFeatures,
+    VhostUserSingleMemoryRegion, VhostUserU64,
+};
+
+impl<L: Link> FrontendInternal<L> {
+    ghost use Rattle.vhost_frontend_core.specs.Frontend.{awaits};
+    ghost use Rattle.vhost_frontend_core.specs.Session.{awaited_of};
+    ghost use Rattle.vhost_frontend_core.specs.Taking.{IsAck};
+    ghost use Rattle.vhost_frontend_core.specs.Halves.{AsksHalf, TakesHalf, TakesAck};
+
+    /// Asks how many regions the device can be given.
+    ///
+    /// InactiveOperation: CONFIGURE_MEM_SLOTS is not acknowledged.
+    pub fn ask_get_max_mem_slots(&mut self) -> Result<Sent>
+        ensures { AsksHalf L.event call.GetMaxMemSlots self.old result self.new }
+    {
+        self.session
+            .operation(VhostUserProtocolFeatures::CONFIGURE_MEM_SLOTS)?;
+        self.ask_reply(
+            FrontendReq::GET_MAX_MEM_SLOTS,
+            Shape::U64,
+            &VhostUserEmpty,
+            &[],
+        )
+    }
+
+    /// Takes the number.
+    pub fn take_get_max_mem_slots(&mut self, sent: Sent) -> Result<u64>
+        ensures taken { TakesHalf L.event call.GetMaxMemSlots call.Number (Reply AU64) sent self.old result self.new }
+        ensures quiet { awaits self.new ≡ Nobody }
+    {
+        match self.take_alone::<VhostUserU64>(sent) {
+            Ok(number) => Ok(number.value),
+            Err(error) => Err(error),
+        }
+    }
+
+    /// Gives the device a region.
+    ///
+    /// InactiveOperation: CONFIGURE_MEM_SLOTS is not acknowledged. InvalidParam: the region's size is 0, or it has no
+    /// handle.
+    pub fn ask_add_mem_region(
+        &mut self,
+        region: &VhostUserMemoryRegionInfo<L::Handle>,
+    ) -> Result<Sent>
+        ensures asked { AsksHalf L.event (call.AddMemRegion (info_in region.now)) self.old result self.new }
+        ensures kept { IfOk result (λ sent. sent.kept ≡ Region (region_in region.now)) }
+    {
+        match self.ask_add_region(region) {
+            Ok(mut sent) => {
+                sent.kept = Kept::Region(region.to_region());
+                Ok(sent)
+            }
+            Err(error) => Err(error),
+        }
+    }
+
+    /// Gives the device a region, before it is kept.
+    fn ask_add_region(&mut self, region: &VhostUserMemoryRegionInfo<L::Handle>) -> Result<Sent>
+        ensures { AsksHalf L.event (call.AddMemRegion (info_in region.now)) self.old result self.new }
+    {
+        self.session
+            .operation(VhostUserProtocolFeatures::CONFIGURE_MEM_SLOTS)?;
+        sized(region)?;
+        let Some(handle) = region.mmap_handle else {
+            return Err(Error::InvalidParam);
+        };
+        let body = region.to_single_region();
+        if self.session.is_listening() {
+            let awaited = Awaited::Reply(Shape::SingleMemoryRegion);
+            let request = (
+                FrontendReq::ADD_MEM_REG,
+                self.session.quiet_flags(),
+                awaited,
+            );
+            return self.send(request, &body, &[], &[handle]);
+        }
+        self.ask_ack(FrontendReq::ADD_MEM_REG, &body, &[handle])
+    }
+
+    /// Takes the acknowledgement, where there is one; or, while postcopy listens, where the region is mapped.
+    ///
+    /// InvalidMessage: the reply is of another region.
+    pub fn take_add_mem_region(&mut self, sent: Sent) -> Result<Option<u64>>
+        ensures mapped { (info : call.Info L.Handle) → sent.kept ≡ Region info.region → awaited_of sent.awaited ≡ Reply ARegion
+            → TakesHalf L.event (call.AddMemRegion info) call.Base (Reply ARegion) sent self.old result self.new }
+        ensures acked { (info : call.Info L.Handle) → IsAck (awaited_of sent.awaited) → TakesHalf L.event (call.AddMemRegion info) call.Base (awaited_of sent.awaited) sent self.old result self.new }
+        ensures quiet { awaits self.new ≡ Nobody }
+    {
+        match sent.awaited {
+            Awaited::Reply(_) => self.take_mapped(sent),
+            _ => match self.take_ack(sent) {
+                Ok(()) => Ok(None),
+                Err(error) => Err(error),
+            },
+        }
+    }
+
+    /// Takes where the region is mapped.
+    fn take_mapped(&mut self, sent: Sent) -> Result<Option<u64>>
+        ensures taken { (info : call.Info L.Handle) → sent.kept ≡ Region info.region → TakesHalf L.event (call.AddMemRegion info) call.Base (Reply ARegion) sent self.old result self.new }
+        ensures quiet { awaits self.new ≡ Nobody }
+    {
+        let kept = sent.kept;
+        match self.take_alone::<VhostUserSingleMemoryRegion>(sent) {
+            Ok(reply) => base_for(kept, &reply),
+            Err(error) => Err(error),
+        }
+    }
+
+    /// Takes a region from the device.
+    ///
+    /// InactiveOperation: CONFIGURE_MEM_SLOTS is not acknowledged. InvalidParam: the region's size is 0.
+    pub fn ask_remove_mem_region(
+        &mut self,
+        region: &VhostUserMemoryRegionInfo<L::Handle>,
+    ) -> Result<Sent>
+        ensures { AsksHalf L.event (call.RemoveMemRegion (info_in region.now)) self.old result self.new }
+    {
+        self.session
+            .operation(VhostUserProtocolFeatures::CONFIGURE_MEM_SLOTS)?;
+        sized(region)?;
+        self.ask_ack(FrontendReq::REM_MEM_REG, &region.to_single_region(), &[])
+    }
+
+    /// Takes the acknowledgement, where there is one.
+    pub fn take_remove_mem_region(&mut self, sent: Sent) -> Result<()>
+        ensures taken { (info : call.Info L.Handle) → TakesAck L.event (call.RemoveMemRegion info) sent self.old result self.new }
+        ensures quiet { awaits self.new ≡ Nobody }
+    {
+        self.take_ack(sent)
+    }
+}
+
+/// InvalidParam: the region's size is 0.
+fn sized<H>(region: &VhostUserMemoryRegionInfo<H>) -> Result<()>
+    ensures { ask.param (not ((region_in region.now).memory_size == 0)) ≡ tested result }
+{
+    if region.memory_size == 0 {
+        return Err(Error::InvalidParam);
+    }
+    Ok(())
+}
+
+/// Where the region is mapped that was kept, as this reply says. InvalidMessage: it is of another region.
+fn base_for(kept: Kept, reply: &VhostUserSingleMemoryRegion) -> Result<Option<u64>>
+    ensures { (asked : VhostUserMemoryRegion) → kept ≡ Region asked
+        → only_if (is_same_range asked (region_within reply.now)) InvalidMessage (Some (region_within reply.now).user_addr) ≡ seen_result result }
+{
+    let Kept::Region(asked) = kept else {
+        return Err(Error::InvalidMessage);
+    };
+    let mapped = reply.region();
+    if !is_same(&asked, mapped) {
+        return Err(Error::InvalidMessage);
+    }
+    Ok(Some(mapped.user_addr))
+}
+
+/// Whether both regions are the same range of guest memory.
+fn is_same(region: &VhostUserMemoryRegion, other: &VhostUserMemoryRegion) -> bool
+    ensures { result ≡ is_same_range region.now other.now }
+{
+    region.guest_phys_addr == other.guest_phys_addr && region.memory_size == other.memory_size
+}
