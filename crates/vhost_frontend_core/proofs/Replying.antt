@@ -1,8 +1,8 @@
 -- A reply comes in: its header, a record, and what fits of the payload.
-use Rattle.std.proofs.Common.{◌≡◌, ℕ, zero, suc, ◌+◌, ◌-◌, ◌<◌, ◌≤◌, List, [], ◌∷◌, ◌++◌, length, take, drop, refl, sym, ap, subst, ◌∙◌, arith, lit≤, Bool, true, false, ◌⊎◌, inl, inr, Option, Some, None, Result, Ok, Err, Vec}
+use Rattle.std.proofs.Common.{◌≡◌, ℕ, zero, suc, ◌+◌, ◌-◌, ◌<◌, ◌≤◌, List, [], ◌∷◌, ◌++◌, length, take, drop, refl, sym, ap, ◌∙◌, arith, lit≤, Bool, true, false, ◌⊎◌, inl, inr, Option, Some, None, Result, Ok, Err, Vec}
 use Rattle.std.specs.Prelude.{if◌then◌else◌, ◌&&◌, is_some, nat_lt}
 use Rattle.std.specs.Global.{Global}
-use Rattle.std.proofs.lemmas.List.{take-append-le, drop-append-le, take_all, drop_all, take_at, drop_at, length-append, length-drop, length-map, append-nil, drop-drop}
+use Rattle.std.proofs.lemmas.List.{take-append-le, drop-append-le, take_all, drop_all, take_at, drop_at, length-append, length-drop, append-nil, drop-drop}
 use Rattle.std.proofs.lemmas.Bool.Decides.{nat_tests}
 use Rattle.vhost_message.specs.declared.error.Error as declared
 use Rattle.vhost_message.specs.declared.error.Error.TheVariants as code
@@ -11,8 +11,8 @@ use Rattle.vhost_message.specs.declared.header.VhostUserMsgHeader.{VhostUserMsgH
 use Rattle.vhost_message.specs.FrontendReq.{request_of}
 use Rattle.vhost_message.specs.Header.{Header, header_of, is_valid_header, is_reply_for}
 use Rattle.vhost_message.specs.MsgHeader.{fields_of, of_fields}
-use Rattle.vhost_protocol.specs.Stream.{Cell, bytes, first_handles, is_shorter, heard, items}
-use Rattle.vhost_protocol.specs.Error.{Error, PartialMessage, InvalidMessage, seen}
+use Rattle.vhost_protocol.specs.Stream.{Cell, bytes, first_handles, is_shorter, items}
+use Rattle.vhost_protocol.specs.Error.{Error, PartialMessage, InvalidMessage}
 use Rattle.vhost_protocol.specs.ReplySplit.{Received, reply_split, received}
 use Rattle.vhost_protocol.specs.Split.{Splits}
 use Rattle.vhost_protocol.specs.Take.{is_known}
@@ -20,11 +20,11 @@ use Rattle.vhost_protocol.proofs.SplitLaws.{le-shorter}
 use Rattle.vhost_link.specs.Law.{Event}
 use Rattle.vhost_link.proofs.Cells.{length-bytes}
 use Rattle.vhost_connection.specs.Pass.{receives}
-use Rattle.vhost_connection.specs.Talk.{State, Serves}
-use Rattle.vhost_connection.specs.Calls.{ReadsPayload, MessageCame, HandsOver}
+use Rattle.vhost_connection.specs.Talk.{State}
+use Rattle.vhost_connection.specs.Calls.{ReadsPayload, MessageCame}
 use Rattle.vhost_connection.specs.Hearing.{Hears, broken_on}
 use Rattle.vhost_connection.proofs.Failing.{trouble-breaks}
-use Rattle.vhost_frontend_core.specs.Taking.{reply_cut, Comes, Missing, RecvsPayload}
+use Rattle.vhost_frontend_core.specs.Taking.{reply_cut, Missing, RecvsPayload}
 use Rattle.vhost_frontend_core.specs.Taking.Missing.{unfit, none, failed}
 
 -- a header is valid exactly where it announces a request

@@ -1,5 +1,5 @@
 -- A request goes out whole.
-use Rattle.std.proofs.Common.{◌≡◌, ℕ, zero, suc, ◌+◌, ◌*◌, ◌/◌, ◌%◌, ◌<◌, ◌≤◌, List, ◌++◌, length, take, refl, sym, ap, subst, ◌∙◌, arith, Bool, true, false, Result, Ok, Err, length-take, append_assoc}
+use Rattle.std.proofs.Common.{◌≡◌, ℕ, zero, suc, ◌+◌, ◌*◌, ◌/◌, ◌%◌, ◌<◌, ◌≤◌, List, ◌++◌, length, take, refl, sym, ap, subst, ◌∙◌, arith, Bool, true, false, Result, Ok, Err, length-take}
 use Rattle.std.specs.Prelude.{◌==◌, IfOk, IfErr, is_err}
 use Rattle.std.proofs.lemmas.List.{length-append}
 use Rattle.vhost_message.specs.declared.error.Error as declared

@@ -1,6 +1,6 @@
 -- The half that takes, from what was received.
-use Rattle.std.proofs.Common.{◌≡◌, ℕ, List, [], ◌∷◌, ◌++◌, Bool, true, false, Option, Some, None, Result, Ok, Err, Vec, refl, sym, ap, subst, ◌∙◌}
-use Rattle.std.specs.Prelude.{is_some, if◌then◌else◌, ◌&&◌, ◌==◌, length, ⊤}
+use Rattle.std.proofs.Common.{◌≡◌, ℕ, List, [], ◌∷◌, ◌++◌, Bool, true, false, Option, Some, Result, Ok, Err, Vec, refl, sym, ap, subst, ◌∙◌}
+use Rattle.std.specs.Prelude.{is_some, if◌then◌else◌, ◌==◌, length, ⊤}
 use Rattle.std.specs.Global.{Global}
 use Rattle.vhost_message.specs.declared.error.Error as declared
 use Rattle.vhost_message.specs.declared.error.Error.TheVariants as code
@@ -8,19 +8,19 @@ use Rattle.vhost_message.specs.Bits.{has_bit}
 use Rattle.vhost_message.specs.Header.{Header}
 use Rattle.vhost_message.specs.Records.{u64_at}
 use Rattle.vhost_protocol.specs.Stream.{Cell, has_some}
-use Rattle.vhost_protocol.specs.Error.{Error, InvalidParam, InvalidMessage, BackendInternalError, seen}
+use Rattle.vhost_protocol.specs.Error.{Error, InvalidParam, InvalidMessage, seen}
 use Rattle.vhost_protocol.specs.Split.{Splits}
 use Rattle.vhost_protocol.specs.FrontendCall.{FrontendCall, Frontend, Value}
 use Rattle.vhost_protocol.specs.Ask.{Shape, Awaited, Nobody, Ack, Reply}
 use Rattle.vhost_protocol.specs.AnswerTable.{Answered, answered, answer, after_success, plain_value, with_one}
 use Rattle.vhost_protocol.specs.Served.{Acknowledged, Replied}
 use Rattle.vhost_protocol.specs.ReplySplit.{Received}
-use Rattle.vhost_protocol.specs.Take.{answers, is_sized, understood, payload_of, take, take_reply}
+use Rattle.vhost_protocol.specs.Take.{is_sized, understood, payload_of, take, take_reply}
 use Rattle.vhost_link.specs.Law.{Event}
 use Rattle.vhost_connection.specs.Talk.{State}
 use Rattle.vhost_connection.specs.Calls.{HandsOver}
-use Rattle.vhost_connection.specs.Hearing.{Hears, Fails}
-use Rattle.vhost_frontend_core.specs.Taking.{reply_cut, valued, Comes, Missing, Recvs, Awaits, AwaitsAlone, AwaitsOne, RecvsAck, Acks, IsAck, Reads, Takes}
+use Rattle.vhost_connection.specs.Hearing.{Hears}
+use Rattle.vhost_frontend_core.specs.Taking.{reply_cut, valued, Comes, Missing, Awaits, AwaitsAlone, AwaitsOne, Acks, IsAck, Reads, Takes}
 use Rattle.vhost_frontend_core.specs.Taking.Missing.{unfit, none, failed}
 use Rattle.vhost_frontend_core.specs.Taking.Awaits.{is_reply, is_request}
 use Rattle.vhost_frontend_core.specs.Taking.AwaitsAlone.{alone, crowded, absent}

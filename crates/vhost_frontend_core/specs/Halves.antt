@@ -3,7 +3,7 @@ use Rattle.std.specs.Prelude.{Result, ⊤}
 use Rattle.vhost_message.specs.declared.error.Error as declared
 use Rattle.vhost_message.specs.MsgHeader.{fields_of}
 use Rattle.vhost_protocol.specs.FrontendCall.{FrontendCall, Value, Nothing}
-use Rattle.vhost_protocol.specs.Ask.{Awaited, Reply, Shape, ask}
+use Rattle.vhost_protocol.specs.Ask.{Awaited, ask}
 use Rattle.vhost_link.specs.Law.{Event}
 use Rattle.vhost_frontend_core.specs.declared.asked.Sent.{Sent}
 use Rattle.vhost_frontend_core.specs.declared.internal.FrontendInternal.{FrontendInternal}

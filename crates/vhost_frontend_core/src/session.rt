@@ -1,6 +1,6 @@
 //! What a frontend remembers of its backend, and the tests of its calls.
 
-ghost use Rattle.std.specs.Prelude.{◌≡◌, ◌^◌, ℕ, IfOk, true, false};
+ghost use Rattle.std.specs.Prelude.{◌≡◌, ◌^◌, ℕ, IfOk, false};
 ghost use Rattle.vhost_message.specs.Bits.{has_bit as is_set};
 ghost use Rattle.vhost_protocol.specs.Ask as ask;
 ghost use Rattle.vhost_protocol.specs.FrontendCall.{new_frontend};

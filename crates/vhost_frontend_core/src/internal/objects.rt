@@ -4,7 +4,6 @@ ghost use Rattle.std.specs.Prelude.{◌≡◌};
 ghost use Rattle.vhost_protocol.specs.FrontendCall as call;
 ghost use Rattle.vhost_message.specs.declared.records.shared.VhostUserSharedMsg.{VhostUserSharedMsg};
 ghost use Rattle.vhost_protocol.specs.Ask.{Nobody, Reply, AnEmpty, AShmem};
-ghost use Rattle.vhost_message.specs.Valid.{is_valid_uuid};
 
 use crate::asked::{Sent, Shape};
 use crate::internal::FrontendInternal;

@@ -4,7 +4,6 @@ ghost use Rattle.std.specs.Prelude.{◌≡◌, ℕ, Bool};
 ghost use Rattle.vhost_protocol.specs.FrontendCall as call;
 ghost use Rattle.vhost_message.specs.declared.vring_config.VringConfigData.{VringConfigData};
 ghost use Rattle.vhost_protocol.specs.Ask.{Nobody, Reply, ARingState};
-ghost use Rattle.std.specs.Prelude.{nat_le};
 
 use crate::asked::{Sent, Shape};
 use crate::internal::FrontendInternal;

@@ -3,7 +3,6 @@ use Rattle.std.proofs.Common.{refl, ap, sym, ◌∙◌}
 use Rattle.std.proofs.lemmas.List.{append-nil}
 use Rattle.std.proofs.lemmas.Result.{err_from_is_err_and}
 use Rattle.vhost_message.specs.Records.{single_region, single_region_text}
-use Rattle.vhost_message.specs.declared.records.memory.VhostUserSingleMemoryRegion.{VhostUserSingleMemoryRegion}
 use Rattle.vhost_backend.specs.Region.{region_in}
 use Rattle.vhost_protocol.specs.Written.{OneRegion}
 use Rattle.vhost_frontend_core.specs.Frontend.{session_of}

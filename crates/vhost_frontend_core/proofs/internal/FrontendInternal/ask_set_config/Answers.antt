@@ -1,5 +1,5 @@
 -- SET_CONFIG: what is asked.
-use Rattle.std.proofs.Common.{◌++◌, refl, ap, sym, ◌∙◌}
+use Rattle.std.proofs.Common.{◌++◌, refl, ap, sym}
 use Rattle.std.proofs.lemmas.Result.{err_from_is_err_and}
 use Rattle.vhost_message.specs.FlagBits.{config_bits}
 use Rattle.vhost_message.specs.Records.{config_text}

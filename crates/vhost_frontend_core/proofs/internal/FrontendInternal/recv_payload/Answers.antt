@@ -1,5 +1,5 @@
 -- The reply for a request.
-use Rattle.std.proofs.Common.{length, sym, ap, subst, ◌∙◌}
+use Rattle.std.proofs.Common.{length, sym, subst, ◌∙◌}
 use Rattle.vhost_message.specs.MsgHeader.{fields_of}
 use Rattle.vhost_connection.specs.State.{state}
 use Rattle.vhost_connection.specs.Talk.{State}

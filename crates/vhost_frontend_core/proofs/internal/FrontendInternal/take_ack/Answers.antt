@@ -1,5 +1,5 @@
 -- An acknowledgement, where one is awaited.
-use Rattle.std.proofs.Common.{ap, sym, refl, ◌∙◌}
+use Rattle.std.proofs.Common.{ap}
 use Rattle.vhost_frontend_core.specs.Frontend.{session_of, awaits}
 use Rattle.vhost_frontend_core.specs.Session.{awaited_of}
 use Rattle.vhost_frontend_core.specs.Taking.Acks.{unasked, asked_for}

@@ -1,7 +1,6 @@
 -- A reply without a handle.
 use Rattle.std.proofs.Common.{sym, ◌∙◌}
 use Rattle.std.proofs.lemmas.Result.{err_from_is_err_and}
-use Rattle.vhost_frontend_core.specs.Taking.Awaits.{is_request}
 use Rattle.vhost_frontend_core.specs.Taking.AwaitsAlone.{absent}
 use Rattle.vhost_frontend_core.proofs.Taking.{alone-comes, alone-crowded}
 use Rattle.vhost_frontend_core.proofs.internal.FrontendInternal.take_alone.Goals as goal

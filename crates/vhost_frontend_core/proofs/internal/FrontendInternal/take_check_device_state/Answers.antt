@@ -1,5 +1,5 @@
 -- CHECK_DEVICE_STATE: its reply.
-use Rattle.std.proofs.Common.{◌≡◌, ℕ, Bool, true, false, ap, sym, refl, ◌∙◌, Some, Ok, Err}
+use Rattle.std.proofs.Common.{ℕ, Bool, true, ap, sym, refl, ◌∙◌, Some, Ok, Err}
 use Rattle.std.specs.Prelude.{◌==◌, if◌then◌else◌}
 use Rattle.vhost_message.specs.Plain.{of_number}
 use Rattle.vhost_message.specs.Text.{number_at}

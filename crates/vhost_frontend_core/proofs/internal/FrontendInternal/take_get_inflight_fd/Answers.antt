@@ -1,5 +1,5 @@
 -- GET_INFLIGHT_FD: its reply.
-use Rattle.std.proofs.Common.{◌≡◌, List, [], ◌∷◌, ap, sym, refl, ◌∙◌, Bool, true, Result, Some, Ok, Err}
+use Rattle.std.proofs.Common.{◌≡◌, List, [], ◌∷◌, ap, sym, refl, ◌∙◌, true, Result, Some, Ok, Err}
 use Rattle.std.specs.Prelude.{if◌then◌else◌}
 use Rattle.vhost_message.specs.Records.{inflight_of}
 use Rattle.vhost_message.specs.Valid.{is_valid_inflight}

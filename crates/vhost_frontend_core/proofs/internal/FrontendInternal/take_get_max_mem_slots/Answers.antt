@@ -1,5 +1,5 @@
 -- GET_MAX_MEM_SLOTS: its reply.
-use Rattle.std.proofs.Common.{ℕ, ap, sym, refl, ◌∙◌, Some, Ok, true}
+use Rattle.std.proofs.Common.{ap, sym, refl, ◌∙◌, Some, Ok, true}
 use Rattle.vhost_message.specs.Plain.{of_number}
 use Rattle.vhost_message.specs.Text.{number_at}
 use Rattle.vhost_message.specs.declared.records.plain.VhostUserU64.{VhostUserU64}

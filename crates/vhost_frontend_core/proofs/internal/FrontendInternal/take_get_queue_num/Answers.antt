@@ -1,13 +1,13 @@
 -- GET_QUEUE_NUM: its reply.
-use Rattle.std.proofs.Common.{◌≡◌, ℕ, ◌<◌, ◌≤◌, List, [], ◌∷◌, Bool, true, false, ap, sym, subst, refl, ◌∙◌, Some, Ok, Err, arith}
-use Rattle.std.specs.Prelude.{nat_le, if◌then◌else◌}
+use Rattle.std.proofs.Common.{◌≡◌, ℕ, ◌<◌, ◌≤◌, Bool, true, false, ap, sym, refl, ◌∙◌, Some, Ok, Err, arith}
+use Rattle.std.specs.Prelude.{nat_le}
 use Rattle.std.proofs.lemmas.Bool.Decides.{nat_tests}
 use Rattle.vhost_message.specs.Plain.{of_number}
 use Rattle.vhost_message.specs.Text.{number_at}
 use Rattle.vhost_message.specs.declared.records.plain.VhostUserU64.{VhostUserU64}
-use Rattle.vhost_protocol.specs.AnswerTable.{answered, queues_reply, alone}
+use Rattle.vhost_protocol.specs.AnswerTable.{answered, queues_reply}
 use Rattle.vhost_protocol.specs.Ask.{AU64}
-use Rattle.vhost_protocol.specs.Error.{Error, InvalidMessage}
+use Rattle.vhost_protocol.specs.Error.{InvalidMessage}
 use Rattle.vhost_protocol.specs.FrontendCall.{Frontend, GetQueueNum, Number}
 use Rattle.vhost_frontend_core.specs.Frontend.{session_of}
 use Rattle.vhost_frontend_core.proofs.Taking.{alone-replied, alone-fails}

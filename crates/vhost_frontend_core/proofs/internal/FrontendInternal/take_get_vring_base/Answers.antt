@@ -1,5 +1,5 @@
 -- GET_VRING_BASE: its reply.
-use Rattle.std.proofs.Common.{ℕ, ap, sym, refl, ◌∙◌, Some, Ok, true}
+use Rattle.std.proofs.Common.{ap, sym, refl, ◌∙◌, Some, Ok, true}
 use Rattle.vhost_message.specs.Records.{vring_state_of}
 use Rattle.vhost_message.specs.declared.records.vring.VhostUserVringState.{VhostUserVringState}
 use Rattle.vhost_protocol.specs.AnswerTable.{answered}

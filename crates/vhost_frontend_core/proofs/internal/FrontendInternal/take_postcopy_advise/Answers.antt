@@ -1,5 +1,5 @@
 -- POSTCOPY_ADVISE: its reply.
-use Rattle.std.proofs.Common.{ap, sym, refl, ◌∙◌, Result, Some, Ok, true}
+use Rattle.std.proofs.Common.{ap, sym, refl, Result, Some, Ok, true}
 use Rattle.vhost_message.specs.declared.postcopy.PostcopyState.TheVariants.{Advise}
 use Rattle.vhost_protocol.specs.AnswerTable.{answered, changed}
 use Rattle.vhost_protocol.specs.Ask.{AnEmpty}

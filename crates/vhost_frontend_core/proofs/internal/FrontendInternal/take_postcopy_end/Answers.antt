@@ -1,7 +1,7 @@
 -- POSTCOPY_END: its acknowledgement.
-use Rattle.std.proofs.Common.{ap, sym, refl, subst}
+use Rattle.std.proofs.Common.{ap, refl}
 use Rattle.vhost_message.specs.declared.postcopy.PostcopyState.TheVariants.{End}
-use Rattle.vhost_protocol.specs.FrontendCall.{Frontend, PostcopyEnd, Nothing}
+use Rattle.vhost_protocol.specs.FrontendCall.{Frontend, PostcopyEnd}
 use Rattle.vhost_frontend_core.specs.Session.{awaited_of}
 use Rattle.vhost_frontend_core.proofs.Taking.{succeeds, failed-as}
 use Rattle.vhost_frontend_core.proofs.internal.FrontendInternal.take_postcopy_end.Goals as goal

@@ -1,7 +1,7 @@
 -- POSTCOPY_LISTEN: its acknowledgement.
-use Rattle.std.proofs.Common.{ap, sym, refl, subst}
+use Rattle.std.proofs.Common.{ap, refl}
 use Rattle.vhost_message.specs.declared.postcopy.PostcopyState.TheVariants.{Listen}
-use Rattle.vhost_protocol.specs.FrontendCall.{Frontend, PostcopyListen, Nothing}
+use Rattle.vhost_protocol.specs.FrontendCall.{Frontend, PostcopyListen}
 use Rattle.vhost_frontend_core.specs.Session.{awaited_of}
 use Rattle.vhost_frontend_core.proofs.Taking.{succeeds, failed-as}
 use Rattle.vhost_frontend_core.proofs.internal.FrontendInternal.take_postcopy_listen.Goals as goal

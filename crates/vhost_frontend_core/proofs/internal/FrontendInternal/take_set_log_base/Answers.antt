@@ -1,9 +1,8 @@
 -- SET_LOG_BASE: its reply, where there is one.
-use Rattle.std.proofs.Common.{◌≡◌, Bool, ap, sym, refl, ◌∙◌, Some, Ok, Err, true}
+use Rattle.std.proofs.Common.{Bool, ap, sym, refl, ◌∙◌, Some, Ok, Err}
 use Rattle.std.specs.Prelude.{if◌then◌else◌}
 use Rattle.vhost_message.specs.Records.{log_of}
 use Rattle.vhost_message.specs.Valid.{is_valid_log}
-use Rattle.vhost_message.specs.declared.records.log.VhostUserLog.{VhostUserLog}
 use Rattle.vhost_protocol.specs.AnswerTable.{answered}
 use Rattle.vhost_protocol.specs.Ask.{ALog}
 use Rattle.vhost_protocol.specs.Error.{InvalidMessage}
