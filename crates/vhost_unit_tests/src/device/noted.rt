@@ -23,7 +23,7 @@ pub struct Noted {
 
 impl Noted {
     /// A device that was asked nothing so far.
-    pub fn new() -> Noted {
+    pub(crate) fn new() -> Noted {
         Noted {
             name: "",
             numbers: [0; 6],
@@ -42,7 +42,7 @@ impl Noted {
 }
 
 /// The handle with this number.
-pub fn handle(id: u32) -> PlainHandle {
+pub(crate) fn handle(id: u32) -> PlainHandle {
     PlainHandle {
         id,
         kind: Kind::NoSocket,
