@@ -4,3 +4,4 @@ pub mod Sending
 pub mod Taking
 pub mod Asking
 pub mod Flags
+pub mod Awaiting

@@ -1,6 +1,7 @@
 -- What the half of a frontend's call does that asks.
 use Rattle.std.specs.Prelude.{◌≡◌, ℕ, List, true, false, Result, Ok, Err, ⊤}
 use Rattle.vhost_message.specs.declared.error.Error as declared
+use Rattle.vhost_message.specs.declared.error.Error.TheVariants.{OutOfMemory}
 use Rattle.vhost_message.specs.declared.frontend_req.FrontendReq.{FrontendReq}
 use Rattle.vhost_message.specs.FrontendReq.{request_number}
 use Rattle.vhost_message.specs.Bits.{has_bit}
@@ -9,7 +10,7 @@ use Rattle.vhost_protocol.specs.Error.{Error, seen}
 use Rattle.vhost_protocol.specs.Written.{Payload, Written, written_cells, head_of}
 use Rattle.vhost_protocol.specs.FrontendCall.{Frontend}
 use Rattle.vhost_protocol.specs.Ask as ask
-use Rattle.vhost_protocol.specs.Ask.{Awaited, Asked, Sends}
+use Rattle.vhost_protocol.specs.Ask.{Awaited, Reply, Shape, Asked, Sends}
 use Rattle.vhost_link.specs.Law.{Event}
 use Rattle.vhost_connection.specs.Pass.{sends}
 use Rattle.vhost_connection.specs.Talk.{State, Serves}
@@ -47,3 +48,8 @@ module _ {L H : Type 0} (event : L → Event H → L → Type 0) where
         → Asks asked old f before (Ok sent) new f' awaited
     fails : {w : Written FrontendReq H} {awaited : Awaited} {f' : Frontend} {e : declared.Error} {new : State L H} → asked ≡ Sends w awaited f' → Fails event old false e new
         → Asks asked old f before (Err e) new f before
+
+  -- The same of a call that makes room for its reply once its tests have passed: where there is no memory for it, nothing changed.
+  pub data AsksWithRoom (asked : Asked H) (old : State L H) (f : Frontend) (before : Awaited) : Result Sent declared.Error → State L H → Frontend → Awaited → Type 0 where
+    roomy : {result : Result Sent declared.Error} {new : State L H} {f' : Frontend} {after : Awaited} → Asks asked old f before result new f' after → AsksWithRoom asked old f before result new f' after
+    no_room : {w : Written FrontendReq H} {shape : Shape} {f' : Frontend} → asked ≡ Sends w (Reply shape) f' → AsksWithRoom asked old f before (Err OutOfMemory) old f before

@@ -7,7 +7,7 @@ use Rattle.vhost_protocol.specs.Ask.{Awaited, ask}
 use Rattle.vhost_link.specs.Law.{Event}
 use Rattle.vhost_frontend_core.specs.declared.asked.Sent.{Sent}
 use Rattle.vhost_frontend_core.specs.declared.internal.FrontendInternal.{FrontendInternal}
-use Rattle.vhost_frontend_core.specs.Asking.{Asks}
+use Rattle.vhost_frontend_core.specs.Asking.{Asks, AsksWithRoom}
 use Rattle.vhost_frontend_core.specs.Taking.{Takes, IsAck}
 use Rattle.vhost_frontend_core.specs.Frontend.{end_of, session_of, awaits}
 use Rattle.vhost_frontend_core.specs.Session.{awaited_of}
@@ -16,6 +16,10 @@ module _ {L H : Type 0} (event : L → Event H → L → Type 0) (call : Fronten
   -- the half of a call that asks
   abbrev pub AsksHalf : FrontendInternal L H → Result Sent declared.Error → FrontendInternal L H → Type 0
   AsksHalf old result new = Asks event (ask (session_of old) call) (end_of old) (session_of old) (awaits old) result (end_of new) (session_of new) (awaits new)
+
+  -- the same of a call that makes room for its reply
+  abbrev pub AsksHalfWithRoom : FrontendInternal L H → Result Sent declared.Error → FrontendInternal L H → Type 0
+  AsksHalfWithRoom old result new = AsksWithRoom event (ask (session_of old) call) (end_of old) (session_of old) (awaits old) result (end_of new) (session_of new) (awaits new)
 
   -- the half that takes its answer, which is shown as this value
   abbrev pub TakesHalf : {A : Type 0} → (A → Value H) → Awaited → Sent → FrontendInternal L H → Result A declared.Error → FrontendInternal L H → Type 0

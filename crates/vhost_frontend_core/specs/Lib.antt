@@ -4,3 +4,5 @@ pub mod Halves
 pub mod Regions
 pub mod Session
 pub mod Taking
+pub mod Awaiting
+pub mod Kept

@@ -1,8 +1,8 @@
 //! What a frontend awaits of a request that it sent.
 
-ghost use Rattle.std.specs.Prelude.{◌≡◌};
+ghost use Rattle.std.specs.Prelude.{◌≡◌, ◌≤◌, [], vec_capacity};
 
-use vhost_message::{FrontendReq, VhostUserMemoryRegion, VhostUserMsgHeader};
+use vhost_message::{FrontendReq, VhostUserConfig, VhostUserMemoryRegion, VhostUserMsgHeader};
 
 /// What a reply holds.
 #[derive(Clone, Copy, Debug, PartialEq, Eq)]
@@ -38,13 +38,29 @@ pub enum Awaited {
     Reply(Shape),
 }
 
+/// A memory table that was sent, and an empty list with room for where its regions are mapped.
+#[derive(Drop)]
+pub struct KeptTable {
+    /// The first `count` are its regions.
+    pub(crate) regions: [VhostUserMemoryRegion; 32],
+    pub(crate) count: usize,
+    pub(crate) bases: Vec<u64>,
+    ghost few: { count ≤ 32 },
+    ghost empty: { bases.items ≡ [] },
+    ghost room: { count ≤ vec_capacity bases },
+}
+
 /// What is kept of a request, since its reply is compared with it.
-#[derive(Clone, Copy, Drop)]
+#[derive(Drop)]
 pub enum Kept {
     /// Nothing.
     Nothing,
     /// The region that it gave.
     Region(VhostUserMemoryRegion),
+    /// The table that it gave while postcopy listens.
+    Table(KeptTable),
+    /// The part of the configuration space that it asked for, and the buffer for its bytes.
+    Config(VhostUserConfig, Vec<u8>),
 }
 
 /// A request that was sent. Only the half of a call that asks makes one, and the half that takes uses it up.

@@ -121,8 +121,12 @@ impl<L: Link> FrontendInternal<L> {
         ensures taken { (info : call.Info L.Handle) → sent.kept ≡ Region info.region → TakesHalf L.event (call.AddMemRegion info) call.Base (Reply ARegion) sent self.old result self.new }
         ensures quiet { awaits self.new ≡ Nobody }
     {
-        let kept = sent.kept;
-        match self.take_alone::<VhostUserSingleMemoryRegion>(sent) {
+        let Sent {
+            request,
+            awaited,
+            kept,
+        } = sent;
+        match self.take_alone::<VhostUserSingleMemoryRegion>(Sent::new(request, awaited)) {
             Ok(reply) => base_for(kept, &reply),
             Err(error) => Err(error),
         }

@@ -66,9 +66,11 @@ impl<L: Link> FrontendInternal<L> {
         ensures taken { Acks L.event (end_of self.old) (fields_of sent.request) (awaited_of sent.awaited) result (end_of self.new) }
     {
         self.awaited = Awaited::Nobody;
-        match sent.awaited {
+        let (request, awaited) = (sent.request, sent.awaited);
+        drop(sent);
+        match awaited {
             Awaited::Nobody => Ok(()),
-            _ => self.recv_ack(&sent.request),
+            _ => self.recv_ack(&request),
         }
     }
 

@@ -1,14 +1,16 @@
 -- ADD_MEM_REG: its reply while postcopy listens.
-use Rattle.std.proofs.Common.{◌≡◌, ℕ, Bool, true, false, Option, ap, sym, refl, ◌∙◌, Result, Ok, Err, Some}
+use Rattle.std.proofs.Common.{◌≡◌, ℕ, Bool, true, false, Option, ap, subst, sym, refl, ◌∙◌, Result, Ok, Err, Some}
 use Rattle.vhost_message.specs.declared.error.Error as declared
+use Rattle.vhost_message.specs.MsgHeader.{fields_of}
 use Rattle.vhost_message.specs.Records.{single_region_of}
 use Rattle.vhost_message.specs.declared.records.memory.VhostUserSingleMemoryRegion.{VhostUserSingleMemoryRegion}
 use Rattle.vhost_protocol.specs.AnswerTable.{answered, is_same_range, only_if}
 use Rattle.vhost_protocol.specs.Ask.{ARegion}
 use Rattle.vhost_protocol.specs.Error.{Error, InvalidMessage, seen_result}
 use Rattle.vhost_protocol.specs.FrontendCall.{Frontend, AddMemRegion, Base, Value}
-use Rattle.vhost_frontend_core.specs.Frontend.{session_of}
-use Rattle.vhost_frontend_core.specs.Taking.{valued}
+use Rattle.vhost_frontend_core.specs.Frontend.{end_of, session_of}
+use Rattle.vhost_frontend_core.specs.Taking.{valued, AwaitsAlone}
+use Rattle.vhost_frontend_core.specs.declared.asked.Sent.{Sent}
 use Rattle.vhost_frontend_core.proofs.Taking.{alone-replied, alone-fails}
 use Rattle.vhost_frontend_core.proofs.internal.FrontendInternal.take_mapped.Goals as goal
 
@@ -21,7 +23,9 @@ only-based false base (Err x) e = cc
 
 pub returns-in-Ok-clause-taken : goal.returns-in-Ok-clause-taken
 returns-in-Ok-clause-taken g c info kept =
-    alone-replied (AddMemRegion info) ARegion 40 single_region_of (λ v. true) (λ cells. refl) (λ r. refl) c.in-Ok.ensures.taken
+    let came : AwaitsAlone g.L.Link.event 40 single_region_of (λ v. true) (end_of c.args.self.now) (fields_of c.args.sent.request) (Ok c.in-Ok.reply) (end_of c.take_alone.new.self) =
+    subst (λ (x : Sent). AwaitsAlone g.L.Link.event 40 single_region_of (λ v. true) (end_of c.args.self.now) (fields_of x.request) (Ok c.in-Ok.reply) (end_of c.take_alone.new.self)) c.new.ensures c.in-Ok.ensures.taken in
+    alone-replied (AddMemRegion info) ARegion 40 single_region_of (λ v. true) (λ cells. refl) (λ r. refl) came
     (λ r is ok.
     ap (λ (v : VhostUserSingleMemoryRegion). Some (answered (session_of c.args.self.now) (only_if (is_same_range info.region v.region) InvalidMessage (Base (Some (v.region.user_addr)))))) (sym is)
     ∙ ap (λ (x : Result (Value _) Error). Some (answered (session_of c.args.self.now) x)) (only-based _ _ c.base_for.result (c.base_for.ensures info.region kept))
@@ -29,4 +33,6 @@ returns-in-Ok-clause-taken g c info kept =
 
 pub returns-in-Err-clause-taken : goal.returns-in-Err-clause-taken
 returns-in-Err-clause-taken g c info kept =
-    alone-fails (AddMemRegion info) ARegion 40 single_region_of (λ v. true) (λ cells. refl) (λ r. refl) (λ r h hs. refl) c.take_alone.ensures.session c.in-Err.ensures.taken
+    let came : AwaitsAlone g.L.Link.event 40 single_region_of (λ v. true) (end_of c.args.self.now) (fields_of c.args.sent.request) (Err c.in-Err.error) (end_of c.take_alone.new.self) =
+    subst (λ (x : Sent). AwaitsAlone g.L.Link.event 40 single_region_of (λ v. true) (end_of c.args.self.now) (fields_of x.request) (Err c.in-Err.error) (end_of c.take_alone.new.self)) c.new.ensures c.in-Err.ensures.taken in
+    alone-fails (AddMemRegion info) ARegion 40 single_region_of (λ v. true) (λ cells. refl) (λ r. refl) (λ r h hs. refl) c.take_alone.ensures.session came

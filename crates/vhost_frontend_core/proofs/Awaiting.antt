@@ -1,0 +1,49 @@
+-- Each call awaits what it may await.
+use Rattle.std.proofs.Common.{◌≡◌, Bool, true, false, cond, ◌⊎◌, Option, Some, None, Result, Ok, Err, refl, subst, inl, inr}
+use Rattle.vhost_message.specs.declared.frontend_req.FrontendReq.{FrontendReq}
+use Rattle.vhost_protocol.specs.Error.{Error}
+use Rattle.vhost_protocol.specs.FrontendCall.{FrontendCall, Frontend, SetLogBase}
+use Rattle.vhost_protocol.specs.Written.{Written}
+use Rattle.vhost_protocol.specs.Ask.{Awaited, Ack, Nobody, Reply, Shape, ALog, Asked, Sends, ask, given, ◌>>◌, ◌>>=◌}
+use Rattle.vhost_frontend_core.specs.Taking.{IsAck}
+use Rattle.vhost_frontend_core.specs.Awaiting.{MayAwait, AwaitsAllowed}
+
+is-ack : (b : Bool) → IsAck (cond b Ack Nobody)
+is-ack true = tt
+is-ack false = tt
+
+or-ack : (b : Bool) (s : Shape) → IsAck (cond b Ack Nobody) ⊎ (cond b Ack Nobody ≡ Reply s)
+or-ack b s = inl (is-ack b)
+
+or-reply : (s : Shape) → IsAck (Reply s) ⊎ (Reply s ≡ Reply s)
+or-reply s = inr refl
+
+or-none : (Nobody ≡ Nobody) ⊎ (Nobody ≡ Reply ALog)
+or-none = inl refl
+
+or-log : (Reply ALog ≡ Nobody) ⊎ (Reply ALog ≡ Reply ALog)
+or-log = inr refl
+
+module _ (H : Type 0) (call : FrontendCall H) where
+  allowed-then : (x : Result (Unit {0}) Error) (next : Asked H) → AwaitsAllowed call next → AwaitsAllowed call (x >> next)
+  allowed-then (Ok u) next h = h
+  allowed-then (Err e) next h = tt
+
+  allowed-given : (A : Type 0) (x : Option A) (next : A → Asked H) → ((a : A) → AwaitsAllowed call (next a)) → AwaitsAllowed call (given x >>= next)
+  allowed-given A (Some a) next h = h a
+  allowed-given A None next h = tt
+
+  allowed-cond : (b : Bool) (x y : Asked H) → AwaitsAllowed call x → AwaitsAllowed call y → AwaitsAllowed call (cond b x y)
+  allowed-cond true x y h k = h
+  allowed-cond false x y h k = k
+
+ruleset allowing = (allowed-then, allowed-given, allowed-cond, is-ack, or-ack, or-reply, or-none, or-log)
+
+allowed : {H : Type 0} (f : Frontend) (call : FrontendCall H) → AwaitsAllowed call (ask f call)
+allowed f (SetLogBase base None) = or-none
+allowed f (SetLogBase base (Some r)) = search allowing
+allowed f _ = search allowing
+
+-- a call that was sent awaits what it may
+pub awaits-allowed : {H : Type 0} (f : Frontend) (call : FrontendCall H) (w : Written FrontendReq H) (a : Awaited) (g : Frontend) → ask f call ≡ Sends w a g → MayAwait call a
+awaits-allowed f call w a g is = subst (λ (x : Asked _). AwaitsAllowed call x) is (allowed f call)
