@@ -38,7 +38,7 @@ module _ {L H : Type 0} {event : L → Event H → L → Type 0} where
       go (asking.broke x) = asking.fails refl x
 
   -- what is awaited, by another name
-  tries_as : {w : Written FrontendReq H} {asked other : Awaited} {old new : State L H} {before after : Awaited} {result : Result Sent declared.Error}
+  pub tries_as : {w : Written FrontendReq H} {asked other : Awaited} {old new : State L H} {before after : Awaited} {result : Result Sent declared.Error}
       → asked ≡ other → Tries event w asked old before result new after → Tries event w other old before result new after
   tries_as {w} {old = old} {new} {before} {after} {result} e p = subst (λ (x : Awaited). Tries event w x old before result new after) e p
 

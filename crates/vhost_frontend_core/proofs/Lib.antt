@@ -5,3 +5,5 @@ pub mod Taking
 pub mod Asking
 pub mod Flags
 pub mod Awaiting
+pub mod Tables
+pub mod TakingTable

@@ -116,7 +116,7 @@ module _ {L H : Type 0} {event : L → Event H → L → Type 0} where
 
   module _ (call : FrontendCall H) (shape : Shape) (size room : ℕ) (valid : List ℕ → Bool) {sent : Header} {f : Frontend} {old : State L H}
       (by : (cells : List (Cell H)) → take_reply call shape sent f cells ≡ (understood call (Reply shape) sent f (reply_cut size valid room cells).0, (reply_cut {H = H} size valid room cells).1)) where
-    reads-reply : {new : State L H} (o : Result (Received H) Error) {x : Answered H} → has_bit sent.flags 2 ≡ false → Hears event (reply_cut size valid room) old o new → understood call (Reply shape) sent f o ≡ Some x
+    pub reads-reply : {new : State L H} (o : Result (Received H) Error) {x : Answered H} → has_bit sent.flags 2 ≡ false → Hears event (reply_cut size valid room) old o new → understood call (Reply shape) sent f o ≡ Some x
         → Reads event call (Reply shape) sent f old (Some x) new
     reads-reply {new} o plain h e =
         read (subst (λ y. Hears event (take call (Reply shape) sent f) old y new) e

@@ -1,5 +1,6 @@
 -- Regions of the code, as the definitions see them.
-use Rattle.std.specs.Prelude.{Option, Some, None}
+use Rattle.std.specs.Prelude.{ℕ, List, map, Option, Some, None, Vec}
+use Rattle.std.specs.Global.{Global}
 use Rattle.std.specs.Borrow.{Bor}
 use Rattle.vhost_protocol.specs.FrontendCall.{Info, LogRegion}
 use Rattle.vhost_backend.specs.Region.{region_in}
@@ -14,6 +15,15 @@ lent (Some h) = Some h.now
 -- a region, and the handle of its mapping
 abbrev pub info_in : {H : Type 0} → VhostUserMemoryRegionInfo H → Info H
 info_in info = record { region = region_in info; handle = lent info.mmap_handle }
+
+-- the regions of a table, and their handles
+abbrev pub infos_in : {H : Type 0} → List (VhostUserMemoryRegionInfo H) → List (Info H)
+infos_in regions = map (λ region. info_in region) regions
+
+-- where regions are mapped
+abbrev pub bases_seen : Option (Vec ℕ Global) → Option (List ℕ)
+bases_seen None = None
+bases_seen (Some bases) = Some bases.items
 
 -- where the dirty log is kept
 abbrev pub log_region_in : {H : Type 0} → Option (VhostUserDirtyLogRegion H) → Option (LogRegion H)

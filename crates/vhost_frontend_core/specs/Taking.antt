@@ -1,11 +1,12 @@
 -- What the half of a frontend's call does that takes the answer.
-use Rattle.std.specs.Prelude.{◌≡◌, ℕ, List, [], ◌∷◌, ◌++◌, length, drop, Option, Some, Bool, true, false, ◌==◌, ⊤, Result, Ok, Err, Vec}
+use Rattle.std.specs.Prelude.{◌≡◌, ℕ, ◌+◌, ◌*◌, List, [], ◌∷◌, ◌++◌, length, drop, Option, Some, Bool, true, false, ◌&&◌, ◌==◌, ⊤, Result, Ok, Err, Vec}
 use Rattle.std.specs.Global.{Global}
 use Rattle.vhost_message.specs.declared.error.Error as declared
 use Rattle.vhost_message.specs.declared.error.Error.TheVariants as code
 use Rattle.vhost_message.specs.Bits.{has_bit}
 use Rattle.vhost_message.specs.Header.{Header}
-use Rattle.vhost_message.specs.Records.{u64_at}
+use Rattle.vhost_message.specs.Records.{u64_at, memory_of}
+use Rattle.vhost_message.specs.Valid.{is_valid_memory}
 use Rattle.vhost_protocol.specs.Stream.{Cell, has_some}
 use Rattle.vhost_protocol.specs.Error.{Error, seen}
 use Rattle.vhost_protocol.specs.FrontendCall.{FrontendCall, Frontend, Value}
@@ -26,6 +27,10 @@ reply_cut size valid room cells = reply_split is_known size valid room cells
 abbrev pub valued : {A H : Type 0} → (A → Value H) → Result A declared.Error → Result (Value H) Error
 valued value (Ok a) = Ok (value a)
 valued value (Err e) = Err (seen e)
+
+-- a reply of a table has so many regions, as its header, its head and its bytes say
+abbrev pub is_table : {H : Type 0} → (count : ℕ) → Received H → Bool
+is_table count r = r.header.size == 8 + 32 * count && (memory_of r.body).num_regions == count && length r.payload == 32 * count
 
 module _ {L H : Type 0} (event : L → Event H → L → Type 0) where
   -- The reply for a request came.
@@ -83,6 +88,16 @@ module _ {L H : Type 0} (event : L → Event H → L → Type 0) where
   pub data Acks (old : State L H) (sent : Header) (asked : Awaited) : Result ⊤ declared.Error → State L H → Type 0 where
     unasked : asked ≡ Nobody → Acks old sent asked (Ok tt) old
     asked_for : {result : Result ⊤ declared.Error} {new : State L H} → (asked ≡ Nobody → ⊥) → RecvsAck old sent result new → Acks old sent asked result new
+
+  -- A reply with a table of so many regions and without a handle is received: their bytes lie in the room.
+  pub data RecvsTable (count : ℕ) (old : State L H) (sent : Header) : Result ⊤ declared.Error → List ℕ → State L H → Type 0 where
+    table : (reply : Received H) {after : List ℕ} {new : State L H} → Comes 8 (λ bs. is_valid_memory (memory_of bs)) (32 * count) old sent reply new → is_table count reply ≡ true → reply.handles ≡ [] → after ≡ reply.payload
+        → RecvsTable count old sent (Ok tt) after new
+    no_table : (reply : Received H) {after : List ℕ} {new : State L H} → Comes 8 (λ bs. is_valid_memory (memory_of bs)) (32 * count) old sent reply new → is_table count reply ≡ false
+        → RecvsTable count old sent (Err code.InvalidMessage) after new
+    crowded_table : (reply : Received H) {after : List ℕ} {new : State L H} → Comes 8 (λ bs. is_valid_memory (memory_of bs)) (32 * count) old sent reply new → is_table count reply ≡ true → has_some reply.handles ≡ true
+        → RecvsTable count old sent (Err code.InvalidMessage) after new
+    untold : {e : declared.Error} {after : List ℕ} {new : State L H} → Missing 8 (λ bs. is_valid_memory (memory_of bs)) (32 * count) old sent e new → RecvsTable count old sent (Err e) after new
 
 -- an acknowledgement, or nothing, is awaited
 abbrev pub IsAck : Awaited → Type 0

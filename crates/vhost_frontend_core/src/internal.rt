@@ -25,6 +25,7 @@ mod replies;
 mod ring_handles;
 mod rings;
 mod sending;
+mod table;
 mod transfer;
 
 type Header = VhostUserMsgHeader<FrontendReq>;

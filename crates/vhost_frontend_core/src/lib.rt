@@ -4,6 +4,7 @@
 mod asked;
 mod bits;
 mod internal;
+mod regions;
 mod session;
 
 pub use asked::{Awaited, Sent, Shape};

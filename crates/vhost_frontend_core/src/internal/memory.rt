@@ -15,6 +15,7 @@ ghost use Rattle.vhost_frontend_core.specs.declared.asked.Kept.TheVariants.{Regi
 
 use crate::asked::{Awaited, Kept, Sent, Shape};
 use crate::internal::FrontendInternal;
+use crate::regions::is_same;
 use vhost_backend::VhostUserMemoryRegionInfo;
 use vhost_link::Link;
 use vhost_message::{
@@ -179,11 +180,4 @@ fn base_for(kept: Kept, reply: &VhostUserSingleMemoryRegion) -> Result<Option<u6
         return Err(Error::InvalidMessage);
     }
     Ok(Some(mapped.user_addr))
-}
-
-/// Whether both regions are the same range of guest memory.
-fn is_same(region: &VhostUserMemoryRegion, other: &VhostUserMemoryRegion) -> bool
-    ensures { result ≡ is_same_range region.now other.now }
-{
-    region.guest_phys_addr == other.guest_phys_addr && region.memory_size == other.memory_size
 }

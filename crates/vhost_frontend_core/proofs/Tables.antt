@@ -1,0 +1,138 @@
+-- The loops over the regions of a table.
+use Rattle.std.proofs.Common.{◌≡◌, ◌≤◌, ◌<◌, ℕ, zero, suc, ◌+◌, ◌*◌, List, [], ◌∷◌, ◌++◌, length, take, drop, set, slice_index, slice_index_or, flat_map, map, Bor, Bool, true, false, Option, Some, None, append-nil, refl, ap, sym, ◌∙◌, arith}
+use Rattle.std.specs.Prelude.{◌&&◌, is_some, unwrap_or}
+use Rattle.std.specs.List.{list_all, filter_map}
+use Rattle.std.proofs.lemmas.Grind.{flat_map-append}
+use Rattle.std.proofs.lemmas.List.{drop-drop, get_or-take, length-take, map-append, take_more, take_more_set}
+use Rattle.std.proofs.lemmas.List.Elements.{filter_map-append}
+use Rattle.std.proofs.lemmas.List.Folds.{list_all-map, list_all_at}
+use Rattle.vhost_message.specs.Text.{number_at}
+use Rattle.vhost_message.specs.Records.{region_at, region_text, regions_of}
+use Rattle.vhost_message.specs.declared.records.memory.VhostUserMemoryRegion.{VhostUserMemoryRegion}
+use Rattle.vhost_protocol.specs.AnswerTable.{are_same_ranges, is_same_range, bases_in}
+use Rattle.vhost_protocol.specs.Ask.{is_usable, regions_in, handles_in}
+use Rattle.vhost_protocol.specs.FrontendCall.{Info}
+use Rattle.vhost_backend.specs.Region.{region_in}
+use Rattle.vhost_backend.specs.declared.region.VhostUserMemoryRegionInfo.{VhostUserMemoryRegionInfo}
+use Rattle.vhost_frontend_core.specs.Regions.{lent, info_in, infos_in}
+
+-- ---- the regions that are given
+
+module _ {H : Type 0} (rs : List (VhostUserMemoryRegionInfo H)) (i : ℕ) (d : VhostUserMemoryRegionInfo H) (within : i < length rs) where
+  infos-more : infos_in (take (i + 1) rs) ≡ infos_in (take i rs) ++ info_in (slice_index_or rs i d) ∷ []
+  infos-more = ap infos_in (take_more rs i d within) ∙ map-append (λ r. info_in r) (take i rs) (slice_index_or rs i d ∷ [])
+
+  -- one region more is copied
+  pub regions-more : (table : List VhostUserMemoryRegion) (r : VhostUserMemoryRegion) → i < length table → take i table ≡ regions_in (infos_in (take i rs)) → r ≡ region_in (slice_index_or rs i d)
+      → take (i + 1) (set table i r) ≡ regions_in (infos_in (take (i + 1) rs))
+  regions-more table r room so_far is =
+      take_more_set table i r room ∙ (λ j. so_far j ++ is j ∷ [])
+      ∙ sym (ap regions_in infos-more ∙ map-append (λ (info : Info H). info.region) (infos_in (take i rs)) (info_in (slice_index_or rs i d) ∷ []))
+
+  -- one handle more is copied
+  pub handles-more : (handles : List (Bor H)) (h : Bor H) → i < length handles → map (λ (g : Bor H). g.now) (take i handles) ≡ handles_in (infos_in (take i rs)) → lent ((slice_index_or rs i d).mmap_handle) ≡ Some h.now
+      → map (λ (g : Bor H). g.now) (take (i + 1) (set handles i h)) ≡ handles_in (infos_in (take (i + 1) rs))
+  handles-more handles h room so_far is =
+      ap (map (λ (g : Bor H). g.now)) (take_more_set handles i h room) ∙ map-append (λ (g : Bor H). g.now) (take i handles) (h ∷ [])
+      ∙ (λ j. so_far j ++ filter_map (λ (o : Option H). o) (sym is j ∷ []))
+      ∙ sym (ap handles_in infos-more ∙ filter_map-append (λ (info : Info H). info.handle) (infos_in (take i rs)) (info_in (slice_index_or rs i d) ∷ []))
+
+-- where all are usable, each is
+usable-at : {H : Type 0} (rs : List (VhostUserMemoryRegionInfo H)) (i : ℕ) (d : VhostUserMemoryRegionInfo H) → i < length rs → list_all is_usable (infos_in rs) ≡ true → is_usable (info_in (slice_index_or rs i d)) ≡ true
+usable-at {H} rs i d within all = go (is_usable (info_in (slice_index_or rs i d))) refl
+  where
+    go : (b : Bool) → is_usable (info_in (slice_index_or rs i d)) ≡ b → b ≡ true
+    go true e = refl
+    go false e =
+        let none : list_all (λ (r : VhostUserMemoryRegionInfo H). is_usable (info_in r)) rs ≡ false = list_all_at (λ r. is_usable (info_in r)) rs i d within e in
+        let same = list_all-map is_usable (λ (r : VhostUserMemoryRegionInfo H). info_in r) rs in
+        absurd (cc)
+
+and-right : (a b : Bool) → (a && b) ≡ true → b ≡ true
+and-right true b e = e
+and-right false b e = absurd cc
+
+lent-or : {H : Type 0} (o : Option (Bor H)) (other : Bor H) → is_some (lent o) ≡ true → lent o ≡ Some ((unwrap_or o other).now)
+lent-or None other is = absurd cc
+lent-or (Some h) other is = refl
+
+-- the handle of a usable region is taken
+pub handle-taken : {H : Type 0} (rs : List (VhostUserMemoryRegionInfo H)) (i : ℕ) (r : VhostUserMemoryRegionInfo H) (other h : Bor H) → i < length rs → list_all is_usable (infos_in rs) ≡ true → r ≡ slice_index_or rs i r
+    → h ≡ unwrap_or r.mmap_handle other → lent ((slice_index_or rs i r).mmap_handle) ≡ Some h.now
+handle-taken {H} rs i r other h within all is taken =
+    let usable : is_usable (info_in r) ≡ true = ap (λ (x : VhostUserMemoryRegionInfo H). is_usable (info_in x)) is ∙ usable-at rs i r within all in
+    ap (λ (x : VhostUserMemoryRegionInfo H). lent x.mmap_handle) (sym is) ∙ lent-or r.mmap_handle other (and-right _ _ usable) ∙ ap (λ (x : Bor H). Some x.now) (sym taken)
+
+-- ---- writing
+
+-- one region more is written
+pub text-more : (i : ℕ) (rs : List VhostUserMemoryRegion) (d : VhostUserMemoryRegion) → i < length rs
+    → flat_map region_text (take (i + 1) rs) ≡ flat_map region_text (take i rs) ++ region_text (slice_index_or rs i d)
+text-more i rs d fits =
+    ap (flat_map region_text) (take_more rs i d fits) ∙ flat_map-append region_text (take i rs) (slice_index_or rs i d ∷ [])
+    ∙ ap (λ bs. flat_map region_text (take i rs) ++ bs) (append-nil (region_text (slice_index_or rs i d)))
+
+-- ---- reading
+
+-- a number within the first n bytes
+number_within : (n i k : ℕ) (bs : List ℕ) → i + k ≤ n → number_at i k (take n bs) ≡ number_at i k bs
+number_within n i zero bs fits = refl
+number_within n i (suc k) bs fits =
+    let byte : slice_index (take n bs) i ≡ slice_index bs i = get_or-take n bs i 0 (omega arith) in
+    let rest = number_within n (suc i) k bs (omega arith) in
+    λ j. byte j + 256 * rest j
+
+-- a region is within its 32 bytes
+pub region_within_text : (n : ℕ) (bs : List ℕ) → n ≡ 32 → region_at 0 (take n bs) ≡ region_at 0 bs
+region_within_text n bs e =
+    let start = number_within n 0 8 bs (omega arith) in
+    let size = number_within n 8 8 bs (omega arith) in
+    let user = number_within n 16 8 bs (omega arith) in
+    let offset = number_within n 24 8 bs (omega arith) in
+    λ i. record { guest_phys_addr = start i; memory_size = size i; user_addr = user i; mmap_offset = offset i }
+
+-- one region more is read
+pub regions_of-more : (i : ℕ) (bs : List ℕ) → regions_of (i + 1) bs ≡ regions_of i bs ++ region_at 0 (drop (32 * i) bs) ∷ []
+regions_of-more zero bs = refl
+regions_of-more (suc i) bs =
+    let place : 32 * suc i ≡ 32 + 32 * i = omega arith in
+    let next : drop (32 * i) (drop 32 bs) ≡ drop (32 * suc i) bs = drop-drop (32 * i) 32 bs ∙ ap (λ j. drop j bs) (sym place) in
+    let rest : regions_of (i + 1) (drop 32 bs) ≡ regions_of i (drop 32 bs) ++ region_at 0 (drop (32 * suc i) bs) ∷ [] =
+    regions_of-more i (drop 32 bs) ∙ ap (λ xs. regions_of i (drop 32 bs) ++ region_at 0 xs ∷ []) next in
+    let after : suc i + 1 ≡ suc (i + 1) = omega arith in
+    rw after (ap (λ rs. region_at 0 bs ∷ rs) rest)
+
+pub length-regions_of : (n : ℕ) (bs : List ℕ) → length (regions_of n bs) ≡ n
+length-regions_of zero bs = refl
+length-regions_of (suc n) bs = ap suc (length-regions_of n (drop 32 bs))
+
+-- ---- comparing
+
+-- one region more is compared
+same-more : (xs ys : List VhostUserMemoryRegion) (x y : VhostUserMemoryRegion) → length xs ≡ length ys → are_same_ranges (xs ++ x ∷ []) (ys ++ y ∷ []) ≡ (are_same_ranges xs ys && is_same_range x y)
+same-more [] [] x y e = last (is_same_range x y)
+  where
+    last : (b : Bool) → (b && true) ≡ b
+    last true = refl
+    last false = refl
+same-more [] (b ∷ ys) x y e = absurd (omega arith)
+same-more (a ∷ xs) [] x y e = absurd (omega arith)
+same-more (a ∷ xs) (b ∷ ys) x y e = ap (λ c. is_same_range a b && c) (same-more xs ys x y (omega arith)) ∙ join (is_same_range a b)
+  where
+    join : (c : Bool) → (c && (are_same_ranges xs ys && is_same_range x y)) ≡ ((c && are_same_ranges xs ys) && is_same_range x y)
+    join true = refl
+    join false = refl
+
+module _ (i : ℕ) (asked : List VhostUserMemoryRegion) (text : List ℕ) (r : VhostUserMemoryRegion) (within : i < length asked) (is : r ≡ region_at 0 (drop (32 * i) text)) where
+  read-more : regions_of (i + 1) text ≡ regions_of i text ++ r ∷ []
+  read-more = regions_of-more i text ∙ ap (λ (x : VhostUserMemoryRegion). regions_of i text ++ x ∷ []) (sym is)
+
+  pub ranges-more : (d : VhostUserMemoryRegion) (same now : Bool) → same ≡ are_same_ranges (take i asked) (regions_of i text) → now ≡ is_same_range (slice_index_or asked i d) r
+      → (same && now) ≡ are_same_ranges (take (i + 1) asked) (regions_of (i + 1) text)
+  ranges-more d same now so_far here =
+      (λ j. so_far j && here j) ∙ sym (same-more (take i asked) (regions_of i text) (slice_index_or asked i d) r (omega (arith, length-take i asked, length-regions_of i text)))
+      ∙ sym (λ j. are_same_ranges (take_more asked i d within j) (read-more j))
+
+  pub bases-more : (bases : List ℕ) → bases ≡ bases_in (regions_of i text) → bases ++ r.user_addr ∷ [] ≡ bases_in (regions_of (i + 1) text)
+  bases-more bases so_far =
+      ap (λ xs. xs ++ r.user_addr ∷ []) so_far ∙ sym (ap bases_in read-more ∙ map-append (λ (x : VhostUserMemoryRegion). x.user_addr) (regions_of i text) (r ∷ []))
