@@ -91,10 +91,10 @@ module _ {L H : Type 0} {event : L → Event H → L → Type 0} {old mid : Stat
         list = ap (λ (y : State _ _). y.list) s;
       }
 
-  listed-given : (new : State L H) → new ≡ gives mid hs → new.list ≡ not (has_some (first_handles f.cs))
+  pub listed-given : (new : State L H) → new ≡ gives mid hs → new.list ≡ not (has_some (first_handles f.cs))
   listed-given new s = ap (λ (z : State _ _). z.list) s ∙ list-gives mid hs f.list ∙ ap (λ ys. not (has_some ys)) f.first
 
-  counted-more : (head : ℕ) → len ≡ head → len ≤ count → length f.cs ≡ head + more
+  pub counted-more : (head : ℕ) → len ≡ head → len ≤ count → length f.cs ≡ head + more
   counted-more head e most = omega (arith, f.counted, f.rest)
 
   -- the text begins with what came
@@ -103,13 +103,13 @@ module _ {L H : Type 0} {event : L → Event H → L → Type 0} {old mid : Stat
       let full : count ≡ len = omega (arith, f.counted) in
       ap (λ n. take n text) (sym full) ∙ f.bytes
 
-  front-of-text : (k : ℕ) → k ≤ len → len ≤ count → take k text ≡ take k (bytes f.cs)
+  pub front-of-text : (k : ℕ) → k ≤ len → len ≤ count → take k text ≡ take k (bytes f.cs)
   front-of-text k le most = sym (take-front k len text le) ∙ ap (take k) (begins most) ∙ take-front k len (bytes f.cs) le
 
-  part-of : (k n : ℕ) → k + n ≡ len → len ≤ count → take n (drop k text) ≡ take n (drop k (bytes f.cs))
+  pub part-of : (k n : ℕ) → k + n ≡ len → len ≤ count → take n (drop k text) ≡ take n (drop k (bytes f.cs))
   part-of k n e most = sym (drop-take k n text) ∙ ap (drop k) (ap (λ m. take m text) e ∙ begins most ∙ ap (λ m. take m (bytes f.cs)) (sym e)) ∙ drop-take k n (bytes f.cs)
 
-pub payload-bad : {M T L H : Type 0} (event : L → Event H → L → Type 0) (read : List ℕ → M) (valid : M → Bool) (size : ℕ) (read_body : List ℕ → T) (valid_body : T → Bool) (old mid new : State L H) (head len count more : ℕ) (hs : List H)
+unfoldable pub payload-bad : {M T L H : Type 0} (event : L → Event H → L → Type 0) (read : List ℕ → M) (valid : M → Bool) (size : ℕ) (read_body : List ℕ → T) (valid_body : T → Bool) (old mid new : State L H) (head len count more : ℕ) (hs : List H)
     (text before after : List ℕ) (x : M) (y : T)
     → head ≡ 12 → len ≡ 12 + size → PartsCame event old len count more hs text before after mid → len ≤ count → x ≡ read (take head text) → y ≡ read_body (take size (drop head text))
     → (valid x && valid_body y) ≡ false → new ≡ record mid { list = true } → ReadsPayload event read valid size read_body valid_body old before (Err InvalidMessage) after new
@@ -122,7 +122,7 @@ payload-bad event read valid size read_body valid_body old mid new head len coun
       ap (λ (z : State _ _). z.list) s,
     )
 
-pub payload-whole : {M T L H : Type 0} (event : L → Event H → L → Type 0) (read : List ℕ → M) (valid : M → Bool) (size : ℕ) (read_body : List ℕ → T) (valid_body : T → Bool) (old mid new : State L H) (head len count : ℕ) (hs : List H)
+unfoldable pub payload-whole : {M T L H : Type 0} (event : L → Event H → L → Type 0) (read : List ℕ → M) (valid : M → Bool) (size : ℕ) (read_body : List ℕ → T) (valid_body : T → Bool) (old mid new : State L H) (head len count : ℕ) (hs : List H)
     (text before after : List ℕ) (x : M × T × ℕ × Option (Vec H Global))
     → head ≡ 12 → len ≡ 12 + size → PartsCame event old len count x.2 hs text before after mid → len ≤ count → x.0 ≡ read (take head text) → x.1 ≡ read_body (take size (drop head text))
     → valid x.0 ≡ true → valid_body x.1 ≡ true → HandsOver x.3 hs → new ≡ gives mid hs → ReadsPayload event read valid size read_body valid_body old before (Ok x) after new

@@ -13,3 +13,5 @@ pub mod Once
 pub mod Failing
 pub mod Faults
 pub mod Reading
+pub mod More
+pub mod Bare

@@ -213,10 +213,10 @@ first-again r s c p e again k = Moved-as (rw (again, k) refl) (more p e)
 
 -- ---- the first bytes, and then the rest
 
-both : {H : Type 0} (cs ds : List (Cell H)) (r s t : ℕ) → t ≡ r + s → receives (items cs) r then receives (items ds) s ≡ receives (items (cs ++ ds)) t
+pub both : {H : Type 0} (cs ds : List (Cell H)) (r s t : ℕ) → t ≡ r + s → receives (items cs) r then receives (items ds) s ≡ receives (items (cs ++ ds)) t
 both cs ds r s t k = rw (map-append Byte cs ds, k) refl
 
-both-end : {H : Type 0} (cs ds : List (Cell H)) (r s t : ℕ) → t ≡ r + s → receives (items cs) r then receives (heard ds true) s ≡ receives (heard (cs ++ ds) true) t
+pub both-end : {H : Type 0} (cs ds : List (Cell H)) (r s t : ℕ) → t ≡ r + s → receives (items cs) r then receives (heard ds true) s ≡ receives (heard (cs ++ ds) true) t
 both-end cs ds r s t k = rw (map-append Byte cs ds, append_assoc (items cs) (items ds) (End ∷ []), k) refl
 
 -- the end of the second part is the end of both
@@ -239,7 +239,7 @@ first-of : {H : Type 0} (bs : List ℕ) (hs : List H) (ds : List (Cell H)) → 0
 first-of [] hs ds h = absurd (omega arith)
 first-of (b ∷ bs) hs ds h = refl
 
-first-append : {H : Type 0} (cs ds : List (Cell H)) → 0 < length cs → first_handles (cs ++ ds) ≡ first_handles cs
+pub first-append : {H : Type 0} (cs ds : List (Cell H)) → 0 < length cs → first_handles (cs ++ ds) ≡ first_handles cs
 first-append [] ds h = absurd (omega arith)
 first-append (c ∷ cs) ds h = refl
 

@@ -65,3 +65,26 @@ ReadsCountOnce event old len (Err e) text new = Trouble event old 0 true false n
 -- the list of handles is given away where there are handles in it
 abbrev pub gives : {L H : Type 0} → State L H → List H → State L H
 gives old hs = if has_some hs then old else record old { list = true }
+
+-- Behind the front of a message more came into the room, or the end, with the retries that were left.
+pub record MoreCame {L H : Type 0} (event : L → Event H → L → Type 0) (old : State L H) (more : ℕ) (before after : List ℕ) (new : State L H) : Type 0 where
+  pub cs : List (Cell H)
+  pub retries : ℕ
+  pub serves : Serves event old old.left (receives (heard cs (nat_lt (length cs) (length before))) retries) new
+  pub within : length cs ≤ length before
+  pub counted : more ≡ length cs
+  pub room : after ≡ bytes cs ++ drop (length cs) before
+  pub left : new.left + retries ≡ old.left
+  pub list : new.list ≡ old.list
+
+-- Less came, and then trouble.
+pub record MoreFails {L H : Type 0} (event : L → Event H → L → Type 0) (old : State L H) (before after : List ℕ) (e : Error) (new : State L H) : Type 0 where
+  pub cs : List (Cell H)
+  pub retries : ℕ
+  pub short : length cs < length before
+  pub trouble : Trouble event old old.left false true (receives (items cs) retries) e new
+  pub room : after ≡ bytes cs ++ drop (length cs) before
+
+abbrev pub ReadsMore : {L H : Type 0} → (L → Event H → L → Type 0) → State L H → List ℕ → Result ℕ Error → List ℕ → State L H → Type 0
+ReadsMore event old before (Ok n) after new = MoreCame event old n before after new
+ReadsMore event old before (Err e) after new = MoreFails event old before after e new

@@ -5,3 +5,4 @@ pub mod State
 pub mod Front
 pub mod Lending
 pub mod Hearing
+pub mod Bare

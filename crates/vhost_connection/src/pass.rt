@@ -209,7 +209,12 @@ fn recv_first<L: Link>(
 }
 
 /// Receives until the room is full. The handles of what comes are dropped.
-fn recv_rest<L: Link>(link: &mut L, room: &mut [u8], spare: &mut Vec<L::Handle>, budget: u32) -> Got
+pub fn recv_rest<L: Link>(
+    link: &mut L,
+    room: &mut [u8],
+    spare: &mut Vec<L::Handle>,
+    budget: u32,
+) -> Got
     requires list { spare.old.items ≡ [] }
     requires places { 32 ≤ vec_capacity spare.old }
     ensures got { GetsRest L.event link.old room.old budget result room.new link.new }

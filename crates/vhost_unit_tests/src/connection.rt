@@ -1,5 +1,6 @@
 //! Endpoints over links in memory, however these are cut and wherever they fail.
 
+mod bare;
 mod buffers;
 mod callers;
 mod payloads;

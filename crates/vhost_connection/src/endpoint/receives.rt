@@ -4,7 +4,7 @@ ghost use Rattle.std.specs.Prelude.{◌≡◌, ◌≢◌, ◌+◌, ◌<◌, ◌�
 
 use crate::endpoint::{Endpoint, MAX_BODY};
 use crate::list::{Front, HandleList, take_list};
-use crate::pass::{Stop, recv_bytes, recv_once, recv_parts};
+use crate::pass::{Stop, recv_bytes, recv_once, recv_parts, recv_rest};
 use vhost_link::Link;
 use vhost_message::{Error, MsgHeader, Result, VhostUserMsgValidator};
 
@@ -16,7 +16,7 @@ impl<M: MsgHeader, L: Link> Endpoint<M, L> {
     ghost use Rattle.vhost_message.specs.declared.error.Error.TheVariants.{OversizedMsg, OutOfMemory};
     ghost use Rattle.vhost_connection.specs.Talk.{Refuses};
     ghost use Rattle.vhost_connection.specs.Calls.{ReadsHeader, ReadsData, ReadsBody, ReadsInto, ReadsPayload, ReadsOnce, HandsOver};
-    ghost use Rattle.vhost_connection.specs.Front.{ReadsFront, ReadsParts, ReadsCount, ReadsCountOnce, gives};
+    ghost use Rattle.vhost_connection.specs.Front.{ReadsFront, ReadsParts, ReadsCount, ReadsCountOnce, ReadsMore, gives};
     ghost use Rattle.vhost_connection.specs.State.{state};
 
     /// Receives a header, with the handles of its first byte.
@@ -215,7 +215,7 @@ impl<M: MsgHeader, L: Link> Endpoint<M, L> {
     }
 
     /// Receives so many bytes to the front of the text, or fewer and then the end, with the handles of the first.
-    fn recv_front(&mut self, len: usize) -> Result<Front<L::Handle>>
+    pub(super) fn recv_front(&mut self, len: usize) -> Result<Front<L::Handle>>
         requires some { 0 < len }
         requires len { len ≤ 4108 }
         ensures { ReadsFront L.event (state self.old) len result self.new.text (state self.new) }
@@ -256,9 +256,23 @@ impl<M: MsgHeader, L: Link> Endpoint<M, L> {
         })
     }
 
+    /// Receives what fits into the room behind the front of a message, with the retries that are left. Handles are dropped.
+    pub(super) fn recv_more(&mut self, room: &mut [u8]) -> Result<usize>
+        requires { (state self.old).broken ≡ None }
+        ensures { ReadsMore L.event (state self.old) room.old result room.new (state self.new) }
+    {
+        self.faulted = false;
+        let got = recv_rest(&mut self.link, room, &mut self.spare.list, self.left);
+        self.left = got.left;
+        if let Stop::Fault(cause) = got.stop {
+            return Err(self.fail(cause, true));
+        }
+        Ok(got.count)
+    }
+
     /// Takes the list back; its handles are dropped.
     #[tactic(auto, unfolding(crate::specs::State::ahead_of))]
-    fn put_back(&mut self, mut list: Vec<L::Handle>)
+    pub(super) fn put_back(&mut self, mut list: Vec<L::Handle>)
         requires { 32 ≤ vec_capacity list }
         ensures state { state self.new ≡ record (state self.old) { list = true } }
         ensures text { self.new.text ≡ self.old.text }
@@ -269,7 +283,7 @@ impl<M: MsgHeader, L: Link> Endpoint<M, L> {
 
     /// Gives the list away where it has handles, and else takes it back.
     #[tactic(auto, unfolding(crate::specs::State::ahead_of))]
-    fn give(&mut self, list: Vec<L::Handle>) -> Option<Vec<L::Handle>>
+    pub(super) fn give(&mut self, list: Vec<L::Handle>) -> Option<Vec<L::Handle>>
         requires { 32 ≤ vec_capacity list }
         ensures given { HandsOver result list.items }
         ensures state { state self.new ≡ gives (state self.old) list.items }
