@@ -1,0 +1,2 @@
+pub mod MemoryContext
+pub mod Whole

@@ -1,0 +1,254 @@
+//! A session that many threads may use.
+
+use crate::quiet::Quiet;
+use crate::traits::VhostUserFrontend;
+use std::alloc::{AllocError, Global};
+use std::sync::{Arc, Mutex, Wait};
+use vhost_backend::{Result, VhostBackend, VhostUserDirtyLogRegion, VhostUserMemoryRegionInfo};
+use vhost_link::Link;
+use vhost_message::{
+    Error, FrontendReq, VhostTransferStateDirection, VhostTransferStatePhase, VhostUserConfigFlags,
+    VhostUserHeaderFlag, VhostUserInflight, VhostUserMemoryRegionBase, VhostUserProtocolFeatures,
+    VhostUserShMemConfig, VhostUserSharedMsg, VringConfigData,
+};
+
+/// A frontend's session, shared: a clone is the same session. Each call waits until it has the session for itself, and leaves no
+/// answer behind. Its errors are those of `Quiet`'s calls, within `VhostUserProtocol`.
+///
+/// Mirrors `vhost::vhost_user::Frontend`.
+#[derive(Drop)]
+pub struct Frontend<L: Link> {
+    inner: Arc<Mutex<Quiet<L>>, Global>,
+}
+
+impl<L: Link> Clone for Frontend<L> {
+    fn clone(&self) -> std::result::Result<Self, AllocError> {
+        Ok(Frontend {
+            inner: Arc::try_clone(&self.inner)?,
+        })
+    }
+}
+
+impl<L: Link> Frontend<L> {
+    /// A new session over a link, with a device of at most so many queues. A message may take so many retries.
+    ///
+    /// OutOfMemory: a growth was refused.
+    pub fn from_stream(
+        alloc: Global,
+        link: L,
+        max_queue_num: u64,
+        budget: u32,
+    ) -> vhost_message::Result<Self> {
+        let session = Quiet::new(alloc, link, max_queue_num, budget)?;
+        match Arc::new(alloc, Mutex::new(session)) {
+            Ok(inner) => Ok(Frontend { inner }),
+            Err(_) => Err(Error::OutOfMemory),
+        }
+    }
+
+    /// The flags of each request from now on: of these, REPLY and NEED_REPLY are sent.
+    pub fn set_hdr_flags(&self, rt: &impl Wait, flags: VhostUserHeaderFlag) {
+        self.inner.lock(rt).set_hdr_flags(flags);
+    }
+}
+
+impl<L: Link> VhostBackend for Frontend<L> {
+    type Handle = L::Handle;
+
+    fn get_features(&self, rt: &impl Wait) -> Result<u64> {
+        Ok(self.inner.lock(rt).get_features()?)
+    }
+
+    fn set_features(&self, rt: &impl Wait, features: u64) -> Result<()> {
+        Ok(self.inner.lock(rt).set_features(features)?)
+    }
+
+    fn set_owner(&self, rt: &impl Wait) -> Result<()> {
+        Ok(self.inner.lock(rt).set_owner()?)
+    }
+
+    fn reset_owner(&self, rt: &impl Wait) -> Result<()> {
+        Ok(self.inner.lock(rt).reset_owner()?)
+    }
+
+    fn set_mem_table(
+        &self,
+        rt: &impl Wait,
+        regions: &[VhostUserMemoryRegionInfo<'_, L::Handle>],
+    ) -> Result<Option<Vec<VhostUserMemoryRegionBase>>> {
+        Ok(self.inner.lock(rt).set_mem_table(regions)?)
+    }
+
+    fn set_log_base(
+        &self,
+        rt: &impl Wait,
+        base: u64,
+        region: Option<VhostUserDirtyLogRegion<'_, L::Handle>>,
+    ) -> Result<()> {
+        Ok(self.inner.lock(rt).set_log_base(base, region)?)
+    }
+
+    fn set_log_fd(&self, rt: &impl Wait, fd: &L::Handle) -> Result<()> {
+        Ok(self.inner.lock(rt).set_log_fd(fd)?)
+    }
+
+    fn set_vring_num(&self, rt: &impl Wait, queue_index: usize, num: u16) -> Result<()> {
+        Ok(self.inner.lock(rt).set_vring_num(queue_index, num)?)
+    }
+
+    fn set_vring_addr(
+        &self,
+        rt: &impl Wait,
+        queue_index: usize,
+        config_data: &VringConfigData,
+    ) -> Result<()> {
+        Ok(
+            self.inner
+                .lock(rt)
+                .set_vring_addr(queue_index, config_data)?,
+        )
+    }
+
+    fn set_vring_base(&self, rt: &impl Wait, queue_index: usize, base: u16) -> Result<()> {
+        Ok(self.inner.lock(rt).set_vring_base(queue_index, base)?)
+    }
+
+    fn get_vring_base(&self, rt: &impl Wait, queue_index: usize) -> Result<u32> {
+        Ok(self.inner.lock(rt).get_vring_base(queue_index)?)
+    }
+
+    fn set_vring_call(&self, rt: &impl Wait, queue_index: usize, fd: &L::Handle) -> Result<()> {
+        Ok(self.inner.lock(rt).set_vring_call(queue_index, fd)?)
+    }
+
+    fn set_vring_kick(&self, rt: &impl Wait, queue_index: usize, fd: &L::Handle) -> Result<()> {
+        Ok(self.inner.lock(rt).set_vring_kick(queue_index, fd)?)
+    }
+
+    fn set_vring_err(&self, rt: &impl Wait, queue_index: usize, fd: &L::Handle) -> Result<()> {
+        Ok(self.inner.lock(rt).set_vring_err(queue_index, fd)?)
+    }
+}
+
+impl<L: Link> VhostUserFrontend for Frontend<L> {
+    fn get_protocol_features(&mut self, rt: &impl Wait) -> Result<VhostUserProtocolFeatures> {
+        Ok(self.inner.lock(rt).get_protocol_features()?)
+    }
+
+    fn set_protocol_features(
+        &mut self,
+        rt: &impl Wait,
+        features: VhostUserProtocolFeatures,
+    ) -> Result<()> {
+        Ok(self.inner.lock(rt).set_protocol_features(features)?)
+    }
+
+    fn get_queue_num(&mut self, rt: &impl Wait) -> Result<u64> {
+        Ok(self.inner.lock(rt).get_queue_num()?)
+    }
+
+    fn reset_device(&mut self, rt: &impl Wait) -> Result<()> {
+        Ok(self.inner.lock(rt).reset_device()?)
+    }
+
+    fn set_vring_enable(&mut self, rt: &impl Wait, queue_index: usize, enable: bool) -> Result<()> {
+        Ok(self.inner.lock(rt).set_vring_enable(queue_index, enable)?)
+    }
+
+    fn set_config(
+        &mut self,
+        rt: &impl Wait,
+        offset: u32,
+        flags: VhostUserConfigFlags,
+        buf: &[u8],
+    ) -> Result<()> {
+        Ok(self.inner.lock(rt).set_config(offset, flags, buf)?)
+    }
+
+    fn set_backend_request_fd(&mut self, rt: &impl Wait, fd: &L::Handle) -> Result<()> {
+        Ok(self.inner.lock(rt).set_backend_request_fd(fd)?)
+    }
+
+    fn get_shared_object(
+        &mut self,
+        rt: &impl Wait,
+        shared_msg: &VhostUserSharedMsg,
+    ) -> Result<L::Handle> {
+        Ok(self.inner.lock(rt).get_shared_object(shared_msg)?)
+    }
+
+    fn get_inflight_fd(
+        &mut self,
+        rt: &impl Wait,
+        inflight: &VhostUserInflight,
+    ) -> Result<(VhostUserInflight, L::Handle)> {
+        Ok(self.inner.lock(rt).get_inflight_fd(inflight)?)
+    }
+
+    fn set_inflight_fd(
+        &mut self,
+        rt: &impl Wait,
+        inflight: &VhostUserInflight,
+        fd: &L::Handle,
+    ) -> Result<()> {
+        Ok(self.inner.lock(rt).set_inflight_fd(inflight, fd)?)
+    }
+
+    fn get_max_mem_slots(&mut self, rt: &impl Wait) -> Result<u64> {
+        Ok(self.inner.lock(rt).get_max_mem_slots()?)
+    }
+
+    fn add_mem_region(
+        &mut self,
+        rt: &impl Wait,
+        region: &VhostUserMemoryRegionInfo<'_, L::Handle>,
+    ) -> Result<Option<u64>> {
+        Ok(self.inner.lock(rt).add_mem_region(region)?)
+    }
+
+    fn remove_mem_region(
+        &mut self,
+        rt: &impl Wait,
+        region: &VhostUserMemoryRegionInfo<'_, L::Handle>,
+    ) -> Result<()> {
+        Ok(self.inner.lock(rt).remove_mem_region(region)?)
+    }
+
+    fn get_shmem_config(&mut self, rt: &impl Wait) -> Result<VhostUserShMemConfig> {
+        Ok(self.inner.lock(rt).get_shmem_config()?)
+    }
+
+    fn set_device_state_fd(
+        &self,
+        rt: &impl Wait,
+        direction: VhostTransferStateDirection,
+        phase: VhostTransferStatePhase,
+        fd: L::Handle,
+    ) -> Result<Option<L::Handle>> {
+        Ok(
+            self.inner
+                .lock(rt)
+                .set_device_state_fd(direction, phase, &fd)?,
+        )
+    }
+
+    fn check_device_state(&self, rt: &impl Wait) -> Result<()> {
+        Ok(self.inner.lock(rt).check_device_state()?)
+    }
+
+    fn postcopy_advise(&mut self, rt: &impl Wait) -> Result<L::Handle> {
+        Ok(self.inner.lock(rt).postcopy_advise()?)
+    }
+
+    fn postcopy_listen(&mut self, rt: &impl Wait) -> Result<()> {
+        Ok(self.inner.lock(rt).postcopy_listen()?)
+    }
+
+    fn postcopy_end(&mut self, rt: &impl Wait) -> Result<()> {
+        Ok(self.inner.lock(rt).postcopy_end()?)
+    }
+
+    fn postcopy_ack_mem_regions(&mut self, rt: &impl Wait, code: FrontendReq) -> Result<()> {
+        Ok(self.inner.lock(rt).postcopy_ack_mem_regions(code)?)
+    }
+}

@@ -1,0 +1,12 @@
+//! The side that asks: each call of a frontend whole, and a session that many threads may use.
+#![tactic(auto)]
+
+mod frontend;
+mod memory_context;
+mod quiet;
+mod traits;
+
+pub use frontend::Frontend;
+pub use memory_context::VhostUserMemoryContext;
+pub use quiet::Quiet;
+pub use traits::VhostUserFrontend;

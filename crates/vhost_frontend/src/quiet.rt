@@ -1,0 +1,69 @@
+//! A frontend's session between two calls.
+
+ghost use Rattle.std.specs.Prelude.{◌≡◌, IfOk, IfErr};
+ghost use Rattle.vhost_message.specs.declared.error.Error.TheVariants.{OutOfMemory};
+ghost use Rattle.vhost_connection.specs.State.{fresh};
+ghost use Rattle.vhost_protocol.specs.FrontendCall.{new_frontend};
+ghost use Rattle.vhost_protocol.specs.Ask.{Nobody};
+ghost use Rattle.vhost_frontend_core.specs.Frontend.{end_of, session_of, awaits};
+
+use std::alloc::Global;
+use vhost_frontend_core::FrontendInternal;
+use vhost_link::Link;
+use vhost_message::{Result, VhostUserHeaderFlag};
+
+mod config;
+mod features;
+mod inflight;
+mod log;
+mod memory;
+mod objects;
+mod ownership;
+mod postcopy;
+mod ring_handles;
+mod rings;
+mod transfer;
+
+/// A frontend's session that awaits nothing: whoever finds it between two calls finds no answer to another's request on the
+/// way. Each call is whole; it asks, and takes the answer.
+///
+/// Beside the errors that a call names, each answers those of its link, and those of its answer: PartialMessage where the stream
+/// ended, InvalidMessage where what came is not the answer. A call that is only acknowledged answers Ok once its request went
+/// out, if both sides did not agree on acknowledgements or its header asks for none; else BackendInternalError says that the
+/// device refused it. OutOfMemory: a growth was refused before the first byte, and nothing changed.
+#[derive(Drop)]
+pub struct Quiet<L: Link> {
+    /// The session.
+    pub inner: FrontendInternal<L>,
+    pub ghost quiet: { awaits inner ≡ Nobody },
+}
+
+impl<L: Link> Quiet<L> {
+    /// A new session over a link, with a device of at most so many queues. A message may take so many retries.
+    ///
+    /// OutOfMemory: a growth was refused.
+    pub fn new(alloc: Global, link: L, max_queue_num: u64, budget: u32) -> Result<Self>
+        ensures end { IfOk result (λ q. end_of q.inner ≡ fresh link budget) }
+        ensures session { IfOk result (λ q. session_of q.inner ≡ new_frontend max_queue_num) }
+        ensures memory { IfErr result (λ e. e ≡ OutOfMemory) }
+    {
+        Ok(Quiet {
+            inner: FrontendInternal::new(alloc, link, max_queue_num, budget)?,
+        })
+    }
+
+    /// The flags of each request from now on: of these, REPLY and NEED_REPLY are sent.
+    pub fn set_hdr_flags(&mut self, flags: VhostUserHeaderFlag)
+        ensures end { end_of self.new.inner ≡ end_of self.old.inner }
+        ensures session { session_of self.new.inner ≡ record (session_of self.old.inner) { header_flags = flags.bits } }
+    {
+        self.inner.set_hdr_flags(flags);
+    }
+
+    /// Whether the last call that sent or received met a fault: the link failed, or retried once too often.
+    pub fn faulted(&self) -> bool
+        ensures { result ≡ (end_of self.now.inner).faulted }
+    {
+        self.inner.faulted()
+    }
+}

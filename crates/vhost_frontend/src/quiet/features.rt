@@ -1,0 +1,57 @@
+//! Virtio features, protocol features, and the number of queues.
+
+ghost use Rattle.vhost_protocol.specs.FrontendCall as call;
+
+use crate::quiet::Quiet;
+use vhost_link::Link;
+use vhost_message::{Result, VhostUserProtocolFeatures};
+
+impl<L: Link> Quiet<L> {
+    ghost use Rattle.vhost_frontend.specs.Whole.{Whole};
+
+    /// The virtio features that the device offers, from now on remembered as offered.
+    pub fn get_features(&mut self) -> Result<u64>
+        ensures { Whole L.event call.GetFeatures call.Number self.old.inner result self.new.inner }
+    {
+        let sent = self.inner.ask_get_features()?;
+        self.inner.take_get_features(sent)
+    }
+
+    /// Acknowledges virtio features.
+    pub fn set_features(&mut self, features: u64) -> Result<()>
+        ensures { Whole L.event (call.SetFeatures features) (λ _. call.Nothing) self.old.inner result self.new.inner }
+    {
+        let sent = self.inner.ask_set_features(features)?;
+        self.inner.take_set_features(sent)
+    }
+
+    /// The protocol features that the device offers; bits without a meaning are dropped.
+    ///
+    /// InactiveFeature: it offers none.
+    pub fn get_protocol_features(&mut self) -> Result<VhostUserProtocolFeatures>
+        ensures { Whole L.event call.GetProtocolFeatures (λ features. call.Number features.bits) self.old.inner result self.new.inner }
+    {
+        let sent = self.inner.ask_get_protocol_features()?;
+        self.inner.take_get_protocol_features(sent)
+    }
+
+    /// Chooses protocol features.
+    ///
+    /// InactiveFeature: the device offers none.
+    pub fn set_protocol_features(&mut self, features: VhostUserProtocolFeatures) -> Result<()>
+        ensures { Whole L.event (call.SetProtocolFeatures features.bits) (λ _. call.Nothing) self.old.inner result self.new.inner }
+    {
+        let sent = self.inner.ask_set_protocol_features(features)?;
+        self.inner.take_set_protocol_features(sent)
+    }
+
+    /// How many queues the device has at most, from now on the bound of each index.
+    ///
+    /// InactiveOperation: MQ is not acknowledged. InvalidMessage: the number is greater than 0x8000; the old one stays.
+    pub fn get_queue_num(&mut self) -> Result<u64>
+        ensures { Whole L.event call.GetQueueNum call.Number self.old.inner result self.new.inner }
+    {
+        let sent = self.inner.ask_get_queue_num()?;
+        self.inner.take_get_queue_num(sent)
+    }
+}

@@ -1,0 +1,39 @@
+//! The buffer for descriptors in flight.
+
+ghost use Rattle.vhost_protocol.specs.FrontendCall as call;
+
+use crate::quiet::Quiet;
+use vhost_link::Link;
+use vhost_message::{Result, VhostUserInflight};
+
+impl<L: Link> Quiet<L> {
+    ghost use Rattle.vhost_frontend.specs.Whole.{Whole};
+
+    /// The buffer: where it lies, and its handle.
+    ///
+    /// InactiveOperation: INFLIGHT_SHMFD is not acknowledged. InvalidMessage: no handle came. IncorrectFds: several did.
+    pub fn get_inflight_fd(
+        &mut self,
+        inflight: &VhostUserInflight,
+    ) -> Result<(VhostUserInflight, L::Handle)>
+        ensures { Whole L.event (call.GetInflightFd inflight.now) (λ buffer. call.InflightOf buffer.0 buffer.1) self.old.inner result self.new.inner }
+    {
+        let sent = self.inner.ask_get_inflight_fd(inflight)?;
+        self.inner.take_get_inflight_fd(sent)
+    }
+
+    /// Gives the buffer.
+    ///
+    /// InactiveOperation: INFLIGHT_SHMFD is not acknowledged. InvalidParam: the buffer's size, or one of the numbers of queues
+    /// and descriptors, is 0.
+    pub fn set_inflight_fd(
+        &mut self,
+        inflight: &VhostUserInflight,
+        handle: &L::Handle,
+    ) -> Result<()>
+        ensures { Whole L.event (call.SetInflightFd inflight.now handle.now) (λ _. call.Nothing) self.old.inner result self.new.inner }
+    {
+        let sent = self.inner.ask_set_inflight_fd(inflight, handle)?;
+        self.inner.take_set_inflight_fd(sent)
+    }
+}

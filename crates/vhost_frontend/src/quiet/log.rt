@@ -1,0 +1,35 @@
+//! The log of dirty pages.
+
+ghost use Rattle.vhost_protocol.specs.FrontendCall as call;
+ghost use Rattle.vhost_frontend_core.specs.Regions.{log_region_in};
+
+use crate::quiet::Quiet;
+use vhost_backend::VhostUserDirtyLogRegion;
+use vhost_link::Link;
+use vhost_message::Result;
+
+impl<L: Link> Quiet<L> {
+    ghost use Rattle.vhost_frontend.specs.Whole.{Whole};
+
+    /// Says where the log lies: at this base, or in this region where shared memory is agreed on.
+    ///
+    /// InvalidParam: the region has no handle. InvalidMessage: the area in the reply is not valid.
+    pub fn set_log_base(
+        &mut self,
+        base: u64,
+        region: Option<VhostUserDirtyLogRegion<L::Handle>>,
+    ) -> Result<()>
+        ensures { Whole L.event (call.SetLogBase base (log_region_in region.entry)) (λ _. call.Nothing) self.old.inner result self.new.inner }
+    {
+        let sent = self.inner.ask_set_log_base(base, region)?;
+        self.inner.take_set_log_base(sent)
+    }
+
+    /// Gives the handle by which the device tells that it logged.
+    pub fn set_log_fd(&mut self, handle: &L::Handle) -> Result<()>
+        ensures { Whole L.event (call.SetLogFd handle.now) (λ _. call.Nothing) self.old.inner result self.new.inner }
+    {
+        let sent = self.inner.ask_set_log_fd(handle)?;
+        self.inner.take_set_log_fd(sent)
+    }
+}

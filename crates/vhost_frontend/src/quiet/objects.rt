@@ -1,0 +1,42 @@
+//! Shared objects, shared memory and the reverse channel.
+
+ghost use Rattle.vhost_protocol.specs.FrontendCall as call;
+
+use crate::quiet::Quiet;
+use vhost_link::Link;
+use vhost_message::{Result, VhostUserShMemConfig, VhostUserSharedMsg};
+
+impl<L: Link> Quiet<L> {
+    ghost use Rattle.vhost_frontend.specs.Whole.{Whole};
+
+    /// The handle of a shared object.
+    ///
+    /// InactiveOperation: SHARED_OBJECT is not acknowledged. InvalidParam: the name is not valid. InvalidMessage: no handle
+    /// came. IncorrectFds: several did.
+    pub fn get_shared_object(&mut self, name: &VhostUserSharedMsg) -> Result<L::Handle>
+        ensures { Whole L.event (call.GetSharedObject name.now) call.HandleOf self.old.inner result self.new.inner }
+    {
+        let sent = self.inner.ask_get_shared_object(name)?;
+        self.inner.take_get_shared_object(sent)
+    }
+
+    /// The regions of shared memory.
+    ///
+    /// InactiveOperation: SHMEM is not acknowledged.
+    pub fn get_shmem_config(&mut self) -> Result<VhostUserShMemConfig>
+        ensures { Whole L.event call.GetShmemConfig call.ShmemOf self.old.inner result self.new.inner }
+    {
+        let sent = self.inner.ask_get_shmem_config()?;
+        self.inner.take_get_shmem_config(sent)
+    }
+
+    /// Gives the channel on which the device may ask.
+    ///
+    /// InactiveOperation: BACKEND_REQ is not acknowledged.
+    pub fn set_backend_request_fd(&mut self, handle: &L::Handle) -> Result<()>
+        ensures { Whole L.event (call.SetBackendRequestFd handle.now) (λ _. call.Nothing) self.old.inner result self.new.inner }
+    {
+        let sent = self.inner.ask_set_backend_request_fd(handle)?;
+        self.inner.take_set_backend_request_fd(sent)
+    }
+}

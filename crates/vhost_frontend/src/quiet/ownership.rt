@@ -1,0 +1,37 @@
+//! Who owns the session, and starting anew.
+
+ghost use Rattle.vhost_protocol.specs.FrontendCall as call;
+
+use crate::quiet::Quiet;
+use vhost_link::Link;
+use vhost_message::Result;
+
+impl<L: Link> Quiet<L> {
+    ghost use Rattle.vhost_frontend.specs.Whole.{Whole};
+
+    /// Becomes the owner of the session.
+    pub fn set_owner(&mut self) -> Result<()>
+        ensures { Whole L.event call.SetOwner (λ _. call.Nothing) self.old.inner result self.new.inner }
+    {
+        let sent = self.inner.ask_set_owner()?;
+        self.inner.take_set_owner(sent)
+    }
+
+    /// Gives the session up.
+    pub fn reset_owner(&mut self) -> Result<()>
+        ensures { Whole L.event call.ResetOwner (λ _. call.Nothing) self.old.inner result self.new.inner }
+    {
+        let sent = self.inner.ask_reset_owner()?;
+        self.inner.take_reset_owner(sent)
+    }
+
+    /// Resets the device.
+    ///
+    /// InactiveOperation: RESET_DEVICE is not acknowledged.
+    pub fn reset_device(&mut self) -> Result<()>
+        ensures { Whole L.event call.ResetDevice (λ _. call.Nothing) self.old.inner result self.new.inner }
+    {
+        let sent = self.inner.ask_reset_device()?;
+        self.inner.take_reset_device(sent)
+    }
+}

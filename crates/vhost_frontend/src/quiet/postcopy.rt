@@ -1,0 +1,51 @@
+//! Migration by postcopy.
+
+ghost use Rattle.vhost_protocol.specs.FrontendCall as call;
+
+use crate::quiet::Quiet;
+use vhost_link::Link;
+use vhost_message::{FrontendReq, Result};
+
+impl<L: Link> Quiet<L> {
+    ghost use Rattle.vhost_frontend.specs.Whole.{Whole};
+
+    /// Tells that postcopy is going to begin. The answer is the handle of page faults.
+    ///
+    /// InactiveOperation: PAGEFAULT is not acknowledged. InvalidMessage: no handle came. IncorrectFds: several did.
+    pub fn postcopy_advise(&mut self) -> Result<L::Handle>
+        ensures { Whole L.event call.PostcopyAdvise call.HandleOf self.old.inner result self.new.inner }
+    {
+        let sent = self.inner.ask_postcopy_advise()?;
+        self.inner.take_postcopy_advise(sent)
+    }
+
+    /// Tells the device to listen for page faults, as it does from now on.
+    ///
+    /// InactiveOperation: PAGEFAULT is not acknowledged.
+    pub fn postcopy_listen(&mut self) -> Result<()>
+        ensures { Whole L.event call.PostcopyListen (λ _. call.Nothing) self.old.inner result self.new.inner }
+    {
+        let sent = self.inner.ask_postcopy_listen()?;
+        self.inner.take_postcopy_listen(sent)
+    }
+
+    /// Tells that postcopy has ended, as it has from now on.
+    ///
+    /// InactiveOperation: PAGEFAULT is not acknowledged.
+    pub fn postcopy_end(&mut self) -> Result<()>
+        ensures { Whole L.event call.PostcopyEnd (λ _. call.Nothing) self.old.inner result self.new.inner }
+    {
+        let sent = self.inner.ask_postcopy_end()?;
+        self.inner.take_postcopy_end(sent)
+    }
+
+    /// Acknowledges that the regions are mapped which this request brought: SET_MEM_TABLE or ADD_MEM_REG. Nothing is awaited.
+    ///
+    /// InvalidParam: it is another request.
+    pub fn postcopy_ack_mem_regions(&mut self, code: FrontendReq) -> Result<()>
+        ensures { Whole L.event (call.PostcopyAckMemRegions code) (λ _. call.Nothing) self.old.inner result self.new.inner }
+    {
+        let sent = self.inner.ask_postcopy_ack_mem_regions(code)?;
+        self.inner.take_postcopy_ack_mem_regions(sent)
+    }
+}

@@ -1,0 +1,41 @@
+//! The handles of rings.
+
+ghost use Rattle.vhost_protocol.specs.FrontendCall as call;
+
+use crate::quiet::Quiet;
+use vhost_link::Link;
+use vhost_message::Result;
+
+impl<L: Link> Quiet<L> {
+    ghost use Rattle.vhost_frontend.specs.Whole.{Whole};
+
+    /// Gives the handle by which the device tells that it used descriptors.
+    ///
+    /// InvalidParam: the device has no queue of this index, or the index is greater than 255.
+    pub fn set_vring_call(&mut self, index: usize, handle: &L::Handle) -> Result<()>
+        ensures { Whole L.event (call.SetVringCall index handle.now) (λ _. call.Nothing) self.old.inner result self.new.inner }
+    {
+        let sent = self.inner.ask_set_vring_call(index, handle)?;
+        self.inner.take_set_vring_call(sent)
+    }
+
+    /// Gives the handle by which the driver tells that it added descriptors.
+    ///
+    /// InvalidParam: the device has no queue of this index, or the index is greater than 255.
+    pub fn set_vring_kick(&mut self, index: usize, handle: &L::Handle) -> Result<()>
+        ensures { Whole L.event (call.SetVringKick index handle.now) (λ _. call.Nothing) self.old.inner result self.new.inner }
+    {
+        let sent = self.inner.ask_set_vring_kick(index, handle)?;
+        self.inner.take_set_vring_kick(sent)
+    }
+
+    /// Gives the handle by which the device tells of an error.
+    ///
+    /// InvalidParam: the device has no queue of this index, or the index is greater than 255.
+    pub fn set_vring_err(&mut self, index: usize, handle: &L::Handle) -> Result<()>
+        ensures { Whole L.event (call.SetVringErr index handle.now) (λ _. call.Nothing) self.old.inner result self.new.inner }
+    {
+        let sent = self.inner.ask_set_vring_err(index, handle)?;
+        self.inner.take_set_vring_err(sent)
+    }
+}

@@ -1,0 +1,63 @@
+//! Numbers, places and switches of rings.
+
+ghost use Rattle.vhost_protocol.specs.FrontendCall as call;
+
+use crate::quiet::Quiet;
+use vhost_link::Link;
+use vhost_message::{Result, VringConfigData};
+
+impl<L: Link> Quiet<L> {
+    ghost use Rattle.vhost_frontend.specs.Whole.{Whole};
+
+    /// Sets a ring's size, in descriptors.
+    ///
+    /// InvalidParam: the device has no queue of this index, or the index has more than 32 bits.
+    pub fn set_vring_num(&mut self, index: usize, num: u16) -> Result<()>
+        ensures { Whole L.event (call.SetVringNum index num) (λ _. call.Nothing) self.old.inner result self.new.inner }
+    {
+        let sent = self.inner.ask_set_vring_num(index, num)?;
+        self.inner.take_set_vring_num(sent)
+    }
+
+    /// Sets a ring's next descriptor.
+    ///
+    /// InvalidParam: the device has no queue of this index, or the index has more than 32 bits.
+    pub fn set_vring_base(&mut self, index: usize, base: u16) -> Result<()>
+        ensures { Whole L.event (call.SetVringBase index base) (λ _. call.Nothing) self.old.inner result self.new.inner }
+    {
+        let sent = self.inner.ask_set_vring_base(index, base)?;
+        self.inner.take_set_vring_base(sent)
+    }
+
+    /// Says where a ring's parts lie.
+    ///
+    /// InvalidParam: the device has no queue of this index, or the index has more than 32 bits. Or the
+    /// flags are neither 0 nor 1.
+    pub fn set_vring_addr(&mut self, index: usize, config_data: &VringConfigData) -> Result<()>
+        ensures { Whole L.event (call.SetVringAddr index config_data.now) (λ _. call.Nothing) self.old.inner result self.new.inner }
+    {
+        let sent = self.inner.ask_set_vring_addr(index, config_data)?;
+        self.inner.take_set_vring_addr(sent)
+    }
+
+    /// A ring's next descriptor; the ring stops.
+    ///
+    /// InvalidParam: the device has no queue of this index, or the index has more than 32 bits.
+    pub fn get_vring_base(&mut self, index: usize) -> Result<u32>
+        ensures { Whole L.event (call.GetVringBase index) call.Number self.old.inner result self.new.inner }
+    {
+        let sent = self.inner.ask_get_vring_base(index)?;
+        self.inner.take_get_vring_base(sent)
+    }
+
+    /// Switches a ring on or off.
+    ///
+    /// InactiveFeature: the protocol features are not acknowledged. InvalidParam: the device has no queue of this index, or the
+    /// index has more than 32 bits.
+    pub fn set_vring_enable(&mut self, index: usize, enable: bool) -> Result<()>
+        ensures { Whole L.event (call.SetVringEnable index enable) (λ _. call.Nothing) self.old.inner result self.new.inner }
+    {
+        let sent = self.inner.ask_set_vring_enable(index, enable)?;
+        self.inner.take_set_vring_enable(sent)
+    }
+}

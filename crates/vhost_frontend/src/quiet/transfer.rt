@@ -1,0 +1,40 @@
+//! The transfer of the device's state.
+
+ghost use Rattle.vhost_protocol.specs.FrontendCall as call;
+ghost use Rattle.vhost_message.specs.Transfer.{direction_number, phase_number};
+
+use crate::quiet::Quiet;
+use vhost_link::Link;
+use vhost_message::{Result, VhostTransferStateDirection, VhostTransferStatePhase};
+
+impl<L: Link> Quiet<L> {
+    ghost use Rattle.vhost_frontend.specs.Whole.{Whole};
+
+    /// Begins a transfer over this handle. The answer is the handle that the device wants in its place, if any.
+    ///
+    /// InactiveOperation: DEVICE_STATE is not acknowledged. BackendInternalError: the device failed. IncorrectFds: several
+    /// handles came.
+    pub fn set_device_state_fd(
+        &mut self,
+        direction: VhostTransferStateDirection,
+        phase: VhostTransferStatePhase,
+        handle: &L::Handle,
+    ) -> Result<Option<L::Handle>>
+        ensures { Whole L.event (call.SetDeviceStateFd (record { direction = direction_number direction; phase = phase_number phase }) handle.now) call.StateHandle self.old.inner result self.new.inner }
+    {
+        let sent = self
+            .inner
+            .ask_set_device_state_fd(direction, phase, handle)?;
+        self.inner.take_set_device_state_fd(sent)
+    }
+
+    /// Tells whether the transfer succeeded.
+    ///
+    /// InactiveOperation: DEVICE_STATE is not acknowledged. BackendInternalError: it failed.
+    pub fn check_device_state(&mut self) -> Result<()>
+        ensures { Whole L.event call.CheckDeviceState (λ _. call.Nothing) self.old.inner result self.new.inner }
+    {
+        let sent = self.inner.ask_check_device_state()?;
+        self.inner.take_check_device_state(sent)
+    }
+}

@@ -1,0 +1,111 @@
+//! What a hypervisor asks of a device beside the calls of any vhost device.
+
+use std::sync::Wait;
+use vhost_backend::{Result, VhostBackend, VhostUserMemoryRegionInfo};
+use vhost_message::{
+    FrontendReq, VhostTransferStateDirection, VhostTransferStatePhase, VhostUserConfigFlags,
+    VhostUserInflight, VhostUserProtocolFeatures, VhostUserShMemConfig, VhostUserSharedMsg,
+};
+
+/// What a hypervisor asks of a device by the protocol vhost-user. A call may wait for its turn. A ring is named by its index.
+///
+/// Mirrors `vhost::vhost_user::VhostUserFrontend`.
+pub trait VhostUserFrontend: VhostBackend {
+    /// The protocol features that the device offers.
+    fn get_protocol_features(&mut self, rt: &impl Wait) -> Result<VhostUserProtocolFeatures>;
+
+    /// Chooses protocol features.
+    fn set_protocol_features(
+        &mut self,
+        rt: &impl Wait,
+        features: VhostUserProtocolFeatures,
+    ) -> Result<()>;
+
+    /// How many queues the device has at most.
+    fn get_queue_num(&mut self, rt: &impl Wait) -> Result<u64>;
+
+    /// Resets the device.
+    fn reset_device(&mut self, rt: &impl Wait) -> Result<()>;
+
+    /// Switches a ring on or off.
+    fn set_vring_enable(&mut self, rt: &impl Wait, queue_index: usize, enable: bool) -> Result<()>;
+
+    /// Changes the configuration space from this byte on.
+    fn set_config(
+        &mut self,
+        rt: &impl Wait,
+        offset: u32,
+        flags: VhostUserConfigFlags,
+        buf: &[u8],
+    ) -> Result<()>;
+
+    /// Gives the channel on which the device may ask.
+    fn set_backend_request_fd(&mut self, rt: &impl Wait, fd: &Self::Handle) -> Result<()>;
+
+    /// The handle of a shared object.
+    fn get_shared_object(
+        &mut self,
+        rt: &impl Wait,
+        shared_msg: &VhostUserSharedMsg,
+    ) -> Result<Self::Handle>;
+
+    /// The buffer for descriptors in flight: where it lies, and its handle.
+    fn get_inflight_fd(
+        &mut self,
+        rt: &impl Wait,
+        inflight: &VhostUserInflight,
+    ) -> Result<(VhostUserInflight, Self::Handle)>;
+
+    /// Gives the buffer for descriptors in flight.
+    fn set_inflight_fd(
+        &mut self,
+        rt: &impl Wait,
+        inflight: &VhostUserInflight,
+        fd: &Self::Handle,
+    ) -> Result<()>;
+
+    /// How many regions of memory the device can be given.
+    fn get_max_mem_slots(&mut self, rt: &impl Wait) -> Result<u64>;
+
+    /// Gives the device a region of memory; while postcopy listens, where the device has mapped it.
+    fn add_mem_region(
+        &mut self,
+        rt: &impl Wait,
+        region: &VhostUserMemoryRegionInfo<'_, Self::Handle>,
+    ) -> Result<Option<u64>>;
+
+    /// Takes a region of memory from the device.
+    fn remove_mem_region(
+        &mut self,
+        rt: &impl Wait,
+        region: &VhostUserMemoryRegionInfo<'_, Self::Handle>,
+    ) -> Result<()>;
+
+    /// The regions of shared memory.
+    fn get_shmem_config(&mut self, rt: &impl Wait) -> Result<VhostUserShMemConfig>;
+
+    /// Begins a transfer of the device's state over this handle. The answer is the handle that the device wants in its place,
+    /// if any.
+    fn set_device_state_fd(
+        &self,
+        rt: &impl Wait,
+        direction: VhostTransferStateDirection,
+        phase: VhostTransferStatePhase,
+        fd: Self::Handle,
+    ) -> Result<Option<Self::Handle>>;
+
+    /// Tells whether the transfer succeeded.
+    fn check_device_state(&self, rt: &impl Wait) -> Result<()>;
+
+    /// Tells that postcopy is going to begin. The answer is the handle of page faults.
+    fn postcopy_advise(&mut self, rt: &impl Wait) -> Result<Self::Handle>;
+
+    /// Tells the device to listen for page faults.
+    fn postcopy_listen(&mut self, rt: &impl Wait) -> Result<()>;
+
+    /// Tells that postcopy has ended.
+    fn postcopy_end(&mut self, rt: &impl Wait) -> Result<()>;
+
+    /// Acknowledges that the regions are mapped which this request brought: SET_MEM_TABLE or ADD_MEM_REG.
+    fn postcopy_ack_mem_regions(&mut self, rt: &impl Wait, code: FrontendReq) -> Result<()>;
+}
