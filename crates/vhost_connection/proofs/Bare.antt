@@ -49,7 +49,7 @@ module _ {R H : Type 0} (code : ℕ → Option R) (request : Header) where
       rw (head, body, is_h, is_part, none-is (first_handles cs)) refl
 
   -- what follows makes no difference
-  bare-front : (cs ds : List (Cell H)) → length cs ≡ 24 → is_bare code request (cs ++ ds) ≡ is_bare code request cs
+  pub bare-front : (cs ds : List (Cell H)) → 24 ≤ length cs → is_bare code request (cs ++ ds) ≡ is_bare code request cs
   bare-front cs ds len =
       let tail : drop 12 (cs ++ ds) ≡ drop 12 cs ++ ds = drop-append-le 12 cs ds (omega arith) in
       let body : take 12 (drop 12 (cs ++ ds)) ≡ take 12 (drop 12 cs) = ap (take 12) tail ∙ take-append-le 12 (drop 12 cs) ds (omega (arith, length-drop 12 cs)) in
@@ -93,7 +93,7 @@ module _ {R L H : Type 0} (event : L → Event H → L → Type 0) (code : ℕ �
 
     -- they are no bare reply, and what came is none
     not-bare : (ds : List (Cell H)) → bare_test code request (fields_of h) (length lent) part ≡ false → is_bare code request (f.cs ++ ds) ≡ false
-    not-bare ds e = bare-front code request f.cs ds all ∙ test-is ∙ e
+    not-bare ds e = bare-front code request f.cs ds (omega (arith, all)) ∙ test-is ∙ e
 
     -- a reply came
     pub whole-comes : (before after : List ℕ) (end new : State L H) (more : ℕ) (handles : Option (Vec H Global)) → bare_test code request (fields_of h) (length lent) part ≡ false → MoreCame event mid more before after end

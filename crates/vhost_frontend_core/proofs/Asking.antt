@@ -12,7 +12,7 @@ use Rattle.vhost_protocol.specs.Written.{Payload, Written}
 use Rattle.vhost_link.specs.Law.{Event}
 use Rattle.vhost_connection.specs.Talk.{State}
 use Rattle.vhost_frontend_core.specs.Asking as asking
-use Rattle.vhost_frontend_core.specs.Asking.{Asks, Tries, request_with}
+use Rattle.vhost_frontend_core.specs.Asking.{Asks, AsksWithRoom, Tries, request_with}
 use Rattle.vhost_frontend_core.specs.declared.asked.Kept.{Kept}
 use Rattle.vhost_frontend_core.specs.declared.asked.Sent.{Sent}
 
@@ -27,6 +27,12 @@ module _ {L H : Type 0} {event : L → Event H → L → Type 0} where
       → Asks event next old f before result new f' after → Asks event (t >> next) old f before result new f' after
   passes {next = next} {old} {new} {f} {f'} {before} {after} {result} is p =
       subst (λ (x : Asked H). Asks event x old f before result new f' after) (sym (ap (λ (x : Result ⊤ Error). x >> next) is)) p
+
+  -- the same of a call that makes room for its reply
+  pub passes-room : {t : Result ⊤ Error} {next : Asked H} {old new : State L H} {f f' : Frontend} {before after : Awaited} {result : Result Sent declared.Error} → t ≡ Ok tt
+      → AsksWithRoom event next old f before result new f' after → AsksWithRoom event (t >> next) old f before result new f' after
+  passes-room {next = next} {old} {new} {f} {f'} {before} {after} {result} is p =
+      subst (λ (x : Asked H). AsksWithRoom event x old f before result new f' after) (sym (ap (λ (x : Result ⊤ Error). x >> next) is)) p
 
   -- the message was tried, and the session stays
   pub tried : {w : Written FrontendReq H} {asked : Awaited} {old new : State L H} {f f' : Frontend} {before after : Awaited} {result : Result Sent declared.Error}

@@ -7,3 +7,5 @@ pub mod Flags
 pub mod Awaiting
 pub mod Tables
 pub mod TakingTable
+pub mod ReplyingConfig
+pub mod TakingConfig

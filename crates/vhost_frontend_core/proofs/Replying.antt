@@ -28,7 +28,7 @@ use Rattle.vhost_frontend_core.specs.Taking.{reply_cut, Missing, RecvsPayload}
 use Rattle.vhost_frontend_core.specs.Taking.Missing.{unfit, none, failed}
 
 -- a header is valid exactly where it announces a request
-known-is : (h : Header) → is_known h ≡ (is_some (request_of h.code) && is_valid_header h)
+pub known-is : (h : Header) → is_known h ≡ (is_some (request_of h.code) && is_valid_header h)
 known-is h = go (request_of h.code) (is_valid_header h)
   where
     go : (r : Option FrontendReq) (valid : Bool) → is_some (if valid then r else None) ≡ (is_some r && valid)
@@ -51,7 +51,7 @@ first-append : {H : Type 0} (cs rest : List (Cell H)) → 0 < length cs → firs
 first-append [] rest h = absurd (omega arith)
 first-append (c ∷ cs) rest h = refl
 
-short-shorter : {A : Type 0} (n : ℕ) (xs : List A) → length xs < n → is_shorter n xs ≡ true
+pub short-shorter : {A : Type 0} (n : ℕ) (xs : List A) → length xs < n → is_shorter n xs ≡ true
 short-shorter zero xs h = absurd (omega arith)
 short-shorter (suc n) [] h = refl
 short-shorter (suc n) (x ∷ xs) h = short-shorter n xs (omega arith)
@@ -70,7 +70,7 @@ module _ {H : Type 0} (size room : ℕ) (valid : List ℕ → Bool) where
   unfoldable pub reply_in : List (Cell H) → Received H
   reply_in cs = record { header = header_of (take 12 (bytes cs)); body = take size (drop 12 (bytes cs)); payload = drop (12 + size) (bytes cs); handles = first_handles cs }
 
-  unfoldable outcome : List (Cell H) → Result (Received H) Error
+  unfoldable pub outcome : List (Cell H) → Result (Received H) Error
   outcome cs = if is_known (header_of (take 12 (bytes cs))) && valid (take size (drop 12 (bytes cs))) then Ok (reply_in cs) else Err InvalidMessage
 
   -- header, record and what fits of the payload decide, whatever follows
@@ -103,7 +103,7 @@ module _ {H : Type 0} (size room : ℕ) (valid : List ℕ → Bool) where
   unfolding reply_split
   reply-short cs short = rw (short-shorter (12 + size) cs short) refl
 
-  splits : (cs : List (Cell H)) (o : Result (Received H) Error) → 12 + size ≤ length cs → length cs ≤ 12 + size + room → outcome cs ≡ o → Splits (reply_cut size valid room) cs (nat_lt (length cs) (12 + size + room)) o
+  pub splits : (cs : List (Cell H)) (o : Result (Received H) Error) → 12 + size ≤ length cs → length cs ≤ 12 + size + room → outcome cs ≡ o → Splits (reply_cut size valid room) cs (nat_lt (length cs) (12 + size + room)) o
   splits cs o low high e = go (nat_lt (length cs) (12 + size + room)) refl
     where
       full : nat_lt (length cs) (12 + size + room) ≡ false → length cs ≡ 12 + size + room
@@ -117,7 +117,7 @@ module _ {H : Type 0} (size room : ℕ) (valid : List ℕ → Bool) where
   unfolding outcome
   is-whole cs e v = rw (known-is (header_of (take 12 (bytes cs))), e, v) refl
 
-  is-invalid : (cs : List (Cell H)) → ((is_some (request_of (header_of (take 12 (bytes cs))).code) && is_valid_header (header_of (take 12 (bytes cs)))) && valid (take size (drop 12 (bytes cs)))) ≡ false → outcome cs ≡ Err InvalidMessage
+  pub is-invalid : (cs : List (Cell H)) → ((is_some (request_of (header_of (take 12 (bytes cs))).code) && is_valid_header (header_of (take 12 (bytes cs)))) && valid (take size (drop 12 (bytes cs)))) ≡ false → outcome cs ≡ Err InvalidMessage
   unfolding outcome
   is-invalid cs e = rw (known-is (header_of (take 12 (bytes cs))), e) refl
 
@@ -136,10 +136,10 @@ module _ {T L H : Type 0} (event : L → Event H → L → Type 0) (size : ℕ) 
   }
 
   -- what the header in the code's form says
-  head-is : (cs : List (Cell H)) (h : VhostUserMsgHeader FrontendReq) → h ≡ of_fields (header_of (take 12 (bytes cs))) → fields_of h ≡ header_of (take 12 (bytes cs))
+  pub head-is : (cs : List (Cell H)) (h : VhostUserMsgHeader FrontendReq) → h ≡ of_fields (header_of (take 12 (bytes cs))) → fields_of h ≡ header_of (take 12 (bytes cs))
   head-is cs h e = ap (λ (x : VhostUserMsgHeader FrontendReq). fields_of x) e
 
-  whole-when : (cs : List (Cell H)) (room : ℕ) (h : VhostUserMsgHeader FrontendReq) (t : T) → fields_of h ≡ header_of (take 12 (bytes cs)) → (is_some (request_of (fields_of h).code) && is_valid_header (fields_of h)) ≡ true
+  pub whole-when : (cs : List (Cell H)) (room : ℕ) (h : VhostUserMsgHeader FrontendReq) (t : T) → fields_of h ≡ header_of (take 12 (bytes cs)) → (is_some (request_of (fields_of h).code) && is_valid_header (fields_of h)) ≡ true
       → t ≡ read (take size (drop 12 (bytes cs))) → valid t ≡ true → outcome size room (λ bs. valid (read bs)) cs ≡ Ok (reply_in size room (λ bs. valid (read bs)) cs)
   whole-when cs room h t head ok is_t ok_t =
       is-whole size room (λ bs. valid (read bs)) cs (ap (λ x. is_some (request_of x.code) && is_valid_header x) (sym head) ∙ ok) (ap valid (sym is_t) ∙ ok_t)

@@ -56,7 +56,7 @@ module _ {T L H : Type 0} {event : L → Event H → L → Type 0} {size : ℕ} 
 
 module _ {L H : Type 0} {event : L → Event H → L → Type 0} where
   -- the same cells, read as more
-  hears-by : {A B : Type 0} {cut : List (Cell H) → A × List (Cell H)} {of : List (Cell H) → B × List (Cell H)} (read_as : A → B) {old new : State L H} (o : A)
+  pub hears-by : {A B : Type 0} {cut : List (Cell H) → A × List (Cell H)} {of : List (Cell H) → B × List (Cell H)} (read_as : A → B) {old new : State L H} (o : A)
       → ((cells : List (Cell H)) → of cells ≡ (read_as (cut cells).0, (cut cells).1)) → Hears event cut old o new → Hears event of old (read_as o) new
   hears-by {cut = cut} {of} read_as o by h = record { cells = h.cells; ended = h.ended; retries = h.retries; serves = h.serves; splits = go h.ended h.splits }
     where

@@ -6,3 +6,4 @@ pub mod Session
 pub mod Taking
 pub mod Awaiting
 pub mod Kept
+pub mod TakingConfig

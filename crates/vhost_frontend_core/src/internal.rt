@@ -14,6 +14,7 @@ use vhost_link::Link;
 use vhost_message::{FrontendReq, Result, VhostUserHeaderFlag, VhostUserMsgHeader};
 
 mod config;
+mod config_bytes;
 mod features;
 mod inflight;
 mod log;

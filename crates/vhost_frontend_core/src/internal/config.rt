@@ -54,7 +54,11 @@ impl<L: Link> FrontendInternal<L> {
 }
 
 /// The part of so many bytes from this byte on. InvalidParam: there is no byte, or the part goes beyond the space.
-fn part_of(offset: u32, size: u32, flags: VhostUserConfigFlags) -> Result<VhostUserConfig>
+pub(crate) fn part_of(
+    offset: u32,
+    size: u32,
+    flags: VhostUserConfigFlags,
+) -> Result<VhostUserConfig>
     ensures test { ask.param (is_valid_config (ask.config offset size (config_bits flags))) ≡ tested result }
     ensures same { IfOk result (λ part. part ≡ ask.config offset size (config_bits flags)) }
 {

@@ -1,0 +1,147 @@
+-- A reply with configuration bytes comes in, or a bare one.
+use Rattle.std.proofs.Common.{◌≡◌, ℕ, ◌+◌, ◌-◌, ◌<◌, ◌≤◌, List, [], ◌++◌, length, take, drop, refl, sym, ap, ◌∙◌, arith, lit≤, Bool, true, false, ◌&&◌, Option, Some, None, Result, Ok, Err, Vec, eqb-true}
+use Rattle.std.specs.Prelude.{not, is_some, nat_lt, ◌==◌}
+use Rattle.std.specs.Global.{Global}
+use Rattle.std.proofs.lemmas.List.{drop_all, drop_at, length-append, length-drop, append-nil}
+use Rattle.vhost_message.specs.declared.error.Error as declared
+use Rattle.vhost_message.specs.declared.error.Error.TheVariants as code
+use Rattle.vhost_message.specs.declared.frontend_req.FrontendReq.{FrontendReq}
+use Rattle.vhost_message.specs.declared.header.VhostUserMsgHeader.{VhostUserMsgHeader}
+use Rattle.vhost_message.specs.declared.records.config.VhostUserConfig.{VhostUserConfig}
+use Rattle.vhost_message.specs.FrontendReq.{request_of}
+use Rattle.vhost_message.specs.Header.{Header, header_of, is_reply_for}
+use Rattle.vhost_message.specs.MsgHeader.{fields_of}
+use Rattle.vhost_message.specs.Records.{config_of}
+use Rattle.vhost_message.specs.Text.{number_at}
+use Rattle.vhost_message.specs.Valid.{is_valid_config}
+use Rattle.vhost_protocol.specs.Stream.{Cell, bytes, first_handles, has_some, items}
+use Rattle.vhost_protocol.specs.Error.{Error, PartialMessage, InvalidMessage}
+use Rattle.vhost_protocol.specs.ReplySplit.{Received, is_bare_reply, not_bare, bare_or_reply}
+use Rattle.vhost_protocol.specs.Split.{Splits}
+use Rattle.vhost_protocol.specs.Take.{is_known, answers}
+use Rattle.vhost_protocol.proofs.SplitLaws.{le-shorter}
+use Rattle.vhost_link.specs.Law.{Event}
+use Rattle.vhost_link.proofs.Cells.{length-bytes}
+use Rattle.vhost_connection.specs.Pass.{receives}
+use Rattle.vhost_connection.specs.Talk.{State}
+use Rattle.vhost_connection.specs.Calls.{MessageCame, HandsOver}
+use Rattle.vhost_connection.specs.Bare.{is_bare, ReadsOrBare}
+use Rattle.vhost_connection.specs.Bare.ReadsOrBare.{bare as was_bare, whole as was_whole, ends, invalid, fails}
+use Rattle.vhost_connection.specs.Hearing.{Hears, broken_on}
+use Rattle.vhost_connection.proofs.Bare.{bare-front}
+use Rattle.vhost_connection.proofs.Failing.{trouble-breaks}
+use Rattle.vhost_frontend_core.specs.Taking.{reply_cut}
+use Rattle.vhost_frontend_core.specs.TakingConfig.{config_cut, is_reply_of, RecvsConfig}
+use Rattle.vhost_frontend_core.specs.TakingConfig.RecvsConfig.{came, unfit, crowded, bare, none, failed}
+use Rattle.vhost_frontend_core.proofs.Handed.{hands-none, hands-some}
+use Rattle.vhost_frontend_core.proofs.Replying.{known-is, short-shorter, reply_in, outcome, splits, is-invalid, head-is, whole-when}
+
+abbrev valid : List ℕ → Bool
+valid bs = is_valid_config (config_of bs)
+
+-- a reply that is not bare
+abbrev some_reply : {H : Type 0} → Result (Received H) Error → Result (Option (Received H)) Error
+some_reply (Ok r) = Ok (Some r)
+some_reply (Err e) = Err e
+
+whole-is : {H : Type 0} (o : Result (Received H) Error) (rest : List (Cell H)) → not_bare is_known (o, rest) ≡ (some_reply o, rest)
+whole-is (Ok r) rest = refl
+whole-is (Err e) rest = refl
+
+module _ {H : Type 0} (sent : Header) (room : ℕ) where
+  -- the definitions' test of a header is the code's
+  bare-as : (cs : List (Cell H)) → is_bare_reply is_known (answers sent) cs ≡ is_bare request_of sent cs
+  bare-as cs =
+      let h = header_of (bytes (take 12 cs)) in
+      ap (λ (b : Bool). b && answers sent h && h.size == 12 && not (has_some (first_handles cs)) && number_at 4 4 (bytes (take 12 (drop 12 cs))) == 0) (known-is h)
+
+  long : (cs rest : List (Cell H)) → 24 ≤ length cs → 24 ≤ length (cs ++ rest)
+  long cs rest le = omega (arith, length-append cs rest)
+
+  -- header and record decide whether it is bare, whatever follows
+  config-whole : (cs rest : List (Cell H)) (o : Result (Received H) Error) → 24 ≤ length cs → is_bare request_of sent cs ≡ false → reply_cut 12 valid room (cs ++ rest) ≡ (o, rest) → config_cut sent room (cs ++ rest) ≡ (some_reply o, rest)
+  unfolding bare_or_reply
+  config-whole cs rest o le no_bare is =
+      let far = le-shorter 24 (cs ++ rest) (long cs rest le) in
+      let same : is_bare_reply is_known (answers sent) (cs ++ rest) ≡ false = bare-as (cs ++ rest) ∙ bare-front request_of sent cs rest le ∙ no_bare in
+      rw (far, same, is) (whole-is o rest)
+
+  config-bare : (cs rest : List (Cell H)) → length cs ≡ 24 → is_bare request_of sent cs ≡ true → config_cut sent room (cs ++ rest) ≡ (Ok None, rest)
+  unfolding bare_or_reply
+  config-bare cs rest len is =
+      let le : 24 ≤ length cs = omega (arith, len) in
+      let far = le-shorter 24 (cs ++ rest) (long cs rest le) in
+      let same : is_bare_reply is_known (answers sent) (cs ++ rest) ≡ true = bare-as (cs ++ rest) ∙ bare-front request_of sent cs rest le ∙ is in
+      rw (far, same, drop_at cs rest 24 len) refl
+
+  config-short : (cs : List (Cell H)) → length cs < 24 → config_cut sent room cs ≡ (Err PartialMessage, [])
+  unfolding bare_or_reply
+  config-short cs short = rw (short-shorter 24 cs short) refl
+
+  config-splits : (cs : List (Cell H)) (ended : Bool) (o : Result (Received H) Error) → 24 ≤ length cs → is_bare request_of sent cs ≡ false → Splits (reply_cut 12 valid room) cs ended o → Splits (config_cut sent room) cs ended (some_reply o)
+  config-splits cs true o le no_bare s = ap (config_cut sent room) (sym (append-nil cs)) ∙ config-whole cs [] o le no_bare (ap (reply_cut 12 valid room) (append-nil cs) ∙ s)
+  config-splits cs false o le no_bare s = λ rest. config-whole cs rest o le no_bare (s rest)
+
+module _ {L H : Type 0} (event : L → Event H → L → Type 0) (sent : Header) (old : State L H) (before : List ℕ) where
+  config-came : (new : State L H) (after : List ℕ) (cs : List (Cell H)) (o : Result (Received H) Error) → MessageCame event old 24 before after cs new → outcome 12 (length before) valid cs ≡ o → is_bare request_of sent cs ≡ false
+      → Hears event (config_cut sent (length before)) old (some_reply o) new
+  config-came new after cs o m is no_bare = record {
+    cells = cs;
+    ended = nat_lt (length cs) (24 + length before);
+    retries = m.retries;
+    serves = m.serves;
+    splits = config-splits sent (length before) cs (nat_lt (length cs) (24 + length before)) o m.whole no_bare (splits 12 (length before) valid cs o m.whole m.within is);
+  }
+
+  -- it is bare
+  pub config-none : (new : State L H) (after : List ℕ) → ReadsOrBare event request_of sent old before (Ok None) after new → RecvsConfig event (length before) old sent (Err code.BackendInternalError) after new
+  config-none new after (was_bare cs r serves len is list left) =
+      bare (record { cells = cs; ended = false; retries = r; serves = serves; splits = λ rest. config-bare sent (length before) cs rest len is })
+
+  -- there is none
+  pub config-fails : (new : State L H) (after : List ℕ) (e : declared.Error) → ReadsOrBare event request_of sent old before (Err e) after new → RecvsConfig event (length before) old sent (Err e) after (broken_on e new)
+  config-fails new after e (ends m) = none (record { cells = m.cs; ended = true; retries = m.retries; serves = m.serves; splits = config-short sent (length before) m.cs m.short })
+  config-fails new after e (invalid p no_bare) = none (config-came new after p.0 (Err InvalidMessage) p.1 (is-invalid 12 (length before) valid p.0 p.2) no_bare)
+  config-fails new after e (fails p no_bare) = failed (trouble-breaks event old true false (receives (items p.cs) p.retries) e new p.trouble (lit≤ tt))
+
+  -- the test of a reply, as the code makes it
+  abbrev pub whole_test : VhostUserMsgHeader FrontendReq → ℕ → Bool
+  whole_test h n = is_reply_for request_of (fields_of h) sent && ((fields_of h).size == 12 + length before && n == length before)
+
+  module _ (new : State L H) (after : List ℕ) (h : VhostUserMsgHeader FrontendReq) (part : VhostUserConfig) (n : ℕ) (hs : Option (Vec H Global)) where
+    config-reply : ReadsOrBare event request_of sent old before (Ok (Some (h, part, n, hs))) after new
+        → (reply : Received H) × Hears event (config_cut sent (length before)) old (Ok (Some reply)) new × (is_reply_of sent (length before) reply ≡ whole_test h n) × (part ≡ config_of reply.body)
+        × (n ≡ length reply.payload) × (after ≡ reply.payload ++ drop n before) × HandsOver hs reply.handles
+    unfolding reply_in
+    config-reply (was_whole (cs, m, is_h, ok, is_part, ok_part, count, over, list) no_bare) =
+        let head = head-is event 12 config_of is_valid_config cs h is_h in
+        let len : length (drop 24 (bytes cs)) ≡ n = length-drop 24 (bytes cs) ∙ omega (arith, length-bytes cs, count) in (
+          reply_in 12 (length before) valid cs,
+          config-came new after cs (Ok (reply_in 12 (length before) valid cs)) m (whole-when event 12 config_of is_valid_config cs (length before) h part head ok is_part ok_part) no_bare,
+          (λ j. is_reply_for request_of (sym head j) sent && ((sym head j).size == 12 + length before && len j == length before)),
+          is_part,
+          sym len,
+          m.room ∙ ap (λ k. drop 24 (bytes cs) ++ drop k before) (omega (arith, count)),
+          over,
+        )
+
+    module _ (x : ReadsOrBare event request_of sent old before (Ok (Some (h, part, n, hs))) after new) where
+      -- another reply came
+      pub config-unfit : whole_test h n ≡ false → RecvsConfig event (length before) old sent (Err code.InvalidMessage) after new
+      config-unfit e = let r = config-reply x in unfit r.0 r.1 (r.2 ∙ e)
+
+      -- handles came with it
+      pub config-crowded : whole_test h n ≡ true → is_some hs ≡ true → RecvsConfig event (length before) old sent (Err code.InvalidMessage) after new
+      config-crowded e many = let r = config-reply x in crowded r.0 r.1 (r.2 ∙ e) (hands-some hs r.0.handles r.6 many)
+
+      -- it came
+      pub config-comes : whole_test h n ≡ true → is_some hs ≡ false → RecvsConfig event (length before) old sent (Ok part) after new
+      config-comes e alone =
+          let r = config-reply x in
+          let filled : n ≡ length before = eqb-true n (length before) (last (is_reply_for request_of (fields_of h) sent) ((fields_of h).size == 12 + length before) (n == length before) e) in
+          came r.0 r.1 (r.2 ∙ e) (hands-none hs r.0.handles r.6 alone) r.3 (r.5 ∙ ap (λ bs. r.0.payload ++ bs) (drop_all n before (omega (arith, filled))) ∙ append-nil r.0.payload)
+        where
+          last : (a b c : Bool) → (a && (b && c)) ≡ true → c ≡ true
+          last true true c e = e
+          last true false c e = absurd cc
+          last false b c e = absurd cc

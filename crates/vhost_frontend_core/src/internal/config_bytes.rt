@@ -1,0 +1,175 @@
+//! Bytes of the device's configuration space.
+
+ghost use Rattle.std.specs.Prelude.{◌≡◌, ◌≤◌, ◌+◌, ◌&&◌, ◌==◌, ℕ, List, [], IfOk, length, nat_le};
+ghost use Rattle.vhost_message.specs.FlagBits.{config_bits};
+ghost use Rattle.vhost_message.specs.FrontendReq.{request_of};
+ghost use Rattle.vhost_message.specs.Header.{is_reply_for};
+ghost use Rattle.vhost_message.specs.MsgHeader.{fields_of};
+ghost use Rattle.vhost_message.specs.declared.frontend_req.FrontendReq.TheVariants.{GET_CONFIG};
+ghost use Rattle.vhost_protocol.specs.Ask as ask;
+ghost use Rattle.vhost_protocol.specs.Ask.{Nobody, Reply, AConfig};
+ghost use Rattle.vhost_protocol.specs.FrontendCall as call;
+ghost use Rattle.vhost_protocol.specs.Written.{ConfigBytes};
+ghost use Rattle.vhost_frontend_core.specs.Asking.{tested};
+ghost use Rattle.vhost_frontend_core.specs.Kept.{KeepsConfig, IsKeptFor};
+ghost use Rattle.vhost_frontend_core.specs.TakingConfig.{is_asked};
+
+use crate::asked::{Awaited, Kept, Sent, Shape};
+use crate::internal::config::part_of;
+use crate::internal::{FrontendInternal, Header};
+use vhost_connection::break_on_fault;
+use vhost_link::Link;
+use vhost_message::{
+    Error, FrontendReq, Result, VhostUserConfig, VhostUserConfigFlags, VhostUserProtocolFeatures,
+};
+
+/// How many bytes the record of a part has.
+const RECORD: usize = 12;
+
+impl<L: Link> FrontendInternal<L> {
+    ghost use Rattle.vhost_frontend_core.specs.Asking.{AsksWithRoom};
+    ghost use Rattle.vhost_frontend_core.specs.Frontend.{end_of, session_of, awaits};
+    ghost use Rattle.vhost_frontend_core.specs.Session.{awaited_of};
+    ghost use Rattle.vhost_frontend_core.specs.TakingConfig.{RecvsConfig};
+    ghost use Rattle.vhost_frontend_core.specs.Halves.{AsksHalfWithRoom, TakesHalf};
+
+    /// Asks for `size` bytes of the configuration space from this byte on; as many as the buffer has, which is sent along.
+    ///
+    /// InvalidParam: there is no byte, the part lies beyond the space, or the buffer has more bytes than fit.
+    /// InactiveOperation: CONFIG is not acknowledged. OutOfMemory: a growth was refused, and nothing changed.
+    pub fn ask_get_config(
+        &mut self,
+        offset: u32,
+        size: u32,
+        flags: VhostUserConfigFlags,
+        buffer: &[u8],
+    ) -> Result<Sent>
+        ensures asked { AsksHalfWithRoom L.event (call.GetConfig offset size (config_bits flags) buffer.now) self.old result self.new }
+        ensures kept { IfOk result (λ sent. IsKeptFor {H = L.Handle} (call.GetConfig offset size (config_bits flags) buffer.now) (awaited_of sent.awaited) sent.kept) }
+    {
+        let part = part_of(offset, size, flags)?;
+        self.session.operation(VhostUserProtocolFeatures::CONFIG)?;
+        fits(buffer)?;
+        self.ask_bytes(part, buffer)
+    }
+
+    /// The same of a valid part, and of a buffer that fits.
+    fn ask_bytes(&mut self, part: VhostUserConfig, buffer: &[u8]) -> Result<Sent>
+        requires fits { 12 + length buffer.now ≤ 4096 }
+        ensures asked { AsksWithRoom L.event (ask.asks (session_of self.old) GET_CONFIG (ConfigBytes part buffer.now) [] AConfig) (end_of self.old) (session_of self.old) (awaits self.old) result (end_of self.new) (session_of self.new) (awaits self.new) }
+        ensures kept { IfOk result (λ sent. KeepsConfig part (length buffer.now) sent.kept) }
+    {
+        let Ok(bytes) = Vec::from_slice(self.alloc, buffer) else {
+            return Err(Error::OutOfMemory);
+        };
+        let flags = self.session.header_flags;
+        let request = (
+            FrontendReq::GET_CONFIG,
+            flags,
+            Awaited::Reply(Shape::Config),
+        );
+        match self.send(request, &part, buffer, &[]) {
+            Ok(mut sent) => {
+                sent.kept = Kept::Config(part, bytes);
+                Ok(sent)
+            }
+            Err(error) => Err(error),
+        }
+    }
+
+    /// Takes the bytes: where they lie in the space, and as many as the buffer had.
+    ///
+    /// InvalidParam: the buffer was empty, or the request was sent as a reply, so nothing was received.
+    /// BackendInternalError: the reply is bare, since the device has no such bytes. InvalidMessage: the reply is of another
+    /// part, or has a handle.
+    pub fn take_get_config(&mut self, sent: Sent) -> Result<(VhostUserConfig, Vec<u8>)>
+        ensures taken { (offset size flags : ℕ) (buffer : List ℕ) → IsKeptFor {H = L.Handle} (call.GetConfig offset size flags buffer) (Reply AConfig) sent.kept
+            → TakesHalf L.event (call.GetConfig offset size flags buffer) (λ part. call.ConfigOf part.0 part.1.items) (Reply AConfig) sent self.old result self.new }
+        ensures quiet { awaits self.new ≡ Nobody }
+    {
+        self.awaited = Awaited::Nobody;
+        let Sent { request, kept, .. } = sent;
+        if request.is_reply() {
+            return Err(Error::InvalidParam);
+        }
+        let Kept::Config(asked, mut bytes) = kept else {
+            return Err(Error::InvalidMessage);
+        };
+        let room = &mut bytes[..];
+        let count = room.len();
+        if count == 0 {
+            return Err(Error::InvalidParam);
+        }
+        match self.recv_config(&request, room) {
+            Ok(part) => {
+                if !is_same(&asked, count, &part) {
+                    return Err(Error::InvalidMessage);
+                }
+                Ok((part, bytes))
+            }
+            Err(error) => Err(error),
+        }
+    }
+
+    /// Receives the reply with configuration bytes, which fill the room, and answers which part they are.
+    ///
+    /// InvalidMessage: it has another number of bytes, or a handle. BackendInternalError: it is bare.
+    fn recv_config(&mut self, request: &Header, room: &mut [u8]) -> Result<VhostUserConfig>
+        ensures same { self.new ≡ record self.old { end = self.new.end } }
+        ensures received { RecvsConfig L.event (length room.old) (end_of self.old) (fields_of request.now) result room.new (end_of self.new) }
+    {
+        let len = room.len();
+        let reply = match self.end.recv_payload_or_bare(request, room) {
+            Ok(reply) => reply,
+            Err(error) => {
+                break_on_fault(&mut self.end, &error);
+                return Err(error);
+            }
+        };
+        let Some((header, part, count, handles)) = reply else {
+            return Err(Error::BackendInternalError);
+        };
+        if !is_whole(&header, request, count, len) {
+            return Err(Error::InvalidMessage);
+        }
+        if handles.is_some() {
+            return Err(Error::InvalidMessage);
+        }
+        Ok(part)
+    }
+}
+
+/// InvalidParam: behind its record the buffer is more than fits.
+fn fits(buffer: &[u8]) -> Result<()>
+    ensures test { ask.param (nat_le (12 + length buffer.now) 4096) ≡ tested result }
+    ensures fits { IfOk result (λ _. 12 + length buffer.now ≤ 4096) }
+{
+    if buffer.len() > 4096 - RECORD {
+        return Err(Error::InvalidParam);
+    }
+    Ok(())
+}
+
+/// Whether a reply that came with so many bytes answers the request, and has as many as this, as its header says.
+fn is_whole(header: &Header, request: &Header, count: usize, room: usize) -> bool
+    ensures { result ≡ (is_reply_for request_of (fields_of header.now) (fields_of request.now) && ((fields_of header.now).size == 12 + room && count == room)) }
+{
+    header.is_reply_for(request) && (says(header.get_size(), room) && count == room)
+}
+
+/// Whether this is the size of a body with a record and so many bytes.
+fn says(size: u32, count: usize) -> bool
+    ensures { result ≡ (size == 12 + count) }
+{
+    if (size as usize) < RECORD {
+        return false;
+    }
+    size as usize - RECORD == count
+}
+
+/// Whether this is the part that was asked for, of so many bytes.
+fn is_same(asked: &VhostUserConfig, count: usize, part: &VhostUserConfig) -> bool
+    ensures { result ≡ is_asked asked.now count part.now }
+{
+    part.offset == asked.offset && part.size == asked.size && part.size as usize == count
+}
