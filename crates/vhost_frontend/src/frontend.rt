@@ -7,9 +7,9 @@ use std::sync::{Arc, Mutex, Wait};
 use vhost_backend::{Result, VhostBackend, VhostUserDirtyLogRegion, VhostUserMemoryRegionInfo};
 use vhost_link::Link;
 use vhost_message::{
-    Error, FrontendReq, VhostTransferStateDirection, VhostTransferStatePhase, VhostUserConfigFlags,
-    VhostUserHeaderFlag, VhostUserInflight, VhostUserMemoryRegionBase, VhostUserProtocolFeatures,
-    VhostUserShMemConfig, VhostUserSharedMsg, VringConfigData,
+    Error, FrontendReq, VhostTransferStateDirection, VhostTransferStatePhase, VhostUserConfig,
+    VhostUserConfigFlags, VhostUserHeaderFlag, VhostUserInflight, VhostUserMemoryRegionBase,
+    VhostUserProtocolFeatures, VhostUserShMemConfig, VhostUserSharedMsg, VringConfigData,
 };
 
 /// A frontend's session, shared: a clone is the same session. Each call waits until it has the session for itself, and leaves no
@@ -153,6 +153,17 @@ impl<L: Link> VhostUserFrontend for Frontend<L> {
 
     fn set_vring_enable(&mut self, rt: &impl Wait, queue_index: usize, enable: bool) -> Result<()> {
         Ok(self.inner.lock(rt).set_vring_enable(queue_index, enable)?)
+    }
+
+    fn get_config(
+        &mut self,
+        rt: &impl Wait,
+        offset: u32,
+        size: u32,
+        flags: VhostUserConfigFlags,
+        buf: &[u8],
+    ) -> Result<(VhostUserConfig, Vec<u8>)> {
+        Ok(self.inner.lock(rt).get_config(offset, size, flags, buf)?)
     }
 
     fn set_config(

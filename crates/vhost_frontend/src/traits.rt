@@ -3,8 +3,9 @@
 use std::sync::Wait;
 use vhost_backend::{Result, VhostBackend, VhostUserMemoryRegionInfo};
 use vhost_message::{
-    FrontendReq, VhostTransferStateDirection, VhostTransferStatePhase, VhostUserConfigFlags,
-    VhostUserInflight, VhostUserProtocolFeatures, VhostUserShMemConfig, VhostUserSharedMsg,
+    FrontendReq, VhostTransferStateDirection, VhostTransferStatePhase, VhostUserConfig,
+    VhostUserConfigFlags, VhostUserInflight, VhostUserProtocolFeatures, VhostUserShMemConfig,
+    VhostUserSharedMsg,
 };
 
 /// What a hypervisor asks of a device by the protocol vhost-user. A call may wait for its turn. A ring is named by its index.
@@ -29,6 +30,17 @@ pub trait VhostUserFrontend: VhostBackend {
 
     /// Switches a ring on or off.
     fn set_vring_enable(&mut self, rt: &impl Wait, queue_index: usize, enable: bool) -> Result<()>;
+
+    /// The bytes of the configuration space from this one on, as many as the buffer has, and the part that the device says
+    /// they are.
+    fn get_config(
+        &mut self,
+        rt: &impl Wait,
+        offset: u32,
+        size: u32,
+        flags: VhostUserConfigFlags,
+        buf: &[u8],
+    ) -> Result<(VhostUserConfig, Vec<u8>)>;
 
     /// Changes the configuration space from this byte on.
     fn set_config(

@@ -5,10 +5,29 @@ ghost use Rattle.vhost_message.specs.FlagBits.{config_bits};
 
 use crate::quiet::Quiet;
 use vhost_link::Link;
-use vhost_message::{Result, VhostUserConfigFlags};
+use vhost_message::{Result, VhostUserConfig, VhostUserConfigFlags};
 
 impl<L: Link> Quiet<L> {
-    ghost use Rattle.vhost_frontend.specs.Whole.{Whole};
+    ghost use Rattle.vhost_frontend.specs.Whole.{Whole, WholeWithRoom};
+
+    /// The bytes of the configuration space from this one on, as many as the buffer has, and the part that the device says
+    /// they are. The buffer is sent along.
+    ///
+    /// InvalidParam: `size` is 0, the part lies beyond the space, or the buffer is empty or has more bytes than fit; the request of
+    /// an empty one has gone out. InactiveOperation: CONFIG is not acknowledged. BackendInternalError: the device has no such bytes.
+    /// InvalidMessage: the reply is of another part.
+    pub fn get_config(
+        &mut self,
+        offset: u32,
+        size: u32,
+        flags: VhostUserConfigFlags,
+        buffer: &[u8],
+    ) -> Result<(VhostUserConfig, Vec<u8>)>
+        ensures { WholeWithRoom L.event (call.GetConfig offset size (config_bits flags) buffer.now) (λ part. call.ConfigOf part.0 part.1.items) self.old.inner result self.new.inner }
+    {
+        let sent = self.inner.ask_get_config(offset, size, flags, buffer)?;
+        self.inner.take_get_config(sent)
+    }
 
     /// Changes the configuration space from this byte on.
     ///
