@@ -1,5 +1,5 @@
 -- A reply with configuration bytes comes in, or a bare one.
-use Rattle.std.proofs.Common.{◌≡◌, ℕ, ◌+◌, ◌-◌, ◌<◌, ◌≤◌, List, [], ◌++◌, length, take, drop, refl, sym, ap, ◌∙◌, arith, lit≤, Bool, true, false, ◌&&◌, Option, Some, None, Result, Ok, Err, Vec, eqb-true}
+use Rattle.std.proofs.Common.{◌≡◌, ℕ, ◌+◌, ◌<◌, ◌≤◌, List, [], ◌++◌, length, take, drop, refl, sym, ap, ◌∙◌, arith, lit≤, Bool, true, false, ◌&&◌, Option, Some, None, Result, Ok, Err, Vec, eqb-true}
 use Rattle.std.specs.Prelude.{not, is_some, nat_lt, ◌==◌}
 use Rattle.std.specs.Global.{Global}
 use Rattle.std.proofs.lemmas.List.{drop_all, drop_at, length-append, length-drop, append-nil}

@@ -1,6 +1,6 @@
 -- The half that takes the answer to GET_CONFIG.
-use Rattle.std.proofs.Common.{◌≡◌, ℕ, ◌+◌, zero, suc, List, [], ◌∷◌, length, Bool, true, false, Option, Some, None, Result, Ok, Err, Vec, refl, sym, ap, subst, ◌∙◌, eqb-true}
-use Rattle.std.specs.Prelude.{◌==◌, ◌&&◌, if◌then◌else◌}
+use Rattle.std.proofs.Common.{◌≡◌, ℕ, ◌+◌, List, [], ◌∷◌, length, Bool, true, false, Option, Some, None, Result, Ok, Err, Vec, refl, sym, ap, subst, ◌∙◌, eqb-true}
+use Rattle.std.specs.Prelude.{◌==◌, ◌&&◌}
 use Rattle.std.specs.Global.{Global}
 use Rattle.vhost_message.specs.declared.error.Error as declared
 use Rattle.vhost_message.specs.declared.error.Error.TheVariants as code
@@ -10,10 +10,10 @@ use Rattle.vhost_message.specs.Header.{Header}
 use Rattle.vhost_message.specs.Records.{config_of}
 use Rattle.vhost_protocol.specs.AnswerTable.{Answered, answered, only_if, config_reply}
 use Rattle.vhost_protocol.specs.Ask.{Reply, AConfig, config}
-use Rattle.vhost_protocol.specs.Error.{Error, InvalidMessage, BackendInternalError, seen}
+use Rattle.vhost_protocol.specs.Error.{Error, InvalidMessage, seen}
 use Rattle.vhost_protocol.specs.FrontendCall.{Frontend, GetConfig, ConfigOf, Value}
 use Rattle.vhost_protocol.specs.ReplySplit.{Received}
-use Rattle.vhost_protocol.specs.Stream.{Cell, has_some}
+use Rattle.vhost_protocol.specs.Stream.{has_some}
 use Rattle.vhost_protocol.specs.Take.{understood_config, take, answers}
 use Rattle.vhost_link.specs.Law.{Event}
 use Rattle.vhost_connection.specs.Talk.{State}

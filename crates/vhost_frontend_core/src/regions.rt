@@ -1,6 +1,6 @@
 //! The regions of a memory table: which may be sent, their bytes and handles, and where a reply says that they are mapped.
 
-ghost use Rattle.std.specs.Prelude.{◌≡◌, ◌≤◌, ◌*◌, ◌&&◌, ◌==◌, not, true, IfOk, IfSome, flat_map, is_some, length, map, nat_le, take};
+ghost use Rattle.std.specs.Prelude.{◌≡◌, ◌≤◌, ◌*◌, ◌&&◌, ◌==◌, true, IfOk, IfSome, flat_map, is_some, length, map, nat_le, take};
 ghost use Rattle.std.specs.List.{list_all};
 ghost use Rattle.vhost_message.specs.Records.{region_text, regions_of};
 ghost use Rattle.vhost_protocol.specs.Ask as ask;

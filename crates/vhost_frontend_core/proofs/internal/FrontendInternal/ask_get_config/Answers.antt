@@ -1,7 +1,6 @@
 -- GET_CONFIG: what is asked.
-use Rattle.std.proofs.Common.{length, refl, ap, subst}
+use Rattle.std.proofs.Common.{refl}
 use Rattle.std.proofs.lemmas.Result.{err_from_is_err_and}
-use Rattle.vhost_message.specs.declared.records.config.VhostUserConfig.{VhostUserConfig}
 use Rattle.vhost_frontend_core.specs.Asking.AsksWithRoom.{roomy}
 use Rattle.vhost_frontend_core.proofs.Asking.{stops, passes, passes-room}
 use Rattle.vhost_frontend_core.proofs.internal.FrontendInternal.ask_get_config.Goals as goal
