@@ -2,6 +2,7 @@
 
 mod replies;
 mod requests;
+mod table;
 
 use bitflags::Flags;
 use std::alloc::Global;
