@@ -1,5 +1,6 @@
 //! A frontend's halves over links in memory: each request byte for byte, and what is taken from its reply.
 
+mod config;
 mod replies;
 mod requests;
 mod table;
