@@ -1,6 +1,6 @@
 //! What a caller knows once it has let go of what an endpoint lent.
 
-ghost use Rattle.std.specs.Prelude.{◌≡◌, ◌≤◌, None, OnOk};
+ghost use Rattle.std.specs.Prelude.{◌≡◌, None, OnOk};
 ghost use Rattle.vhost_connection.specs.State.{state};
 
 use std::alloc::Global;
