@@ -8,6 +8,8 @@ mod device;
 #[cfg(test)]
 mod dummy_backend;
 #[cfg(test)]
+mod frontend;
+#[cfg(test)]
 mod frontend_core;
 #[cfg(test)]
 mod gpu_message;
