@@ -1,0 +1,18 @@
+use Rattle.std.proofs.Common.{ap, sym, ◌∙◌}
+use Rattle.vhost_protocol.specs.FrontendCall.{SetHdrFlags}
+use Rattle.vhost_frontend_calls.specs.Calls.{call_of}
+use Rattle.vhost_frontend_calls.specs.Halves.{half, refused, at_once}
+use Rattle.vhost_frontend_calls.proofs.Halves.{is-sent}
+use Rattle.vhost_frontend_calls.proofs.asking.ask.Goals as goal
+
+pub ask_half-requires : goal.ask_half-requires
+ask_half-requires c = is-sent c.args.call.now c.in_default.not-SetHdrFlags
+
+pub returns-in-SetHdrFlags-clause-asked : goal.returns-in-SetHdrFlags-clause-asked
+returns-in-SetHdrFlags-clause-asked c = at_once _ (ap call_of c.in-SetHdrFlags.is ∙ ap SetHdrFlags (sym (c.from_bits_retain.ensures tt ∙ c.bits.ensures tt))) c.set_hdr_flags.ensures.end c.set_hdr_flags.ensures.session c.set_hdr_flags.ensures.awaited
+
+pub returns-in-Ok-clause-asked : goal.returns-in-Ok-clause-asked
+returns-in-Ok-clause-asked c = half c.in-Ok.ensures.asked
+
+pub returns-in-Err-clause-asked : goal.returns-in-Err-clause-asked
+returns-in-Err-clause-asked c = refused c.in-Err.ensures.asked

@@ -1,0 +1,80 @@
+-- Calls and answers of the code, as the definitions see them.
+use Rattle.std.specs.Prelude.{ℕ, List, map, Option, Some, None, Result, Ok, Err, Vec}
+use Rattle.std.specs.Global.{Global}
+use Rattle.vhost_message.specs.Transfer.{direction_number, phase_number}
+use Rattle.vhost_protocol.specs.Error.{Error, seen}
+use Rattle.vhost_protocol.specs.FrontendCall as calls
+use Rattle.vhost_protocol.specs.FrontendCall.{FrontendCall, Info, Value}
+use Rattle.vhost_link.specs.declared.plain.PlainHandle.{PlainHandle}
+use Rattle.vhost_frontend_calls.specs.declared.call.FrontendCall as code
+use Rattle.vhost_frontend_calls.specs.declared.call.FrontendCall.TheVariants as call
+use Rattle.vhost_frontend_calls.specs.declared.call.LogRegion.{LogRegion}
+use Rattle.vhost_frontend_calls.specs.declared.call.RegionInfo.{RegionInfo}
+use Rattle.vhost_frontend_calls.specs.declared.answer.FrontendAnswer.{FrontendAnswer}
+use Rattle.vhost_frontend_calls.specs.declared.answer.FrontendAnswer.TheVariants as answer
+
+-- a region, and the handle that maps it
+abbrev pub info_of : RegionInfo → Info PlainHandle
+info_of info = record { region = info.region; handle = info.mmap_handle }
+
+-- where the dirty log is kept
+abbrev pub log_region_of : Option LogRegion → Option (calls.LogRegion PlainHandle)
+log_region_of None = None
+log_region_of (Some r) = Some (record { mmap_size = r.mmap_size; mmap_offset = r.mmap_offset; handle = r.mmap_handle })
+
+-- a call of the code
+abbrev pub call_of : code.FrontendCall → FrontendCall PlainHandle
+call_of call.GetFeatures = calls.GetFeatures
+call_of (call.SetFeatures n) = calls.SetFeatures n
+call_of call.SetOwner = calls.SetOwner
+call_of call.ResetOwner = calls.ResetOwner
+call_of call.GetProtocolFeatures = calls.GetProtocolFeatures
+call_of (call.SetProtocolFeatures f) = calls.SetProtocolFeatures f.bits
+call_of call.GetQueueNum = calls.GetQueueNum
+call_of call.ResetDevice = calls.ResetDevice
+call_of (call.SetMemTable regions) = calls.SetMemTable (map info_of regions.items)
+call_of (call.SetLogBase base region) = calls.SetLogBase base (log_region_of region)
+call_of (call.SetLogFd h) = calls.SetLogFd h
+call_of (call.SetVringNum i n) = calls.SetVringNum i n
+call_of (call.SetVringBase i n) = calls.SetVringBase i n
+call_of (call.SetVringAddr i c) = calls.SetVringAddr i c
+call_of (call.GetVringBase i) = calls.GetVringBase i
+call_of (call.SetVringCall i h) = calls.SetVringCall i h
+call_of (call.SetVringKick i h) = calls.SetVringKick i h
+call_of (call.SetVringErr i h) = calls.SetVringErr i h
+call_of (call.SetVringEnable i on) = calls.SetVringEnable i on
+call_of (call.GetConfig offset size flags buffer) = calls.GetConfig offset size flags.bits buffer.items
+call_of (call.SetConfig offset flags buffer) = calls.SetConfig offset flags.bits buffer.items
+call_of (call.SetBackendRequestFd h) = calls.SetBackendRequestFd h
+call_of (call.GetSharedObject name) = calls.GetSharedObject name
+call_of (call.GetInflightFd area) = calls.GetInflightFd area
+call_of (call.SetInflightFd area h) = calls.SetInflightFd area h
+call_of call.GetMaxMemSlots = calls.GetMaxMemSlots
+call_of (call.AddMemRegion info) = calls.AddMemRegion (info_of info)
+call_of (call.RemoveMemRegion info) = calls.RemoveMemRegion (info_of info)
+call_of call.GetShmemConfig = calls.GetShmemConfig
+call_of (call.SetDeviceStateFd direction phase h) = calls.SetDeviceStateFd (record { direction = direction_number direction; phase = phase_number phase }) h
+call_of call.CheckDeviceState = calls.CheckDeviceState
+call_of call.PostcopyAdvise = calls.PostcopyAdvise
+call_of call.PostcopyListen = calls.PostcopyListen
+call_of call.PostcopyEnd = calls.PostcopyEnd
+call_of (call.PostcopyAckMemRegions r) = calls.PostcopyAckMemRegions r
+call_of (call.SetHdrFlags flags) = calls.SetHdrFlags flags.bits
+
+-- where regions are mapped
+abbrev pub bases_of : Option (Vec ℕ Global) → Option (List ℕ)
+bases_of None = None
+bases_of (Some bases) = Some bases.items
+
+-- an answer of the code
+abbrev pub answer_of : FrontendAnswer → Result (Value PlainHandle) Error
+answer_of (answer.Failed e) = Err (seen e)
+answer_of answer.Done = Ok calls.Nothing
+answer_of (answer.Number n) = Ok (calls.Number n)
+answer_of (answer.Bases bases) = Ok (calls.Bases (bases_of bases))
+answer_of (answer.Base base) = Ok (calls.Base base)
+answer_of (answer.Config part bytes) = Ok (calls.ConfigOf part bytes.items)
+answer_of (answer.Handle h) = Ok (calls.HandleOf h)
+answer_of (answer.Inflight area h) = Ok (calls.InflightOf area h)
+answer_of (answer.StateHandle h) = Ok (calls.StateHandle h)
+answer_of (answer.ShmemConfig c) = Ok (calls.ShmemOf c)
