@@ -1,11 +1,14 @@
+pub mod Replies
+pub mod Numbers
+pub mod Bare
+pub mod Taking
 pub mod OnWay
+pub mod Carrying
 pub mod Spent
-pub mod Asked
 pub mod Outcomes
 pub mod Calls
+pub mod Asked
 pub mod Served
-pub mod Carrying
 pub mod Exchange
-pub mod Sound
 pub mod Running
 pub mod Lockstep

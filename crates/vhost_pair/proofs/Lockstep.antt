@@ -3,9 +3,9 @@ use Rattle.std.proofs.Common.{◌≡◌, ℕ, ◌+◌, ◌<◌, ◌⊎◌, inl, 
 use Rattle.std.specs.Prelude.{⊤, sum_by}
 use Rattle.vhost_link.specs.Cuts.{retry, failure}
 use Rattle.vhost_link.specs.Mem.{AreGives}
-use Rattle.vhost_frontend_calls.specs.declared.call.FrontendCall as code
-use Rattle.vhost_frontend_calls.specs.declared.call.FrontendCall.TheVariants as call
-use Rattle.vhost_frontend_calls.specs.declared.answer.FrontendAnswer.{FrontendAnswer}
+use Rattle.vhost_pair.specs.declared.call.FrontendCall as code
+use Rattle.vhost_pair.specs.declared.call.FrontendCall.TheVariants as call
+use Rattle.vhost_pair.specs.declared.call.FrontendAnswer.{FrontendAnswer}
 use Rattle.vhost_pair.specs.declared.halt.Halt.{Halt}
 use Rattle.vhost_pair.specs.declared.halt.Halt.TheVariants as halt
 use Rattle.vhost_pair.specs.declared.halt.Stop.{Stop}

@@ -3,12 +3,11 @@ use Rattle.std.proofs.Common.{◌≡◌, ℕ, ◌+◌, suc, get_or, ◌<◌, Lis
 use Rattle.std.proofs.lemmas.List.{append-nil, take-append-drop}
 use Rattle.std.proofs.Math.Seq.{take-suc, drop-cons}
 use Rattle.std.specs.Prelude.{⊤, is_some, is_err, OnOk}
-use Rattle.vhost_frontend_calls.specs.declared.call.FrontendCall as code
-use Rattle.vhost_frontend_calls.specs.declared.answer.FrontendAnswer.{FrontendAnswer}
+use Rattle.vhost_pair.specs.declared.call.FrontendCall as code
+use Rattle.vhost_pair.specs.declared.call.FrontendAnswer.{FrontendAnswer}
 use Rattle.vhost_pair.specs.declared.halt.Halt.{Halt}
 use Rattle.vhost_pair.specs.Device.{Gives}
-use Rattle.vhost_frontend_calls.specs.Calls.{call_of}
-use Rattle.vhost_pair.specs.Joined.{View, Steps, StepsAll, RunsCalls}
+use Rattle.vhost_pair.specs.Joined.{View, Steps, StepsAll, RunsCalls, call_of}
 
 module _ {Dev : Type 0} (gives : Gives Dev) where
   -- each call was answered

@@ -1,7 +1,7 @@
 use Rattle.std.proofs.Common.{◌∙◌, sym, subst, arith, take, [], Ok, ◌+◌}
 use Rattle.std.proofs.lemmas.List.{take_all}
 use Rattle.std.proofs.lemmas.Result.{err_from_is_err_and}
-use Rattle.vhost_frontend_calls.specs.declared.call.FrontendCall.TheVariants.{GetFeatures}
+use Rattle.vhost_pair.specs.declared.call.FrontendCall.TheVariants.{GetFeatures}
 use Rattle.vhost_pair.proofs.Running.{Ran, ran-none, ran-all, ran-one, ran-to, found}
 use Rattle.vhost_pair.specs.Joined.{RunsCalls}
 use Rattle.vhost_pair.proofs.joined.Joined.run.Goals as goal
