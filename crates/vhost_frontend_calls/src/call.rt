@@ -92,7 +92,8 @@ fn lent_log(
     }
 }
 
-/// A call of the frontend with its arguments. A ring is named by its index.
+/// A call of the frontend with its arguments: each is the call of its name, and is refused where that is. A ring is named by
+/// its index.
 #[derive(Drop)]
 pub enum FrontendCall {
     GetFeatures,
