@@ -1,0 +1,12 @@
+//! Messages on a link, and answers of a frontend, as text of one line.
+#![tactic(auto)]
+
+mod answer;
+mod error;
+mod lists;
+mod message;
+#[cfg(test)]
+mod tests;
+
+pub use answer::Answer;
+pub use message::Message;
