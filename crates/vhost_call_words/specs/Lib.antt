@@ -1,0 +1,7 @@
+pub mod Words
+pub mod Number
+pub mod Arguments
+pub mod Shapes
+pub mod Calls
+pub mod Names
+pub mod Read

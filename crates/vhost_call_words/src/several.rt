@@ -1,0 +1,112 @@
+//! Calls of several arguments.
+
+ghost use Rattle.std.specs.Prelude.{◌≡◌};
+ghost use Rattle.vhost_call_words.specs.Calls.{set_log_base, set_vring_addr, get_inflight_fd, set_inflight_fd, set_device_state_fd};
+ghost use Rattle.vhost_call_words.specs.Names.{several_row};
+ghost use Rattle.vhost_call_words.specs.Read.{called, texts};
+ghost use Rattle.vhost_call_words.specs.Number.{u64};
+ghost use Rattle.vhost_call_words.specs.Shapes.{optional};
+
+use crate::argument::{area, direction, handle, phase};
+use crate::name::SeveralName;
+use crate::number::{index, number, number_32};
+use crate::region::only_region;
+use vhost_frontend_calls::{FrontendCall, LogRegion};
+use vhost_message::VringConfigData;
+
+/// The log's base, and where the log is kept.
+fn set_log_base(args: &[&str]) -> Option<FrontendCall>
+    ensures { called result ≡ set_log_base (texts args.now) }
+{
+    match args {
+        [base] => Some(FrontendCall::SetLogBase(number(base)?, None)),
+        [base, size, offset, mapping] => {
+            let base = number(base)?;
+            let region = LogRegion {
+                mmap_size: number(size)?,
+                mmap_offset: number(offset)?,
+                mmap_handle: Some(handle(mapping)?),
+            };
+            Some(FrontendCall::SetLogBase(base, Some(region)))
+        }
+        _ => None,
+    }
+}
+
+/// A number that may be left out.
+fn optional_number(args: &[&str]) -> Option<Option<u64>>
+    ensures { result ≡ optional u64 (texts args.now) }
+{
+    match args {
+        [] => Some(None),
+        [word] => Some(Some(number(word)?)),
+        _ => None,
+    }
+}
+
+/// How a ring is configured.
+fn set_vring_addr(args: &[&str]) -> Option<FrontendCall>
+    ensures { called result ≡ set_vring_addr (texts args.now) }
+{
+    let [ring, flags, descriptor, used, available, log @ ..] = args else {
+        return None;
+    };
+    let ring = index(ring)?;
+    let config = VringConfigData {
+        queue_max_size: 0,
+        queue_size: 0,
+        flags: number_32(flags)?,
+        desc_table_addr: number(descriptor)?,
+        used_ring_addr: number(used)?,
+        avail_ring_addr: number(available)?,
+        log_addr: optional_number(log)?,
+    };
+    Some(FrontendCall::SetVringAddr(ring, config))
+}
+
+/// The area that is asked for.
+fn get_inflight_fd(args: &[&str]) -> Option<FrontendCall>
+    ensures { called result ≡ get_inflight_fd (texts args.now) }
+{
+    let [size, offset, queues, descriptors] = args else {
+        return None;
+    };
+    let area = area(size, offset, queues, descriptors)?;
+    Some(FrontendCall::GetInflightFd(area))
+}
+
+/// The area that is given, and its handle.
+fn set_inflight_fd(args: &[&str]) -> Option<FrontendCall>
+    ensures { called result ≡ set_inflight_fd (texts args.now) }
+{
+    let [size, offset, queues, descriptors, mapping] = args else {
+        return None;
+    };
+    let area = area(size, offset, queues, descriptors)?;
+    Some(FrontendCall::SetInflightFd(area, handle(mapping)?))
+}
+
+/// Which way the state of the device goes, when, and over which handle.
+fn set_device_state_fd(args: &[&str]) -> Option<FrontendCall>
+    ensures { called result ≡ set_device_state_fd (texts args.now) }
+{
+    let [way, time, pipe] = args else { return None };
+    let way = direction(way)?;
+    let time = phase(time)?;
+    Some(FrontendCall::SetDeviceStateFd(way, time, handle(pipe)?))
+}
+
+/// The call of a name and its arguments. None where there is another count of arguments, or one of them is none.
+pub(crate) fn several_call(name: SeveralName, args: &[&str]) -> Option<FrontendCall>
+    ensures { called result ≡ several_row name (texts args.now) }
+{
+    match name {
+        SeveralName::SetLogBase => set_log_base(args),
+        SeveralName::SetVringAddr => set_vring_addr(args),
+        SeveralName::GetInflightFd => get_inflight_fd(args),
+        SeveralName::SetInflightFd => set_inflight_fd(args),
+        SeveralName::AddMemRegion => Some(FrontendCall::AddMemRegion(only_region(args)?)),
+        SeveralName::RemoveMemRegion => Some(FrontendCall::RemoveMemRegion(only_region(args)?)),
+        SeveralName::SetDeviceStateFd => set_device_state_fd(args),
+    }
+}
