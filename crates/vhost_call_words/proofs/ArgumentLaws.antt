@@ -1,5 +1,5 @@
 -- Laws of arguments.
-use Rattle.std.proofs.Common.{◌≡◌, ℕ, ◌↔◌, true, false, Bool, Option, Some, None, IsSome, IfSome, List, [], ◌∷◌, ◌++◌, option_map, bit_and, ◌==◌, nat_eq, refl, ap, sym, ◌∙◌, arith}
+use Rattle.std.proofs.Common.{◌≡◌, ℕ, ◌↔◌, true, false, Bool, Option, Some, None, IsSome, IfSome, option_map, bit_and, ◌==◌, refl}
 use Rattle.std.proofs.lemmas.Bool.{eq-eqb, eqb-true, false≢true}
 use Rattle.vhost_call_words.specs.Arguments.{within}
 

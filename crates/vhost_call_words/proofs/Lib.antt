@@ -4,3 +4,4 @@ pub mod OtherCounts
 pub mod RegionLaws
 pub mod NameLaws
 pub mod LineLaws
+pub mod Rows

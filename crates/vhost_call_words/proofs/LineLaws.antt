@@ -1,8 +1,8 @@
 -- Laws of lines.
-use Rattle.std.proofs.Common.{◌≡◌, ℕ, Bool, true, false, List, Option, None, if◌then◌else◌, refl}
+use Rattle.std.proofs.Common.{◌≡◌, ℕ, Bool, true, false, List, None, if◌then◌else◌, refl}
 use Rattle.std.proofs.lemmas.Str.{IsUtf8-from_is_utf8, is_utf8-from_IsUtf8}
 use Rattle.std.specs.Str.{is_utf8, IsUtf8}
-use Rattle.vhost_call_words.specs.Calls.{Call, call_named, call_in}
+use Rattle.vhost_call_words.specs.Calls.{call_named, call_in}
 use Rattle.vhost_call_words.specs.Words.{words}
 
 -- a line that is a text

@@ -1,5 +1,5 @@
 -- Laws of names.
-use Rattle.std.proofs.Common.{◌≡◌, ℕ, Bool, true, false, List, [], ◌∷◌, Option, Some, None, option_map, if◌then◌else◌, refl, ap, sym, ◌∙◌}
+use Rattle.std.proofs.Common.{◌≡◌, ℕ, Bool, true, false, List, [], ◌∷◌, Option, Some, None, option_map, if◌then◌else◌, refl, sym}
 use Rattle.std.specs.Str.{bytes_eq}
 use Rattle.vhost_call_words.specs.Arguments.{◌>>=◌}
 use Rattle.vhost_call_words.specs.Calls.{Call, calls, named}

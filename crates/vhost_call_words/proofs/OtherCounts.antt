@@ -1,5 +1,5 @@
 -- Lists of another length than a call takes: they ask for no call.
-use Rattle.std.proofs.Common.{◌≡◌, ℕ, ◌≤◌, ◌<◌, List, [], ◌∷◌, length, Option, None, refl, arith}
+use Rattle.std.proofs.Common.{◌≡◌, ℕ, ◌<◌, List, [], ◌∷◌, length, Option, None, refl, arith}
 use Rattle.std.specs.Borrow.{Bor}
 use Rattle.vhost_protocol.specs.FrontendCall.{SetFeatures, SetProtocolFeatures, GetVringBase, SetLogFd, SetBackendRequestFd, GetSharedObject, PostcopyAckMemRegions, SetHdrFlags, SetVringNum, SetVringBase, SetVringCall, SetVringKick, SetVringErr, SetVringEnable}
 use Rattle.vhost_call_words.specs.Arguments.{switch, protocol_features, handle, request, object_name}

@@ -1,5 +1,5 @@
 -- Laws of regions, of five words each.
-use Rattle.std.proofs.Common.{◌≡◌, ℕ, ◌+◌, ◌<◌, ◌≤◌, List, [], ◌∷◌, ◌++◌, ◌-◌, min, map, take, drop, length, Option, Some, None, refl, ap, sym, ◌∙◌, append_assoc, arith}
+use Rattle.std.proofs.Common.{◌≡◌, ℕ, ◌<◌, ◌≤◌, List, [], ◌∷◌, ◌++◌, ◌-◌, min, map, take, drop, length, Option, Some, None, refl, ap, sym, ◌∙◌, append_assoc, arith}
 use Rattle.std.proofs.lemmas.List.{map-append, take-append-drop, take_all, length-drop, length-take-le}
 use Rattle.std.specs.Borrow.{Bor}
 use Rattle.vhost_link.specs.declared.plain.PlainHandle.{PlainHandle}

@@ -1,5 +1,5 @@
 -- A word as an argument that is more than a number.
-use Rattle.std.specs.Prelude.{ℕ, Bool, true, false, List, [], ◌∷◌, Option, Some, None, option_map, option_and_then, bit_and, ◌==◌, nat_lt, if◌then◌else◌, Result}
+use Rattle.std.specs.Prelude.{ℕ, Bool, true, false, List, [], ◌∷◌, Option, Some, None, option_map, option_and_then, bit_and, ◌==◌, nat_lt, if◌then◌else◌}
 use Rattle.std.specs.Result.{result_ok}
 use Rattle.hex.specs.Hex.{decode_of, decode_sized}
 use Rattle.vhost_link.specs.declared.handle.Kind.TheVariants.{NoSocket, UnixStream}

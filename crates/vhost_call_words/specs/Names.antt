@@ -1,6 +1,6 @@
 -- The names of calls, by how many arguments a call takes.
-use Rattle.std.specs.Prelude.{ℕ, List, [], ◌∷◌, ◌++◌, map, Option, codes}
-use Rattle.vhost_protocol.specs.FrontendCall.{GetFeatures, SetOwner, ResetOwner, GetProtocolFeatures, GetQueueNum, ResetDevice, GetMaxMemSlots, GetShmemConfig, CheckDeviceState, PostcopyAdvise, PostcopyListen, PostcopyEnd, SetFeatures, SetProtocolFeatures, GetVringBase, SetLogFd, SetBackendRequestFd, GetSharedObject, PostcopyAckMemRegions, SetHdrFlags, SetVringNum, SetVringBase, SetVringCall, SetVringKick, SetVringErr, SetVringEnable, SetLogBase, SetVringAddr, GetInflightFd, SetInflightFd, AddMemRegion, RemoveMemRegion, SetDeviceStateFd, SetMemTable, GetConfig, SetConfig}
+use Rattle.std.specs.Prelude.{ℕ, List, [], ◌∷◌, ◌++◌, Option, codes}
+use Rattle.vhost_protocol.specs.FrontendCall.{GetFeatures, SetOwner, ResetOwner, GetProtocolFeatures, GetQueueNum, ResetDevice, GetMaxMemSlots, GetShmemConfig, CheckDeviceState, PostcopyAdvise, PostcopyListen, PostcopyEnd, SetFeatures, SetProtocolFeatures, GetVringBase, SetLogFd, SetBackendRequestFd, GetSharedObject, PostcopyAckMemRegions, SetHdrFlags, SetVringNum, SetVringBase, SetVringCall, SetVringKick, SetVringErr, SetVringEnable}
 use Rattle.vhost_call_words.specs.Number.{u64, u32, u16}
 use Rattle.vhost_call_words.specs.Arguments.{switch, protocol_features, handle, request, object_name}
 use Rattle.vhost_call_words.specs.Shapes.{bare, one, two}

@@ -3,7 +3,6 @@ use Rattle.std.specs.Prelude.{ℕ, List, map, Option, option_map, Vec}
 use Rattle.std.specs.Borrow.{Bor}
 use Rattle.std.specs.Global.{Global}
 use Rattle.vhost_link.specs.declared.plain.PlainHandle.{PlainHandle}
-use Rattle.vhost_message.specs.Transfer.{direction_number, phase_number}
 use Rattle.vhost_protocol.specs.FrontendCall.{Info}
 use Rattle.vhost_frontend_calls.specs.declared.call.FrontendCall as code
 use Rattle.vhost_frontend_calls.specs.declared.call.RegionInfo.{RegionInfo}

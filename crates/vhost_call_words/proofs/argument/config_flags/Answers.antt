@@ -1,5 +1,5 @@
 use Rattle.bitflags.specs.Sets.{known_from}
-use Rattle.std.proofs.Common.{◌∙◌, sym, ap}
+use Rattle.std.proofs.Common.{◌∙◌, ap}
 use Rattle.vhost_call_words.specs.Arguments.{◌>>=◌, within}
 use Rattle.vhost_call_words.proofs.ArgumentLaws.{within-known}
 use Rattle.vhost_call_words.proofs.argument.config_flags.Goals as goal

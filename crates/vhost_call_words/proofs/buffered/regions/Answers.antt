@@ -1,4 +1,4 @@
-use Rattle.std.proofs.Common.{◌≡◌, sym, ◌∙◌, rules, tests}
+use Rattle.std.proofs.Common.{◌∙◌, rules, tests}
 use Rattle.vhost_call_words.proofs.RegionLaws.{regions-next, regions-end}
 use Rattle.vhost_call_words.proofs.buffered.regions.Goals as goal
 

@@ -1,4 +1,4 @@
-use Rattle.std.proofs.Common.{◌≡◌, ◌++◌, length, map}
+use Rattle.std.proofs.Common.{◌≡◌, length, map}
 use Rattle.vhost_frontend_calls.specs.Calls.{info_of}
 use Rattle.vhost_call_words.specs.Calls.{regions}
 use Rattle.vhost_call_words.specs.Read.{texts}
