@@ -15,7 +15,7 @@ infixl 10 ◌>>=◌
 abbrev pub ◌>>=◌ : {A B : Type 0} → Option A → (A → Option B) → Option B
 o >>= f = option_and_then f o
 
--- off or on
+-- off, which is 0, or on, which is 1
 abbrev pub switch_of : ℕ → Option Bool
 switch_of n = if n == 0 then Some false else if n == 1 then Some true else None
 

@@ -28,9 +28,11 @@ abbrev pub only_region : List (List ℕ) → Option (Info PlainHandle)
 only_region (guest ∷ size ∷ user ∷ offset ∷ mapping ∷ []) = region guest size user offset mapping
 only_region _ = None
 
+-- a region to add
 abbrev pub add_mem_region : List (List ℕ) → Option Call
 add_mem_region args = option_map AddMemRegion (only_region args)
 
+-- a region to take away
 abbrev pub remove_mem_region : List (List ℕ) → Option Call
 remove_mem_region args = option_map RemoveMemRegion (only_region args)
 
@@ -43,6 +45,7 @@ regions (guest ∷ size ∷ user ∷ offset ∷ mapping ∷ args) = do
   Some (info ∷ infos)
 regions _ = None
 
+-- a table of memory, of any number of regions
 abbrev pub set_mem_table : List (List ℕ) → Option Call
 set_mem_table args = option_map SetMemTable (regions args)
 
@@ -78,10 +81,12 @@ area size offset queues descriptors = do
   d ← u16 descriptors
   Some (record { mmap_size = s; mmap_offset = o; num_queues = q; queue_size = d })
 
+-- the area that is asked for
 abbrev pub get_inflight_fd : List (List ℕ) → Option Call
 get_inflight_fd (size ∷ offset ∷ queues ∷ descriptors ∷ []) = option_map GetInflightFd (area size offset queues descriptors)
 get_inflight_fd _ = None
 
+-- the area that is given, and its handle
 abbrev pub set_inflight_fd : List (List ℕ) → Option Call
 set_inflight_fd (size ∷ offset ∷ queues ∷ descriptors ∷ mapping ∷ []) = do
   a ← area size offset queues descriptors
@@ -92,12 +97,15 @@ set_inflight_fd _ = None
 abbrev pub buffer : ℕ → List ℕ
 buffer size = replicate (min size 4096) 0
 
+-- offset and size of a part of configuration space, and its flags
 abbrev pub get_config : List (List ℕ) → Option Call
 get_config = three u32 u32 config_flags (λ offset size flags. GetConfig offset size flags (buffer size))
 
+-- the offset of a part of configuration space, its flags and its bytes
 abbrev pub set_config : List (List ℕ) → Option Call
 set_config = three u32 config_flags byte_string SetConfig
 
+-- which way the state of the device goes, in which phase, and over which handle
 abbrev pub set_device_state_fd : List (List ℕ) → Option Call
 set_device_state_fd = three direction phase handle (λ d p h. SetDeviceStateFd (record { direction = d; phase = p }) h)
 

@@ -79,6 +79,7 @@ buffered_names =
     ∷ (codes "set_config", buffered_name.SetConfig)
     ∷ []
 
+-- the call of each, of its arguments
 abbrev pub bare_row : BareName → List (List ℕ) → Option Call
 bare_row bare_name.GetFeatures args = bare GetFeatures args
 bare_row bare_name.SetOwner args = bare SetOwner args
@@ -93,6 +94,7 @@ bare_row bare_name.PostcopyAdvise args = bare PostcopyAdvise args
 bare_row bare_name.PostcopyListen args = bare PostcopyListen args
 bare_row bare_name.PostcopyEnd args = bare PostcopyEnd args
 
+-- the call of each, of its arguments
 abbrev pub single_row : SingleName → List (List ℕ) → Option Call
 single_row single_name.SetFeatures args = one u64 SetFeatures args
 single_row single_name.SetProtocolFeatures args = one protocol_features SetProtocolFeatures args
@@ -103,6 +105,7 @@ single_row single_name.GetSharedObject args = one object_name GetSharedObject ar
 single_row single_name.PostcopyAckMemRegions args = one request PostcopyAckMemRegions args
 single_row single_name.SetHdrFlags args = one u32 SetHdrFlags args
 
+-- the call of each, of its arguments
 abbrev pub ring_row : RingName → List (List ℕ) → Option Call
 ring_row ring_name.SetVringNum args = two u64 u16 SetVringNum args
 ring_row ring_name.SetVringBase args = two u64 u16 SetVringBase args
@@ -111,6 +114,7 @@ ring_row ring_name.SetVringKick args = two u64 handle SetVringKick args
 ring_row ring_name.SetVringErr args = two u64 handle SetVringErr args
 ring_row ring_name.SetVringEnable args = two u64 switch SetVringEnable args
 
+-- the call of each, of its arguments
 abbrev pub several_row : SeveralName → List (List ℕ) → Option Call
 several_row several_name.SetLogBase args = set_log_base args
 several_row several_name.SetVringAddr args = set_vring_addr args
@@ -120,6 +124,7 @@ several_row several_name.AddMemRegion args = add_mem_region args
 several_row several_name.RemoveMemRegion args = remove_mem_region args
 several_row several_name.SetDeviceStateFd args = set_device_state_fd args
 
+-- the call of each, of its arguments
 abbrev pub buffered_row : BufferedName → List (List ℕ) → Option Call
 buffered_row buffered_name.SetMemTable args = set_mem_table args
 buffered_row buffered_name.GetConfig args = get_config args

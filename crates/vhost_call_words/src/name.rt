@@ -75,7 +75,7 @@ pub(crate) enum Name {
     Buffered(BufferedName),
 }
 
-/// The name, as a word, of a call without arguments.
+/// A word as the name of a call without arguments. None where it is another.
 fn bare_name(word: &str) -> Option<BareName>
     ensures { result ≡ named bare_names word.now }
 {
@@ -96,7 +96,7 @@ fn bare_name(word: &str) -> Option<BareName>
     }
 }
 
-/// The name, as a word, of a call of one argument.
+/// A word as the name of a call of one argument. None where it is another.
 fn single_name(word: &str) -> Option<SingleName>
     ensures { result ≡ named single_names word.now }
 {
@@ -113,7 +113,7 @@ fn single_name(word: &str) -> Option<SingleName>
     }
 }
 
-/// The name, as a word, of a call of a ring's index and one argument more.
+/// A word as the name of a call of a ring's index and one argument more. None where it is another.
 fn ring_name(word: &str) -> Option<RingName>
     ensures { result ≡ named ring_names word.now }
 {
@@ -128,7 +128,7 @@ fn ring_name(word: &str) -> Option<RingName>
     }
 }
 
-/// The name, as a word, of a call of several arguments.
+/// A word as the name of a call of several arguments. None where it is another.
 fn several_name(word: &str) -> Option<SeveralName>
     ensures { result ≡ named several_names word.now }
 {
@@ -144,7 +144,7 @@ fn several_name(word: &str) -> Option<SeveralName>
     }
 }
 
-/// The name, as a word, of a call that brings a list.
+/// A word as the name of a call that brings a list. None where it is another.
 fn buffered_name(word: &str) -> Option<BufferedName>
     ensures { result ≡ named buffered_names word.now }
 {
@@ -156,7 +156,7 @@ fn buffered_name(word: &str) -> Option<BufferedName>
     }
 }
 
-/// The name that a word is.
+/// A word as the name of a call. None where it is none.
 pub(crate) fn name_of(word: &str) -> Option<Name>
     ensures { result ≡ named names word.now }
 {
