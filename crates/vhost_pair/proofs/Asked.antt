@@ -1,29 +1,32 @@
 -- A request that was sent, what was carried, and an answer that was taken.
-use Rattle.std.proofs.Common.{◌≡◌, ◌≤◌, true, false, List, [], ◌∷◌, ◌++◌, length, Option, None, refl, sym, ◌∙◌, ap, subst, append_assoc}
+use Rattle.std.proofs.Common.{◌≡◌, ◌⊎◌, inl, inr, true, false, List, [], ◌∷◌, ◌++◌, Option, None, Ok, Err, refl, sym, ◌∙◌, ap, append_assoc}
 use Rattle.std.proofs.lemmas.List.{append-nil}
+use Rattle.vhost_message.specs.declared.error.Error as declared
+use Rattle.vhost_message.specs.declared.error.Error.TheVariants as error
 use Rattle.vhost_message.specs.declared.frontend_req.FrontendReq.{FrontendReq}
 use Rattle.vhost_message.specs.FrontendReq.{request_number}
 use Rattle.vhost_message.specs.Header.{Header}
 use Rattle.vhost_message.specs.MsgHeader.{fields_of}
 use Rattle.vhost_protocol.specs.AnswerTable.{Answered}
-use Rattle.vhost_protocol.specs.Ask.{Awaited, Sends, ask}
+use Rattle.vhost_protocol.specs.Ask.{Awaited, Refuses, Sends, ask}
+use Rattle.vhost_protocol.specs.Error.{seen}
 use Rattle.vhost_protocol.specs.FrontendCall.{FrontendCall, Frontend}
-use Rattle.vhost_protocol.specs.Session.{Session}
 use Rattle.vhost_protocol.specs.Take.{take}
 use Rattle.vhost_protocol.specs.Written.{Written, head_of, written_cells}
 use Rattle.vhost_link.specs.declared.plain.PlainHandle.{PlainHandle}
 use Rattle.vhost_link.specs.Ends.{Ends}
 use Rattle.vhost_link.specs.Mem.{event}
 use Rattle.vhost_connection.specs.Talk.{State}
-use Rattle.vhost_pair.specs.declared.frontend.asked.Sent.{Sent}
-use Rattle.vhost_pair.specs.Session.{awaited_of}
-use Rattle.vhost_pair.specs.Asking.{Asks, Takes, unread, read}
+use Rattle.vhost_frontend_core.specs.Asking as asking
+use Rattle.vhost_frontend_core.specs.Asking.{AsksWithRoom, Goes}
+use Rattle.vhost_frontend_core.specs.declared.asked.Sent.{Sent}
+use Rattle.vhost_frontend_core.specs.Session.{awaited_of}
+use Rattle.vhost_frontend_core.specs.Taking.{Reads, unread, read}
 use Rattle.vhost_pair.specs.OnWay.{coming, gone, Carries}
 use Rattle.vhost_pair.specs.Joined.{IsUsed}
-use Rattle.vhost_pair.specs.Sides.{cuts_of, IsAtRest}
+use Rattle.vhost_pair.specs.Sides.{cuts_of}
 use Rattle.vhost_pair.proofs.OnWay.{coming-handed, coming-cut, gone-taken}
-use Rattle.vhost_pair.proofs.Outcomes.{IsProper, sendable, few-written}
-use Rattle.vhost_pair.proofs.Spent.{talk-used, used-none}
+use Rattle.vhost_pair.proofs.Spent.{Faults, faults, no-memory, talk-used, used-none}
 
 abbrev pub End : Type 0
 End = State Ends PlainHandle
@@ -32,29 +35,15 @@ pub both-empty : {A : Type 0} (xs ys : List A) → xs ++ ys ≡ [] → (xs ≡ [
 both-empty [] ys e = (refl, e)
 both-empty (x ∷ xs) ys e = absurd (cc e)
 
--- ---- both sides at rest
-
-module _ (fe he : End) (f : Frontend) (aw : Awaited) (s : Session) (rest : IsAtRest fe he f aw s) where
-  pub nothing-gone : gone fe ≡ []
-  nothing-gone = (both-empty (gone fe) (coming he) rest.in_step.no_request).0
-
-  pub nothing-served : gone he ≡ []
-  nothing-served = (both-empty (gone he) (coming fe) rest.in_step.no_reply).0
-
-  pub nothing-coming : coming fe ≡ []
-  nothing-coming = (both-empty (gone he) (coming fe) rest.in_step.no_reply).1
-
-  pub nothing-asked : coming he ≡ []
-  nothing-asked = (both-empty (gone fe) (coming he) rest.in_step.no_request).1
-
 -- ---- a request that was sent
 
-module _ (call : FrontendCall PlainHandle) (fe : End) (f : Frontend) (sent : Sent) (fe' : End) (f' : Frontend) (aw' : Awaited) where
+module _ (call : FrontendCall PlainHandle) (fe : End) (f : Frontend) (before : Awaited) where
   -- What was asked.
-  pub record IsAsked (message : Written FrontendReq PlainHandle) : Type 0 where
+  pub record IsAsked (sent : Sent) (fe' : End) (f' : Frontend) (aw' : Awaited) : Type 0 where
+    pub message : Written FrontendReq PlainHandle
     pub asked : ask f call ≡ Sends message aw' f'
-    pub request : gone fe' ≡ written_cells request_number message
-    pub coming : coming fe' ≡ []
+    pub request : gone fe' ≡ gone fe ++ written_cells request_number message
+    pub coming : coming fe' ≡ coming fe
     pub awaits : awaited_of sent.awaited ≡ aw'
     pub header : fields_of sent.request ≡ head_of request_number message
     pub broken : fe'.broken ≡ None
@@ -63,24 +52,41 @@ module _ (call : FrontendCall PlainHandle) (fe : End) (f : Frontend) (sent : Sen
     pub budget : fe'.budget ≡ fe.budget
     pub used : IsUsed (cuts_of fe.link) (cuts_of fe'.link)
 
-  pub is-asked : gone fe ≡ [] → coming fe ≡ [] → (a : Asks event call fe f sent fe' f' aw') → IsAsked a.message
-  is-asked none_gone none_coming a = record {
-    asked = a.asked;
-    request = gone-taken fe fe' _ a.serves.talks ∙ ap (λ xs. xs ++ written_cells request_number a.message) none_gone;
-    coming = sym (coming-handed fe fe' _ a.serves.talks) ∙ none_coming;
-    awaits = a.awaits;
-    header = a.header;
-    broken = a.serves.after;
-    faulted = a.serves.faulted;
-    list = a.list;
-    budget = a.serves.talks.budget;
-    used = talk-used fe fe' _ a.serves.talks;
+  went-asked : {w : Written FrontendReq PlainHandle} {aw' : Awaited} {f' : Frontend} {sent : Sent} {fe' : End} → ask f call ≡ Sends w aw' f' → Goes event w aw' fe sent fe' → IsAsked sent fe' f' aw'
+  went-asked {w} {fe' = fe'} e g = record {
+    message = w;
+    asked = e;
+    request = gone-taken fe fe' _ g.serves.talks;
+    coming = sym (coming-handed fe fe' _ g.serves.talks);
+    awaits = g.awaits;
+    header = g.header;
+    broken = g.serves.after;
+    faulted = g.serves.faulted;
+    list = g.list;
+    budget = g.serves.talks.budget;
+    used = talk-used fe fe' _ g.serves.talks;
   }
 
-  -- at most one message was sent
-  pub few-gone : IsProper call → gone fe ≡ [] → coming fe ≡ [] → Asks event call fe f sent fe' f' aw' → length (gone fe') ≤ 4108
-  few-gone proper none_gone none_coming a =
-      subst (λ cells. length cells ≤ 4108) (sym (is-asked none_gone none_coming a).request) (few-written a.message (sendable call proper f a.message aw' f' a.asked).size)
+  pub is-asked : {sent : Sent} {fe' : End} {f' : Frontend} {aw' : Awaited} → AsksWithRoom event (ask f call) fe f before (Ok sent) fe' f' aw' → IsAsked sent fe' f' aw'
+  is-asked (asking.roomy (asking.goes e g)) = went-asked e g
+
+  -- What came of it where nothing was asked: it was refused, or the link failed; both changed neither the session nor what is awaited.
+  pub record IsUnasked (e : declared.Error) (fe' : End) (f' : Frontend) (aw' : Awaited) : Type 0 where
+    pub session : f' ≡ f
+    pub awaits : aw' ≡ before
+    pub why : ((ask f call ≡ Refuses (seen e)) × (fe' ≡ fe)) ⊎ Faults fe fe'
+
+  pub is-unasked : {e : declared.Error} {fe' : End} {f' : Frontend} {aw' : Awaited} → (e ≡ error.OutOfMemory → ⊥) → fe.broken ≡ None → fe.list ≡ true
+      → AsksWithRoom event (ask f call) fe f before (Err e) fe' f' aw' → IsUnasked e fe' f' aw'
+  is-unasked other whole list (asking.roomy (asking.refuses r)) = record { session = refl; awaits = refl; why = inl (r, refl) }
+  is-unasked {fe' = fe'} other whole list (asking.roomy (asking.fails {e = x} s k)) = record { session = refl; awaits = refl; why = inr (faults fe fe' false x k whole list) }
+  is-unasked other whole list (asking.no_room s) = absurd (other refl)
+
+  -- where there was no memory, nothing changed
+  pub unroomy : {fe' : End} {f' : Frontend} {aw' : Awaited} → fe.list ≡ true → AsksWithRoom event (ask f call) fe f before (Err error.OutOfMemory) fe' f' aw' → (fe' ≡ fe) × (f' ≡ f) × (aw' ≡ before)
+  unroomy list (asking.roomy (asking.refuses r)) = (refl, refl, refl)
+  unroomy {fe' = fe'} list (asking.roomy (asking.fails s k)) = absurd (no-memory fe fe' false _ k list refl)
+  unroomy list (asking.no_room s) = (refl, refl, refl)
 
 -- ---- what was carried
 
@@ -105,9 +111,9 @@ module _ (from to from' to' : End) (k : Carries from to from' to') where
 
 -- ---- an answer that was taken
 
-module _ (call : FrontendCall PlainHandle) (awaited : Awaited) (sent : Header) (f : Frontend) (fe fe' : End) where
+module _ (call : FrontendCall PlainHandle) (awaited : Awaited) (sent : Header) (f : Frontend) (fe : End) (x : Option (Answered PlainHandle)) where
   -- The answer is that of all that was coming.
-  pub record IsTaken (x : Option (Answered PlainHandle)) : Type 0 where
+  pub record IsTaken (fe' : End) : Type 0 where
     pub cut : take call awaited sent f (coming fe) ≡ (x, coming fe')
     pub gone : gone fe' ≡ gone fe
     pub used : IsUsed (cuts_of fe.link) (cuts_of fe'.link)
@@ -115,16 +121,16 @@ module _ (call : FrontendCall PlainHandle) (awaited : Awaited) (sent : Header) (
     pub faulted : fe'.faulted ≡ false
     pub budget : fe'.budget ≡ fe.budget
 
-  pub is-taken : (x : Option (Answered PlainHandle)) → fe.broken ≡ None → fe.faulted ≡ false → Takes event call awaited sent f fe x fe' → IsTaken x
-  is-taken x whole sound (unread here same) = record {
-    cut = here (coming fe) ∙ ap {A = End} (λ e. (x, coming e)) (sym same);
-    gone = ap {A = End} (λ e. gone e) same;
-    used = used-none (cuts_of fe.link) (cuts_of fe'.link) (ap {A = End} (λ e. cuts_of e.link) same);
-    broken = ap {A = End} (λ e. e.broken) same ∙ whole;
-    faulted = ap {A = End} (λ e. e.faulted) same ∙ sound;
-    budget = ap {A = End} (λ e. e.budget) same;
+  pub is-taken : {fe' : End} → fe.broken ≡ None → fe.faulted ≡ false → Reads event call awaited sent f fe x fe' → IsTaken fe'
+  is-taken whole sound (unread here) = record {
+    cut = here (coming fe);
+    gone = refl;
+    used = used-none (cuts_of fe.link) (cuts_of fe.link) refl;
+    broken = whole;
+    faulted = sound;
+    budget = refl;
   }
-  is-taken x whole sound (read h) = record {
+  is-taken {fe' = fe'} whole sound (read h) = record {
     cut = coming-cut fe fe' _ h.serves.talks (take call awaited sent f) h.cells h.ended x refl h.splits;
     gone = gone-taken fe fe' _ h.serves.talks ∙ append-nil (gone fe);
     used = talk-used fe fe' _ h.serves.talks;

@@ -8,7 +8,7 @@ use Rattle.vhost_message.specs.declared.records.memory.VhostUserMemoryRegion.{Vh
 use Rattle.vhost_message.specs.FrontendReq.{request_of, request_number, request_of-request_number}
 use Rattle.vhost_message.specs.Header.{header_text}
 use Rattle.vhost_message.specs.LongRecords.{shmem_config-length}
-use Rattle.vhost_protocol.specs.Agreement.{IsNegotiated, Fits, IsKnown}
+use Rattle.vhost_protocol.specs.Agreement.{IsNegotiated, IsKnown}
 use Rattle.vhost_protocol.specs.Ask.{Asked, Awaited, Sends, ask, Shape, AnEmpty, AU64, TheRegions, ARegion, AShmem, ARingState, AConfig, AnInflight, ALog}
 use Rattle.vhost_protocol.specs.Codes.{wanted}
 use Rattle.vhost_protocol.specs.DeviceCall.{Call, Answer}
@@ -16,7 +16,7 @@ use Rattle.vhost_protocol.specs.Error.{Error}
 use Rattle.std.specs.Prelude.{Result}
 use Rattle.vhost_protocol.specs.FrontendCall.{FrontendCall, Frontend, SetMemTable, GetConfig}
 use Rattle.vhost_protocol.specs.Handler.{Follows, Meets}
-use Rattle.vhost_protocol.specs.Heard.{CallFits, IsNamedWell, IsAwaitedBy, AsksPlainly, AsksSendable, IsSendable, IsGoodReply, shape_of}
+use Rattle.vhost_protocol.specs.Heard.{IsAwaitedBy, AsksPlainly, AsksSendable, IsSendable, IsGoodReply, shape_of}
 use Rattle.vhost_protocol.specs.Joined.{AgreeOn, read_as}
 use Rattle.vhost_protocol.specs.Laws.{IsReplyOf, IsTableOf, IsConfigOf, PayloadFits}
 use Rattle.vhost_protocol.specs.Row.{row}
@@ -36,12 +36,7 @@ use Rattle.vhost_link.specs.declared.plain.PlainHandle.{PlainHandle}
 use Rattle.vhost_link.proofs.Cells.{length-carrying}
 use Rattle.vhost_backend_req_handler.specs.Serving.{fitting}
 use Rattle.vhost_pair.specs.Device.{Gives, opens_backend, opens_gpu}
-
--- what a call is made of has the sizes of its types
-pub record IsProper (call : FrontendCall PlainHandle) : Type 0 where
-  pub named : IsNamedWell call
-  pub bits : Fits call
-  pub small : CallFits call
+use Rattle.vhost_frontend_calls.specs.Halves.{IsProper}
 
 -- ---- messages are short
 

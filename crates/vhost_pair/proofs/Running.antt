@@ -2,12 +2,13 @@
 use Rattle.std.proofs.Common.{◌≡◌, ℕ, ◌+◌, suc, get_or, ◌<◌, List, [], ◌∷◌, ◌++◌, length, take, drop, Option, Some, None, Result, Ok, Err, refl, sym, ◌∙◌, ap, subst, arith, inl, append_assoc, false}
 use Rattle.std.proofs.lemmas.List.{append-nil, take-append-drop}
 use Rattle.std.proofs.Math.Seq.{take-suc, drop-cons}
-use Rattle.std.specs.Prelude.{⊤, is_some, is_err, OnOk}
-use Rattle.vhost_pair.specs.declared.call.FrontendCall as code
-use Rattle.vhost_pair.specs.declared.call.FrontendAnswer.{FrontendAnswer}
+use Rattle.std.specs.Prelude.{⊤, is_some, is_err, OnOk, IfOk}
+use Rattle.vhost_frontend_calls.specs.declared.call.FrontendCall as code
+use Rattle.vhost_frontend_calls.specs.declared.answer.FrontendAnswer.{FrontendAnswer}
 use Rattle.vhost_pair.specs.declared.halt.Halt.{Halt}
 use Rattle.vhost_pair.specs.Device.{Gives}
-use Rattle.vhost_pair.specs.Joined.{View, Steps, StepsAll, RunsCalls, call_of}
+use Rattle.vhost_frontend_calls.specs.Calls.{call_of}
+use Rattle.vhost_pair.specs.Joined.{View, Steps, StepsAll, RunsCalls}
 
 module _ {Dev : Type 0} (gives : Gives Dev) where
   -- each call was answered
@@ -75,6 +76,11 @@ module _ {Dev : Type 0} (gives : Gives Dev) (calls : List code.FrontendCall) (i 
   pub ran-to : (old mid new : View Dev) (before after : List FrontendAnswer) (h : Halt)
       → Ran gives old (take i calls) before after mid → Steps gives mid (call_of (get_or calls i d)) (Err h) new → RunsCalls gives old calls before (Err h) after new
   ran-to old mid new before after h r step = subst (λ cs. RunsCalls gives old cs before (Err h) after new) cut-there (ran-until gives old mid new (take i calls) before after (get_or calls i d) (drop (suc i) calls) h r step)
+
+-- what holds of a success, where there is no error
+pub held : {A E : Type 0} (r : Result A E) (P : Type 0) → is_err r ≡ false → IfOk r (λ a. P) → P
+held (Ok a) P e p = p
+held (Err x) P e p = absurd (cc e)
 
 pub found : {A E : Type 0} (r : Result A E) (P : Type 0) → is_err r ≡ false → OnOk r P → P
 found (Ok a) P e p = p

@@ -1,5 +1,5 @@
 -- A request that was served.
-use Rattle.std.proofs.Common.{◌≡◌, ◌⊎◌, inl, inr, Bool, true, false, cond, [], ◌++◌, Option, Some, None, Result, Ok, Err, refl, sym, ◌∙◌, ap, subst}
+use Rattle.std.proofs.Common.{◌≡◌, ◌⊎◌, inl, inr, Bool, true, false, cond, List, [], ◌++◌, Option, Some, None, Result, Ok, Err, refl, sym, ◌∙◌, ap, subst}
 use Rattle.std.specs.Prelude.{⊤}
 use Rattle.std.proofs.lemmas.List.{append-nil}
 use Rattle.vhost_message.specs.declared.error.Error as declared
@@ -13,10 +13,13 @@ use Rattle.vhost_protocol.specs.Joined.{is_last, is_end, read_as}
 use Rattle.vhost_protocol.specs.Run as run
 use Rattle.vhost_protocol.specs.Served.{Served, Silent, Acknowledged, Replied, reply, cells_of}
 use Rattle.vhost_protocol.specs.Session.{Session}
-use Rattle.vhost_protocol.specs.Split.{split}
+use Rattle.vhost_protocol.specs.Row.{row}
+use Rattle.vhost_protocol.specs.Split.{split, Message}
 use Rattle.vhost_protocol.specs.Step.{Outcome}
-use Rattle.vhost_protocol.specs.Stream.{bytes}
+use Rattle.vhost_protocol.specs.Stream.{Cell, bytes}
 use Rattle.vhost_protocol.specs.Written.{Written, written_cells}
+use Rattle.vhost_protocol.proofs.FollowLaws.{followed-mark}
+use Rattle.vhost_protocol.proofs.RowLaws.{rows-keep}
 use Rattle.vhost_protocol.proofs.TextLaws.{IsSendable, written-split}
 use Rattle.vhost_link.specs.declared.plain.PlainHandle.{PlainHandle}
 use Rattle.vhost_link.specs.Mem.{event}
@@ -81,6 +84,19 @@ module _ {Dev : Type 0} (gives : Gives Dev) (he he' : End) (s s' : Session) (d d
         budget = h.talks.budget;
       }
 
+-- the mark of a session stays
+module _ {Dev : Type 0} (gives : Gives Dev) (he he' : End) (s s' : Session) (d d' : Dev) where
+  handles-mark : (outcome : Result (Message FrontendReq PlainHandle) Error) (r : Result ⊤ Error) (written : List (Cell PlainHandle))
+      → run.Handles request_of wanted (λ (t : Session). t.failed) (MeetsRow (fitting gives) opens_backend opens_gpu) s d outcome r written s' d' → s'.failed ≡ s.failed
+  handles-mark (Err e) r written h = ap {A = Session} (λ t. t.failed) h.2
+  handles-mark (Ok m) r written h = ap {A = Session} (λ t. t.failed) h.4 ∙ followed-mark (fitting gives) opens_backend opens_gpu s d (row s m) h.0 d' (rows-keep PlainHandle _ _ m.request s m) h.1
+
+  pub handled-mark : (r : Result ⊤ Error) → Handled event gives opens_backend opens_gpu he s d r he' s' d' → s.failed ≡ None → s'.failed ≡ None
+  handled-mark r h failed =
+      let sv : run.ServesUnless request_of wanted (λ (t : Session). t.failed) (MeetsRow (fitting gives) opens_backend opens_gpu) None s d h.move.handed r h.move.taken s' d' =
+      subst (λ x. run.ServesUnless request_of wanted (λ (t : Session). t.failed) (MeetsRow (fitting gives) opens_backend opens_gpu) x s d h.move.handed r h.move.taken s' d') failed h.handles in
+      handles-mark sv.0 r h.move.taken sv.2 ∙ failed
+
 -- ---- where a run stops
 
 abbrev pub last_stop : Bool → Option Stop
@@ -89,29 +105,27 @@ last_stop last = cond last (Some Table) None
 as_seen : Served PlainHandle → Session → Result ⊤ declared.Error → Outcome PlainHandle
 as_seen served s r = record { answer = seen_result r; served = served; session = s }
 
-stopped-as-seen : (r : FrontendReq) (result : Result ⊤ declared.Error) (served : Served PlainHandle) (s : Session) → is_end r ≡ false
-    → ((stop_of false result (bytes (cells_of request_number (reply r served))) ≡ Some Premise) × (seen_result result ≡ Err OutOfMemory))
-    ⊎ (stop_of false result (bytes (cells_of request_number (reply r served))) ≡ last_stop (is_last r (as_seen served s result)))
-unfolding as_seen
-stopped-as-seen r (Ok u) served s ended = inr refl
-stopped-as-seen r (Err error.OutOfMemory) served s ended = inl (refl, refl)
-stopped-as-seen r (Err e) Silent s ended = inr refl
-stopped-as-seen r (Err e) (Acknowledged b) s ended = inr (ap last_stop (sym ended))
-stopped-as-seen r (Err e) (Replied p hs) s ended = inr (ap last_stop (sym ended))
+-- a run stops because there was no memory, or exactly at the last step
+abbrev StopsAs : (b : Bool) → FrontendReq → Result ⊤ declared.Error → Served PlainHandle → Outcome PlainHandle → Type 0
+StopsAs b r result served o =
+    ((stop_of b false result (bytes (cells_of request_number (reply r served))) ≡ Some Premise) × (o.answer ≡ Err OutOfMemory))
+    ⊎ (stop_of b false result (bytes (cells_of request_number (reply r served))) ≡ last_stop (is_last r o))
 
--- without a fault of a link a run stops because the device had no memory, or exactly at the last step
-pub stopped-as : (r : FrontendReq) (result : Result ⊤ declared.Error) (o : Outcome PlainHandle) → is_end r ≡ false → seen_result result ≡ o.answer
-    → ((stop_of false result (bytes (cells_of request_number (reply r o.served))) ≡ Some Premise) × (o.answer ≡ Err OutOfMemory))
-    ⊎ (stop_of false result (bytes (cells_of request_number (reply r o.served))) ≡ last_stop (is_last r o))
+stopped-as-seen : (r : FrontendReq) (b : Bool) (result : Result ⊤ declared.Error) (served : Served PlainHandle) (s : Session) → is_end r ≡ b → StopsAs b r result served (as_seen served s result)
 unfolding as_seen
-stopped-as r result o ended is = by-cases (stopped-as-seen r result o.served o.session ended)
-  where
-    by-cases : ((stop_of false result (bytes (cells_of request_number (reply r o.served))) ≡ Some Premise) × (seen_result result ≡ Err OutOfMemory))
-        ⊎ (stop_of false result (bytes (cells_of request_number (reply r o.served))) ≡ last_stop (is_last r (as_seen o.served o.session result)))
-        → ((stop_of false result (bytes (cells_of request_number (reply r o.served))) ≡ Some Premise) × (o.answer ≡ Err OutOfMemory))
-        ⊎ (stop_of false result (bytes (cells_of request_number (reply r o.served))) ≡ last_stop (is_last r o))
-    by-cases (inl p) = inl (p.0, sym is ∙ p.1)
-    by-cases (inr e) = inr (e ∙ ap {A = Result ⊤ Error} (λ a. last_stop (is_last r (record { answer = a; served = o.served; session = o.session }))) is)
+stopped-as-seen r true (Ok u) served s ended = inr refl
+stopped-as-seen r false (Ok u) served s ended = inr refl
+stopped-as-seen r b (Err error.OutOfMemory) served s ended = inl (refl, refl)
+stopped-as-seen r b (Err e) Silent s ended = inr refl
+stopped-as-seen r true (Err e) (Acknowledged agreed) s ended = inr (ap last_stop (sym ended))
+stopped-as-seen r false (Err e) (Acknowledged agreed) s ended = inr (ap last_stop (sym ended))
+stopped-as-seen r true (Err e) (Replied p hs) s ended = inr (ap last_stop (sym ended))
+stopped-as-seen r false (Err e) (Replied p hs) s ended = inr (ap last_stop (sym ended))
+
+pub stopped-as : (r : FrontendReq) (b : Bool) (result : Result ⊤ declared.Error) (o : Outcome PlainHandle) → is_end r ≡ b → seen_result result ≡ o.answer → StopsAs b r result o.served o
+unfolding as_seen
+stopped-as r b result o ended is =
+    subst (λ (a : Result ⊤ Error). StopsAs b r result o.served (record { answer = a; served = o.served; session = o.session })) is (stopped-as-seen r b result o.served o.session ended)
 
 pub not-last : (last : Bool) → last_stop last ≡ None → last ≡ false
 not-last true e = absurd (cc e)

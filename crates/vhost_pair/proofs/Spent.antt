@@ -4,6 +4,7 @@ use Rattle.std.specs.Prelude.{sum_by}
 use Rattle.std.proofs.lemmas.List.Sums.{sum_by-append}
 use Rattle.std.proofs.Math.Seq.{take-add}
 use Rattle.vhost_message.specs.declared.error.Error as declared
+use Rattle.vhost_message.specs.declared.error.Error.TheVariants as error
 use Rattle.vhost_link.specs.declared.plain.PlainHandle.{PlainHandle}
 use Rattle.vhost_link.specs.declared.cut.Cut.{Cut}
 use Rattle.vhost_link.specs.Cuts.{retry, failure}
@@ -12,6 +13,7 @@ use Rattle.vhost_link.specs.Law.{Move}
 use Rattle.vhost_link.specs.Mem.{event, Runs}
 use Rattle.vhost_link.proofs.MemStream.{mem-stream}
 use Rattle.vhost_connection.specs.Talk.{State, Talks}
+use Rattle.vhost_connection.proofs.Errors.{no_memory_error}
 use Rattle.vhost_connection.specs.Hearing.{Fails, Spends, was_broken, no_memory, fault}
 use Rattle.vhost_pair.specs.Joined.{Cuts, IsSpent, IsUsed}
 use Rattle.vhost_pair.specs.Sides.{cuts_of}
@@ -64,6 +66,12 @@ pub faults : (old new : State Ends PlainHandle) (between : Bool) (e : declared.E
 faults old new between _ (was_broken b same) whole list = let h = sym b ∙ whole in absurd (cc h)
 faults old new between _ (no_memory b same) whole list = let h = sym b ∙ list in absurd (cc h)
 faults old new between _ (fault c m b talks spends few broken faulted) whole list = record { move = m; talks = talks; spends = spends; few = few; faulted = faulted }
+
+-- an endpoint that has its list of handles lacks no memory
+pub no-memory : (old new : State Ends PlainHandle) (between : Bool) (e : declared.Error) → Fails event old between e new → old.list ≡ true → e ≡ error.OutOfMemory → ⊥
+no-memory old new between _ (was_broken b same) list is = absurd (cc is)
+no-memory old new between _ (no_memory b same) list is = let h = sym b ∙ list in absurd (cc h)
+no-memory old new between _ (fault c m b talks spends few broken faulted) list is = no_memory_error _ c refl is
 
 -- its script tells
 pub fault-spent : (old new : State Ends PlainHandle) → Faults old new → IsSpent old.budget (cuts_of old.link) (cuts_of new.link)

@@ -1,37 +1,31 @@
 -- Joined runs, as contracts see them.
 use Rattle.std.specs.Prelude.{◌≡◌, ℕ, ◌+◌, ◌<◌, List, [], ◌∷◌, ◌++◌, take, drop, sum_by, Option, Some, None, Bool, true, false, ◌⊎◌, if◌then◌else◌, Result, Ok, Err, ⊤, is_some}
 use Rattle.vhost_protocol.specs.Stream.{Cell}
-use Rattle.vhost_protocol.specs.Error.{Error, OutOfMemory, seen}
+use Rattle.vhost_protocol.specs.Error.{Error, OutOfMemory}
 use Rattle.vhost_protocol.specs.Session.{Session}
-use Rattle.vhost_protocol.specs.DeviceCall.{GetFeatures, SetOwner}
-use Rattle.vhost_protocol.specs.FrontendCall.{FrontendCall, Value, Nothing, Number, Frontend}
-use Rattle.vhost_protocol.specs.FrontendCall as calls
-use Rattle.vhost_protocol.specs.Ask.{Awaited}
-use Rattle.vhost_protocol.specs.Joined.{Shown, InStep, JoinedStep}
+use Rattle.vhost_message.specs.Bits.{has_bit}
+use Rattle.vhost_message.specs.declared.frontend_req.FrontendReq.{FrontendReq}
+use Rattle.vhost_protocol.specs.Agreement.{Negotiates}
+use Rattle.vhost_protocol.specs.DeviceCall.{GetFeatures}
+use Rattle.vhost_protocol.specs.Features.{PROTOCOL_FEATURES}
+use Rattle.vhost_protocol.specs.FrontendCall.{FrontendCall, Value, Frontend}
+use Rattle.vhost_protocol.specs.Ask.{Awaited, Sends, ask}
+use Rattle.vhost_protocol.specs.Handler.{Meets}
+use Rattle.vhost_protocol.specs.Joined.{Shown, InStep, JoinedStep, read_as}
+use Rattle.vhost_protocol.specs.Step.{Outcome}
+use Rattle.vhost_protocol.specs.Written.{Written}
 use Rattle.vhost_link.specs.declared.plain.PlainHandle.{PlainHandle}
 use Rattle.vhost_link.specs.declared.cut.Cut.{Cut}
 use Rattle.vhost_link.specs.Cuts.{retry, failure}
 use Rattle.vhost_pair.specs.Device.{Gives, opens_backend, opens_gpu}
 use Rattle.vhost_pair.specs.Text.{Text, text_of}
-use Rattle.vhost_pair.specs.declared.call.FrontendCall as code
-use Rattle.vhost_pair.specs.declared.call.FrontendCall.TheVariants as call
-use Rattle.vhost_pair.specs.declared.call.FrontendAnswer.{FrontendAnswer}
-use Rattle.vhost_pair.specs.declared.call.FrontendAnswer.TheVariants as answer
+use Rattle.vhost_frontend_calls.specs.declared.call.FrontendCall as code
+use Rattle.vhost_frontend_calls.specs.declared.answer.FrontendAnswer.{FrontendAnswer}
+use Rattle.vhost_frontend_calls.specs.Calls.{call_of, answer_of}
 use Rattle.vhost_pair.specs.declared.halt.Halt.{Halt}
 use Rattle.vhost_pair.specs.declared.halt.Halt.TheVariants as halt
 use Rattle.vhost_pair.specs.declared.halt.Stop.{Stop}
 use Rattle.vhost_pair.specs.declared.halt.Stop.TheVariants as stop
-
--- a call of the code
-abbrev pub call_of : {H : Type 0} → code.FrontendCall → FrontendCall H
-call_of call.GetFeatures = calls.GetFeatures
-call_of call.SetOwner = calls.SetOwner
-
--- an answer of the code
-abbrev pub answer_of : {H : Type 0} → FrontendAnswer → Result (Value H) Error
-answer_of (answer.Failed e) = Err (seen e)
-answer_of answer.Done = Ok Nothing
-answer_of (answer.Number n) = Ok (Number n)
 
 -- the script of a link, and whether a send of it ever failed for want of memory
 pub record Cuts : Type 0 where
@@ -69,18 +63,28 @@ pub record IsUsed (old new : Cuts) : Type 0 where
   pub script : new.script ≡ drop used old.script
   pub starved : old.starved ≡ true → new.starved ≡ true
 
-module _ {Dev : Type 0} (gives : Gives Dev) where
-  -- the device had no memory for what the call asks of it
-  abbrev pub Starves : FrontendCall PlainHandle → Dev → Dev → Type 0
-  Starves calls.GetFeatures d d' = gives d GetFeatures (Err OutOfMemory) d'
-  Starves calls.SetOwner d d' = gives d SetOwner (Err OutOfMemory) d'
-  Starves _ _ _ = ⊥
+-- Both sides are in step, requests are not sent as replies, and acknowledgements are on only where protocol features were offered: the bit is that of all features that the device offers.
+pub record IsReady {Dev : Type 0} (bit : Bool) (v : View Dev) : Type 0 where
+  pub in_step : InStep v.frontend v.session v.awaited v.to_handler v.to_frontend
+  pub plain : has_bit v.frontend.header_flags 2 ≡ false
+  pub negotiates : Negotiates bit v.frontend
 
-  -- A premise of the lockstep failed in a step: a link failed or spent a budget, or the device had no memory for the call.
+module _ {Dev : Type 0} (gives : Gives Dev) where
+  -- The request of a call was answered by want of memory: by the device, or where a handle was opened.
+  pub record Starves (f : Frontend) (s : Session) (d : Dev) (call : FrontendCall PlainHandle) (d' : Dev) : Type 0 where
+    pub message : Written FrontendReq PlainHandle
+    pub awaited : Awaited
+    pub after : Frontend
+    pub asked : ask f call ≡ Sends message awaited after
+    pub outcome : Outcome PlainHandle
+    pub meets : Meets gives opens_backend opens_gpu s d (read_as message) outcome d'
+    pub memory : outcome.answer ≡ Err OutOfMemory
+
+  -- A premise of the lockstep failed in a step: a link failed or spent a budget, or there was no memory behind the handler.
   pub data Breaks (call : FrontendCall PlainHandle) (old new : View Dev) : Type 0 where
     asking : IsSpent old.budget old.asking new.asking → Breaks call old new
     serving : IsSpent old.budget old.serving new.serving → Breaks call old new
-    device : Starves call old.device new.device → Breaks call old new
+    device : Starves old.frontend old.session old.device call new.device → Breaks call old new
 
   -- The step is that of the protocol: its messages, the device's move, the answer and both sessions. Nothing is left on the way,
   -- and the run stops exactly where the definition says.
@@ -102,9 +106,13 @@ module _ {Dev : Type 0} (gives : Gives Dev) where
   abbrev pub Answers : View Dev → FrontendCall PlainHandle → Result (Value PlainHandle) Error → View Dev → Type 0
   Answers old call result new = Keeps old call result new ⊎ ((new.stopped ≡ Some stop.Premise) × Breaks call old new)
 
-  -- one step: a run that stopped before, and want of memory before the first byte, change nothing
+  -- All features that the device answers have the bit of protocol features, or none has it.
+  abbrev pub Offers : Bool → Type 0
+  Offers bit = (d d' : Dev) (n : ℕ) → gives d GetFeatures (Ok n) d' → has_bit n PROTOCOL_FEATURES ≡ bit
+
+  -- one step: a run that stopped before, and want of memory before the first byte, change nothing; an answered step is that of both sides in step
   abbrev pub Steps : View Dev → FrontendCall PlainHandle → Result FrontendAnswer Halt → View Dev → Type 0
-  Steps old call (Ok a) new = (old.stopped ≡ None) × Answers old call (answer_of a) new
+  Steps old call (Ok a) new = (old.stopped ≡ None) × ((bit : Bool) → Offers bit → IsReady bit old → Answers old call (answer_of a) new)
   Steps old call (Err halt.Stopped) new = (is_some old.stopped ≡ true) × (new ≡ old)
   Steps old call (Err halt.OutOfMemory) new = (old.stopped ≡ None) × (new ≡ old)
 

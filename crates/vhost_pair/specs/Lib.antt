@@ -1,6 +1,3 @@
-pub mod Session
-pub mod Asking
-pub mod Frontend
 pub mod OnWay
 pub mod Text
 pub mod Wire

@@ -1,44 +1,57 @@
 -- Joined runs where no premise of the lockstep fails.
-use Rattle.std.specs.Prelude.{◌≡◌, List, [], ◌∷◌, Some, None, false, Result, Err, ⊤}
-use Rattle.vhost_protocol.specs.DeviceCall.{GetFeatures, SetOwner}
-use Rattle.vhost_protocol.specs.Error.{Error, OutOfMemory}
-use Rattle.vhost_protocol.specs.FrontendCall.{FrontendCall, Value}
-use Rattle.vhost_protocol.specs.Joined.{InStep, JoinedRun}
+use Rattle.std.specs.Prelude.{◌≡◌, ℕ, List, [], ◌∷◌, Bool, Some, None, false, Result, ⊤}
+use Rattle.vhost_message.specs.Bits.{has_bit}
+use Rattle.vhost_protocol.specs.Error.{Error}
+use Rattle.vhost_protocol.specs.FrontendCall.{FrontendCall, SetHdrFlags, Frontend, Value}
+use Rattle.vhost_protocol.specs.Joined.{JoinedRun}
+use Rattle.vhost_protocol.specs.Session.{Session}
+use Rattle.vhost_link.specs.declared.cut.Cut.{Cut}
 use Rattle.vhost_link.specs.declared.plain.PlainHandle.{PlainHandle}
 use Rattle.vhost_link.specs.Mem.{AreGives}
-use Rattle.vhost_pair.specs.declared.call.FrontendCall as code
-use Rattle.vhost_pair.specs.declared.call.FrontendAnswer.{FrontendAnswer}
+use Rattle.vhost_frontend_calls.specs.declared.call.FrontendCall as code
+use Rattle.vhost_frontend_calls.specs.declared.answer.FrontendAnswer.{FrontendAnswer}
 use Rattle.vhost_pair.specs.declared.halt.Halt.{Halt}
 use Rattle.vhost_pair.specs.declared.halt.Stop.TheVariants.{Premise}
+use Rattle.vhost_frontend_calls.specs.Calls.{call_of, answer_of}
 use Rattle.vhost_pair.specs.Device.{Gives, opens_backend, opens_gpu}
-use Rattle.vhost_pair.specs.Joined.{View, StepsAll, call_of, answer_of}
+use Rattle.vhost_pair.specs.Joined.{View, IsReady, Offers, Starves, StepsAll}
+use Rattle.vhost_pair.specs.Sides.{as_view, fresh_parts}
 
 -- the calls that were answered, with their answers
 abbrev pub entries : List code.FrontendCall → List FrontendAnswer → List (FrontendCall PlainHandle × Result (Value PlainHandle) Error)
 entries (c ∷ cs) (a ∷ as') = (call_of c, answer_of a) ∷ entries cs as'
 entries _ _ = []
 
--- both sides are in step
-abbrev pub IsInStep : {Dev : Type 0} → View Dev → Type 0
-IsInStep v = InStep v.frontend v.session v.awaited v.to_handler v.to_frontend
+-- from a call on, requests are not sent as replies
+abbrev pub IsPlain : {H : Type 0} → FrontendCall H → Type 0
+IsPlain (SetHdrFlags flags) = has_bit flags 2 ≡ false
+IsPlain _ = ⊤
+
+-- the same of many calls
+abbrev pub ArePlain : List code.FrontendCall → Type 0
+ArePlain [] = ⊤
+ArePlain (c ∷ cs) = IsPlain (call_of c) × ArePlain cs
 
 module _ {Dev : Type 0} (gives : Gives Dev) where
-  -- Each cut of both scripts moves bytes, no link wanted memory, and the device has memory for all calls.
+  -- Each cut of both scripts moves bytes, no link wanted memory, and no request is answered by want of memory.
   pub record IsClean (old new : View Dev) : Type 0 where
     pub asking : AreGives old.asking.script
     pub serving : AreGives old.serving.script
     pub asking_fed : new.asking.starved ≡ false
     pub serving_fed : new.serving.starved ≡ false
-    pub features : (d d' : Dev) → gives d GetFeatures (Err OutOfMemory) d' → ⊥
-    pub owner : (d d' : Dev) → gives d SetOwner (Err OutOfMemory) d' → ⊥
+    pub fed : (f : Frontend) (s : Session) (d : Dev) (call : FrontendCall PlainHandle) (d' : Dev) → Starves gives f s d call d' → ⊥
 
   -- The answered calls are a joined run of the protocol. Unless it stops both sides stay in step, and it never stops but at its last step.
-  pub record IsLockstep (old new : View Dev) (calls : List code.FrontendCall) (answers : List FrontendAnswer) : Type 0 where
+  pub record IsLockstep (bit : Bool) (old new : View Dev) (calls : List code.FrontendCall) (answers : List FrontendAnswer) : Type 0 where
     pub run : JoinedRun gives opens_backend opens_gpu old.frontend old.session old.device (entries calls answers) new.frontend new.session new.device
-    pub in_step : IsInStep old → new.stopped ≡ None → IsInStep new
-    pub no_premise : old.stopped ≡ None → new.stopped ≡ Some Premise → ⊥
+    pub in_step : new.stopped ≡ None → IsReady bit new
+    pub no_premise : new.stopped ≡ Some Premise → ⊥
 
-  -- where no premise fails, steps keep the lockstep
+  -- where no premise fails, the steps of a run that has not stopped keep the lockstep
   abbrev pub LockstepLaw : Type 0
-  LockstepLaw = (old new : View Dev) (calls : List code.FrontendCall) (answers : List FrontendAnswer) (end : Result ⊤ Halt)
-      → StepsAll gives old calls answers end new → IsClean old new → IsLockstep old new calls answers
+  LockstepLaw = (bit : Bool) (old new : View Dev) (calls : List code.FrontendCall) (answers : List FrontendAnswer) (end : Result ⊤ Halt)
+      → Offers gives bit → IsReady bit old → old.stopped ≡ None → ArePlain calls → StepsAll gives old calls answers end new → IsClean old new → IsLockstep bit old new calls answers
+
+-- a run that begins is in step
+abbrev pub BeginsInStep : Type 0 → Type 0
+BeginsInStep Dev = (device : Dev) (queues budget : ℕ) (asking serving : List Cut) (bit : Bool) → IsReady bit (as_view (fresh_parts device queues budget asking serving) None)

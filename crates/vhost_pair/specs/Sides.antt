@@ -1,104 +1,188 @@
--- Both sides of a joined run, as contracts see them.
-use Rattle.std.specs.Prelude.{◌≡◌, ℕ, List, [], ◌++◌, Option, Some, None, Bool, true, false, ◌⊎◌, Result, Err, ⊤}
-use Rattle.vhost_message.specs.Bits.{has_bit}
+-- Both sides of a joined run, as contracts see them, and one exchange between them.
+use Rattle.std.specs.Prelude.{◌≡◌, ℕ, ◌≤◌, List, [], ◌++◌, length, Option, Some, None, Bool, true, false, ◌||◌, Result, Ok, Err, ⊤}
 use Rattle.vhost_message.specs.declared.error.Error as declared
 use Rattle.vhost_message.specs.declared.error.Error.TheVariants.{OutOfMemory}
-use Rattle.vhost_message.specs.Header.{Header}
-use Rattle.vhost_protocol.specs.Error.{Error}
-use Rattle.vhost_protocol.specs.FrontendCall.{FrontendCall, Value, Frontend, new_frontend}
-use Rattle.vhost_protocol.specs.Ask.{Awaited, Nobody, Reply, AU64}
-use Rattle.vhost_protocol.specs.AnswerTable.{answered}
+use Rattle.vhost_message.specs.MsgHeader.{fields_of}
+use Rattle.vhost_protocol.specs.Error.{Error, seen}
+use Rattle.vhost_protocol.specs.FrontendCall.{FrontendCall, PostcopyEnd, SetHdrFlags, Value, Nothing, Frontend, new_frontend}
+use Rattle.vhost_protocol.specs.Ask.{Awaited, Nobody, ask}
 use Rattle.vhost_protocol.specs.Session.{Session, fresh as new_session}
-use Rattle.vhost_protocol.specs.Joined.{InStep}
 use Rattle.vhost_link.specs.declared.plain.PlainHandle.{PlainHandle}
 use Rattle.vhost_link.specs.declared.cut.Cut.{Cut}
 use Rattle.vhost_link.specs.Ends.{Ends, empty}
 use Rattle.vhost_link.specs.Mem.{event}
 use Rattle.vhost_connection.specs.State.{fresh}
 use Rattle.vhost_connection.specs.Talk.{State}
-use Rattle.vhost_pair.specs.declared.call.FrontendAnswer.{FrontendAnswer}
-use Rattle.vhost_pair.specs.declared.call.FrontendCall as code
-use Rattle.vhost_pair.specs.declared.call.FrontendCall.TheVariants as call
+use Rattle.vhost_backend_req_handler.specs.Core as core
+use Rattle.vhost_backend_req_handler.specs.Serving.{HandlesOne}
+use Rattle.vhost_frontend_core.specs.Asking.{AsksWithRoom}
+use Rattle.vhost_frontend_core.specs.Frontend as frontend
+use Rattle.vhost_frontend_core.specs.Session.{awaited_of}
+use Rattle.vhost_frontend_core.specs.declared.asked.Sent.{Sent}
+use Rattle.vhost_pair.specs.declared.halt.Halt.{Halt}
+use Rattle.vhost_pair.specs.declared.halt.Halt.TheVariants as halt
 use Rattle.vhost_pair.specs.declared.halt.Stop.{Stop}
 use Rattle.vhost_pair.specs.declared.halt.Stop.TheVariants.{Table, Premise}
+use Rattle.vhost_pair.specs.declared.sides.Exchanged.{Exchanged}
 use Rattle.vhost_pair.specs.declared.sides.Sides.{Sides}
-use Rattle.vhost_connection.specs.Hearing.{Fails}
-use Rattle.vhost_pair.specs.Asking.{Takes}
-use Rattle.vhost_pair.specs.OnWay.{coming, gone}
-use Rattle.vhost_pair.specs.Text.{Text, no_text}
+use Rattle.vhost_frontend_calls.specs.Calls.{answer_of}
+use Rattle.vhost_pair.specs.Device.{Gives, opens_backend, opens_gpu}
+use Rattle.vhost_frontend_calls.specs.Halves.{IsProper, TakesResult}
+use Rattle.vhost_pair.specs.Joined.{View, Cuts}
+use Rattle.vhost_pair.specs.OnWay.{coming, gone, Carries}
+use Rattle.vhost_pair.specs.Text.{Text, text_of, no_text}
 use Rattle.vhost_pair.specs.Wire.{text_in}
-use Rattle.vhost_pair.specs.Joined.{View, Cuts, call_of, answer_of}
-use Rattle.vhost_pair.specs.Frontend as frontend
-use Rattle.vhost_backend_req_handler.specs.Core as core
+
+-- Both sides by their parts: the endpoints, the sessions, the device, and the messages of the last step.
+pub record Parts (Dev : Type 0) : Type 0 where
+  pub asking : State Ends PlainHandle
+  pub serving : State Ends PlainHandle
+  pub frontend : Frontend
+  pub awaited : Awaited
+  pub session : Session
+  pub device : Dev
+  pub request : Text
+  pub reply : Text
+
+-- of both sides
+abbrev pub parts_of : {Dev : Type 0} → Sides Dev → Parts Dev
+parts_of s = record {
+  asking = frontend.end_of s.frontend;
+  serving = core.end_of s.handler;
+  frontend = frontend.session_of s.frontend;
+  awaited = frontend.awaits s.frontend;
+  session = core.session_in s.handler;
+  device = s.device;
+  request = text_in s.request;
+  reply = text_in s.reply;
+}
+
+-- of a run that begins: new sessions over new links with these scripts
+abbrev pub fresh_parts : {Dev : Type 0} → Dev → ℕ → ℕ → List Cut → List Cut → Parts Dev
+fresh_parts device queues budget asking serving = record {
+  asking = fresh (empty asking) budget;
+  serving = fresh (empty serving) budget;
+  frontend = new_frontend queues;
+  awaited = Nobody;
+  session = new_session;
+  device = device;
+  request = no_text;
+  reply = no_text;
+}
 
 -- what a caller of a joined run sees of a link
 abbrev pub cuts_of : Ends → Cuts
 cuts_of l = record { script = l.script; starved = l.starved }
 
--- a joined run by its parts
-abbrev pub view : {Dev : Type 0} → State Ends PlainHandle → State Ends PlainHandle → Frontend → Awaited → Session → Dev → Text → Text → Option Stop → View Dev
-view asking serving f awaited s d request reply stopped = record {
-  frontend = f;
-  awaited = awaited;
-  session = s;
-  device = d;
-  to_handler = gone asking ++ coming serving;
-  to_frontend = gone serving ++ coming asking;
-  asking = cuts_of asking.link;
-  serving = cuts_of serving.link;
-  budget = asking.budget;
-  request = request;
-  reply = reply;
+-- what it sees of both sides
+abbrev pub as_view : {Dev : Type 0} → Parts Dev → Option Stop → View Dev
+as_view p stopped = record {
+  frontend = p.frontend;
+  awaited = p.awaited;
+  session = p.session;
+  device = p.device;
+  to_handler = gone p.asking ++ coming p.serving;
+  to_frontend = gone p.serving ++ coming p.asking;
+  asking = cuts_of p.asking.link;
+  serving = cuts_of p.serving.link;
+  budget = p.asking.budget;
+  request = p.request;
+  reply = p.reply;
   stopped = stopped;
 }
 
--- both sides, and whether the run has stopped
-abbrev pub view_of : {Dev : Type 0} → Sides Dev → Option Stop → View Dev
-view_of s stopped = view (frontend.end_of s.frontend) (core.end_of s.handler) (frontend.session_of s.frontend) (frontend.awaits s.frontend)
-    (core.session_in s.handler) s.device (text_in s.request) (text_in s.reply) stopped
-
--- Between two steps: both sides are in step, no endpoint is broken, the frontend's met no fault, no session failed, no protocol feature was acknowledged, and no request is sent as a reply.
-pub record IsAtRest (asking serving : State Ends PlainHandle) (f : Frontend) (awaited : Awaited) (s : Session) : Type 0 where
-  pub asks : asking.broken ≡ None
-  pub serves : serving.broken ≡ None
-  pub sound : asking.faulted ≡ false
-  pub budget : serving.budget ≡ asking.budget
-  pub acked_p : f.acked_p ≡ 0
-  pub flags : has_bit f.header_flags 2 ≡ false
-  pub failed : s.failed ≡ None
-  pub in_step : InStep f s awaited (gone asking ++ coming serving) (gone serving ++ coming asking)
-
--- the same of both sides
-abbrev pub AreAtRest : {Dev : Type 0} → Sides Dev → Type 0
-AreAtRest s = IsAtRest (frontend.end_of s.frontend) (core.end_of s.handler) (frontend.session_of s.frontend) (frontend.awaits s.frontend) (core.session_in s.handler)
+-- Between two steps: no endpoint is broken, the frontend's met no fault, no session failed, nothing is awaited, and all that was sent was carried away.
+pub record IsSound {Dev : Type 0} (p : Parts Dev) : Type 0 where
+  pub asks : p.asking.broken ≡ None
+  pub serves : p.serving.broken ≡ None
+  pub sound : p.asking.faulted ≡ false
+  pub budget : p.serving.budget ≡ p.asking.budget
+  pub failed : p.session.failed ≡ None
+  pub nobody : p.awaited ≡ Nobody
+  pub no_request : gone p.asking ≡ []
+  pub no_reply : gone p.serving ≡ []
 
 -- both endpoints have their lists of handles
-abbrev pub HaveLists : {Dev : Type 0} → Sides Dev → Type 0
-HaveLists s = ((frontend.end_of s.frontend).list ≡ true) × ((core.end_of s.handler).list ≡ true)
+abbrev pub HaveLists : {Dev : Type 0} → Parts Dev → Type 0
+HaveLists p = (p.asking.list ≡ true) × (p.serving.list ≡ true)
 
--- why a run stops: one of the endpoints met a fault, or the device had no memory; or the handler erred in silence
-abbrev pub stop_of : Bool → Result ⊤ declared.Error → List ℕ → Option Stop
-stop_of true served reply = Some Premise
-stop_of false (Err OutOfMemory) reply = Some Premise
-stop_of false (Err e) [] = Some Table
-stop_of false _ _ = None
+-- the call that ends postcopy
+abbrev pub ends : {H : Type 0} → FrontendCall H → Bool
+ends PostcopyEnd = true
+ends _ = false
 
--- what a call awaits, where no protocol feature was acknowledged
-abbrev pub awaited_for : code.FrontendCall → Awaited
-awaited_for call.GetFeatures = Reply AU64
-awaited_for call.SetOwner = Nobody
+-- why a run stops: one of the endpoints met a fault, or there was no memory; or the handler erred in silence, or at the end of postcopy
+abbrev pub stop_of : (ends faulted : Bool) → Result ⊤ declared.Error → List ℕ → Option Stop
+stop_of is_end true served reply = Some Premise
+stop_of is_end false (Err OutOfMemory) reply = Some Premise
+stop_of is_end false (Err e) [] = Some Table
+stop_of true false (Err e) reply = Some Table
+stop_of _ _ _ _ = None
 
--- the half that takes, of any call: the answer by the stream; or the link failed, and the session is as before
-abbrev pub TakesResult : FrontendCall PlainHandle → Awaited → Header → State Ends PlainHandle → Frontend → Result (Value PlainHandle) Error → State Ends PlainHandle → Frontend → Type 0
-TakesResult c awaited sent old f result new f' =
-    Takes event c awaited sent f old (Some (answered f' result)) new
-    ⊎ ((f' ≡ f) × (e : declared.Error) × Fails event old true e new)
+-- ---- one exchange
 
--- the same of a call of the code
-abbrev pub TakesAnswer : code.FrontendCall → Header → State Ends PlainHandle → Frontend → FrontendAnswer → State Ends PlainHandle → Frontend → Type 0
-TakesAnswer c sent old f answer new f' = TakesResult (call_of c) (awaited_for c) sent old f (answer_of answer) new f'
+-- A call ends whose request was not sent.
+pub record EndsUnsent {Dev : Type 0} (e : declared.Error) (old : Parts Dev) (x : Exchanged) (new : Parts Dev) : Type 0 where
+  pub answer : answer_of x.answer ≡ Err (seen e)
+  pub same : new ≡ record old { request = new.request; reply = no_text }
+  pub request : length (gone old.asking) ≤ 4108 → new.request ≡ text_of (gone old.asking)
+  pub stopped : old.asking.faulted ≡ true → x.stop ≡ Some Premise
+  pub goes_on : old.asking.faulted ≡ false → x.stop ≡ None
 
--- a run that begins: new sessions over new links with these scripts
-abbrev pub fresh_run : {Dev : Type 0} → Dev → ℕ → ℕ → List Cut → List Cut → View Dev
-fresh_run device queues budget asking serving =
-    view (fresh (empty asking) budget) (fresh (empty serving) budget) (new_frontend queues) Nobody new_session device no_text no_text None
+-- The half that asks was done, and nothing else.
+pub record IsAskedBy {Dev : Type 0} (call : FrontendCall PlainHandle) (old : Parts Dev) (result : Result Sent declared.Error) (asked : Parts Dev) : Type 0 where
+  pub asks : AsksWithRoom event (ask old.frontend call) old.asking old.frontend old.awaited result asked.asking asked.frontend asked.awaited
+  pub same : asked ≡ record old { asking = asked.asking; frontend = asked.frontend; awaited = asked.awaited }
+
+module _ {Dev : Type 0} (gives : Gives Dev) where
+  -- What the frontend sent is carried to the handler, which serves it, and what the handler sent is carried back.
+  pub record HandedOver (old : Parts Dev) (result : Result ⊤ declared.Error) (new : Parts Dev) : Type 0 where
+    -- the endpoints once the request was carried, and the handler's once it was served
+    pub asking_then : State Ends PlainHandle
+    pub serving_then : State Ends PlainHandle
+    pub there : Carries old.asking old.serving asking_then serving_then
+    pub serving_after : State Ends PlainHandle
+    pub handled : old.session.failed ≡ None → HandlesOne event gives opens_backend opens_gpu serving_then old.session old.device result serving_after new.session new.device
+    pub back : Carries serving_after asking_then new.serving new.asking
+    pub reply : length (gone serving_after) ≤ 4108 → new.reply ≡ text_of (gone serving_after)
+    pub same : new ≡ record old { asking = new.asking; serving = new.serving; session = new.session; device = new.device; reply = new.reply }
+
+  -- The same; or the request found no room where the handler had more to receive, or the reply where the frontend had.
+  pub data HandsOver (old : Parts Dev) : Option (Result ⊤ declared.Error) → Parts Dev → Type 0 where
+    handed : {result : Result ⊤ declared.Error} {new : Parts Dev} → HandedOver old result new → HandsOver old (Some result) new
+    no_room_there : {new : Parts Dev} → (old.serving.link.pending ≡ [] → ⊥) → HandsOver old None new
+    no_room_back : {new : Parts Dev} (asking_then serving_then : State Ends PlainHandle) → Carries old.asking old.serving asking_then serving_then
+        → (asking_then.link.pending ≡ [] → ⊥) → HandsOver old None new
+
+module _ {Dev : Type 0} (gives : Gives Dev) (call : FrontendCall PlainHandle) where
+  -- A request that was sent is carried to the handler, which serves it; what the handler wrote is carried back, and the frontend takes its answer.
+  pub record Served (sent : Sent) (old : Parts Dev) (answer : Result (Value PlainHandle) Error) (stop : Option Stop) (new : Parts Dev) : Type 0 where
+    -- the endpoints once the request was carried, once it was served, and once the reply was carried
+    pub asking_then : State Ends PlainHandle
+    pub serving_then : State Ends PlainHandle
+    pub there : Carries old.asking old.serving asking_then serving_then
+    pub result : Result ⊤ declared.Error
+    pub serving_after : State Ends PlainHandle
+    pub handled : old.session.failed ≡ None → HandlesOne event gives opens_backend opens_gpu serving_then old.session old.device result serving_after new.session new.device
+    pub asking_after : State Ends PlainHandle
+    pub back : Carries serving_after asking_then new.serving asking_after
+    pub takes : TakesResult call (awaited_of sent.awaited) (fields_of sent.request) asking_after old.frontend answer new.asking new.frontend
+    pub quiet : new.awaited ≡ Nobody
+    pub request : length (gone old.asking) ≤ 4108 → new.request ≡ text_of (gone old.asking)
+    pub reply : length (gone serving_after) ≤ 4108 → new.reply ≡ text_of (gone serving_after)
+    pub stops : stop ≡ stop_of (ends call) (new.asking.faulted || new.serving.faulted) result new.reply.bytes
+
+  -- The same; or the request found no room where the handler had more to receive, or the reply where the frontend had.
+  pub data Serves (sent : Sent) (old : Parts Dev) : Exchanged → Parts Dev → Type 0 where
+    served : {x : Exchanged} {new : Parts Dev} → Served sent old (answer_of x.answer) x.stop new → Serves sent old x new
+    no_way : {x : Exchanged} {new : Parts Dev} → (old.serving.link.pending ≡ [] → ⊥) → x.stop ≡ Some Premise → Serves sent old x new
+    no_way_back : {x : Exchanged} {new : Parts Dev} (asking_then serving_then : State Ends PlainHandle) → Carries old.asking old.serving asking_then serving_then
+        → (asking_then.link.pending ≡ [] → ⊥) → x.stop ≡ Some Premise → Serves sent old x new
+
+  -- one call: it was answered at once; or it was not sent; or it was sent and served; or there was no room for its answer, and nothing changed
+  pub data Exchanges (old : Parts Dev) : Result Exchanged Halt → Parts Dev → Type 0 where
+    at_once : {x : Exchanged} {new : Parts Dev} (flags : ℕ) → call ≡ SetHdrFlags flags → answer_of x.answer ≡ Ok Nothing → x.stop ≡ None
+        → new ≡ record old { frontend = record old.frontend { header_flags = flags }; request = no_text; reply = no_text } → Exchanges old (Ok x) new
+    unsent : {x : Exchanged} {new : Parts Dev} (e : declared.Error) (asked : Parts Dev) → (e ≡ OutOfMemory → ⊥) → IsAskedBy call old (Err e) asked → EndsUnsent e asked x new → Exchanges old (Ok x) new
+    sent_out : {x : Exchanged} {new : Parts Dev} (sent : Sent) (asked : Parts Dev) → IsProper call → IsAskedBy call old (Ok sent) asked → Serves sent asked x new → Exchanges old (Ok x) new
+    no_room : {new : Parts Dev} → new ≡ old → Exchanges old (Err halt.OutOfMemory) new

@@ -1,14 +1,14 @@
 //! A frontend and a handler joined over two links in memory.
 
-ghost use Rattle.std.specs.Prelude.{◌≡◌, IfOk, IfErr};
+ghost use Rattle.std.specs.Prelude.{◌≡◌, None, IfOk, IfErr};
 ghost use Rattle.vhost_pair.specs.declared.halt.Halt.TheVariants.{OutOfMemory};
 
-use crate::call::{FrontendAnswer, FrontendCall};
 use crate::halt::{Halt, Stop};
 use crate::sides::Sides;
 use std::alloc::Global;
 use std::marker::Model;
 use vhost_device::VhostUserBackendReqHandlerMut;
+use vhost_frontend_calls::{FrontendAnswer, FrontendCall};
 use vhost_link::{Cut, MemLink, PlainHandle};
 
 /// A frontend and a handler joined over two links in memory, with a device behind the handler.
@@ -21,18 +21,19 @@ pub struct Joined<D: Drop> {
 impl<D: Drop> Model for Joined<D> {
     ghost use Rattle.std.specs.Prelude.{◌≡◌, None};
     ghost use Rattle.vhost_pair.specs.Joined.{View};
-    ghost use Rattle.vhost_pair.specs.Sides.{view_of, AreAtRest};
+    ghost use Rattle.vhost_pair.specs.Sides.{parts_of, as_view, IsSound};
 
     ghost Value = { View D };
 
-    ghost view = { λ run. view_of run.sides run.stopped };
+    ghost view = { λ run. as_view (parts_of run.sides) run.stopped };
 
-    ghost invariant = { λ run. run.stopped ≡ None → AreAtRest run.sides };
+    ghost invariant = { λ run. run.stopped ≡ None → IsSound (parts_of run.sides) };
 }
 
 impl<D: VhostUserBackendReqHandlerMut<Link = MemLink>> Joined<D> {
-    ghost use Rattle.vhost_pair.specs.Joined.{Steps, RunsCalls, call_of};
-    ghost use Rattle.vhost_pair.specs.Sides.{fresh_run};
+    ghost use Rattle.vhost_frontend_calls.specs.Calls.{call_of};
+    ghost use Rattle.vhost_pair.specs.Joined.{Steps, RunsCalls};
+    ghost use Rattle.vhost_pair.specs.Sides.{as_view, fresh_parts};
 
     /// Two new sessions over two new links, which are cut as the scripts say: the first that of the frontend. The
     /// device has at most so many queues, and a message may take so many retries.
@@ -45,7 +46,7 @@ impl<D: VhostUserBackendReqHandlerMut<Link = MemLink>> Joined<D> {
         budget: u32,
         scripts: (Vec<Cut>, Vec<Cut>),
     ) -> Result<Self, Halt>
-        ensures fresh { IfOk result (λ run. run ≡ fresh_run device max_queue_num budget scripts.0.items scripts.1.items) }
+        ensures fresh { IfOk result (λ run. run ≡ as_view (fresh_parts device max_queue_num budget scripts.0.items scripts.1.items) None) }
         ensures memory { IfErr result (λ halt. halt ≡ OutOfMemory) }
     {
         let (asking, serving) = scripts;
@@ -62,8 +63,8 @@ impl<D: VhostUserBackendReqHandlerMut<Link = MemLink>> Joined<D> {
     ///
     /// `Halt::Stopped`: the run has stopped before. `Halt::OutOfMemory`: a growth was refused before the first byte.
     /// In both cases nothing changed.
-    pub fn step(&mut self, call: FrontendCall) -> Result<FrontendAnswer, Halt>
-        ensures { Steps D.gives self.old (call_of call) result self.new }
+    pub fn step(&mut self, call: &FrontendCall) -> Result<FrontendAnswer, Halt>
+        ensures { Steps D.gives self.old (call_of call.now) result self.new }
     {
         if self.stopped.is_some() {
             return Err(Halt::Stopped);
@@ -71,9 +72,13 @@ impl<D: VhostUserBackendReqHandlerMut<Link = MemLink>> Joined<D> {
         if self.sides.prepare().is_err() {
             return Err(Halt::OutOfMemory);
         }
-        let done = self.sides.exchange(call);
-        self.stopped = done.stop;
-        Ok(done.answer)
+        match self.sides.exchange(call) {
+            Ok(done) => {
+                self.stopped = done.stop;
+                Ok(done.answer)
+            }
+            Err(halt) => Err(halt),
+        }
     }
 
     /// Does calls one after another, until one is not done, and appends their answers to `out`.
@@ -86,7 +91,7 @@ impl<D: VhostUserBackendReqHandlerMut<Link = MemLink>> Joined<D> {
             return Err(Halt::OutOfMemory);
         }
         for call in calls {
-            let answer = self.step(*call)?;
+            let answer = self.step(call)?;
             out.push_reserved(answer);
         }
         Ok(())

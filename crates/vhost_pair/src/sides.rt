@@ -1,22 +1,21 @@
 //! Both sides of a joined run, and one exchange between them.
 
-ghost use Rattle.std.specs.Prelude.{◌≡◌, ◌||◌, None, IfOk, IfErr};
+ghost use Rattle.std.specs.Prelude.{◌≡◌, ◌||◌, Some, None, Ok, IfOk, IfErr};
 ghost use Rattle.vhost_message.specs.declared.error.Error.TheVariants.{OutOfMemory};
-ghost use Rattle.vhost_protocol.specs.FrontendCall.{new_frontend};
-ghost use Rattle.vhost_protocol.specs.Ask.{Nobody};
-ghost use Rattle.vhost_protocol.specs.Session.{fresh as new_session};
-ghost use Rattle.vhost_connection.specs.State.{fresh};
-ghost use Rattle.vhost_link.specs.Ends.{empty};
+ghost use Rattle.vhost_frontend_calls.specs.Calls.{call_of, answer_of};
+ghost use Rattle.vhost_pair.specs.Sides.{ends};
+ghost use Rattle.vhost_pair.specs.declared.halt.Stop.TheVariants.{Premise};
 
-use crate::call::{FrontendAnswer, FrontendCall};
-use crate::frontend::FrontendInternal;
-use crate::halt::Stop;
-use crate::halves::{ask, take};
-use crate::ways::{carry_reply, carry_request, copy_reply, copy_request, make_list};
+use crate::halt::{Halt, Stop};
+use crate::ways::{
+    carry_reply, carry_request, copy_reply, copy_request, make_reply_list, make_request_list,
+};
 use crate::wire::Wire;
 use std::alloc::Global;
 use vhost_backend_req_handler::SessionCore;
 use vhost_device::VhostUserBackendReqHandlerMut;
+use vhost_frontend_calls::{FrontendAnswer, FrontendCall, ask, take};
+use vhost_frontend_core::{FrontendInternal, Sent};
 use vhost_link::{Cut, MemLink};
 use vhost_message::{Error, Result};
 
@@ -39,11 +38,15 @@ pub struct Sides<D: Drop> {
 
 impl<D: VhostUserBackendReqHandlerMut<Link = MemLink>> Sides<D> {
     ghost use Rattle.vhost_backend_req_handler.specs.Core.{end_of as serving_end};
-    ghost use Rattle.vhost_pair.specs.Frontend.{end_of as asking_end};
-    ghost use Rattle.vhost_pair.specs.Joined.{Answers, call_of, answer_of};
-    ghost use Rattle.vhost_pair.specs.Sides.{view, view_of, AreAtRest, HaveLists, stop_of};
+    ghost use Rattle.vhost_frontend_core.specs.Awaiting.{MayAwait};
+    ghost use Rattle.vhost_frontend_core.specs.Frontend.{end_of as asking_end};
+    ghost use Rattle.vhost_frontend_core.specs.Kept.{IsKeptFor};
+    ghost use Rattle.vhost_frontend_core.specs.Session.{awaited_of};
+    ghost use Rattle.vhost_frontend_calls.specs.Halves.{IsSent};
+    ghost use Rattle.vhost_pair.specs.Sides.{parts_of, fresh_parts, HaveLists, Exchanges, Serves, HandsOver, EndsUnsent, stop_of};
     ghost use Rattle.vhost_pair.specs.Text.{no_text};
     ghost use Rattle.vhost_pair.specs.Wire.{text_in};
+    ghost use Rattle.vhost_protocol.specs.FrontendCall.{Nothing};
 
     /// Two new sessions over two new links, which are cut as the scripts say.
     ///
@@ -56,9 +59,7 @@ impl<D: VhostUserBackendReqHandlerMut<Link = MemLink>> Sides<D> {
         asking: Vec<Cut>,
         serving: Vec<Cut>,
     ) -> Result<Self>
-        ensures fresh { IfOk result (λ sides. view_of sides None
-            ≡ view (fresh (empty asking.items) budget) (fresh (empty serving.items) budget) (new_frontend max_queue_num) Nobody new_session device no_text no_text None) }
-        ensures rest { IfOk result AreAtRest }
+        ensures fresh { IfOk result (λ sides. parts_of sides ≡ fresh_parts device max_queue_num budget asking.items serving.items) }
         ensures memory { IfErr result (λ e. e ≡ OutOfMemory) }
     {
         let asking = MemLink::new(alloc, asking);
@@ -79,12 +80,13 @@ impl<D: VhostUserBackendReqHandlerMut<Link = MemLink>> Sides<D> {
     ///
     /// OutOfMemory: a growth was refused.
     pub fn prepare(&mut self) -> Result<()>
-        ensures lists { IfOk result (λ _. HaveLists self.new) }
-        ensures same { view_of self.new None ≡ view_of self.old None }
-        ensures rest { AreAtRest self.old → AreAtRest self.new }
+        ensures lists { IfOk result (λ _. HaveLists (parts_of self.new)) }
+        ensures asking { (parts_of self.new).asking ≡ record (parts_of self.old).asking { list = (parts_of self.new).asking.list } }
+        ensures serving { (parts_of self.new).serving ≡ record (parts_of self.old).serving { list = (parts_of self.new).serving.list } }
+        ensures rest { parts_of self.new ≡ record (parts_of self.old) { asking = (parts_of self.new).asking; serving = (parts_of self.new).serving } }
     {
-        self.frontend.make_list()?;
-        make_list(&mut self.handler)
+        make_reply_list(&mut self.frontend)?;
+        make_request_list(&mut self.handler)
     }
 
     /// The last request.
@@ -101,49 +103,107 @@ impl<D: VhostUserBackendReqHandlerMut<Link = MemLink>> Sides<D> {
         &self.reply
     }
 
-    /// Does a call whose room was made.
-    pub fn exchange(&mut self, call: FrontendCall) -> Exchanged
-        requires rest { AreAtRest self.old }
-        requires lists { HaveLists self.old }
-        ensures answers { Answers D.gives (view_of self.old None) (call_of call) (answer_of result.answer) (view_of self.new result.stop) }
-        ensures rest { result.stop ≡ None → AreAtRest self.new }
+    /// Does a call whose lists were made.
+    ///
+    /// `Halt::OutOfMemory`: there was no room for its answer; nothing changed.
+    pub fn exchange(&mut self, call: &FrontendCall) -> std::result::Result<Exchanged, Halt>
+        requires { HaveLists (parts_of self.old) }
+        ensures { Exchanges D.gives (call_of call.now) (parts_of self.old) result (parts_of self.new) }
+    {
+        match ask(&mut self.frontend, call) {
+            Ok(Some(sent)) => Ok(self.serve(call, sent)),
+            Ok(None) => Ok(self.done_at_once()),
+            Err(error) => match error {
+                Error::OutOfMemory => Err(Halt::OutOfMemory),
+                _ => Ok(self.unsent(error)),
+            },
+        }
+    }
+
+    /// Ends a call for which nothing is sent.
+    fn done_at_once(&mut self) -> Exchanged
+        ensures answer { (answer_of result.answer ≡ Ok Nothing) × (result.stop ≡ None) }
+        ensures same { parts_of self.new ≡ record (parts_of self.old) { request = no_text; reply = no_text } }
+    {
+        self.request.clear();
+        self.reply.clear();
+        Exchanged {
+            answer: FrontendAnswer::Done,
+            stop: None,
+        }
+    }
+
+    /// Ends a call whose request was not sent.
+    fn unsent(&mut self, error: Error) -> Exchanged
+        ensures { EndsUnsent error (parts_of self.old) result (parts_of self.new) }
     {
         self.reply.clear();
-        let asked = ask(&mut self.frontend, call);
         copy_request(&mut self.frontend, &mut self.request);
-        let sent = match asked {
-            Ok(sent) => sent,
-            Err(error) => {
-                return Exchanged {
-                    answer: FrontendAnswer::Failed(error),
-                    stop: if self.frontend.faulted() {
-                        Some(Stop::Premise)
-                    } else {
-                        None
-                    },
-                };
-            }
-        };
-        carry_request(&mut self.frontend, &mut self.handler);
-        let served = self.handler.handle_request(&mut self.device);
-        copy_reply(&mut self.handler, &mut self.reply);
-        carry_reply(&mut self.handler, &mut self.frontend);
+        let answer = FrontendAnswer::Failed(error);
+        if self.frontend.faulted() {
+            return Exchanged {
+                answer,
+                stop: Some(Stop::Premise),
+            };
+        }
+        Exchanged { answer, stop: None }
+    }
+
+    /// Has a request served that was sent, and takes its answer.
+    fn serve(&mut self, call: &FrontendCall, sent: Sent) -> Exchanged
+        requires sent { IsSent (call_of call.now) }
+        requires awaited { MayAwait (call_of call.now) (awaited_of sent.awaited) }
+        requires kept { IsKeptFor (call_of call.now) (awaited_of sent.awaited) sent.kept }
+        ensures { Serves D.gives (call_of call.now) sent (parts_of self.old) result (parts_of self.new) }
+    {
+        copy_request(&mut self.frontend, &mut self.request);
+        let served = self.hand_over();
         let answer = take(&mut self.frontend, call, sent);
-        let stop = self.stop_after(&served);
+        let Some(served) = served else {
+            return Exchanged {
+                answer,
+                stop: Some(Stop::Premise),
+            };
+        };
+        let stop = self.stop_after(call, &served);
         Exchanged { answer, stop }
     }
 
+    /// Carries what the frontend sent to the handler, has it served, and carries back what the handler sent. None: it
+    /// found no room on its way.
+    fn hand_over(&mut self) -> Option<Result<()>>
+        ensures { HandsOver D.gives (parts_of self.old) result (parts_of self.new) }
+    {
+        self.reply.clear();
+        if carry_request(&mut self.frontend, &mut self.handler).is_err() {
+            return None;
+        }
+        let served = self.handler.handle_request(&mut self.device);
+        copy_reply(&mut self.handler, &mut self.reply);
+        if carry_reply(&mut self.handler, &mut self.frontend).is_err() {
+            return None;
+        }
+        Some(served)
+    }
+
     /// Why the run stops once the handler answered so.
-    fn stop_after(&self, served: &Result<()>) -> Option<Stop>
-        ensures { result ≡ stop_of ((asking_end self.now.frontend).faulted || (serving_end self.now.handler).faulted) served.now (text_in self.now.reply).bytes }
+    fn stop_after(&self, call: &FrontendCall, served: &Result<()>) -> Option<Stop>
+        ensures { result ≡ stop_of (ends (call_of call.now)) ((asking_end self.now.frontend).faulted || (serving_end self.now.handler).faulted) served.now (text_in self.now.reply).bytes }
     {
         if self.frontend.faulted() || self.handler.faulted() {
             return Some(Stop::Premise);
         }
         match served {
             Err(Error::OutOfMemory) => Some(Stop::Premise),
-            Err(_) if self.reply.bytes().is_empty() => Some(Stop::Table),
+            Err(_) if self.reply.bytes().is_empty() || is_end(call) => Some(Stop::Table),
             _ => None,
         }
     }
+}
+
+/// Whether the call ends postcopy.
+fn is_end(call: &FrontendCall) -> bool
+    ensures { result ≡ ends (call_of call.now) }
+{
+    matches!(call, FrontendCall::PostcopyEnd)
 }

@@ -56,11 +56,14 @@ impl Wire {
         self.handles.clear();
     }
 
-    /// Copies the bytes that a link took in, and the handles on the first.
+    /// Copies the bytes that a link took in, and the handles on the first. More than the greatest message is no message:
+    /// nothing is copied of it.
     pub fn copy(&mut self, sent: &VecDeque<HeldByte>)
-        requires { length sent.now.items ≤ 4108 }
-        ensures { text_in self.new ≡ text_of sent.now.items }
+        ensures { length sent.now.items ≤ 4108 → text_in self.new ≡ text_of sent.now.items }
     {
+        if sent.len() > MOST {
+            return;
+        }
         copy_bytes(&mut self.bytes, sent);
         copy_handles(&mut self.handles, sent);
     }

@@ -2,6 +2,6 @@ use Rattle.vhost_connection.specs.State.{ahead_of}
 use Rattle.vhost_pair.proofs.Carrying.{carries}
 use Rattle.vhost_pair.proofs.ways.carry.Goals as goal
 
-pub returns : goal.returns
+pub returns-in-Ok-clause-carried : goal.returns-in-Ok-clause-carried
 unfolding ahead_of
-returns c = carries _ _ _ _ _ _ c.carry-carried.result c.link.ensures.value c.link-2.ensures.value c.carry-carried.ensures.succeeds c.requires c.carry-carried.ensures.carried
+returns-in-Ok-clause-carried c = carries _ _ _ _ _ _ c.link.ensures.value c.link-2.ensures.value c.in-Ok.ensures.carried

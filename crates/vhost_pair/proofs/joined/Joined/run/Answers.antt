@@ -1,9 +1,9 @@
-use Rattle.std.proofs.Common.{◌∙◌, sym, subst, arith, take, [], Ok, ◌+◌}
+use Rattle.std.proofs.Common.{◌∙◌, sym, subst, arith, take, [], Ok, Err, ◌+◌}
 use Rattle.std.proofs.lemmas.List.{take_all}
 use Rattle.std.proofs.lemmas.Result.{err_from_is_err_and}
-use Rattle.vhost_pair.specs.declared.call.FrontendCall.TheVariants.{GetFeatures}
+use Rattle.vhost_frontend_calls.specs.Calls.{call_of}
 use Rattle.vhost_pair.proofs.Running.{Ran, ran-none, ran-all, ran-one, ran-to, found}
-use Rattle.vhost_pair.specs.Joined.{RunsCalls}
+use Rattle.vhost_pair.specs.Joined.{Steps, RunsCalls}
 use Rattle.vhost_pair.proofs.joined.Joined.run.Goals as goal
 
 pub loop-call-init : goal.loop-call-init
@@ -15,14 +15,16 @@ loop-call-init g c = record {
 pub loop-call-preserved : goal.loop-call-preserved
 loop-call-preserved g c = record {
   ran = subst (λ xs. Ran g.D.VhostUserBackendReqHandlerMut.gives c.args.self.now (take (c.loop-call.call-index + 1) c.args.calls.now) c.args.out.now.items xs c.step.new.self) (sym c.push_reserved.ensures.items)
-      (ran-one g.D.VhostUserBackendReqHandlerMut.gives c.args.calls.now c.loop-call.call-index _ c.loop-call-test.true c.args.self.now c.loop-call.self c.step.new.self c.args.out.now.items c.loop-call.out.items c.in_ok-answer.answer c.loop-call.invariant.ran c.in_ok-answer.ensures);
+      (ran-one g.D.VhostUserBackendReqHandlerMut.gives c.args.calls.now c.loop-call.call-index c.call-item.result c.loop-call-test.true c.args.self.now c.loop-call.self c.step.new.self c.args.out.now.items c.loop-call.out.items c.in_ok-answer.answer c.loop-call.invariant.ran
+      (subst (λ call. Steps g.D.VhostUserBackendReqHandlerMut.gives c.loop-call.self (call_of call) (Ok c.in_ok-answer.answer) c.step.new.self) c.call-item.is c.in_ok-answer.ensures));
   room = omega (arith, c.loop-call.invariant.room, c.push_reserved.ensures.len, c.push_reserved.ensures.capacity, c.loop-call-test.true);
 }
 
 pub returns-in_err-answer : goal.returns-in_err-answer
 returns-in_err-answer g c =
     let p = err_from_is_err_and c.from_residual.result c.from_residual.ensures.1 in
-    rw (p.1, p.2) (ran-to g.D.VhostUserBackendReqHandlerMut.gives c.args.calls.now c.loop-call.call-index GetFeatures c.loop-call-test.true c.args.self.now c.loop-call.self c.step.new.self c.args.out.now.items c.loop-call.out.items c.in_err-answer.field-0.0 c.loop-call.invariant.ran c.in_err-answer.ensures)
+    rw (p.1, p.2) (ran-to g.D.VhostUserBackendReqHandlerMut.gives c.args.calls.now c.loop-call.call-index c.call-item.result c.loop-call-test.true c.args.self.now c.loop-call.self c.step.new.self c.args.out.now.items c.loop-call.out.items c.in_err-answer.field-0.0 c.loop-call.invariant.ran
+    (subst (λ call. Steps g.D.VhostUserBackendReqHandlerMut.gives c.loop-call.self (call_of call) (Err c.in_err-answer.field-0.0) c.step.new.self) c.call-item.is c.in_err-answer.ensures))
 
 pub returns : goal.returns
 returns g c =

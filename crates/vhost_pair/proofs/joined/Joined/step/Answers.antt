@@ -1,11 +1,37 @@
-use Rattle.std.proofs.Common.{◌∙◌, ap, sym, subst}
-use Rattle.vhost_pair.specs.Joined.{Answers, call_of, answer_of}
-use Rattle.vhost_pair.specs.Sides.{view_of}
-use Rattle.vhost_pair.proofs.Running.{not-stopped}
+use Rattle.std.proofs.Common.{◌∙◌, sym, subst}
+use Rattle.std.specs.Prelude.{Ok, Err}
+use Rattle.vhost_frontend_calls.specs.Calls.{call_of}
+use Rattle.vhost_pair.specs.Joined.{Steps}
+use Rattle.vhost_pair.specs.Sides.{parts_of, as_view}
+use Rattle.vhost_pair.proofs.Running.{not-stopped, held}
+use Rattle.vhost_pair.proofs.Stepping.{steps-so, sound-so, halts-so, sound-halted}
 use Rattle.vhost_pair.proofs.joined.Joined.step.Goals as goal
 
-pub returns : goal.returns
-returns g c =
-    let begun = not-stopped (c.self.inside.stopped) (sym c.is_some.ensures ∙ c.if-is_some.false) in
-    let same = c.prepare.ensures.same ∙ ap (λ t. view_of (c.self.inside.sides) t) (sym begun) ∙ c.self.view_is in
-    (ap (λ v. v.stopped) (sym c.self.view_is) ∙ begun, subst (λ v. Answers g.D.VhostUserBackendReqHandlerMut.gives v (call_of c.args.call) (answer_of c.exchange-done.result.answer) (view_of c.exchange-done.new.self c.exchange-done.result.stop)) same c.exchange-done.ensures.answers)
+pub returns-in-Ok : goal.returns-in-Ok
+returns-in-Ok g c =
+    let none = not-stopped (c.self.inside.stopped) (sym c.is_some.ensures ∙ c.if-is_some.false) in
+    let gives = g.D.VhostUserBackendReqHandlerMut.gives in
+    let lists = held c.prepare.result _ (sym c.is_err.ensures.value ∙ c.if-is_err.false) c.prepare.ensures.lists in
+    subst (λ v. Steps gives v (call_of c.args.call.now) (Ok c.in-Ok.done.answer) (as_view (parts_of c.exchange.new.self) c.in-Ok.done.stop)) c.self.view_is
+    (steps-so gives (call_of c.args.call.now) (parts_of c.self.inside.sides) (parts_of c.prepare.new.self) c.prepare.ensures.asking c.prepare.ensures.serving c.prepare.ensures.rest
+    c.in-Ok.done (parts_of c.exchange.new.self) c.self.inside.stopped none (c.self.invariant none) lists c.in-Ok.ensures)
+
+pub returns-in-Err : goal.returns-in-Err
+returns-in-Err g c =
+    let none = not-stopped (c.self.inside.stopped) (sym c.is_some.ensures ∙ c.if-is_some.false) in
+    let gives = g.D.VhostUserBackendReqHandlerMut.gives in
+    subst (λ v. Steps gives v (call_of c.args.call.now) (Err c.in-Err.halt) (as_view (parts_of c.exchange.new.self) c.self.inside.stopped)) c.self.view_is
+    (halts-so gives (call_of c.args.call.now) (parts_of c.self.inside.sides) (parts_of c.prepare.new.self) c.prepare.ensures.asking c.prepare.ensures.serving c.prepare.ensures.rest
+    c.in-Err.halt (parts_of c.exchange.new.self) c.self.inside.stopped none c.in-Err.ensures)
+
+pub invariant_of-self-in-Ok : goal.invariant_of-self-in-Ok
+invariant_of-self-in-Ok g c on =
+    let none = not-stopped (c.self.inside.stopped) (sym c.is_some.ensures ∙ c.if-is_some.false) in
+    let lists = held c.prepare.result _ (sym c.is_err.ensures.value ∙ c.if-is_err.false) c.prepare.ensures.lists in
+    sound-so g.D.VhostUserBackendReqHandlerMut.gives (call_of c.args.call.now) (parts_of c.self.inside.sides) (parts_of c.prepare.new.self) c.prepare.ensures.asking c.prepare.ensures.serving c.prepare.ensures.rest
+    c.in-Ok.done (parts_of c.exchange.new.self) (c.self.invariant none) lists c.in-Ok.ensures on
+
+pub invariant_of-self-in-Err : goal.invariant_of-self-in-Err
+invariant_of-self-in-Err g c on =
+    sound-halted g.D.VhostUserBackendReqHandlerMut.gives (call_of c.args.call.now) (parts_of c.self.inside.sides) (parts_of c.prepare.new.self) c.prepare.ensures.asking c.prepare.ensures.serving c.prepare.ensures.rest
+    c.in-Err.halt (parts_of c.exchange.new.self) (c.self.invariant on) c.in-Err.ensures

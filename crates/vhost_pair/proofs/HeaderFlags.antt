@@ -1,0 +1,87 @@
+-- The header's flags change by their own call alone.
+use Rattle.std.proofs.Common.{◌≡◌, ℕ, Bool, true, false, cond, List, Option, Some, None, Result, Ok, Err, IfSome}
+use Rattle.std.specs.Prelude.{⊤, nat_le}
+use Rattle.vhost_protocol.specs.AnswerTable.{Answered, answered, answer, after_success, alone, with_one, changed, queues_reply, from_reply}
+use Rattle.vhost_protocol.specs.Ask.{Awaited, Nobody, Ack, Reply, Asked, Refuses, Answers, Sends, ask, given, ◌>>◌, ◌>>=◌}
+use Rattle.vhost_protocol.specs.Error.{Error, InvalidMessage}
+use Rattle.vhost_protocol.specs.FrontendCall.{FrontendCall, GetFeatures, GetProtocolFeatures, GetQueueNum, SetMemTable, SetLogBase, GetVringBase, GetConfig, GetSharedObject, GetInflightFd, GetMaxMemSlots, AddMemRegion, GetShmemConfig, SetDeviceStateFd, CheckDeviceState, PostcopyAdvise, PostcopyListen, PostcopyEnd, SetHdrFlags, Value, Number, HandleOf, Frontend}
+use Rattle.vhost_protocol.specs.Served.{Served, Silent, Acknowledged, Replied}
+use Rattle.vhost_frontend_calls.specs.Halves.{IsSent}
+use Rattle.vhost_protocol.specs.Written.{Payload, Empty, U64, Regions, OneRegion, Shmem, RingState, ConfigBytes, InflightArea, LogArea}
+
+module _ (H : Type 0) (flags : ℕ) where
+  -- ---- calls
+
+  -- it was refused or sent
+  abbrev pub SentWith : Asked H → Type 0
+  SentWith (Refuses e) = ⊤
+  SentWith (Answers v g) = ⊥
+  SentWith (Sends w awaited g) = g.header_flags ≡ flags
+
+  sent-then : (x : Result (Unit {0}) Error) (next : Asked H) → SentWith next → SentWith (x >> next)
+  sent-then (Ok u) next h = h
+  sent-then (Err e) next h = tt
+
+  sent-given : (A : Type 0) (x : Option A) (next : A → Asked H) → ((a : A) → SentWith (next a)) → SentWith (given x >>= next)
+  sent-given A (Some a) next h = h a
+  sent-given A None next h = tt
+
+  sent-cond : (b : Bool) (x y : Asked H) → SentWith x → SentWith y → SentWith (cond b x y)
+  sent-cond true x y h k = h
+  sent-cond false x y h k = k
+
+  ruleset sending = (sent-then, sent-given, sent-cond)
+
+  pub sent-with : (f : Frontend) (call : FrontendCall H) → IsSent call → f.header_flags ≡ flags → SentWith (ask f call)
+  sent-with f (SetLogBase base None) sent h = h
+  sent-with f (SetLogBase base (Some r)) sent h = search sending
+  sent-with f (SetHdrFlags n) sent h = absurd sent
+  sent-with f _ sent h = search sending
+
+  -- ---- answers
+
+  abbrev pub With : Option (Answered H) → Type 0
+  With o = IfSome o (λ a. a.session.header_flags ≡ flags)
+
+  with-changed : (f g : Frontend) (r : Result (Value H) Error) → f.header_flags ≡ flags → g.header_flags ≡ flags → (changed f g r).session.header_flags ≡ flags
+  with-changed f g (Ok v) h k = k
+  with-changed f g (Err e) h k = h
+
+  with-queues : (f : Frontend) (n : ℕ) (r : Result (Value H) Error) → f.header_flags ≡ flags → (queues_reply f n r).session.header_flags ≡ flags
+  with-queues f n r h = go (nat_le n 0x8000)
+    where
+      go : (b : Bool) → (cond b (changed f (record f { max_queue_num = n }) r) (answered f (Err InvalidMessage))).session.header_flags ≡ flags
+      go true = with-changed f (record f { max_queue_num = n }) r h h
+      go false = h
+
+  with-reply : (call : FrontendCall H) (f : Frontend) (p : Payload) (hs : List H) → f.header_flags ≡ flags → With (from_reply call f p hs)
+  with-reply GetFeatures f (U64 n) hs h = with-changed f (record f { offered = n }) (alone hs (Ok (Number n))) h h
+  with-reply GetProtocolFeatures f (U64 n) hs h = h
+  with-reply GetQueueNum f (U64 n) hs h = with-queues f n (alone hs (Ok (Number n))) h
+  with-reply (SetMemTable infos) f (Regions rs) hs h = h
+  with-reply (SetLogBase base region) f (LogArea l) hs h = h
+  with-reply (GetVringBase i) f (RingState v) hs h = h
+  with-reply (GetConfig o n k buffer) f (ConfigBytes c bytes) hs h = h
+  with-reply (GetSharedObject name) f Empty hs h = h
+  with-reply (GetInflightFd asked) f (InflightArea i) hs h = h
+  with-reply GetMaxMemSlots f (U64 n) hs h = h
+  with-reply (AddMemRegion info) f (OneRegion r) hs h = h
+  with-reply GetShmemConfig f (Shmem c) hs h = h
+  with-reply (SetDeviceStateFd t x) f (U64 n) hs h = h
+  with-reply CheckDeviceState f (U64 n) hs h = h
+  with-reply PostcopyAdvise f Empty hs h = with-changed f _ (with_one hs HandleOf) h h
+  with-reply _ f _ hs h = tt
+
+  with-success : (call : FrontendCall H) (f : Frontend) → f.header_flags ≡ flags → (after_success f call).header_flags ≡ flags
+  with-success PostcopyListen f h = h
+  with-success PostcopyEnd f h = h
+  with-success _ f h = h
+
+  pub answered-with : (call : FrontendCall H) (awaited : Awaited) (f : Frontend) (served : Served H) → f.header_flags ≡ flags → With (answer call awaited f served)
+  answered-with call Nobody f Silent h = with-success call f h
+  answered-with call Ack f Silent h = h
+  answered-with call (Reply shape) f Silent h = h
+  answered-with call Ack f (Acknowledged true) h = with-success call f h
+  answered-with call Ack f (Acknowledged false) h = h
+  answered-with call (Reply shape) f (Replied p hs) h = with-reply call f p hs h
+  answered-with call _ f _ h = tt

@@ -1,0 +1,101 @@
+-- What a joined step keeps of a frontend that is ready.
+use Rattle.std.proofs.Common.{◌≡◌, ℕ, Bool, true, false, [], Result, Ok, Err, refl, sym, ◌∙◌, ap, subst, IfSome}
+use Rattle.std.specs.Prelude.{⊤}
+use Rattle.vhost_message.specs.Bits.{has_bit}
+use Rattle.vhost_message.specs.declared.frontend_req.FrontendReq.TheVariants.{GET_FEATURES}
+use Rattle.vhost_protocol.specs.Agreement.{Negotiates, AskedNegotiates, OffersBit}
+use Rattle.vhost_protocol.specs.Ask.{Asked, Refuses, Answers, Sends, ask}
+use Rattle.vhost_protocol.specs.DeviceCall as device
+use Rattle.vhost_protocol.specs.Error.{Error}
+use Rattle.vhost_protocol.specs.FrontendCall.{FrontendCall, GetFeatures, SetHdrFlags, Frontend}
+use Rattle.vhost_protocol.specs.Handler.{Follows, Meets}
+use Rattle.vhost_protocol.specs.Joined.{Shown, Exchanges, JoinedStep, read_as}
+use Rattle.vhost_protocol.specs.Row.{row, with_features}
+use Rattle.vhost_protocol.specs.Served.{Served}
+use Rattle.vhost_protocol.specs.Session.{Session}
+use Rattle.vhost_protocol.specs.Step.{Outcome}
+use Rattle.vhost_protocol.proofs.NegotiationLaws.{calls-negotiate, replies-negotiate}
+use Rattle.vhost_link.specs.declared.plain.PlainHandle.{PlainHandle}
+use Rattle.vhost_frontend_calls.specs.Halves.{IsSent}
+use Rattle.vhost_pair.specs.Device.{Gives, opens_backend, opens_gpu}
+use Rattle.vhost_pair.specs.Joined.{Offers}
+use Rattle.vhost_pair.specs.Lockstep.{IsPlain}
+use Rattle.vhost_pair.proofs.HeaderFlags.{SentWith, sent-with, With, answered-with}
+
+-- every call but the one for the features
+abbrev IsOther : {H : Type 0} → FrontendCall H → Type 0
+IsOther GetFeatures = ⊥
+IsOther _ = ⊤
+
+data Kind {H : Type 0} (call : FrontendCall H) : Type 0 where
+  features : call ≡ GetFeatures → Kind call
+  flags : (n : ℕ) → call ≡ SetHdrFlags n → Kind call
+  other : IsOther call → IsSent call → Kind call
+
+kind-of : {H : Type 0} (call : FrontendCall H) → Kind call
+kind-of GetFeatures = features refl
+kind-of (SetHdrFlags n) = flags n refl
+kind-of _ = other tt tt
+
+module _ {Dev : Type 0} (gives : Gives Dev) (bit : Bool) where
+  -- requests are not sent as replies, and acknowledgements are on only where protocol features were offered
+  abbrev pub IsReadyFrontend : Frontend → Type 0
+  IsReadyFrontend f = (has_bit f.header_flags 2 ≡ false) × Negotiates bit f
+
+  -- ---- the features that are replied have the bit, or none has it
+
+  features-offer : Offers gives bit → (s : Session) (d : Dev) (need_reply reply : Bool) (o : Outcome PlainHandle) (d' : Dev) → reply ≡ false
+      → Follows gives opens_backend opens_gpu s d (row s (record { request = GET_FEATURES; reply = reply; need_reply = need_reply; body = []; handles = [] })) o d' → OffersBit {H = PlainHandle} bit GetFeatures o.served
+  features-offer offers s d n true o d' plain met = absurd (cc plain)
+  features-offer offers s d n false o d' plain (a, given, same) = subst (λ (x : Outcome PlainHandle). OffersBit {H = PlainHandle} bit GetFeatures x.served) (sym same) (by-answer a given)
+    where
+      by-answer : (r : Result ℕ Error) → gives d device.GetFeatures r d' → OffersBit {H = PlainHandle} bit GetFeatures (with_features s r).served
+      by-answer (Ok m) g = offers d d' m g
+      by-answer (Err e) g = tt
+
+  module _ (f : Frontend) (s : Session) (d : Dev) (call : FrontendCall PlainHandle) (shown : Shown PlainHandle) (f' : Frontend) (s' : Session) (d' : Dev) where
+    -- whatever the handler serves
+    abbrev OffersSo : Asked PlainHandle → Type 0
+    OffersSo (Sends w awaited g) = (o : Outcome PlainHandle) → Meets gives opens_backend opens_gpu s d (read_as w) o d' → OffersBit bit call o.served
+    OffersSo _ = ⊤
+
+    offered-else : IsOther call → (served : Served PlainHandle) → OffersBit bit call served
+    offered-else = go call
+      where
+        go : (c : FrontendCall PlainHandle) → IsOther c → (served : Served PlainHandle) → OffersBit bit c served
+        go GetFeatures not served = absurd not
+        go _ not served = tt
+
+    others-offer : (x : Asked PlainHandle) → IsOther call → OffersSo x
+    others-offer (Refuses e) not = tt
+    others-offer (Answers v g) not = tt
+    others-offer (Sends w awaited g) not = λ o met. offered-else not o.served
+
+    -- ---- a step
+
+    ready-asked : (x : Asked PlainHandle) → IsReadyFrontend f → SentWith PlainHandle f.header_flags x → AskedNegotiates bit x → OffersSo x
+        → Exchanges gives opens_backend opens_gpu f s d call x shown f' s' d' → IsReadyFrontend f'
+    ready-asked (Refuses e) ready sent asked offers step = subst IsReadyFrontend (sym step.1) ready
+    ready-asked (Answers v g) ready sent asked offers step = absurd sent
+    ready-asked (Sends w awaited g) ready sent asked offers (o, met, session, is, request, reply, last) =
+        let same : f'.header_flags ≡ f.header_flags = subst (With PlainHandle f.header_flags) is (answered-with PlainHandle f.header_flags call awaited g o.served sent) in
+        (ap (λ n. has_bit n 2) same ∙ ready.0, subst (λ x. IfSome x (λ a. Negotiates bit a.session)) is (replies-negotiate PlainHandle bit call awaited g o.served asked (offers o met)))
+
+    sent-ready : IsSent call → OffersSo (ask f call) → IsReadyFrontend f → JoinedStep gives opens_backend opens_gpu f s d call shown f' s' d' → IsReadyFrontend f'
+    sent-ready sent offers ready step = ready-asked (ask f call) ready (sent-with PlainHandle f.header_flags f call sent refl) (calls-negotiate PlainHandle bit f call ready.1) offers step
+
+  -- a step of a frontend that is ready leaves it ready
+  pub stays-ready : Offers gives bit → (f : Frontend) (s : Session) (d : Dev) (call : FrontendCall PlainHandle) (shown : Shown PlainHandle) (f' : Frontend) (s' : Session) (d' : Dev)
+      → IsPlain call → IsReadyFrontend f → JoinedStep gives opens_backend opens_gpu f s d call shown f' s' d' → IsReadyFrontend f'
+  stays-ready offers f s d call shown f' s' d' plain ready step = by-kind (kind-of call)
+    where
+      flagged : (n : ℕ) → IsPlain {H = PlainHandle} (SetHdrFlags n) → JoinedStep gives opens_backend opens_gpu f s d (SetHdrFlags n) shown f' s' d' → IsReadyFrontend f'
+      flagged n without done = subst IsReadyFrontend (sym done.1) (without, ready.1)
+
+      offered : JoinedStep gives opens_backend opens_gpu f s d GetFeatures shown f' s' d' → IsReadyFrontend f'
+      offered done = sent-ready f s d GetFeatures shown f' s' d' tt (λ o met. features-offer offers s d (has_bit f.header_flags 3) (has_bit f.header_flags 2) o d' ready.0 met) ready done
+
+      by-kind : Kind call → IsReadyFrontend f'
+      by-kind (features is) = offered (subst (λ c. JoinedStep gives opens_backend opens_gpu f s d c shown f' s' d') is step)
+      by-kind (flags n is) = flagged n (subst (λ (c : FrontendCall PlainHandle). IsPlain c) is plain) (subst (λ c. JoinedStep gives opens_backend opens_gpu f s d c shown f' s' d') is step)
+      by-kind (other not sent) = sent-ready f s d call shown f' s' d' sent (others-offer f s d call shown f' s' d' (ask f call) not) ready step
