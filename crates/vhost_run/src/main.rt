@@ -1,14 +1,10 @@
 //! Runs the calls of a frontend, one a line, against an example device.
 #![tactic(auto)]
 
-mod device;
-mod lines;
-mod parse;
-mod show;
-
 use std::io;
 use std::io::{BufReader, BufWriter};
 use std::process::ExitCode;
+use vhost_lines::run_lines;
 
 fn main(rt: HostRuntime) -> ExitCode {
     let (Ok(mut input), Ok(mut output)) = (
@@ -17,6 +13,6 @@ fn main(rt: HostRuntime) -> ExitCode {
     ) else {
         return ExitCode::from(2);
     };
-    let status = lines::run_lines(rt.alloc(), &mut input, &mut output, &mut rt.stderr());
+    let status = run_lines(rt.alloc(), &mut input, &mut output, &mut rt.stderr());
     ExitCode::from(status)
 }

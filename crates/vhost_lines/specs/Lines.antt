@@ -1,0 +1,39 @@
+-- A text as lines, and what is to become of them.
+use Rattle.std.specs.Prelude.{◌≡◌, ℕ, ◌+◌, Bool, true, false, List, [], ◌∷◌, ◌++◌, Option, Some, None, is_some, ⊤, ◌==◌, if◌then◌else◌, codes, decimal}
+use Rattle.vhost_call_words.specs.Calls.{call_in}
+
+-- a byte in front of the first of some texts
+abbrev pub with_first : ℕ → List (List ℕ) → List (List ℕ)
+with_first byte [] = (byte ∷ []) ∷ []
+with_first byte (text ∷ texts) = (byte ∷ text) ∷ texts
+
+-- the lines of a text: a line feed ends each, the last one perhaps without
+abbrev pub lines : List ℕ → List (List ℕ)
+lines [] = []
+lines (byte ∷ text) = if byte == 10 then [] ∷ lines text else with_first byte (lines text)
+
+-- the number of the first line that is no call, where there is one; the first of these lines has the number n
+abbrev pub bad_line : ℕ → List (List ℕ) → Option ℕ
+bad_line n [] = None
+bad_line n (line ∷ later) = if is_some (call_in line) then bad_line (n + 1) later else Some n
+
+-- the status of a text that is read to its end, or to a line that is no call
+abbrev pub status_of : Option ℕ → ℕ
+status_of None = 0
+status_of (Some n) = 1
+
+-- what is told of a line that is no call
+abbrev pub complaint_of : Option ℕ → List ℕ
+complaint_of None = []
+complaint_of (Some n) = codes "line " ++ (decimal n ++ codes ": bad call\n")
+
+-- a reader gave a line, or was at its end, where its bytes are known
+abbrev pub GivesLine : Option (List ℕ) → Option (List ℕ) → Bool → List ℕ → Type 0
+GivesLine None after more line = ⊤
+GivesLine (Some text) after true line = (rest : List ℕ) × (after ≡ Some rest) × (lines text ≡ line ∷ lines rest)
+GivesLine (Some text) after false line = text ≡ []
+
+-- what a reader has left begins with line n, where its bytes are known: the first bad line of all is that of the rest
+abbrev pub IsAtLine : Option (List ℕ) → Option (List ℕ) → ℕ → Type 0
+IsAtLine None now n = ⊤
+IsAtLine (Some text) now n = (rest : List ℕ) × (now ≡ Some rest) × (bad_line 1 (lines text) ≡ bad_line n (lines rest))

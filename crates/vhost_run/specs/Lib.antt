@@ -1,6 +1,0 @@
-pub mod Words
-pub mod Left
-pub mod Lines
-pub mod Show
-pub mod Shown
-pub mod Session
