@@ -47,6 +47,7 @@ impl From<Halt> for Fault {
 ///
 /// The status is 0 at the end of the input; 1 after a line that is no call, which `errors` is told; 2 after a fault
 /// of a reader, a writer or a link, or for want of memory, and then the line that met it isn't shown.
+/// Where the device wants memory for bytes of its configuration space, it refuses the call, and the line shows that.
 pub fn run_lines<I: BufRead, W: Write, E: Write>(
     alloc: Global,
     input: &mut I,
