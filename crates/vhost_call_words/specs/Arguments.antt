@@ -34,6 +34,10 @@ protocol_features word = u64 word >>= within 0x7f_ffff
 abbrev pub config_flags : List ℕ → Option ℕ
 config_flags word = u32 word >>= within 3
 
+-- the flags of a request's header that may be chosen: none, or that which asks for an acknowledgement
+abbrev pub header_flags : List ℕ → Option ℕ
+header_flags word = u32 word >>= within 8
+
 -- the handle of a number: a Unix stream socket from 1000 on
 abbrev pub handle_of : ℕ → PlainHandle
 handle_of id = record { id = id; kind = if nat_lt id 1000 then NoSocket else UnixStream }

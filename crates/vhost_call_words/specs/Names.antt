@@ -1,8 +1,8 @@
 -- The names of calls, by how many arguments a call takes.
 use Rattle.std.specs.Prelude.{ℕ, List, [], ◌∷◌, ◌++◌, Option, codes}
 use Rattle.vhost_protocol.specs.FrontendCall.{GetFeatures, SetOwner, ResetOwner, GetProtocolFeatures, GetQueueNum, ResetDevice, GetMaxMemSlots, GetShmemConfig, CheckDeviceState, PostcopyAdvise, PostcopyListen, PostcopyEnd, SetFeatures, SetProtocolFeatures, GetVringBase, SetLogFd, SetBackendRequestFd, GetSharedObject, PostcopyAckMemRegions, SetHdrFlags, SetVringNum, SetVringBase, SetVringCall, SetVringKick, SetVringErr, SetVringEnable}
-use Rattle.vhost_call_words.specs.Number.{u64, u32, u16}
-use Rattle.vhost_call_words.specs.Arguments.{switch, protocol_features, handle, request, object_name}
+use Rattle.vhost_call_words.specs.Number.{u64, u16}
+use Rattle.vhost_call_words.specs.Arguments.{switch, protocol_features, header_flags, handle, request, object_name}
 use Rattle.vhost_call_words.specs.Shapes.{bare, one, two}
 use Rattle.vhost_call_words.specs.Calls.{Call, set_log_base, set_vring_addr, get_inflight_fd, set_inflight_fd, add_mem_region, remove_mem_region, set_device_state_fd, set_mem_table, get_config, set_config}
 use Rattle.vhost_call_words.specs.declared.name.BareName.{BareName}
@@ -103,7 +103,7 @@ single_row single_name.SetLogFd args = one handle SetLogFd args
 single_row single_name.SetBackendRequestFd args = one handle SetBackendRequestFd args
 single_row single_name.GetSharedObject args = one object_name GetSharedObject args
 single_row single_name.PostcopyAckMemRegions args = one request PostcopyAckMemRegions args
-single_row single_name.SetHdrFlags args = one u32 SetHdrFlags args
+single_row single_name.SetHdrFlags args = one header_flags SetHdrFlags args
 
 -- the call of each, of its arguments
 abbrev pub ring_row : RingName → List (List ℕ) → Option Call

@@ -2,7 +2,7 @@
 
 ghost use Rattle.std.specs.Prelude.{◌≡◌, IfOk, Some, option_map};
 ghost use Rattle.vhost_message.specs.Transfer.{direction_number, phase_number};
-ghost use Rattle.vhost_call_words.specs.Arguments.{switch, protocol_features, config_flags, handle, request, direction, phase, byte_string, object_name};
+ghost use Rattle.vhost_call_words.specs.Arguments.{switch, protocol_features, config_flags, header_flags, handle, request, direction, phase, byte_string, object_name};
 ghost use Rattle.vhost_call_words.specs.Calls.{area};
 ghost use Rattle.vhost_call_words.specs.Read.{bytes_of};
 
@@ -14,7 +14,7 @@ use uuid::Uuid;
 use vhost_link::{Kind, PlainHandle};
 use vhost_message::{
     FrontendReq, VhostTransferStateDirection, VhostTransferStatePhase, VhostUserConfigFlags,
-    VhostUserInflight, VhostUserProtocolFeatures, VhostUserSharedMsg,
+    VhostUserHeaderFlag, VhostUserInflight, VhostUserProtocolFeatures, VhostUserSharedMsg,
 };
 
 /// The first number of a handle that is a Unix stream socket.
@@ -43,6 +43,17 @@ pub(crate) fn config_flags(word: &str) -> Option<VhostUserConfigFlags>
     ensures { option_map (λ f. f.bits) result ≡ config_flags word.now }
 {
     VhostUserConfigFlags::from_bits(number_32(word)?)
+}
+
+/// The flags of a request's header: none, or that it asks for an acknowledgement.
+pub(crate) fn header_flags(word: &str) -> Option<VhostUserHeaderFlag>
+    ensures { option_map (λ f. f.bits) result ≡ header_flags word.now }
+{
+    let flags = number_32(word)?;
+    if flags & VhostUserHeaderFlag::NEED_REPLY.bits() != flags {
+        return None;
+    }
+    Some(VhostUserHeaderFlag::from_bits_retain(flags))
 }
 
 /// The handle of a number.

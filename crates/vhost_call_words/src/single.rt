@@ -4,12 +4,10 @@ ghost use Rattle.std.specs.Prelude.{◌≡◌};
 ghost use Rattle.vhost_call_words.specs.Names.{single_row};
 ghost use Rattle.vhost_call_words.specs.Read.{called, texts};
 
-use crate::argument::{handle, object_name, protocol_features, request};
+use crate::argument::{handle, header_flags, object_name, protocol_features, request};
 use crate::name::SingleName;
-use crate::number::{index, number, number_32};
-use bitflags::Flags;
+use crate::number::{index, number};
 use vhost_frontend_calls::FrontendCall;
-use vhost_message::VhostUserHeaderFlag;
 
 /// The call of a name and its argument. None where there is another count of arguments, or this is none.
 pub(crate) fn single_call(name: SingleName, args: &[&str]) -> Option<FrontendCall>
@@ -30,9 +28,6 @@ pub(crate) fn single_call(name: SingleName, args: &[&str]) -> Option<FrontendCal
         SingleName::PostcopyAckMemRegions => {
             Some(FrontendCall::PostcopyAckMemRegions(request(word)?))
         }
-        SingleName::SetHdrFlags => {
-            let flags = VhostUserHeaderFlag::from_bits_retain(number_32(word)?);
-            Some(FrontendCall::SetHdrFlags(flags))
-        }
+        SingleName::SetHdrFlags => Some(FrontendCall::SetHdrFlags(header_flags(word)?)),
     }
 }

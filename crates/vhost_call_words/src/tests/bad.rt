@@ -118,6 +118,9 @@ fn numbers_too_large(rt: HostRuntime) -> Result<(), Fail> {
 fn values_that_are_none(rt: HostRuntime) -> Result<(), Fail> {
     let lines = [
         "set_protocol_features 0x800000",
+        "set_hdr_flags 1",
+        "set_hdr_flags 4",
+        "set_hdr_flags 0x10",
         "set_protocol_features 0x8000000000000001",
         "get_config 0 0 4",
         "set_config 0 5 00",

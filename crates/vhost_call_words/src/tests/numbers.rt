@@ -28,12 +28,12 @@ fn flags(rt: HostRuntime) -> Result<(), Fail> {
         _ => 0,
     };
     assert_eq!(rt; bits, 0x7f_ffff);
-    let call = read(rt.alloc(), "set_hdr_flags 0xffffffff")?;
+    let call = read(rt.alloc(), "set_hdr_flags 0x8")?;
     let bits = match call {
         Some(FrontendCall::SetHdrFlags(flags)) => flags.bits(),
         _ => 0,
     };
-    assert_eq!(rt; bits, 0xffff_ffff);
+    assert_eq!(rt; bits, 8);
     Ok(())
 }
 
