@@ -1,6 +1,7 @@
 -- One exchange between both sides over links in memory, where they are in step.
 use Rattle.std.proofs.Common.{◌≡◌, ℕ, ◌≤◌, ◌⊎◌, inl, inr, Bool, true, false, List, [], ◌++◌, length, Option, Some, None, Result, Ok, Err, refl, sym, ◌∙◌, ap, subst, arith}
 use Rattle.std.specs.Prelude.{◌||◌}
+use Rattle.std.proofs.Math.Bool.{or-true}
 use Rattle.vhost_message.specs.declared.error.Error as declared
 use Rattle.vhost_message.specs.declared.error.Error.TheVariants as error
 use Rattle.vhost_message.specs.declared.frontend_req.FrontendReq.{FrontendReq}
@@ -39,10 +40,6 @@ use Rattle.vhost_pair.proofs.Served.{pair-first, pair-second, IsHandled, split-h
 use Rattle.vhost_pair.proofs.Calls.{ends-so}
 use Rattle.vhost_pair.proofs.Outcomes.{sendable, few-written, Outcomes, outcomes}
 use Rattle.vhost_pair.proofs.Spent.{Faults, faults, fault-spent, spent-later, used-none, used-then}
-
-or-true : (b : Bool) → (b || true) ≡ true
-or-true true = refl
-or-true false = refl
 
 from_some : {A : Type 0} → A → Option A → A
 from_some a None = a

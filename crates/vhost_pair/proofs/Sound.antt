@@ -1,6 +1,7 @@
 -- What stays sound, whether or not both sides are in step.
-use Rattle.std.proofs.Common.{◌≡◌, ◌⊎◌, inl, inr, Bool, true, false, Option, Some, None, Result, Ok, Err, refl, sym, ◌∙◌, ap, subst}
+use Rattle.std.proofs.Common.{◌≡◌, ◌⊎◌, inl, inr, true, false, Option, Some, None, Result, Ok, Err, sym, ◌∙◌, ap, subst}
 use Rattle.std.specs.Prelude.{◌||◌}
+use Rattle.std.proofs.Math.Bool.{or-true}
 use Rattle.vhost_message.specs.declared.error.Error as declared
 use Rattle.vhost_message.specs.declared.error.Error.TheVariants as error
 use Rattle.vhost_message.specs.MsgHeader.{fields_of}
@@ -23,10 +24,6 @@ use Rattle.vhost_pair.specs.Sides.{Parts, IsSound, HaveLists, ends, stop_of, Ser
 use Rattle.vhost_pair.proofs.Asked.{End, IsAsked, is-asked, IsUnasked, is-unasked, emptied, held, IsTaken, is-taken}
 use Rattle.vhost_pair.proofs.Served.{IsHandled, split-handled, handled-mark}
 use Rattle.vhost_pair.proofs.Spent.{Faults, faults}
-
-or-true : (b : Bool) → (b || true) ≡ true
-or-true true = refl
-or-true false = refl
 
 module _ {Dev : Type 0} (gives : Gives Dev) (call : FrontendCall PlainHandle) (old : Parts Dev) (sound : IsSound old) (lists : HaveLists old) where
   -- ---- a call that was sent and served

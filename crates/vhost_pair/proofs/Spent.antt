@@ -1,6 +1,7 @@
 -- Links that failed.
-use Rattle.std.proofs.Common.{◌≡◌, ℕ, zero, suc, ◌+◌, ◌<◌, ◌≤◌, ◌⊎◌, inl, inr, List, [], ◌∷◌, length, take, drop, None, refl, sym, ◌∙◌, ap, subst, arith, true, Bool}
+use Rattle.std.proofs.Common.{◌≡◌, ℕ, zero, suc, ◌+◌, ◌<◌, ◌≤◌, ◌⊎◌, inl, inr, length, take, drop, None, refl, sym, ◌∙◌, ap, subst, arith, true, Bool}
 use Rattle.std.specs.Prelude.{sum_by}
+use Rattle.std.proofs.lemmas.List.{drop-drop}
 use Rattle.std.proofs.lemmas.List.Sums.{sum_by-append}
 use Rattle.std.proofs.Math.Seq.{take-add}
 use Rattle.vhost_message.specs.declared.error.Error as declared
@@ -18,17 +19,6 @@ use Rattle.vhost_connection.specs.Hearing.{Fails, Spends, was_broken, no_memory,
 use Rattle.vhost_pair.specs.Joined.{Cuts, IsSpent, IsUsed}
 use Rattle.vhost_pair.specs.Sides.{cuts_of}
 
-drop-nil : {A : Type 0} (n : ℕ) → drop {A = A} n [] ≡ []
-drop-nil zero = refl
-drop-nil (suc n) = refl
-
-pub drop-drop : {A : Type 0} (n m : ℕ) (xs : List A) → drop m (drop n xs) ≡ drop (n + m) xs
-drop-drop zero m xs = ap (λ k. drop k xs) (omega arith)
-drop-drop (suc n) m [] = drop-nil m ∙ sym (drop-nil (suc n + m))
-drop-drop (suc n) m (x ∷ xs) =
-    let e : suc (n + m) ≡ suc n + m = omega arith in
-    drop-drop n m xs ∙ ap (λ k. drop k (x ∷ xs)) e
-
 pub spent : (budget : ℕ) (old new : Ends) (m : Move PlainHandle) → Runs old m new → Spends budget m → IsSpent budget (cuts_of old) (cuts_of new)
 spent budget old new m r s = record { used = r.calls; wants = r.wants; script = r.script; want = r.want; spent = over s }
   where
@@ -41,7 +31,7 @@ pub spent-later : (budget n : ℕ) (old mid new : Cuts) → mid.script ≡ drop 
 spent-later budget n old mid new e s = record {
   used = n + s.used;
   wants = s.wants;
-  script = s.script ∙ ap (λ xs. drop (s.used) xs) e ∙ drop-drop n (s.used) old.script;
+  script = s.script ∙ ap (λ xs. drop (s.used) xs) e ∙ drop-drop (s.used) n old.script;
   want = s.want;
   spent = over s.spent;
 }
@@ -100,6 +90,6 @@ used-none old new e = record { used = 0; script = ap {A = Cuts} (λ x. x.script)
 pub used-then : (old mid new : Cuts) → IsUsed old mid → IsUsed mid new → IsUsed old new
 used-then old mid new a b = record {
   used = a.used + b.used;
-  script = b.script ∙ ap (λ xs. drop (b.used) xs) a.script ∙ drop-drop (a.used) (b.used) old.script;
+  script = b.script ∙ ap (λ xs. drop (b.used) xs) a.script ∙ drop-drop (b.used) (a.used) old.script;
   starved = λ was. b.starved (a.starved was);
 }
