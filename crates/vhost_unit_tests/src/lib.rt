@@ -10,10 +10,6 @@ mod dummy_backend;
 #[cfg(test)]
 mod frontend;
 #[cfg(test)]
-mod frontend_calls;
-#[cfg(test)]
-mod frontend_core;
-#[cfg(test)]
 mod gpu_message;
 #[cfg(test)]
 mod message;
