@@ -1,0 +1,4 @@
+pub mod Telling
+pub mod Arms
+pub mod Handling
+pub mod Sharing
