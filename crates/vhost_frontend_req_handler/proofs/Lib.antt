@@ -1,4 +1,0 @@
-pub mod Telling
-pub mod Arms
-pub mod Handling
-pub mod Sharing

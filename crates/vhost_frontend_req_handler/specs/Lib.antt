@@ -1,6 +1,0 @@
-pub mod Handles
-pub mod Reading
-pub mod Telling
-pub mod Serving
-pub mod Core
-pub mod Sharing
