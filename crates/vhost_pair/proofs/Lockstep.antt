@@ -124,7 +124,7 @@ module _ {Dev : Type 0} (gives : Gives Dev) where
   lockstep bit old new (c ∷ cs) [] (Err h) offers ready none plain s clean =
       let k = unstepped bit old new ready none (halted-same old new c h s) in record { run = k.run; in_step = k.in_step; no_premise = k.no_premise }
   lockstep bit old new (c ∷ cs) (a ∷ as') end offers ready none plain s clean =
-      lockstep-more bit offers old s.0 new c cs a as' end plain.0 ready (s.1.1 bit offers ready) s.2 clean
+      lockstep-more bit offers old s.0 new c cs a as' end plain.0 ready (s.1.1 bit ready) s.2 clean
       (λ mid_ready mid_none later. lockstep bit s.0 new cs as' end offers mid_ready mid_none plain.1 s.2 later)
 
 -- a run that begins is ready

@@ -43,7 +43,7 @@ module _ {Dev : Type 0} (gives : Gives Dev) (call : FrontendCall PlainHandle) (o
   pub steps-so : (x : Exchanged) (new : Parts Dev) (stopped : Option Stop) → stopped ≡ None → IsSound old → HaveLists mid → Exchanges gives call mid (Ok x) new → Steps gives (as_view old stopped) call (Ok x.answer) (as_view new x.stop)
   steps-so x new stopped none sound lists done = (
     none,
-    λ bit offers ready. subst (λ v. Answers gives v call (answer_of x.answer) (as_view new x.stop)) (same-view None ∙ ap {A = Option Stop} {B = View Dev} (λ s. as_view old s) (sym none))
+    λ bit ready. subst (λ v. Answers gives v call (answer_of x.answer) (as_view new x.stop)) (same-view None ∙ ap {A = Option Stop} {B = View Dev} (λ s. as_view old s) (sym none))
         (answers-so gives call bit mid (still-sound sound) lists (subst (λ v. IsReady bit v) (ap {A = Option Stop} {B = View Dev} (λ s. as_view old s) none ∙ sym (same-view None)) ready) done),
   )
 

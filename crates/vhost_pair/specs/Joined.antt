@@ -112,7 +112,7 @@ module _ {Dev : Type 0} (gives : Gives Dev) where
 
   -- one step: a run that stopped before, and want of memory before the first byte, change nothing; an answered step is that of both sides in step
   abbrev pub Steps : View Dev → FrontendCall PlainHandle → Result FrontendAnswer Halt → View Dev → Type 0
-  Steps old call (Ok a) new = (old.stopped ≡ None) × ((bit : Bool) → Offers bit → IsReady bit old → Answers old call (answer_of a) new)
+  Steps old call (Ok a) new = (old.stopped ≡ None) × ((bit : Bool) → IsReady bit old → Answers old call (answer_of a) new)
   Steps old call (Err halt.Stopped) new = (is_some old.stopped ≡ true) × (new ≡ old)
   Steps old call (Err halt.OutOfMemory) new = (old.stopped ≡ None) × (new ≡ old)
 
