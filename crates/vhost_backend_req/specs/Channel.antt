@@ -9,19 +9,19 @@ use Rattle.vhost_backend_req.specs.declared.internal.BackendInternal.{BackendInt
 
 -- its endpoint, what was agreed on, and the number of the error with which it was marked as failed
 pub record Channel (L H : Type 0) : Type 0 where
-  pub end : State L H
+  pub endpoint : State L H
   pub reply_ack : Bool
   pub shared_object : Bool
   pub shmem : Bool
   pub failed : Option ℤ
 
 abbrev pub channel : {L H : Type 0} → BackendInternal L H → Channel L H
-channel b = record { end = state b.end; reply_ack = b.reply_ack; shared_object = b.shared_object; shmem = b.shmem; failed = b.failed }
+channel b = record { endpoint = state b.endpoint; reply_ack = b.reply_ack; shared_object = b.shared_object; shmem = b.shmem; failed = b.failed }
 
 -- a channel that has not sent or received yet
 abbrev pub opened : {L H : Type 0} → L → ℕ → Channel L H
-opened link budget = record { end = fresh link budget; reply_ack = false; shared_object = false; shmem = false; failed = None }
+opened link budget = record { endpoint = fresh link budget; reply_ack = false; shared_object = false; shmem = false; failed = None }
 
 -- the channel over another endpoint
-abbrev pub with_end : {L H : Type 0} → BackendInternal L H → Endpoint (VhostUserMsgHeader BackendReq) L H → BackendInternal L H
-with_end b end = record b { end = end }
+abbrev pub with_endpoint : {L H : Type 0} → BackendInternal L H → Endpoint (VhostUserMsgHeader BackendReq) L H → BackendInternal L H
+with_endpoint b endpoint = record b { endpoint = endpoint }

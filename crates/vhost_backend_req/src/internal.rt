@@ -16,7 +16,7 @@ type Header = VhostUserMsgHeader<BackendReq>;
 /// Mirrors `BackendInternal` of `vhost::vhost_user::backend_req`.
 #[derive(Drop)]
 pub struct BackendInternal<L: Link> {
-    end: Endpoint<Header, L>,
+    endpoint: Endpoint<Header, L>,
     reply_ack: bool,
     shared_object: bool,
     shmem: bool,
@@ -25,7 +25,7 @@ pub struct BackendInternal<L: Link> {
 
 impl<L: Link> BackendInternal<L> {
     ghost use Rattle.std.specs.Borrow.{sem, Lends};
-    ghost use Rattle.vhost_backend_req.specs.Channel.{channel, opened, with_end};
+    ghost use Rattle.vhost_backend_req.specs.Channel.{channel, opened, with_endpoint};
     ghost use Rattle.vhost_backend_req.specs.contracts.internal.BackendInternal.{the_row};
     ghost use Rattle.vhost_connection.specs.State.{state};
     ghost use Rattle.vhost_connection.specs.contracts.endpoint.Endpoint.{the_row as endpoint_row};
@@ -40,7 +40,7 @@ impl<L: Link> BackendInternal<L> {
         ensures memory { IfErr result (λ e. e ≡ OutOfMemory) }
     {
         Ok(BackendInternal {
-            end: Endpoint::from_stream(alloc, link, budget)?,
+            endpoint: Endpoint::from_stream(alloc, link, budget)?,
             reply_ack: false,
             shared_object: false,
             shmem: false,
@@ -56,17 +56,17 @@ impl<L: Link> BackendInternal<L> {
     }
 
     /// Lends its endpoint.
-    pub fn end(&mut self) -> &mut Endpoint<Header, L>
-        ensures* lender { sem 𝓛 (Lends (the_row L.row L.Handle.row) (endpoint_row (header_row code_row) L.row L.Handle.row) self.entry result (λ e. with_end self.old e)) }
-        ensures value { state result.now ≡ (channel self.old).end }
+    pub fn endpoint_mut(&mut self) -> &mut Endpoint<Header, L>
+        ensures* lender { sem 𝓛 (Lends (the_row L.row L.Handle.row) (endpoint_row (header_row code_row) L.row L.Handle.row) self.entry result (λ e. with_endpoint self.old e)) }
+        ensures value { state result.now ≡ (channel self.old).endpoint }
     {
-        &mut self.end
+        &mut self.endpoint
     }
 
     /// Whether the last call that sent or received met a fault: the link failed, or retried once too often.
     pub fn faulted(&self) -> bool
-        ensures { result ≡ (channel self.now).end.faulted }
+        ensures { result ≡ (channel self.now).endpoint.faulted }
     {
-        self.end.faulted()
+        self.endpoint.faulted()
     }
 }

@@ -25,7 +25,7 @@ use Rattle.vhost_connection.proofs.Talking.{Talks-then, Talks-as}
 use Rattle.vhost_connection.specs.Hearing as hearing
 use Rattle.vhost_connection.specs.Hearing.{Hears, Fails, Spends}
 use Rattle.vhost_backend_req_handler.specs.Serving as serving
-use Rattle.vhost_backend_req_handler.specs.Serving.{Reads, ReadsRequest, IsReady, Stops, Answered, Interrupted, Answers, Handled, Remains, Breaks, HandlesOne, fitting, told}
+use Rattle.vhost_backend_req_handler.specs.Serving.{Reads, ReadsRequest, IsReady, Stops, Answered, Interrupted, Answers, Handled, Remains, Breaks, HandlesOne, fitting, reply_cells}
 use Rattle.vhost_connection.specs.Calls.{HandsOver}
 use Rattle.vhost_backend_req_handler.specs.declared.request.Request.{Request}
 use Rattle.vhost_connection.proofs.Failing.{refused-taken, spends}
@@ -103,7 +103,7 @@ module _ {L H B G Dev : Type 0} (event : L → Event H → L → Type 0) (gives 
       → Hears event (split request_of wanted) old (Ok m) mid → Answered event gives opens_backend opens_gpu m.request (row_of m.request s m) mid s d answer new s' d'
       → Handled event gives opens_backend opens_gpu old s d answer new s' d'
   handles-answered old mid new s s' d d' m answer alive h p =
-      let cells = told m.request p.outcome.served in
+      let cells = reply_cells m.request p.outcome.served in
       record {
         move = move (heard h.cells h.ended) cells (h.retries + p.replies.retries) 0;
         talks = Talks-as (heard-then-sent (heard h.cells h.ended) cells h.retries p.replies.retries) (Talks-then h.serves.talks p.replies.serves.talks);
@@ -130,7 +130,7 @@ module _ {L H B G Dev : Type 0} (event : L → Event H → L → Type 0) (gives 
   breaks : (old mid new : State L H) (s s' : Session) (d d' : Dev) (m : Message FrontendReq H) (e : declared.Error)
       → Hears event (split request_of wanted) old (Ok m) mid → Interrupted event gives opens_backend opens_gpu m.request (row_of m.request s m) mid s d e new s' d'
       → Breaks event gives opens_backend opens_gpu old s d e new s' d'
-  breaks old mid new s s' d d' m e h p = record { fails = stops-fails old mid new (told m.request p.outcome.served) m e h p.stops; remains = serving.unanswered m mid h p }
+  breaks old mid new s s' d d' m e h p = record { fails = stops-fails old mid new (reply_cells m.request p.outcome.served) m e h p.stops; remains = serving.unanswered m mid h p }
 
   -- whatever the arm answered
   handles-one : (old mid new : State L H) (s s' : Session) (d d' : Dev) (m : Message FrontendReq H) (result : Result ⊤ declared.Error) → s.failed ≡ None

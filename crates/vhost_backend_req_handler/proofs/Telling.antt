@@ -26,7 +26,7 @@ use Rattle.vhost_connection.specs.Calls.{Sends}
 use Rattle.vhost_connection.specs.State.{first_cause}
 use Rattle.vhost_connection.specs.Hearing.{broken_on}
 use Rattle.vhost_backend_req_handler.specs.Serving as serving
-use Rattle.vhost_backend_req_handler.specs.Serving.{Reads, IsReady, Replies, Stops, Tells, told}
+use Rattle.vhost_backend_req_handler.specs.Serving.{Reads, IsReady, Replies, Stops, Tells, reply_cells}
 use Rattle.vhost_backend_req_handler.specs.declared.request.Request.{Request}
 use Rattle.vhost_connection.proofs.Failing.{broken-socket, first-is}
 
@@ -63,18 +63,18 @@ module _ {L H : Type 0} (event : L → Event H → L → Type 0) where
   -- a reply went out
   pub reply-sent : (old new : State L H) (r code : FrontendReq) (hs : List H) (h : Header) (size : ℕ) (text : List ℕ) (payload : Payload) → code ≡ r
       → h ≡ record { code = request_number code; flags = 5; size = size } → text ≡ payload_text payload → length (payload_text payload) ≡ size
-      → Sends event old (carrying hs (header_text h ++ text)) (Ok tt) new → Tells event old (told r (Replied payload hs)) (Ok tt) (Ok tt) new
+      → Sends event old (carrying hs (header_text h ++ text)) (Ok tt) new → Tells event old (reply_cells r (Replied payload hs)) (Ok tt) (Ok tt) new
   reply-sent old new r code hs h size text payload is head same len p =
       serving.whole refl (record { retries = p.0; serves = subst (λ x. talk.Serves event old old.budget (sends (carrying hs x) p.0) new) (same-text r code h size text payload is head same len) p.1 })
 
   -- a fault stopped it
   pub reply-stopped : (old mid new : State L H) (r code : FrontendReq) (hs : List H) (h : Header) (size : ℕ) (text : List ℕ) (payload : Payload) (e : Error) → code ≡ r
       → h ≡ record { code = request_number code; flags = 5; size = size } → text ≡ payload_text payload → length (payload_text payload) ≡ size → size ≤ 4096
-      → IsReady old → Sends event old (carrying hs (header_text h ++ text)) (Err e) mid → new ≡ broken_on e mid → Tells event old (told r (Replied payload hs)) (Ok tt) (Err e) new
+      → IsReady old → Sends event old (carrying hs (header_text h ++ text)) (Err e) mid → new ≡ broken_on e mid → Tells event old (reply_cells r (Replied payload hs)) (Ok tt) (Err e) new
   reply-stopped old mid new r code hs h size text payload e is head same len small ready p after =
       let t = subst (λ x. Trouble event old old.budget false false (sends (take p.0 (carrying hs x)) p.1) e mid) (same-text r code h size text payload is head same len) p.2 in
-      subst (λ x. Tells event old (told r (Replied payload hs)) (Ok tt) (Err e) x) (sym after)
-      (serving.stopped (trouble-stops old mid (told r (Replied payload hs)) p.0 p.1 e ready
+      subst (λ x. Tells event old (reply_cells r (Replied payload hs)) (Ok tt) (Err e) x) (sym after)
+      (serving.stopped (trouble-stops old mid (reply_cells r (Replied payload hs)) p.0 p.1 e ready
       (few-cells hs (record { code = request_number r; flags = 5; size = length (payload_text payload) }) (payload_text payload) (rw len small)) t))
 
   -- ---- answers
@@ -103,19 +103,19 @@ module _ {L H : Type 0} (event : L → Event H → L → Type 0) where
 
   -- no acknowledgement is wanted
   pub unacked : (old : State L H) (r : FrontendReq) (s : Session) (m : Message FrontendReq H) (answer : Result ⊤ Error) → IsReady old → (ack_on s && m.need_reply) ≡ false
-      → let o = acked s m (seen_result answer) in Tells event old (told r o.served) o.answer answer old
+      → let o = acked s m (seen_result answer) in Tells event old (reply_cells r o.served) o.answer answer old
   unacked old r s m answer ready off = rw (off, done-same (seen_result answer)) (serving.whole refl (none-sent old ready))
 
   -- it went out
   pub ack-sent : (old new : State L H) (r : FrontendReq) (s : Session) (m : Message FrontendReq H) (answer : Result ⊤ Error) → (ack_on s && m.need_reply) ≡ true
-      → Tells event old (told r (Replied (U64 (if is_ok (seen_result answer) then 0 else 1)) [])) (Ok tt) (Ok tt) new
-      → let o = acked s m (seen_result answer) in Tells event old (told r o.served) o.answer answer new
+      → Tells event old (reply_cells r (Replied (U64 (if is_ok (seen_result answer) then 0 else 1)) [])) (Ok tt) (Ok tt) new
+      → let o = acked s m (seen_result answer) in Tells event old (reply_cells r o.served) o.answer answer new
   ack-sent old new r s m answer on (serving.whole is p) = rw (on, done-same (seen_result answer)) (serving.whole refl p)
 
   -- a fault stopped it
   pub ack-stopped : (old new : State L H) (r : FrontendReq) (s : Session) (m : Message FrontendReq H) (answer : Result ⊤ Error) (e : Error) → (ack_on s && m.need_reply) ≡ true
-      → Tells event old (told r (Replied (U64 (if is_ok (seen_result answer) then 0 else 1)) [])) (Ok tt) (Err e) new
-      → let o = acked s m (seen_result answer) in Tells event old (told r o.served) o.answer (Err e) new
+      → Tells event old (reply_cells r (Replied (U64 (if is_ok (seen_result answer) then 0 else 1)) [])) (Ok tt) (Err e) new
+      → let o = acked s m (seen_result answer) in Tells event old (reply_cells r o.served) o.answer (Err e) new
   ack-stopped old new r s m answer e on (serving.whole is p) = absurd (cc is)
   ack-stopped old new r s m answer e on (serving.stopped p) = rw (on) (serving.stopped p)
 

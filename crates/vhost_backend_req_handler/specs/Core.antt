@@ -23,28 +23,28 @@ use Rattle.vhost_backend_req_handler.specs.Serving.{Reads, IsReady, Answers}
 use Rattle.vhost_backend_req_handler.specs.Session.{session_of}
 
 -- its endpoint
-abbrev pub end_of : {L H : Type 0} → SessionCore L H → State L H
-end_of c = state c.end
+abbrev pub endpoint_of : {L H : Type 0} → SessionCore L H → State L H
+endpoint_of c = state c.endpoint
 
 -- its session
 abbrev pub session_in : {L H : Type 0} → SessionCore L H → Session
 session_in c = session_of c.session
 
 -- a session over another endpoint
-abbrev pub with_end : {L H : Type 0} → SessionCore L H → Endpoint (VhostUserMsgHeader FrontendReq) L H → SessionCore L H
-with_end c end = record c { end = end }
+abbrev pub with_endpoint : {L H : Type 0} → SessionCore L H → Endpoint (VhostUserMsgHeader FrontendReq) L H → SessionCore L H
+with_endpoint c endpoint = record c { endpoint = endpoint }
 
 module _ {L H B G Dev : Type 0} (event : L → Event H → L → Type 0) (opens : L → H → Result L IoCause → Type 0) (kinds : H → Result Kind IoCause → Type 0)
     (gives : Dev → (c : Call H B G) → Answer c → Dev → Type 0) where
   -- An arm meets the rest of a row: of the message that the request is, over an endpoint that can reply.
   abbrev pub MeetsStep : (Session → Message FrontendReq H → Step H B G) → FrontendReq → SessionCore L H → Dev → Request → Result ⊤ declared.Error → SessionCore L H → Dev → Type 0
-  MeetsStep step r old d request result new d' = (m : Message FrontendReq H) → Reads old.body request m → request.code ≡ r → IsReady (end_of old)
-      → Answers event gives (λ h o. OpensAs opens kinds h o) (λ h o. OpensAs opens kinds h o) r (step (session_in old) m) (end_of old) (session_in old) d result (end_of new) (session_in new) d'
+  MeetsStep step r old d request result new d' = (m : Message FrontendReq H) → Reads old.body request m → request.code ≡ r → IsReady (endpoint_of old)
+      → Answers event gives (λ h o. OpensAs opens kinds h o) (λ h o. OpensAs opens kinds h o) r (step (session_in old) m) (endpoint_of old) (session_in old) d result (endpoint_of new) (session_in new) d'
 
   -- The same where it is given the handles of the message.
   abbrev pub MeetsStepWith : (Session → Message FrontendReq H → Step H B G) → FrontendReq → SessionCore L H → Dev → Request → Option (Vec H Global) → Result ⊤ declared.Error → SessionCore L H → Dev → Type 0
-  MeetsStepWith step r old d request handles result new d' = (m : Message FrontendReq H) → Reads old.body request m → HandsOver handles m.handles → request.code ≡ r → IsReady (end_of old)
-      → Answers event gives (λ h o. OpensAs opens kinds h o) (λ h o. OpensAs opens kinds h o) r (step (session_in old) m) (end_of old) (session_in old) d result (end_of new) (session_in new) d'
+  MeetsStepWith step r old d request handles result new d' = (m : Message FrontendReq H) → Reads old.body request m → HandsOver handles m.handles → request.code ≡ r → IsReady (endpoint_of old)
+      → Answers event gives (λ h o. OpensAs opens kinds h o) (λ h o. OpensAs opens kinds h o) r (step (session_in old) m) (endpoint_of old) (session_in old) d result (endpoint_of new) (session_in new) d'
 
   -- An arm meets the row of its code.
   abbrev pub MeetsRow : FrontendReq → SessionCore L H → Dev → Request → Result ⊤ declared.Error → SessionCore L H → Dev → Type 0

@@ -53,13 +53,13 @@ goes_on result next = tested result >>= next
 -- ---- replies
 
 -- what a handler lets its peer know of a request, as cells
-abbrev pub told : {H : Type 0} → FrontendReq → Served H → List (Cell H)
-told r served = cells_of request_number (reply r served)
+abbrev pub reply_cells : {H : Type 0} → FrontendReq → Served H → List (Cell H)
+reply_cells r served = cells_of request_number (reply r served)
 
 -- the endpoint has read a message, and can reply to it
-pub record IsReady {L H : Type 0} (end : State L H) : Type 0 where
-  pub broken : end.broken ≡ None
-  pub faulted : end.faulted ≡ false
+pub record IsReady {L H : Type 0} (endpoint : State L H) : Type 0 where
+  pub broken : endpoint.broken ≡ None
+  pub faulted : endpoint.faulted ≡ false
 
 -- the cells went out, all of them
 pub record Replies {L H : Type 0} (event : L → Event H → L → Type 0) (old : State L H) (cells : List (Cell H)) (new : State L H) : Type 0 where
@@ -93,9 +93,9 @@ fitting gives d c a d' = gives d c a d' × AnswerFits c a
 -- ---- rows
 
 -- what stays of a session where the reply was stopped: the offered features are remembered once they are sent
-abbrev pub untold : FrontendReq → Session → Session → Session
-untold GET_FEATURES before after = before
-untold _ before after = after
+abbrev pub kept_unsent : FrontendReq → Session → Session → Session
+kept_unsent GET_FEATURES before after = before
+kept_unsent _ before after = after
 
 module _ {L H B G Dev : Type 0} (event : L → Event H → L → Type 0) (gives : Dev → (c : Call H B G) → Answer c → Dev → Type 0)
     (opens_backend : H → Result B Error → Type 0) (opens_gpu : H → Result G Error → Type 0) where
@@ -104,15 +104,15 @@ module _ {L H B G Dev : Type 0} (event : L → Event H → L → Type 0) (gives 
     pub outcome : Outcome H
     pub follows : Follows (fitting gives) opens_backend opens_gpu s d step outcome d'
     pub is_answer : answer ≡ outcome.answer
-    pub replies : Replies event old (told r outcome.served) new
+    pub replies : Replies event old (reply_cells r outcome.served) new
     pub session : s' ≡ outcome.session
 
   -- A fault stopped the reply to a request; its device call had been made.
   pub record Interrupted (r : FrontendReq) (step : Step H B G) (old : State L H) (s : Session) (d : Dev) (e : declared.Error) (new : State L H) (s' : Session) (d' : Dev) : Type 0 where
     pub outcome : Outcome H
     pub follows : Follows (fitting gives) opens_backend opens_gpu s d step outcome d'
-    pub stops : Stops event old (told r outcome.served) e new
-    pub session : s' ≡ untold r s outcome.session
+    pub stops : Stops event old (reply_cells r outcome.served) e new
+    pub session : s' ≡ kept_unsent r s outcome.session
 
   -- the arm of a request: its row, or a fault
   pub data Answers (r : FrontendReq) (step : Step H B G) (old : State L H) (s : Session) (d : Dev) : Result ⊤ declared.Error → State L H → Session → Dev → Type 0 where

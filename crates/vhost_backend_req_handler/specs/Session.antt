@@ -4,4 +4,4 @@ use Rattle.vhost_backend_req_handler.specs.declared.session.Session as handler
 
 -- a handler's session
 abbrev pub session_of : handler.Session → Session
-session_of s = record { offered = s.offered; acked = s.acked; acked_p = s.acked_p; postcopy = s.postcopy; failed = s.failed }
+session_of s = record { offered = s.offered; acked = s.acked; acked_protocol_features = s.acked_protocol_features; postcopy = s.postcopy; failed = s.failed }

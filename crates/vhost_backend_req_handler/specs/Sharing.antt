@@ -8,7 +8,7 @@ use Rattle.vhost_link.specs.declared.handle.Kind.{Kind}
 use Rattle.vhost_backend_req.specs.declared.backend.Backend.{Backend}
 use Rattle.vhost_gpu_backend_req.specs.declared.backend.GpuBackend.{GpuBackend}
 use Rattle.vhost_backend_req_handler.specs.declared.session_core.SessionCore.{SessionCore}
-use Rattle.vhost_backend_req_handler.specs.Core.{end_of, session_in}
+use Rattle.vhost_backend_req_handler.specs.Core.{endpoint_of, session_in}
 use Rattle.vhost_backend_req_handler.specs.Opening.{OpensAs}
 use Rattle.vhost_backend_req_handler.specs.Running.{CallsOnce}
 
@@ -21,4 +21,4 @@ abbrev pub ServesShared : {L H : Type 0} → (L → Event H → L → Type 0) �
     → SessionCore L H → Result ⊤ declared.Error → SessionCore L H → Type 0
 ServesShared {L} {H} event opens kinds old result new =
     CallsOnce {B = Backend L H} {G = GpuBackend L H} event any_answer (λ h o. OpensAs opens kinds h o) (λ h o. OpensAs opens kinds h o)
-    (end_of old) (session_in old) tt result (end_of new) (session_in new) tt
+    (endpoint_of old) (session_in old) tt result (endpoint_of new) (session_in new) tt

@@ -6,7 +6,7 @@ ghost use Rattle.vhost_message.specs.declared.error.Error.TheVariants.{OutOfMemo
 use crate::session_core::SessionCore;
 use std::alloc::Global;
 use std::sync::{Arc, Wait};
-use vhost_device::{Served, VhostUserBackendReqHandler};
+use vhost_device::{SharedDevice, VhostUserBackendReqHandler};
 use vhost_link::Link;
 use vhost_message::Result;
 
@@ -22,14 +22,14 @@ pub struct BackendReqHandler<L: Link, S> {
 impl<L: Link, S: VhostUserBackendReqHandler<Link = L>> BackendReqHandler<L, S> {
     ghost use Rattle.vhost_connection.specs.State.{fresh};
     ghost use Rattle.vhost_protocol.specs.Session.{fresh as new_session};
-    ghost use Rattle.vhost_backend_req_handler.specs.Core.{end_of, session_in};
+    ghost use Rattle.vhost_backend_req_handler.specs.Core.{endpoint_of, session_in};
     ghost use Rattle.vhost_backend_req_handler.specs.Sharing.{ServesShared};
 
     /// A new session over a link. A message may take so many retries.
     ///
     /// OutOfMemory: a growth was refused.
     pub fn from_stream(alloc: Global, link: L, budget: u32, backend: Arc<S, Global>) -> Result<Self>
-        ensures end { IfOk result (λ h. end_of h.core ≡ fresh link budget) }
+        ensures endpoint { IfOk result (λ h. endpoint_of h.core ≡ fresh link budget) }
         ensures session { IfOk result (λ h. session_in h.core ≡ new_session) }
         ensures memory { IfErr result (λ e. e ≡ OutOfMemory) }
     {
@@ -42,7 +42,7 @@ impl<L: Link, S: VhostUserBackendReqHandler<Link = L>> BackendReqHandler<L, S> {
     /// Marks the session as failed with the number of a system's error, also with 0: from now on each request is
     /// answered `SocketBroken` with that number, and nothing is read.
     pub fn set_failed(&mut self, error: i32)
-        ensures end { end_of self.new.core ≡ end_of self.old.core }
+        ensures endpoint { endpoint_of self.new.core ≡ endpoint_of self.old.core }
         ensures session { session_in self.new.core ≡ record (session_in self.old.core) { failed = Some error } }
     {
         self.core.set_failed(error);
@@ -52,7 +52,7 @@ impl<L: Link, S: VhostUserBackendReqHandler<Link = L>> BackendReqHandler<L, S> {
     pub fn handle_request<R: Wait>(&mut self, rt: &R) -> Result<()>
         ensures { ServesShared L.event L.opens L.Handle.kinds self.old.core result self.new.core }
     {
-        let mut served = Served {
+        let mut served = SharedDevice {
             device: &self.backend,
             rt,
         };

@@ -7,7 +7,7 @@ use vhost_message::PostcopyState;
 pub struct Session {
     pub offered: u64,
     pub acked: u64,
-    pub acked_p: u64,
+    pub acked_protocol_features: u64,
     pub postcopy: PostcopyState,
     pub failed: Option<i32>,
 }
@@ -24,7 +24,7 @@ impl Session {
         Session {
             offered: 0,
             acked: 0,
-            acked_p: 0,
+            acked_protocol_features: 0,
             postcopy: PostcopyState::Inactive,
             failed: None,
         }
@@ -35,8 +35,8 @@ impl Session {
     pub fn ack_on(&self) -> bool
         ensures { result ≡ ack_on (session_of self.now) }
     {
-        let (offered, acked_p) = (self.offered, self.acked_p);
-        offered & 0x4000_0000 != 0 && acked_p & 8 != 0
+        let (offered, acked_protocol_features) = (self.offered, self.acked_protocol_features);
+        offered & 0x4000_0000 != 0 && acked_protocol_features & 8 != 0
     }
 
     /// Whether a request is acknowledged that asks for it, or does not.

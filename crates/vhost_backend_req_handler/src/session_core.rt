@@ -35,7 +35,7 @@ type Header = VhostUserMsgHeader<FrontendReq>;
 /// Mirrors `vhost::vhost_user::BackendReqHandler`, which holds its device behind a lock.
 #[derive(Drop)]
 pub struct SessionCore<L: Link> {
-    end: Endpoint<Header, L>,
+    endpoint: Endpoint<Header, L>,
     session: Session,
     /// The body of the request that is served lies at its front.
     body: [u8; 4096],
@@ -46,9 +46,9 @@ pub struct SessionCore<L: Link> {
 
 impl<L: Link> SessionCore<L> {
     ghost use Rattle.vhost_connection.specs.State.{fresh, state};
-    ghost use Rattle.vhost_backend_req_handler.specs.Core.{end_of, session_in, MeetsRowWith};
+    ghost use Rattle.vhost_backend_req_handler.specs.Core.{endpoint_of, session_in, MeetsRowWith};
     ghost use Rattle.std.specs.Borrow.{sem, Lends};
-    ghost use Rattle.vhost_backend_req_handler.specs.Core.{with_end};
+    ghost use Rattle.vhost_backend_req_handler.specs.Core.{with_endpoint};
     ghost use Rattle.vhost_backend_req_handler.specs.contracts.session_core.SessionCore.{the_row};
     ghost use Rattle.vhost_connection.specs.contracts.endpoint.Endpoint.{the_row as endpoint_row};
     ghost use Rattle.vhost_message.specs.contracts.header.VhostUserMsgHeader.{the_row as header_row};
@@ -61,12 +61,12 @@ impl<L: Link> SessionCore<L> {
     ///
     /// OutOfMemory: a growth was refused.
     pub fn new(alloc: Global, link: L, budget: u32) -> Result<Self>
-        ensures end { IfOk result (λ c. end_of c ≡ fresh link budget) }
+        ensures endpoint { IfOk result (λ c. endpoint_of c ≡ fresh link budget) }
         ensures session { IfOk result (λ c. session_in c ≡ new_session) }
         ensures memory { IfErr result (λ e. e ≡ OutOfMemory) }
     {
         Ok(SessionCore {
-            end: Endpoint::from_stream(alloc, link, budget)?,
+            endpoint: Endpoint::from_stream(alloc, link, budget)?,
             session: Session::new(),
             body: [0; 4096],
             budget,
@@ -76,15 +76,15 @@ impl<L: Link> SessionCore<L> {
 
     /// Whether the last call that sent or received met a fault: the link failed, or retried once too often.
     pub fn faulted(&self) -> bool
-        ensures { result ≡ (end_of self.now).faulted }
+        ensures { result ≡ (endpoint_of self.now).faulted }
     {
-        self.end.faulted()
+        self.endpoint.faulted()
     }
 
     /// Marks the session as failed with the number of a system's error, also with 0: from now on each request is
     /// answered `SocketBroken` with that number, and nothing is read.
     pub fn set_failed(&mut self, number: i32)
-        ensures end { end_of self.new ≡ end_of self.old }
+        ensures endpoint { endpoint_of self.new ≡ endpoint_of self.old }
         ensures session { session_in self.new ≡ record (session_in self.old) { failed = Some number } }
     {
         let session = &mut self.session;
@@ -103,14 +103,14 @@ impl<L: Link> SessionCore<L> {
         device: &mut D,
     ) -> Result<()>
         ensures failed { (n : ℤ) → (session_in self.old).failed ≡ Some n
-            → (result ≡ Err (SocketBroken (Raw n))) × (end_of self.new ≡ end_of self.old) × (session_in self.new ≡ session_in self.old) × (device.new ≡ device.old) }
+            → (result ≡ Err (SocketBroken (Raw n))) × (endpoint_of self.new ≡ endpoint_of self.old) × (session_in self.new ≡ session_in self.old) × (device.new ≡ device.old) }
         ensures handled { (session_in self.old).failed ≡ None
-            → HandlesOne L.event D.gives (λ h o. OpensAs L.opens L.Handle.kinds h o) (λ h o. OpensAs L.opens L.Handle.kinds h o) (end_of self.old) (session_in self.old) device.old result (end_of self.new) (session_in self.new) device.new }
+            → HandlesOne L.event D.gives (λ h o. OpensAs L.opens L.Handle.kinds h o) (λ h o. OpensAs L.opens L.Handle.kinds h o) (endpoint_of self.old) (session_in self.old) device.old result (endpoint_of self.new) (session_in self.new) device.new }
     {
         if let Some(number) = self.session.failed {
             return Err(Error::SocketBroken(IoCause::Raw(number)));
         }
-        self.end.make_list()?;
+        self.endpoint.make_list()?;
         let (request, handles) = self.read_request()?;
         self.answer(device, request, handles)
     }
@@ -125,8 +125,8 @@ impl<L: Link> SessionCore<L> {
         device: &mut D,
         out: &mut Vec<Result<()>>,
     ) -> Result<()>
-        ensures run { IfOk result (λ _. Runs L.event D.gives (λ h o. OpensAs L.opens L.Handle.kinds h o) (λ h o. OpensAs L.opens L.Handle.kinds h o) (end_of self.old) (session_in self.old) device.old count out.old.items out.new.items (end_of self.new) (session_in self.new) device.new) }
-        ensures memory { IfErr result (λ e. (e ≡ OutOfMemory) × (end_of self.new ≡ end_of self.old) × (session_in self.new ≡ session_in self.old) × (device.new ≡ device.old) × (out.new.items ≡ out.old.items)) }
+        ensures run { IfOk result (λ _. Runs L.event D.gives (λ h o. OpensAs L.opens L.Handle.kinds h o) (λ h o. OpensAs L.opens L.Handle.kinds h o) (endpoint_of self.old) (session_in self.old) device.old count out.old.items out.new.items (endpoint_of self.new) (session_in self.new) device.new) }
+        ensures memory { IfErr result (λ e. (e ≡ OutOfMemory) × (endpoint_of self.new ≡ endpoint_of self.old) × (session_in self.new ≡ session_in self.old) × (device.new ≡ device.old) × (out.new.items ≡ out.old.items)) }
     {
         if out.reserve(count).is_err() {
             return Err(Error::OutOfMemory);
@@ -139,25 +139,25 @@ impl<L: Link> SessionCore<L> {
     }
 
     /// Lends its endpoint.
-    pub fn end(&mut self) -> &mut Endpoint<Header, L>
-        ensures* lender { sem 𝓛 (Lends (the_row L.row L.Handle.row) (endpoint_row (header_row code_row) L.row L.Handle.row) self.entry result (λ e. with_end self.old e)) }
-        ensures value { state result.now ≡ end_of self.old }
+    pub fn endpoint_mut(&mut self) -> &mut Endpoint<Header, L>
+        ensures* lender { sem 𝓛 (Lends (the_row L.row L.Handle.row) (endpoint_row (header_row code_row) L.row L.Handle.row) self.entry result (λ e. with_endpoint self.old e)) }
+        ensures value { state result.now ≡ endpoint_of self.old }
     {
-        &mut self.end
+        &mut self.endpoint
     }
 
     /// Reads one request: its header and handles, and its body whole, however it is cut.
     fn read_request(&mut self) -> Result<(Request, Option<Vec<L::Handle>>)>
-        ensures request { ReadsRequest L.event (end_of self.old) result self.new.body (end_of self.new) }
+        ensures request { ReadsRequest L.event (endpoint_of self.old) result self.new.body (endpoint_of self.new) }
         ensures session { self.new.session ≡ self.old.session }
     {
-        let (header, handles) = self.end.recv_header()?;
+        let (header, handles) = self.endpoint.recv_header()?;
         let code = header.get_code()?;
         if !are_wanted(code, &handles) {
             return Err(Error::InvalidMessage);
         }
         let size = header.get_size() as usize;
-        let (len, bytes) = self.end.recv_data(size)?;
+        let (len, bytes) = self.endpoint.recv_data(size)?;
         if len < size {
             return Err(Error::InvalidMessage);
         }

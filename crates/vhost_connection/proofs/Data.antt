@@ -7,8 +7,8 @@ use Rattle.vhost_message.specs.Cause.{is_retry, is_break, is_denial, error_of}
 use Rattle.vhost_protocol.specs.Stream.{Cell, brings_handles, items, heard}
 use Rattle.vhost_link.specs.Law.{Event, Moved}
 use Rattle.vhost_link.proofs.Moves.{Moved-as}
-use Rattle.vhost_connection.specs.declared.pass.Got.{Got}
-use Rattle.vhost_connection.specs.declared.pass.Stop.TheVariants.{Fault}
+use Rattle.vhost_connection.specs.declared.pass.RecvPass.{RecvPass}
+use Rattle.vhost_connection.specs.declared.pass.PassEnd.TheVariants.{Fault}
 use Rattle.vhost_connection.specs.Pass.{receives, GetsRest}
 use Rattle.vhost_connection.specs.Talk.{State, Trouble}
 use Rattle.vhost_connection.specs.Calls.{ReadsBytes, ReadsData}
@@ -19,7 +19,7 @@ use Rattle.vhost_connection.proofs.Receiving.{front-of}
 use Rattle.vhost_connection.proofs.Errors.{socket}
 
 -- up to so many bytes, or the end
-pub data-came : {L H : Type 0} (event : L → Event H → L → Type 0) (old new : State L H) (link : L) (before after : List ℕ) (got : Got) (len : ℕ)
+pub data-came : {L H : Type 0} (event : L → Event H → L → Type 0) (old new : State L H) (link : L) (before after : List ℕ) (got : RecvPass) (len : ℕ)
     → old.ahead ≡ [] → new ≡ served old link old.list got.left → old.broken ≡ None → (g : GetsRest event old.link before old.left got after link)
     → ((c : IoCause) → got.stop ≡ Fault c → ⊥) → length before ≡ len → ReadsBytes event old len g.cs new
 data-came event old new link before after got len a s broken g miss long =
@@ -35,19 +35,19 @@ data-came event old new link before after got len a s broken g miss long =
       list = ap (λ (x : State _ _). x.list) s;
     }
 
-pub data-plain : {L H : Type 0} (event : L → Event H → L → Type 0) (old new : State L H) (link : L) (before after text : List ℕ) (got : Got) (len : ℕ)
+pub data-plain : {L H : Type 0} (event : L → Event H → L → Type 0) (old new : State L H) (link : L) (before after text : List ℕ) (got : RecvPass) (len : ℕ)
     → old.ahead ≡ [] → new ≡ served old link old.list got.left → old.broken ≡ None → GetsRest event old.link before old.left got after link
     → ((c : IoCause) → got.stop ≡ Fault c → ⊥) → length before ≡ len → take len text ≡ after → got.surplus ≡ false → ReadsCount event old len (Ok got.count) text new
 data-plain event old new link before after text got len a s broken g miss long front none =
     (g.cs, data-came event old new link before after got len a s broken g miss long, sym g.surplus ∙ none, g.count, front-of g.cs before after text len got.count g.fills front g.count)
 
-pub data-surplus : {L H : Type 0} (event : L → Event H → L → Type 0) (old new : State L H) (link : L) (before after : List ℕ) (got : Got) (len : ℕ)
+pub data-surplus : {L H : Type 0} (event : L → Event H → L → Type 0) (old new : State L H) (link : L) (before after : List ℕ) (got : RecvPass) (len : ℕ)
     → old.ahead ≡ [] → new ≡ served old link old.list got.left → old.broken ≡ None → GetsRest event old.link before old.left got after link
     → ((c : IoCause) → got.stop ≡ Fault c → ⊥) → length before ≡ len → got.surplus ≡ true → (cs : List (Cell H)) × ReadsBytes event old len cs new × (brings_handles cs ≡ true)
 data-surplus event old new link before after got len a s broken g miss long some =
     (g.cs, data-came event old new link before after got len a s broken g miss long, sym g.surplus ∙ some)
 
-pub data-fault : {L H : Type 0} (event : L → Event H → L → Type 0) (old new : State L H) (link : L) (before after text : List ℕ) (got : Got) (len : ℕ) (c : IoCause) (e : Error)
+pub data-fault : {L H : Type 0} (event : L → Event H → L → Type 0) (old new : State L H) (link : L) (before after text : List ℕ) (got : RecvPass) (len : ℕ) (c : IoCause) (e : Error)
     → old.ahead ≡ [] → new ≡ failed old link old.list got.left (Some c) → old.broken ≡ None → e ≡ error_of c
     → GetsRest event old.link before old.left got after link → got.stop ≡ Fault c → length before ≡ len → ReadsCount event old len (Err e) text new
 data-fault event old new link before after text got len c e a s broken is g fault long =

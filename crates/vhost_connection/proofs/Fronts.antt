@@ -10,8 +10,8 @@ use Rattle.vhost_link.specs.Law.{Event, Move, Moved, nothing}
 use Rattle.vhost_link.proofs.Cells.{length-bytes}
 use Rattle.vhost_link.proofs.Moves.{Moved-as}
 use Rattle.vhost_connection.specs.declared.pass.Parts.{Parts}
-use Rattle.vhost_connection.specs.declared.pass.Stop.{Stop}
-use Rattle.vhost_connection.specs.declared.pass.Stop.TheVariants.{Whole, AtEnd, Fault}
+use Rattle.vhost_connection.specs.declared.pass.PassEnd.{PassEnd}
+use Rattle.vhost_connection.specs.declared.pass.PassEnd.TheVariants.{Whole, AtEnd, Fault}
 use Rattle.vhost_connection.specs.Pass.{receives, GotAs, GetsParts}
 use Rattle.vhost_connection.specs.Talk.{State, Serves, Trouble}
 use Rattle.vhost_connection.specs.Calls.{MessageFails}
@@ -21,7 +21,7 @@ use Rattle.vhost_connection.proofs.Talking.{served, serves, failed, gave-up}
 use Rattle.vhost_connection.proofs.Basics.{less, not-less}
 
 -- what came, where it was no fault that stopped it
-pub heard-as : {S H : Type 0} (event : S → Event H → S → Type 0) (old new : S) (room budget left : ℕ) (stop : Stop) (cs : List (Cell H))
+pub heard-as : {S H : Type 0} (event : S → Event H → S → Type 0) (old new : S) (room budget left : ℕ) (stop : PassEnd) (cs : List (Cell H))
     → ((c : IoCause) → stop ≡ Fault c → ⊥) → GotAs event old room budget left stop cs new
     → (length cs ≤ room) × Moved event old (receives (heard cs (nat_lt (length cs) room)) (budget - left)) new
 heard-as event old new room budget left Whole cs miss (len, p) =

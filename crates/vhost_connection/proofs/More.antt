@@ -9,8 +9,8 @@ use Rattle.vhost_protocol.specs.Stream.{Cell, bytes, items, heard}
 use Rattle.vhost_link.specs.Law.{Event, Move, ◌then◌, refused}
 use Rattle.vhost_link.proofs.Cells.{length-bytes, bytes-append}
 use Rattle.vhost_link.proofs.Moves.{then_assoc}
-use Rattle.vhost_connection.specs.declared.pass.Got.{Got}
-use Rattle.vhost_connection.specs.declared.pass.Stop.TheVariants.{Fault}
+use Rattle.vhost_connection.specs.declared.pass.RecvPass.{RecvPass}
+use Rattle.vhost_connection.specs.declared.pass.PassEnd.TheVariants.{Fault}
 use Rattle.vhost_connection.specs.Pass.{receives, GetsRest}
 use Rattle.vhost_connection.specs.Talk.{State, Talks, Serves, Trouble}
 use Rattle.vhost_connection.specs.Talk.Trouble.{was_broken, no_memory, fault}
@@ -22,7 +22,7 @@ use Rattle.vhost_connection.proofs.Data.{data-came}
 use Rattle.vhost_connection.proofs.Receiving.{both, both-end, first-append}
 
 -- as much as fits, or the end
-pub more-came : {L H : Type 0} (event : L → Event H → L → Type 0) (old new : State L H) (link : L) (before after : List ℕ) (got : Got)
+pub more-came : {L H : Type 0} (event : L → Event H → L → Type 0) (old new : State L H) (link : L) (before after : List ℕ) (got : RecvPass)
     → old.ahead ≡ [] → new ≡ served old link old.list got.left → old.broken ≡ None → GetsRest event old.link before old.left got after link
     → ((c : IoCause) → got.stop ≡ Fault c → ⊥) → MoreCame event old got.count before after new
 more-came event old new link before after got a s broken g miss =
@@ -30,7 +30,7 @@ more-came event old new link before after got a s broken g miss =
     record { cs = g.cs; retries = d.retries; serves = d.serves; within = d.within; counted = g.count; room = g.fills.bytes; left = d.left; list = d.list }
 
 -- less, and then a fault
-pub more-fault : {L H : Type 0} (event : L → Event H → L → Type 0) (old new : State L H) (link : L) (before after : List ℕ) (got : Got) (c : IoCause) (e : Error)
+pub more-fault : {L H : Type 0} (event : L → Event H → L → Type 0) (old new : State L H) (link : L) (before after : List ℕ) (got : RecvPass) (c : IoCause) (e : Error)
     → old.ahead ≡ [] → new ≡ failed old link old.list got.left (Some c) → old.broken ≡ None → e ≡ error_of c
     → GetsRest event old.link before old.left got after link → got.stop ≡ Fault c → MoreFails event old before after e new
 more-fault event old new link before after got c e a s broken is g stop =

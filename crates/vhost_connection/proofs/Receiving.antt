@@ -12,9 +12,9 @@ use Rattle.vhost_link.specs.Law.Moved.{still, more}
 use Rattle.vhost_link.proofs.Moves.{Moved-as, Moved-then, then_assoc}
 use Rattle.vhost_connection.proofs.Basics.{is-nil}
 use Rattle.vhost_connection.specs.Pass.{receives, GetsWhole, GetsParts, FrontCame, Fills, Arrives, GetsPiece, GetsRest, GotAs}
-use Rattle.vhost_connection.specs.declared.pass.Got.{Got}
-use Rattle.vhost_connection.specs.declared.pass.Stop.{Stop}
-use Rattle.vhost_connection.specs.declared.pass.Stop.TheVariants.{Whole, AtEnd, Fault}
+use Rattle.vhost_connection.specs.declared.pass.RecvPass.{RecvPass}
+use Rattle.vhost_connection.specs.declared.pass.PassEnd.{PassEnd}
+use Rattle.vhost_connection.specs.declared.pass.PassEnd.TheVariants.{Whole, AtEnd, Fault}
 
 -- so far these cells came
 pub record HasRead {S H : Type 0} (event : S → Event H → S → Type 0) (old : S) (before : List ℕ) (budget count : ℕ) (surplus : Bool) (left : ℕ) (after : List ℕ) (new : S) : Type 0 where
@@ -220,7 +220,7 @@ pub both-end : {H : Type 0} (cs ds : List (Cell H)) (r s t : ℕ) → t ≡ r + 
 both-end cs ds r s t k = rw (map-append Byte cs ds, append_assoc (items cs) (items ds) (End ∷ []), k) refl
 
 -- the end of the second part is the end of both
-rest-ends : {S H : Type 0} (event : S → Event H → S → Type 0) (old mid new : S) (cs ds : List (Cell H)) (before sub budget left less : ℕ) (stop : Stop)
+rest-ends : {S H : Type 0} (event : S → Event H → S → Type 0) (old mid new : S) (cs ds : List (Cell H)) (before sub budget left less : ℕ) (stop : PassEnd)
     → less ≤ left → left ≤ budget → before ≡ length cs + sub → Moved event old (receives (items cs) (budget - left)) mid → GotAs event mid sub left less stop ds new
     → GotAs event old before budget less stop (cs ++ ds) new
 rest-ends event old mid new cs ds before sub budget left less Whole a b k p (len, q) =
@@ -243,7 +243,7 @@ pub first-append : {H : Type 0} (cs ds : List (Cell H)) → 0 < length cs → fi
 first-append [] ds h = absurd (omega arith)
 first-append (c ∷ cs) ds h = refl
 
-pub first-and-rest : {S H : Type 0} (event : S → Event H → S → Type 0) (old mid new : S) (before room sub : List ℕ) (budget left n : ℕ) (handles : List H) (got : Got)
+pub first-and-rest : {S H : Type 0} (event : S → Event H → S → Type 0) (old mid new : S) (before room sub : List ℕ) (budget left n : ℕ) (handles : List H) (got : RecvPass)
     → FrontCame event old before (budget - left) n room handles mid → 0 < n → left ≤ budget
     → GetsRest event mid (take (length room - n) (drop n room)) left got sub new
     → GetsWhole event old before budget (record { count = n + got.count; surplus = got.surplus; left = got.left; stop = got.stop }) (put_mid n (length room - n) room sub) handles new
@@ -271,13 +271,13 @@ first-and-rest event old mid new before room sub budget left n handles got f pos
 
 -- ---- a front, and then what fits into the room
 
-ends-early : {S H : Type 0} (event : S → Event H → S → Type 0) (old new : S) (room extra budget left : ℕ) (stop : Stop) (cs : List (Cell H))
+ends-early : {S H : Type 0} (event : S → Event H → S → Type 0) (old new : S) (room extra budget left : ℕ) (stop : PassEnd) (cs : List (Cell H))
     → length cs < room → GotAs event old room budget left stop cs new → GotAs event old (room + extra) budget left stop cs new
 ends-early event old new room extra budget left Whole cs lt (len, p) = absurd (omega (arith, len))
 ends-early event old new room extra budget left AtEnd cs lt (len, p) = (omega arith, p)
 ends-early event old new room extra budget left (Fault c) cs lt (len, spent, p) = (omega arith, spent, p)
 
-is-whole : {S H : Type 0} (event : S → Event H → S → Type 0) (old new : S) (room budget left : ℕ) (stop : Stop) (cs : List (Cell H))
+is-whole : {S H : Type 0} (event : S → Event H → S → Type 0) (old new : S) (room budget left : ℕ) (stop : PassEnd) (cs : List (Cell H))
     → room ≤ length cs → GotAs event old room budget left stop cs new → (length cs ≡ room) × Moved event old (receives (items cs) (budget - left)) new
 is-whole event old new room budget left Whole cs le p = p
 is-whole event old new room budget left AtEnd cs le (len, p) = absurd (omega arith)
@@ -291,7 +291,7 @@ front-of cs before after text len count f front counted =
     sym (take-append-drop len text) ∙ ap (λ xs. xs ++ drop len text) (front ∙ f.bytes) ∙ append_assoc (bytes cs) rest (drop len text) in
     ap (take count) whole ∙ take_at (bytes cs) (rest ++ drop len text) count (length-bytes cs ∙ sym counted)
 
-pub parts-short : {S H : Type 0} (event : S → Event H → S → Type 0) (old new : S) (len : ℕ) (before after text room : List ℕ) (budget : ℕ) (got : Got) (hs : List H)
+pub parts-short : {S H : Type 0} (event : S → Event H → S → Type 0) (old new : S) (len : ℕ) (before after text room : List ℕ) (budget : ℕ) (got : RecvPass) (hs : List H)
     → length before ≡ len → take len text ≡ after → GetsWhole event old before budget got after hs new → got.count < len
     → GetsParts event old len room budget (record { count = got.count; more = 0; left = got.left; stop = got.stop }) text room hs new
 parts-short event old new len before after text room budget got hs long front g lt =
@@ -309,7 +309,7 @@ parts-short event old new len before after text room budget got hs long front g 
       ended = ends-early event old new len (length room) budget got.left got.stop g.cs (omega (arith, g.count)) (rw long at g.ended);
     }
 
-pub parts-whole : {S H : Type 0} (event : S → Event H → S → Type 0) (old mid new : S) (len : ℕ) (before after text room full : List ℕ) (budget : ℕ) (got rest : Got) (hs : List H)
+pub parts-whole : {S H : Type 0} (event : S → Event H → S → Type 0) (old mid new : S) (len : ℕ) (before after text room full : List ℕ) (budget : ℕ) (got rest : RecvPass) (hs : List H)
     → 0 < len → length before ≡ len → take len text ≡ after → GetsWhole event old before budget got after hs mid → len ≤ got.count → GetsRest event mid room got.left rest full new
     → GetsParts event old len room budget (record { count = got.count; more = rest.count; left = rest.left; stop = rest.stop }) text full hs new
 parts-whole event old mid new len before after text room full budget got rest hs pos long front g le q =

@@ -10,7 +10,7 @@ use Rattle.vhost_link.specs.Law.{Event, Taken, Refused, Move, Moved, ◌then◌,
 use Rattle.vhost_link.specs.Law.Moved.{more}
 use Rattle.vhost_link.proofs.Moves.{Moved-as, Moved-then, then_assoc}
 use Rattle.vhost_link.proofs.Cells.{length-carrying, piece-first, piece-later, plain-is, plain-append}
-use Rattle.vhost_connection.specs.declared.pass.Sent.{Sent}
+use Rattle.vhost_connection.specs.declared.pass.SendPass.{SendPass}
 use Rattle.vhost_connection.specs.Pass.{sends, joined, SendsPart, SentAs, SendsWhole}
 use Rattle.vhost_connection.proofs.Basics.{suc-pos, less}
 use Rattle.vhost_connection.proofs.Joining.{joined-more, joined-rest}
@@ -93,7 +93,7 @@ ends event old mid new cs ds budget left fewer moved also (Some c) a b told p f 
 }
 
 -- what was sent before, and then a piece
-pub then-piece : {S H : Type 0} (event : S → Event H → S → Type 0) (old mid new : S) (hs : List H) (pieces : List (Bor (List ℕ))) (i : ℕ) (budget left : ℕ) (moved : Bool) (sent : Sent)
+pub then-piece : {S H : Type 0} (event : S → Event H → S → Type 0) (old mid new : S) (hs : List H) (pieces : List (Bor (List ℕ))) (i : ℕ) (budget left : ℕ) (moved : Bool) (sent : SendPass)
     → i < length pieces → left ≤ budget → moved ≡ has_some (carrying hs (joined (take i pieces))) → Moved event old (sends (carrying hs (joined (take i pieces))) (budget - left)) mid
     → SendsWhole event mid (carrying (if moved then [] else hs) (get_or pieces i (record { ref_ptr = (0, 0); now = [] })).now) left sent new
     → SendsWhole event old (carrying hs (joined (take (i + 1) pieces))) budget (record { moved = moved || sent.moved; left = sent.left; fault = sent.fault }) new

@@ -9,7 +9,7 @@ use Rattle.vhost_protocol.specs.Stream.{Cell, carrying, has_some, items}
 use Rattle.vhost_link.specs.Law.{Event, Taken, Refused, Move, Moved, nothing, ◌then◌, refused}
 use Rattle.vhost_link.specs.Law.Moved.{still, more}
 use Rattle.vhost_link.proofs.Moves.{Moved-then, Moved-once, Moved-as}
-use Rattle.vhost_connection.specs.declared.pass.Sent.{Sent}
+use Rattle.vhost_connection.specs.declared.pass.SendPass.{SendPass}
 use Rattle.vhost_connection.specs.Pass.{sends, SendsSome, SendsWhole}
 use Rattle.vhost_connection.specs.Talk.{State, Talks, Serves, Trouble, has_moved, IsBroken}
 use Rattle.vhost_connection.specs.Talk.Trouble.{was_broken, fault}
@@ -105,7 +105,7 @@ gave-up event old new link list left broken limit grows breaks m c e a s before 
     subst (λ x. Trouble event old limit grows breaks m x new) (sym is) (subst (λ x. Trouble event old limit grows breaks m (error_of c) x) (sym s) t)
 
 -- a text that went out
-pub sent-all : {L H : Type 0} (event : L → Event H → L → Type 0) (old new : State L H) (link : L) (text : List (Cell H)) (sent : Sent)
+pub sent-all : {L H : Type 0} (event : L → Event H → L → Type 0) (old new : State L H) (link : L) (text : List (Cell H)) (sent : SendPass)
     → old.ahead ≡ [] → new ≡ served old link old.list old.left → old.broken ≡ None
     → sent.fault ≡ None → SendsWhole event old.link text old.budget sent link → Sends event old text (Ok tt) new
 sent-all event old new link text sent a s before none p =
@@ -118,7 +118,7 @@ sent-all event old new link text sent a s before none p =
     )
 
 -- a text that went out in part
-pub sent-some : {L H : Type 0} (event : L → Event H → L → Type 0) (old new : State L H) (link : L) (text : List (Cell H)) (sent : Sent) (c : IoCause) (e : Error)
+pub sent-some : {L H : Type 0} (event : L → Event H → L → Type 0) (old new : State L H) (link : L) (text : List (Cell H)) (sent : SendPass) (c : IoCause) (e : Error)
     → old.ahead ≡ [] → new ≡ failed old link old.list old.left (if sent.moved then Some c else old.broken) → old.broken ≡ None → e ≡ error_of c
     → sent.fault ≡ Some c → SendsWhole event old.link text old.budget sent link → Sends event old text (Err e) new
 sent-some event old new link text sent c e a s before is some p =

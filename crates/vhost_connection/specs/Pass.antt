@@ -6,12 +6,12 @@ use Rattle.vhost_message.specs.declared.cause.IoCause.{IoCause}
 use Rattle.vhost_message.specs.Cause.{is_retry}
 use Rattle.vhost_protocol.specs.Stream.{Cell, carrying, has_some, bytes, brings_handles, first_handles, Item, items, heard}
 use Rattle.vhost_link.specs.Law.{Event, Handed, Ended, Taken, Refused, Move, Moved, move, ◌then◌, refused}
-use Rattle.vhost_connection.specs.declared.pass.Sent.{Sent}
+use Rattle.vhost_connection.specs.declared.pass.SendPass.{SendPass}
 use Rattle.vhost_connection.specs.declared.pass.First.{First}
-use Rattle.vhost_connection.specs.declared.pass.Got.{Got}
+use Rattle.vhost_connection.specs.declared.pass.RecvPass.{RecvPass}
 use Rattle.vhost_connection.specs.declared.pass.Parts.{Parts}
-use Rattle.vhost_connection.specs.declared.pass.Stop.{Stop}
-use Rattle.vhost_connection.specs.declared.pass.Stop.TheVariants.{Whole, AtEnd, Fault}
+use Rattle.vhost_connection.specs.declared.pass.PassEnd.{PassEnd}
+use Rattle.vhost_connection.specs.declared.pass.PassEnd.TheVariants.{Whole, AtEnd, Fault}
 
 -- the pieces of a text, one after another
 abbrev pub joined : List (Bor (List ℕ)) → List ℕ
@@ -44,7 +44,7 @@ abbrev pub SentAs : {S H : Type 0} → (S → Event H → S → Type 0) → S �
 SentAs event old text budget moved left None new = (moved ≡ has_some text) × Moved event old (sends text (budget - left)) new
 SentAs event old text budget moved left (Some c) new = SentFront event old text budget moved left c new
 
-abbrev pub SendsWhole : {S H : Type 0} → (S → Event H → S → Type 0) → S → List (Cell H) → ℕ → Sent → S → Type 0
+abbrev pub SendsWhole : {S H : Type 0} → (S → Event H → S → Type 0) → S → List (Cell H) → ℕ → SendPass → S → Type 0
 SendsWhole event old text budget sent new = (sent.left ≤ budget) × SentAs event old text budget sent.moved sent.left sent.fault new
 
 -- these were handed out, after so many retries
@@ -72,13 +72,13 @@ GetsPiece event old before count (Ok n) after handles new = Arrives event old be
 GetsPiece event old before count (Err c) after handles new = event old (Refused c) new × (after ≡ before) × (handles ≡ [])
 
 -- how it ended: the room is full; or the stream is at its end; or a fault that was no retry, or one retry too many
-abbrev pub GotAs : {S H : Type 0} → (S → Event H → S → Type 0) → S → ℕ → ℕ → ℕ → Stop → List (Cell H) → S → Type 0
+abbrev pub GotAs : {S H : Type 0} → (S → Event H → S → Type 0) → S → ℕ → ℕ → ℕ → PassEnd → List (Cell H) → S → Type 0
 GotAs event old room budget left Whole cs new = (length cs ≡ room) × Moved event old (receives (items cs) (budget - left)) new
 GotAs event old room budget left AtEnd cs new = (length cs < room) × Moved event old (receives (heard cs true) (budget - left)) new
 GotAs event old room budget left (Fault c) cs new = (length cs < room) × (IsTrue (is_retry c) → left ≡ 0)
     × Moved event old (receives (items cs) (budget - left) then refused c) new
 
-pub record GetsRest {S H : Type 0} (event : S → Event H → S → Type 0) (old : S) (before : List ℕ) (budget : ℕ) (got : Got) (after : List ℕ) (new : S) : Type 0 where
+pub record GetsRest {S H : Type 0} (event : S → Event H → S → Type 0) (old : S) (before : List ℕ) (budget : ℕ) (got : RecvPass) (after : List ℕ) (new : S) : Type 0 where
   pub cs : List (Cell H)
   pub fills : Fills cs before after
   pub count : got.count ≡ length cs
@@ -106,7 +106,7 @@ abbrev pub GetsFirst : {S H : Type 0} → (S → Event H → S → Type 0) → S
 GetsFirst event old before budget first after handles new = (first.left ≤ budget) × FirstAs event old before budget first.count first.left first.fault after handles new
 
 -- The room is filled from the first byte on, whose handles are kept.
-pub record GetsWhole {S H : Type 0} (event : S → Event H → S → Type 0) (old : S) (before : List ℕ) (budget : ℕ) (got : Got) (after : List ℕ) (hs : List H) (new : S) : Type 0 where
+pub record GetsWhole {S H : Type 0} (event : S → Event H → S → Type 0) (old : S) (before : List ℕ) (budget : ℕ) (got : RecvPass) (after : List ℕ) (hs : List H) (new : S) : Type 0 where
   pub cs : List (Cell H)
   pub fills : Fills cs before after
   pub count : got.count ≡ length cs

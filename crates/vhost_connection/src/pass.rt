@@ -9,7 +9,7 @@ use vhost_message::IoCause;
 
 /// How bytes went out: whether any did, how many retries are left, and the fault that stopped them.
 #[derive(Drop)]
-pub struct Sent {
+pub struct SendPass {
     pub moved: bool,
     pub left: u32,
     pub fault: Option<IoCause>,
@@ -49,7 +49,7 @@ pub fn send_once<L: Link>(
 }
 
 /// Sends all of the bytes, with the handles on the first of them.
-fn send_whole<L: Link>(link: &mut L, bytes: &[u8], handles: &[&L::Handle], budget: u32) -> Sent
+fn send_whole<L: Link>(link: &mut L, bytes: &[u8], handles: &[&L::Handle], budget: u32) -> SendPass
     requires { length handles.now ≤ 32 }
     ensures { SendsWhole L.event link.old (carrying (map (λ h. h.now) handles.now) bytes.now) budget result link.new }
 {
@@ -60,7 +60,7 @@ fn send_whole<L: Link>(link: &mut L, bytes: &[u8], handles: &[&L::Handle], budge
             Ok(n) => count += n,
             Err(cause) => {
                 if !cause.is_retry() || left == 0 {
-                    return Sent {
+                    return SendPass {
                         moved: count > 0,
                         left,
                         fault: Some(cause),
@@ -70,7 +70,7 @@ fn send_whole<L: Link>(link: &mut L, bytes: &[u8], handles: &[&L::Handle], budge
             }
         }
     }
-    Sent {
+    SendPass {
         moved: count > 0,
         left,
         fault: None,
@@ -84,7 +84,7 @@ fn send_piece<L: Link>(
     handles: &[&L::Handle],
     moved: bool,
     budget: u32,
-) -> Sent
+) -> SendPass
     requires { length handles.now ≤ 32 }
     ensures { SendsWhole L.event link.old (carrying (if moved then [] else map (λ h. h.now) handles.now) piece.now) budget result link.new }
 {
@@ -101,7 +101,7 @@ pub fn send_pieces<L: Link>(
     pieces: &[&[u8]],
     handles: &[&L::Handle],
     budget: u32,
-) -> Sent
+) -> SendPass
     requires { length handles.now ≤ 32 }
     ensures { SendsWhole L.event link.old (carrying (map (λ h. h.now) handles.now) (joined pieces.now)) budget result link.new }
 {
@@ -112,14 +112,14 @@ pub fn send_pieces<L: Link>(
         moved |= sent.moved;
         left = sent.left;
         if let Some(cause) = sent.fault {
-            return Sent {
+            return SendPass {
                 moved,
                 left,
                 fault: Some(cause),
             };
         }
     }
-    Sent {
+    SendPass {
         moved,
         left,
         fault: None,
@@ -128,7 +128,7 @@ pub fn send_pieces<L: Link>(
 
 /// Why a receiver stopped.
 #[derive(Drop)]
-pub enum Stop {
+pub enum PassEnd {
     /// The room is full.
     Whole,
     /// The stream has ended.
@@ -139,11 +139,11 @@ pub enum Stop {
 
 /// What came: how many bytes, whether one of them brought handles, how many retries are left, and why it stopped.
 #[derive(Drop)]
-pub struct Got {
+pub struct RecvPass {
     pub count: usize,
     pub surplus: bool,
     pub left: u32,
-    pub stop: Stop,
+    pub stop: PassEnd,
 }
 
 /// Receives some bytes into the room, from this count on.
@@ -214,7 +214,7 @@ pub fn recv_rest<L: Link>(
     room: &mut [u8],
     spare: &mut Vec<L::Handle>,
     budget: u32,
-) -> Got
+) -> RecvPass
     requires list { spare.old.items ≡ [] }
     requires places { 32 ≤ vec_capacity spare.old }
     ensures got { GetsRest L.event link.old room.old budget result room.new link.new }
@@ -227,11 +227,11 @@ pub fn recv_rest<L: Link>(
     while count < room.len() {
         match recv_piece(link, room, count, spare) {
             Ok(0) => {
-                return Got {
+                return RecvPass {
                     count,
                     surplus,
                     left,
-                    stop: Stop::AtEnd,
+                    stop: PassEnd::AtEnd,
                 };
             }
             Ok(n) => {
@@ -243,22 +243,22 @@ pub fn recv_rest<L: Link>(
             }
             Err(cause) => {
                 if !cause.is_retry() || left == 0 {
-                    return Got {
+                    return RecvPass {
                         count,
                         surplus,
                         left,
-                        stop: Stop::Fault(cause),
+                        stop: PassEnd::Fault(cause),
                     };
                 }
                 left -= 1;
             }
         }
     }
-    Got {
+    RecvPass {
         count,
         surplus,
         left,
-        stop: Stop::Whole,
+        stop: PassEnd::Whole,
     }
 }
 
@@ -269,7 +269,7 @@ fn recv_whole<L: Link>(
     list: &mut Vec<L::Handle>,
     spare: &mut Vec<L::Handle>,
     budget: u32,
-) -> Got
+) -> RecvPass
     requires room { 0 < length room.old }
     requires list { list.old.items ≡ [] }
     requires places { 32 ≤ vec_capacity list.old }
@@ -282,23 +282,23 @@ fn recv_whole<L: Link>(
 {
     let first = recv_first(link, room, list, budget);
     if let Some(cause) = first.fault {
-        return Got {
+        return RecvPass {
             count: 0,
             surplus: false,
             left: first.left,
-            stop: Stop::Fault(cause),
+            stop: PassEnd::Fault(cause),
         };
     }
     if first.count == 0 {
-        return Got {
+        return RecvPass {
             count: 0,
             surplus: false,
             left: first.left,
-            stop: Stop::AtEnd,
+            stop: PassEnd::AtEnd,
         };
     }
     let rest = recv_rest(link, &mut room[first.count..], spare, first.left);
-    Got {
+    RecvPass {
         count: first.count + rest.count,
         surplus: rest.surplus,
         left: rest.left,
@@ -314,7 +314,7 @@ fn recv_message<L: Link>(
     list: &mut Vec<L::Handle>,
     spare: &mut Vec<L::Handle>,
     budget: u32,
-) -> Got
+) -> RecvPass
     requires some { 0 < len }
     requires len { len ≤ length text.old }
     requires list { list.old.items ≡ [] }
@@ -335,7 +335,7 @@ pub struct Parts {
     pub count: usize,
     pub more: usize,
     pub left: u32,
-    pub stop: Stop,
+    pub stop: PassEnd,
 }
 
 /// Receives so many bytes to the front of the text, and then into the room until it is full; keeps the handles of the
@@ -402,7 +402,7 @@ pub fn recv_bytes<L: Link>(
     len: usize,
     spare: &mut Vec<L::Handle>,
     budget: u32,
-) -> Got
+) -> RecvPass
     requires len { len ≤ length text.old }
     requires list { spare.old.items ≡ [] }
     requires places { 32 ≤ vec_capacity spare.old }

@@ -7,5 +7,5 @@ mod served;
 mod shared;
 
 pub use device::VhostUserBackendReqHandlerMut;
-pub use served::Served;
+pub use served::SharedDevice;
 pub use shared::VhostUserBackendReqHandler;

@@ -17,7 +17,7 @@ use vhost_message::{
 /// A shared device as one session calls it, by the trait for exclusive references. Each call is the same call of the
 /// device, and may wait. Its relation holds of any call and answer, since others may change the device between two.
 #[derive(Drop)]
-pub struct Served<'a, S, R> {
+pub struct SharedDevice<'a, S, R> {
     /// The device.
     pub device: &'a Arc<S, Global>,
     /// What the device's calls wait by.
@@ -25,7 +25,7 @@ pub struct Served<'a, S, R> {
 }
 
 impl<'a, S: VhostUserBackendReqHandler, R: Wait> VhostUserBackendReqHandlerMut
-    for Served<'a, S, R> {
+    for SharedDevice<'a, S, R> {
     ghost use Rattle.std.specs.Prelude.{⊤};
 
     type Link = S::Link;

@@ -5,7 +5,7 @@ ghost use Rattle.vhost_message.specs.declared.error.Error.TheVariants.{OutOfMemo
 ghost use Rattle.vhost_connection.specs.State.{fresh};
 ghost use Rattle.vhost_protocol.specs.FrontendCall.{new_frontend};
 ghost use Rattle.vhost_protocol.specs.Ask.{Nobody};
-ghost use Rattle.vhost_frontend_core.specs.Frontend.{end_of, session_of, awaits};
+ghost use Rattle.vhost_frontend_core.specs.Frontend.{endpoint_of, session_of, awaits};
 
 use std::alloc::Global;
 use vhost_frontend_core::FrontendInternal;
@@ -43,7 +43,7 @@ impl<L: Link> Quiet<L> {
     ///
     /// OutOfMemory: a growth was refused.
     pub fn new(alloc: Global, link: L, max_queue_num: u64, budget: u32) -> Result<Self>
-        ensures end { IfOk result (λ q. end_of q.inner ≡ fresh link budget) }
+        ensures endpoint { IfOk result (λ q. endpoint_of q.inner ≡ fresh link budget) }
         ensures session { IfOk result (λ q. session_of q.inner ≡ new_frontend max_queue_num) }
         ensures memory { IfErr result (λ e. e ≡ OutOfMemory) }
     {
@@ -54,7 +54,7 @@ impl<L: Link> Quiet<L> {
 
     /// The flags of each request from now on: of these, REPLY and NEED_REPLY are sent.
     pub fn set_hdr_flags(&mut self, flags: VhostUserHeaderFlag)
-        ensures end { end_of self.new.inner ≡ end_of self.old.inner }
+        ensures endpoint { endpoint_of self.new.inner ≡ endpoint_of self.old.inner }
         ensures session { session_of self.new.inner ≡ record (session_of self.old.inner) { header_flags = flags.bits } }
     {
         self.inner.set_hdr_flags(flags);
@@ -62,7 +62,7 @@ impl<L: Link> Quiet<L> {
 
     /// Whether the last call that sent or received met a fault: the link failed, or retried once too often.
     pub fn faulted(&self) -> bool
-        ensures { result ≡ (end_of self.now.inner).faulted }
+        ensures { result ≡ (endpoint_of self.now.inner).faulted }
     {
         self.inner.faulted()
     }

@@ -13,7 +13,7 @@ use Rattle.vhost_link.specs.Ends.{Ends}
 use Rattle.vhost_link.specs.Mem.{event}
 use Rattle.vhost_connection.specs.Talk.{State}
 use Rattle.vhost_connection.specs.Hearing.{Fails}
-use Rattle.vhost_frontend_core.specs.Frontend.{end_of, session_of, awaits}
+use Rattle.vhost_frontend_core.specs.Frontend.{endpoint_of, session_of, awaits}
 use Rattle.vhost_frontend_core.specs.Halves.{AsksHalfWithRoom}
 use Rattle.vhost_frontend_core.specs.Taking.{Reads}
 use Rattle.vhost_frontend_core.specs.declared.asked.Sent.{Sent}
@@ -41,4 +41,4 @@ module _ (call : FrontendCall PlainHandle) (old : FrontendInternal Ends PlainHan
   pub data AsksCall : Result (Option Sent) declared.Error → FrontendInternal Ends PlainHandle → Type 0 where
     half : {sent : Sent} {new : FrontendInternal Ends PlainHandle} → AsksHalfWithRoom event call old (Ok sent) new → AsksCall (Ok (Some sent)) new
     refused : {e : declared.Error} {new : FrontendInternal Ends PlainHandle} → AsksHalfWithRoom event call old (Err e) new → AsksCall (Err e) new
-    at_once : {new : FrontendInternal Ends PlainHandle} (flags : ℕ) → call ≡ SetHdrFlags flags → end_of new ≡ end_of old → session_of new ≡ record (session_of old) { header_flags = flags } → awaits new ≡ awaits old → AsksCall (Ok None) new
+    at_once : {new : FrontendInternal Ends PlainHandle} (flags : ℕ) → call ≡ SetHdrFlags flags → endpoint_of new ≡ endpoint_of old → session_of new ≡ record (session_of old) { header_flags = flags } → awaits new ≡ awaits old → AsksCall (Ok None) new

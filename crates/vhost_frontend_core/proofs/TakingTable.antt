@@ -24,7 +24,7 @@ use Rattle.vhost_link.specs.Law.{Event}
 use Rattle.vhost_connection.specs.Talk.{State}
 use Rattle.vhost_frontend_core.specs.Regions.{bases_seen}
 use Rattle.vhost_frontend_core.specs.Taking.{reply_cut, is_table, Comes, Missing, RecvsPayload, RecvsTable, Takes}
-use Rattle.vhost_frontend_core.specs.Taking.RecvsTable.{table, no_table, crowded_table, untold}
+use Rattle.vhost_frontend_core.specs.Taking.RecvsTable.{table, no_table, crowded_table, missing}
 use Rattle.vhost_frontend_core.specs.Taking.Takes.{taken}
 use Rattle.vhost_frontend_core.proofs.Handed.{hands-none, hands-some}
 use Rattle.vhost_frontend_core.proofs.Taking.{reads-reply, replied, missing}
@@ -65,7 +65,7 @@ module _ {L H : Type 0} {event : L → Event H → L → Type 0} (count : ℕ) {
 
   -- there is none
   pub table-missing : {e : declared.Error} → Missing event 8 (λ bs. is_valid_memory (memory_of bs)) (length before) old sent e new → RecvsTable event count old sent (Err e) after new
-  table-missing {e} m = untold (subst (λ n. Missing event 8 (λ bs. is_valid_memory (memory_of bs)) n old sent e new) room m)
+  table-missing {e} m = missing (subst (λ n. Missing event 8 (λ bs. is_valid_memory (memory_of bs)) n old sent e new) room m)
 
   module _ (size len : ℕ) (head : VhostUserMemory) (hs : Option (Vec H Global)) (x : RecvsPayload event 8 memory_of is_valid_memory old sent before (Ok (size, head, len, hs)) after new) where
     -- it has another number of regions
@@ -148,4 +148,4 @@ module _ {L H : Type 0} {event : L → Event H → L → Type 0} (infos : List (
           taken (reads-reply (SetMemTable infos) TheRegions 8 (32 * count) (λ bs. is_valid_memory (memory_of bs)) (by infos count long sent f) (Ok r) plain x.hears (rw (x.answers, sized infos count long r false differs) refl))
       go (crowded_table r x is some) =
           taken (replied (SetMemTable infos) TheRegions 8 (32 * count) (λ bs. is_valid_memory (memory_of bs)) (by infos count long sent f) r plain x (sized infos count long r true is) (many infos count long f r r.handles some))
-      go (untold m) = missing (SetMemTable infos) TheRegions 8 (32 * count) (λ bs. is_valid_memory (memory_of bs)) (by infos count long sent f) plain m
+      go (missing m) = missing (SetMemTable infos) TheRegions 8 (32 * count) (λ bs. is_valid_memory (memory_of bs)) (by infos count long sent f) plain m

@@ -10,8 +10,8 @@ use Rattle.vhost_frontend_core.specs.Session.{frontend_of, awaited_of}
 use Rattle.vhost_frontend_core.specs.declared.internal.FrontendInternal.{FrontendInternal}
 
 -- its endpoint
-abbrev pub end_of : {L H : Type 0} → FrontendInternal L H → State L H
-end_of f = state f.end
+abbrev pub endpoint_of : {L H : Type 0} → FrontendInternal L H → State L H
+endpoint_of f = state f.endpoint
 
 -- what it remembers
 abbrev pub session_of : {L H : Type 0} → FrontendInternal L H → Frontend
@@ -22,5 +22,5 @@ abbrev pub awaits : {L H : Type 0} → FrontendInternal L H → Awaited
 awaits f = awaited_of f.awaited
 
 -- the same frontend over another endpoint
-abbrev pub with_end : {L H : Type 0} → FrontendInternal L H → Endpoint (VhostUserMsgHeader FrontendReq) L H → FrontendInternal L H
-with_end f end = record f { end = end }
+abbrev pub with_endpoint : {L H : Type 0} → FrontendInternal L H → Endpoint (VhostUserMsgHeader FrontendReq) L H → FrontendInternal L H
+with_endpoint f endpoint = record f { endpoint = endpoint }

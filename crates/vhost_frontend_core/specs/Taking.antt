@@ -97,7 +97,7 @@ module _ {L H : Type 0} (event : L → Event H → L → Type 0) where
         → RecvsTable count old sent (Err code.InvalidMessage) after new
     crowded_table : (reply : Received H) {after : List ℕ} {new : State L H} → Comes 8 (λ bs. is_valid_memory (memory_of bs)) (32 * count) old sent reply new → is_table count reply ≡ true → has_some reply.handles ≡ true
         → RecvsTable count old sent (Err code.InvalidMessage) after new
-    untold : {e : declared.Error} {after : List ℕ} {new : State L H} → Missing 8 (λ bs. is_valid_memory (memory_of bs)) (32 * count) old sent e new → RecvsTable count old sent (Err e) after new
+    missing : {e : declared.Error} {after : List ℕ} {new : State L H} → Missing 8 (λ bs. is_valid_memory (memory_of bs)) (32 * count) old sent e new → RecvsTable count old sent (Err e) after new
 
 -- an acknowledgement, or nothing, is awaited
 abbrev pub IsAck : Awaited → Type 0

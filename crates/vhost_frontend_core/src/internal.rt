@@ -40,7 +40,7 @@ type Header = VhostUserMsgHeader<FrontendReq>;
 /// Mirrors what `vhost::vhost_user::Frontend` holds behind its lock.
 #[derive(Drop)]
 pub struct FrontendInternal<L: Link> {
-    end: Endpoint<Header, L>,
+    endpoint: Endpoint<Header, L>,
     session: FrontendSession,
     /// What is awaited of the request that was sent last.
     pub awaited: Awaited,
@@ -54,19 +54,19 @@ impl<L: Link> FrontendInternal<L> {
     ghost use Rattle.vhost_message.specs.contracts.header.VhostUserMsgHeader.{the_row as header_row};
     ghost use Rattle.vhost_message.specs.contracts.frontend_req.FrontendReq.{the_row as code_row};
     ghost use Rattle.vhost_frontend_core.specs.contracts.internal.FrontendInternal.{the_row};
-    ghost use Rattle.vhost_frontend_core.specs.Frontend.{end_of, session_of, awaits, with_end};
+    ghost use Rattle.vhost_frontend_core.specs.Frontend.{endpoint_of, session_of, awaits, with_endpoint};
 
     /// A new session over a link, with a device of at most so many queues. A message may take so many retries.
     ///
     /// OutOfMemory: a growth was refused.
     pub fn new(alloc: Global, link: L, max_queue_num: u64, budget: u32) -> Result<Self>
-        ensures end { IfOk result (λ f. end_of f ≡ fresh link budget) }
+        ensures endpoint { IfOk result (λ f. endpoint_of f ≡ fresh link budget) }
         ensures session { IfOk result (λ f. session_of f ≡ new_frontend max_queue_num) }
         ensures awaited { IfOk result (λ f. awaits f ≡ Nobody) }
         ensures memory { IfErr result (λ e. e ≡ OutOfMemory) }
     {
         Ok(FrontendInternal {
-            end: Endpoint::from_stream(alloc, link, budget)?,
+            endpoint: Endpoint::from_stream(alloc, link, budget)?,
             session: FrontendSession::new(max_queue_num),
             awaited: Awaited::Nobody,
             alloc,
@@ -75,7 +75,7 @@ impl<L: Link> FrontendInternal<L> {
 
     /// The flags of each request from now on: of these, REPLY and NEED_REPLY are sent.
     pub fn set_hdr_flags(&mut self, flags: VhostUserHeaderFlag)
-        ensures end { end_of self.new ≡ end_of self.old }
+        ensures endpoint { endpoint_of self.new ≡ endpoint_of self.old }
         ensures session { session_of self.new ≡ record (session_of self.old) { header_flags = flags.bits } }
         ensures awaited { awaits self.new ≡ awaits self.old }
     {
@@ -85,16 +85,16 @@ impl<L: Link> FrontendInternal<L> {
 
     /// Whether the last call that sent or received met a fault: the link failed, or retried once too often.
     pub fn faulted(&self) -> bool
-        ensures { result ≡ (end_of self.now).faulted }
+        ensures { result ≡ (endpoint_of self.now).faulted }
     {
-        self.end.faulted()
+        self.endpoint.faulted()
     }
 
     /// Lends its endpoint.
-    pub fn end(&mut self) -> &mut Endpoint<Header, L>
-        ensures* lender { sem 𝓛 (Lends (the_row L.row L.Handle.row) (endpoint_row (header_row code_row) L.row L.Handle.row) self.entry result (λ e. with_end self.old e)) }
-        ensures value { state result.now ≡ end_of self.old }
+    pub fn endpoint_mut(&mut self) -> &mut Endpoint<Header, L>
+        ensures* lender { sem 𝓛 (Lends (the_row L.row L.Handle.row) (endpoint_row (header_row code_row) L.row L.Handle.row) self.entry result (λ e. with_endpoint self.old e)) }
+        ensures value { state result.now ≡ endpoint_of self.old }
     {
-        &mut self.end
+        &mut self.endpoint
     }
 }

@@ -21,7 +21,7 @@ use vhost_message::{
 pub struct FrontendSession {
     pub offered: u64,
     pub acked: u64,
-    pub acked_p: u64,
+    pub acked_protocol_features: u64,
     pub max_queue_num: u64,
     pub header_flags: u32,
     pub postcopy: PostcopyState,
@@ -35,7 +35,7 @@ impl FrontendSession {
         FrontendSession {
             offered: 0,
             acked: 0,
-            acked_p: 0,
+            acked_protocol_features: 0,
             max_queue_num,
             header_flags: 0,
             postcopy: PostcopyState::Inactive,
@@ -47,8 +47,11 @@ impl FrontendSession {
     pub fn acknowledgement(&self) -> Awaited
         ensures { awaited_of result ≡ ask.ack (frontend_of self.now) }
     {
-        let (acked_p, header_flags) = (self.acked_p, self.header_flags);
-        if has_bit(acked_p, 3) && has_bit(header_flags.into(), 3) {
+        let (acked_protocol_features, header_flags) = (
+            self.acked_protocol_features,
+            self.header_flags,
+        );
+        if has_bit(acked_protocol_features, 3) && has_bit(header_flags.into(), 3) {
             Awaited::Ack
         } else {
             Awaited::Nobody
@@ -75,7 +78,7 @@ impl FrontendSession {
     pub fn operation(&self, feature: VhostUserProtocolFeatures) -> Result<()>
         ensures { (bit : ℕ) → feature.bits ≡ 2 ^ bit → ask.operation (frontend_of self.now) bit ≡ tested result }
     {
-        if self.acked_p & feature.bits() == 0 {
+        if self.acked_protocol_features & feature.bits() == 0 {
             return Err(Error::InactiveOperation(feature));
         }
         Ok(())

@@ -9,16 +9,16 @@ use Rattle.vhost_gpu_backend_req.specs.declared.internal.BackendInternal.{Backen
 
 -- its endpoint, and the number of the error with which it was marked as failed
 pub record Channel (L H : Type 0) : Type 0 where
-  pub end : State L H
+  pub endpoint : State L H
   pub failed : Option ℤ
 
 abbrev pub channel : {L H : Type 0} → BackendInternal L H → Channel L H
-channel b = record { end = state b.end; failed = b.failed }
+channel b = record { endpoint = state b.endpoint; failed = b.failed }
 
 -- a channel that has not sent or received yet
 abbrev pub opened : {L H : Type 0} → L → ℕ → Channel L H
-opened link budget = record { end = fresh link budget; failed = None }
+opened link budget = record { endpoint = fresh link budget; failed = None }
 
 -- the channel over another endpoint
-abbrev pub with_end : {L H : Type 0} → BackendInternal L H → Endpoint (VhostUserGpuMsgHeader GpuBackendReq) L H → BackendInternal L H
-with_end b end = record b { end = end }
+abbrev pub with_endpoint : {L H : Type 0} → BackendInternal L H → Endpoint (VhostUserGpuMsgHeader GpuBackendReq) L H → BackendInternal L H
+with_endpoint b endpoint = record b { endpoint = endpoint }

@@ -13,26 +13,26 @@ use vhost_message::MsgHeader;
 
 /// The same, of the endpoint.
 #[tactic(auto, unfolding(vhost_connection::specs::State::ahead_of))]
-fn relinked<M: MsgHeader, L: Link>(end: &mut Endpoint<M, L>, link: L)
-    ensures { state end.new ≡ record (state end.old) { link = link } }
+fn relinked<M: MsgHeader, L: Link>(endpoint: &mut Endpoint<M, L>, link: L)
+    ensures { state endpoint.new ≡ record (state endpoint.old) { link = link } }
 {
-    *end.link() = link;
+    *endpoint.link() = link;
 }
 
 /// Puts another link in the place of the one below.
 fn relink<L: Link>(inner: &mut BackendInternal<L>, link: L)
-    ensures end { (channel inner.new).end ≡ record (channel inner.old).end { link = link } }
+    ensures endpoint { (channel inner.new).endpoint ≡ record (channel inner.old).endpoint { link = link } }
     ensures failed { (channel inner.new).failed ≡ (channel inner.old).failed }
 {
-    relinked(inner.end(), link);
+    relinked(inner.endpoint_mut(), link);
 }
 
 /// Takes the sender's place where the list of handles was given away.
 fn listed<L: Link>(inner: &mut BackendInternal<L>) -> bool
     ensures failed { (channel inner.new).failed ≡ (channel inner.old).failed }
-    ensures link { (channel inner.new).end.link ≡ (channel inner.old).end.link }
+    ensures link { (channel inner.new).endpoint.link ≡ (channel inner.old).endpoint.link }
 {
-    inner.end().make_list().is_ok()
+    inner.endpoint_mut().make_list().is_ok()
 }
 
 #[test]
@@ -44,6 +44,6 @@ fn lends_and_goes_on(rt: HostRuntime) -> std::result::Result<(), Fail> {
     link.push(&[9, 8, 7], &[])?;
     relink(&mut inner, link);
     assert!(rt; listed(&mut inner));
-    assert!(rt; inner.end().link().taken().is_empty());
+    assert!(rt; inner.endpoint_mut().link().taken().is_empty());
     Ok(())
 }

@@ -22,10 +22,10 @@ use Rattle.vhost_frontend_core.specs.Asking.{AsksWithRoom, Goes}
 use Rattle.vhost_frontend_core.specs.declared.asked.Sent.{Sent}
 use Rattle.vhost_frontend_core.specs.Session.{awaited_of}
 use Rattle.vhost_frontend_core.specs.Taking.{Reads, unread, read}
-use Rattle.vhost_pair.specs.OnWay.{coming, gone, Carries}
+use Rattle.vhost_pair.specs.OnWay.{incoming, outgoing, Carries}
 use Rattle.vhost_pair.specs.Joined.{IsUsed}
 use Rattle.vhost_pair.specs.Sides.{cuts_of}
-use Rattle.vhost_pair.proofs.OnWay.{coming-handed, coming-cut, gone-taken}
+use Rattle.vhost_pair.proofs.OnWay.{incoming-handed, incoming-cut, outgoing-taken}
 use Rattle.vhost_pair.proofs.Spent.{Faults, faults, no-memory, talk-used, used-none}
 
 abbrev pub End : Type 0
@@ -42,8 +42,8 @@ module _ (call : FrontendCall PlainHandle) (fe : End) (f : Frontend) (before : A
   pub record IsAsked (sent : Sent) (fe' : End) (f' : Frontend) (aw' : Awaited) : Type 0 where
     pub message : Written FrontendReq PlainHandle
     pub asked : ask f call ≡ Sends message aw' f'
-    pub request : gone fe' ≡ gone fe ++ written_cells request_number message
-    pub coming : coming fe' ≡ coming fe
+    pub request : outgoing fe' ≡ outgoing fe ++ written_cells request_number message
+    pub incoming : incoming fe' ≡ incoming fe
     pub awaits : awaited_of sent.awaited ≡ aw'
     pub header : fields_of sent.request ≡ head_of request_number message
     pub broken : fe'.broken ≡ None
@@ -56,8 +56,8 @@ module _ (call : FrontendCall PlainHandle) (fe : End) (f : Frontend) (before : A
   went-asked {w} {fe' = fe'} e g = record {
     message = w;
     asked = e;
-    request = gone-taken fe fe' _ g.serves.talks;
-    coming = sym (coming-handed fe fe' _ g.serves.talks);
+    request = outgoing-taken fe fe' _ g.serves.talks;
+    incoming = sym (incoming-handed fe fe' _ g.serves.talks);
     awaits = g.awaits;
     header = g.header;
     broken = g.serves.after;
@@ -91,17 +91,17 @@ module _ (call : FrontendCall PlainHandle) (fe : End) (f : Frontend) (before : A
 -- ---- what was carried
 
 module _ (from to from' to' : End) (k : Carries from to from' to') where
-  pub arrived : coming to ≡ [] → coming to' ≡ gone from
-  arrived none = ap {A = End} (λ e. coming e) k.receiver ∙ sym (append_assoc to.ahead to.link.pending from.link.sent) ∙ ap (λ xs. xs ++ from.link.sent) none
+  pub arrived : incoming to ≡ [] → incoming to' ≡ outgoing from
+  arrived none = ap {A = End} (λ e. incoming e) k.receiver ∙ sym (append_assoc to.ahead to.link.pending from.link.sent) ∙ ap (λ xs. xs ++ from.link.sent) none
 
-  pub emptied : gone from' ≡ []
-  emptied = ap {A = End} (λ e. gone e) k.sender
+  pub emptied : outgoing from' ≡ []
+  emptied = ap {A = End} (λ e. outgoing e) k.sender
 
-  pub kept : coming from' ≡ coming from
-  kept = ap {A = End} (λ e. coming e) k.sender
+  pub kept : incoming from' ≡ incoming from
+  kept = ap {A = End} (λ e. incoming e) k.sender
 
-  pub held : gone to' ≡ gone to
-  held = ap {A = End} (λ e. gone e) k.receiver
+  pub held : outgoing to' ≡ outgoing to
+  held = ap {A = End} (λ e. outgoing e) k.receiver
 
   pub sender-cuts : cuts_of from'.link ≡ cuts_of from.link
   sender-cuts = ap {A = End} (λ e. cuts_of e.link) k.sender
@@ -114,8 +114,8 @@ module _ (from to from' to' : End) (k : Carries from to from' to') where
 module _ (call : FrontendCall PlainHandle) (awaited : Awaited) (sent : Header) (f : Frontend) (fe : End) (x : Option (Answered PlainHandle)) where
   -- The answer is that of all that was coming.
   pub record IsTaken (fe' : End) : Type 0 where
-    pub cut : take call awaited sent f (coming fe) ≡ (x, coming fe')
-    pub gone : gone fe' ≡ gone fe
+    pub cut : take call awaited sent f (incoming fe) ≡ (x, incoming fe')
+    pub outgoing : outgoing fe' ≡ outgoing fe
     pub used : IsUsed (cuts_of fe.link) (cuts_of fe'.link)
     pub broken : fe'.broken ≡ None
     pub faulted : fe'.faulted ≡ false
@@ -123,16 +123,16 @@ module _ (call : FrontendCall PlainHandle) (awaited : Awaited) (sent : Header) (
 
   pub is-taken : {fe' : End} → fe.broken ≡ None → fe.faulted ≡ false → Reads event call awaited sent f fe x fe' → IsTaken fe'
   is-taken whole sound (unread here) = record {
-    cut = here (coming fe);
-    gone = refl;
+    cut = here (incoming fe);
+    outgoing = refl;
     used = used-none (cuts_of fe.link) (cuts_of fe.link) refl;
     broken = whole;
     faulted = sound;
     budget = refl;
   }
   is-taken {fe' = fe'} whole sound (read h) = record {
-    cut = coming-cut fe fe' _ h.serves.talks (take call awaited sent f) h.cells h.ended x refl h.splits;
-    gone = gone-taken fe fe' _ h.serves.talks ∙ append-nil (gone fe);
+    cut = incoming-cut fe fe' _ h.serves.talks (take call awaited sent f) h.cells h.ended x refl h.splits;
+    outgoing = outgoing-taken fe fe' _ h.serves.talks ∙ append-nil (outgoing fe);
     used = talk-used fe fe' _ h.serves.talks;
     broken = h.serves.after;
     faulted = h.serves.faulted;

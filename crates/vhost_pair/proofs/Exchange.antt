@@ -29,7 +29,7 @@ use Rattle.vhost_pair.specs.declared.sides.Exchanged.{Exchanged}
 use Rattle.vhost_frontend_calls.specs.Calls.{answer_of}
 use Rattle.vhost_pair.specs.Device.{Gives, opens_backend, opens_gpu}
 use Rattle.vhost_frontend_calls.specs.Halves.{IsProper, TakesResult}
-use Rattle.vhost_pair.specs.OnWay.{coming, gone}
+use Rattle.vhost_pair.specs.OnWay.{incoming, outgoing}
 use Rattle.vhost_pair.specs.Text.{text_of, no_text}
 use Rattle.vhost_pair.specs.Joined as joined
 use Rattle.vhost_pair.specs.Joined.{View, IsReady, IsSpent, IsUsed, Keeps, Answers}
@@ -46,11 +46,11 @@ from_some a None = a
 from_some a (Some b) = b
 
 module _ {Dev : Type 0} (gives : Gives Dev) (call : FrontendCall PlainHandle) (bit : Bool) (old : Parts Dev) (sound : IsSound old) (lists : HaveLists old) (ready : IsReady bit (as_view old None)) where
-  nothing-asked : coming old.serving ≡ []
-  nothing-asked = (both-empty (gone old.asking) (coming old.serving) ready.in_step.no_request).1
+  nothing-asked : incoming old.serving ≡ []
+  nothing-asked = (both-empty (outgoing old.asking) (incoming old.serving) ready.in_step.no_request).1
 
-  nothing-coming : coming old.asking ≡ []
-  nothing-coming = (both-empty (gone old.serving) (coming old.asking) ready.in_step.no_reply).1
+  nothing-incoming : incoming old.asking ≡ []
+  nothing-incoming = (both-empty (outgoing old.serving) (incoming old.asking) ready.in_step.no_reply).1
 
   -- ---- a call that was sent and served
 
@@ -58,10 +58,10 @@ module _ {Dev : Type 0} (gives : Gives Dev) (call : FrontendCall PlainHandle) (b
     abbrev w : Written FrontendReq PlainHandle
     w = ask1.message
 
-    asked-whole : gone fe1 ≡ written_cells request_number w
+    asked-whole : outgoing fe1 ≡ written_cells request_number w
     asked-whole = ask1.request ∙ ap (λ xs. xs ++ written_cells request_number w) sound.no_request
 
-    few-asked : length (gone fe1) ≤ 4108
+    few-asked : length (outgoing fe1) ≤ 4108
     few-asked = subst (λ cells. length cells ≤ 4108) (sym asked-whole) (few-written w (sendable call good old.frontend w aw1 f1 ask1.asked).size)
 
     module _ (ans : Result (Value PlainHandle) Error) (stop : Option Stop) (new : Parts Dev) (v : Served gives call sent (record old { asking = fe1; frontend = f1; awaited = aw1 }) ans stop new) where
@@ -77,10 +77,10 @@ module _ {Dev : Type 0} (gives : Gives Dev) (call : FrontendCall PlainHandle) (b
       abbrev fe3 : End
       fe3 = v.asking_after
 
-      came : coming he1 ≡ written_cells request_number w
+      came : incoming he1 ≡ written_cells request_number w
       came = arrived fe1 old.serving fe2 he1 v.there nothing-asked ∙ asked-whole
 
-      clear : gone he1 ≡ []
+      clear : outgoing he1 ≡ []
       clear = held fe1 old.serving fe2 he1 v.there ∙ sound.no_reply
 
       abbrev IsServed1 : Type 0
@@ -100,8 +100,8 @@ module _ {Dev : Type 0} (gives : Gives Dev) (call : FrontendCall PlainHandle) (b
       done1 o m = outcomes call good old.frontend w aw1 f1 ask1.asked gives old.session old.device new.device ready.in_step.agree ready.negotiates.0 ready.plain o m
 
       -- the frontend has nothing more to receive, before the reply comes
-      nothing-left : coming fe2 ≡ []
-      nothing-left = kept fe1 old.serving fe2 he1 v.there ∙ ask1.coming ∙ nothing-coming
+      nothing-left : incoming fe2 ≡ []
+      nothing-left = kept fe1 old.serving fe2 he1 v.there ∙ ask1.incoming ∙ nothing-incoming
 
       abbrev Goal : Type 0
       Goal = Answers gives (as_view old None) call ans (as_view new stop)
@@ -153,13 +153,13 @@ module _ {Dev : Type 0} (gives : Gives Dev) (call : FrontendCall PlainHandle) (b
           replied : List (Cell PlainHandle)
           replied = cells_of request_number (reply w.request h.outcome.served)
 
-          few-served : length (gone he2) ≤ 4108
+          few-served : length (outgoing he2) ≤ 4108
           few-served = subst (λ cells. length cells ≤ 4108) (sym h.written) k.few
 
           is_reply : new.reply ≡ text_of replied
           is_reply = v.reply few-served ∙ ap text_of h.written
 
-          cut : ◌≡◌ {A = Option (Answered PlainHandle) × List (Cell PlainHandle)} (Some (answered new.frontend ans), coming new.asking) (Some k.known.answered, [])
+          cut : ◌≡◌ {A = Option (Answered PlainHandle) × List (Cell PlainHandle)} (Some (answered new.frontend ans), incoming new.asking) (Some k.known.answered, [])
           cut = sym t.cut ∙ ap (λ cells. take call aw1 (fields_of sent.request) f1 cells) (arrived he2 fe2 new.serving fe3 v.back nothing-left ∙ h.written)
               ∙ ap (λ header. take call aw1 header f1 replied) ask1.header ∙ k.taken
 
@@ -178,13 +178,13 @@ module _ {Dev : Type 0} (gives : Gives Dev) (call : FrontendCall PlainHandle) (b
           last : Bool
           last = is_last w.request h.outcome
 
-          no_request : gone new.asking ++ coming new.serving ≡ []
-          no_request = ap (λ xs. xs ++ coming new.serving) (t.gone ∙ held he2 fe2 new.serving fe3 v.back ∙ emptied fe1 old.serving fe2 he1 v.there) ∙ kept he2 fe2 new.serving fe3 v.back ∙ h.nothing
+          no_request : outgoing new.asking ++ incoming new.serving ≡ []
+          no_request = ap (λ xs. xs ++ incoming new.serving) (t.outgoing ∙ held he2 fe2 new.serving fe3 v.back ∙ emptied fe1 old.serving fe2 he1 v.there) ∙ kept he2 fe2 new.serving fe3 v.back ∙ h.nothing
 
-          no_reply : gone new.serving ++ coming new.asking ≡ []
-          no_reply = ap (λ xs. xs ++ coming new.asking) (emptied he2 fe2 new.serving fe3 v.back) ∙ pair-second cut
+          no_reply : outgoing new.serving ++ incoming new.asking ≡ []
+          no_reply = ap (λ xs. xs ++ incoming new.asking) (emptied he2 fe2 new.serving fe3 v.back) ∙ pair-second cut
 
-          in_step : last ≡ false → InStep new.frontend new.session new.awaited (gone new.asking ++ coming new.serving) (gone new.serving ++ coming new.asking)
+          in_step : last ≡ false → InStep new.frontend new.session new.awaited (outgoing new.asking ++ incoming new.serving) (outgoing new.serving ++ incoming new.asking)
           in_step before = record {
             agree = subst (λ g. AgreeOn g new.session) (sym session) (subst (λ u. AgreeOn (k.known.answered.session) u) (sym h.session) (k.known.agree before));
             nobody = v.quiet;
@@ -233,12 +233,12 @@ module _ {Dev : Type 0} (gives : Gives Dev) (call : FrontendCall PlainHandle) (b
     sent-out x new (sides.served v) = exchanged (answer_of x.answer) x.stop new v
     sent-out x new (sides.no_way blocked stops) = absurd (blocked (both-empty old.serving.ahead old.serving.link.pending nothing-asked).1)
     sent-out x new (sides.no_way_back fe2 he1 there blocked stops) =
-        absurd (blocked (both-empty fe2.ahead fe2.link.pending (kept fe1 old.serving fe2 he1 there ∙ ask1.coming ∙ nothing-coming)).1)
+        absurd (blocked (both-empty fe2.ahead fe2.link.pending (kept fe1 old.serving fe2 he1 there ∙ ask1.incoming ∙ nothing-incoming)).1)
 
   -- ---- a call that was not sent
 
   -- it was refused, and nothing changed
-  refused-here : (e : Error) (new : Parts Dev) → ask old.frontend call ≡ ask.Refuses e → new ≡ record old { request = new.request; reply = no_text } → new.request ≡ text_of (gone old.asking) → Keeps gives (as_view old None) call (Err e) (as_view new None)
+  refused-here : (e : Error) (new : Parts Dev) → ask old.frontend call ≡ ask.Refuses e → new ≡ record old { request = new.request; reply = no_text } → new.request ≡ text_of (outgoing old.asking) → Keeps gives (as_view old None) call (Err e) (as_view new None)
   refused-here e new refuses same is_request = record {
     shown = unsent (Err e);
     step = subst (λ x. protocol.Exchanges gives opens_backend opens_gpu old.frontend old.session old.device call x (unsent (Err e)) new.frontend new.session new.device) (sym refuses)
@@ -247,9 +247,9 @@ module _ {Dev : Type 0} (gives : Gives Dev) (call : FrontendCall PlainHandle) (b
     request = is_request ∙ ap text_of sound.no_request;
     reply = ap {A = Parts Dev} (λ p. p.reply) same;
     stopped = refl;
-    in_step = λ last. subst (λ p. InStep p.frontend p.session p.awaited (gone p.asking ++ coming p.serving) (gone p.serving ++ coming p.asking)) (sym same) ready.in_step;
-    no_request = ap {A = Parts Dev} (λ p. gone p.asking ++ coming p.serving) same ∙ ready.in_step.no_request;
-    no_reply = ap {A = Parts Dev} (λ p. gone p.serving ++ coming p.asking) same ∙ ready.in_step.no_reply;
+    in_step = λ last. subst (λ p. InStep p.frontend p.session p.awaited (outgoing p.asking ++ incoming p.serving) (outgoing p.serving ++ incoming p.asking)) (sym same) ready.in_step;
+    no_request = ap {A = Parts Dev} (λ p. outgoing p.asking ++ incoming p.serving) same ∙ ready.in_step.no_request;
+    no_reply = ap {A = Parts Dev} (λ p. outgoing p.serving ++ incoming p.asking) same ∙ ready.in_step.no_reply;
     asking = used-none (cuts_of old.asking.link) (cuts_of new.asking.link) (ap {A = Parts Dev} (λ p. cuts_of p.asking.link) same);
     serving = used-none (cuts_of old.serving.link) (cuts_of new.serving.link) (ap {A = Parts Dev} (λ p. cuts_of p.serving.link) same);
     budget = ap {A = Parts Dev} (λ p. p.asking.budget) same;
@@ -266,8 +266,8 @@ module _ {Dev : Type 0} (gives : Gives Dev) (call : FrontendCall PlainHandle) (b
           let none : x.stop ≡ None = end.goes_on (ap {A = End} (λ s. s.faulted) unchanged ∙ sound.sound) in
           let here : asked ≡ old = by.same ∙ ap {A = End} (λ s. record old { asking = s; frontend = asked.frontend; awaited = asked.awaited }) unchanged ∙ ap {A = Frontend} (λ g. record old { frontend = g; awaited = asked.awaited }) u.session ∙ ap {A = Awaited} (λ a. record old { awaited = a }) u.awaits in
           let same : new ≡ record old { request = new.request; reply = no_text } = end.same ∙ ap {A = Parts Dev} (λ p. record p { request = new.request; reply = no_text }) here in
-          let gone_none : gone asked.asking ≡ [] = ap {A = End} (λ s. gone s) unchanged ∙ sound.no_request in
-          let is_request : new.request ≡ text_of (gone old.asking) = end.request (subst (λ cells. length cells ≤ 4108) (sym gone_none) (omega arith)) ∙ ap {A = End} (λ s. text_of (gone s)) unchanged in
+          let gone_none : outgoing asked.asking ≡ [] = ap {A = End} (λ s. outgoing s) unchanged ∙ sound.no_request in
+          let is_request : new.request ≡ text_of (outgoing old.asking) = end.request (subst (λ cells. length cells ≤ 4108) (sym gone_none) (omega arith)) ∙ ap {A = End} (λ s. text_of (outgoing s)) unchanged in
           inl (subst (λ t. Keeps gives (as_view old None) call (answer_of x.answer) (as_view new t)) (sym none)
           (subst (λ a. Keeps gives (as_view old None) call a (as_view new None)) (sym end.answer) (refused-here (seen e) new refuses same is_request)))
       by-cases (inr k) =
@@ -293,7 +293,7 @@ module _ {Dev : Type 0} (gives : Gives Dev) (call : FrontendCall PlainHandle) (b
         reply = refl;
         stopped = refl;
         in_step = λ last. record {
-          agree = record { offered = ready.in_step.agree.offered; acked_p = ready.in_step.agree.acked_p; postcopy = ready.in_step.agree.postcopy; acked = ready.in_step.agree.acked };
+          agree = record { offered = ready.in_step.agree.offered; acked_protocol_features = ready.in_step.agree.acked_protocol_features; postcopy = ready.in_step.agree.postcopy; acked = ready.in_step.agree.acked };
           nobody = ready.in_step.nobody;
           no_request = ready.in_step.no_request;
           no_reply = ready.in_step.no_reply;

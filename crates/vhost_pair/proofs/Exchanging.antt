@@ -12,7 +12,7 @@ use Rattle.vhost_link.specs.Ends.{Ends}
 use Rattle.vhost_link.specs.Mem.{event}
 use Rattle.vhost_frontend_core.specs.Asking as asking
 use Rattle.vhost_frontend_core.specs.Awaiting.{MayAwait}
-use Rattle.vhost_frontend_core.specs.Frontend.{end_of, session_of, awaits}
+use Rattle.vhost_frontend_core.specs.Frontend.{endpoint_of, session_of, awaits}
 use Rattle.vhost_frontend_core.specs.Halves.{AsksHalfWithRoom}
 use Rattle.vhost_frontend_core.specs.Session.{awaited_of}
 use Rattle.vhost_frontend_core.specs.declared.asked.Sent.{Sent}
@@ -56,16 +56,16 @@ module _ (call : FrontendCall PlainHandle) (old new : Core) where
   pub sent-so : (o : Option Sent) (sent : Sent) → o ≡ Some sent → AsksCall call old (Ok o) new → IsSent call × MayAwait call (awaited_of sent.awaited)
   sent-so o sent is h = sent-half sent (sent-in o sent is h)
 
-  module _ {Dev : Type 0} (gives : Gives Dev) (before : Parts Dev) (asks : before.asking ≡ end_of old) (frontend : before.frontend ≡ session_of old) (awaited : before.awaited ≡ awaits old) where
+  module _ {Dev : Type 0} (gives : Gives Dev) (before : Parts Dev) (asks : before.asking ≡ endpoint_of old) (frontend : before.frontend ≡ session_of old) (awaited : before.awaited ≡ awaits old) where
     -- both sides, once the frontend asked
     abbrev after : Parts Dev
-    after = record before { asking = end_of new; frontend = session_of new; awaited = awaits new }
+    after = record before { asking = endpoint_of new; frontend = session_of new; awaited = awaits new }
 
     asked-by : (result : Result Sent declared.Error) → AsksHalfWithRoom event call old result new → IsAskedBy call before result after
     asked-by result h = record {
-      asks = subst (λ (e : End). asking.AsksWithRoom event (ask before.frontend call) e before.frontend before.awaited result (end_of new) (session_of new) (awaits new)) (sym asks)
-          (subst (λ (f : Frontend). asking.AsksWithRoom event (ask f call) (end_of old) f before.awaited result (end_of new) (session_of new) (awaits new)) (sym frontend)
-          (subst (λ (a : Awaited). asking.AsksWithRoom event (ask (session_of old) call) (end_of old) (session_of old) a result (end_of new) (session_of new) (awaits new)) (sym awaited) h));
+      asks = subst (λ (e : End). asking.AsksWithRoom event (ask before.frontend call) e before.frontend before.awaited result (endpoint_of new) (session_of new) (awaits new)) (sym asks)
+          (subst (λ (f : Frontend). asking.AsksWithRoom event (ask f call) (endpoint_of old) f before.awaited result (endpoint_of new) (session_of new) (awaits new)) (sym frontend)
+          (subst (λ (a : Awaited). asking.AsksWithRoom event (ask (session_of old) call) (endpoint_of old) (session_of old) a result (endpoint_of new) (session_of new) (awaits new)) (sym awaited) h));
       same = refl;
     }
 
@@ -79,7 +79,7 @@ module _ (call : FrontendCall PlainHandle) (old new : Core) where
     done-exchange _ none x end (halves.half h) answers same = absurd (cc none)
     done-exchange _ none x end (halves.at_once flags is link session nobody) answers same =
         let kept : after ≡ record before { frontend = record before.frontend { header_flags = flags } } =
-        same-asked (record before { frontend = record before.frontend { header_flags = flags } }) (end_of new) (session_of new) (awaits new) (link ∙ sym asks)
+        same-asked (record before { frontend = record before.frontend { header_flags = flags } }) (endpoint_of new) (session_of new) (awaits new) (link ∙ sym asks)
         (session ∙ ap {A = Frontend} {B = Frontend} (λ f. record f { header_flags = flags }) (sym frontend)) (nobody ∙ sym awaited) in
         sides.at_once flags is answers.0 answers.1 (same ∙ ap {A = Parts Dev} {B = Parts Dev} (λ p. record p { request = no_text; reply = no_text }) kept)
 
@@ -91,5 +91,5 @@ module _ (call : FrontendCall PlainHandle) (old new : Core) where
     pub roomless-exchange : (e : declared.Error) → e ≡ error.OutOfMemory → before.asking.list ≡ true → AsksCall call old (Err e) new → Exchanges gives call before (Err halt.OutOfMemory) after
     roomless-exchange e is list h =
         let none : AsksHalfWithRoom event call old (Err error.OutOfMemory) new = subst (λ (x : declared.Error). AsksHalfWithRoom event call old (Err x) new) is (refusal-of e h) in
-        let kept = unroomy call (end_of old) (session_of old) (awaits old) (ap {A = End} (λ e. e.list) (sym asks) ∙ list) none in
-        sides.no_room (same-asked before (end_of new) (session_of new) (awaits new) (kept.0 ∙ sym asks) (kept.1 ∙ sym frontend) (kept.2 ∙ sym awaited))
+        let kept = unroomy call (endpoint_of old) (session_of old) (awaits old) (ap {A = End} (λ e. e.list) (sym asks) ∙ list) none in
+        sides.no_room (same-asked before (endpoint_of new) (session_of new) (awaits new) (kept.0 ∙ sym asks) (kept.1 ∙ sym frontend) (kept.2 ∙ sym awaited))

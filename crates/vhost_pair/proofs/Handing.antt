@@ -17,7 +17,7 @@ use Rattle.vhost_pair.specs.declared.halt.Stop.{Stop}
 use Rattle.vhost_pair.specs.declared.halt.Stop.TheVariants.{Premise}
 use Rattle.vhost_pair.specs.declared.sides.Exchanged.{Exchanged}
 use Rattle.vhost_pair.specs.Device.{Gives, opens_backend, opens_gpu}
-use Rattle.vhost_pair.specs.OnWay.{gone, Carries}
+use Rattle.vhost_pair.specs.OnWay.{outgoing, Carries}
 use Rattle.vhost_pair.specs.Text.{Text, text_of}
 use Rattle.vhost_pair.specs.Sides as sides
 use Rattle.vhost_pair.specs.Sides.{Parts, ends, stop_of, HandedOver, HandsOver, Served, Serves}
@@ -43,7 +43,7 @@ module _ {Dev : Type 0} (gives : Gives Dev) (call : FrontendCall PlainHandle) (s
   HandlesSo he he' result s d = HandlesOne event gives opens_backend opens_gpu he old.session old.device result he' s d
 
   -- the request was copied, handed over, and the answer taken
-  module _ (copy : Text) (copied : length (gone old.asking) ≤ 4108 → copy ≡ text_of (gone old.asking)) (mid new : Parts Dev) where
+  module _ (copy : Text) (copied : length (outgoing old.asking) ≤ 4108 → copy ≡ text_of (outgoing old.asking)) (mid new : Parts Dev) where
     abbrev copied_parts : Parts Dev
     copied_parts = record old { request = copy }
 

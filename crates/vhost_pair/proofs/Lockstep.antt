@@ -130,7 +130,7 @@ module _ {Dev : Type 0} (gives : Gives Dev) where
 -- a run that begins is ready
 pub begins : (Dev : Type 0) → BeginsInStep Dev
 begins Dev device queues budget asking serving bit = record {
-  in_step = record { agree = record { offered = refl; acked_p = refl; postcopy = refl; acked = refl }; nobody = refl; no_request = refl; no_reply = refl };
+  in_step = record { agree = record { offered = refl; acked_protocol_features = refl; postcopy = refl; acked = refl }; nobody = refl; no_request = refl; no_reply = refl };
   plain = refl;
   negotiates = (λ on. absurd (cc on), λ on. absurd (cc on), λ on. absurd (cc on));
 }

@@ -10,7 +10,7 @@ use Rattle.vhost_link.specs.Law.{Move}
 use Rattle.vhost_link.specs.Mem.{event, Runs}
 use Rattle.vhost_link.proofs.MemStream.{mem-stream}
 use Rattle.vhost_connection.specs.Talk.{State, Talks}
-use Rattle.vhost_pair.specs.OnWay.{coming, gone}
+use Rattle.vhost_pair.specs.OnWay.{incoming, outgoing}
 
 -- the cells among some items
 abbrev pub cells_in : {H : Type 0} → List (Item H) → List (Cell H)
@@ -68,9 +68,9 @@ module _ (old new : State Ends PlainHandle) (m : Move PlainHandle) (p : Talks ev
   law = mem-stream old.link new.link p.below p.moved
 
   -- what was handed on stood at the front of what was coming
-  pub coming-handed : coming old ≡ cells_in m.handed ++ coming new
+  pub incoming-handed : incoming old ≡ cells_in m.handed ++ incoming new
   unfolding law
-  coming-handed =
+  incoming-handed =
       let s = law.stream in
       let below : cells_in p.below.handed ≡ s.cells =
       ap cells_in s.order ∙ in-append (items s.cells) (replicate s.ends End) ∙ ap (λ xs. cells_in (items s.cells) ++ xs) (in-ends s.ends) ∙ append-nil (cells_in (items s.cells)) ∙ in-items s.cells in
@@ -82,9 +82,9 @@ module _ (old new : State Ends PlainHandle) (m : Move PlainHandle) (p : Talks ev
       ∙ append_assoc (cells_in m.handed) new.ahead new.link.pending
 
   -- where the end was told last, nothing is left
-  pub coming-ended : (cs : List (Cell PlainHandle)) → m.handed ≡ heard cs true → coming new ≡ []
+  pub incoming-ended : (cs : List (Cell PlainHandle)) → m.handed ≡ heard cs true → incoming new ≡ []
   unfolding law
-  coming-ended cs e =
+  incoming-ended cs e =
       let s = law.stream in
       let whole : items old.ahead ++ (items s.cells ++ replicate s.ends End) ≡ items cs ++ (End ∷ items new.ahead) =
       ap (λ xs. items old.ahead ++ xs) (sym s.order) ∙ p.handed ∙ ap (λ xs. xs ++ items new.ahead) e ∙ append_assoc (items cs) (End ∷ []) (items new.ahead) in
@@ -97,17 +97,17 @@ module _ (old new : State Ends PlainHandle) (m : Move PlainHandle) (p : Talks ev
       ap (λ xs. xs ++ new.link.pending) ahead ∙ s.last (omega arith)
 
   -- what was received has the outcome that all that was coming has, and the rest of it is what is still coming
-  pub coming-cut : {A : Type 0} (cut : List (Cell PlainHandle) → A × List (Cell PlainHandle)) (cs : List (Cell PlainHandle)) (ended : Bool) (outcome : A)
-      → m.handed ≡ heard cs ended → Splits cut cs ended outcome → cut (coming old) ≡ (outcome, coming new)
-  coming-cut cut cs true outcome e splits =
-      let none = coming-ended cs e in
-      let front : coming old ≡ cs = coming-handed ∙ ap (λ is. cells_in is ++ coming new) e ∙ ap (λ xs. xs ++ coming new) (heard-cells cs true) ∙ ap (λ xs. cs ++ xs) none ∙ append-nil cs in
+  pub incoming-cut : {A : Type 0} (cut : List (Cell PlainHandle) → A × List (Cell PlainHandle)) (cs : List (Cell PlainHandle)) (ended : Bool) (outcome : A)
+      → m.handed ≡ heard cs ended → Splits cut cs ended outcome → cut (incoming old) ≡ (outcome, incoming new)
+  incoming-cut cut cs true outcome e splits =
+      let none = incoming-ended cs e in
+      let front : incoming old ≡ cs = incoming-handed ∙ ap (λ is. cells_in is ++ incoming new) e ∙ ap (λ xs. xs ++ incoming new) (heard-cells cs true) ∙ ap (λ xs. cs ++ xs) none ∙ append-nil cs in
       ap cut front ∙ splits ∙ ap (λ xs. (outcome, xs)) (sym none)
-  coming-cut cut cs false outcome e splits =
-      let front : coming old ≡ cs ++ coming new = coming-handed ∙ ap (λ is. cells_in is ++ coming new) e ∙ ap (λ xs. xs ++ coming new) (heard-cells cs false) in
-      ap cut front ∙ splits (coming new)
+  incoming-cut cut cs false outcome e splits =
+      let front : incoming old ≡ cs ++ incoming new = incoming-handed ∙ ap (λ is. cells_in is ++ incoming new) e ∙ ap (λ xs. xs ++ incoming new) (heard-cells cs false) in
+      ap cut front ∙ splits (incoming new)
 
   -- what was taken in is behind what had gone
-  pub gone-taken : gone new ≡ gone old ++ m.taken
+  pub outgoing-taken : outgoing new ≡ outgoing old ++ m.taken
   unfolding law
-  gone-taken = law.taken ∙ ap (λ xs. gone old ++ xs) p.taken
+  outgoing-taken = law.taken ∙ ap (λ xs. outgoing old ++ xs) p.taken

@@ -27,11 +27,11 @@ use Rattle.vhost_backend_req_handler.specs.Serving.{Handled, HandlesOne, fitting
 use Rattle.vhost_pair.specs.declared.halt.Stop.{Stop}
 use Rattle.vhost_pair.specs.declared.halt.Stop.TheVariants.{Table, Premise}
 use Rattle.vhost_pair.specs.Device.{Gives, opens_backend, opens_gpu}
-use Rattle.vhost_pair.specs.OnWay.{coming, gone}
+use Rattle.vhost_pair.specs.OnWay.{incoming, outgoing}
 use Rattle.vhost_pair.specs.Joined.{IsUsed}
 use Rattle.vhost_pair.specs.Sides.{cuts_of, stop_of}
 use Rattle.vhost_pair.proofs.Asked.{End}
-use Rattle.vhost_pair.proofs.OnWay.{coming-cut, gone-taken}
+use Rattle.vhost_pair.proofs.OnWay.{incoming-cut, outgoing-taken}
 use Rattle.vhost_pair.proofs.Spent.{Faults, faults, talk-used}
 
 pub pair-first : {A B : Type 0} {p q : A × B} → p ≡ q → p.0 ≡ q.0
@@ -54,19 +54,19 @@ module _ {Dev : Type 0} (gives : Gives Dev) (he he' : End) (s s' : Session) (d d
     pub outcome : Outcome PlainHandle
     pub meets : Meets (fitting gives) opens_backend opens_gpu s d (read_as w) outcome d'
     pub answer : r ≡ outcome.answer
-    pub written : gone he' ≡ cells_of request_number (reply w.request outcome.served)
+    pub written : outgoing he' ≡ cells_of request_number (reply w.request outcome.served)
     pub session : s' ≡ outcome.session
-    pub nothing : coming he' ≡ []
+    pub nothing : incoming he' ≡ []
     pub used : IsUsed (cuts_of he.link) (cuts_of he'.link)
     pub broken : he'.broken ≡ None
     pub faulted : he'.faulted ≡ false
     pub budget : he'.budget ≡ he.budget
 
-  pub is-served : (w : Written FrontendReq PlainHandle) (r : Result ⊤ Error) → IsSendable request_of wanted request_number w → IsHandled r → coming he ≡ written_cells request_number w → gone he ≡ [] → s.failed ≡ None → IsServed w r
+  pub is-served : (w : Written FrontendReq PlainHandle) (r : Result ⊤ Error) → IsSendable request_of wanted request_number w → IsHandled r → incoming he ≡ written_cells request_number w → outgoing he ≡ [] → s.failed ≡ None → IsServed w r
   is-served w r sendable h came clear failed =
       let sv : run.ServesUnless request_of wanted (λ (t : Session). t.failed) (MeetsRow (fitting gives) opens_backend opens_gpu) None s d h.move.handed r h.move.taken s' d' =
       subst (λ x. run.ServesUnless request_of wanted (λ (t : Session). t.failed) (MeetsRow (fitting gives) opens_backend opens_gpu) x s d h.move.handed r h.move.taken s' d') failed h.handles in
-      let cut = coming-cut he he' h.move h.talks (split request_of wanted) sv.1.0 sv.1.1 sv.0 sv.1.2 sv.1.3 in
+      let cut = incoming-cut he he' h.move h.talks (split request_of wanted) sv.1.0 sv.1.1 sv.0 sv.1.2 sv.1.3 in
       let whole = written-split request_of wanted request_number w [] sendable in
       let both = sym cut ∙ ap (λ cells. split request_of wanted cells) (came ∙ sym (append-nil (written_cells request_number w))) ∙ whole in
       let m : MeetsRow (fitting gives) opens_backend opens_gpu s d (read_as w) r h.move.taken s' d' =
@@ -75,7 +75,7 @@ module _ {Dev : Type 0} (gives : Gives Dev) (he he' : End) (s s' : Session) (d d
         outcome = m.0;
         meets = m.1;
         answer = m.2;
-        written = gone-taken he he' h.move h.talks ∙ ap (λ xs. xs ++ h.move.taken) clear ∙ m.3;
+        written = outgoing-taken he he' h.move h.talks ∙ ap (λ xs. xs ++ h.move.taken) clear ∙ m.3;
         session = m.4;
         nothing = pair-second both;
         used = talk-used he he' h.move h.talks;

@@ -17,7 +17,7 @@ use Rattle.vhost_pair.specs.declared.halt.Stop.{Stop}
 use Rattle.vhost_pair.specs.declared.sides.Exchanged.{Exchanged}
 use Rattle.vhost_pair.specs.Device.{Gives}
 use Rattle.vhost_frontend_calls.specs.Halves.{TakesResult}
-use Rattle.vhost_pair.specs.OnWay.{gone}
+use Rattle.vhost_pair.specs.OnWay.{outgoing}
 use Rattle.vhost_pair.specs.Text.{no_text}
 use Rattle.vhost_pair.specs.Sides as sides
 use Rattle.vhost_pair.specs.Sides.{Parts, IsSound, HaveLists, ends, stop_of, Served, Serves, EndsUnsent, IsAskedBy, Exchanges}
@@ -71,7 +71,7 @@ module _ {Dev : Type 0} (gives : Gives Dev) (call : FrontendCall PlainHandle) (o
           ∙ sym (taken.budget ∙ ap {A = End} (λ e. e.budget) v.back.receiver ∙ ap {A = End} (λ e. e.budget) v.there.sender ∙ ask1.budget);
       failed = handled-mark gives v.serving_then v.serving_after old.session new.session old.device new.device (seen_result v.result) handled sound.failed;
       nobody = v.quiet;
-      no_request = taken.gone ∙ held v.serving_after v.asking_then new.serving v.asking_after v.back ∙ emptied fe1 old.serving v.asking_then v.serving_then v.there;
+      no_request = taken.outgoing ∙ held v.serving_after v.asking_then new.serving v.asking_after v.back ∙ emptied fe1 old.serving v.asking_then v.serving_then v.there;
       no_reply = emptied v.serving_after v.asking_then new.serving v.asking_after v.back;
     }
 
@@ -92,8 +92,8 @@ module _ {Dev : Type 0} (gives : Gives Dev) (call : FrontendCall PlainHandle) (o
     budget = ap {A = End} (λ e. e.budget) serving ∙ sound.budget ∙ ap {A = End} (λ e. e.budget) (sym asking);
     failed = ap {A = Session} (λ s. s.failed) session ∙ sound.failed;
     nobody = awaited ∙ sound.nobody;
-    no_request = ap {A = End} (λ e. gone e) asking ∙ sound.no_request;
-    no_reply = ap {A = End} (λ e. gone e) serving ∙ sound.no_reply;
+    no_request = ap {A = End} (λ e. outgoing e) asking ∙ sound.no_request;
+    no_reply = ap {A = End} (λ e. outgoing e) serving ∙ sound.no_reply;
   }
 
   sound-unsent : (e : declared.Error) (asked : Parts Dev) (x : Exchanged) (new : Parts Dev) → (e ≡ error.OutOfMemory → ⊥) → IsAskedBy call old (Err e) asked → EndsUnsent e asked x new → x.stop ≡ None → IsSound new

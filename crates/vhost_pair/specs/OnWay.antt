@@ -6,12 +6,12 @@ use Rattle.vhost_link.specs.Ends.{Ends}
 use Rattle.vhost_connection.specs.Talk.{State}
 
 -- what an endpoint will receive: what it has heard already, and then what its link will hand out
-abbrev pub coming : State Ends PlainHandle → List (Cell PlainHandle)
-coming e = e.ahead ++ e.link.pending
+abbrev pub incoming : State Ends PlainHandle → List (Cell PlainHandle)
+incoming e = e.ahead ++ e.link.pending
 
 -- what an endpoint has sent, and was not carried away
-abbrev pub gone : State Ends PlainHandle → List (Cell PlainHandle)
-gone e = e.link.sent
+abbrev pub outgoing : State Ends PlainHandle → List (Cell PlainHandle)
+outgoing e = e.link.sent
 
 -- All that one side sent is behind what the other will receive, and nothing else changed.
 pub record Carries (from to from_after to_after : State Ends PlainHandle) : Type 0 where

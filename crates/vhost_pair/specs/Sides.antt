@@ -29,7 +29,7 @@ use Rattle.vhost_frontend_calls.specs.Calls.{answer_of}
 use Rattle.vhost_pair.specs.Device.{Gives, opens_backend, opens_gpu}
 use Rattle.vhost_frontend_calls.specs.Halves.{IsProper, TakesResult}
 use Rattle.vhost_pair.specs.Joined.{View, Cuts}
-use Rattle.vhost_pair.specs.OnWay.{coming, gone, Carries}
+use Rattle.vhost_pair.specs.OnWay.{incoming, outgoing, Carries}
 use Rattle.vhost_pair.specs.Text.{Text, text_of, no_text}
 use Rattle.vhost_pair.specs.Wire.{text_in}
 
@@ -47,8 +47,8 @@ pub record Parts (Dev : Type 0) : Type 0 where
 -- of both sides
 abbrev pub parts_of : {Dev : Type 0} → Sides Dev → Parts Dev
 parts_of s = record {
-  asking = frontend.end_of s.frontend;
-  serving = core.end_of s.handler;
+  asking = frontend.endpoint_of s.frontend;
+  serving = core.endpoint_of s.handler;
   frontend = frontend.session_of s.frontend;
   awaited = frontend.awaits s.frontend;
   session = core.session_in s.handler;
@@ -81,8 +81,8 @@ as_view p stopped = record {
   awaited = p.awaited;
   session = p.session;
   device = p.device;
-  to_handler = gone p.asking ++ coming p.serving;
-  to_frontend = gone p.serving ++ coming p.asking;
+  to_handler = outgoing p.asking ++ incoming p.serving;
+  to_frontend = outgoing p.serving ++ incoming p.asking;
   asking = cuts_of p.asking.link;
   serving = cuts_of p.serving.link;
   budget = p.asking.budget;
@@ -99,8 +99,8 @@ pub record IsSound {Dev : Type 0} (p : Parts Dev) : Type 0 where
   pub budget : p.serving.budget ≡ p.asking.budget
   pub failed : p.session.failed ≡ None
   pub nobody : p.awaited ≡ Nobody
-  pub no_request : gone p.asking ≡ []
-  pub no_reply : gone p.serving ≡ []
+  pub no_request : outgoing p.asking ≡ []
+  pub no_reply : outgoing p.serving ≡ []
 
 -- both endpoints have their lists of handles
 abbrev pub HaveLists : {Dev : Type 0} → Parts Dev → Type 0
@@ -125,7 +125,7 @@ stop_of _ _ _ _ = None
 pub record EndsUnsent {Dev : Type 0} (e : declared.Error) (old : Parts Dev) (x : Exchanged) (new : Parts Dev) : Type 0 where
   pub answer : answer_of x.answer ≡ Err (seen e)
   pub same : new ≡ record old { request = new.request; reply = no_text }
-  pub request : length (gone old.asking) ≤ 4108 → new.request ≡ text_of (gone old.asking)
+  pub request : length (outgoing old.asking) ≤ 4108 → new.request ≡ text_of (outgoing old.asking)
   pub stopped : old.asking.faulted ≡ true → x.stop ≡ Some Premise
   pub goes_on : old.asking.faulted ≡ false → x.stop ≡ None
 
@@ -144,7 +144,7 @@ module _ {Dev : Type 0} (gives : Gives Dev) where
     pub serving_after : State Ends PlainHandle
     pub handled : old.session.failed ≡ None → HandlesOne event gives opens_backend opens_gpu serving_then old.session old.device result serving_after new.session new.device
     pub back : Carries serving_after asking_then new.serving new.asking
-    pub reply : length (gone serving_after) ≤ 4108 → new.reply ≡ text_of (gone serving_after)
+    pub reply : length (outgoing serving_after) ≤ 4108 → new.reply ≡ text_of (outgoing serving_after)
     pub same : new ≡ record old { asking = new.asking; serving = new.serving; session = new.session; device = new.device; reply = new.reply }
 
   -- The same; or the request found no room where the handler had more to receive, or the reply where the frontend had.
@@ -168,8 +168,8 @@ module _ {Dev : Type 0} (gives : Gives Dev) (call : FrontendCall PlainHandle) wh
     pub back : Carries serving_after asking_then new.serving asking_after
     pub takes : TakesResult call (awaited_of sent.awaited) (fields_of sent.request) asking_after old.frontend answer new.asking new.frontend
     pub quiet : new.awaited ≡ Nobody
-    pub request : length (gone old.asking) ≤ 4108 → new.request ≡ text_of (gone old.asking)
-    pub reply : length (gone serving_after) ≤ 4108 → new.reply ≡ text_of (gone serving_after)
+    pub request : length (outgoing old.asking) ≤ 4108 → new.request ≡ text_of (outgoing old.asking)
+    pub reply : length (outgoing serving_after) ≤ 4108 → new.reply ≡ text_of (outgoing serving_after)
     pub stops : stop ≡ stop_of (ends call) (new.asking.faulted || new.serving.faulted) result new.reply.bytes
 
   -- The same; or the request found no room where the handler had more to receive, or the reply where the frontend had.

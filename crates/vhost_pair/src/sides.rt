@@ -37,9 +37,9 @@ pub struct Sides<D: Drop> {
 }
 
 impl<D: VhostUserBackendReqHandlerMut<Link = MemLink>> Sides<D> {
-    ghost use Rattle.vhost_backend_req_handler.specs.Core.{end_of as serving_end};
+    ghost use Rattle.vhost_backend_req_handler.specs.Core.{endpoint_of as serving_end};
     ghost use Rattle.vhost_frontend_core.specs.Awaiting.{MayAwait};
-    ghost use Rattle.vhost_frontend_core.specs.Frontend.{end_of as asking_end};
+    ghost use Rattle.vhost_frontend_core.specs.Frontend.{endpoint_of as asking_end};
     ghost use Rattle.vhost_frontend_core.specs.Kept.{IsKeptFor};
     ghost use Rattle.vhost_frontend_core.specs.Session.{awaited_of};
     ghost use Rattle.vhost_frontend_calls.specs.Halves.{IsSent};

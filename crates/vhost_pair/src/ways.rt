@@ -1,11 +1,11 @@
 //! What goes from one side to the other.
 
 ghost use Rattle.std.specs.Prelude.{◌≡◌, ◌≤◌, [], IfOk, IfErr, OnOk, OnErr, IsOk, length, true};
-ghost use Rattle.vhost_backend_req_handler.specs.Core.{end_of as serving, session_in};
+ghost use Rattle.vhost_backend_req_handler.specs.Core.{endpoint_of as serving, session_in};
 ghost use Rattle.vhost_connection.specs.State.{state};
 ghost use Rattle.vhost_message.specs.declared.error.Error.TheVariants.{OutOfMemory};
-ghost use Rattle.vhost_frontend_core.specs.Frontend.{end_of as asking, session_of, awaits};
-ghost use Rattle.vhost_pair.specs.OnWay.{gone, Carries};
+ghost use Rattle.vhost_frontend_core.specs.Frontend.{endpoint_of as asking, session_of, awaits};
+ghost use Rattle.vhost_pair.specs.OnWay.{outgoing, Carries};
 ghost use Rattle.vhost_pair.specs.Text.{text_of};
 ghost use Rattle.vhost_pair.specs.Wire.{text_in};
 
@@ -34,7 +34,7 @@ fn carry(from: &mut End, to: &mut End) -> Result<()>
 
 /// Copies what an endpoint sent.
 fn copy(end: &mut End, wire: &mut Wire)
-    ensures text { length (gone (state end.old)) ≤ 4108 → text_in wire.new ≡ text_of (gone (state end.old)) }
+    ensures text { length (outgoing (state end.old)) ≤ 4108 → text_in wire.new ≡ text_of (outgoing (state end.old)) }
     ensures same { state end.new ≡ state end.old }
 {
     wire.copy(end.link().taken());
@@ -53,7 +53,7 @@ pub fn carry_request(
     ensures frontend { (session_of frontend.new ≡ session_of frontend.old) × (awaits frontend.new ≡ awaits frontend.old) }
     ensures handler { session_in handler.new ≡ session_in handler.old }
 {
-    carry(frontend.end(), handler.end())
+    carry(frontend.endpoint_mut(), handler.endpoint_mut())
 }
 
 /// The reply goes to the frontend.
@@ -69,25 +69,25 @@ pub fn carry_reply(
     ensures frontend { (session_of frontend.new ≡ session_of frontend.old) × (awaits frontend.new ≡ awaits frontend.old) }
     ensures handler { session_in handler.new ≡ session_in handler.old }
 {
-    carry(handler.end(), frontend.end())
+    carry(handler.endpoint_mut(), frontend.endpoint_mut())
 }
 
 /// Copies what the frontend sent.
 pub fn copy_request(frontend: &mut FrontendInternal<MemLink>, wire: &mut Wire)
-    ensures text { length (gone (asking frontend.old)) ≤ 4108 → text_in wire.new ≡ text_of (gone (asking frontend.old)) }
+    ensures text { length (outgoing (asking frontend.old)) ≤ 4108 → text_in wire.new ≡ text_of (outgoing (asking frontend.old)) }
     ensures same { asking frontend.new ≡ asking frontend.old }
     ensures frontend { (session_of frontend.new ≡ session_of frontend.old) × (awaits frontend.new ≡ awaits frontend.old) }
 {
-    copy(frontend.end(), wire);
+    copy(frontend.endpoint_mut(), wire);
 }
 
 /// Copies what the handler sent.
 pub fn copy_reply(handler: &mut SessionCore<MemLink>, wire: &mut Wire)
-    ensures text { length (gone (serving handler.old)) ≤ 4108 → text_in wire.new ≡ text_of (gone (serving handler.old)) }
+    ensures text { length (outgoing (serving handler.old)) ≤ 4108 → text_in wire.new ≡ text_of (outgoing (serving handler.old)) }
     ensures same { serving handler.new ≡ serving handler.old }
     ensures handler { session_in handler.new ≡ session_in handler.old }
 {
-    copy(handler.end(), wire);
+    copy(handler.endpoint_mut(), wire);
 }
 
 /// Makes the list for the handles of the frontend's next reply, where the last one was given away.
@@ -98,7 +98,7 @@ pub fn make_reply_list(frontend: &mut FrontendInternal<MemLink>) -> Result<()>
     ensures memory { IfErr result (λ e. (e ≡ OutOfMemory) × (asking frontend.new ≡ asking frontend.old)) }
     ensures frontend { (session_of frontend.new ≡ session_of frontend.old) × (awaits frontend.new ≡ awaits frontend.old) }
 {
-    frontend.end().make_list()
+    frontend.endpoint_mut().make_list()
 }
 
 /// Makes the list for the handles of the handler's next request, where the last one was given away.
@@ -109,5 +109,5 @@ pub fn make_request_list(handler: &mut SessionCore<MemLink>) -> Result<()>
     ensures memory { IfErr result (λ e. (e ≡ OutOfMemory) × (serving handler.new ≡ serving handler.old)) }
     ensures session { session_in handler.new ≡ session_in handler.old }
 {
-    handler.end().make_list()
+    handler.endpoint_mut().make_list()
 }

@@ -72,9 +72,9 @@ module _ (H B G : Type 0) where
   -- what the frontend waits for is what the handler writes
   ack-agrees : (g : Frontend) (s : Session) → AgreeOn g s → IsNegotiated g → ack g ≡ cond (ack_on s && has_bit g.header_flags 3) Ack Nobody
   ack-agrees g s agree on =
-      both (has_bit g.acked_p REPLY_ACK) (has_bit g.offered PROTOCOL_FEATURES) (has_bit g.header_flags 3) on
-      ∙ ap (λ x. cond (has_bit x PROTOCOL_FEATURES && has_bit g.acked_p REPLY_ACK && has_bit g.header_flags 3) Ack Nobody) agree.offered
-      ∙ ap (λ x. cond (has_bit s.offered PROTOCOL_FEATURES && has_bit x REPLY_ACK && has_bit g.header_flags 3) Ack Nobody) agree.acked_p
+      both (has_bit g.acked_protocol_features REPLY_ACK) (has_bit g.offered PROTOCOL_FEATURES) (has_bit g.header_flags 3) on
+      ∙ ap (λ x. cond (has_bit x PROTOCOL_FEATURES && has_bit g.acked_protocol_features REPLY_ACK && has_bit g.header_flags 3) Ack Nobody) agree.offered
+      ∙ ap (λ x. cond (has_bit s.offered PROTOCOL_FEATURES && has_bit x REPLY_ACK && has_bit g.header_flags 3) Ack Nobody) agree.acked_protocol_features
     where
       both : (x o n : Bool) → (x ≡ true → o ≡ true) → cond (x && n) Ack Nobody ≡ cond (o && x && n) Ack Nobody
       both true true n h = refl
@@ -138,7 +138,7 @@ module _ (H B G : Type 0) where
   -- ---- replies
 
   known-features : (f : Frontend) (s : Session) (a : Result ℕ Error) → AgreeOn f s → IsKnown {H = H} GetFeatures (Reply AU64) f GET_FEATURES (with_features s a)
-  known-features f s (Ok n) agree = record { answered = _; known = refl; agree = λ last. record { offered = refl; acked_p = agree.acked_p; postcopy = agree.postcopy; acked = agree.acked } }
+  known-features f s (Ok n) agree = record { answered = _; known = refl; agree = λ last. record { offered = refl; acked_protocol_features = agree.acked_protocol_features; postcopy = agree.postcopy; acked = agree.acked } }
   known-features f s (Err e) agree = known-silent GetFeatures (Reply AU64) f GET_FEATURES e s
 
   -- a reply whose answer changes no session
@@ -151,7 +151,7 @@ module _ (H B G : Type 0) where
   known-queues f s n agree = record { answered = _; known = refl; agree = λ last. go (nat_le n 0x8000) }
     where
       go : (b : Bool) → AgreeOn (cond b (answered {H = H} (record f { max_queue_num = n }) (Ok (Number n))) (answered f (Err InvalidMessage))).session s
-      go true = record { offered = agree.offered; acked_p = agree.acked_p; postcopy = agree.postcopy; acked = agree.acked }
+      go true = record { offered = agree.offered; acked_protocol_features = agree.acked_protocol_features; postcopy = agree.postcopy; acked = agree.acked }
       go false = agree
 
   known-config : (call : FrontendCall H) (f : Frontend) (s : Session) (r : FrontendReq) (c : VhostUserConfig) (a : Result (List ℕ) Error)
@@ -237,7 +237,7 @@ module _ (H B G : Type 0) where
   simple-advise f s agree on = search (silent, advised) depth 12
     where
       advised : (r : FrontendReq) (a : Result H Error) → IsKnown PostcopyAdvise (Reply AnEmpty) f r (with_handle (if_agreed s Advise a) a)
-      advised r (Ok h) = record { answered = _; known = refl; agree = λ last. record { offered = agree.offered; acked_p = agree.acked_p; postcopy = refl; acked = agree.acked } }
+      advised r (Ok h) = record { answered = _; known = refl; agree = λ last. record { offered = agree.offered; acked_protocol_features = agree.acked_protocol_features; postcopy = refl; acked = agree.acked } }
       advised r (Err e) = record { answered = _; known = refl; agree = λ last. agree }
 
   -- where the handler listens, so does the frontend; a refused start leaves both as they were
@@ -249,7 +249,7 @@ module _ (H B G : Type 0) where
 
       listened : (a : Result (Unit {0}) Error) → IsKnown PostcopyListen (ack f) f POSTCOPY_LISTEN (acked (if_agreed s Listen a) (read_as w) a)
       listened (Ok u) = known-ack (Unit {0}) PostcopyListen f (record s { postcopy = Listen }) w (Ok u) (ack-agrees f s agree on) refl
-          (λ h. record { offered = agree.offered; acked_p = agree.acked_p; postcopy = refl; acked = agree.acked }) (λ h last. absurd (cc h))
+          (λ h. record { offered = agree.offered; acked_protocol_features = agree.acked_protocol_features; postcopy = refl; acked = agree.acked }) (λ h last. absurd (cc h))
       listened (Err e) = known-ack (Unit {0}) PostcopyListen f s w (Err e) (ack-agrees f s agree on) refl (λ h. absurd (cc h)) (λ h last. agree)
 
   -- a refused end is the last step
@@ -261,7 +261,7 @@ module _ (H B G : Type 0) where
 
       ended : (a : Result (Unit {0}) Error) → IsKnown PostcopyEnd (ack f) f POSTCOPY_END (acked (record s { postcopy = End }) (read_as w) a)
       ended a = known-ack (Unit {0}) PostcopyEnd f (record s { postcopy = End }) w a (ack-agrees f s agree on) refl
-          (λ h. record { offered = agree.offered; acked_p = agree.acked_p; postcopy = refl; acked = agree.acked }) (λ h last. absurd (cc last))
+          (λ h. record { offered = agree.offered; acked_protocol_features = agree.acked_protocol_features; postcopy = refl; acked = agree.acked }) (λ h last. absurd (cc last))
 
   -- ---- features
 
@@ -275,7 +275,7 @@ module _ (H B G : Type 0) where
       w = message g SET_FEATURES (U64 n) []
 
       both : AgreeOn g (record s { acked = n })
-      both = record { offered = agree.offered; acked_p = agree.acked_p; postcopy = agree.postcopy; acked = acked-stays n f.offered }
+      both = record { offered = agree.offered; acked_protocol_features = agree.acked_protocol_features; postcopy = agree.postcopy; acked = acked-stays n f.offered }
 
       stored : (a : Result (Unit {0}) Error) → IsKnown {H = H} (SetFeatures n) (ack g) g SET_FEATURES (acked (record s { acked = u64_at 0 (digits 8 n) }) (read_as w) a)
       stored a = subst (λ k. IsKnown {H = H} (SetFeatures n) (ack g) g SET_FEATURES (acked (record s { acked = k }) (read_as w) a)) (sym (little_number-reads_back 8 n [] fits))
@@ -285,17 +285,17 @@ module _ (H B G : Type 0) where
   simple-set_protocol_features f s n fits agree = go (has_bit f.offered PROTOCOL_FEATURES) refl
     where
       g : Frontend
-      g = record f { acked_p = n }
+      g = record f { acked_protocol_features = n }
 
       w : Written FrontendReq H
       w = message g SET_PROTOCOL_FEATURES (U64 n) []
 
-      both : AgreeOn g (record s { acked_p = n })
-      both = record { offered = agree.offered; acked_p = refl; postcopy = agree.postcopy; acked = agree.acked }
+      both : AgreeOn g (record s { acked_protocol_features = n })
+      both = record { offered = agree.offered; acked_protocol_features = refl; postcopy = agree.postcopy; acked = agree.acked }
 
-      stored : has_bit f.offered PROTOCOL_FEATURES ≡ true → (a : Result (Unit {0}) Error) → IsKnown {H = H} (SetProtocolFeatures n) (ack g) g SET_PROTOCOL_FEATURES (acked (record s { acked_p = u64_at 0 (digits 8 n) }) (read_as w) a)
-      stored offers a = subst (λ k. IsKnown {H = H} (SetProtocolFeatures n) (ack g) g SET_PROTOCOL_FEATURES (acked (record s { acked_p = k }) (read_as w) a)) (sym (little_number-reads_back 8 n [] fits))
-          (known-ack (Unit {0}) (SetProtocolFeatures n) g (record s { acked_p = n }) w a (ack-agrees g (record s { acked_p = n }) both (λ on. offers)) refl (λ h. both) (λ h last. both))
+      stored : has_bit f.offered PROTOCOL_FEATURES ≡ true → (a : Result (Unit {0}) Error) → IsKnown {H = H} (SetProtocolFeatures n) (ack g) g SET_PROTOCOL_FEATURES (acked (record s { acked_protocol_features = u64_at 0 (digits 8 n) }) (read_as w) a)
+      stored offers a = subst (λ k. IsKnown {H = H} (SetProtocolFeatures n) (ack g) g SET_PROTOCOL_FEATURES (acked (record s { acked_protocol_features = k }) (read_as w) a)) (sym (little_number-reads_back 8 n [] fits))
+          (known-ack (Unit {0}) (SetProtocolFeatures n) g (record s { acked_protocol_features = n }) w a (ack-agrees g (record s { acked_protocol_features = n }) both (λ on. offers)) refl (λ h. both) (λ h last. both))
 
       served : has_bit f.offered PROTOCOL_FEATURES ≡ true → Row (SetProtocolFeatures n) (ack g) g SET_PROTOCOL_FEATURES s (row s (read_as w))
       served offers = search (silent, stored) depth 12
@@ -436,5 +436,5 @@ module _ (H B G : Type 0) where
   keeps-step f s PostcopyListen agree on fits = simple-listen f s agree on
   keeps-step f s PostcopyEnd agree on fits = simple-end f s agree on
   keeps-step f s (PostcopyAckMemRegions r) agree on fits = simple-mapped f s r agree
-  keeps-step f s (SetHdrFlags flags) agree on fits = record { offered = agree.offered; acked_p = agree.acked_p; postcopy = agree.postcopy; acked = agree.acked }
+  keeps-step f s (SetHdrFlags flags) agree on fits = record { offered = agree.offered; acked_protocol_features = agree.acked_protocol_features; postcopy = agree.postcopy; acked = agree.acked }
   keeps-step f s _ agree on fits = search known depth 12

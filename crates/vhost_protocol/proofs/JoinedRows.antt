@@ -81,10 +81,10 @@ example _ = Ok tt
 
 -- both sides after `get_features`, with these protocol features and header flags
 sides : ℕ → ℕ → Frontend
-sides features flags = record (new_frontend 2) { offered = 0x40000003; acked_p = features; header_flags = flags }
+sides features flags = record (new_frontend 2) { offered = 0x40000003; acked_protocol_features = features; header_flags = flags }
 
 session_of : Frontend → Session
-session_of f = record { offered = f.offered; acked = f.acked; acked_p = f.acked_p; postcopy = f.postcopy; failed = None }
+session_of f = record { offered = f.offered; acked = f.acked; acked_protocol_features = f.acked_protocol_features; postcopy = f.postcopy; failed = None }
 
 shows : Frontend → FrontendCall ℕ → Line
 shows f call = line example f (session_of f) call

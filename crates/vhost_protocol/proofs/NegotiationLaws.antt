@@ -40,7 +40,7 @@ module _ (H : Type 0) (bit : Bool) where
   asked-protocol f n h = go (has_bit f.offered PROTOCOL_FEATURES) refl
     where
       g : Frontend
-      g = record f { acked_p = n }
+      g = record f { acked_protocol_features = n }
 
       go : (b : Bool) → has_bit f.offered PROTOCOL_FEATURES ≡ b → AskedNegotiates {H = H} bit (cond b (Ok tt) (Err (InactiveFeature (2 ^ PROTOCOL_FEATURES))) >> Sends (message g SET_PROTOCOL_FEATURES (U64 n) []) (ack g) g)
       go true offers = (λ on. offers, λ on. h.2 offers, h.2)

@@ -69,7 +69,7 @@ does s m = done_by device opens s m (row s m)
 
 -- bit 30 offered, these protocol features acknowledged
 acks : ℕ → Session
-acks features = record fresh { offered = 0x40000003; acked_p = features }
+acks features = record fresh { offered = 0x40000003; acked_protocol_features = features }
 
 get_features : does fresh (message GET_FEATURES false [] [])
     ≡ record {

@@ -37,7 +37,7 @@ SilentIsLast H = (r : FrontendReq) (o : Outcome H) → is_err o.answer ≡ true 
 
 -- at the frontend acknowledgements are on only where protocol features were offered
 abbrev pub IsNegotiated : Frontend → Type 0
-IsNegotiated f = has_bit f.acked_p REPLY_ACK ≡ true → has_bit f.offered PROTOCOL_FEATURES ≡ true
+IsNegotiated f = has_bit f.acked_protocol_features REPLY_ACK ≡ true → has_bit f.offered PROTOCOL_FEATURES ≡ true
 
 -- the features of a call have 64 bits
 abbrev pub Fits : {H : Type 0} → FrontendCall H → Type 0
@@ -72,7 +72,7 @@ KeepsStep H B G = (f : Frontend) (s : Session) (call : FrontendCall H) → Agree
 
 -- Acknowledgements are on only where protocol features were offered. All features that the device answers have the bit, or none has it.
 abbrev pub Negotiates : (bit : Bool) → Frontend → Type 0
-Negotiates bit f = IsNegotiated f × (has_bit f.acked_p REPLY_ACK ≡ true → bit ≡ true) × (has_bit f.offered PROTOCOL_FEATURES ≡ true → bit ≡ true)
+Negotiates bit f = IsNegotiated f × (has_bit f.acked_protocol_features REPLY_ACK ≡ true → bit ≡ true) × (has_bit f.offered PROTOCOL_FEATURES ≡ true → bit ≡ true)
 
 -- whatever becomes of a call
 abbrev pub AskedNegotiates : {H : Type 0} → Bool → Asked H → Type 0

@@ -64,7 +64,7 @@ param holds = test holds InvalidParam
 
 -- a protocol feature is acknowledged
 abbrev pub operation : Frontend → ℕ → Result ⊤ Error
-operation f feature = test (has_bit f.acked_p feature) (InactiveOperation (2 ^ feature))
+operation f feature = test (has_bit f.acked_protocol_features feature) (InactiveOperation (2 ^ feature))
 
 -- protocol features are among these features ("Feature negotiation")
 abbrev pub protocol_in : ℕ → Result ⊤ Error
@@ -95,7 +95,7 @@ quietly f r payload handles = record (message f r payload handles) { need_reply 
 
 -- acknowledgements are on, and the header asks for one
 abbrev pub ack : Frontend → Awaited
-ack f = if has_bit f.acked_p REPLY_ACK && has_bit f.header_flags 3 then Ack else Nobody
+ack f = if has_bit f.acked_protocol_features REPLY_ACK && has_bit f.header_flags 3 then Ack else Nobody
 
 -- sent, and perhaps acknowledged
 abbrev pub sends : {H : Type 0} → Frontend → FrontendReq → Payload → List H → Asked H
@@ -154,7 +154,7 @@ ask f GetProtocolFeatures = do
   asks f GET_PROTOCOL_FEATURES Empty [] AU64
 ask f (SetProtocolFeatures n) = do
   protocol_in f.offered
-  sends (record f { acked_p = n }) SET_PROTOCOL_FEATURES (U64 n) []
+  sends (record f { acked_protocol_features = n }) SET_PROTOCOL_FEATURES (U64 n) []
 ask f GetQueueNum = do
   operation f MQ
   asks f GET_QUEUE_NUM Empty [] AU64
@@ -168,7 +168,7 @@ ask f (SetMemTable infos) = do
       else sends f SET_MEM_TABLE (Regions (regions_in infos)) (handles_in infos))
 ask f (SetLogBase base None) = Sends (message f SET_LOG_BASE (U64 base) []) Nobody f
 ask f (SetLogBase base (Some r)) =
-    if has_bit f.acked_p LOG_SHMFD then (do
+    if has_bit f.acked_protocol_features LOG_SHMFD then (do
       h ← given r.handle
       asks f SET_LOG_BASE (LogArea (log_area r)) (h ∷ []) ALog)
     else Sends (message f SET_LOG_BASE (U64 base) []) Nobody f

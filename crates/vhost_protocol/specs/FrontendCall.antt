@@ -77,11 +77,11 @@ pub data Value (H : Type 0) : Type 0 where
 pub record Frontend : Type 0 where
   pub offered : ℕ
   pub acked : ℕ
-  pub acked_p : ℕ
+  pub acked_protocol_features : ℕ
   pub max_queue_num : ℕ
   pub header_flags : ℕ
   pub postcopy : PostcopyState
 
 -- a new frontend, of a device with that many queues at most
 abbrev pub new_frontend : ℕ → Frontend
-new_frontend queues = record { offered = 0; acked = 0; acked_p = 0; max_queue_num = queues; header_flags = 0; postcopy = Inactive }
+new_frontend queues = record { offered = 0; acked = 0; acked_protocol_features = 0; max_queue_num = queues; header_flags = 0; postcopy = Inactive }

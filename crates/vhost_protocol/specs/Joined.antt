@@ -19,7 +19,7 @@ use Rattle.vhost_protocol.specs.Written.{Written, payload_text, written_cells}
 -- Both sides agree on what was offered, on the protocol features and on postcopy; what the frontend acknowledged, the handler knows.
 pub record AgreeOn (f : Frontend) (s : Session) : Type 0 where
   pub offered : f.offered ≡ s.offered
-  pub acked_p : f.acked_p ≡ s.acked_p
+  pub acked_protocol_features : f.acked_protocol_features ≡ s.acked_protocol_features
   pub postcopy : f.postcopy ≡ s.postcopy
   pub acked : bit_and f.acked s.acked ≡ f.acked
 

@@ -18,7 +18,7 @@ use Rattle.vhost_protocol.specs.Written.{U64}
 
 -- a session
 abbrev pub session_of : PlainSession → Session
-session_of s = record { offered = s.offered; acked = s.acked; acked_p = s.acked_p; postcopy = s.postcopy; failed = s.failed }
+session_of s = record { offered = s.offered; acked = s.acked; acked_protocol_features = s.acked_protocol_features; postcopy = s.postcopy; failed = s.failed }
 
 -- what is served
 abbrev pub served_of : PlainServed → Served ⊤

@@ -45,7 +45,7 @@ u64 m = body 8 (u64_at 0) always m
 
 -- a protocol feature is acknowledged
 abbrev pub operation : {H : Type 0} → Session → ℕ → Result ⊤ (Refusal H)
-operation s feature = test (has_bit s.acked_p feature) (silently (InactiveOperation (2 ^ feature)))
+operation s feature = test (has_bit s.acked_protocol_features feature) (silently (InactiveOperation (2 ^ feature)))
 
 -- the one element of a list
 abbrev pub only : {A E : Type 0} → E → List A → Result A E
@@ -235,7 +235,7 @@ row_of GET_PROTOCOL_FEATURES s m = do
   Calls GetProtocolFeatures (replied_or_silent s (λ n. U64 (bit_or n (2 ^ REPLY_ACK))))
 row_of SET_PROTOCOL_FEATURES s m = do
   n ← u64 m
-  Calls (SetProtocolFeatures n) (acked (record s { acked_p = n }) m)
+  Calls (SetProtocolFeatures n) (acked (record s { acked_protocol_features = n }) m)
 row_of GET_QUEUE_NUM s m = do
   operation s MQ
   bare 0 m

@@ -24,14 +24,14 @@ is_listen _ = false
 pub record Session : Type 0 where
   pub offered : ℕ
   pub acked : ℕ
-  pub acked_p : ℕ
+  pub acked_protocol_features : ℕ
   pub postcopy : PostcopyState
   pub failed : Option ℤ
 
 -- a new session
 abbrev pub fresh : Session
-fresh = record { offered = 0; acked = 0; acked_p = 0; postcopy = Inactive; failed = None }
+fresh = record { offered = 0; acked = 0; acked_protocol_features = 0; postcopy = Inactive; failed = None }
 
 -- requests are acknowledged where they ask for it: the virtio feature was offered, and REPLY_ACK acknowledged
 abbrev pub ack_on : Session → Bool
-ack_on s = has_bit s.offered PROTOCOL_FEATURES && has_bit s.acked_p REPLY_ACK
+ack_on s = has_bit s.offered PROTOCOL_FEATURES && has_bit s.acked_protocol_features REPLY_ACK

@@ -73,7 +73,7 @@ impl<D: VhostUserBackendReqHandlerMut<Link = TestLink> + Probe> Player<D> {
     fn push(&mut self, message: &str) -> Result<(), Miss> {
         let (handles, digits) = message_of(self.alloc, message)?;
         let bytes = bytes_of(self.alloc, digits)?;
-        Ok(self.core.end().link().push(&bytes, &handles)?)
+        Ok(self.core.endpoint_mut().link().push(&bytes, &handles)?)
     }
 
     /// The next reply is to go on so.
@@ -137,7 +137,7 @@ impl<D: VhostUserBackendReqHandlerMut<Link = TestLink> + Probe> Player<D> {
     /// Tests what was written since the last request.
     fn expect_reply(&mut self) -> Result<(), Miss> {
         let mut got = String::new(self.alloc);
-        let taken = self.core.end().link().taken();
+        let taken = self.core.endpoint_mut().link().taken();
         for held in taken.iter().skip(self.written) {
             push_held(self.alloc, &mut got, held)?;
         }
@@ -155,7 +155,7 @@ impl<D: VhostUserBackendReqHandlerMut<Link = TestLink> + Probe> Player<D> {
         self.push(features)?;
         let offered = self.core.handle_request(&mut self.device);
         let chosen = self.core.handle_request(&mut self.device);
-        self.written = self.core.end().link().taken().len();
+        self.written = self.core.endpoint_mut().link().taken().len();
         self.device.forget();
         for answer in [offered, chosen] {
             expect(self.alloc, text_of(self.alloc, &answer)?.as_str(), "ok")?;
@@ -184,7 +184,7 @@ impl<D: VhostUserBackendReqHandlerMut<Link = TestLink> + Probe> Player<D> {
 
     /// From now on the link opens no handle.
     fn close(&mut self) -> Result<(), Miss> {
-        self.core.end().link().refuse();
+        self.core.endpoint_mut().link().refuse();
         Ok(())
     }
 }

@@ -94,7 +94,7 @@ impl<L: Link> SessionCore<L> {
             Ok(Kind::NotStream) => return Err(Error::NotStreamSocket),
             Err(cause) => return Err(Error::InvalidSocketFd(cause)),
         }
-        match self.end.link().of_handle(file) {
+        match self.endpoint.link().of_handle(file) {
             Ok(link) => Ok(link),
             Err(cause) => Err(Error::InvalidSocketFd(cause)),
         }

@@ -60,7 +60,7 @@ impl<L: Link> SessionCore<L> {
     pub(crate) fn operation(&self, feature: VhostUserProtocolFeatures) -> Result<()>
         ensures { (bit : ℕ) → feature.bits ≡ 2 ^ bit → row.operation {H = L.Handle} (session_in self.now) bit ≡ tested result }
     {
-        if self.session.acked_p & feature.bits() == 0 {
+        if self.session.acked_protocol_features & feature.bits() == 0 {
             return Err(Error::InactiveOperation(feature));
         }
         Ok(())

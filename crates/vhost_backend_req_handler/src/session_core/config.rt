@@ -27,8 +27,8 @@ use vhost_message::{
 const RECORD: usize = 12;
 
 impl<L: Link> SessionCore<L> {
-    ghost use Rattle.vhost_backend_req_handler.specs.Core.{MeetsRow, end_of, session_in};
-    ghost use Rattle.vhost_backend_req_handler.specs.Serving.{Reads, IsReady, Tells, goes_on, told};
+    ghost use Rattle.vhost_backend_req_handler.specs.Core.{MeetsRow, endpoint_of, session_in};
+    ghost use Rattle.vhost_backend_req_handler.specs.Serving.{Reads, IsReady, Tells, goes_on, reply_cells};
 
     /// GET_CONFIG: the reply is the same record with its bytes, or with size 0 and none where the device has not
     /// that many.
@@ -73,8 +73,8 @@ impl<L: Link> SessionCore<L> {
         answer: Result<Vec<u8>>,
     ) -> Result<()>
         requires { 12 + config.size ≤ 4096 }
-        ensures told { request.code ≡ GET_CONFIG → IsReady (end_of self.old)
-            → let outcome = with_config (session_in self.old) config (seen_bytes answer) in Tells L.event (end_of self.old) (told GET_CONFIG outcome.served) outcome.answer result (end_of self.new) }
+        ensures sends { request.code ≡ GET_CONFIG → IsReady (endpoint_of self.old)
+            → let outcome = with_config (session_in self.old) config (seen_bytes answer) in Tells L.event (endpoint_of self.old) (reply_cells GET_CONFIG outcome.served) outcome.answer result (endpoint_of self.new) }
         ensures session { session_in self.new ≡ (with_config {H = L.Handle} (session_in self.old) config (seen_bytes answer)).session }
     {
         if let Ok(bytes) = answer {

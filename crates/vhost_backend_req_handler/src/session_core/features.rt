@@ -65,7 +65,7 @@ impl<L: Link> SessionCore<L> {
     {
         let features = self.number(request)?;
         let answer = device.set_protocol_features(features);
-        self.session.acked_p = features;
+        self.session.acked_protocol_features = features;
         self.send_ack(request, answer)
     }
 

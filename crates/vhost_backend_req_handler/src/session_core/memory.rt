@@ -45,8 +45,8 @@ fn agreed(answer: Result<Option<Vec<u64>>>) -> Result<()>
 }
 
 impl<L: Link> SessionCore<L> {
-    ghost use Rattle.vhost_backend_req_handler.specs.Core.{MeetsRow, MeetsRowWith, MeetsStep, MeetsStepWith, end_of, session_in};
-    ghost use Rattle.vhost_backend_req_handler.specs.Serving.{IsReady, Reads, Tells, told};
+    ghost use Rattle.vhost_backend_req_handler.specs.Core.{MeetsRow, MeetsRowWith, MeetsStep, MeetsStepWith, endpoint_of, session_in};
+    ghost use Rattle.vhost_backend_req_handler.specs.Serving.{IsReady, Reads, Tells, reply_cells};
 
     /// REM_MEM_REG: one region goes away; while postcopy listens, a body of eight bytes says that the regions are
     /// mapped.
@@ -180,8 +180,8 @@ impl<L: Link> SessionCore<L> {
         bases: Option<Vec<u64>>,
     ) -> Result<()>
         requires { length table.old ≤ 32 }
-        ensures told { (m : Message FrontendReq L.Handle) → Reads self.old.body request m → request.code ≡ SET_MEM_TABLE → IsReady (end_of self.old) → table.old ≡ row.table m
-            → let outcome = with_bases (session_in self.old) m (seen_bases (Ok bases)) in Tells L.event (end_of self.old) (told SET_MEM_TABLE outcome.served) outcome.answer result (end_of self.new) }
+        ensures sends { (m : Message FrontendReq L.Handle) → Reads self.old.body request m → request.code ≡ SET_MEM_TABLE → IsReady (endpoint_of self.old) → table.old ≡ row.table m
+            → let outcome = with_bases (session_in self.old) m (seen_bases (Ok bases)) in Tells L.event (endpoint_of self.old) (reply_cells SET_MEM_TABLE outcome.served) outcome.answer result (endpoint_of self.new) }
         ensures session { (m : Message FrontendReq L.Handle) → session_in self.new ≡ (with_bases (session_in self.old) m (seen_bases (Ok bases))).session }
         ensures fits { IfSome bases (λ v. All (λ base. base < 2 ^ 64) v.items) }
     {
@@ -200,8 +200,8 @@ impl<L: Link> SessionCore<L> {
     /// Replies with a table of regions.
     fn send_regions(&mut self, request: Request, regions: &[VhostUserMemoryRegion]) -> Result<()>
         requires { length regions.now ≤ 32 }
-        ensures told { request.code ≡ SET_MEM_TABLE → IsReady (end_of self.old)
-            → Tells L.event (end_of self.old) (told SET_MEM_TABLE (Replied (Regions regions.now) [])) (Ok tt) result (end_of self.new) }
+        ensures sends { request.code ≡ SET_MEM_TABLE → IsReady (endpoint_of self.old)
+            → Tells L.event (endpoint_of self.old) (reply_cells SET_MEM_TABLE (Replied (Regions regions.now) [])) (Ok tt) result (endpoint_of self.new) }
         ensures session { self.new.session ≡ self.old.session }
         ensures fits { All RegionFits regions.now }
     {

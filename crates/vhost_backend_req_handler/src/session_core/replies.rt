@@ -28,13 +28,13 @@ fn ack_body(answer: &Result<()>) -> VhostUserU64
 }
 
 impl<L: Link> SessionCore<L> {
-    ghost use Rattle.vhost_backend_req_handler.specs.Core.{end_of, session_in};
-    ghost use Rattle.vhost_backend_req_handler.specs.Serving.{Reads, IsReady, Tells, told};
+    ghost use Rattle.vhost_backend_req_handler.specs.Core.{endpoint_of, session_in};
+    ghost use Rattle.vhost_backend_req_handler.specs.Serving.{Reads, IsReady, Tells, reply_cells};
 
     /// Acknowledges a request that asks for it where acknowledgements are on, and answers the device's result.
     pub(crate) fn send_ack(&mut self, request: Request, answer: Result<()>) -> Result<()>
-        ensures told { (r : FrontendReq) (m : Message FrontendReq L.Handle) → Reads self.old.body request m → request.code ≡ r → IsReady (end_of self.old)
-            → let outcome = acked (session_in self.old) m (seen_result answer) in Tells L.event (end_of self.old) (told r outcome.served) outcome.answer result (end_of self.new) }
+        ensures sends { (r : FrontendReq) (m : Message FrontendReq L.Handle) → Reads self.old.body request m → request.code ≡ r → IsReady (endpoint_of self.old)
+            → let outcome = acked (session_in self.old) m (seen_result answer) in Tells L.event (endpoint_of self.old) (reply_cells r outcome.served) outcome.answer result (endpoint_of self.new) }
         ensures session { self.new.session ≡ self.old.session }
     {
         if !self.session.acknowledges(request.need_reply) {
@@ -54,16 +54,16 @@ impl<L: Link> SessionCore<L> {
     ) -> Result<()>
         requires size { T.SIZE ≤ 4096 }
         requires handles { length handles.now ≤ 32 }
-        ensures told { (r : FrontendReq) (payload : Payload) → request.code ≡ r → IsReady (end_of self.old) → T.text body.now ≡ payload_text payload → length (payload_text payload) ≡ T.SIZE
-            → Tells L.event (end_of self.old) (told r (Replied payload (map (λ h. h.now) handles.now))) (Ok tt) result (end_of self.new) }
+        ensures sends { (r : FrontendReq) (payload : Payload) → request.code ≡ r → IsReady (endpoint_of self.old) → T.text body.now ≡ payload_text payload → length (payload_text payload) ≡ T.SIZE
+            → Tells L.event (endpoint_of self.old) (reply_cells r (Replied payload (map (λ h. h.now) handles.now))) (Ok tt) result (endpoint_of self.new) }
         ensures session { self.new.session ≡ self.old.session }
         ensures fits { T.fits body.now }
     {
         let header = Header::new(request.code, REPLY, T::SIZE as u32);
-        match self.end.send_message(&header, body, handles) {
+        match self.endpoint.send_message(&header, body, handles) {
             Ok(()) => Ok(()),
             Err(error) => {
-                break_on_fault(&mut self.end, &error);
+                break_on_fault(&mut self.endpoint, &error);
                 Err(error)
             }
         }
@@ -77,19 +77,19 @@ impl<L: Link> SessionCore<L> {
         payload: &[u8],
     ) -> Result<()>
         requires size { T.SIZE + length payload.now ≤ 4096 }
-        ensures told { (r : FrontendReq) (whole : Payload) → request.code ≡ r → IsReady (end_of self.old) → T.text body.now ++ payload.now ≡ payload_text whole → length (payload_text whole) ≡ T.SIZE + length payload.now
-            → Tells L.event (end_of self.old) (told r (Replied whole [])) (Ok tt) result (end_of self.new) }
+        ensures sends { (r : FrontendReq) (whole : Payload) → request.code ≡ r → IsReady (endpoint_of self.old) → T.text body.now ++ payload.now ≡ payload_text whole → length (payload_text whole) ≡ T.SIZE + length payload.now
+            → Tells L.event (endpoint_of self.old) (reply_cells r (Replied whole [])) (Ok tt) result (endpoint_of self.new) }
         ensures session { self.new.session ≡ self.old.session }
         ensures fits { T.fits body.now }
     {
         let header = Header::new(request.code, REPLY, (T::SIZE + payload.len()) as u32);
         let sent = self
-            .end
+            .endpoint
             .send_message_with_payload(&header, body, payload, &[]);
         match sent {
             Ok(()) => Ok(()),
             Err(error) => {
-                break_on_fault(&mut self.end, &error);
+                break_on_fault(&mut self.endpoint, &error);
                 Err(error)
             }
         }

@@ -27,8 +27,8 @@ fn parts(
 }
 
 impl<L: Link> SessionCore<L> {
-    ghost use Rattle.vhost_backend_req_handler.specs.Core.{MeetsRow, MeetsRowWith, end_of, session_in};
-    ghost use Rattle.vhost_backend_req_handler.specs.Serving.{IsReady, Tells, told};
+    ghost use Rattle.vhost_backend_req_handler.specs.Core.{MeetsRow, MeetsRowWith, endpoint_of, session_in};
+    ghost use Rattle.vhost_backend_req_handler.specs.Serving.{IsReady, Tells, reply_cells};
     ghost use Rattle.vhost_protocol.specs.Row.{with_state};
 
     /// SET_DEVICE_STATE_FD: the reply is 0 with the device's handle, 0x100 without one, 0x101 for its error.
@@ -53,8 +53,8 @@ impl<L: Link> SessionCore<L> {
 
     /// The reply where the device agreed.
     fn send_transfer(&mut self, request: Request, file: Option<L::Handle>) -> Result<()>
-        ensures told { request.code ≡ SET_DEVICE_STATE_FD → IsReady (end_of self.old)
-            → let outcome = with_state (session_in self.old) (Ok file) in Tells L.event (end_of self.old) (told SET_DEVICE_STATE_FD outcome.served) outcome.answer result (end_of self.new) }
+        ensures sends { request.code ≡ SET_DEVICE_STATE_FD → IsReady (endpoint_of self.old)
+            → let outcome = with_state (session_in self.old) (Ok file) in Tells L.event (endpoint_of self.old) (reply_cells SET_DEVICE_STATE_FD outcome.served) outcome.answer result (endpoint_of self.new) }
         ensures session { session_in self.new ≡ (with_state {H = L.Handle} (session_in self.old) (Ok file)).session }
     {
         match file {

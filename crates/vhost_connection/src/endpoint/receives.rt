@@ -4,7 +4,7 @@ ghost use Rattle.std.specs.Prelude.{◌≡◌, ◌≢◌, ◌+◌, ◌<◌, ◌�
 
 use crate::endpoint::{Endpoint, MAX_BODY};
 use crate::list::{Front, HandleList, take_list};
-use crate::pass::{Stop, recv_bytes, recv_once, recv_parts, recv_rest};
+use crate::pass::{PassEnd, recv_bytes, recv_once, recv_parts, recv_rest};
 use vhost_link::Link;
 use vhost_message::{Error, MsgHeader, Result, VhostUserMsgValidator};
 
@@ -77,7 +77,7 @@ impl<M: MsgHeader, L: Link> Endpoint<M, L> {
             self.left,
         );
         self.left = got.left;
-        if let Stop::Fault(cause) = got.stop {
+        if let PassEnd::Fault(cause) = got.stop {
             return Err(self.fail(cause, true));
         }
         if got.surplus {
@@ -245,7 +245,7 @@ impl<M: MsgHeader, L: Link> Endpoint<M, L> {
             self.budget,
         );
         self.left = got.left;
-        if let Stop::Fault(cause) = got.stop {
+        if let PassEnd::Fault(cause) = got.stop {
             self.put_back(list);
             return Err(self.fail(cause, got.count > 0));
         }
@@ -264,7 +264,7 @@ impl<M: MsgHeader, L: Link> Endpoint<M, L> {
         self.faulted = false;
         let got = recv_rest(&mut self.link, room, &mut self.spare.list, self.left);
         self.left = got.left;
-        if let Stop::Fault(cause) = got.stop {
+        if let PassEnd::Fault(cause) = got.stop {
             return Err(self.fail(cause, true));
         }
         Ok(got.count)

@@ -28,7 +28,7 @@ const RECORD: usize = 12;
 
 impl<L: Link> FrontendInternal<L> {
     ghost use Rattle.vhost_frontend_core.specs.Asking.{AsksWithRoom};
-    ghost use Rattle.vhost_frontend_core.specs.Frontend.{end_of, session_of, awaits};
+    ghost use Rattle.vhost_frontend_core.specs.Frontend.{endpoint_of, session_of, awaits};
     ghost use Rattle.vhost_frontend_core.specs.Session.{awaited_of};
     ghost use Rattle.vhost_frontend_core.specs.TakingConfig.{RecvsConfig};
     ghost use Rattle.vhost_frontend_core.specs.Halves.{AsksHalfWithRoom, TakesHalf};
@@ -56,7 +56,7 @@ impl<L: Link> FrontendInternal<L> {
     /// The same of a valid part, and of a buffer that fits.
     fn ask_bytes(&mut self, part: VhostUserConfig, buffer: &[u8]) -> Result<Sent>
         requires fits { 12 + length buffer.now ≤ 4096 }
-        ensures asked { AsksWithRoom L.event (ask.asks (session_of self.old) GET_CONFIG (ConfigBytes part buffer.now) [] AConfig) (end_of self.old) (session_of self.old) (awaits self.old) result (end_of self.new) (session_of self.new) (awaits self.new) }
+        ensures asked { AsksWithRoom L.event (ask.asks (session_of self.old) GET_CONFIG (ConfigBytes part buffer.now) [] AConfig) (endpoint_of self.old) (session_of self.old) (awaits self.old) result (endpoint_of self.new) (session_of self.new) (awaits self.new) }
         ensures kept { IfOk result (λ sent. KeepsConfig part (length buffer.now) sent.kept) }
     {
         let Ok(bytes) = Vec::from_slice(self.alloc, buffer) else {
@@ -115,14 +115,14 @@ impl<L: Link> FrontendInternal<L> {
     ///
     /// InvalidMessage: it has another number of bytes, or a handle. BackendInternalError: it is bare.
     fn recv_config(&mut self, request: &Header, room: &mut [u8]) -> Result<VhostUserConfig>
-        ensures same { self.new ≡ record self.old { end = self.new.end } }
-        ensures received { RecvsConfig L.event (length room.old) (end_of self.old) (fields_of request.now) result room.new (end_of self.new) }
+        ensures same { self.new ≡ record self.old { endpoint = self.new.endpoint } }
+        ensures received { RecvsConfig L.event (length room.old) (endpoint_of self.old) (fields_of request.now) result room.new (endpoint_of self.new) }
     {
         let len = room.len();
-        let reply = match self.end.recv_payload_or_bare(request, room) {
+        let reply = match self.endpoint.recv_payload_or_bare(request, room) {
             Ok(reply) => reply,
             Err(error) => {
-                break_on_fault(&mut self.end, &error);
+                break_on_fault(&mut self.endpoint, &error);
                 return Err(error);
             }
         };

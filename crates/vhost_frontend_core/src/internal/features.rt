@@ -35,7 +35,7 @@ impl<L: Link> FrontendInternal<L> {
         ensures taken { TakesHalf L.event call.GetFeatures call.Number (Reply AU64) sent self.old result self.new }
         ensures quiet { awaits self.new ≡ Nobody }
     {
-        match self.take_alone::<VhostUserU64>(sent) {
+        match self.take_plain_reply::<VhostUserU64>(sent) {
             Ok(number) => {
                 self.session.offered = number.value;
                 Ok(number.value)
@@ -82,7 +82,7 @@ impl<L: Link> FrontendInternal<L> {
         ensures taken { TakesHalf L.event call.GetProtocolFeatures (λ features. call.Number features.bits) (Reply AU64) sent self.old result self.new }
         ensures quiet { awaits self.new ≡ Nobody }
     {
-        match self.take_alone::<VhostUserU64>(sent) {
+        match self.take_plain_reply::<VhostUserU64>(sent) {
             Ok(number) => { Ok(known_features(number.value)) }
             Err(error) => Err(error),
         }
@@ -96,7 +96,7 @@ impl<L: Link> FrontendInternal<L> {
     {
         protocol_in(self.session.offered)?;
         let mut next = self.session;
-        next.acked_p = features.bits();
+        next.acked_protocol_features = features.bits();
         let body = VhostUserU64::new(features.bits());
         self.ask_change(next, FrontendReq::SET_PROTOCOL_FEATURES, &body, &[])
     }
@@ -126,7 +126,7 @@ impl<L: Link> FrontendInternal<L> {
         ensures taken { TakesHalf L.event call.GetQueueNum call.Number (Reply AU64) sent self.old result self.new }
         ensures quiet { awaits self.new ≡ Nobody }
     {
-        match self.take_alone::<VhostUserU64>(sent) {
+        match self.take_plain_reply::<VhostUserU64>(sent) {
             Ok(number) => {
                 if number.value > MAX_QUEUES {
                     return Err(Error::InvalidMessage);

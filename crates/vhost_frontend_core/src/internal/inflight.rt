@@ -34,7 +34,7 @@ impl<L: Link> FrontendInternal<L> {
         ensures taken { (asked : VhostUserInflight) → TakesHalf L.event (call.GetInflightFd asked) (λ buffer. call.InflightOf buffer.0 buffer.1) (Reply AnInflight) sent self.old result self.new }
         ensures quiet { awaits self.new ≡ Nobody }
     {
-        match self.take_one::<VhostUserInflight>(sent) {
+        match self.take_reply_with_handle::<VhostUserInflight>(sent) {
             Ok(buffer) => Ok(buffer),
             Err(error) => Err(error),
         }

@@ -19,7 +19,7 @@ use vhost_message::{
 };
 
 impl<L: Link> FrontendInternal<L> {
-    ghost use Rattle.vhost_frontend_core.specs.Frontend.{end_of, session_of, awaits};
+    ghost use Rattle.vhost_frontend_core.specs.Frontend.{endpoint_of, session_of, awaits};
     ghost use Rattle.vhost_frontend_core.specs.Asking.{Asks};
     ghost use Rattle.vhost_frontend_core.specs.Session.{awaited_of};
     ghost use Rattle.vhost_frontend_core.specs.Halves.{AsksHalf, TakesHalf, TakesAck};
@@ -37,7 +37,7 @@ impl<L: Link> FrontendInternal<L> {
         let Some(area) = region else {
             return self.ask_base(base);
         };
-        if !has_bit(self.session.acked_p, 1) {
+        if !has_bit(self.session.acked_protocol_features, 1) {
             return self.ask_base(base);
         }
         let Some(handle) = area.mmap_handle else {
@@ -49,7 +49,7 @@ impl<L: Link> FrontendInternal<L> {
 
     /// Says where the log lies, and awaits nothing.
     fn ask_base(&mut self, base: u64) -> Result<Sent>
-        ensures { Asks L.event (Sends (message (session_of self.old) SET_LOG_BASE (U64 base) []) Nobody (session_of self.old)) (end_of self.old) (session_of self.old) (awaits self.old) result (end_of self.new) (session_of self.new) (awaits self.new) }
+        ensures { Asks L.event (Sends (message (session_of self.old) SET_LOG_BASE (U64 base) []) Nobody (session_of self.old)) (endpoint_of self.old) (session_of self.old) (awaits self.old) result (endpoint_of self.new) (session_of self.new) (awaits self.new) }
     {
         let request = (
             FrontendReq::SET_LOG_BASE,
@@ -71,7 +71,7 @@ impl<L: Link> FrontendInternal<L> {
     {
         match sent.awaited {
             Awaited::Nobody => self.take_ack(sent),
-            _ => match self.take_alone::<VhostUserLog>(sent) {
+            _ => match self.take_plain_reply::<VhostUserLog>(sent) {
                 Ok(_) => Ok(()),
                 Err(error) => Err(error),
             },

@@ -50,7 +50,7 @@ impl<L: Link> FrontendInternal<L> {
         ensures taken { TakesHalf L.event call.GetMaxMemSlots call.Number (Reply AU64) sent self.old result self.new }
         ensures quiet { awaits self.new ≡ Nobody }
     {
-        match self.take_alone::<VhostUserU64>(sent) {
+        match self.take_plain_reply::<VhostUserU64>(sent) {
             Ok(number) => Ok(number.value),
             Err(error) => Err(error),
         }
@@ -127,7 +127,7 @@ impl<L: Link> FrontendInternal<L> {
             awaited,
             kept,
         } = sent;
-        match self.take_alone::<VhostUserSingleMemoryRegion>(Sent::new(request, awaited)) {
+        match self.take_plain_reply::<VhostUserSingleMemoryRegion>(Sent::new(request, awaited)) {
             Ok(reply) => base_for(kept, &reply),
             Err(error) => Err(error),
         }

@@ -37,7 +37,7 @@ impl<L: Link> FrontendInternal<L> {
         ensures taken { (name : VhostUserSharedMsg) → TakesHalf L.event (call.GetSharedObject name) call.HandleOf (Reply AnEmpty) sent self.old result self.new }
         ensures quiet { awaits self.new ≡ Nobody }
     {
-        match self.take_one::<VhostUserEmpty>(sent) {
+        match self.take_reply_with_handle::<VhostUserEmpty>(sent) {
             Ok((_, handle)) => { Ok(handle) }
             Err(error) => Err(error),
         }
@@ -63,7 +63,7 @@ impl<L: Link> FrontendInternal<L> {
         ensures taken { TakesHalf L.event call.GetShmemConfig call.ShmemOf (Reply AShmem) sent self.old result self.new }
         ensures quiet { awaits self.new ≡ Nobody }
     {
-        match self.take_alone::<VhostUserShMemConfig>(sent) {
+        match self.take_plain_reply::<VhostUserShMemConfig>(sent) {
             Ok(config) => Ok(config),
             Err(error) => Err(error),
         }

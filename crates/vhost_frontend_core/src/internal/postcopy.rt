@@ -43,7 +43,7 @@ impl<L: Link> FrontendInternal<L> {
         ensures taken { TakesHalf L.event call.PostcopyAdvise call.HandleOf (Reply AnEmpty) sent self.old result self.new }
         ensures quiet { awaits self.new ≡ Nobody }
     {
-        match self.take_one::<VhostUserEmpty>(sent) {
+        match self.take_reply_with_handle::<VhostUserEmpty>(sent) {
             Ok((_, handle)) => {
                 self.session.postcopy = PostcopyState::Advise;
                 Ok(handle)

@@ -14,7 +14,7 @@ use vhost_link::Link;
 use vhost_message::{Error, Result, VhostUserMsgValidator, VhostUserU64};
 
 impl<L: Link> FrontendInternal<L> {
-    ghost use Rattle.vhost_frontend_core.specs.Frontend.{end_of, session_of, awaits};
+    ghost use Rattle.vhost_frontend_core.specs.Frontend.{endpoint_of, session_of, awaits};
     ghost use Rattle.vhost_frontend_core.specs.Session.{awaited_of};
     ghost use Rattle.vhost_frontend_core.specs.Taking.{RecvsPayload, Recvs, Awaits, AwaitsAlone, AwaitsOne, RecvsAck, Acks};
 
@@ -26,10 +26,10 @@ impl<L: Link> FrontendInternal<L> {
         room: &mut [u8],
     ) -> Result<(u32, T, usize, Option<Vec<L::Handle>>)>
         requires { T.SIZE ≤ 4096 }
-        ensures same { self.new ≡ record self.old { end = self.new.end } }
-        ensures received { RecvsPayload L.event T.SIZE T.read T.valid (end_of self.old) (fields_of request.now) room.old result room.new (end_of self.new) }
+        ensures same { self.new ≡ record self.old { endpoint = self.new.endpoint } }
+        ensures received { RecvsPayload L.event T.SIZE T.read T.valid (endpoint_of self.old) (fields_of request.now) room.old result room.new (endpoint_of self.new) }
     {
-        match self.end.recv_payload_into_buf::<T>(room) {
+        match self.endpoint.recv_payload_into_buf::<T>(room) {
             Ok((header, body, count, handles)) => {
                 if !header.is_reply_for(request) {
                     return Err(Error::InvalidMessage);
@@ -37,7 +37,7 @@ impl<L: Link> FrontendInternal<L> {
                 Ok((header.get_size(), body, count, handles))
             }
             Err(error) => {
-                break_on_fault(&mut self.end, &error);
+                break_on_fault(&mut self.endpoint, &error);
                 Err(error)
             }
         }
@@ -49,8 +49,8 @@ impl<L: Link> FrontendInternal<L> {
         request: &Header,
     ) -> Result<(T, Option<Vec<L::Handle>>)>
         requires { T.SIZE ≤ 4096 }
-        ensures same { self.new ≡ record self.old { end = self.new.end } }
-        ensures received { Recvs L.event T.SIZE T.read T.valid (end_of self.old) (fields_of request.now) result (end_of self.new) }
+        ensures same { self.new ≡ record self.old { endpoint = self.new.endpoint } }
+        ensures received { Recvs L.event T.SIZE T.read T.valid (endpoint_of self.old) (fields_of request.now) result (endpoint_of self.new) }
     {
         let (_, body, _, handles) = self.recv_payload(request, &mut [])?;
         Ok((body, handles))
@@ -63,7 +63,7 @@ impl<L: Link> FrontendInternal<L> {
     pub(crate) fn take_ack(&mut self, sent: Sent) -> Result<()>
         ensures session { session_of self.new ≡ session_of self.old }
         ensures quiet { awaits self.new ≡ Nobody }
-        ensures taken { Acks L.event (end_of self.old) (fields_of sent.request) (awaited_of sent.awaited) result (end_of self.new) }
+        ensures taken { Acks L.event (endpoint_of self.old) (fields_of sent.request) (awaited_of sent.awaited) result (endpoint_of self.new) }
     {
         self.awaited = Awaited::Nobody;
         let (request, awaited) = (sent.request, sent.awaited);
@@ -76,8 +76,8 @@ impl<L: Link> FrontendInternal<L> {
 
     /// Receives an acknowledgement of a request.
     fn recv_ack(&mut self, request: &Header) -> Result<()>
-        ensures same { self.new ≡ record self.old { end = self.new.end } }
-        ensures received { RecvsAck L.event (end_of self.old) (fields_of request.now) result (end_of self.new) }
+        ensures same { self.new ≡ record self.old { endpoint = self.new.endpoint } }
+        ensures received { RecvsAck L.event (endpoint_of self.old) (fields_of request.now) result (endpoint_of self.new) }
     {
         let (number, handles): (VhostUserU64, Option<Vec<L::Handle>>) = self.recv_record(request)?;
         if handles.is_some() {
@@ -99,7 +99,7 @@ impl<L: Link> FrontendInternal<L> {
         requires { T.SIZE ≤ 4096 }
         ensures session { session_of self.new ≡ session_of self.old }
         ensures quiet { awaits self.new ≡ Nobody }
-        ensures taken { Awaits L.event T.SIZE T.read T.valid (end_of self.old) (fields_of sent.request) result (end_of self.new) }
+        ensures taken { Awaits L.event T.SIZE T.read T.valid (endpoint_of self.old) (fields_of sent.request) result (endpoint_of self.new) }
     {
         self.awaited = Awaited::Nobody;
         if sent.request.is_reply() {
@@ -109,11 +109,14 @@ impl<L: Link> FrontendInternal<L> {
     }
 
     /// Takes a reply that has no handle.
-    pub(crate) fn take_alone<T: VhostUserMsgValidator + Drop>(&mut self, sent: Sent) -> Result<T>
+    pub(crate) fn take_plain_reply<T: VhostUserMsgValidator + Drop>(
+        &mut self,
+        sent: Sent,
+    ) -> Result<T>
         requires { T.SIZE ≤ 4096 }
         ensures session { session_of self.new ≡ session_of self.old }
         ensures quiet { awaits self.new ≡ Nobody }
-        ensures taken { AwaitsAlone L.event T.SIZE T.read T.valid (end_of self.old) (fields_of sent.request) result (end_of self.new) }
+        ensures taken { AwaitsAlone L.event T.SIZE T.read T.valid (endpoint_of self.old) (fields_of sent.request) result (endpoint_of self.new) }
     {
         let (body, handles) = self.take_reply(sent)?;
         if handles.is_some() {
@@ -125,14 +128,14 @@ impl<L: Link> FrontendInternal<L> {
     /// Takes a reply that has one handle.
     ///
     /// InvalidMessage: it has none. IncorrectFds: it has several.
-    pub(crate) fn take_one<T: VhostUserMsgValidator + Drop>(
+    pub(crate) fn take_reply_with_handle<T: VhostUserMsgValidator + Drop>(
         &mut self,
         sent: Sent,
     ) -> Result<(T, L::Handle)>
         requires { T.SIZE ≤ 4096 }
         ensures session { session_of self.new ≡ session_of self.old }
         ensures quiet { awaits self.new ≡ Nobody }
-        ensures taken { AwaitsOne L.event T.SIZE T.read T.valid (end_of self.old) (fields_of sent.request) result (end_of self.new) }
+        ensures taken { AwaitsOne L.event T.SIZE T.read T.valid (endpoint_of self.old) (fields_of sent.request) result (endpoint_of self.new) }
     {
         let (body, handles) = self.take_reply(sent)?;
         let handle = one_of(handles)?;

@@ -95,7 +95,7 @@ impl<L: Link> FrontendInternal<L> {
         ensures taken { (index : ℕ) → TakesHalf L.event (call.GetVringBase index) call.Number (Reply ARingState) sent self.old result self.new }
         ensures quiet { awaits self.new ≡ Nobody }
     {
-        match self.take_alone::<VhostUserVringState>(sent) {
+        match self.take_plain_reply::<VhostUserVringState>(sent) {
             Ok(ring) => { Ok(ring.num) }
             Err(error) => Err(error),
         }

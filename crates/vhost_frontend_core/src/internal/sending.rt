@@ -12,7 +12,7 @@ use vhost_message::{ByteValued, Error, FrontendReq, Result, VhostUserMsgHeader};
 
 impl<L: Link> FrontendInternal<L> {
     ghost use Rattle.vhost_frontend_core.specs.Asking.{Asks, Tries, request_with};
-    ghost use Rattle.vhost_frontend_core.specs.Frontend.{end_of, session_of, awaits};
+    ghost use Rattle.vhost_frontend_core.specs.Frontend.{endpoint_of, session_of, awaits};
     ghost use Rattle.vhost_frontend_core.specs.Session.{frontend_of, awaited_of, shape_of};
 
     /// Sends a request with these flags: a record, and bytes behind it.
@@ -27,16 +27,16 @@ impl<L: Link> FrontendInternal<L> {
         requires handles { length handles.now ≤ 32 }
         ensures session { session_of self.new ≡ session_of self.old }
         ensures sent { (p : Payload) → payload_text p ≡ T.text body.now ++ payload.now
-            → Tries L.event (request_with request.1 request.0 p (map (λ h. h.now) handles.now)) (awaited_of request.2) (end_of self.old) (awaits self.old) result (end_of self.new) (awaits self.new) }
+            → Tries L.event (request_with request.1 request.0 p (map (λ h. h.now) handles.now)) (awaited_of request.2) (endpoint_of self.old) (awaits self.old) result (endpoint_of self.new) (awaits self.new) }
     {
         let (code, flags, awaited) = request;
-        if self.end.make_list().is_err() {
+        if self.endpoint.make_list().is_err() {
             return Err(Error::OutOfMemory);
         }
         let size = (T::SIZE + payload.len()) as u32;
         let header = VhostUserMsgHeader::new(code, flags, size);
         match self
-            .end
+            .endpoint
             .send_message_with_payload(&header, body, payload, handles)
         {
             Ok(()) => {
@@ -57,7 +57,7 @@ impl<L: Link> FrontendInternal<L> {
         requires size { T.SIZE ≤ 4096 }
         requires handles { length handles.now ≤ 32 }
         ensures { (p : Payload) → payload_text p ≡ T.text body.now
-            → Asks L.event (ask.sends (session_of self.old) code p (map (λ h. h.now) handles.now)) (end_of self.old) (session_of self.old) (awaits self.old) result (end_of self.new) (session_of self.new) (awaits self.new) }
+            → Asks L.event (ask.sends (session_of self.old) code p (map (λ h. h.now) handles.now)) (endpoint_of self.old) (session_of self.old) (awaits self.old) result (endpoint_of self.new) (session_of self.new) (awaits self.new) }
     {
         self.ask_change(self.session, code, body, handles)
     }
@@ -73,7 +73,7 @@ impl<L: Link> FrontendInternal<L> {
         requires size { T.SIZE ≤ 4096 }
         requires handles { length handles.now ≤ 32 }
         ensures { (p : Payload) → payload_text p ≡ T.text body.now
-            → Asks L.event (ask.sends (frontend_of next) code p (map (λ h. h.now) handles.now)) (end_of self.old) (session_of self.old) (awaits self.old) result (end_of self.new) (session_of self.new) (awaits self.new) }
+            → Asks L.event (ask.sends (frontend_of next) code p (map (λ h. h.now) handles.now)) (endpoint_of self.old) (session_of self.old) (awaits self.old) result (endpoint_of self.new) (session_of self.new) (awaits self.new) }
     {
         let request = (code, next.header_flags, next.acknowledgement());
         match self.send(request, body, &[], handles) {
@@ -96,7 +96,7 @@ impl<L: Link> FrontendInternal<L> {
         requires size { T.SIZE ≤ 4096 }
         requires handles { length handles.now ≤ 32 }
         ensures { (p : Payload) → payload_text p ≡ T.text body.now
-            → Asks L.event (ask.asks (session_of self.old) code p (map (λ h. h.now) handles.now) (shape_of shape)) (end_of self.old) (session_of self.old) (awaits self.old) result (end_of self.new) (session_of self.new) (awaits self.new) }
+            → Asks L.event (ask.asks (session_of self.old) code p (map (λ h. h.now) handles.now) (shape_of shape)) (endpoint_of self.old) (session_of self.old) (awaits self.old) result (endpoint_of self.new) (session_of self.new) (awaits self.new) }
     {
         let flags = self.session.header_flags;
         self.send((code, flags, Awaited::Reply(shape)), body, &[], handles)

@@ -24,7 +24,7 @@ const HEAD: usize = 8;
 
 impl<L: Link> FrontendInternal<L> {
     ghost use Rattle.vhost_frontend_core.specs.Asking.{AsksWithRoom, Tries, request_with};
-    ghost use Rattle.vhost_frontend_core.specs.Frontend.{end_of, session_of, awaits};
+    ghost use Rattle.vhost_frontend_core.specs.Frontend.{endpoint_of, session_of, awaits};
     ghost use Rattle.vhost_frontend_core.specs.Session.{awaited_of};
     ghost use Rattle.vhost_frontend_core.specs.Taking.{IsAck, RecvsTable};
     ghost use Rattle.vhost_frontend_core.specs.Halves.{AsksHalfWithRoom, TakesHalf};
@@ -60,7 +60,7 @@ impl<L: Link> FrontendInternal<L> {
     ) -> Result<Sent>
         requires few { count ≤ 32 }
         requires handles { length handles.now ≤ 32 }
-        ensures asked { AsksWithRoom L.event (ask.asks_quietly (session_of self.old) SET_MEM_TABLE (Regions (take count table)) (map (λ h. h.now) handles.now) TheRegions) (end_of self.old) (session_of self.old) (awaits self.old) result (end_of self.new) (session_of self.new) (awaits self.new) }
+        ensures asked { AsksWithRoom L.event (ask.asks_quietly (session_of self.old) SET_MEM_TABLE (Regions (take count table)) (map (λ h. h.now) handles.now) TheRegions) (endpoint_of self.old) (session_of self.old) (awaits self.old) result (endpoint_of self.new) (session_of self.new) (awaits self.new) }
         ensures kept { IfOk result (λ sent. KeepsTable (take count table) sent.kept) }
     {
         let Ok(bases) = Vec::with_capacity(self.alloc, count) else {
@@ -90,7 +90,7 @@ impl<L: Link> FrontendInternal<L> {
         requires few { length regions.now ≤ 32 }
         requires handles { length handles.now ≤ 32 }
         ensures session { session_of self.new ≡ session_of self.old }
-        ensures sent { Tries L.event (request_with request.0 SET_MEM_TABLE (Regions regions.now) (map (λ h. h.now) handles.now)) (awaited_of request.1) (end_of self.old) (awaits self.old) result (end_of self.new) (awaits self.new) }
+        ensures sent { Tries L.event (request_with request.0 SET_MEM_TABLE (Regions regions.now) (map (λ h. h.now) handles.now)) (awaited_of request.1) (endpoint_of self.old) (awaits self.old) result (endpoint_of self.new) (awaits self.new) }
     {
         let (flags, awaited) = request;
         let mut text = [0; REGION * MAX_REGIONS];
@@ -156,8 +156,8 @@ impl<L: Link> FrontendInternal<L> {
     fn recv_table(&mut self, request: &Header, count: usize, room: &mut [u8]) -> Result<()>
         requires few { count ≤ 32 }
         requires room { length room.old ≡ 32 * count }
-        ensures same { self.new ≡ record self.old { end = self.new.end } }
-        ensures received { RecvsTable L.event count (end_of self.old) (fields_of request.now) result room.new (end_of self.new) }
+        ensures same { self.new ≡ record self.old { endpoint = self.new.endpoint } }
+        ensures received { RecvsTable L.event count (endpoint_of self.old) (fields_of request.now) result room.new (endpoint_of self.new) }
     {
         match self.recv_payload::<VhostUserMemory>(request, room) {
             Ok((size, head, len, handles)) => {

@@ -80,7 +80,7 @@ impl<L: Link> FrontendInternal<L> {
         ensures taken { TakesHalf L.event call.CheckDeviceState (λ _. call.Nothing) (Reply AU64) sent self.old result self.new }
         ensures quiet { awaits self.new ≡ Nobody }
     {
-        match self.take_alone::<VhostUserU64>(sent) {
+        match self.take_plain_reply::<VhostUserU64>(sent) {
             Ok(number) => {
                 if number.value != 0 {
                     return Err(Error::BackendInternalError);

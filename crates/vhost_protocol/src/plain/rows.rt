@@ -18,7 +18,7 @@ use vhost_message::{Error, PostcopyState};
 pub struct PlainSession {
     pub offered: u64,
     pub acked: u64,
-    pub acked_p: u64,
+    pub acked_protocol_features: u64,
     pub postcopy: PostcopyState,
     pub failed: Option<i32>,
 }
@@ -50,7 +50,8 @@ fn is_bare(message: &PlainMessage) -> bool
 fn ack(session: PlainSession, message: &PlainMessage, agreed: bool) -> PlainServed
     ensures { served_of result ≡ acknowledges (session_of session) (message_of message.now) agreed }
 {
-    let is_on = session.offered / 0x40000000 % 2 == 1 && session.acked_p / 8 % 2 == 1;
+    let is_on = session.offered / 0x40000000 % 2 == 1
+        && session.acked_protocol_features / 8 % 2 == 1;
     if is_on && message.need_reply {
         PlainServed::Acknowledged(agreed)
     } else {

@@ -8,7 +8,7 @@ use vhost_message::{Error, FrontendReq, PostcopyState};
 const FRESH: PlainSession = PlainSession {
     offered: 0,
     acked: 0,
-    acked_p: 0,
+    acked_protocol_features: 0,
     postcopy: PostcopyState::Inactive,
     failed: None,
 };
@@ -16,7 +16,7 @@ const FRESH: PlainSession = PlainSession {
 const ACKS: PlainSession = PlainSession {
     offered: 0x40000003,
     acked: 0,
-    acked_p: 8,
+    acked_protocol_features: 8,
     postcopy: PostcopyState::Inactive,
     failed: None,
 };

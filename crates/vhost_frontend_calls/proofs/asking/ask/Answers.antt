@@ -9,7 +9,7 @@ pub ask_half-requires : goal.ask_half-requires
 ask_half-requires c = is-sent c.args.call.now c.in_default.not-SetHdrFlags
 
 pub returns-in-SetHdrFlags-clause-asked : goal.returns-in-SetHdrFlags-clause-asked
-returns-in-SetHdrFlags-clause-asked c = at_once _ (ap call_of c.in-SetHdrFlags.is ∙ ap SetHdrFlags (sym (c.from_bits_retain.ensures tt ∙ c.bits.ensures tt))) c.set_hdr_flags.ensures.end c.set_hdr_flags.ensures.session c.set_hdr_flags.ensures.awaited
+returns-in-SetHdrFlags-clause-asked c = at_once _ (ap call_of c.in-SetHdrFlags.is ∙ ap SetHdrFlags (sym (c.from_bits_retain.ensures tt ∙ c.bits.ensures tt))) c.set_hdr_flags.ensures.endpoint c.set_hdr_flags.ensures.session c.set_hdr_flags.ensures.awaited
 
 pub returns-in-Ok-clause-asked : goal.returns-in-Ok-clause-asked
 returns-in-Ok-clause-asked c = half c.in-Ok.ensures.asked

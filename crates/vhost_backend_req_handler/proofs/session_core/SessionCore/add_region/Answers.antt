@@ -30,27 +30,27 @@ returns-in_err-region g c m reads over is ready =
 pub returns-in-Ok : goal.returns-in-Ok
 returns-in-Ok g c m reads over is ready =
     let kept = ap (λ (x : Session). session_of x) c.send_ack.ensures.session in
-    passes _ _ (c.in_ok-file.ensures m.handles over) (passes _ _ (c.in_ok-region.ensures.row m reads) (by_row (else_as _ _ _ (sym c.is_listening.ensures ∙ c.if-not-is_listening.true)) (called (Ok c.in-Ok.field-0) c.in-Ok.ensures tt (c.send_ack.ensures.told ADD_MEM_REG m reads is ready) kept kept)))
+    passes _ _ (c.in_ok-file.ensures m.handles over) (passes _ _ (c.in_ok-region.ensures.row m reads) (by_row (else_as _ _ _ (sym c.is_listening.ensures ∙ c.if-not-is_listening.true)) (called (Ok c.in-Ok.field-0) c.in-Ok.ensures tt (c.send_ack.ensures.sends ADD_MEM_REG m reads is ready) kept kept)))
 
 pub returns-in-Err : goal.returns-in-Err
 returns-in-Err g c m reads over is ready =
     let kept = ap (λ (x : Session). session_of x) c.send_ack-in-Err.ensures.session in
-    passes _ _ (c.in_ok-file.ensures m.handles over) (passes _ _ (c.in_ok-region.ensures.row m reads) (by_row (else_as _ _ _ (sym c.is_listening.ensures ∙ c.if-not-is_listening.true)) (called (Err (seen c.in-Err.error)) c.in-Err.ensures tt (c.send_ack-in-Err.ensures.told ADD_MEM_REG m reads is ready) kept kept)))
+    passes _ _ (c.in_ok-file.ensures m.handles over) (passes _ _ (c.in_ok-region.ensures.row m reads) (by_row (else_as _ _ _ (sym c.is_listening.ensures ∙ c.if-not-is_listening.true)) (called (Err (seen c.in-Err.error)) c.in-Err.ensures tt (c.send_ack-in-Err.ensures.sends ADD_MEM_REG m reads is ready) kept kept)))
 
 pub returns-in-Ok-Some : goal.returns-in-Ok-Some
 returns-in-Ok-Some g c m reads over is ready =
     let kept = ap (λ (x : Session). session_of x) c.send_reply.ensures.session in
     let gave = subst (λ (x : Option _). g.D.VhostUserBackendReqHandlerMut.gives c.args.device.now (AddMemRegion c.in_ok-region.region c.in_ok-file.file (Some true)) (Ok x) c.add_mem_region-2.new.self) c.in-Ok-Some.field-0-is c.in-Ok-Some.ensures in
     let same : c.new-mapped.result ≡ rebased_region c.in_ok-region.region c.in-Ok-Some.base = c.new-mapped.ensures ∙ ap (λ (x : VhostUserMemoryRegion). record { padding = 0; region = record x { user_addr = c.in-Ok-Some.base } }) c.region.ensures in
-    passes _ _ (c.in_ok-file.ensures m.handles over) (passes _ _ (c.in_ok-region.ensures.row m reads) (by_row (then_as _ _ _ (sym c.is_listening.ensures ∙ c.if-not-is_listening.false)) (called (Ok (Some c.in-Ok-Some.base)) gave ((subst (λ (x : VhostUserSingleMemoryRegion). SingleRegionFits x) same c.send_reply.ensures.fits).1.2) (c.send_reply.ensures.told ADD_MEM_REG (OneRegion (rebased_region c.in_ok-region.region c.in-Ok-Some.base)) is ready (ap (λ (x : VhostUserSingleMemoryRegion). single_region_text x) same) refl) kept kept)))
+    passes _ _ (c.in_ok-file.ensures m.handles over) (passes _ _ (c.in_ok-region.ensures.row m reads) (by_row (then_as _ _ _ (sym c.is_listening.ensures ∙ c.if-not-is_listening.false)) (called (Ok (Some c.in-Ok-Some.base)) gave ((subst (λ (x : VhostUserSingleMemoryRegion). SingleRegionFits x) same c.send_reply.ensures.fits).1.2) (c.send_reply.ensures.sends ADD_MEM_REG (OneRegion (rebased_region c.in_ok-region.region c.in-Ok-Some.base)) is ready (ap (λ (x : VhostUserSingleMemoryRegion). single_region_text x) same) refl) kept kept)))
 
 pub returns-in-Ok-None : goal.returns-in-Ok-None
 returns-in-Ok-None g c m reads over is ready =
     let kept = ap (λ (x : Session). session_of x) c.send_ack-in-Ok-None.ensures.session in
     let gave = subst (λ (x : Option _). g.D.VhostUserBackendReqHandlerMut.gives c.args.device.now (AddMemRegion c.in_ok-region.region c.in_ok-file.file (Some true)) (Ok x) c.add_mem_region-2.new.self) c.in-Ok-None.field-0-is c.in-Ok-None.ensures in
-    passes _ _ (c.in_ok-file.ensures m.handles over) (passes _ _ (c.in_ok-region.ensures.row m reads) (by_row (then_as _ _ _ (sym c.is_listening.ensures ∙ c.if-not-is_listening.false)) (called (Ok None) gave tt (c.send_ack-in-Ok-None.ensures.told ADD_MEM_REG m reads is ready) kept kept)))
+    passes _ _ (c.in_ok-file.ensures m.handles over) (passes _ _ (c.in_ok-region.ensures.row m reads) (by_row (then_as _ _ _ (sym c.is_listening.ensures ∙ c.if-not-is_listening.false)) (called (Ok None) gave tt (c.send_ack-in-Ok-None.ensures.sends ADD_MEM_REG m reads is ready) kept kept)))
 
 pub returns-in-Err-add_mem_region : goal.returns-in-Err-add_mem_region
 returns-in-Err-add_mem_region g c m reads over is ready =
     let kept = ap (λ (x : Session). session_of x) c.send_ack-in-Err-add_mem_region.ensures.session in
-    passes _ _ (c.in_ok-file.ensures m.handles over) (passes _ _ (c.in_ok-region.ensures.row m reads) (by_row (then_as _ _ _ (sym c.is_listening.ensures ∙ c.if-not-is_listening.false)) (called (Err (seen c.in-Err-add_mem_region.error)) c.in-Err-add_mem_region.ensures tt (c.send_ack-in-Err-add_mem_region.ensures.told ADD_MEM_REG m reads is ready) kept kept)))
+    passes _ _ (c.in_ok-file.ensures m.handles over) (passes _ _ (c.in_ok-region.ensures.row m reads) (by_row (then_as _ _ _ (sym c.is_listening.ensures ∙ c.if-not-is_listening.false)) (called (Err (seen c.in-Err-add_mem_region.error)) c.in-Err-add_mem_region.ensures tt (c.send_ack-in-Err-add_mem_region.ensures.sends ADD_MEM_REG m reads is ready) kept kept)))

@@ -28,4 +28,4 @@ returns g c m reads is ready =
     let kept = c.send_config.ensures.session in
     let same : config_bits c.from_bits_retain-flags.result ≡ c.in_ok-config.config.flags = c.from_bits_retain-flags.ensures tt in
     let gave = subst (λ n. g.D.VhostUserBackendReqHandlerMut.gives c.args.device.now (GetConfig c.in_ok-config.config.offset c.in_ok-config.config.size n) (seen_bytes c.get_config-answer.result) c.get_config-answer.new.self) same c.get_config-answer.ensures in
-    passes_plain _ (c.in_ok-operation.ensures 9 refl) (by_row (c.in_ok-config.ensures.row m reads (λ a. Calls (GetConfig a.offset a.size a.flags) (with_config (session_in c.args.self.now) a))) (called (seen_bytes c.get_config-answer.result) gave tt (c.send_config.ensures.told is ready) kept kept))
+    passes_plain _ (c.in_ok-operation.ensures 9 refl) (by_row (c.in_ok-config.ensures.row m reads (λ a. Calls (GetConfig a.offset a.size a.flags) (with_config (session_in c.args.self.now) a))) (called (seen_bytes c.get_config-answer.result) gave tt (c.send_config.ensures.sends is ready) kept kept))

@@ -27,9 +27,9 @@ pub returns-in_err-send_reply : goal.returns-in_err-send_reply
 returns-in_err-send_reply g c m reads is ready =
     let p = err_from_is_err_and c.from_residual-in_err-send_reply.result c.from_residual-in_err-send_reply.ensures.1 in
     let same = ap (λ (x : Session). session_of x) c.send_reply.ensures.session in
-    rw (p.1, p.2) (passes_plain _ (c.in_ok-bare.ensures m reads) (stops (Ok c.in_ok-features.features) c.in_ok-features.ensures (subst (λ (x : VhostUserU64). x.value < 2 ^ 64) c.new.ensures c.send_reply.ensures.fits) (c.in_err-send_reply.ensures.told GET_FEATURES (U64 c.in_ok-features.features) is ready (ap (λ (x : VhostUserU64). digits 8 x.value) c.new.ensures) refl) same))
+    rw (p.1, p.2) (passes_plain _ (c.in_ok-bare.ensures m reads) (stops (Ok c.in_ok-features.features) c.in_ok-features.ensures (subst (λ (x : VhostUserU64). x.value < 2 ^ 64) c.new.ensures c.send_reply.ensures.fits) (c.in_err-send_reply.ensures.sends GET_FEATURES (U64 c.in_ok-features.features) is ready (ap (λ (x : VhostUserU64). digits 8 x.value) c.new.ensures) refl) same))
 
 pub returns : goal.returns
 returns g c m reads is ready =
     let same = ap (λ (x : Session). record (session_of x) { offered = c.in_ok-features.features }) c.send_reply.ensures.session in
-    passes_plain _ (c.in_ok-bare.ensures m reads) (goes (Ok c.in_ok-features.features) c.in_ok-features.ensures (subst (λ (x : VhostUserU64). x.value < 2 ^ 64) c.new.ensures c.send_reply.ensures.fits) (c.in_ok-send_reply.ensures.told GET_FEATURES (U64 c.in_ok-features.features) is ready (ap (λ (x : VhostUserU64). digits 8 x.value) c.new.ensures) refl) same)
+    passes_plain _ (c.in_ok-bare.ensures m reads) (goes (Ok c.in_ok-features.features) c.in_ok-features.ensures (subst (λ (x : VhostUserU64). x.value < 2 ^ 64) c.new.ensures c.send_reply.ensures.fits) (c.in_ok-send_reply.ensures.sends GET_FEATURES (U64 c.in_ok-features.features) is ready (ap (λ (x : VhostUserU64). digits 8 x.value) c.new.ensures) refl) same)

@@ -23,4 +23,4 @@ returns-in_err-config g c m reads is ready =
 pub returns : goal.returns
 returns g c m reads is ready =
     let kept = ap (λ (x : Session). session_of x) c.send_reply.ensures.session in
-    passes_plain _ (c.in_ok-operation.ensures 22 refl) (called (Ok c.in_ok-config.config) c.in_ok-config.ensures c.send_reply.ensures.fits (c.send_reply.ensures.told GET_SHMEM_CONFIG (Shmem c.in_ok-config.config) is ready refl (shmem_config-length c.in_ok-config.config c.send_reply.ensures.fits)) kept kept)
+    passes_plain _ (c.in_ok-operation.ensures 22 refl) (called (Ok c.in_ok-config.config) c.in_ok-config.ensures c.send_reply.ensures.fits (c.send_reply.ensures.sends GET_SHMEM_CONFIG (Shmem c.in_ok-config.config) is ready refl (shmem_config-length c.in_ok-config.config c.send_reply.ensures.fits)) kept kept)

@@ -10,8 +10,8 @@ use Rattle.std.proofs.Common.{◌∙◌, ap, sym, subst}
 use Rattle.std.specs.Prelude.{⊤}
 use Rattle.vhost_protocol.specs.Error.{InvalidMessage}
 use Rattle.vhost_protocol.specs.Step.{acknowledged, acked}
-use Rattle.vhost_backend_req_handler.specs.Core.{end_of}
-use Rattle.vhost_backend_req_handler.specs.Serving.{IsReady, Reads, Tells, told}
+use Rattle.vhost_backend_req_handler.specs.Core.{endpoint_of}
+use Rattle.vhost_backend_req_handler.specs.Serving.{IsReady, Reads, Tells, reply_cells}
 use Rattle.vhost_backend_req_handler.specs.declared.session_core.SessionCore.{SessionCore}
 use Rattle.vhost_backend_req_handler.proofs.Arms.{opens_display, fails_aloud, refused_aloud, passes}
 use Rattle.vhost_backend_req_handler.proofs.session_core.SessionCore.gpu_set_socket.Goals as goal
@@ -19,14 +19,14 @@ use Rattle.vhost_backend_req_handler.proofs.session_core.SessionCore.gpu_set_soc
 pub returns-in_default : goal.returns-in_default
 returns-in_default g c m reads over is ready =
     let kept = ap (λ (x : Session). session_of x) c.send_ack.ensures.session in
-    fails_aloud _ _ (c.in_default.ensures m.handles over (acknowledged (session_in c.args.self.now) m InvalidMessage)) (refused_aloud m InvalidMessage (c.send_ack.ensures.told GPU_SET_SOCKET m reads is ready) kept kept)
+    fails_aloud _ _ (c.in_default.ensures m.handles over (acknowledged (session_in c.args.self.now) m InvalidMessage)) (refused_aloud m InvalidMessage (c.send_ack.ensures.sends GPU_SET_SOCKET m reads is ready) kept kept)
 
 pub returns-in-Ok : goal.returns-in-Ok
 returns-in-Ok g c m reads over is ready =
     let same = c.in-Ok.ensures.same in
     let reads_on = subst (λ (x : SessionCore _ _). Reads x.body c.args.request m) (sym same) reads in
-    let ready_on = subst (λ (x : SessionCore _ _). IsReady (end_of x)) (sym same) ready in
-    let tells = subst (λ (x : SessionCore _ _). let o = acked {A = ⊤} (session_in x) m (seen_result c.set_gpu_socket-answer.result) in Tells g.L.Link.event (end_of x) (told GPU_SET_SOCKET o.served) o.answer c.send_ack-in-Ok.result (end_of c.send_ack-in-Ok.new.self)) same (c.send_ack-in-Ok.ensures.told GPU_SET_SOCKET m reads_on is ready_on) in
+    let ready_on = subst (λ (x : SessionCore _ _). IsReady (endpoint_of x)) (sym same) ready in
+    let tells = subst (λ (x : SessionCore _ _). let o = acked {A = ⊤} (session_in x) m (seen_result c.set_gpu_socket-answer.result) in Tells g.L.Link.event (endpoint_of x) (reply_cells GPU_SET_SOCKET o.served) o.answer c.send_ack-in-Ok.result (endpoint_of c.send_ack-in-Ok.new.self)) same (c.send_ack-in-Ok.ensures.sends GPU_SET_SOCKET m reads_on is ready_on) in
     let kept = ap (λ (x : Session). session_of x) c.send_ack-in-Ok.ensures.session ∙ ap (λ (x : SessionCore _ _). session_in x) same in
     passes _ _ (c.in-Some.ensures m.handles over (acknowledged (session_in c.args.self.now) m InvalidMessage)) (opens_display (Ok c.in-Ok.gpu) c.in-Ok.ensures.opened (called (seen_result c.set_gpu_socket-answer.result) c.set_gpu_socket-answer.ensures tt tells kept kept))
 
@@ -34,7 +34,7 @@ pub returns-in-Err : goal.returns-in-Err
 returns-in-Err g c m reads over is ready =
     let same = c.in-Err.ensures.same in
     let reads_on = subst (λ (x : SessionCore _ _). Reads x.body c.args.request m) (sym same) reads in
-    let ready_on = subst (λ (x : SessionCore _ _). IsReady (end_of x)) (sym same) ready in
-    let tells = subst (λ (x : SessionCore _ _). let o = acked {A = ⊤} (session_in x) m (Err (seen c.in-Err.error)) in Tells g.L.Link.event (end_of x) (told GPU_SET_SOCKET o.served) o.answer c.send_ack-in-Err.result (end_of c.send_ack-in-Err.new.self)) same (c.send_ack-in-Err.ensures.told GPU_SET_SOCKET m reads_on is ready_on) in
+    let ready_on = subst (λ (x : SessionCore _ _). IsReady (endpoint_of x)) (sym same) ready in
+    let tells = subst (λ (x : SessionCore _ _). let o = acked {A = ⊤} (session_in x) m (Err (seen c.in-Err.error)) in Tells g.L.Link.event (endpoint_of x) (reply_cells GPU_SET_SOCKET o.served) o.answer c.send_ack-in-Err.result (endpoint_of c.send_ack-in-Err.new.self)) same (c.send_ack-in-Err.ensures.sends GPU_SET_SOCKET m reads_on is ready_on) in
     let kept = ap (λ (x : Session). session_of x) c.send_ack-in-Err.ensures.session ∙ ap (λ (x : SessionCore _ _). session_in x) same in
     passes _ _ (c.in-Some.ensures m.handles over (acknowledged (session_in c.args.self.now) m InvalidMessage)) (opens_display (Err (seen c.in-Err.error)) c.in-Err.ensures.opened (refused_aloud m (seen c.in-Err.error) tells kept kept))

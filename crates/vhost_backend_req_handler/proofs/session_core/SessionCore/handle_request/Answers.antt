@@ -1,7 +1,7 @@
 -- One request is read and answered.
 use Rattle.std.proofs.Common.{[], ap, refl}
 use Rattle.std.proofs.lemmas.Result.{err_from_is_err_and}
-use Rattle.vhost_backend_req_handler.specs.Core.{end_of, session_in}
+use Rattle.vhost_backend_req_handler.specs.Core.{endpoint_of, session_in}
 use Rattle.vhost_backend_req_handler.specs.Opening.{OpensAs}
 use Rattle.vhost_backend_req_handler.specs.Session.{session_of}
 use Rattle.vhost_backend_req_handler.specs.declared.session.Session.{Session}
@@ -22,5 +22,5 @@ returns-in_err-request-clause-handled g c alive =
 
 pub returns-clause-handled : goal.returns-clause-handled
 returns-clause-handled g c alive =
-    handles-request g.L.Link.event g.D.VhostUserBackendReqHandlerMut.gives (λ h o. OpensAs g.L.Link.opens g.L.Handle.Handle.kinds h o) (λ h o. OpensAs g.L.Link.opens g.L.Handle.Handle.kinds h o) (end_of c.args.self.now) _ (end_of c.read_request.new.self) _ (session_in c.args.self.now) (session_in c.read_request.new.self) _ _ _
+    handles-request g.L.Link.event g.D.VhostUserBackendReqHandlerMut.gives (λ h o. OpensAs g.L.Link.opens g.L.Handle.Handle.kinds h o) (λ h o. OpensAs g.L.Link.opens g.L.Handle.Handle.kinds h o) (endpoint_of c.args.self.now) _ (endpoint_of c.read_request.new.self) _ (session_in c.args.self.now) (session_in c.read_request.new.self) _ _ _
     _ c.in_ok-request.request c.in_ok-request.handles _ alive c.in_ok-make_list.ensures.made (ap (λ (x : Session). session_of x) c.in_ok-request.ensures.session) c.in_ok-request.ensures.request (λ m reads over ready. c.answer.ensures m reads over refl ready)

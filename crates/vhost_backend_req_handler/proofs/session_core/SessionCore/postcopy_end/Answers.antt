@@ -22,4 +22,4 @@ returns-in_err-allowed g c m reads is ready =
 pub returns : goal.returns
 returns g c m reads is ready =
     let kept = ap (λ (x : Session). session_of x) c.send_ack.ensures.session in
-    passes_plain _ (c.in_ok-operation.ensures 8 refl) (passes_plain _ (as_tested _ c.is_listening.ensures c.in_ok-allowed.ensures) (called (seen_result c.postcopy_end-answer.result) c.postcopy_end-answer.ensures tt (c.send_ack.ensures.told POSTCOPY_END m reads is ready) kept kept))
+    passes_plain _ (c.in_ok-operation.ensures 8 refl) (passes_plain _ (as_tested _ c.is_listening.ensures c.in_ok-allowed.ensures) (called (seen_result c.postcopy_end-answer.result) c.postcopy_end-answer.ensures tt (c.send_ack.ensures.sends POSTCOPY_END m reads is ready) kept kept))

@@ -27,4 +27,4 @@ returns-in_err-region g c m reads is ready =
 pub returns : goal.returns
 returns g c m reads is ready =
     let kept = ap (λ (x : Session). session_of x) c.send_ack.ensures.session in
-    passes_plain _ (c.in_ok-operation.ensures 15 refl) (by_row (else_as _ _ _ (c.is_mapped.ensures m reads ∙ c.if-is_mapped.false)) (passes _ _ (c.in_ok-region.ensures.row m reads) (called (seen_result c.remove_mem_region-answer.result) c.remove_mem_region-answer.ensures tt (c.send_ack.ensures.told REM_MEM_REG m reads is ready) kept kept)))
+    passes_plain _ (c.in_ok-operation.ensures 15 refl) (by_row (else_as _ _ _ (c.is_mapped.ensures m reads ∙ c.if-is_mapped.false)) (passes _ _ (c.in_ok-region.ensures.row m reads) (called (seen_result c.remove_mem_region-answer.result) c.remove_mem_region-answer.ensures tt (c.send_ack.ensures.sends REM_MEM_REG m reads is ready) kept kept)))

@@ -16,4 +16,4 @@ returns-in_err-bare g c m reads is ready =
 pub returns : goal.returns
 returns g c m reads is ready =
     let kept = ap (λ (x : Session). session_of x) c.send_ack.ensures.session in
-    passes_plain _ (c.in_ok-bare.ensures m reads) (called (seen_result c.reset_owner-answer.result) c.reset_owner-answer.ensures tt (c.send_ack.ensures.told RESET_OWNER m reads is ready) kept kept)
+    passes_plain _ (c.in_ok-bare.ensures m reads) (called (seen_result c.reset_owner-answer.result) c.reset_owner-answer.ensures tt (c.send_ack.ensures.sends RESET_OWNER m reads is ready) kept kept)

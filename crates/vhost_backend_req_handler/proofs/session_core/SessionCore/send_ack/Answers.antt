@@ -3,25 +3,25 @@ use Rattle.std.proofs.Common.{◌≡◌, true, false, ◌&&◌, refl}
 use Rattle.std.proofs.lemmas.Result.{err_from_is_err_and}
 use Rattle.vhost_protocol.specs.Session.{ack_on}
 use Rattle.vhost_protocol.specs.Written.{U64}
-use Rattle.vhost_backend_req_handler.specs.Core.{end_of, session_in}
+use Rattle.vhost_backend_req_handler.specs.Core.{endpoint_of, session_in}
 use Rattle.vhost_backend_req_handler.proofs.Telling.{ack-tested, unacked, ack-sent, ack-stopped}
 use Rattle.vhost_backend_req_handler.proofs.session_core.SessionCore.send_ack.Goals as goal
 
-pub returns-then-not-acknowledges-clause-told : goal.returns-then-not-acknowledges-clause-told
-returns-then-not-acknowledges-clause-told g c r m reads is ready =
+pub returns-then-not-acknowledges-clause-sends : goal.returns-then-not-acknowledges-clause-sends
+returns-then-not-acknowledges-clause-sends g c r m reads is ready =
     let s = session_in c.args.self.now in
     unacked g.L.Link.event _ r s m c.args.answer ready (ack-tested s c.acknowledges.result false reads c.acknowledges.ensures c.if-not-acknowledges.true)
 
-pub returns-in_err-send_reply-clause-told : goal.returns-in_err-send_reply-clause-told
-returns-in_err-send_reply-clause-told g c r m reads is ready =
+pub returns-in_err-send_reply-clause-sends : goal.returns-in_err-send_reply-clause-sends
+returns-in_err-send_reply-clause-sends g c r m reads is ready =
     let s = session_in c.args.self.now in
     let on : (ack_on s && m.need_reply) ≡ true = ack-tested s c.acknowledges.result true reads c.acknowledges.ensures c.if-not-acknowledges.false in
     let p = err_from_is_err_and c.from_residual.result c.from_residual.ensures.1 in
-    rw (p.1, p.2) (ack-stopped g.L.Link.event _ (end_of c.send_reply.new.self) r s m c.args.answer _ on
-    (c.in_err-send_reply.ensures.told r (U64 _) is ready (rw c.ack_body.ensures refl) refl))
+    rw (p.1, p.2) (ack-stopped g.L.Link.event _ (endpoint_of c.send_reply.new.self) r s m c.args.answer _ on
+    (c.in_err-send_reply.ensures.sends r (U64 _) is ready (rw c.ack_body.ensures refl) refl))
 
-pub returns-clause-told : goal.returns-clause-told
-returns-clause-told g c r m reads is ready =
+pub returns-clause-sends : goal.returns-clause-sends
+returns-clause-sends g c r m reads is ready =
     let s = session_in c.args.self.now in
     let on : (ack_on s && m.need_reply) ≡ true = ack-tested s c.acknowledges.result true reads c.acknowledges.ensures c.if-not-acknowledges.false in
-    ack-sent g.L.Link.event _ (end_of c.send_reply.new.self) r s m c.args.answer on (c.in_ok-send_reply.ensures.told r (U64 _) is ready (rw c.ack_body.ensures refl) refl)
+    ack-sent g.L.Link.event _ (endpoint_of c.send_reply.new.self) r s m c.args.answer on (c.in_ok-send_reply.ensures.sends r (U64 _) is ready (rw c.ack_body.ensures refl) refl)

@@ -6,8 +6,8 @@ use Rattle.vhost_message.specs.declared.records.memory.VhostUserMemory.{VhostUse
 use Rattle.vhost_protocol.specs.Written.{Regions, payload_text, table_head}
 use Rattle.vhost_backend_req_handler.proofs.session_core.SessionCore.send_regions.Goals as goal
 
-pub returns-clause-told : goal.returns-clause-told
-returns-clause-told g c is ready =
+pub returns-clause-sends : goal.returns-clause-sends
+returns-clause-sends g c is ready =
     let text : memory_text c.new-head.result ++ c.put_regions.new.out ≡ payload_text (Regions c.args.regions.now) =
     ap (λ (h : VhostUserMemory). memory_text h ++ c.put_regions.new.out) c.new-head.ensures ∙ ap (λ bs. memory_text (table_head (length c.args.regions.now)) ++ bs) c.put_regions.ensures.text in
-    c.send_reply_with.ensures.told SET_MEM_TABLE (Regions c.args.regions.now) is ready text (rw c.put_regions.ensures.text (omega arith))
+    c.send_reply_with.ensures.sends SET_MEM_TABLE (Regions c.args.regions.now) is ready text (rw c.put_regions.ensures.text (omega arith))

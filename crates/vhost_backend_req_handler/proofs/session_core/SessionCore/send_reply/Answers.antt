@@ -9,12 +9,12 @@ use Rattle.vhost_backend_req_handler.proofs.session_core.SessionCore.send_reply.
 abbrev reply_head : ℕ → ℕ → Header
 reply_head code size = record { code = code; flags = 5; size = size }
 
-pub returns-in-Ok-clause-told : goal.returns-in-Ok-clause-told
-returns-in-Ok-clause-told g c r payload is ready same len =
+pub returns-in-Ok-clause-sends : goal.returns-in-Ok-clause-sends
+returns-in-Ok-clause-sends g c r payload is ready same len =
     reply-sent g.L.Link.event _ _ r c.args.request.code (map (λ h. h.now) c.args.handles.now) _ g.T.ByteValued.SIZE (g.T.ByteValued.text c.args.body.now) payload is
     (c.new-header.ensures ∙ ap (reply_head (request_number c.args.request.code)) c.SIZE.ensures) same len (c.in-Ok.ensures.sent c.requires.size c.requires.handles)
 
-pub returns-in-Err-clause-told : goal.returns-in-Err-clause-told
-returns-in-Err-clause-told g c r payload is ready same len =
+pub returns-in-Err-clause-sends : goal.returns-in-Err-clause-sends
+returns-in-Err-clause-sends g c r payload is ready same len =
     reply-stopped g.L.Link.event _ _ _ r c.args.request.code (map (λ h. h.now) c.args.handles.now) _ g.T.ByteValued.SIZE (g.T.ByteValued.text c.args.body.now) payload _ is
     (c.new-header.ensures ∙ ap (reply_head (request_number c.args.request.code)) c.SIZE.ensures) same len c.requires.size ready (c.in-Err.ensures.sent c.requires.size c.requires.handles) c.break_on_fault.ensures

@@ -33,7 +33,7 @@ returns-in_err-valid g c m reads is ready =
 pub returns-in_default : goal.returns-in_default
 returns-in_default g c m reads is ready =
     let kept = ap (λ (x : Session). session_of x) c.send_ack.ensures.session in
-    passes_plain _ (c.in_ok-operation.ensures 9 refl) (passes_plain _ (as_tested _ (ap (λ b. not b) reads.reply) c.in_ok-valid.ensures) (by_row (refuses_as (is_valid_area m) (acknowledged (session_in c.args.self.now) m InvalidMessage) _ (c.in_default.ensures.valid m reads)) (refused_aloud m InvalidMessage (c.send_ack.ensures.told SET_CONFIG m reads is ready) kept kept)))
+    passes_plain _ (c.in_ok-operation.ensures 9 refl) (passes_plain _ (as_tested _ (ap (λ b. not b) reads.reply) c.in_ok-valid.ensures) (by_row (refuses_as (is_valid_area m) (acknowledged (session_in c.args.self.now) m InvalidMessage) _ (c.in_default.ensures.valid m reads)) (refused_aloud m InvalidMessage (c.send_ack.ensures.sends SET_CONFIG m reads is ready) kept kept)))
 
 pub returns : goal.returns
 returns g c m reads is ready =
@@ -44,4 +44,4 @@ returns g c m reads is ready =
     let gave1 = subst (λ n. g.D.VhostUserBackendReqHandlerMut.gives c.args.device.now (SetConfig c.in-Some.config.offset c.part.result.now n) (seen_result c.set_config-answer.result) c.set_config-answer.new.self) flags c.set_config-answer.ensures in
     let gave2 = subst (λ bs. g.D.VhostUserBackendReqHandlerMut.gives c.args.device.now (SetConfig c.in-Some.config.offset bs c.in-Some.config.flags) (seen_result c.set_config-answer.result) c.set_config-answer.new.self) bytes gave1 in
     let gave = subst (λ (a : VhostUserConfig). g.D.VhostUserBackendReqHandlerMut.gives c.args.device.now (SetConfig a.offset (drop 12 m.body) a.flags) (seen_result c.set_config-answer.result) c.set_config-answer.new.self) area gave2 in
-    passes_plain _ (c.in_ok-operation.ensures 9 refl) (passes_plain _ (as_tested _ (ap (λ b. not b) reads.reply) c.in_ok-valid.ensures) (by_row (passes_as {B = Backend _ _} {G = GpuBackend _ _} (is_valid_area m) (acknowledged (session_in c.args.self.now) m InvalidMessage) _ (c.in-Some.ensures.valid m reads)) (called (seen_result c.set_config-answer.result) gave tt (c.send_ack-2.ensures.told SET_CONFIG m reads is ready) kept kept)))
+    passes_plain _ (c.in_ok-operation.ensures 9 refl) (passes_plain _ (as_tested _ (ap (λ b. not b) reads.reply) c.in_ok-valid.ensures) (by_row (passes_as {B = Backend _ _} {G = GpuBackend _ _} (is_valid_area m) (acknowledged (session_in c.args.self.now) m InvalidMessage) _ (c.in-Some.ensures.valid m reads)) (called (seen_result c.set_config-answer.result) gave tt (c.send_ack-2.ensures.sends SET_CONFIG m reads is ready) kept kept)))

@@ -16,4 +16,4 @@ returns-in_err-features g c m reads is ready =
 pub returns : goal.returns
 returns g c m reads is ready =
     let kept = ap (λ (x : Session). session_of x) c.send_ack.ensures.session in
-    passes _ _ (c.in_ok-features.ensures m reads) (called (seen_result c.set_features-answer.result) c.set_features-answer.ensures tt (c.send_ack.ensures.told SET_FEATURES m reads is ready) kept kept)
+    passes _ _ (c.in_ok-features.ensures m reads) (called (seen_result c.set_features-answer.result) c.set_features-answer.ensures tt (c.send_ack.ensures.sends SET_FEATURES m reads is ready) kept kept)

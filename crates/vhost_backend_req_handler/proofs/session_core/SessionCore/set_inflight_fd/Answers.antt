@@ -26,4 +26,4 @@ returns-in_err-inflight g c m reads over is ready =
 pub returns : goal.returns
 returns g c m reads over is ready =
     let kept = ap (λ (x : Session). session_of x) c.send_ack.ensures.session in
-    passes_plain _ (c.in_ok-operation.ensures 12 refl) (passes _ _ (c.in_ok-file.ensures m.handles over) (passes _ _ (c.in_ok-inflight.ensures.row m reads) (called (seen_result c.set_inflight_fd-answer.result) c.set_inflight_fd-answer.ensures tt (c.send_ack.ensures.told SET_INFLIGHT_FD m reads is ready) kept kept)))
+    passes_plain _ (c.in_ok-operation.ensures 12 refl) (passes _ _ (c.in_ok-file.ensures m.handles over) (passes _ _ (c.in_ok-inflight.ensures.row m reads) (called (seen_result c.set_inflight_fd-answer.result) c.set_inflight_fd-answer.ensures tt (c.send_ack.ensures.sends SET_INFLIGHT_FD m reads is ready) kept kept)))

@@ -21,4 +21,4 @@ returns g c m reads is ready =
     let kept = ap (λ (x : Session). session_of x) c.send_ack.ensures.session in
     let same : vring_addr_bits c.from_bits_retain-flags.result ≡ c.in_ok-ring.ring.flags = c.from_bits_retain-flags.ensures tt in
     let gave = subst (λ n. g.D.VhostUserBackendReqHandlerMut.gives c.args.device.now (SetVringAddr (record (c.in_ok-ring.ring) { flags = n })) (seen_result c.set_vring_addr-answer.result) c.set_vring_addr-answer.new.self) same c.set_vring_addr-answer.ensures in
-    passes _ _ (c.in_ok-ring.ensures.row m reads) (called (seen_result c.set_vring_addr-answer.result) gave tt (c.send_ack.ensures.told SET_VRING_ADDR m reads is ready) kept kept)
+    passes _ _ (c.in_ok-ring.ensures.row m reads) (called (seen_result c.set_vring_addr-answer.result) gave tt (c.send_ack.ensures.sends SET_VRING_ADDR m reads is ready) kept kept)

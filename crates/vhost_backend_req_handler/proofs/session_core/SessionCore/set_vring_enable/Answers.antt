@@ -26,4 +26,4 @@ returns-in_err-switch g c m reads is ready =
 pub returns : goal.returns
 returns g c m reads is ready =
     let kept = ap (λ (x : Session). session_of x) c.send_ack.ensures.session in
-    passes _ _ (c.in_ok-ring.ensures.row m reads) (passes_plain _ (c.in_ok-feature.ensures 30 refl) (passes_plain _ c.in_ok-switch.ensures (called (seen_result c.set_vring_enable-answer.result) c.set_vring_enable-answer.ensures tt (c.send_ack.ensures.told SET_VRING_ENABLE m reads is ready) kept kept)))
+    passes _ _ (c.in_ok-ring.ensures.row m reads) (passes_plain _ (c.in_ok-feature.ensures 30 refl) (passes_plain _ c.in_ok-switch.ensures (called (seen_result c.set_vring_enable-answer.result) c.set_vring_enable-answer.ensures tt (c.send_ack.ensures.sends SET_VRING_ENABLE m reads is ready) kept kept)))

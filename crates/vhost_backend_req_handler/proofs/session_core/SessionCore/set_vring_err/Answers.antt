@@ -21,4 +21,4 @@ returns-in_err-index g c m reads over is ready =
 pub returns : goal.returns
 returns g c m reads over is ready =
     let kept = ap (λ (x : Session). session_of x) c.send_ack.ensures.session in
-    by_row (c.in_ok-index.ensures m reads over (λ n h. Calls (SetVringErr n h) (acked (session_in c.args.self.now) m))) (called (seen_result c.set_vring_err-answer.result) c.set_vring_err-answer.ensures tt (c.send_ack.ensures.told SET_VRING_ERR m reads is ready) kept kept)
+    by_row (c.in_ok-index.ensures m reads over (λ n h. Calls (SetVringErr n h) (acked (session_in c.args.self.now) m))) (called (seen_result c.set_vring_err-answer.result) c.set_vring_err-answer.ensures tt (c.send_ack.ensures.sends SET_VRING_ERR m reads is ready) kept kept)

@@ -16,4 +16,4 @@ returns-in_err-ring g c m reads is ready =
 pub returns : goal.returns
 returns g c m reads is ready =
     let kept = ap (λ (x : Session). session_of x) c.send_ack.ensures.session in
-    passes _ _ (c.in_ok-ring.ensures.row m reads) (called (seen_result c.set_vring_num-answer.result) c.set_vring_num-answer.ensures tt (c.send_ack.ensures.told SET_VRING_NUM m reads is ready) kept kept)
+    passes _ _ (c.in_ok-ring.ensures.row m reads) (called (seen_result c.set_vring_num-answer.result) c.set_vring_num-answer.ensures tt (c.send_ack.ensures.sends SET_VRING_NUM m reads is ready) kept kept)

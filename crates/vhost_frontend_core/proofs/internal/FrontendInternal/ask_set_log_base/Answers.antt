@@ -10,7 +10,7 @@ use Rattle.vhost_frontend_core.specs.Regions.{log_region_in, lent}
 use Rattle.vhost_frontend_core.proofs.internal.FrontendInternal.ask_set_log_base.Goals as goal
 
 -- a region without a handle, where shared memory is agreed on
-no-handle : {H : Type 0} (f : Frontend) (base : ℕ) (region : Option (LogRegion H)) (r : LogRegion H) → region ≡ Some r → has_bit f.acked_p 1 ≡ true → r.handle ≡ None → ask f (SetLogBase base region) ≡ Refuses InvalidParam
+no-handle : {H : Type 0} (f : Frontend) (base : ℕ) (region : Option (LogRegion H)) (r : LogRegion H) → region ≡ Some r → has_bit f.acked_protocol_features 1 ≡ true → r.handle ≡ None → ask f (SetLogBase base region) ≡ Refuses InvalidParam
 no-handle f base region r is on none = rw (is, on, none) refl
 
 pub returns-in_default-mmap_handle : goal.returns-in_default-mmap_handle

@@ -18,14 +18,14 @@ head_with code flags size = record { code = code; flags = with_version flags; si
 pub returns-then-is_err-clause-sent : goal.returns-then-is_err-clause-sent
 returns-then-is_err-clause-sent g c p text =
     let m = at-err c.make_list.result c.make_list.ensures.memory (sym c.is_err.ensures.value ∙ c.if-is_err.true) in
-    broke (no_memory m.1.1 (m.1.2 ∙ ap (λ (b : Bool). record (state c.args.self.now.end) { faulted = b }) (sym (ap (λ (x : State _ _). x.faulted) m.1.2))))
+    broke (no_memory m.1.1 (m.1.2 ∙ ap (λ (b : Bool). record (state c.args.self.now.endpoint) { faulted = b }) (sym (ap (λ (x : State _ _). x.faulted) m.1.2))))
 
 pub returns-in-Ok-clause-sent : goal.returns-in-Ok-clause-sent
 returns-in-Ok-clause-sent g c p text =
     let m = at-ok c.make_list.result c.make_list.ensures.made (sym c.is_err.ensures.value ∙ c.if-is_err.false) in
     let made = c.new.ensures in
     whole (whole-goes g.L.Link.event c.args.request.0 c.args.request.1 p _ (g.T.ByteValued.text c.args.body.now) c.args.payload.now g.T.ByteValued.SIZE text (g.met.T.ByteValued.text_length c.args.body.now (c.in-Ok.ensures.fits (omega (arith, c.requires.size)) c.requires.size c.requires.handles))
-    (state c.args.self.now.end) (state c.make_list.new.self) (state c.send_message_with_payload.new.self) c.new.result (fields_of c.new-header.result) c.args.request.2 m.1
+    (state c.args.self.now.endpoint) (state c.make_list.new.self) (state c.send_message_with_payload.new.self) c.new.result (fields_of c.new-header.result) c.args.request.2 m.1
     (c.new-header.ensures ∙ ap (head_with (request_number c.args.request.0) c.args.request.1) (ap (λ (n : ℕ). n + length c.args.payload.now) c.SIZE.ensures))
     (ap (λ (x : Sent). fields_of x.request) made) (ap (λ (x : Sent). x.awaited) made) (c.in-Ok.ensures.sent (omega (arith, c.requires.size)) c.requires.size c.requires.handles))
 
@@ -34,5 +34,5 @@ returns-in-Err-clause-sent g c p text =
     let m = at-ok c.make_list.result c.make_list.ensures.made (sym c.is_err.ensures.value ∙ c.if-is_err.false) in
     let long = g.met.T.ByteValued.text_length c.args.body.now (c.in-Err.ensures.fits (omega (arith, c.requires.size)) c.requires.size c.requires.handles) in
     let most : length (g.T.ByteValued.text c.args.body.now ++ c.args.payload.now) ≤ 4096 = omega (arith, length-append (g.T.ByteValued.text c.args.body.now) c.args.payload.now, long, c.requires.size) in
-    broke (front-fails g.L.Link.event _ (fields_of c.new-header.result) (g.T.ByteValued.text c.args.body.now ++ c.args.payload.now) (state c.args.self.now.end) (state c.make_list.new.self) (state c.send_message_with_payload.new.self) c.in-Err.error most m.1
+    broke (front-fails g.L.Link.event _ (fields_of c.new-header.result) (g.T.ByteValued.text c.args.body.now ++ c.args.payload.now) (state c.args.self.now.endpoint) (state c.make_list.new.self) (state c.send_message_with_payload.new.self) c.in-Err.error most m.1
     (c.in-Err.ensures.sent (omega (arith, c.requires.size)) c.requires.size c.requires.handles))

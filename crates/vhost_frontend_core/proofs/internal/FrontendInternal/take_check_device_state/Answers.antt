@@ -19,15 +19,15 @@ returns-then-number-ne0-clause-taken g c =
     (λ r is ok.
     ap (λ (b : Bool). Some (answered (session_of c.args.self.now) (if b then Ok Nothing else Err BackendInternalError)))
     (ap (λ (n : ℕ). n == 0) (sym (ap (λ (v : VhostUserU64). v.value) is)) ∙ nonzero c.in-Ok.number.value c.if-number-ne0.true)
-    ∙ ap (λ (f : Frontend). Some (answered f (Err BackendInternalError))) (sym c.take_alone.ensures.session))
+    ∙ ap (λ (f : Frontend). Some (answered f (Err BackendInternalError))) (sym c.take_plain_reply.ensures.session))
 
 pub returns-else-number-ne0-clause-taken : goal.returns-else-number-ne0-clause-taken
 returns-else-number-ne0-clause-taken g c =
     alone-replied CheckDeviceState AU64 8 (λ bs. of_number (number_at 0 8 bs)) (λ v. true) (λ cells. refl) (λ r. refl) c.in-Ok.ensures.taken
     (λ r is ok.
     ap (λ (n : ℕ). Some (answered (session_of c.args.self.now) (if n == 0 then Ok Nothing else Err BackendInternalError))) (sym (ap (λ (v : VhostUserU64). v.value) is) ∙ c.if-number-ne0.false)
-    ∙ ap (λ (f : Frontend). Some (answered f (Ok Nothing))) (sym c.take_alone.ensures.session))
+    ∙ ap (λ (f : Frontend). Some (answered f (Ok Nothing))) (sym c.take_plain_reply.ensures.session))
 
 pub returns-in-Err-clause-taken : goal.returns-in-Err-clause-taken
 returns-in-Err-clause-taken g c =
-    alone-fails CheckDeviceState AU64 8 (λ bs. of_number (number_at 0 8 bs)) (λ v. true) (λ cells. refl) (λ r. refl) (λ r h hs. refl) c.take_alone.ensures.session c.in-Err.ensures.taken
+    alone-fails CheckDeviceState AU64 8 (λ bs. of_number (number_at 0 8 bs)) (λ v. true) (λ cells. refl) (λ r. refl) (λ r h hs. refl) c.take_plain_reply.ensures.session c.in-Err.ensures.taken

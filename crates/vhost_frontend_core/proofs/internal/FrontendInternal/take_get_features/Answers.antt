@@ -15,8 +15,8 @@ returns-in-Ok-clause-taken g c =
     alone-replied GetFeatures AU64 8 (λ bs. of_number (number_at 0 8 bs)) (λ v. true) (λ cells. refl) (λ r. refl) c.in-Ok.ensures.taken
     (λ r is ok.
     ap (λ (n : ℕ). Some (answered (record (session_of c.args.self.now) { offered = n }) (Ok (Number n)))) (sym (ap (λ (v : VhostUserU64). v.value) is))
-    ∙ ap (λ (f : Frontend). Some (answered (record f { offered = c.in-Ok.number.value }) (Ok (Number c.in-Ok.number.value)))) (sym c.take_alone.ensures.session))
+    ∙ ap (λ (f : Frontend). Some (answered (record f { offered = c.in-Ok.number.value }) (Ok (Number c.in-Ok.number.value)))) (sym c.take_plain_reply.ensures.session))
 
 pub returns-in-Err-clause-taken : goal.returns-in-Err-clause-taken
 returns-in-Err-clause-taken g c =
-    alone-fails GetFeatures AU64 8 (λ bs. of_number (number_at 0 8 bs)) (λ v. true) (λ cells. refl) (λ r. refl) (λ r h hs. refl) c.take_alone.ensures.session c.in-Err.ensures.taken
+    alone-fails GetFeatures AU64 8 (λ bs. of_number (number_at 0 8 bs)) (λ v. true) (λ cells. refl) (λ r. refl) (λ r h hs. refl) c.take_plain_reply.ensures.session c.in-Err.ensures.taken

@@ -22,10 +22,10 @@ returns-in-Ok-clause-taken g c asked =
     one-replied (GetInflightFd asked) AnInflight 24 inflight_of is_valid_inflight (λ cells. refl) (λ r. refl) c.in-Ok.ensures.taken
     (λ r is ok.
     ap (λ (x : Result (Value _) Error). Some (answered (session_of c.args.self.now) x)) (buffer-is c.in-Ok.buffer.0 _ (c.in-Ok.buffer.1 ∷ []) is ok)
-    ∙ ap (λ (f : Frontend). Some (answered f (Ok (InflightOf c.in-Ok.buffer.0 c.in-Ok.buffer.1)))) (sym c.take_one.ensures.session))
+    ∙ ap (λ (f : Frontend). Some (answered f (Ok (InflightOf c.in-Ok.buffer.0 c.in-Ok.buffer.1)))) (sym c.take_reply_with_handle.ensures.session))
 
 pub returns-in-Err-clause-taken : goal.returns-in-Err-clause-taken
 returns-in-Err-clause-taken g c asked =
     one-fails (GetInflightFd asked) AnInflight 24 inflight_of is_valid_inflight (λ cells. refl) (λ r. refl)
     (λ r t is ok several. ap (λ (x : Result (Value _) Error). Some (answered (session_of c.args.self.now) x)) (buffer-is t _ r.handles is ok ∙ with-one-err (λ h. InflightOf t h) r.handles _ several))
-    c.take_one.ensures.session c.in-Err.ensures.taken
+    c.take_reply_with_handle.ensures.session c.in-Err.ensures.taken

@@ -15,8 +15,8 @@ returns-in-Ok-clause-taken g c =
     alone-replied GetMaxMemSlots AU64 8 (λ bs. of_number (number_at 0 8 bs)) (λ v. true) (λ cells. refl) (λ r. refl) c.in-Ok.ensures.taken
     (λ r is ok.
     ap (λ (v : VhostUserU64). Some (answered (session_of c.args.self.now) (Ok (Number v.value)))) (sym is)
-    ∙ ap (λ (f : Frontend). Some (answered f (Ok (Number c.in-Ok.number.value)))) (sym c.take_alone.ensures.session))
+    ∙ ap (λ (f : Frontend). Some (answered f (Ok (Number c.in-Ok.number.value)))) (sym c.take_plain_reply.ensures.session))
 
 pub returns-in-Err-clause-taken : goal.returns-in-Err-clause-taken
 returns-in-Err-clause-taken g c =
-    alone-fails GetMaxMemSlots AU64 8 (λ bs. of_number (number_at 0 8 bs)) (λ v. true) (λ cells. refl) (λ r. refl) (λ r h hs. refl) c.take_alone.ensures.session c.in-Err.ensures.taken
+    alone-fails GetMaxMemSlots AU64 8 (λ bs. of_number (number_at 0 8 bs)) (λ v. true) (λ cells. refl) (λ r. refl) (λ r h hs. refl) c.take_plain_reply.ensures.session c.in-Err.ensures.taken

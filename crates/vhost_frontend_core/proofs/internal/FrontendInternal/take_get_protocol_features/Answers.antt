@@ -16,8 +16,8 @@ returns-in-Ok-clause-taken g c =
     (λ r is ok.
     ap (λ (n : ℕ). Some (answered (session_of c.args.self.now) (Ok (Number (bit_and n 0x7FFFFF))))) (sym (ap (λ (v : VhostUserU64). v.value) is))
     ∙ ap (λ (n : ℕ). Some (answered (session_of c.args.self.now) (Ok (Number n)))) (sym c.known_features.ensures)
-    ∙ ap (λ (f : Frontend). Some (answered f (Ok (Number c.known_features.result.bits)))) (sym c.take_alone.ensures.session))
+    ∙ ap (λ (f : Frontend). Some (answered f (Ok (Number c.known_features.result.bits)))) (sym c.take_plain_reply.ensures.session))
 
 pub returns-in-Err-clause-taken : goal.returns-in-Err-clause-taken
 returns-in-Err-clause-taken g c =
-    alone-fails GetProtocolFeatures AU64 8 (λ bs. of_number (number_at 0 8 bs)) (λ v. true) (λ cells. refl) (λ r. refl) (λ r h hs. refl) c.take_alone.ensures.session c.in-Err.ensures.taken
+    alone-fails GetProtocolFeatures AU64 8 (λ bs. of_number (number_at 0 8 bs)) (λ v. true) (λ cells. refl) (λ r. refl) (λ r h hs. refl) c.take_plain_reply.ensures.session c.in-Err.ensures.taken

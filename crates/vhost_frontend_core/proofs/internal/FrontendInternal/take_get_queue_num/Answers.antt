@@ -31,7 +31,7 @@ returns-then-number-gt-MAX_QUEUES-clause-taken g c =
     (λ r is ok.
     ap (λ (n : ℕ). Some (queues_reply (session_of c.args.self.now) n (Ok (Number n)))) (sym (ap (λ (v : VhostUserU64). v.value) is))
     ∙ ap Some (refuses (session_of c.args.self.now) c.in-Ok.number.value c.if-number-gt-MAX_QUEUES.true)
-    ∙ ap (λ (f : Frontend). Some (answered f (Err InvalidMessage))) (sym c.take_alone.ensures.session))
+    ∙ ap (λ (f : Frontend). Some (answered f (Err InvalidMessage))) (sym c.take_plain_reply.ensures.session))
 
 pub returns-else-number-gt-MAX_QUEUES-clause-taken : goal.returns-else-number-gt-MAX_QUEUES-clause-taken
 returns-else-number-gt-MAX_QUEUES-clause-taken g c =
@@ -39,7 +39,7 @@ returns-else-number-gt-MAX_QUEUES-clause-taken g c =
     (λ r is ok.
     ap (λ (n : ℕ). Some (queues_reply (session_of c.args.self.now) n (Ok (Number n)))) (sym (ap (λ (v : VhostUserU64). v.value) is))
     ∙ ap Some (keeps (session_of c.args.self.now) c.in-Ok.number.value c.if-number-gt-MAX_QUEUES.false)
-    ∙ ap (λ (f : Frontend). Some (answered (record f { max_queue_num = c.in-Ok.number.value }) (Ok (Number c.in-Ok.number.value)))) (sym c.take_alone.ensures.session))
+    ∙ ap (λ (f : Frontend). Some (answered (record f { max_queue_num = c.in-Ok.number.value }) (Ok (Number c.in-Ok.number.value)))) (sym c.take_plain_reply.ensures.session))
 
 crowd : {H : Type 0} (f : Frontend) (n : ℕ) (b : Bool) → nat_le n 0x8000 ≡ b → queues_reply {H = H} f n (Err InvalidMessage) ≡ answered f (Err InvalidMessage)
 crowd f n true e = rw e refl
@@ -47,4 +47,4 @@ crowd f n false e = rw e refl
 
 pub returns-in-Err-clause-taken : goal.returns-in-Err-clause-taken
 returns-in-Err-clause-taken g c =
-    alone-fails GetQueueNum AU64 8 (λ bs. of_number (number_at 0 8 bs)) (λ v. true) (λ cells. refl) (λ r. refl) (λ r h hs. ap Some (crowd (session_of c.args.self.now) _ _ refl)) c.take_alone.ensures.session c.in-Err.ensures.taken
+    alone-fails GetQueueNum AU64 8 (λ bs. of_number (number_at 0 8 bs)) (λ v. true) (λ cells. refl) (λ r. refl) (λ r h hs. ap Some (crowd (session_of c.args.self.now) _ _ refl)) c.take_plain_reply.ensures.session c.in-Err.ensures.taken

@@ -14,8 +14,8 @@ returns-in-Ok-clause-taken g c =
     alone-replied GetShmemConfig AShmem 2056 shmem_config_of (λ v. true) (λ cells. refl) (λ r. refl) c.in-Ok.ensures.taken
     (λ r is ok.
     ap (λ (v : VhostUserShMemConfig). Some (answered (session_of c.args.self.now) (Ok (ShmemOf v)))) (sym is)
-    ∙ ap (λ (f : Frontend). Some (answered f (Ok (ShmemOf c.in-Ok.config)))) (sym c.take_alone.ensures.session))
+    ∙ ap (λ (f : Frontend). Some (answered f (Ok (ShmemOf c.in-Ok.config)))) (sym c.take_plain_reply.ensures.session))
 
 pub returns-in-Err-clause-taken : goal.returns-in-Err-clause-taken
 returns-in-Err-clause-taken g c =
-    alone-fails GetShmemConfig AShmem 2056 shmem_config_of (λ v. true) (λ cells. refl) (λ r. refl) (λ r h hs. refl) c.take_alone.ensures.session c.in-Err.ensures.taken
+    alone-fails GetShmemConfig AShmem 2056 shmem_config_of (λ v. true) (λ cells. refl) (λ r. refl) (λ r h hs. refl) c.take_plain_reply.ensures.session c.in-Err.ensures.taken

@@ -14,8 +14,8 @@ returns-in-Ok-clause-taken g c index =
     alone-replied (GetVringBase index) ARingState 8 vring_state_of (λ v. true) (λ cells. refl) (λ r. refl) c.in-Ok.ensures.taken
     (λ r is ok.
     ap (λ (v : VhostUserVringState). Some (answered (session_of c.args.self.now) (Ok (Number v.num)))) (sym is)
-    ∙ ap (λ (f : Frontend). Some (answered f (Ok (Number c.in-Ok.ring.num)))) (sym c.take_alone.ensures.session))
+    ∙ ap (λ (f : Frontend). Some (answered f (Ok (Number c.in-Ok.ring.num)))) (sym c.take_plain_reply.ensures.session))
 
 pub returns-in-Err-clause-taken : goal.returns-in-Err-clause-taken
 returns-in-Err-clause-taken g c index =
-    alone-fails (GetVringBase index) ARingState 8 vring_state_of (λ v. true) (λ cells. refl) (λ r. refl) (λ r h hs. refl) c.take_alone.ensures.session c.in-Err.ensures.taken
+    alone-fails (GetVringBase index) ARingState 8 vring_state_of (λ v. true) (λ cells. refl) (λ r. refl) (λ r h hs. refl) c.take_plain_reply.ensures.session c.in-Err.ensures.taken

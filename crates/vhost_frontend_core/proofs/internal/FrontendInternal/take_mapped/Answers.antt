@@ -8,7 +8,7 @@ use Rattle.vhost_protocol.specs.AnswerTable.{answered, is_same_range, only_if}
 use Rattle.vhost_protocol.specs.Ask.{ARegion}
 use Rattle.vhost_protocol.specs.Error.{Error, InvalidMessage, seen_result}
 use Rattle.vhost_protocol.specs.FrontendCall.{Frontend, AddMemRegion, Base, Value}
-use Rattle.vhost_frontend_core.specs.Frontend.{end_of, session_of}
+use Rattle.vhost_frontend_core.specs.Frontend.{endpoint_of, session_of}
 use Rattle.vhost_frontend_core.specs.Taking.{valued, AwaitsAlone}
 use Rattle.vhost_frontend_core.specs.declared.asked.Sent.{Sent}
 use Rattle.vhost_frontend_core.proofs.Taking.{alone-replied, alone-fails}
@@ -23,16 +23,16 @@ only-based false base (Err x) e = cc
 
 pub returns-in-Ok-clause-taken : goal.returns-in-Ok-clause-taken
 returns-in-Ok-clause-taken g c info kept =
-    let came : AwaitsAlone g.L.Link.event 40 single_region_of (λ v. true) (end_of c.args.self.now) (fields_of c.args.sent.request) (Ok c.in-Ok.reply) (end_of c.take_alone.new.self) =
-    subst (λ (x : Sent). AwaitsAlone g.L.Link.event 40 single_region_of (λ v. true) (end_of c.args.self.now) (fields_of x.request) (Ok c.in-Ok.reply) (end_of c.take_alone.new.self)) c.new.ensures c.in-Ok.ensures.taken in
+    let came : AwaitsAlone g.L.Link.event 40 single_region_of (λ v. true) (endpoint_of c.args.self.now) (fields_of c.args.sent.request) (Ok c.in-Ok.reply) (endpoint_of c.take_plain_reply.new.self) =
+    subst (λ (x : Sent). AwaitsAlone g.L.Link.event 40 single_region_of (λ v. true) (endpoint_of c.args.self.now) (fields_of x.request) (Ok c.in-Ok.reply) (endpoint_of c.take_plain_reply.new.self)) c.new.ensures c.in-Ok.ensures.taken in
     alone-replied (AddMemRegion info) ARegion 40 single_region_of (λ v. true) (λ cells. refl) (λ r. refl) came
     (λ r is ok.
     ap (λ (v : VhostUserSingleMemoryRegion). Some (answered (session_of c.args.self.now) (only_if (is_same_range info.region v.region) InvalidMessage (Base (Some (v.region.user_addr)))))) (sym is)
     ∙ ap (λ (x : Result (Value _) Error). Some (answered (session_of c.args.self.now) x)) (only-based _ _ c.base_for.result (c.base_for.ensures info.region kept))
-    ∙ ap (λ (f : Frontend). Some (answered f (valued Base c.base_for.result))) (sym c.take_alone.ensures.session))
+    ∙ ap (λ (f : Frontend). Some (answered f (valued Base c.base_for.result))) (sym c.take_plain_reply.ensures.session))
 
 pub returns-in-Err-clause-taken : goal.returns-in-Err-clause-taken
 returns-in-Err-clause-taken g c info kept =
-    let came : AwaitsAlone g.L.Link.event 40 single_region_of (λ v. true) (end_of c.args.self.now) (fields_of c.args.sent.request) (Err c.in-Err.error) (end_of c.take_alone.new.self) =
-    subst (λ (x : Sent). AwaitsAlone g.L.Link.event 40 single_region_of (λ v. true) (end_of c.args.self.now) (fields_of x.request) (Err c.in-Err.error) (end_of c.take_alone.new.self)) c.new.ensures c.in-Err.ensures.taken in
-    alone-fails (AddMemRegion info) ARegion 40 single_region_of (λ v. true) (λ cells. refl) (λ r. refl) (λ r h hs. refl) c.take_alone.ensures.session came
+    let came : AwaitsAlone g.L.Link.event 40 single_region_of (λ v. true) (endpoint_of c.args.self.now) (fields_of c.args.sent.request) (Err c.in-Err.error) (endpoint_of c.take_plain_reply.new.self) =
+    subst (λ (x : Sent). AwaitsAlone g.L.Link.event 40 single_region_of (λ v. true) (endpoint_of c.args.self.now) (fields_of x.request) (Err c.in-Err.error) (endpoint_of c.take_plain_reply.new.self)) c.new.ensures c.in-Err.ensures.taken in
+    alone-fails (AddMemRegion info) ARegion 40 single_region_of (λ v. true) (λ cells. refl) (λ r. refl) (λ r h hs. refl) c.take_plain_reply.ensures.session came

@@ -12,10 +12,10 @@ use Rattle.vhost_frontend_core.proofs.internal.FrontendInternal.take_postcopy_ad
 pub returns-in-Ok-clause-taken : goal.returns-in-Ok-clause-taken
 returns-in-Ok-clause-taken g c =
     one-replied PostcopyAdvise AnEmpty 0 (λ bs. record {}) (λ v. true) (λ cells. refl) (λ r. refl) c.in-Ok.ensures.taken
-    (λ r is ok. ap (λ (f : Frontend). Some (answered (record f { postcopy = Advise }) (Ok (HandleOf c.in-Ok.handle)))) (sym c.take_one.ensures.session))
+    (λ r is ok. ap (λ (f : Frontend). Some (answered (record f { postcopy = Advise }) (Ok (HandleOf c.in-Ok.handle)))) (sym c.take_reply_with_handle.ensures.session))
 
 pub returns-in-Err-clause-taken : goal.returns-in-Err-clause-taken
 returns-in-Err-clause-taken g c =
     one-fails PostcopyAdvise AnEmpty 0 (λ bs. record {}) (λ v. true) (λ cells. refl) (λ r. refl)
     (λ r t is ok several. ap (λ (x : Result (Value _) Error). Some (changed (session_of c.args.self.now) (record (session_of c.args.self.now) { postcopy = Advise }) x)) (with-one-err (λ h. HandleOf h) r.handles _ several))
-    c.take_one.ensures.session c.in-Err.ensures.taken
+    c.take_reply_with_handle.ensures.session c.in-Err.ensures.taken

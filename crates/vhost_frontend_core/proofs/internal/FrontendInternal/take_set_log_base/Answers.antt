@@ -21,14 +21,14 @@ returns-in-Ok g c = record {
       alone-replied (SetLogBase base region) ALog 16 log_of is_valid_log (λ cells. refl) (λ r. refl) c.in-Ok.ensures.taken
       (λ r is ok.
       ap (λ (b : Bool). Some (answered (session_of c.args.self.now) (if b then Ok Nothing else Err InvalidMessage))) (ap is_valid_log (sym is) ∙ ok)
-      ∙ ap (λ (f : Frontend). Some (answered f (Ok Nothing))) (sym c.take_alone.ensures.session));
+      ∙ ap (λ (f : Frontend). Some (answered f (Ok Nothing))) (sym c.take_plain_reply.ensures.session));
   base = λ base region nobody. absurd (not-nobody c.args.sent.awaited c.in_default.not-Nobody nobody);
-  quiet = c.take_alone.ensures.quiet;
+  quiet = c.take_plain_reply.ensures.quiet;
 }
 
 pub returns-in-Err : goal.returns-in-Err
 returns-in-Err g c = record {
-  area = λ base region log. alone-fails (SetLogBase base region) ALog 16 log_of is_valid_log (λ cells. refl) (λ r. refl) (λ r h hs. refl) c.take_alone.ensures.session c.in-Err.ensures.taken;
+  area = λ base region log. alone-fails (SetLogBase base region) ALog 16 log_of is_valid_log (λ cells. refl) (λ r. refl) (λ r h hs. refl) c.take_plain_reply.ensures.session c.in-Err.ensures.taken;
   base = λ base region nobody. absurd (not-nobody c.args.sent.awaited c.in_default.not-Nobody nobody);
-  quiet = c.take_alone.ensures.quiet;
+  quiet = c.take_plain_reply.ensures.quiet;
 }

@@ -1,9 +1,9 @@
 use Rattle.std.proofs.Common.{◌∙◌, sym, ap, subst}
 use Rattle.vhost_protocol.specs.Session.{Session}
 use Rattle.vhost_link.specs.Mem.{event}
-use Rattle.vhost_backend_req_handler.specs.Core.{end_of as serving, session_in}
+use Rattle.vhost_backend_req_handler.specs.Core.{endpoint_of as serving, session_in}
 use Rattle.vhost_backend_req_handler.specs.Serving.{HandlesOne}
-use Rattle.vhost_frontend_core.specs.Frontend.{end_of as asking}
+use Rattle.vhost_frontend_core.specs.Frontend.{endpoint_of as asking}
 use Rattle.vhost_pair.specs.Device.{opens_backend, opens_gpu}
 use Rattle.vhost_pair.specs.OnWay.{Carries}
 use Rattle.vhost_pair.specs.Sides as sides

@@ -3,7 +3,7 @@ use Rattle.std.proofs.Common.{sym, ◌∙◌}
 use Rattle.std.proofs.lemmas.Result.{err_from_is_err_and}
 use Rattle.vhost_frontend_core.specs.Taking.AwaitsAlone.{absent}
 use Rattle.vhost_frontend_core.proofs.Taking.{alone-comes, alone-crowded}
-use Rattle.vhost_frontend_core.proofs.internal.FrontendInternal.take_alone.Goals as goal
+use Rattle.vhost_frontend_core.proofs.internal.FrontendInternal.take_plain_reply.Goals as goal
 
 pub returns-in_err-body-clause-taken : goal.returns-in_err-body-clause-taken
 returns-in_err-body-clause-taken g c =

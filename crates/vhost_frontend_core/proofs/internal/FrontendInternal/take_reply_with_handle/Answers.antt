@@ -2,7 +2,7 @@
 use Rattle.std.proofs.lemmas.Result.{err_from_is_err_and}
 use Rattle.vhost_frontend_core.specs.Taking.AwaitsOne.{no_reply}
 use Rattle.vhost_frontend_core.proofs.Taking.{one-comes, one-missing}
-use Rattle.vhost_frontend_core.proofs.internal.FrontendInternal.take_one.Goals as goal
+use Rattle.vhost_frontend_core.proofs.internal.FrontendInternal.take_reply_with_handle.Goals as goal
 
 pub returns-in_err-body-clause-taken : goal.returns-in_err-body-clause-taken
 returns-in_err-body-clause-taken g c =
