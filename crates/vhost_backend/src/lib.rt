@@ -7,8 +7,6 @@ mod error;
 mod iotlb;
 mod region;
 mod ring;
-#[cfg(test)]
-mod tests;
 mod wrappers;
 
 pub use backend::{VhostBackend, VhostBackendMut};

@@ -1,7 +1,8 @@
 -- The twelve bytes at the head of a message to or from a display.
-use Rattle.std.specs.Prelude.{◌≡◌, ◌++◌, [], Bool, ◌||◌, ◌==◌}
+use Rattle.std.specs.Prelude.{◌≡◌, ◌^◌, ◌++◌, [], Bool, ◌||◌, ◌==◌}
 use Rattle.byteorder.specs.Numbers.{little_number-reads_back}
 use Rattle.vhost_message.specs.Text.{digits}
+use Rattle.vhost_message.specs.declared.header_bit.TheConstants.{REPLY}
 use Rattle.vhost_message.specs.Header.{Header, header_text, header_of}
 use Rattle.vhost_message.specs.MsgHeader.{Fits}
 use Rattle.vhost_gpu_message.specs.declared.header.VhostUserGpuMsgHeader.{VhostUserGpuMsgHeader}
@@ -16,7 +17,7 @@ of_gpu_fields h = record { request = h.code; flags = h.flags; size = h.size; of 
 
 -- no flag but REPLY, and any size (that the code is known comes besides)
 abbrev pub is_valid_gpu_header : Header → Bool
-is_valid_gpu_header h = h.flags == 0 || h.flags == 4
+is_valid_gpu_header h = h.flags == 0 || h.flags == 2 ^ REPLY
 
 pub gpu_header-reads_back : {R : Type 0} (h : VhostUserGpuMsgHeader R) → Fits (gpu_fields_of h) → of_gpu_fields (header_of (header_text (gpu_fields_of h))) ≡ h
 gpu_header-reads_back h fits =

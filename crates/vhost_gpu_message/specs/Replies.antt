@@ -8,6 +8,7 @@ use Rattle.vhost_message.specs.Text.{digits, number_at}
 use Rattle.vhost_gpu_message.specs.Words.{AreWords, words-read_back}
 use Rattle.vhost_gpu_message.specs.WordRecords.{display_one_words, display_one_text, display_one_from, display_one_of}
 use Rattle.vhost_gpu_message.specs.CtrlHdr.{ctrl_hdr_text, ctrl_hdr_of, CtrlHdrFits, ctrl_hdr-length, ctrl_hdr-reads_before, of_three, padded}
+use Rattle.vhost_gpu_message.specs.declared.limits.TheConstants.{VIRTIO_GPU_MAX_SCANOUTS}
 use Rattle.vhost_gpu_message.specs.declared.records.ctrl_hdr.VirtioGpuCtrlHdr.{VirtioGpuCtrlHdr}
 use Rattle.vhost_gpu_message.specs.declared.records.display.VirtioGpuDisplayOne.{VirtioGpuDisplayOne}
 use Rattle.vhost_gpu_message.specs.declared.records.replies.VirtioGpuRespDisplayInfo.{VirtioGpuRespDisplayInfo}
@@ -30,7 +31,7 @@ empty_screen = record { r = record { x = 0; y = 0; width = 0; height = 0 }; enab
 
 -- a reply with screens
 abbrev pub empty_info : VirtioGpuRespDisplayInfo
-empty_info = record { hdr = empty_hdr; pmodes = replicate 16 empty_screen }
+empty_info = record { hdr = empty_hdr; pmodes = replicate VIRTIO_GPU_MAX_SCANOUTS empty_screen }
 
 -- a reply with an EDID
 abbrev pub empty_edid : VirtioGpuRespGetEdid
@@ -54,12 +55,12 @@ display_info_text r = ctrl_hdr_text r.hdr ++ flat_map display_one_text r.pmodes
 
 -- the one at the head of some bytes
 abbrev pub display_info_of : List ℕ → VirtioGpuRespDisplayInfo
-display_info_of bs = record { hdr = ctrl_hdr_of bs; pmodes = screens_of 16 (drop 24 bs) }
+display_info_of bs = record { hdr = ctrl_hdr_of bs; pmodes = screens_of VIRTIO_GPU_MAX_SCANOUTS (drop 24 bs) }
 
--- sixteen screens, and each number within its field
+-- as many screens as a display may have, and each number within its field
 pub record DisplayInfoFits (r : VirtioGpuRespDisplayInfo) : Type 0 where
   pub hdr : CtrlHdrFits r.hdr
-  pub count : length r.pmodes ≡ 16
+  pub count : length r.pmodes ≡ VIRTIO_GPU_MAX_SCANOUTS
   pub pmodes : ScreensFit r.pmodes
 
 -- the bytes of n screens

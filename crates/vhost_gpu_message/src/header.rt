@@ -4,17 +4,23 @@ ghost use Rattle.std.specs.Prelude.{◌≡◌, ◌<◌, ◌^◌, ◌-◌, ◌&&�
 ghost use Rattle.std.proofs.Common.{rules};
 ghost use Rattle.std.specs.Cmp.Rules.{comparing};
 ghost use Rattle.vhost_message.specs.Bits.{has_bit, with_bit};
+ghost use Rattle.vhost_message.specs.declared.header_bit.TheConstants.{REPLY};
+ghost use Rattle.vhost_message.specs.declared.limits.TheConstants.{MSG_HEADER_SIZE};
 ghost use Rattle.vhost_message.specs.Header.{header_text, header_of, is_reply_for, is_same};
 ghost use Rattle.vhost_message.specs.MsgHeader.{Fits};
 ghost use Rattle.vhost_message.specs.declared.error.Error.TheVariants.{InvalidMessage};
+ghost use Rattle.vhost_gpu_message.specs.declared.limits.TheConstants.{MAX_GPU_MSG_SIZE};
 ghost use Rattle.vhost_gpu_message.specs.GpuHeader.{gpu_fields_of, of_gpu_fields, is_valid_gpu_header, gpu_header-reads_back};
 
 use crate::flags::VhostUserGpuHeaderFlag;
+use crate::limits::MAX_GPU_MSG_SIZE;
 use bitflags::Flags;
 use byteorder::{ByteOrder, LittleEndian};
 use std::fmt;
 use std::marker::PhantomData;
-use vhost_message::{ByteValued, Error, MsgHeader, Req, Result, VhostUserMsgValidator};
+use vhost_message::{
+    ByteValued, Error, MSG_HEADER_SIZE, MsgHeader, Req, Result, VhostUserMsgValidator,
+};
 
 /// The header of a message to or from a display: the number of its request, flags, and the size of its body in bytes.
 /// The number may be none of the codes of `R`: then the header isn't valid.
@@ -62,14 +68,14 @@ impl<R: Req> VhostUserGpuMsgHeader<R> {
 
     /// Whether the message is a reply.
     pub fn is_reply(&self) -> bool
-        ensures { result ≡ has_bit (gpu_fields_of self.now).flags 2 }
+        ensures { result ≡ has_bit (gpu_fields_of self.now).flags REPLY }
     {
         self.flags & VhostUserGpuHeaderFlag::REPLY.bits() != 0
     }
 
     /// Says whether the message is a reply, and changes nothing else.
     pub fn set_reply(&mut self, is_reply: bool)
-        ensures { gpu_fields_of self.new ≡ record (gpu_fields_of self.old) { flags = with_bit 2 is_reply (gpu_fields_of self.old).flags } }
+        ensures { gpu_fields_of self.new ≡ record (gpu_fields_of self.old) { flags = with_bit REPLY is_reply (gpu_fields_of self.old).flags } }
     {
         self.set_flag(VhostUserGpuHeaderFlag::REPLY, is_reply);
     }
@@ -132,9 +138,9 @@ impl<R: Req> fmt::Debug for VhostUserGpuMsgHeader<R> {
 }
 
 impl<R: Req> ByteValued for VhostUserGpuMsgHeader<R> {
-    const SIZE: usize = 12;
+    const SIZE: usize = MSG_HEADER_SIZE;
 
-    ghost SIZE = { 12 };
+    ghost SIZE = { MSG_HEADER_SIZE };
 
     ghost text = { λ h. header_text (gpu_fields_of h) };
 
@@ -175,9 +181,9 @@ impl<R: Req> VhostUserMsgValidator for VhostUserGpuMsgHeader<R> {
 impl<R: Req> MsgHeader for VhostUserGpuMsgHeader<R> {
     type Request = R;
 
-    const MAX_MSG_SIZE: usize = u32::MAX as usize;
+    const MAX_MSG_SIZE: usize = MAX_GPU_MSG_SIZE;
 
-    ghost MAX_MSG_SIZE = { 4294967295 };
+    ghost MAX_MSG_SIZE = { MAX_GPU_MSG_SIZE };
 
     ghost size_of_header = { refl };
 }

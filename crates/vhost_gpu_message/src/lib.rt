@@ -11,7 +11,7 @@ mod words;
 pub use flags::{VhostUserGpuHeaderFlag, VhostUserGpuProtocolFeatures};
 pub use gpu_backend_req::GpuBackendReq;
 pub use header::VhostUserGpuMsgHeader;
-pub use limits::VIRTIO_GPU_MAX_SCANOUTS;
+pub use limits::{MAX_GPU_MSG_SIZE, VIRTIO_GPU_MAX_SCANOUTS};
 pub use records::{
     VhostUserGpuCursorPos, VhostUserGpuCursorUpdate, VhostUserGpuDMABUFScanout,
     VhostUserGpuDMABUFScanout2, VhostUserGpuEdidRequest, VhostUserGpuScanout, VhostUserGpuUpdate,

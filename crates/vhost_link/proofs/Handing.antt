@@ -1,6 +1,7 @@
 -- What a receive of a link in memory did.
 use Rattle.std.proofs.Common.{◌≡◌, ℕ, ◌+◌, ◌≤◌, List, [], ◌∷◌, ◌++◌, length, take, drop, ap, ◌∙◌, arith, Bool}
 use Rattle.std.proofs.lemmas.List.{length-take}
+use Rattle.vhost_message.specs.declared.limits.TheConstants.{MAX_ATTACHED_FD_ENTRIES}
 use Rattle.vhost_protocol.specs.Stream.{Cell, cell, plain, carrying}
 use Rattle.vhost_link.specs.declared.cut.Cut.{Cut}
 use Rattle.vhost_link.specs.declared.cut.Cut.TheVariants.{Give, Retry, Fault}
@@ -37,7 +38,7 @@ handed old new b most hs xs front mid e le gives first behind is = rw e (
 
 pub hands : (old new : Ends) (b n most : ℕ) (hs : List PlainHandle) (room sub after : List ℕ) (mid : List (Cell PlainHandle))
     → Written n b room sub after → 1 + n ≤ most → Gives old.script most → old.pending ≡ cell b hs ∷ mid → mid ≡ plain (take n sub) ++ new.pending
-    → new ≡ record old { pending = new.pending; script = drop 1 old.script } → length hs ≤ 32 → HandsOut event old (1 + n) (take (1 + n) after) hs new
+    → new ≡ record old { pending = new.pending; script = drop 1 old.script } → length hs ≤ MAX_ATTACHED_FD_ENTRIES → HandsOut event old (1 + n) (take (1 + n) after) hs new
 hands old new b n most hs room sub after mid w le gives first behind is few = record {
   some = λ pos. handed old new b most hs (take n sub) (take (1 + n) after) mid w.front (omega (arith, length-take n sub)) gives first behind is;
   ended = λ z. absurd (omega arith);

@@ -1,8 +1,9 @@
 -- What the next cut of a script allows.
-use Rattle.std.specs.Prelude.{◌≡◌, ℕ, pos, ◌≤◌, min, max, List, [], ◌∷◌, Result, Ok, Err, Bool, true, if◌then◌else◌}
+use Rattle.std.specs.Prelude.{◌≡◌, ℕ, ◌≤◌, min, max, List, [], ◌∷◌, Result, Ok, Err, Bool, true, if◌then◌else◌}
 use Rattle.vhost_message.specs.declared.cause.IoCause.{IoCause}
 use Rattle.vhost_message.specs.declared.cause.IoCause.TheVariants.{Raw}
 use Rattle.vhost_message.specs.Cause.{is_retry}
+use Rattle.vhost_message.specs.declared.errno.TheConstants.{EAGAIN, ENOMEM}
 use Rattle.vhost_link.specs.declared.cut.Cut.{Cut}
 use Rattle.vhost_link.specs.declared.cut.Cut.TheVariants.{Give, Retry, Fault}
 
@@ -10,7 +11,7 @@ use Rattle.vhost_link.specs.declared.cut.Cut.TheVariants.{Give, Retry, Fault}
 abbrev pub allowed : List Cut → ℕ → Result ℕ IoCause
 allowed [] most = Ok most
 allowed (Give n ∷ cuts) most = Ok (min (max n 1) most)
-allowed (Retry ∷ cuts) most = Err (Raw (pos 11))
+allowed (Retry ∷ cuts) most = Err (Raw EAGAIN)
 allowed (Fault e ∷ cuts) most = Err (Raw e)
 
 -- the next call may move so many bytes
@@ -22,9 +23,9 @@ Gives (Fault e ∷ cuts) n = ⊥
 
 -- The next call may fail with this cause: that of its cut, else only for want of memory, which is remembered.
 abbrev pub Fails : List Cut → IoCause → Bool → Bool → Type 0
-Fails [] c before after = (c ≡ Raw (pos 12)) × (after ≡ true)
-Fails (Give n ∷ cuts) c before after = (c ≡ Raw (pos 12)) × (after ≡ true)
-Fails (Retry ∷ cuts) c before after = (c ≡ Raw (pos 11)) × (after ≡ before)
+Fails [] c before after = (c ≡ Raw ENOMEM) × (after ≡ true)
+Fails (Give n ∷ cuts) c before after = (c ≡ Raw ENOMEM) × (after ≡ true)
+Fails (Retry ∷ cuts) c before after = (c ≡ Raw EAGAIN) × (after ≡ before)
 Fails (Fault e ∷ cuts) c before after = (c ≡ Raw e) × (after ≡ before)
 
 -- how often a call with this cut fails, and may be made again

@@ -2,6 +2,7 @@
 use Rattle.std.specs.Prelude.{◌≡◌, ℕ, ◌+◌, ◌<◌, ◌≤◌, List, [], ◌∷◌, ◌++◌, length, take, drop, Result, Ok, Err, if◌then◌else◌}
 use Rattle.vhost_message.specs.declared.cause.IoCause.{IoCause}
 use Rattle.vhost_message.specs.Cause.{is_retry}
+use Rattle.vhost_message.specs.declared.limits.TheConstants.{MAX_ATTACHED_FD_ENTRIES}
 use Rattle.vhost_protocol.specs.Stream.{Cell, carrying, Item, End, items}
 
 -- What one call of a link did.
@@ -25,7 +26,7 @@ pub record HandsOut {S H : Type 0} (event : S → Event H → S → Type 0) (old
   pub some : 0 < n → event old (Handed (carrying handles front)) new
   pub ended : n ≡ 0 → event old Ended new
   pub none : n ≡ 0 → handles ≡ []
-  pub few : length handles ≤ 32
+  pub few : length handles ≤ MAX_ATTACHED_FD_ENTRIES
 
 -- A receive fills the front of the room and leaves the rest of it; or it fails, and room and handles stay.
 abbrev pub Receives : {S H : Type 0} → (S → Event H → S → Type 0) → S → List ℕ → Result ℕ IoCause → List ℕ → List H → S → Type 0

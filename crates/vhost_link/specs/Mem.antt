@@ -1,7 +1,8 @@
 -- What a link in memory does.
-use Rattle.std.specs.Prelude.{◌≡◌, ℕ, pos, ◌+◌, ◌<◌, List, [], ◌∷◌, ◌++◌, ◌⊎◌, length, take, drop, replicate, sum_by, Result, Ok, Err, true, if◌then◌else◌, codes}
+use Rattle.std.specs.Prelude.{◌≡◌, ℕ, ◌+◌, ◌<◌, List, [], ◌∷◌, ◌++◌, ◌⊎◌, length, take, drop, replicate, sum_by, Result, Ok, Err, true, if◌then◌else◌, codes}
 use Rattle.vhost_message.specs.declared.cause.IoCause.{IoCause}
 use Rattle.vhost_message.specs.declared.cause.IoCause.TheVariants.{Raw, Named}
+use Rattle.vhost_message.specs.declared.errno.TheConstants.{ENOMEM}
 use Rattle.vhost_protocol.specs.Stream.{Cell, has_some, Item, End, items}
 use Rattle.vhost_link.specs.declared.cut.Cut.{Cut}
 use Rattle.vhost_link.specs.declared.cut.Cut.TheVariants.{Give, Retry, Fault}
@@ -42,7 +43,7 @@ received (Err c) pending = Err c
 -- a send takes in all that its cut allows, or fails as the cut says, or for want of memory
 abbrev pub SendsAll : Result ℕ IoCause → Result ℕ IoCause → Type 0
 SendsAll (Ok most) (Ok n) = n ≡ most
-SendsAll (Ok most) (Err c) = c ≡ Raw (pos 12)
+SendsAll (Ok most) (Err c) = c ≡ Raw ENOMEM
 SendsAll (Err e) (Ok n) = ⊥
 SendsAll (Err e) (Err c) = c ≡ e
 

@@ -1,12 +1,13 @@
 //! A byte that a link in memory holds.
 
 ghost use Rattle.std.specs.Prelude.{◌≡◌, ◌≤◌, length, vec_len};
+ghost use Rattle.vhost_message.specs.declared.limits.TheConstants.{MAX_ATTACHED_FD_ENTRIES};
 ghost use Rattle.vhost_protocol.specs.Stream.{cell};
 
 use crate::plain::PlainHandle;
 use std::marker::Model;
 
-/// A byte on its way, and the handles that it brings, 32 at most. A contract sees a cell of a stream.
+/// A byte on its way, and the handles that it brings, `MAX_ATTACHED_FD_ENTRIES` at most. A contract sees a cell of a stream.
 #[derive(Drop)]
 pub struct HeldByte {
     byte: u8,
@@ -15,6 +16,7 @@ pub struct HeldByte {
 
 impl Model for HeldByte {
     ghost use Rattle.std.specs.Prelude.{◌≤◌, vec_len};
+    ghost use Rattle.vhost_message.specs.declared.limits.TheConstants.{MAX_ATTACHED_FD_ENTRIES};
     ghost use Rattle.vhost_protocol.specs.Stream.{Cell, cell};
     ghost use Rattle.vhost_link.specs.declared.plain.PlainHandle.{PlainHandle};
 
@@ -22,13 +24,13 @@ impl Model for HeldByte {
 
     ghost view = { λ held. cell held.byte held.handles.items };
 
-    ghost invariant = { λ held. vec_len held.handles ≤ 32 };
+    ghost invariant = { λ held. vec_len held.handles ≤ MAX_ATTACHED_FD_ENTRIES };
 }
 
 impl HeldByte {
-    /// A byte that brings at most 32 handles.
+    /// A byte that brings at most `MAX_ATTACHED_FD_ENTRIES` handles.
     pub(crate) fn new(byte: u8, handles: Vec<PlainHandle>) -> HeldByte
-        requires { vec_len handles ≤ 32 }
+        requires { vec_len handles ≤ MAX_ATTACHED_FD_ENTRIES }
         ensures { result ≡ cell byte handles.items }
     {
         HeldByte { byte, handles }
@@ -44,7 +46,7 @@ impl HeldByte {
     /// The handles that it brings.
     pub fn handles(&self) -> &[PlainHandle]
         ensures handles { result.now ≡ self.now.handles }
-        ensures few { length result.now ≤ 32 }
+        ensures few { length result.now ≤ MAX_ATTACHED_FD_ENTRIES }
     {
         self.handles.as_slice()
     }
@@ -52,7 +54,7 @@ impl HeldByte {
     /// The byte and its handles.
     pub(crate) fn into_parts(self) -> (u8, Vec<PlainHandle>)
         ensures whole { self ≡ cell result.0 result.1.items }
-        ensures few { vec_len result.1 ≤ 32 }
+        ensures few { vec_len result.1 ≤ MAX_ATTACHED_FD_ENTRIES }
     {
         let HeldByte { byte, handles } = self;
         (byte, handles)

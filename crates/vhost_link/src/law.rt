@@ -1,12 +1,13 @@
 //! What a link is.
 
 ghost use Rattle.std.specs.Prelude.{◌≡◌, ◌<◌, ◌≤◌, [], Result, length, vec_capacity, map};
+ghost use Rattle.vhost_message.specs.declared.limits.TheConstants.{MAX_ATTACHED_FD_ENTRIES};
 ghost use Rattle.vhost_link.specs.Law.{Event, Sends, Receives};
 
 use crate::handle::Handle;
 use vhost_message::IoCause;
 
-/// One end of a connection. A stream goes each way: bytes, each of which may bring up to 32 handles.
+/// One end of a connection. A stream goes each way: bytes, each of which may bring up to `MAX_ATTACHED_FD_ENTRIES` handles.
 ///
 /// In the crate `vhost` it is a `UnixStream`, and its handles are file descriptors.
 pub trait Link: Drop {
@@ -26,19 +27,19 @@ pub trait Link: Drop {
 
     /// Sends a front of the bytes, at least one, and all the handles with the first of them; the answer is how many.
     ///
-    /// The caller has at least one byte, and at most 32 handles. After an error nothing was sent.
+    /// The caller has at least one byte, and at most `MAX_ATTACHED_FD_ENTRIES` handles. After an error nothing was sent.
     fn send(&mut self, bytes: &[u8], handles: &[&Self::Handle]) -> Result<usize, IoCause>
         requires bytes { 0 < length bytes.now }
-        requires handles { length handles.now ≤ 32 }
+        requires handles { length handles.now ≤ MAX_ATTACHED_FD_ENTRIES }
         ensures { Sends event self.old bytes.now (map (λ h. h.now) handles.now) result self.new };
 
     /// Receives what fits into the room, up to the next byte that brings handles; the answer is how many bytes, and 0 at the end of the stream.
     ///
-    /// The handles are those of the first byte. The caller's list is empty, with room for 32. After an error nothing was received.
+    /// The handles are those of the first byte. The caller's list is empty, with room for `MAX_ATTACHED_FD_ENTRIES`. After an error nothing was received.
     fn recv(&mut self, room: &mut [u8], handles: &mut Vec<Self::Handle>) -> Result<usize, IoCause>
         requires room { 0 < length room.old }
         requires list { handles.old.items ≡ [] }
-        requires places { 32 ≤ vec_capacity handles.old }
+        requires places { MAX_ATTACHED_FD_ENTRIES ≤ vec_capacity handles.old }
         ensures law { Receives event self.old room.old result room.new handles.new.items self.new }
         ensures places { vec_capacity handles.old ≤ vec_capacity handles.new };
 

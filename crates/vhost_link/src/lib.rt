@@ -8,8 +8,6 @@ mod law;
 mod mem;
 mod pieces;
 mod plain;
-#[cfg(test)]
-mod tests;
 
 pub use cut::Cut;
 pub use handle::{Handle, Kind};

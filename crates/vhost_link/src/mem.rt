@@ -1,6 +1,7 @@
 //! A link in memory.
 
 ghost use Rattle.std.specs.Prelude.{◌≡◌, [], ◌++◌, ◌<◌, ◌≤◌, length, map, OnOk, OnErr, IsOk, vec_capacity};
+ghost use Rattle.vhost_message.specs.declared.limits.TheConstants.{MAX_ATTACHED_FD_ENTRIES};
 ghost use Rattle.vhost_protocol.specs.Stream.{carrying};
 ghost use Rattle.vhost_link.specs.Law.{Sends, Receives};
 ghost use Rattle.vhost_link.specs.Cuts.{allowed};
@@ -17,6 +18,7 @@ use std::collections::VecDeque;
 use std::marker::Model;
 use std::mem::swap;
 use vhost_message::IoCause;
+use vhost_message::errno::ENOMEM;
 
 /// One end of a connection in memory: what it will hand out, what it took in, and how its next calls are cut.
 #[derive(Drop)]
@@ -81,9 +83,9 @@ impl MemLink {
 
     /// Puts bytes behind what it will hand out, with the handles on the first of them.
     ///
-    /// There are at most 32 handles; without a byte they go nowhere. Where memory is refused, nothing changed.
+    /// There are at most `MAX_ATTACHED_FD_ENTRIES` handles; without a byte they go nowhere. Where memory is refused, nothing changed.
     pub fn push(&mut self, bytes: &[u8], handles: &[PlainHandle]) -> Result<(), AllocError>
-        requires { length handles.now ≤ 32 }
+        requires { length handles.now ≤ MAX_ATTACHED_FD_ENTRIES }
         ensures pushed { OnOk result (self.new ≡ record self.old { pending = self.old.pending ++ carrying handles.now bytes.now }) }
         ensures refused { OnErr result (self.new ≡ self.old) }
     {
@@ -105,10 +107,10 @@ impl Link for MemLink {
 
     ghost opens = { λ link handle result. result ≡ Ok (empty []) };
 
-    /// Takes in all that the cut allows. The only failure beside the script's is want of memory, `Raw(12)`.
+    /// Takes in all that the cut allows. The only failure beside the script's is want of memory, `Raw(ENOMEM)`.
     fn send(&mut self, bytes: &[u8], handles: &[&PlainHandle]) -> Result<usize, IoCause>
         requires bytes { 0 < length bytes.now }
-        requires handles { length handles.now ≤ 32 }
+        requires handles { length handles.now ≤ MAX_ATTACHED_FD_ENTRIES }
         ensures law { Sends event self.old bytes.now (map (λ h. h.now) handles.now) result self.new }
         ensures exact { SendsAll (allowed self.old.script (length bytes.now)) result }
     {
@@ -119,7 +121,7 @@ impl Link for MemLink {
         };
         if sent.is_err() {
             self.starved = true;
-            return Err(IoCause::Raw(12));
+            return Err(IoCause::Raw(ENOMEM));
         }
         Ok(count)
     }
@@ -128,7 +130,7 @@ impl Link for MemLink {
     fn recv(&mut self, room: &mut [u8], handles: &mut Vec<PlainHandle>) -> Result<usize, IoCause>
         requires room { 0 < length room.old }
         requires list { handles.old.items ≡ [] }
-        requires places { 32 ≤ vec_capacity handles.old }
+        requires places { MAX_ATTACHED_FD_ENTRIES ≤ vec_capacity handles.old }
         ensures law { Receives event self.old room.old result room.new handles.new.items self.new }
         ensures places { vec_capacity handles.old ≤ vec_capacity handles.new }
         ensures exact { result ≡ received (allowed self.old.script (length room.old)) self.old.pending }

@@ -2,6 +2,7 @@
 
 ghost use Rattle.std.specs.Prelude.{◌≡◌, ◌∷◌, [], ◌++◌, ◌≤◌, length, take, drop, ◌+◌, ◌<◌, IfOk, IfErr, IfSome, OnOk, OnErr, map, MatchOption, min, vec_len, vec_capacity};
 ghost use Rattle.std.specs.VecDeque.{deque_len, deque_capacity};
+ghost use Rattle.vhost_message.specs.declared.limits.TheConstants.{MAX_ATTACHED_FD_ENTRIES};
 ghost use Rattle.vhost_protocol.specs.Stream.{cell, plain, carrying};
 ghost use Rattle.vhost_link.specs.Cuts.{allowed, Gives, Fails};
 ghost use Rattle.vhost_link.specs.Mem.{bare, piece};
@@ -12,6 +13,7 @@ use crate::plain::PlainHandle;
 use std::alloc::{AllocError, Global};
 use std::collections::VecDeque;
 use vhost_message::IoCause;
+use vhost_message::errno::EAGAIN;
 
 /// How much the next call may move, of so many bytes; or why it fails.
 pub(crate) fn next_cut(script: &mut VecDeque<Cut>, most: usize) -> Result<usize, IoCause>
@@ -23,7 +25,7 @@ pub(crate) fn next_cut(script: &mut VecDeque<Cut>, most: usize) -> Result<usize,
     match script.pop_front() {
         None => Ok(most),
         Some(Cut::Give(n)) => Ok(n.max(1).min(most)),
-        Some(Cut::Retry) => Err(IoCause::Raw(11)),
+        Some(Cut::Retry) => Err(IoCause::Raw(EAGAIN)),
         Some(Cut::Fault(number)) => Err(IoCause::Raw(number)),
     }
 }
@@ -65,10 +67,10 @@ pub(crate) fn pop_first(
     handles: &mut Vec<PlainHandle>,
 ) -> Option<u8>
     requires list { handles.old.items ≡ [] }
-    requires places { 32 ≤ vec_capacity handles.old }
+    requires places { MAX_ATTACHED_FD_ENTRIES ≤ vec_capacity handles.old }
     ensures taken { MatchOption result
         ((pending.old.items ≡ []) × (pending.new.items ≡ []) × (handles.new.items ≡ []))
-        (λ b. (pending.old.items ≡ cell b handles.new.items ∷ pending.new.items) × (vec_len handles.new ≤ 32)) }
+        (λ b. (pending.old.items ≡ cell b handles.new.items ∷ pending.new.items) × (vec_len handles.new ≤ MAX_ATTACHED_FD_ENTRIES)) }
     ensures places { vec_capacity handles.old ≤ vec_capacity handles.new }
 {
     let first = pending.pop_front()?;
@@ -96,7 +98,7 @@ pub(crate) fn push_bytes(
     bytes: &[u8],
     handles: Vec<PlainHandle>,
 ) -> Result<(), AllocError>
-    requires { vec_len handles ≤ 32 }
+    requires { vec_len handles ≤ MAX_ATTACHED_FD_ENTRIES }
     ensures appended { OnOk result (cells.new.items ≡ cells.old.items ++ carrying handles.items bytes.now) }
     ensures refused { OnErr result (cells.new.items ≡ cells.old.items) }
 {

@@ -6,6 +6,7 @@ use Rattle.std.proofs.lemmas.Bool.Decides.{nat_tests}
 use Rattle.std.proofs.lemmas.Nat.{and_mask, and_comm, and-not, or_disjoint, or_shifted, pow_pos, shr_split, mod-pow-add}
 use Rattle.std.proofs.lemmas.Nat.Bits.{and_high, and_high_mask, and_pow, bit_at-lt}
 use Rattle.vhost_message.specs.Bits.{has_bit, with_bit}
+use Rattle.vhost_message.specs.declared.limits.TheConstants.{MAX_MSG_SIZE}
 use Rattle.vhost_message.specs.Header.{with_version, is_valid_header}
 
 pub kept_flags : (f : ℕ) → bit_or (bit_and f 12) 1 ≡ with_version f
@@ -15,7 +16,7 @@ kept_flags f =
     rw high (or_disjoint (f / 4 % 4 * 4) 1 low)
 
 -- a header that `new` makes is valid, if its body is not too long
-pub valid-with_version : (code flags size : ℕ) → size ≤ 4096 → is_valid_header (record { code = code; flags = with_version flags; size = size }) ≡ true
+pub valid-with_version : (code flags size : ℕ) → size ≤ MAX_MSG_SIZE → is_valid_header (record { code = code; flags = with_version flags; size = size }) ≡ true
 valid-with_version code flags size short = grind (arith, nat_tests)
 
 -- REPLY is kept

@@ -2,3 +2,4 @@ pub mod HeaderFlags
 pub mod KnownFlags
 pub mod LongRecords
 pub mod Numbers
+pub mod Regions

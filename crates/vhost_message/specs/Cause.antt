@@ -1,26 +1,25 @@
 -- What a link's cause becomes.
-use Rattle.std.specs.Prelude.{pos, negsuc, Bool, false, ◌||◌, ◌==◌, if◌then◌else◌}
+use Rattle.std.specs.Prelude.{Bool, false, ◌||◌, if◌then◌else◌}
+use Rattle.std.specs.Ordering.{int_eq}
 use Rattle.vhost_message.specs.declared.cause.IoCause.{IoCause}
 use Rattle.vhost_message.specs.declared.cause.IoCause.TheVariants.{Raw, Named}
+use Rattle.vhost_message.specs.declared.errno.TheConstants.{EACCES, EAGAIN, ECONNRESET, EINTR, ENOBUFS, ENOMEM, EPIPE}
 use Rattle.vhost_message.specs.declared.error.Error.{Error}
 use Rattle.vhost_message.specs.declared.error.Error.TheVariants.{SocketError, SocketConnect, SocketBroken, SocketRetry}
 
--- would block, interrupted, no buffer space, no memory
+-- the call would have to wait, it was interrupted, or there is no room in the system's buffers or no memory
 abbrev pub is_retry : IoCause → Bool
-is_retry (Raw (pos n)) = n == 11 || n == 4 || n == 105 || n == 12
-is_retry (Raw (negsuc n)) = false
+is_retry (Raw n) = int_eq n EAGAIN || int_eq n EINTR || int_eq n ENOBUFS || int_eq n ENOMEM
 is_retry (Named name) = false
 
--- connection reset, broken pipe
+-- the other side reset the connection, or no longer reads
 abbrev pub is_break : IoCause → Bool
-is_break (Raw (pos n)) = n == 104 || n == 32
-is_break (Raw (negsuc n)) = false
+is_break (Raw n) = int_eq n ECONNRESET || int_eq n EPIPE
 is_break (Named name) = false
 
--- permission denied
+-- permission is denied
 abbrev pub is_denial : IoCause → Bool
-is_denial (Raw (pos n)) = n == 13
-is_denial (Raw (negsuc n)) = false
+is_denial (Raw n) = int_eq n EACCES
 is_denial (Named name) = false
 
 -- the error of a cause

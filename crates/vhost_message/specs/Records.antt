@@ -1,6 +1,7 @@
 -- The bodies of messages: their bytes, and the record that bytes are read as.
 use Rattle.std.specs.Prelude.{ℕ, zero, suc, ◌+◌, ◌-◌, List, [], ◌∷◌, ◌++◌, length, take, drop, replicate, flat_map}
 use Rattle.vhost_message.specs.Text.{digits, number_at}
+use Rattle.vhost_message.specs.declared.limits.TheConstants.{MEMORY_REGION_SIZE}
 use Rattle.vhost_message.specs.declared.records.config.VhostUserConfig.{VhostUserConfig}
 use Rattle.vhost_message.specs.declared.records.inflight.VhostUserInflight.{VhostUserInflight}
 use Rattle.vhost_message.specs.declared.records.log.VhostUserLog.{VhostUserLog}
@@ -91,7 +92,7 @@ region_at p bs = record {
 -- n regions one after another
 abbrev pub regions_of : ℕ → List ℕ → List VhostUserMemoryRegion
 regions_of zero bs = []
-regions_of (suc n) bs = region_at 0 bs ∷ regions_of n (drop 32 bs)
+regions_of (suc n) bs = region_at 0 bs ∷ regions_of n (drop MEMORY_REGION_SIZE bs)
 
 -- a table's head
 abbrev pub memory_of : List ℕ → VhostUserMemory

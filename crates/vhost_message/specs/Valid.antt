@@ -1,6 +1,7 @@
 -- Which records are valid: tests over whole numbers, so that no sum wraps.
 use Rattle.std.specs.Prelude.{ℕ, ◌+◌, ◌%◌, ◌^◌, Bool, not, ◌&&◌, List, ◌==◌, nat_le, nat_lt}
 use Rattle.std.specs.List.{list_all}
+use Rattle.vhost_message.specs.declared.limits.TheConstants.{MAX_MEM_REGIONS, VHOST_USER_CONFIG_SIZE}
 use Rattle.vhost_message.specs.declared.records.config.VhostUserConfig.{VhostUserConfig}
 use Rattle.vhost_message.specs.declared.records.inflight.VhostUserInflight.{VhostUserInflight}
 use Rattle.vhost_message.specs.declared.records.log.VhostUserLog.{VhostUserLog}
@@ -19,17 +20,17 @@ abbrev pub is_valid_region : VhostUserMemoryRegion → Bool
 is_valid_region r =
     not (r.memory_size == 0) && fits_u64 r.guest_phys_addr r.memory_size && fits_u64 r.user_addr r.memory_size && fits_u64 r.mmap_offset r.memory_size
 
--- 1 to 32 regions
+-- at least one region, and no more than a table may have
 abbrev pub is_valid_memory : VhostUserMemory → Bool
-is_valid_memory m = m.padding1 == 0 && nat_le 1 m.num_regions && nat_le m.num_regions 32
+is_valid_memory m = m.padding1 == 0 && nat_le 1 m.num_regions && nat_le m.num_regions MAX_MEM_REGIONS
 
 -- known flags, and each part aligned
 abbrev pub is_valid_vring_addr : VhostUserVringAddr → Bool
 is_valid_vring_addr v = nat_le v.flags 1 && v.descriptor % 16 == 0 && v.available % 2 == 0 && v.used % 4 == 0
 
--- not empty, and within 4096 bytes
+-- not empty, and within configuration space
 abbrev pub is_valid_config : VhostUserConfig → Bool
-is_valid_config c = nat_le c.flags 3 && not (c.size == 0) && nat_le (c.offset + c.size) 4096
+is_valid_config c = nat_le c.flags 3 && not (c.size == 0) && nat_le (c.offset + c.size) VHOST_USER_CONFIG_SIZE
 
 -- some queues, of some size
 abbrev pub is_valid_inflight : VhostUserInflight → Bool

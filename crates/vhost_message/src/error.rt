@@ -5,6 +5,7 @@ ghost use Rattle.vhost_message.specs.Cause.{error_of, is_retry};
 ghost use Rattle.vhost_message.specs.Reconnect.{should_reconnect};
 
 use crate::cause::IoCause;
+use crate::errno::{EACCES, EAGAIN, ECONNRESET, EINTR, ENOBUFS, ENOMEM, EPIPE};
 use crate::flags::{VhostUserProtocolFeatures, VhostUserVirtioFeatures};
 use bitflags::Flags;
 use thiserror::Error as ErrorText;
@@ -94,9 +95,9 @@ impl From<IoCause> for Error {
 
     fn from(cause: IoCause) -> Error {
         match cause {
-            IoCause::Raw(11 | 4 | 105 | 12) => Error::SocketRetry(cause),
-            IoCause::Raw(104 | 32) => Error::SocketBroken(cause),
-            IoCause::Raw(13) => Error::SocketConnect(cause),
+            _ if cause.is_retry() => Error::SocketRetry(cause),
+            IoCause::Raw(ECONNRESET | EPIPE) => Error::SocketBroken(cause),
+            IoCause::Raw(EACCES) => Error::SocketConnect(cause),
             _ => Error::SocketError(cause),
         }
     }
@@ -122,6 +123,6 @@ impl IoCause {
     pub fn is_retry(&self) -> bool
         ensures { result ≡ is_retry self.now }
     {
-        matches!(self, IoCause::Raw(11 | 4 | 105 | 12))
+        matches!(self, IoCause::Raw(EAGAIN | EINTR | ENOBUFS | ENOMEM))
     }
 }

@@ -4,13 +4,15 @@ ghost use Rattle.std.specs.Prelude.{◌≡◌, ◌<◌, ◌^◌, ◌+◌, ◌-�
 ghost use Rattle.std.proofs.Common.{rules};
 ghost use Rattle.std.specs.Cmp.Rules.{comparing};
 ghost use Rattle.vhost_message.specs.Bits.{has_bit, with_bit};
+ghost use Rattle.vhost_message.specs.declared.header_bit.TheConstants.{NEED_REPLY, REPLY};
+ghost use Rattle.vhost_message.specs.declared.limits.TheConstants.{MAX_MSG_SIZE, MSG_HEADER_SIZE};
 ghost use Rattle.vhost_message.specs.Header.{header_text, header_of, is_valid_header, with_version, is_reply_for, is_same};
 ghost use Rattle.vhost_message.specs.MsgHeader.{fields_of, of_fields, Fits, header-reads_back};
 
 use crate::bytes::{ByteValued, VhostUserMsgValidator};
 use crate::error::{Error, Result};
 use crate::flags::VhostUserHeaderFlag;
-use crate::limits::MAX_MSG_SIZE;
+use crate::limits::{MAX_MSG_SIZE, MSG_HEADER_SIZE};
 use crate::req::{MsgHeader, Req};
 use bitflags::Flags;
 use byteorder::{ByteOrder, LittleEndian};
@@ -87,28 +89,28 @@ impl<R: Req> VhostUserMsgHeader<R> {
 
     /// Whether the message is a reply.
     pub fn is_reply(&self) -> bool
-        ensures { result ≡ has_bit (fields_of self.now).flags 2 }
+        ensures { result ≡ has_bit (fields_of self.now).flags REPLY }
     {
         self.flags & VhostUserHeaderFlag::REPLY.bits() != 0
     }
 
     /// Says whether the message is a reply, and changes nothing else.
     pub fn set_reply(&mut self, is_reply: bool)
-        ensures { fields_of self.new ≡ record (fields_of self.old) { flags = with_bit 2 is_reply (fields_of self.old).flags } }
+        ensures { fields_of self.new ≡ record (fields_of self.old) { flags = with_bit REPLY is_reply (fields_of self.old).flags } }
     {
         self.set_flag(VhostUserHeaderFlag::REPLY, is_reply);
     }
 
     /// Whether the sender asks for an acknowledgement.
     pub fn is_need_reply(&self) -> bool
-        ensures { result ≡ has_bit (fields_of self.now).flags 3 }
+        ensures { result ≡ has_bit (fields_of self.now).flags NEED_REPLY }
     {
         self.flags & VhostUserHeaderFlag::NEED_REPLY.bits() != 0
     }
 
     /// Says whether the sender asks for an acknowledgement, and changes nothing else.
     pub fn set_need_reply(&mut self, need_reply: bool)
-        ensures { fields_of self.new ≡ record (fields_of self.old) { flags = with_bit 3 need_reply (fields_of self.old).flags } }
+        ensures { fields_of self.new ≡ record (fields_of self.old) { flags = with_bit NEED_REPLY need_reply (fields_of self.old).flags } }
     {
         self.set_flag(VhostUserHeaderFlag::NEED_REPLY, need_reply);
     }
@@ -171,9 +173,9 @@ impl<R: Req> fmt::Debug for VhostUserMsgHeader<R> {
 }
 
 impl<R: Req> ByteValued for VhostUserMsgHeader<R> {
-    const SIZE: usize = 12;
+    const SIZE: usize = MSG_HEADER_SIZE;
 
-    ghost SIZE = { 12 };
+    ghost SIZE = { MSG_HEADER_SIZE };
 
     ghost text = { λ h. header_text (fields_of h) };
 
@@ -218,7 +220,7 @@ impl<R: Req> MsgHeader for VhostUserMsgHeader<R> {
 
     const MAX_MSG_SIZE: usize = MAX_MSG_SIZE;
 
-    ghost MAX_MSG_SIZE = { 4096 };
+    ghost MAX_MSG_SIZE = { MAX_MSG_SIZE };
 
     ghost size_of_header = { refl };
 }

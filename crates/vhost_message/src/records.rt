@@ -7,6 +7,7 @@ mod memory;
 mod plain;
 mod shared;
 mod shmem;
+mod table;
 mod transfer;
 mod vring;
 
@@ -20,5 +21,6 @@ pub use memory::{
 pub use plain::{VhostUserEmpty, VhostUserU64};
 pub use shared::VhostUserSharedMsg;
 pub use shmem::{VhostUserMMap, VhostUserShMemConfig};
+pub use table::{put_regions, read_front, read_region, read_regions};
 pub use transfer::VhostUserTransferDeviceState;
 pub use vring::{VhostUserVringAddr, VhostUserVringState};

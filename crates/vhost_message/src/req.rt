@@ -1,6 +1,7 @@
 //! Types of codes, and the headers that name them.
 
 ghost use Rattle.std.specs.Prelude.{◌≡◌, ℕ, Option, Some};
+ghost use Rattle.vhost_message.specs.declared.limits.TheConstants.{MSG_HEADER_SIZE};
 
 use crate::bytes::VhostUserMsgValidator;
 use std::fmt::Debug;
@@ -28,7 +29,7 @@ pub trait Req: Copy + Drop + Debug + Eq + Ord {
     ghost number_of_code: { (n : ℕ) (c : Self) → code n ≡ Some c → number c ≡ n };
 }
 
-/// The header of a channel: 12 bytes, that name one of the codes of `Request` or are not valid.
+/// The header of a channel: `MSG_HEADER_SIZE` bytes, that name one of the codes of `Request` or are not valid.
 pub trait MsgHeader: VhostUserMsgValidator + Copy + Drop {
     type Request: Req;
 
@@ -37,5 +38,5 @@ pub trait MsgHeader: VhostUserMsgValidator + Copy + Drop {
 
     ghost MAX_MSG_SIZE: { ℕ };
 
-    ghost size_of_header: { Self.SIZE ≡ 12 };
+    ghost size_of_header: { Self.SIZE ≡ MSG_HEADER_SIZE };
 }

@@ -3,6 +3,7 @@
 ghost use Rattle.std.specs.Prelude.{⊤, [], ◌∷◌, codes};
 
 use bitflags::{Flag, Flags};
+use vhost_message::header_bit;
 
 /// The flags in the header of a message to or from a display.
 #[derive(Drop)]
@@ -12,7 +13,9 @@ pub struct VhostUserGpuHeaderFlag {
 
 impl VhostUserGpuHeaderFlag {
     /// The message is a reply.
-    pub const REPLY: VhostUserGpuHeaderFlag = VhostUserGpuHeaderFlag { bits: 0x4 };
+    pub const REPLY: VhostUserGpuHeaderFlag = VhostUserGpuHeaderFlag {
+        bits: 1 << header_bit::REPLY,
+    };
 
     const FLAGS: &'static [Flag<VhostUserGpuHeaderFlag>] = &[Flag {
         name: "REPLY",

@@ -2,6 +2,7 @@
 
 ghost use Rattle.std.specs.Prelude.{◌≡◌, ◌*◌, length};
 ghost use Rattle.std.specs.List.{flat_map};
+ghost use Rattle.vhost_gpu_message.specs.declared.limits.TheConstants.{VIRTIO_GPU_MAX_SCANOUTS};
 ghost use Rattle.vhost_gpu_message.specs.Replies.{empty_info, empty_edid, screens_of, ScreensFit, display_info_text, display_info_of, DisplayInfoFits, display_info-length, display_info-reads_back, edid_text, edid_of, EdidFits, edid-length, edid-reads_back};
 ghost use Rattle.vhost_gpu_message.specs.WordRecords.{display_one_text};
 
@@ -153,7 +154,7 @@ fn write_screens(out: &mut [u8], screens: &[VirtioGpuDisplayOne])
 // Reads screens one behind the other.
 fn read_screens(b: &[u8]) -> [VirtioGpuDisplayOne; VIRTIO_GPU_MAX_SCANOUTS]
     requires { length b.now ≡ 384 }
-    ensures read { result ≡ screens_of 16 b.now }
+    ensures read { result ≡ screens_of VIRTIO_GPU_MAX_SCANOUTS b.now }
     ensures fits { ScreensFit result }
 {
     let mut screens = [VirtioGpuDisplayOne::default(); VIRTIO_GPU_MAX_SCANOUTS];

@@ -2,6 +2,7 @@
 
 ghost use Rattle.std.specs.Prelude.{⊤, ◌≡◌, [], ◌∷◌, codes};
 
+use crate::{protocol_bit, virtio_bit};
 use bitflags::{Flag, Flags};
 
 /// The bits of the virtio features that the protocol gives a meaning.
@@ -12,11 +13,13 @@ pub struct VhostUserVirtioFeatures {
 
 impl VhostUserVirtioFeatures {
     /// Writes to guest memory are logged.
-    pub const LOG_ALL: VhostUserVirtioFeatures = VhostUserVirtioFeatures { bits: 0x4000000 };
+    pub const LOG_ALL: VhostUserVirtioFeatures = VhostUserVirtioFeatures {
+        bits: 1 << virtio_bit::LOG_ALL,
+    };
 
     /// The features of the protocol are negotiated too.
     pub const PROTOCOL_FEATURES: VhostUserVirtioFeatures = VhostUserVirtioFeatures {
-        bits: 0x40000000,
+        bits: 1 << virtio_bit::PROTOCOL_FEATURES,
     };
 
     const FLAGS: &'static [Flag<VhostUserVirtioFeatures>] = &[
@@ -61,87 +64,119 @@ pub struct VhostUserProtocolFeatures {
 
 impl VhostUserProtocolFeatures {
     /// Several queues: GET_QUEUE_NUM.
-    pub const MQ: VhostUserProtocolFeatures = VhostUserProtocolFeatures { bits: 0x1 };
+    pub const MQ: VhostUserProtocolFeatures = VhostUserProtocolFeatures {
+        bits: 1 << protocol_bit::MQ,
+    };
 
     /// The log of dirty pages comes as shared memory.
-    pub const LOG_SHMFD: VhostUserProtocolFeatures = VhostUserProtocolFeatures { bits: 0x2 };
+    pub const LOG_SHMFD: VhostUserProtocolFeatures = VhostUserProtocolFeatures {
+        bits: 1 << protocol_bit::LOG_SHMFD,
+    };
 
     /// SEND_RARP.
-    pub const RARP: VhostUserProtocolFeatures = VhostUserProtocolFeatures { bits: 0x4 };
+    pub const RARP: VhostUserProtocolFeatures = VhostUserProtocolFeatures {
+        bits: 1 << protocol_bit::RARP,
+    };
 
     /// A request may ask for an acknowledgement.
-    pub const REPLY_ACK: VhostUserProtocolFeatures = VhostUserProtocolFeatures { bits: 0x8 };
+    pub const REPLY_ACK: VhostUserProtocolFeatures = VhostUserProtocolFeatures {
+        bits: 1 << protocol_bit::REPLY_ACK,
+    };
 
     /// NET_SET_MTU.
-    pub const MTU: VhostUserProtocolFeatures = VhostUserProtocolFeatures { bits: 0x10 };
+    pub const MTU: VhostUserProtocolFeatures = VhostUserProtocolFeatures {
+        bits: 1 << protocol_bit::MTU,
+    };
 
     /// The backend may send requests, over a channel of its own.
-    pub const BACKEND_REQ: VhostUserProtocolFeatures = VhostUserProtocolFeatures { bits: 0x20 };
+    pub const BACKEND_REQ: VhostUserProtocolFeatures = VhostUserProtocolFeatures {
+        bits: 1 << protocol_bit::BACKEND_REQ,
+    };
 
     /// SET_VRING_ENDIAN.
-    pub const CROSS_ENDIAN: VhostUserProtocolFeatures = VhostUserProtocolFeatures { bits: 0x40 };
+    pub const CROSS_ENDIAN: VhostUserProtocolFeatures = VhostUserProtocolFeatures {
+        bits: 1 << protocol_bit::CROSS_ENDIAN,
+    };
 
     /// CREATE_CRYPTO_SESSION and CLOSE_CRYPTO_SESSION.
-    pub const CRYPTO_SESSION: VhostUserProtocolFeatures = VhostUserProtocolFeatures { bits: 0x80 };
+    pub const CRYPTO_SESSION: VhostUserProtocolFeatures = VhostUserProtocolFeatures {
+        bits: 1 << protocol_bit::CRYPTO_SESSION,
+    };
 
     /// Migration by postcopy.
-    pub const PAGEFAULT: VhostUserProtocolFeatures = VhostUserProtocolFeatures { bits: 0x100 };
+    pub const PAGEFAULT: VhostUserProtocolFeatures = VhostUserProtocolFeatures {
+        bits: 1 << protocol_bit::PAGEFAULT,
+    };
 
     /// GET_CONFIG and SET_CONFIG.
-    pub const CONFIG: VhostUserProtocolFeatures = VhostUserProtocolFeatures { bits: 0x200 };
+    pub const CONFIG: VhostUserProtocolFeatures = VhostUserProtocolFeatures {
+        bits: 1 << protocol_bit::CONFIG,
+    };
 
     /// The backend may send handles over its channel.
     pub const BACKEND_SEND_FD: VhostUserProtocolFeatures = VhostUserProtocolFeatures {
-        bits: 0x400,
+        bits: 1 << protocol_bit::BACKEND_SEND_FD,
     };
 
     /// The backend may register notifiers of the host.
-    pub const HOST_NOTIFIER: VhostUserProtocolFeatures = VhostUserProtocolFeatures { bits: 0x800 };
+    pub const HOST_NOTIFIER: VhostUserProtocolFeatures = VhostUserProtocolFeatures {
+        bits: 1 << protocol_bit::HOST_NOTIFIER,
+    };
 
     /// GET_INFLIGHT_FD and SET_INFLIGHT_FD.
     pub const INFLIGHT_SHMFD: VhostUserProtocolFeatures = VhostUserProtocolFeatures {
-        bits: 0x1000,
+        bits: 1 << protocol_bit::INFLIGHT_SHMFD,
     };
 
     /// RESET_DEVICE.
-    pub const RESET_DEVICE: VhostUserProtocolFeatures = VhostUserProtocolFeatures { bits: 0x2000 };
+    pub const RESET_DEVICE: VhostUserProtocolFeatures = VhostUserProtocolFeatures {
+        bits: 1 << protocol_bit::RESET_DEVICE,
+    };
 
     /// Rings are notified by messages.
     pub const INBAND_NOTIFICATIONS: VhostUserProtocolFeatures = VhostUserProtocolFeatures {
-        bits: 0x4000,
+        bits: 1 << protocol_bit::INBAND_NOTIFICATIONS,
     };
 
     /// Regions are added and removed one by one.
     pub const CONFIGURE_MEM_SLOTS: VhostUserProtocolFeatures = VhostUserProtocolFeatures {
-        bits: 0x8000,
+        bits: 1 << protocol_bit::CONFIGURE_MEM_SLOTS,
     };
 
     /// GET_STATUS and SET_STATUS.
-    pub const STATUS: VhostUserProtocolFeatures = VhostUserProtocolFeatures { bits: 0x10000 };
+    pub const STATUS: VhostUserProtocolFeatures = VhostUserProtocolFeatures {
+        bits: 1 << protocol_bit::STATUS,
+    };
 
     /// Regions say how Xen maps them.
-    pub const XEN_MMAP: VhostUserProtocolFeatures = VhostUserProtocolFeatures { bits: 0x20000 };
+    pub const XEN_MMAP: VhostUserProtocolFeatures = VhostUserProtocolFeatures {
+        bits: 1 << protocol_bit::XEN_MMAP,
+    };
 
     /// Objects are shared by name.
     pub const SHARED_OBJECT: VhostUserProtocolFeatures = VhostUserProtocolFeatures {
-        bits: 0x40000,
+        bits: 1 << protocol_bit::SHARED_OBJECT,
     };
 
     /// The state of the device is transferred.
-    pub const DEVICE_STATE: VhostUserProtocolFeatures = VhostUserProtocolFeatures { bits: 0x80000 };
+    pub const DEVICE_STATE: VhostUserProtocolFeatures = VhostUserProtocolFeatures {
+        bits: 1 << protocol_bit::DEVICE_STATE,
+    };
 
     /// A ring may stop while descriptors are in flight.
     pub const GET_VRING_BASE_INFLIGHT: VhostUserProtocolFeatures = VhostUserProtocolFeatures {
-        bits: 0x100000,
+        bits: 1 << protocol_bit::GET_VRING_BASE_INFLIGHT,
     };
 
     /// Addresses may be those of the guest.
     pub const GPA_ADDRESSES: VhostUserProtocolFeatures = VhostUserProtocolFeatures {
-        bits: 0x200000,
+        bits: 1 << protocol_bit::GPA_ADDRESSES,
     };
 
     /// Shared memory regions of the device.
-    pub const SHMEM: VhostUserProtocolFeatures = VhostUserProtocolFeatures { bits: 0x400000 };
+    pub const SHMEM: VhostUserProtocolFeatures = VhostUserProtocolFeatures {
+        bits: 1 << protocol_bit::SHMEM,
+    };
 
     const FLAGS: &'static [Flag<VhostUserProtocolFeatures>] = &[
         Flag {

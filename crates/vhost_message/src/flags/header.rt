@@ -2,6 +2,7 @@
 
 ghost use Rattle.std.specs.Prelude.{⊤, [], ◌∷◌, codes};
 
+use crate::header_bit;
 use bitflags::{Flag, Flags};
 
 /// The flags in the header of a message, and its version in the two low bits.
@@ -15,10 +16,14 @@ impl VhostUserHeaderFlag {
     pub const VERSION: VhostUserHeaderFlag = VhostUserHeaderFlag { bits: 0x3 };
 
     /// The message is a reply.
-    pub const REPLY: VhostUserHeaderFlag = VhostUserHeaderFlag { bits: 0x4 };
+    pub const REPLY: VhostUserHeaderFlag = VhostUserHeaderFlag {
+        bits: 1 << header_bit::REPLY,
+    };
 
     /// The sender asks for an acknowledgement.
-    pub const NEED_REPLY: VhostUserHeaderFlag = VhostUserHeaderFlag { bits: 0x8 };
+    pub const NEED_REPLY: VhostUserHeaderFlag = VhostUserHeaderFlag {
+        bits: 1 << header_bit::NEED_REPLY,
+    };
 
     /// REPLY and NEED_REPLY.
     pub const ALL_FLAGS: VhostUserHeaderFlag = VhostUserHeaderFlag { bits: 0xc };

@@ -1,12 +1,13 @@
 //! Memory tables.
 
 ghost use Rattle.std.specs.Prelude.{◌≡◌, refl};
+ghost use Rattle.vhost_message.specs.declared.limits.TheConstants.{MEMORY_HEAD_SIZE, MEMORY_REGION_SIZE};
 ghost use Rattle.vhost_message.specs.Records.{memory_text, memory_of, region_text, region_at, single_region_text, single_region_of, single_region, region_within};
 ghost use Rattle.vhost_message.specs.RecordLaws.{MemoryFits, RegionFits, SingleRegionFits, memory-reads_back, region-reads_back, single_region-reads_back};
 ghost use Rattle.vhost_message.specs.Valid.{is_valid_memory, is_valid_region};
 
 use crate::bytes::{ByteValued, VhostUserMsgValidator};
-use crate::limits::MAX_ATTACHED_FD_ENTRIES;
+use crate::limits::{MAX_MEM_REGIONS, MEMORY_HEAD_SIZE, MEMORY_REGION_SIZE};
 use byteorder::{ByteOrder, LittleEndian};
 
 /// The head of a memory table: how many regions follow (vhost-user specification, "Multiple memory regions
@@ -32,9 +33,9 @@ impl VhostUserMemory {
 }
 
 impl ByteValued for VhostUserMemory {
-    const SIZE: usize = 8;
+    const SIZE: usize = MEMORY_HEAD_SIZE;
 
-    ghost SIZE = { 8 };
+    ghost SIZE = { MEMORY_HEAD_SIZE };
 
     ghost text = { memory_text };
 
@@ -67,9 +68,7 @@ impl VhostUserMsgValidator for VhostUserMemory {
     ghost valid = { is_valid_memory };
 
     fn is_valid(&self) -> bool {
-        self.padding1 == 0
-            && self.num_regions >= 1
-            && self.num_regions <= MAX_ATTACHED_FD_ENTRIES as u32
+        self.padding1 == 0 && self.num_regions >= 1 && self.num_regions <= MAX_MEM_REGIONS as u32
     }
 }
 
@@ -102,9 +101,9 @@ impl VhostUserMemoryRegion {
 }
 
 impl ByteValued for VhostUserMemoryRegion {
-    const SIZE: usize = 32;
+    const SIZE: usize = MEMORY_REGION_SIZE;
 
-    ghost SIZE = { 32 };
+    ghost SIZE = { MEMORY_REGION_SIZE };
 
     ghost text = { region_text };
 

@@ -1,5 +1,0 @@
-//! Texts, rings from outside, and each call through both wrappers.
-
-mod calls;
-mod errors;
-mod plain;
