@@ -5,6 +5,7 @@ use Rattle.std.specs.List.{list_all}
 use Rattle.std.proofs.lemmas.Nat.{and_comm, and_assoc}
 use Rattle.std.specs.Int.Bits.{and_self}
 use Rattle.byteorder.specs.Numbers.{little_number-reads_back}
+use Rattle.vhost_message.specs.declared.limits.TheConstants.{MAX_MEM_REGIONS}
 use Rattle.vhost_message.specs.Bits.{has_bit}
 use Rattle.vhost_message.specs.declared.frontend_req.FrontendReq.{FrontendReq}
 use Rattle.vhost_message.specs.declared.frontend_req.FrontendReq.TheVariants.{GET_FEATURES, SET_FEATURES, SET_MEM_TABLE, SET_PROTOCOL_FEATURES, POSTCOPY_LISTEN, POSTCOPY_END, ADD_MEM_REG, GET_QUEUE_NUM}
@@ -19,9 +20,14 @@ use Rattle.vhost_message.specs.declared.records.shmem.VhostUserShMemConfig.{Vhos
 use Rattle.vhost_message.specs.declared.records.vring.VhostUserVringState.{VhostUserVringState}
 use Rattle.vhost_message.specs.Records.{u64_at, single_region, single_region_of}
 use Rattle.vhost_message.specs.Text.{digits}
+use Rattle.vhost_protocol.specs.Error.{test}
 use Rattle.vhost_protocol.specs.Agreement.{IsNegotiated, IsKnown, AllKnown, StaysInStep, KeepsStep}
 use Rattle.vhost_protocol.specs.AnswerTable.{answered, after_success}
-use Rattle.vhost_protocol.specs.Ask.{Awaited, Nobody, Ack, Reply, Asked, Sends, ask, ack, message, quietly, sends, asks_quietly, param, regions_in, handles_in, is_usable, given, ◌>>◌, ◌>>=◌, Shape, AU64, AnEmpty, ARingState, AShmem, ALog, AConfig, AnInflight, TheRegions, ARegion}
+use Rattle.vhost_protocol.specs.Ask.{Asked, Sends, ask, awaited_ack, message, quietly, sends, asks_quietly, param, regions_in, handles_in, is_usable, given, ◌>>◌, ◌>>=◌}
+use Rattle.vhost_protocol.specs.declared.asked.Awaited.{Awaited}
+use Rattle.vhost_protocol.specs.declared.asked.Awaited.TheVariants.{Nobody, Ack, Reply}
+use Rattle.vhost_protocol.specs.declared.asked.Shape.{Shape}
+use Rattle.vhost_protocol.specs.declared.asked.Shape.TheVariants as shape
 use Rattle.vhost_protocol.specs.DeviceCall as device
 use Rattle.vhost_protocol.specs.Error.{Error, InvalidMessage, InactiveFeature, BackendInternalError}
 use Rattle.vhost_protocol.specs.Features.{PROTOCOL_FEATURES, REPLY_ACK}
@@ -31,7 +37,7 @@ use Rattle.vhost_protocol.specs.Row.{row, body, always, if_agreed, channel, is_v
 use Rattle.vhost_protocol.specs.Served.{Silent, Acknowledged}
 use Rattle.vhost_protocol.specs.Session.{Session, ack_on, is_listen}
 use Rattle.vhost_protocol.specs.Step as step
-use Rattle.vhost_protocol.specs.Step.{Outcome, Step, Calls, acked, silently, acknowledged}
+use Rattle.vhost_protocol.specs.Step.{Outcome, Step, Calls, with_ack, silently, acknowledged}
 use Rattle.vhost_protocol.specs.Split.{Message}
 use Rattle.vhost_protocol.specs.Written.{Empty, U64, Regions, OneRegion, RingState, Shmem, LogArea, ConfigBytes, Written, Payload}
 
@@ -48,14 +54,14 @@ module _ (H B G : Type 0) where
 
   -- an error in silence is known, and the last step
   known-silent : (call : FrontendCall H) (awaited : Awaited) (g : Frontend) (r : FrontendReq) (e : Error) (s : Session) → IsKnown call awaited g r (record { answer = Err e; served = Silent; session = s })
-  known-silent call Nobody g r e s = record { answered = _; known = refl; agree = λ last. absurd (cc last) }
-  known-silent call Ack g r e s = record { answered = _; known = refl; agree = λ last. absurd (cc last) }
-  known-silent call (Reply shape) g r e s = record { answered = _; known = refl; agree = λ last. absurd (cc last) }
+  known-silent call Nobody g r e s = record { to_caller = _; known = refl; agree = λ last. absurd (cc last) }
+  known-silent call Ack g r e s = record { to_caller = _; known = refl; agree = λ last. absurd (cc last) }
+  known-silent call (Reply shape) g r e s = record { to_caller = _; known = refl; agree = λ last. absurd (cc last) }
 
   -- ---- tests
 
   -- a test that refuses in silence
-  known-then : (call : FrontendCall H) (awaited : Awaited) (g : Frontend) (r : FrontendReq) (s : Session) (b : Bool) (e : Error) (next : Step H B G) → Row call awaited g r s next → Row call awaited g r s (step.◌>>◌ (step.test b (silently e)) next)
+  known-then : (call : FrontendCall H) (awaited : Awaited) (g : Frontend) (r : FrontendReq) (s : Session) (b : Bool) (e : Error) (next : Step H B G) → Row call awaited g r s next → Row call awaited g r s (step.◌>>◌ (test b (silently e)) next)
   known-then call awaited g r s true e next h = h
   known-then call awaited g r s false e next h = known-silent call awaited g r e s
 
@@ -70,7 +76,7 @@ module _ (H B G : Type 0) where
   -- ---- acknowledgements
 
   -- what the frontend waits for is what the handler writes
-  ack-agrees : (g : Frontend) (s : Session) → AgreeOn g s → IsNegotiated g → ack g ≡ cond (ack_on s && has_bit g.header_flags 3) Ack Nobody
+  ack-agrees : (g : Frontend) (s : Session) → AgreeOn g s → IsNegotiated g → awaited_ack g ≡ cond (ack_on s && has_bit g.header_flags 3) Ack Nobody
   ack-agrees g s agree on =
       both (has_bit g.acked_protocol_features REPLY_ACK) (has_bit g.offered PROTOCOL_FEATURES) (has_bit g.header_flags 3) on
       ∙ ap (λ x. cond (has_bit x PROTOCOL_FEATURES && has_bit g.acked_protocol_features REPLY_ACK && has_bit g.header_flags 3) Ack Nobody) agree.offered
@@ -85,40 +91,40 @@ module _ (H B G : Type 0) where
   -- an acknowledged answer
   known-acked : (A : Type 0) (call : FrontendCall H) (g : Frontend) (r : FrontendReq) (s : Session) (b : Bool) (a : Result A Error) → (is_ok a ≡ true → AgreeOn (after_success g call) s) → (is_ok a ≡ false → is_end r ≡ false → AgreeOn g s)
       → IsKnown call (cond b Ack Nobody) g r (record { answer = step.done a; served = cond b (Acknowledged (is_ok a)) Silent; session = s })
-  known-acked A call g r s true (Ok a) agreed refused = record { answered = _; known = refl; agree = λ last. agreed refl }
-  known-acked A call g r s true (Err e) agreed refused = record { answered = _; known = refl; agree = λ last. refused refl last }
-  known-acked A call g r s false (Ok a) agreed refused = record { answered = _; known = refl; agree = λ last. agreed refl }
-  known-acked A call g r s false (Err e) agreed refused = record { answered = _; known = refl; agree = λ last. absurd (cc last) }
+  known-acked A call g r s true (Ok a) agreed refused = record { to_caller = _; known = refl; agree = λ last. agreed refl }
+  known-acked A call g r s true (Err e) agreed refused = record { to_caller = _; known = refl; agree = λ last. refused refl last }
+  known-acked A call g r s false (Ok a) agreed refused = record { to_caller = _; known = refl; agree = λ last. agreed refl }
+  known-acked A call g r s false (Err e) agreed refused = record { to_caller = _; known = refl; agree = λ last. absurd (cc last) }
 
   -- the same, for a call that sends its session on
-  known-ack : (A : Type 0) (call : FrontendCall H) (f : Frontend) (t : Session) (w : Written FrontendReq H) (a : Result A Error) → ack f ≡ cond (ack_on t && has_bit f.header_flags 3) Ack Nobody → w.need_reply ≡ has_bit f.header_flags 3
+  known-ack : (A : Type 0) (call : FrontendCall H) (f : Frontend) (t : Session) (w : Written FrontendReq H) (a : Result A Error) → awaited_ack f ≡ cond (ack_on t && has_bit f.header_flags 3) Ack Nobody → w.need_reply ≡ has_bit f.header_flags 3
       → (is_ok a ≡ true → AgreeOn (after_success f call) t) → (is_ok a ≡ false → is_end w.request ≡ false → AgreeOn f t)
-      → IsKnown call (ack f) f w.request (acked t (read_as w) a)
+      → IsKnown call (awaited_ack f) f w.request (with_ack t (read_as w) a)
   known-ack A call f t w a same wants agreed refused =
-      subst (λ x. IsKnown call x f w.request (acked t (read_as w) a)) (sym (same ∙ ap (λ x. cond (ack_on t && x) Ack Nobody) (sym wants)))
+      subst (λ x. IsKnown call x f w.request (with_ack t (read_as w) a)) (sym (same ∙ ap (λ x. cond (ack_on t && x) Ack Nobody) (sym wants)))
       (known-acked A call f w.request t (ack_on t && w.need_reply) a agreed refused)
 
   -- and changes no session
-  known-same : (call : FrontendCall H) (f : Frontend) (s : Session) (r : FrontendReq) (payload : Payload) (handles : List H) (a : Result (Unit {0}) Error) → AgreeOn f s → IsNegotiated f → after_success f call ≡ f → IsKnown call (ack f) f r (acked s (read_as (message f r payload handles)) a)
+  known-same : (call : FrontendCall H) (f : Frontend) (s : Session) (r : FrontendReq) (payload : Payload) (handles : List H) (a : Result (Unit {0}) Error) → AgreeOn f s → IsNegotiated f → after_success f call ≡ f → IsKnown call (awaited_ack f) f r (with_ack s (read_as (message f r payload handles)) a)
   known-same call f s r payload handles a agree on same = known-ack (Unit {0}) call f s (message f r payload handles) a (ack-agrees f s agree on) refl (λ h. subst (λ x. AgreeOn x s) (sym same) agree) (λ h last. agree)
 
   -- an error that is acknowledged
   known-refused : (call : FrontendCall H) (f : Frontend) (s : Session) (r : FrontendReq) (payload : Payload) (handles : List H) (e : Error) (b : Bool) (next : Step H B G) → AgreeOn f s → IsNegotiated f → after_success f call ≡ f
-      → Row call (ack f) f r s next → Row call (ack f) f r s (step.◌>>◌ (step.test b (acknowledged s (read_as (message f r payload handles)) e)) next)
+      → Row call (awaited_ack f) f r s next → Row call (awaited_ack f) f r s (step.◌>>◌ (test b (acknowledged s (read_as (message f r payload handles)) e)) next)
   known-refused call f s r payload handles e true next agree on same h = h
   known-refused call f s r payload handles e false next agree on same h = known-same call f s r payload handles (Err e) agree on same
 
   -- a handle that may open no channel
   known-channel : (C : Type 0) (call : FrontendCall H) (f : Frontend) (s : Session) (r : FrontendReq) (payload : Payload) (handles : List H) (opened : Result C Error) (next : C → Step H B G) → AgreeOn f s → IsNegotiated f → after_success f call ≡ f
-      → ((c : C) → Row call (ack f) f r s (next c)) → Row call (ack f) f r s (step.◌>>=◌ (channel s (read_as (message f r payload handles)) opened) next)
+      → ((c : C) → Row call (awaited_ack f) f r s (next c)) → Row call (awaited_ack f) f r s (step.◌>>=◌ (channel s (read_as (message f r payload handles)) opened) next)
   known-channel C call f s r payload handles (Ok c) next agree on same h = h c
   known-channel C call f s r payload handles (Err e) next agree on same h = known-same call f s r payload handles (Err e) agree on same
 
   -- the handler's own answer goes nowhere
   known-unwritten : (call : FrontendCall H) (awaited : Awaited) (f : Frontend) (s : Session) (r : FrontendReq) (a : Result (Unit {0}) Error) → AgreeOn f s → after_success f call ≡ f → IsKnown call awaited f r (step.unwritten s a)
-  known-unwritten call Nobody f s r (Ok u) agree same = record { answered = _; known = refl; agree = λ last. subst (λ x. AgreeOn x s) (sym same) agree }
-  known-unwritten call Ack f s r (Ok u) agree same = record { answered = _; known = refl; agree = λ last. agree }
-  known-unwritten call (Reply shape) f s r (Ok u) agree same = record { answered = _; known = refl; agree = λ last. agree }
+  known-unwritten call Nobody f s r (Ok u) agree same = record { to_caller = _; known = refl; agree = λ last. subst (λ x. AgreeOn x s) (sym same) agree }
+  known-unwritten call Ack f s r (Ok u) agree same = record { to_caller = _; known = refl; agree = λ last. agree }
+  known-unwritten call (Reply shape) f s r (Ok u) agree same = record { to_caller = _; known = refl; agree = λ last. agree }
   known-unwritten call awaited f s r (Err e) agree same = known-silent call awaited f r e s
 
   -- ---- the frontend's tests
@@ -137,9 +143,9 @@ module _ (H B G : Type 0) where
 
   -- ---- replies
 
-  known-features : (f : Frontend) (s : Session) (a : Result ℕ Error) → AgreeOn f s → IsKnown {H = H} GetFeatures (Reply AU64) f GET_FEATURES (with_features s a)
-  known-features f s (Ok n) agree = record { answered = _; known = refl; agree = λ last. record { offered = refl; acked_protocol_features = agree.acked_protocol_features; postcopy = agree.postcopy; acked = agree.acked } }
-  known-features f s (Err e) agree = known-silent GetFeatures (Reply AU64) f GET_FEATURES e s
+  known-features : (f : Frontend) (s : Session) (a : Result ℕ Error) → AgreeOn f s → IsKnown {H = H} GetFeatures (Reply shape.U64) f GET_FEATURES (with_features s a)
+  known-features f s (Ok n) agree = record { to_caller = _; known = refl; agree = λ last. record { offered = refl; acked_protocol_features = agree.acked_protocol_features; postcopy = agree.postcopy; acked = agree.acked } }
+  known-features f s (Err e) agree = known-silent GetFeatures (Reply shape.U64) f GET_FEATURES e s
 
   -- a reply whose answer changes no session
   known-reply : (A : Type 0) (call : FrontendCall H) (shape : Shape) (f : Frontend) (s : Session) (r : FrontendReq) (payload : A → Payload) (a : Result A Error)
@@ -147,38 +153,38 @@ module _ (H B G : Type 0) where
   known-reply A call shape f s r payload (Ok x) h = h x
   known-reply A call shape f s r payload (Err e) h = known-silent call (Reply shape) f r e s
 
-  known-queues : (f : Frontend) (s : Session) (n : ℕ) → AgreeOn f s → IsKnown {H = H} GetQueueNum (Reply AU64) f GET_QUEUE_NUM (step.replied s (U64 n) [])
-  known-queues f s n agree = record { answered = _; known = refl; agree = λ last. go (nat_le n 0x8000) }
+  known-queues : (f : Frontend) (s : Session) (n : ℕ) → AgreeOn f s → IsKnown {H = H} GetQueueNum (Reply shape.U64) f GET_QUEUE_NUM (step.replied s (U64 n) [])
+  known-queues f s n agree = record { to_caller = _; known = refl; agree = λ last. go (nat_le n 0x8000) }
     where
       go : (b : Bool) → AgreeOn (cond b (answered {H = H} (record f { max_queue_num = n }) (Ok (Number n))) (answered f (Err InvalidMessage))).session s
       go true = record { offered = agree.offered; acked_protocol_features = agree.acked_protocol_features; postcopy = agree.postcopy; acked = agree.acked }
       go false = agree
 
   known-config : (call : FrontendCall H) (f : Frontend) (s : Session) (r : FrontendReq) (c : VhostUserConfig) (a : Result (List ℕ) Error)
-      → ((d : VhostUserConfig) (bytes : List ℕ) → IsKnown call (Reply AConfig) f r (step.replied s (ConfigBytes d bytes) [])) → IsKnown call (Reply AConfig) f r (with_config s c a)
+      → ((d : VhostUserConfig) (bytes : List ℕ) → IsKnown call (Reply shape.Config) f r (step.replied s (ConfigBytes d bytes) [])) → IsKnown call (Reply shape.Config) f r (with_config s c a)
   known-config call f s r c (Ok bytes) h = go (length bytes == c.size)
     where
-      go : (b : Bool) → IsKnown call (Reply AConfig) f r (cond b (step.replied s (ConfigBytes c bytes) []) (step.replied s (ConfigBytes (record c { size = 0 }) []) []))
+      go : (b : Bool) → IsKnown call (Reply shape.Config) f r (cond b (step.replied s (ConfigBytes c bytes) []) (step.replied s (ConfigBytes (record c { size = 0 }) []) []))
       go true = h c bytes
       go false = h (record c { size = 0 }) []
   known-config call f s r c (Err e) h = h (record c { size = 0 }) []
 
-  known-object : (f : Frontend) (s : Session) (r : FrontendReq) (name : VhostUserSharedMsg) (a : Result H Error) → AgreeOn f s → IsKnown (GetSharedObject name) (Reply AnEmpty) f r (with_handle s a)
-  known-object f s r name (Ok h) agree = record { answered = _; known = refl; agree = λ last. agree }
-  known-object f s r name (Err e) agree = record { answered = _; known = refl; agree = λ last. agree }
+  known-object : (f : Frontend) (s : Session) (r : FrontendReq) (name : VhostUserSharedMsg) (a : Result H Error) → AgreeOn f s → IsKnown (GetSharedObject name) (Reply shape.Empty) f r (with_handle s a)
+  known-object f s r name (Ok h) agree = record { to_caller = _; known = refl; agree = λ last. agree }
+  known-object f s r name (Err e) agree = record { to_caller = _; known = refl; agree = λ last. agree }
 
-  known-inflight : (f : Frontend) (s : Session) (r : FrontendReq) (asked : VhostUserInflight) (a : Result (VhostUserInflight × H) Error) → AgreeOn f s → IsKnown (GetInflightFd asked) (Reply AnInflight) f r (with_inflight s a)
-  known-inflight f s r asked (Ok x) agree = record { answered = _; known = refl; agree = λ last. agree }
-  known-inflight f s r asked (Err e) agree = known-silent (GetInflightFd asked) (Reply AnInflight) f r e s
+  known-inflight : (f : Frontend) (s : Session) (r : FrontendReq) (asked : VhostUserInflight) (a : Result (VhostUserInflight × H) Error) → AgreeOn f s → IsKnown (GetInflightFd asked) (Reply shape.Inflight) f r (with_inflight s a)
+  known-inflight f s r asked (Ok x) agree = record { to_caller = _; known = refl; agree = λ last. agree }
+  known-inflight f s r asked (Err e) agree = known-silent (GetInflightFd asked) (Reply shape.Inflight) f r e s
 
-  known-state : (f : Frontend) (s : Session) (r : FrontendReq) (t : VhostUserTransferDeviceState) (h : H) (a : Result (Option H) Error) → AgreeOn f s → IsKnown (SetDeviceStateFd t h) (Reply AU64) f r (with_state s a)
-  known-state f s r t h (Ok (Some g)) agree = record { answered = _; known = refl; agree = λ last. agree }
-  known-state f s r t h (Ok None) agree = record { answered = _; known = refl; agree = λ last. agree }
-  known-state f s r t h (Err e) agree = record { answered = _; known = refl; agree = λ last. agree }
+  known-state : (f : Frontend) (s : Session) (r : FrontendReq) (t : VhostUserTransferDeviceState) (h : H) (a : Result (Option H) Error) → AgreeOn f s → IsKnown (SetDeviceStateFd t h) (Reply shape.U64) f r (with_state s a)
+  known-state f s r t h (Ok (Some g)) agree = record { to_caller = _; known = refl; agree = λ last. agree }
+  known-state f s r t h (Ok None) agree = record { to_caller = _; known = refl; agree = λ last. agree }
+  known-state f s r t h (Err e) agree = record { to_caller = _; known = refl; agree = λ last. agree }
 
-  known-check : (f : Frontend) (s : Session) (r : FrontendReq) (a : Result (Unit {0}) Error) → AgreeOn f s → IsKnown {H = H} CheckDeviceState (Reply AU64) f r (with_check s a)
-  known-check f s r (Ok u) agree = record { answered = _; known = refl; agree = λ last. agree }
-  known-check f s r (Err e) agree = record { answered = _; known = refl; agree = λ last. agree }
+  known-check : (f : Frontend) (s : Session) (r : FrontendReq) (a : Result (Unit {0}) Error) → AgreeOn f s → IsKnown {H = H} CheckDeviceState (Reply shape.U64) f r (with_check s a)
+  known-check f s r (Ok u) agree = record { to_caller = _; known = refl; agree = λ last. agree }
+  known-check f s r (Err e) agree = record { to_caller = _; known = refl; agree = λ last. agree }
 
   ruleset silent = (ask-then, ask-given, ask-cond, known-silent, known-then, known-if, known-cond)
 
@@ -192,8 +198,8 @@ module _ (H B G : Type 0) where
   simple-protocol_features : (f : Frontend) (s : Session) → AgreeOn f s → IsNegotiated f → Stays s GetProtocolFeatures (ask f GetProtocolFeatures)
   simple-protocol_features f s agree on = search (silent, known-reply, back) depth 12
     where
-      back : (r : FrontendReq) (n : ℕ) → IsKnown {H = H} GetProtocolFeatures (Reply AU64) f r (step.replied s (U64 n) [])
-      back r n = record { answered = _; known = refl; agree = λ last. agree }
+      back : (r : FrontendReq) (n : ℕ) → IsKnown {H = H} GetProtocolFeatures (Reply shape.U64) f r (step.replied s (U64 n) [])
+      back r n = record { to_caller = _; known = refl; agree = λ last. agree }
 
   simple-queues : (f : Frontend) (s : Session) → AgreeOn f s → IsNegotiated f → Stays s GetQueueNum (ask f GetQueueNum)
   simple-queues f s agree on = search (silent, known-reply, known-queues) depth 12
@@ -201,26 +207,26 @@ module _ (H B G : Type 0) where
   simple-slots : (f : Frontend) (s : Session) → AgreeOn f s → IsNegotiated f → Stays s GetMaxMemSlots (ask f GetMaxMemSlots)
   simple-slots f s agree on = search (silent, known-reply, back) depth 12
     where
-      back : (r : FrontendReq) (n : ℕ) → IsKnown {H = H} GetMaxMemSlots (Reply AU64) f r (step.replied s (U64 n) [])
-      back r n = record { answered = _; known = refl; agree = λ last. agree }
+      back : (r : FrontendReq) (n : ℕ) → IsKnown {H = H} GetMaxMemSlots (Reply shape.U64) f r (step.replied s (U64 n) [])
+      back r n = record { to_caller = _; known = refl; agree = λ last. agree }
 
   simple-get_base : (f : Frontend) (s : Session) (i : ℕ) → AgreeOn f s → IsNegotiated f → Stays s (GetVringBase i) (ask f (GetVringBase i))
   simple-get_base f s i agree on = search (silent, known-reply, back) depth 12
     where
-      back : (r : FrontendReq) (v : VhostUserVringState) → IsKnown {H = H} (GetVringBase i) (Reply ARingState) f r (step.replied s (RingState v) [])
-      back r v = record { answered = _; known = refl; agree = λ last. agree }
+      back : (r : FrontendReq) (v : VhostUserVringState) → IsKnown {H = H} (GetVringBase i) (Reply shape.VringState) f r (step.replied s (RingState v) [])
+      back r v = record { to_caller = _; known = refl; agree = λ last. agree }
 
   simple-shmem : (f : Frontend) (s : Session) → AgreeOn f s → IsNegotiated f → Stays s GetShmemConfig (ask f GetShmemConfig)
   simple-shmem f s agree on = search (silent, known-reply, back) depth 12
     where
-      back : (r : FrontendReq) (c : VhostUserShMemConfig) → IsKnown {H = H} GetShmemConfig (Reply AShmem) f r (step.replied s (Shmem c) [])
-      back r c = record { answered = _; known = refl; agree = λ last. agree }
+      back : (r : FrontendReq) (c : VhostUserShMemConfig) → IsKnown {H = H} GetShmemConfig (Reply shape.ShMemConfig) f r (step.replied s (Shmem c) [])
+      back r c = record { to_caller = _; known = refl; agree = λ last. agree }
 
   simple-log : (f : Frontend) (s : Session) (base : ℕ) (r : LogRegion H) → AgreeOn f s → IsNegotiated f → Stays s (SetLogBase base (Some r)) (ask f (SetLogBase base (Some r)))
   simple-log f s base r agree on = search (silent, known-reply, back) depth 12
     where
-      back : (q : FrontendReq) (l : VhostUserLog) → IsKnown {H = H} (SetLogBase base (Some r)) (Reply ALog) f q (step.replied s (LogArea l) [])
-      back q l = record { answered = _; known = refl; agree = λ last. agree }
+      back : (q : FrontendReq) (l : VhostUserLog) → IsKnown {H = H} (SetLogBase base (Some r)) (Reply shape.Log) f q (step.replied s (LogArea l) [])
+      back q l = record { to_caller = _; known = refl; agree = λ last. agree }
 
   simple-no_log : (f : Frontend) (s : Session) (base : ℕ) → AgreeOn f s → IsNegotiated f → Stays s (SetLogBase base None) (ask f (SetLogBase base None))
   simple-no_log f s base agree on = search silent depth 12
@@ -228,17 +234,17 @@ module _ (H B G : Type 0) where
   simple-get_config : (f : Frontend) (s : Session) (o n flags : ℕ) (buffer : List ℕ) → AgreeOn f s → IsNegotiated f → Stays s (GetConfig o n flags buffer) (ask f (GetConfig o n flags buffer))
   simple-get_config f s o n flags buffer agree on = search (silent, known-config, back) depth 12
     where
-      back : (r : FrontendReq) (c : VhostUserConfig) (bytes : List ℕ) → IsKnown {H = H} (GetConfig o n flags buffer) (Reply AConfig) f r (step.replied s (ConfigBytes c bytes) [])
-      back r c bytes = record { answered = _; known = refl; agree = λ last. agree }
+      back : (r : FrontendReq) (c : VhostUserConfig) (bytes : List ℕ) → IsKnown {H = H} (GetConfig o n flags buffer) (Reply shape.Config) f r (step.replied s (ConfigBytes c bytes) [])
+      back r c bytes = record { to_caller = _; known = refl; agree = λ last. agree }
 
   -- ---- postcopy
 
   simple-advise : (f : Frontend) (s : Session) → AgreeOn f s → IsNegotiated f → Stays s PostcopyAdvise (ask f PostcopyAdvise)
   simple-advise f s agree on = search (silent, advised) depth 12
     where
-      advised : (r : FrontendReq) (a : Result H Error) → IsKnown PostcopyAdvise (Reply AnEmpty) f r (with_handle (if_agreed s Advise a) a)
-      advised r (Ok h) = record { answered = _; known = refl; agree = λ last. record { offered = agree.offered; acked_protocol_features = agree.acked_protocol_features; postcopy = refl; acked = agree.acked } }
-      advised r (Err e) = record { answered = _; known = refl; agree = λ last. agree }
+      advised : (r : FrontendReq) (a : Result H Error) → IsKnown PostcopyAdvise (Reply shape.Empty) f r (with_handle (if_agreed s Advise a) a)
+      advised r (Ok h) = record { to_caller = _; known = refl; agree = λ last. record { offered = agree.offered; acked_protocol_features = agree.acked_protocol_features; postcopy = refl; acked = agree.acked } }
+      advised r (Err e) = record { to_caller = _; known = refl; agree = λ last. agree }
 
   -- where the handler listens, so does the frontend; a refused start leaves both as they were
   simple-listen : (f : Frontend) (s : Session) → AgreeOn f s → IsNegotiated f → Stays s PostcopyListen (ask f PostcopyListen)
@@ -247,7 +253,7 @@ module _ (H B G : Type 0) where
       w : Written FrontendReq H
       w = message f POSTCOPY_LISTEN Empty []
 
-      listened : (a : Result (Unit {0}) Error) → IsKnown PostcopyListen (ack f) f POSTCOPY_LISTEN (acked (if_agreed s Listen a) (read_as w) a)
+      listened : (a : Result (Unit {0}) Error) → IsKnown PostcopyListen (awaited_ack f) f POSTCOPY_LISTEN (with_ack (if_agreed s Listen a) (read_as w) a)
       listened (Ok u) = known-ack (Unit {0}) PostcopyListen f (record s { postcopy = Listen }) w (Ok u) (ack-agrees f s agree on) refl
           (λ h. record { offered = agree.offered; acked_protocol_features = agree.acked_protocol_features; postcopy = refl; acked = agree.acked }) (λ h last. absurd (cc h))
       listened (Err e) = known-ack (Unit {0}) PostcopyListen f s w (Err e) (ack-agrees f s agree on) refl (λ h. absurd (cc h)) (λ h last. agree)
@@ -259,7 +265,7 @@ module _ (H B G : Type 0) where
       w : Written FrontendReq H
       w = message f POSTCOPY_END Empty []
 
-      ended : (a : Result (Unit {0}) Error) → IsKnown PostcopyEnd (ack f) f POSTCOPY_END (acked (record s { postcopy = End }) (read_as w) a)
+      ended : (a : Result (Unit {0}) Error) → IsKnown PostcopyEnd (awaited_ack f) f POSTCOPY_END (with_ack (record s { postcopy = End }) (read_as w) a)
       ended a = known-ack (Unit {0}) PostcopyEnd f (record s { postcopy = End }) w a (ack-agrees f s agree on) refl
           (λ h. record { offered = agree.offered; acked_protocol_features = agree.acked_protocol_features; postcopy = refl; acked = agree.acked }) (λ h last. absurd (cc last))
 
@@ -277,8 +283,8 @@ module _ (H B G : Type 0) where
       both : AgreeOn g (record s { acked = n })
       both = record { offered = agree.offered; acked_protocol_features = agree.acked_protocol_features; postcopy = agree.postcopy; acked = acked-stays n f.offered }
 
-      stored : (a : Result (Unit {0}) Error) → IsKnown {H = H} (SetFeatures n) (ack g) g SET_FEATURES (acked (record s { acked = u64_at 0 (digits 8 n) }) (read_as w) a)
-      stored a = subst (λ k. IsKnown {H = H} (SetFeatures n) (ack g) g SET_FEATURES (acked (record s { acked = k }) (read_as w) a)) (sym (little_number-reads_back 8 n [] fits))
+      stored : (a : Result (Unit {0}) Error) → IsKnown {H = H} (SetFeatures n) (awaited_ack g) g SET_FEATURES (with_ack (record s { acked = u64_at 0 (digits 8 n) }) (read_as w) a)
+      stored a = subst (λ k. IsKnown {H = H} (SetFeatures n) (awaited_ack g) g SET_FEATURES (with_ack (record s { acked = k }) (read_as w) a)) (sym (little_number-reads_back 8 n [] fits))
           (known-ack (Unit {0}) (SetFeatures n) g (record s { acked = n }) w a (ack-agrees f s agree on) refl (λ h. both) (λ h last. both))
 
   simple-set_protocol_features : (f : Frontend) (s : Session) (n : ℕ) → n < 2 ^ 64 → AgreeOn f s → Stays s (SetProtocolFeatures n) (ask f (SetProtocolFeatures n))
@@ -293,14 +299,14 @@ module _ (H B G : Type 0) where
       both : AgreeOn g (record s { acked_protocol_features = n })
       both = record { offered = agree.offered; acked_protocol_features = refl; postcopy = agree.postcopy; acked = agree.acked }
 
-      stored : has_bit f.offered PROTOCOL_FEATURES ≡ true → (a : Result (Unit {0}) Error) → IsKnown {H = H} (SetProtocolFeatures n) (ack g) g SET_PROTOCOL_FEATURES (acked (record s { acked_protocol_features = u64_at 0 (digits 8 n) }) (read_as w) a)
-      stored offers a = subst (λ k. IsKnown {H = H} (SetProtocolFeatures n) (ack g) g SET_PROTOCOL_FEATURES (acked (record s { acked_protocol_features = k }) (read_as w) a)) (sym (little_number-reads_back 8 n [] fits))
+      stored : has_bit f.offered PROTOCOL_FEATURES ≡ true → (a : Result (Unit {0}) Error) → IsKnown {H = H} (SetProtocolFeatures n) (awaited_ack g) g SET_PROTOCOL_FEATURES (with_ack (record s { acked_protocol_features = u64_at 0 (digits 8 n) }) (read_as w) a)
+      stored offers a = subst (λ k. IsKnown {H = H} (SetProtocolFeatures n) (awaited_ack g) g SET_PROTOCOL_FEATURES (with_ack (record s { acked_protocol_features = k }) (read_as w) a)) (sym (little_number-reads_back 8 n [] fits))
           (known-ack (Unit {0}) (SetProtocolFeatures n) g (record s { acked_protocol_features = n }) w a (ack-agrees g (record s { acked_protocol_features = n }) both (λ on. offers)) refl (λ h. both) (λ h last. both))
 
-      served : has_bit f.offered PROTOCOL_FEATURES ≡ true → Row (SetProtocolFeatures n) (ack g) g SET_PROTOCOL_FEATURES s (row s (read_as w))
+      served : has_bit f.offered PROTOCOL_FEATURES ≡ true → Row (SetProtocolFeatures n) (awaited_ack g) g SET_PROTOCOL_FEATURES s (row s (read_as w))
       served offers = search (silent, stored) depth 12
 
-      go : (b : Bool) → has_bit f.offered PROTOCOL_FEATURES ≡ b → Stays s (SetProtocolFeatures n) (cond b (Ok tt) (Err (InactiveFeature (2 ^ PROTOCOL_FEATURES))) >> Sends w (ack g) g)
+      go : (b : Bool) → has_bit f.offered PROTOCOL_FEATURES ≡ b → Stays s (SetProtocolFeatures n) (cond b (Ok tt) (Err (InactiveFeature (2 ^ PROTOCOL_FEATURES))) >> Sends w (awaited_ack g) g)
       go true offers = served offers
       go false closed = tt
 
@@ -312,42 +318,42 @@ module _ (H B G : Type 0) where
   known-hushed call awaited g r e s false agreed = known-silent call awaited g r e s
 
   known-hushed_then : (call : FrontendCall H) (awaited : Awaited) (g : Frontend) (s : Session) (r : FrontendReq) (payload : Payload) (handles : List H) (e : Error) (b : Bool) (next : Step H B G)
-      → Row call awaited g r s next → Row call awaited g r s (step.◌>>◌ (step.test b (acknowledged s (read_as (quietly g r payload handles)) e)) next)
+      → Row call awaited g r s next → Row call awaited g r s (step.◌>>◌ (test b (acknowledged s (read_as (quietly g r payload handles)) e)) next)
   known-hushed_then call awaited g s r payload handles e true next h = h
   known-hushed_then call awaited g s r payload handles e false next h = known-hushed call awaited g r e s (ack_on s) false
 
   -- and so is an agreement
   known-hushed_ack : (call : FrontendCall H) (g : Frontend) (s : Session) (r : FrontendReq) (payload : Payload) (handles : List H) (a : Result (Unit {0}) Error) → AgreeOn g s → after_success g call ≡ g
-      → IsKnown call Nobody g r (acked s (read_as (quietly g r payload handles)) a)
+      → IsKnown call Nobody g r (with_ack s (read_as (quietly g r payload handles)) a)
   known-hushed_ack call g s r payload handles (Ok u) agree same = hush (ack_on s)
     where
       hush : (on : Bool) → IsKnown call Nobody g r (record { answer = Ok tt; served = cond (on && false) (Acknowledged true) Silent; session = s })
-      hush true = record { answered = _; known = refl; agree = λ last. subst (λ x. AgreeOn x s) (sym same) agree }
-      hush false = record { answered = _; known = refl; agree = λ last. subst (λ x. AgreeOn x s) (sym same) agree }
+      hush true = record { to_caller = _; known = refl; agree = λ last. subst (λ x. AgreeOn x s) (sym same) agree }
+      hush false = record { to_caller = _; known = refl; agree = λ last. subst (λ x. AgreeOn x s) (sym same) agree }
   known-hushed_ack call g s r payload handles (Err e) agree same = known-hushed call Nobody g r e s (ack_on s) false
 
   -- what a device answers about a region reaches no session
-  known-plain : (call : FrontendCall H) (f : Frontend) (s : Session) (r : FrontendReq) (payload : Payload) (handles : List H) (A : Type 0) (a : Result (Option A) Error) → AgreeOn f s → IsNegotiated f → after_success f call ≡ f → IsKnown call (ack f) f r (acked s (read_as (message f r payload handles)) a)
+  known-plain : (call : FrontendCall H) (f : Frontend) (s : Session) (r : FrontendReq) (payload : Payload) (handles : List H) (A : Type 0) (a : Result (Option A) Error) → AgreeOn f s → IsNegotiated f → after_success f call ≡ f → IsKnown call (awaited_ack f) f r (with_ack s (read_as (message f r payload handles)) a)
   known-plain call f s r payload handles A a agree on same = known-ack (Option A) call f s (message f r payload handles) a (ack-agrees f s agree on) refl (λ h. subst (λ x. AgreeOn x s) (sym same) agree) (λ h last. agree)
 
   known-bases : (f : Frontend) (s : Session) (infos : List (Info H)) (payload : Payload) (handles : List H) (a : Result (Option (List ℕ)) Error) → AgreeOn f s
-      → IsKnown (SetMemTable infos) (Reply TheRegions) f SET_MEM_TABLE (with_bases s (read_as (quietly f SET_MEM_TABLE payload handles)) a)
+      → IsKnown (SetMemTable infos) (Reply shape.Memory) f SET_MEM_TABLE (with_bases s (read_as (quietly f SET_MEM_TABLE payload handles)) a)
   known-bases f s infos payload handles (Ok (Some bases)) agree = go (length bases == length (table m))
     where
       m : Message FrontendReq H
       m = read_as (quietly f SET_MEM_TABLE payload handles)
 
-      go : (b : Bool) → IsKnown (SetMemTable infos) (Reply TheRegions) f SET_MEM_TABLE (cond b (step.replied s (Regions (rebased (table m) bases)) []) (step.failed_with s m BackendInternalError))
-      go true = record { answered = _; known = refl; agree = λ last. agree }
-      go false = known-hushed (SetMemTable infos) (Reply TheRegions) f SET_MEM_TABLE BackendInternalError s (ack_on s) false
-  known-bases f s infos payload handles (Ok None) agree = known-hushed (SetMemTable infos) (Reply TheRegions) f SET_MEM_TABLE BackendInternalError s (ack_on s) false
-  known-bases f s infos payload handles (Err e) agree = known-hushed (SetMemTable infos) (Reply TheRegions) f SET_MEM_TABLE e s (ack_on s) false
+      go : (b : Bool) → IsKnown (SetMemTable infos) (Reply shape.Memory) f SET_MEM_TABLE (cond b (step.replied s (Regions (rebased (table m) bases)) []) (step.failed_with s m BackendInternalError))
+      go true = record { to_caller = _; known = refl; agree = λ last. agree }
+      go false = known-hushed (SetMemTable infos) (Reply shape.Memory) f SET_MEM_TABLE BackendInternalError s (ack_on s) false
+  known-bases f s infos payload handles (Ok None) agree = known-hushed (SetMemTable infos) (Reply shape.Memory) f SET_MEM_TABLE BackendInternalError s (ack_on s) false
+  known-bases f s infos payload handles (Err e) agree = known-hushed (SetMemTable infos) (Reply shape.Memory) f SET_MEM_TABLE e s (ack_on s) false
 
   known-base : (f : Frontend) (s : Session) (info : Info H) (payload : Payload) (handles : List H) (r : VhostUserSingleMemoryRegion) (a : Result (Option ℕ) Error) → AgreeOn f s
-      → IsKnown (AddMemRegion info) (Reply ARegion) f ADD_MEM_REG (with_base s (read_as (quietly f ADD_MEM_REG payload handles)) r a)
-  known-base f s info payload handles r (Ok (Some base)) agree = record { answered = _; known = refl; agree = λ last. agree }
-  known-base f s info payload handles r (Ok None) agree = known-hushed (AddMemRegion info) (Reply ARegion) f ADD_MEM_REG BackendInternalError s (ack_on s) false
-  known-base f s info payload handles r (Err e) agree = known-hushed (AddMemRegion info) (Reply ARegion) f ADD_MEM_REG e s (ack_on s) false
+      → IsKnown (AddMemRegion info) (Reply shape.SingleMemoryRegion) f ADD_MEM_REG (with_base s (read_as (quietly f ADD_MEM_REG payload handles)) r a)
+  known-base f s info payload handles r (Ok (Some base)) agree = record { to_caller = _; known = refl; agree = λ last. agree }
+  known-base f s info payload handles r (Ok None) agree = known-hushed (AddMemRegion info) (Reply shape.SingleMemoryRegion) f ADD_MEM_REG BackendInternalError s (ack_on s) false
+  known-base f s info payload handles r (Err e) agree = known-hushed (AddMemRegion info) (Reply shape.SingleMemoryRegion) f ADD_MEM_REG e s (ack_on s) false
 
   -- both listen, or neither does
   listens-alike : (f : Frontend) (s : Session) → AgreeOn f s → is_listen f.postcopy ≡ is_listen s.postcopy
@@ -355,17 +361,17 @@ module _ (H B G : Type 0) where
 
   simple-mem_table : (f : Frontend) (s : Session) (infos : List (Info H)) → AgreeOn f s → IsNegotiated f → Stays s (SetMemTable infos) (ask f (SetMemTable infos))
   simple-mem_table f s infos agree on =
-      ask-then s (SetMemTable infos) (param (nat_le 1 (length infos) && nat_le (length infos) 32 && list_all is_usable infos)) (sent (is_listen f.postcopy))
+      ask-then s (SetMemTable infos) (param (nat_le 1 (length infos) && nat_le (length infos) MAX_MEM_REGIONS && list_all is_usable infos)) (sent (is_listen f.postcopy))
       (go (is_listen f.postcopy) (listens-alike f s agree))
     where
       payload : Payload
       payload = Regions (regions_in infos)
 
       sent : Bool → Asked H
-      sent b = cond b (asks_quietly f SET_MEM_TABLE payload (handles_in infos) TheRegions) (sends f SET_MEM_TABLE payload (handles_in infos))
+      sent b = cond b (asks_quietly f SET_MEM_TABLE payload (handles_in infos) shape.Memory) (sends f SET_MEM_TABLE payload (handles_in infos))
 
       listening : Message FrontendReq H → Bool → Step H B G
-      listening m b = cond (b && length m.body == 8) (mapped_row s m) (step.◌>>◌ (step.test (is_valid_table m) (acknowledged s m InvalidMessage)) (cond b (Calls (device.SetMemTable (table m) m.handles (Some true)) (with_bases s m)) (Calls (device.SetMemTable (table m) m.handles (Some false)) (acked s m))))
+      listening m b = cond (b && length m.body == 8) (mapped_row s m) (step.◌>>◌ (test (is_valid_table m) (acknowledged s m InvalidMessage)) (cond b (Calls (device.SetMemTable (table m) m.handles (Some true)) (with_bases s m)) (Calls (device.SetMemTable (table m) m.handles (Some false)) (with_ack s m))))
 
       aloud : Message FrontendReq H
       aloud = read_as (message f SET_MEM_TABLE payload (handles_in infos))
@@ -374,8 +380,8 @@ module _ (H B G : Type 0) where
       hushed = read_as (quietly f SET_MEM_TABLE payload (handles_in infos))
 
       go : (b : Bool) → b ≡ is_listen s.postcopy → Stays s (SetMemTable infos) (sent b)
-      go true same = subst (λ b. Row (SetMemTable infos) (Reply TheRegions) f SET_MEM_TABLE s (listening hushed b)) same (search (silent, known-unwritten, known-hushed_then, known-bases) depth 12)
-      go false same = subst (λ b. Row (SetMemTable infos) (ack f) f SET_MEM_TABLE s (listening aloud b)) same (search (silent, known-refused, known-plain) depth 12)
+      go true same = subst (λ b. Row (SetMemTable infos) (Reply shape.Memory) f SET_MEM_TABLE s (listening hushed b)) same (search (silent, known-unwritten, known-hushed_then, known-bases) depth 12)
+      go false same = subst (λ b. Row (SetMemTable infos) (awaited_ack f) f SET_MEM_TABLE s (listening aloud b)) same (search (silent, known-refused, known-plain) depth 12)
 
   simple-add_region : (f : Frontend) (s : Session) (info : Info H) → AgreeOn f s → IsNegotiated f → Stays s (AddMemRegion info) (ask f (AddMemRegion info))
   simple-add_region f s info agree on = search (silent, sent) depth 12
@@ -385,15 +391,15 @@ module _ (H B G : Type 0) where
 
       listening : Message FrontendReq H → Bool → H → Step H B G
       listening m b h = cond (b && length m.body == 8) (mapped_row s m) (step.◌>>=◌ (body 40 single_region_of always m)
-          (λ r. cond b (Calls (device.AddMemRegion r h (Some true)) (with_base s m r)) (Calls (device.AddMemRegion r h (Some false)) (acked s m))))
+          (λ r. cond b (Calls (device.AddMemRegion r h (Some true)) (with_base s m r)) (Calls (device.AddMemRegion r h (Some false)) (with_ack s m))))
 
-      go : (h : H) (b : Bool) → b ≡ is_listen s.postcopy → Stays s (AddMemRegion info) (cond b (asks_quietly f ADD_MEM_REG payload (h ∷ []) ARegion) (sends f ADD_MEM_REG payload (h ∷ [])))
-      go h true same = known-then (AddMemRegion info) (Reply ARegion) f ADD_MEM_REG s _ _ _
-          (subst (λ b. Row (AddMemRegion info) (Reply ARegion) f ADD_MEM_REG s (listening (read_as (quietly f ADD_MEM_REG payload (h ∷ []))) b h)) same (search (silent, known-base) depth 12))
-      go h false same = known-then (AddMemRegion info) (ack f) f ADD_MEM_REG s _ _ _
-          (subst (λ b. Row (AddMemRegion info) (ack f) f ADD_MEM_REG s (listening (read_as (message f ADD_MEM_REG payload (h ∷ []))) b h)) same (search (silent, known-plain) depth 12))
+      go : (h : H) (b : Bool) → b ≡ is_listen s.postcopy → Stays s (AddMemRegion info) (cond b (asks_quietly f ADD_MEM_REG payload (h ∷ []) shape.SingleMemoryRegion) (sends f ADD_MEM_REG payload (h ∷ [])))
+      go h true same = known-then (AddMemRegion info) (Reply shape.SingleMemoryRegion) f ADD_MEM_REG s _ _ _
+          (subst (λ b. Row (AddMemRegion info) (Reply shape.SingleMemoryRegion) f ADD_MEM_REG s (listening (read_as (quietly f ADD_MEM_REG payload (h ∷ []))) b h)) same (search (silent, known-base) depth 12))
+      go h false same = known-then (AddMemRegion info) (awaited_ack f) f ADD_MEM_REG s _ _ _
+          (subst (λ b. Row (AddMemRegion info) (awaited_ack f) f ADD_MEM_REG s (listening (read_as (message f ADD_MEM_REG payload (h ∷ []))) b h)) same (search (silent, known-plain) depth 12))
 
-      sent : (h : H) → Stays s (AddMemRegion info) (cond (is_listen f.postcopy) (asks_quietly f ADD_MEM_REG payload (h ∷ []) ARegion) (sends f ADD_MEM_REG payload (h ∷ [])))
+      sent : (h : H) → Stays s (AddMemRegion info) (cond (is_listen f.postcopy) (asks_quietly f ADD_MEM_REG payload (h ∷ []) shape.SingleMemoryRegion) (sends f ADD_MEM_REG payload (h ∷ [])))
       sent h = go h (is_listen f.postcopy) (listens-alike f s agree)
 
   -- the frontend says that it has mapped the regions, and awaits nothing
@@ -404,9 +410,9 @@ module _ (H B G : Type 0) where
       m = read_as (quietly f SET_MEM_TABLE (U64 0) [])
 
       listening : Bool → Step H B G
-      listening b = cond (b && true) (mapped_row s m) (step.◌>>◌ (step.test (is_valid_table m) (acknowledged s m InvalidMessage)) (cond b (Calls (device.SetMemTable (table m) m.handles (Some true)) (with_bases s m)) (Calls (device.SetMemTable (table m) m.handles (Some false)) (acked s m))))
+      listening b = cond (b && true) (mapped_row s m) (step.◌>>◌ (test (is_valid_table m) (acknowledged s m InvalidMessage)) (cond b (Calls (device.SetMemTable (table m) m.handles (Some true)) (with_bases s m)) (Calls (device.SetMemTable (table m) m.handles (Some false)) (with_ack s m))))
 
-      dropped : (A : Type 0) (a : Result A Error) → IsKnown {H = H} (PostcopyAckMemRegions SET_MEM_TABLE) Nobody f SET_MEM_TABLE (acked s m a)
+      dropped : (A : Type 0) (a : Result A Error) → IsKnown {H = H} (PostcopyAckMemRegions SET_MEM_TABLE) Nobody f SET_MEM_TABLE (with_ack s m a)
       dropped A (Ok x) = known-hushed_ack (PostcopyAckMemRegions SET_MEM_TABLE) f s SET_MEM_TABLE (U64 0) [] (Ok tt) agree refl
       dropped A (Err e) = known-hushed (PostcopyAckMemRegions SET_MEM_TABLE) Nobody f SET_MEM_TABLE e s (ack_on s) false
 

@@ -2,7 +2,8 @@
 use Rattle.std.proofs.Common.{◌≡◌, Result, sym, ◌∙◌, ap, subst}
 use Rattle.vhost_message.specs.declared.frontend_req.FrontendReq.{FrontendReq}
 use Rattle.vhost_protocol.specs.Agreement.{KeepsMark, IsKnown, AllKnown, IsNegotiated, Fits, StaysInStep}
-use Rattle.vhost_protocol.specs.Ask.{Awaited, Sends, ask}
+use Rattle.vhost_protocol.specs.Ask.{Sends, ask}
+use Rattle.vhost_protocol.specs.declared.asked.Awaited.{Awaited}
 use Rattle.vhost_protocol.specs.DeviceCall.{Call, Answer}
 use Rattle.vhost_protocol.specs.Error.{Error}
 use Rattle.vhost_protocol.specs.FrontendCall.{FrontendCall, Frontend}

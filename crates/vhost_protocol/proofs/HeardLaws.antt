@@ -6,6 +6,7 @@ use Rattle.std.proofs.lemmas.Bool.{leb-true, eq-eqb}
 use Rattle.std.specs.List.{list_all}
 use Rattle.std.proofs.lemmas.List.{length-map, append-nil}
 use Rattle.std.proofs.lemmas.List.Elements.{All-head, All-tail, All-cons, All-nil}
+use Rattle.vhost_message.specs.declared.limits.TheConstants.{MAX_MEM_REGIONS, MAX_MSG_SIZE, VHOST_USER_CONFIG_SIZE}
 use Rattle.vhost_message.specs.declared.frontend_req.FrontendReq.{FrontendReq}
 use Rattle.vhost_message.specs.declared.records.config.VhostUserConfig.{VhostUserConfig}
 use Rattle.vhost_message.specs.declared.records.inflight.VhostUserInflight.{VhostUserInflight}
@@ -16,7 +17,11 @@ use Rattle.vhost_message.specs.declared.records.shmem.VhostUserShMemConfig.{Vhos
 use Rattle.vhost_message.specs.declared.records.vring.VhostUserVringState.{VhostUserVringState}
 use Rattle.vhost_message.specs.LongRecords.{ShMemConfigFits}
 use Rattle.vhost_message.specs.RecordLaws.{log-reads_back, single_region-reads_back, SingleRegionFits, RegionFits, VringStateFits, InflightFits, ConfigFits, LogFits}
-use Rattle.vhost_protocol.specs.Ask.{Awaited, Nobody, Ack, Reply, Asked, TheRegions, AConfig, asks, sends, asks_quietly, ask, param, message, quietly, log_area, regions_in, handles_in, is_usable, config, given, ◌>>◌, ◌>>=◌}
+use Rattle.vhost_protocol.specs.Error.{test}
+use Rattle.vhost_protocol.specs.Ask.{Asked, asks, sends, asks_quietly, ask, param, message, quietly, log_area, regions_in, handles_in, is_usable, config, given, ◌>>◌, ◌>>=◌}
+use Rattle.vhost_protocol.specs.declared.asked.Awaited.{Awaited}
+use Rattle.vhost_protocol.specs.declared.asked.Awaited.TheVariants.{Nobody, Ack, Reply}
+use Rattle.vhost_protocol.specs.declared.asked.Shape.TheVariants as shape
 use Rattle.vhost_message.specs.FrontendReq.{request_number}
 use Rattle.vhost_message.specs.Header.{Header}
 use Rattle.vhost_protocol.specs.AnswerTable.{Answered}
@@ -39,7 +44,7 @@ use Rattle.vhost_protocol.specs.Split.{Message}
 use Rattle.vhost_protocol.specs.Stream.{Cell}
 use Rattle.vhost_protocol.specs.Take.{take}
 use Rattle.vhost_protocol.specs.Step as step
-use Rattle.vhost_protocol.specs.Step.{Step, Refusal, Calls, acked, acknowledged}
+use Rattle.vhost_protocol.specs.Step.{Step, Refusal, Calls, with_ack, acknowledged}
 use Rattle.vhost_protocol.specs.Written.{header_flags, head_of, Payload, LogArea, ConfigBytes, Regions, payload_text, U64, RingState, Shmem}
 use Rattle.vhost_protocol.proofs.TakeLaws.{take-acknowledged}
 use Rattle.vhost_protocol.proofs.TakeShapes.{take-reply, take-nothing}
@@ -57,11 +62,11 @@ module _ (H B G : Type 0) where
   good-ack call true agreed = tt
   good-ack call false agreed = tt
 
-  good-test : (call : FrontendCall H) (b : Bool) (e : Error) (next : Step H B G) → Good call next → Good call (step.◌>>◌ (step.test b (step.silently e)) next)
+  good-test : (call : FrontendCall H) (b : Bool) (e : Error) (next : Step H B G) → Good call next → Good call (step.◌>>◌ (test b (step.silently e)) next)
   good-test call true e next h = h
   good-test call false e next h = tt
 
-  good-refused : (call : FrontendCall H) (s : Session) (m : Message FrontendReq H) (b : Bool) (e : Error) (next : Step H B G) → Good call next → Good call (step.◌>>◌ (step.test b (acknowledged s m e)) next)
+  good-refused : (call : FrontendCall H) (s : Session) (m : Message FrontendReq H) (b : Bool) (e : Error) (next : Step H B G) → Good call next → Good call (step.◌>>◌ (test b (acknowledged s m e)) next)
   good-refused call s m true e next h = h
   good-refused call s m false e next h = good-ack call (ack_on s && m.need_reply) false
 
@@ -172,7 +177,7 @@ module _ (H B G : Type 0) where
   both false b h = absurd (cc h)
 
   -- a test whose outcome is known from then on
-  good-known : (call : FrontendCall H) (b : Bool) (e : Error) (next : Step H B G) → (b ≡ true → Good call next) → Good call (step.◌>>◌ (step.test b (step.silently e)) next)
+  good-known : (call : FrontendCall H) (b : Bool) (e : Error) (next : Step H B G) → (b ≡ true → Good call next) → Good call (step.◌>>◌ (test b (step.silently e)) next)
   good-known call true e next h = h refl
   good-known call false e next h = tt
 
@@ -244,7 +249,7 @@ module _ (H B G : Type 0) where
       (rebased-fits rs bases (All-tail RegionFits r rs fits) (All-tail (λ base. base < 2 ^ 64) b bases small))
 
   -- the regions come back with the device's bases
-  good-table : (s : Session) (infos : List (Info H)) (m : Message FrontendReq H) → table m ≡ regions_in infos → 1 ≤ length infos → length infos ≤ 32 → All RegionFits (regions_in infos)
+  good-table : (s : Session) (infos : List (Info H)) (m : Message FrontendReq H) → table m ≡ regions_in infos → 1 ≤ length infos → length infos ≤ MAX_MEM_REGIONS → All RegionFits (regions_in infos)
       → (a : Result (Option (List ℕ)) Error) → IfOk a (λ o. IfSome o (λ bases. All (λ base. base < 2 ^ 64) bases)) → IsGoodReply (SetMemTable infos) (with_bases s m a).served
   good-table s infos m same least most fits (Ok (Some bases)) small = go (length bases == length (table m)) refl
     where
@@ -260,14 +265,14 @@ module _ (H B G : Type 0) where
   good-table s infos m same least most fits (Err e) small = good-ack (SetMemTable infos) (ack_on s && m.need_reply) false
 
   -- the table is read as it was sent
-  table-read : (m : Message FrontendReq H) (rs : List VhostUserMemoryRegion) → m.body ≡ payload_text (Regions rs) → length rs ≤ 32 → All RegionFits rs → table m ≡ rs
+  table-read : (m : Message FrontendReq H) (rs : List VhostUserMemoryRegion) → m.body ≡ payload_text (Regions rs) → length rs ≤ MAX_MEM_REGIONS → All RegionFits rs → table m ≡ rs
   table-read m rs text most fits =
       ap (λ bs. regions_of (memory_of bs).num_regions (drop 8 bs)) text
       ∙ ap (λ n. regions_of n (flat_map region_text rs)) (ap (λ x. x.num_regions) (head-read (length rs) most))
       ∙ regions-read rs fits
 
   well-table : (f : Frontend) (s : Session) (infos : List (Info H)) → All RegionFits (regions_in infos) → Asks s (SetMemTable infos) (ask f (SetMemTable infos))
-  well-table f s infos fits = ask-known s (SetMemTable infos) (nat_le 1 n && nat_le n 32 && list_all is_usable infos) _ sent
+  well-table f s infos fits = ask-known s (SetMemTable infos) (nat_le 1 n && nat_le n MAX_MEM_REGIONS && list_all is_usable infos) _ sent
     where
       n : ℕ
       n = length infos
@@ -275,23 +280,23 @@ module _ (H B G : Type 0) where
       payload : Payload
       payload = Regions (regions_in infos)
 
-      row-good : (r : Bool) (need_reply : Bool) → 1 ≤ n → n ≤ 32 → Good (SetMemTable infos) (row s (record { request = SET_MEM_TABLE; reply = r; need_reply = need_reply; body = payload_text payload; handles = handles_in infos }))
+      row-good : (r : Bool) (need_reply : Bool) → 1 ≤ n → n ≤ MAX_MEM_REGIONS → Good (SetMemTable infos) (row s (record { request = SET_MEM_TABLE; reply = r; need_reply = need_reply; body = payload_text payload; handles = handles_in infos }))
       row-good r need_reply least most = search (tests, bases-good) depth 12
         where
           m : Message FrontendReq H
           m = record { request = SET_MEM_TABLE; reply = r; need_reply = need_reply; body = payload_text payload; handles = handles_in infos }
 
-          few : length (regions_in infos) ≤ 32
+          few : length (regions_in infos) ≤ MAX_MEM_REGIONS
           few = omega (arith, length-map infos (λ info. info.region), most)
 
           bases-good : (a : Result (Option (List ℕ)) Error) → IfOk a (λ o. IfSome o (λ bases. All (λ base. base < 2 ^ 64) bases)) → IsGoodReply (SetMemTable infos) (with_bases s m a).served
           bases-good a small = good-table s infos m (table-read m (regions_in infos) refl few fits) least most fits a small
 
-      sent : (nat_le 1 n && nat_le n 32 && list_all is_usable infos) ≡ true → Asks s (SetMemTable infos) (cond (is_listen f.postcopy) (asks_quietly f SET_MEM_TABLE payload (handles_in infos) TheRegions) (sends f SET_MEM_TABLE payload (handles_in infos)))
+      sent : (nat_le 1 n && nat_le n MAX_MEM_REGIONS && list_all is_usable infos) ≡ true → Asks s (SetMemTable infos) (cond (is_listen f.postcopy) (asks_quietly f SET_MEM_TABLE payload (handles_in infos) shape.Memory) (sends f SET_MEM_TABLE payload (handles_in infos)))
       sent usable =
-          let counted = (both (nat_le 1 n && nat_le n 32) (list_all is_usable infos) usable).0 in
-          let least : 1 ≤ n = leb-true 1 n (both (nat_le 1 n) (nat_le n 32) counted).0 in
-          let most : n ≤ 32 = leb-true n 32 (both (nat_le 1 n) (nat_le n 32) counted).1 in
+          let counted = (both (nat_le 1 n && nat_le n MAX_MEM_REGIONS) (list_all is_usable infos) usable).0 in
+          let least : 1 ≤ n = leb-true 1 n (both (nat_le 1 n) (nat_le n MAX_MEM_REGIONS) counted).0 in
+          let most : n ≤ MAX_MEM_REGIONS = leb-true n MAX_MEM_REGIONS (both (nat_le 1 n) (nat_le n MAX_MEM_REGIONS) counted).1 in
           ask-cond s (SetMemTable infos) (is_listen f.postcopy) _ _ (row-good (has_bit f.header_flags 2) false least most) (row-good (has_bit f.header_flags 2) (has_bit f.header_flags 3) least most)
 
   -- the frontend says that it has mapped the regions: nothing is replied
@@ -302,7 +307,7 @@ module _ (H B G : Type 0) where
       m = read_as (quietly f SET_MEM_TABLE (U64 0) [])
 
       listening : Bool → Step H B G
-      listening b = cond (b && true) (mapped_row s m) (step.◌>>◌ (step.test (is_valid_table m) (acknowledged s m InvalidMessage)) (cond b (Calls (device.SetMemTable (table m) m.handles (Some true)) (with_bases s m)) (Calls (device.SetMemTable (table m) m.handles (Some false)) (acked s m))))
+      listening b = cond (b && true) (mapped_row s m) (step.◌>>◌ (test (is_valid_table m) (acknowledged s m InvalidMessage)) (cond b (Calls (device.SetMemTable (table m) m.handles (Some true)) (with_bases s m)) (Calls (device.SetMemTable (table m) m.handles (Some false)) (with_ack s m))))
 
       go : (b : Bool) → Good (PostcopyAckMemRegions SET_MEM_TABLE) (listening b)
       go true = search tests depth 12
@@ -314,12 +319,12 @@ module _ (H B G : Type 0) where
 
   config-fits : (c : VhostUserConfig) → is_valid_config c ≡ true → ConfigFits c
   config-fits c valid =
-      let parts = both (nat_le c.flags 3 && not (c.size == 0)) (nat_le (c.offset + c.size) 4096) valid in
+      let parts = both (nat_le c.flags 3 && not (c.size == 0)) (nat_le (c.offset + c.size) VHOST_USER_CONFIG_SIZE) valid in
       let flags = leb-true c.flags 3 (both (nat_le c.flags 3) (not (c.size == 0)) parts.0).0 in
-      let sum = leb-true (c.offset + c.size) 4096 parts.1 in
+      let sum = leb-true (c.offset + c.size) VHOST_USER_CONFIG_SIZE parts.1 in
       (omega (arith, sum), omega (arith, sum), omega (arith, flags))
 
-  good-config : (s : Session) (o n k b : ℕ) (buffer : List ℕ) (c : VhostUserConfig) → length (b ∷ buffer) ≡ c.size → 12 + c.size ≤ 4096 → is_valid_config c ≡ true → (a : Result (List ℕ) Error)
+  good-config : (s : Session) (o n k b : ℕ) (buffer : List ℕ) (c : VhostUserConfig) → length (b ∷ buffer) ≡ c.size → 12 + c.size ≤ MAX_MSG_SIZE → is_valid_config c ≡ true → (a : Result (List ℕ) Error)
       → IsGoodReply {H = H} (GetConfig o n k (b ∷ buffer)) (with_config s c a).served
   good-config s o n k b buffer c same small valid (Ok bytes) = go (length bytes == c.size) refl
     where
@@ -340,11 +345,11 @@ module _ (H B G : Type 0) where
   -- no valid record says size 0
   config-some : (c : VhostUserConfig) → is_valid_config c ≡ true → c.size ≡ 0 → ⊥
   config-some c valid none =
-      let parts = both (nat_le c.flags 3 && not (c.size == 0)) (nat_le (c.offset + c.size) 4096) valid in
+      let parts = both (nat_le c.flags 3 && not (c.size == 0)) (nat_le (c.offset + c.size) VHOST_USER_CONFIG_SIZE) valid in
       let some = (both (nat_le c.flags 3) (not (c.size == 0)) parts.0).1 in
       cc (some, ap (λ b. not b) (eq-eqb c.size 0 none))
 
-  good-area : (s : Session) (o n k : ℕ) (buffer : List ℕ) (c : VhostUserConfig) → 12 + length buffer ≡ 12 + c.size → 12 + length buffer ≤ 4096 → is_valid_config c ≡ true → (a : Result (List ℕ) Error) → IsGoodReply {H = H} (GetConfig o n k buffer) (with_config s c a).served
+  good-area : (s : Session) (o n k : ℕ) (buffer : List ℕ) (c : VhostUserConfig) → 12 + length buffer ≡ 12 + c.size → 12 + length buffer ≤ MAX_MSG_SIZE → is_valid_config c ≡ true → (a : Result (List ℕ) Error) → IsGoodReply {H = H} (GetConfig o n k buffer) (with_config s c a).served
   good-area s o n k [] c same small valid a = absurd (config-some c valid (omega (arith, same)))
   good-area s o n k (b ∷ buffer) c same small valid a = good-config s o n k b buffer c (omega (arith, same)) (omega (arith, same, small)) valid a
 
@@ -360,14 +365,14 @@ module _ (H B G : Type 0) where
       c : VhostUserConfig
       c = config_of m.body
 
-      called : 12 + length buffer ≤ 4096 → (not m.reply && is_valid_area m) ≡ true → Good call (Calls (device.GetConfig c.offset c.size c.flags) (with_config s c))
+      called : 12 + length buffer ≤ MAX_MSG_SIZE → (not m.reply && is_valid_area m) ≡ true → Good call (Calls (device.GetConfig c.offset c.size c.flags) (with_config s c))
       called small holds a fits = let parts = area-parts m holds in good-area s o n k buffer c (omega (arith, parts.1)) small parts.0 a
 
-      served : 12 + length buffer ≤ 4096 → Good call (row s m)
+      served : 12 + length buffer ≤ MAX_MSG_SIZE → Good call (row s m)
       served small = good-test call _ _ _ (good-known call (not m.reply && is_valid_area m) InvalidMessage (Calls (device.GetConfig c.offset c.size c.flags) (with_config s c)) (called small))
 
-      last : Asks s call (param (nat_le (12 + length buffer) 4096) >> asks f GET_CONFIG (ConfigBytes (config o n k) buffer) [] AConfig)
-      last = ask-known s call (nat_le (12 + length buffer) 4096) (asks f GET_CONFIG (ConfigBytes (config o n k) buffer) [] AConfig) (λ few. served (leb-true (12 + length buffer) 4096 few))
+      last : Asks s call (param (nat_le (12 + length buffer) MAX_MSG_SIZE) >> asks f GET_CONFIG (ConfigBytes (config o n k) buffer) [] shape.Config)
+      last = ask-known s call (nat_le (12 + length buffer) MAX_MSG_SIZE) (asks f GET_CONFIG (ConfigBytes (config o n k) buffer) [] shape.Config) (λ few. served (leb-true (12 + length buffer) MAX_MSG_SIZE few))
 
   -- ---- all calls
 

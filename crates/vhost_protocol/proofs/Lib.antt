@@ -8,13 +8,13 @@ pub mod AgreeLaws
 mod SplitRows
 mod RecordRows
 mod RunRows
+mod LogRows
 mod RingRows
 mod LargeRows
 mod TakeRows
 mod TableRows
 mod JoinedRows
 mod ReverseRows
-pub mod PlainLaws
 mod GpuRows
 pub mod TakeShapes
 pub mod RegionLaws

@@ -3,16 +3,11 @@ use Rattle.std.proofs.Common.{◌≡◌, ℕ, ◌^◌, Bool, true, false, cond, 
 use Rattle.std.specs.Prelude.{nat_le}
 use Rattle.vhost_message.specs.Bits.{has_bit}
 use Rattle.vhost_message.specs.declared.frontend_req.FrontendReq.TheVariants.{SET_PROTOCOL_FEATURES}
-use Rattle.vhost_message.specs.declared.records.config.VhostUserConfig.{VhostUserConfig}
-use Rattle.vhost_message.specs.declared.records.inflight.VhostUserInflight.{VhostUserInflight}
-use Rattle.vhost_message.specs.declared.records.log.VhostUserLog.{VhostUserLog}
-use Rattle.vhost_message.specs.declared.records.memory.VhostUserMemoryRegion.{VhostUserMemoryRegion}
-use Rattle.vhost_message.specs.declared.records.memory.VhostUserSingleMemoryRegion.{VhostUserSingleMemoryRegion}
-use Rattle.vhost_message.specs.declared.records.shmem.VhostUserShMemConfig.{VhostUserShMemConfig}
-use Rattle.vhost_message.specs.declared.records.vring.VhostUserVringState.{VhostUserVringState}
 use Rattle.vhost_protocol.specs.Agreement.{Negotiates, AskedNegotiates, OffersBit, AsksNegotiate, AnswersNegotiate}
-use Rattle.vhost_protocol.specs.AnswerTable.{Answered, answered, answer, after_success, alone, with_one, changed, queues_reply, from_reply, as_empty, as_u64, as_regions, as_region, as_shmem, as_ring_state, as_config, as_inflight, as_log}
-use Rattle.vhost_protocol.specs.Ask.{Awaited, Nobody, Ack, Reply, Asked, Sends, ask, ack, message, given, ◌>>◌, ◌>>=◌}
+use Rattle.vhost_protocol.specs.AnswerTable.{Answered, answered, answer, after_success, alone, with_one, changed, queues_reply, from_reply}
+use Rattle.vhost_protocol.specs.Ask.{Asked, Sends, ask, awaited_ack, message, given, ◌>>◌, ◌>>=◌}
+use Rattle.vhost_protocol.specs.declared.asked.Awaited.{Awaited}
+use Rattle.vhost_protocol.specs.declared.asked.Awaited.TheVariants.{Nobody, Ack, Reply}
 use Rattle.vhost_protocol.specs.Error.{Error, InvalidMessage, InactiveFeature}
 use Rattle.vhost_protocol.specs.Features.{PROTOCOL_FEATURES}
 use Rattle.vhost_protocol.specs.FrontendCall.{FrontendCall, GetFeatures, SetFeatures, GetProtocolFeatures, SetProtocolFeatures, GetQueueNum, SetMemTable, SetLogBase, GetVringBase, GetConfig, GetSharedObject, GetInflightFd, GetMaxMemSlots, AddMemRegion, GetShmemConfig, SetDeviceStateFd, CheckDeviceState, PostcopyAdvise, PostcopyListen, PostcopyEnd, SetHdrFlags, Value, Number, HandleOf, Frontend}
@@ -42,7 +37,7 @@ module _ (H : Type 0) (bit : Bool) where
       g : Frontend
       g = record f { acked_protocol_features = n }
 
-      go : (b : Bool) → has_bit f.offered PROTOCOL_FEATURES ≡ b → AskedNegotiates {H = H} bit (cond b (Ok tt) (Err (InactiveFeature (2 ^ PROTOCOL_FEATURES))) >> Sends (message g SET_PROTOCOL_FEATURES (U64 n) []) (ack g) g)
+      go : (b : Bool) → has_bit f.offered PROTOCOL_FEATURES ≡ b → AskedNegotiates {H = H} bit (cond b (Ok tt) (Err (InactiveFeature (2 ^ PROTOCOL_FEATURES))) >> Sends (message g SET_PROTOCOL_FEATURES (U64 n) []) (awaited_ack g) g)
       go true offers = (λ on. offers, λ on. h.2 offers, h.2)
       go false closed = tt
 
@@ -64,42 +59,6 @@ module _ (H : Type 0) (bit : Bool) where
   kept-changed f g (Ok v) h k = k
   kept-changed f g (Err e) h k = h
 
-  kept-u64 : (p : Payload) (a : ℕ → Answered H) → ((n : ℕ) → Negotiates bit (a n).session) → Kept (as_u64 p a)
-  kept-u64 (U64 n) a h = h n
-  kept-u64 _ a h = tt
-
-  kept-empty : (p : Payload) (a : Answered H) → Negotiates bit a.session → Kept (as_empty p a)
-  kept-empty Empty a h = h
-  kept-empty _ a h = tt
-
-  kept-regions : (p : Payload) (a : List VhostUserMemoryRegion → Answered H) → ((x : List VhostUserMemoryRegion) → Negotiates bit (a x).session) → Kept (as_regions p a)
-  kept-regions (Regions x) a h = h x
-  kept-regions _ a h = tt
-
-  kept-region : (p : Payload) (a : VhostUserSingleMemoryRegion → Answered H) → ((x : VhostUserSingleMemoryRegion) → Negotiates bit (a x).session) → Kept (as_region p a)
-  kept-region (OneRegion x) a h = h x
-  kept-region _ a h = tt
-
-  kept-shmem : (p : Payload) (a : VhostUserShMemConfig → Answered H) → ((x : VhostUserShMemConfig) → Negotiates bit (a x).session) → Kept (as_shmem p a)
-  kept-shmem (Shmem x) a h = h x
-  kept-shmem _ a h = tt
-
-  kept-ring : (p : Payload) (a : VhostUserVringState → Answered H) → ((x : VhostUserVringState) → Negotiates bit (a x).session) → Kept (as_ring_state p a)
-  kept-ring (RingState x) a h = h x
-  kept-ring _ a h = tt
-
-  kept-config : (p : Payload) (a : VhostUserConfig → List ℕ → Answered H) → ((x : VhostUserConfig) (bytes : List ℕ) → Negotiates bit (a x bytes).session) → Kept (as_config p a)
-  kept-config (ConfigBytes x bytes) a h = h x bytes
-  kept-config _ a h = tt
-
-  kept-inflight : (p : Payload) (a : VhostUserInflight → Answered H) → ((x : VhostUserInflight) → Negotiates bit (a x).session) → Kept (as_inflight p a)
-  kept-inflight (InflightArea x) a h = h x
-  kept-inflight _ a h = tt
-
-  kept-log : (p : Payload) (a : VhostUserLog → Answered H) → ((x : VhostUserLog) → Negotiates bit (a x).session) → Kept (as_log p a)
-  kept-log (LogArea x) a h = h x
-  kept-log _ a h = tt
-
   kept-queues : (f : Frontend) (n : ℕ) (r : Result (Value H) Error) → Negotiates bit f → Negotiates bit (queues_reply f n r).session
   kept-queues f n r h = go (nat_le n 0x8000)
     where
@@ -108,27 +67,23 @@ module _ (H : Type 0) (bit : Bool) where
       go false = h
 
   -- the features: with their bit, wherever acknowledgements are on
-  kept-features : (f : Frontend) (p : Payload) (hs : List H) → Negotiates bit f → OffersBit {H = H} bit GetFeatures (Replied p hs) → Kept (from_reply GetFeatures f p hs)
-  kept-features f (U64 n) hs h offers = kept-changed f (record f { offered = n }) (alone hs (Ok (Number n))) h (λ on. offers ∙ h.1 on, h.1, λ has. sym offers ∙ has)
-  kept-features f _ hs h offers = tt
-
   kept-reply : (call : FrontendCall H) (f : Frontend) (p : Payload) (hs : List H) → Negotiates bit f → OffersBit bit call (Replied p hs) → Kept (from_reply call f p hs)
-  kept-reply GetFeatures f p hs h offers = kept-features f p hs h offers
-  kept-reply GetProtocolFeatures f p hs h offers = kept-u64 p _ (λ n. h)
-  kept-reply GetQueueNum f p hs h offers = kept-u64 p _ (λ n. kept-queues f n (alone hs (Ok (Number n))) h)
-  kept-reply (SetMemTable infos) f p hs h offers = kept-regions p _ (λ x. h)
-  kept-reply (SetLogBase base region) f p hs h offers = kept-log p _ (λ x. h)
-  kept-reply (GetVringBase i) f p hs h offers = kept-ring p _ (λ x. h)
-  kept-reply (GetConfig o n k buffer) f p hs h offers = kept-config p _ (λ x bytes. h)
-  kept-reply (GetSharedObject name) f p hs h offers = kept-empty p _ h
-  kept-reply (GetInflightFd asked) f p hs h offers = kept-inflight p _ (λ x. h)
-  kept-reply GetMaxMemSlots f p hs h offers = kept-u64 p _ (λ n. h)
-  kept-reply (AddMemRegion info) f p hs h offers = kept-region p _ (λ x. h)
-  kept-reply GetShmemConfig f p hs h offers = kept-shmem p _ (λ x. h)
-  kept-reply (SetDeviceStateFd t x) f p hs h offers = kept-u64 p _ (λ n. h)
-  kept-reply CheckDeviceState f p hs h offers = kept-u64 p _ (λ n. h)
-  kept-reply PostcopyAdvise f p hs h offers = kept-empty p _ (kept-changed f _ (with_one hs HandleOf) h h)
-  kept-reply _ f p hs h offers = tt
+  kept-reply GetFeatures f (U64 n) hs h offers = kept-changed f (record f { offered = n }) (alone hs (Ok (Number n))) h (λ on. offers ∙ h.1 on, h.1, λ has. sym offers ∙ has)
+  kept-reply GetProtocolFeatures f (U64 n) hs h offers = h
+  kept-reply GetQueueNum f (U64 n) hs h offers = kept-queues f n (alone hs (Ok (Number n))) h
+  kept-reply (SetMemTable infos) f (Regions rs) hs h offers = h
+  kept-reply (SetLogBase base region) f (LogArea l) hs h offers = h
+  kept-reply (GetVringBase i) f (RingState v) hs h offers = h
+  kept-reply (GetConfig o n k buffer) f (ConfigBytes c bytes) hs h offers = h
+  kept-reply (GetSharedObject name) f Empty hs h offers = h
+  kept-reply (GetInflightFd asked) f (InflightArea i) hs h offers = h
+  kept-reply GetMaxMemSlots f (U64 n) hs h offers = h
+  kept-reply (AddMemRegion info) f (OneRegion r) hs h offers = h
+  kept-reply GetShmemConfig f (Shmem c) hs h offers = h
+  kept-reply (SetDeviceStateFd t x) f (U64 n) hs h offers = h
+  kept-reply CheckDeviceState f (U64 n) hs h offers = h
+  kept-reply PostcopyAdvise f Empty hs h offers = kept-changed f _ (with_one hs HandleOf) h h
+  kept-reply _ f _ hs h offers = tt
 
   kept-success : (call : FrontendCall H) (f : Frontend) → Negotiates bit f → Negotiates bit (after_success f call)
   kept-success PostcopyListen f h = h

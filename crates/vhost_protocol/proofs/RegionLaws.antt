@@ -4,6 +4,7 @@ use Rattle.std.specs.Prelude.{flat_map, All, nat_le}
 use Rattle.std.proofs.lemmas.Bool.{le-leb}
 use Rattle.std.proofs.lemmas.List.Elements.{All-head, All-tail}
 use Rattle.byteorder.specs.Numbers.{little_number-reads_back}
+use Rattle.vhost_message.specs.declared.limits.TheConstants.{MAX_MEM_REGIONS, MEMORY_REGION_SIZE}
 use Rattle.vhost_message.specs.declared.records.memory.VhostUserMemoryRegion.{VhostUserMemoryRegion}
 use Rattle.vhost_message.specs.RecordLaws.{RegionFits, memory-reads_back}
 use Rattle.vhost_message.specs.Records.{region_text, region_at, regions_of, memory_text, memory_of}
@@ -25,16 +26,16 @@ regions-read (r ∷ rs) fits =
     ap (λ x. x ∷ regions_of (length rs) (flat_map region_text rs)) (region-read r (flat_map region_text rs) (All-head RegionFits r rs fits))
     ∙ ap (λ x. r ∷ x) (regions-read rs (All-tail RegionFits r rs fits))
 
-pub regions-length : (rs : List VhostUserMemoryRegion) → length (flat_map region_text rs) ≡ 32 * length rs
+pub regions-length : (rs : List VhostUserMemoryRegion) → length (flat_map region_text rs) ≡ MEMORY_REGION_SIZE * length rs
 regions-length [] = refl
 regions-length (r ∷ rs) = let rest = regions-length rs in omega (arith, rest)
 
--- the head of a table of 1 to 32 regions
-pub head-read : (n : ℕ) → n ≤ 32 → memory_of (memory_text (table_head n)) ≡ table_head n
+-- the head of a table of as many regions as allowed
+pub head-read : (n : ℕ) → n ≤ MAX_MEM_REGIONS → memory_of (memory_text (table_head n)) ≡ table_head n
 head-read n most = memory-reads_back (table_head n) (omega arith, omega arith)
 
-pub head-valid : (n : ℕ) → 1 ≤ n → n ≤ 32 → is_valid_memory (memory_of (memory_text (table_head n))) ≡ true
+pub head-valid : (n : ℕ) → 1 ≤ n → n ≤ MAX_MEM_REGIONS → is_valid_memory (memory_of (memory_text (table_head n))) ≡ true
 head-valid n least most =
     ap (λ x. is_valid_memory x) (head-read n most)
-    ∙ ap (λ b. b && nat_le n 32) (le-leb 1 n least)
-    ∙ le-leb n 32 most
+    ∙ ap (λ b. b && nat_le n MAX_MEM_REGIONS) (le-leb 1 n least)
+    ∙ le-leb n MAX_MEM_REGIONS most

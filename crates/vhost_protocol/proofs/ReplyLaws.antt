@@ -1,10 +1,10 @@
 -- A reply that is written is read again, whatever follows it.
-use Rattle.std.proofs.Common.{◌≡◌, ℕ, ◌+◌, ◌^◌, ◌≤◌, ◌<◌, Bool, true, false, ◌&&◌, cond, List, [], ◌∷◌, ◌++◌, length, take, drop, Result, Ok, Err, refl, ◌∙◌, ap, arith}
-use Rattle.std.proofs.lemmas.List.{take_at, drop_at, append_assoc, length-append}
+use Rattle.std.proofs.Common.{◌≡◌, ℕ, ◌+◌, ◌^◌, ◌≤◌, ◌<◌, Bool, true, false, ◌&&◌, cond, List, [], ◌∷◌, ◌++◌, length, take, drop, Option, None, Result, Ok, Err, refl, ◌∙◌, ap, arith}
+use Rattle.std.proofs.lemmas.List.{take_at, drop_at, drop_all, append_assoc, length-append, length-drop}
 use Rattle.vhost_message.specs.Header.{Header, header_of, header_text}
-use Rattle.vhost_protocol.specs.Stream.{Cell, cell, bytes, plain}
-use Rattle.vhost_protocol.specs.Error.{Error, InvalidMessage}
-use Rattle.vhost_protocol.specs.ReplySplit.{Received, received, reply_split}
+use Rattle.vhost_protocol.specs.Stream.{Cell, cell, bytes, plain, first_handles, is_shorter}
+use Rattle.vhost_protocol.specs.Error.{Error, PartialMessage, InvalidMessage}
+use Rattle.vhost_protocol.specs.ReplySplit.{Received, received, reply_split, is_bare_reply, not_bare, bare_or_reply}
 use Rattle.vhost_protocol.specs.Written.{Written, head_of, payload_text, written_cells}
 use Rattle.vhost_protocol.proofs.SplitLaws.{le-shorter}
 use Rattle.vhost_protocol.proofs.TextLaws.{header-read, flags-small, bytes-plain, length-plain}
@@ -12,6 +12,64 @@ use Rattle.vhost_protocol.proofs.TextLaws.{header-read, flags-small, bytes-plain
 pub plain-append : (H : Type 0) (bs more : List ℕ) → plain {H = H} (bs ++ more) ≡ plain bs ++ plain more
 plain-append H [] more = refl
 plain-append H (b ∷ bs) more = ap (λ x. cell b [] ∷ x) (plain-append H bs more)
+
+-- ---- so short a stream is read whole
+
+module _ {H : Type 0} (is_known : Header → Bool) where
+  received-rest : (h : Header) (is_valid : List ℕ → Bool) (handles : List H) (body : List ℕ) (room : ℕ) (cells : List (Cell H)) → length cells ≤ room → (received is_known h is_valid handles body room cells).1 ≡ []
+  unfolding received
+  received-rest h is_valid handles body room cells few = go (is_known h && is_valid body)
+    where
+      go : (b : Bool) → (cond {A = Result (Received H) Error × List (Cell H)} b (Ok (record { header = h; body = body; payload = bytes (take room cells); handles = handles }), drop room cells) (Err InvalidMessage, drop room cells)).1 ≡ []
+      go true = drop_all room cells few
+      go false = drop_all room cells few
+
+  -- a reply, where no more than its header, its record and the payload are there
+  pub reply-rest : (size : ℕ) (is_valid : List ℕ → Bool) (room : ℕ) (cells : List (Cell H)) → length cells ≤ 12 + size + room → (reply_split is_known size is_valid room cells).1 ≡ []
+  unfolding reply_split
+  reply-rest size is_valid room cells few = go (is_shorter (12 + size) cells)
+    where
+      behind : length (drop size (drop 12 cells)) ≤ room
+      behind = omega (arith, length-drop size (drop 12 cells), length-drop 12 cells)
+
+      whole : Result (Received H) Error × List (Cell H)
+      whole = received is_known (header_of (bytes (take 12 cells))) is_valid (first_handles cells) (bytes (take size (drop 12 cells))) room (drop size (drop 12 cells))
+
+      go : (b : Bool) → (cond b (Err PartialMessage, []) whole).1 ≡ []
+      go true = refl
+      go false = received-rest (header_of (bytes (take 12 cells))) is_valid (first_handles cells) (bytes (take size (drop 12 cells))) room (drop size (drop 12 cells)) behind
+
+  not-bare-rest : (x : Result (Received H) Error × List (Cell H)) → (not_bare is_known x).1 ≡ x.1
+  not-bare-rest (Ok r, rest) = refl
+  not-bare-rest (Err e, rest) = refl
+
+  choose : (answers : Header → Bool) (is_valid : List ℕ → Bool) (room : ℕ) (cells : List (Cell H)) (bare : Bool) → Result (Option (Received H)) Error × List (Cell H)
+  choose answers is_valid room cells bare = cond bare (Ok None, drop 24 cells) (not_bare is_known (reply_split is_known 12 is_valid room cells))
+
+  -- a reply that may be bare, where no more than its header and its record are there
+  pub bare-rest : (answers : Header → Bool) (is_valid : List ℕ → Bool) (room : ℕ) (cells : List (Cell H)) → length cells ≤ 24 → (bare_or_reply is_known answers is_valid room cells).1 ≡ []
+  unfolding bare_or_reply choose
+  bare-rest answers is_valid room cells few = go (is_shorter 24 cells)
+    where
+      bare : (b : Bool) → (choose answers is_valid room cells b).1 ≡ []
+      bare true = drop_all 24 cells few
+      bare false = not-bare-rest (reply_split is_known 12 is_valid room cells) ∙ reply-rest 12 is_valid room cells (omega arith)
+
+      go : (b : Bool) → (cond b (Err PartialMessage, []) (choose answers is_valid room cells (is_bare_reply is_known answers cells))).1 ≡ []
+      go true = refl
+      go false = bare (is_bare_reply is_known answers cells)
+
+  -- one that is not bare is read as any other
+  pub whole-rest : (answers : Header → Bool) (is_valid : List ℕ → Bool) (room : ℕ) (cells : List (Cell H)) → is_bare_reply is_known answers cells ≡ false
+      → (reply_split is_known 12 is_valid room cells).1 ≡ [] → (bare_or_reply is_known answers is_valid room cells).1 ≡ []
+  unfolding bare_or_reply choose
+  whole-rest answers is_valid room cells no_bare nothing = go (is_shorter 24 cells)
+    where
+      go : (b : Bool) → (cond b (Err PartialMessage, []) (choose answers is_valid room cells (is_bare_reply is_known answers cells))).1 ≡ []
+      go true = refl
+      go false = ap (λ b. (choose answers is_valid room cells b).1) no_bare ∙ not-bare-rest (reply_split is_known 12 is_valid room cells) ∙ nothing
+
+-- ---- what was written is read
 
 module _ {R H : Type 0} (number_of : R → ℕ) (is_known : Header → Bool) (is_valid : List ℕ → Bool) where
   -- behind the header

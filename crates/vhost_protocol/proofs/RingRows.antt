@@ -1,7 +1,8 @@
--- Worked rows on rings and offsets: each holds by computing.
+-- Worked rows on rings, pieces and offsets: each holds by computing.
 use Rattle.std.proofs.Common.{◌≡◌, ℕ, true, false, List, [], ◌∷◌, None, refl}
 use Rattle.std.specs.Int.Count.{ones}
-use Rattle.vhost_protocol.specs.Pieces.{sub_offset}
+use Rattle.vhost_protocol.specs.Pieces.{BytePiece, HandlePiece, ring_cells, sub_offset}
+use Rattle.vhost_protocol.specs.Stream.{cell}
 use Rattle.vhost_message.specs.declared.vring_config.VringConfigData.{VringConfigData}
 use Rattle.vhost_message.specs.VringConfig.{is_valid_ring}
 
@@ -46,3 +47,7 @@ offset_13 = refl
 
 offset_beyond : sub_offset (4 ∷ []) 9 ≡ (1, 5)
 offset_beyond = refl
+
+-- handles belong to the byte behind them; one with no byte yet belongs to none
+pieces : ring_cells {H = ℕ} (HandlePiece 7 ∷ HandlePiece 8 ∷ BytePiece 1 ∷ BytePiece 2 ∷ HandlePiece 9 ∷ []) ≡ (cell 1 (7 ∷ 8 ∷ []) ∷ cell 2 [] ∷ [])
+pieces = refl

@@ -20,7 +20,7 @@ features = carrying (7 ∷ []) (2 ∷ 0 ∷ 0 ∷ 0 ∷ 1 ∷ 0 ∷ 0 ∷ 0 ∷ 
 value : List (Cell ℕ)
 value = plain (3 ∷ 0 ∷ 0 ∷ 0x40 ∷ 0 ∷ 0 ∷ 0 ∷ 0 ∷ [])
 
--- handles that are not wanted leave the body unread: the next call finds a part of a message, and the one after it the next stream
+-- handles that are not allowed leave the body unread: the next call finds a part of a message, and the one after it the next stream
 unwanted : HandlesRequests {B = ℕ} {G = ℕ} counts any any fresh 0 (Err InvalidMessage ∷ Err PartialMessage ∷ Err Disconnected ∷ []) (map Byte (features ++ value) ++ End ∷ End ∷ []) [] fresh 0
 unfolding split split_after split_body body_outcome features value
 unwanted = (
@@ -40,7 +40,7 @@ unwanted = (
     [],
     fresh,
     0,
-    (Err PartialMessage, (value, true, refl, refl), (refl, refl, refl, refl)),
+    (Err PartialMessage, (value, true, refl, (refl, λ next. refl)), (refl, refl, refl, refl)),
     refl,
     refl,
     (
@@ -50,7 +50,7 @@ unwanted = (
       [],
       fresh,
       0,
-      (Err Disconnected, ([], true, refl, refl), (refl, refl, refl, refl)),
+      (Err Disconnected, ([], true, refl, (refl, λ next. refl)), (refl, refl, refl, refl)),
       refl,
       refl,
       (refl, refl, refl, refl),

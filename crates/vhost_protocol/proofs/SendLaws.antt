@@ -4,11 +4,13 @@ use Rattle.std.specs.Prelude.{nat_le, ◌==◌}
 use Rattle.std.specs.List.{list_all, filter_map}
 use Rattle.std.proofs.lemmas.Bool.{leb-true}
 use Rattle.std.proofs.lemmas.List.{length-map}
+use Rattle.vhost_message.specs.declared.limits.TheConstants.{MAX_ATTACHED_FD_ENTRIES, MAX_MEM_REGIONS, MAX_MSG_SIZE}
 use Rattle.vhost_message.specs.declared.frontend_req.FrontendReq.TheVariants.{SET_MEM_TABLE, GET_CONFIG, SET_CONFIG, GET_SHARED_OBJECT}
 use Rattle.vhost_message.specs.declared.records.memory.VhostUserMemoryRegion.{VhostUserMemoryRegion}
 use Rattle.vhost_message.specs.declared.records.shared.VhostUserSharedMsg.{VhostUserSharedMsg}
-use Rattle.vhost_protocol.specs.Ask.{Asked, ask, param, message, config, regions_in, handles_in, is_usable, given, asks, asks_quietly, sends, TheRegions, AConfig, ◌>>◌, ◌>>=◌}
-use Rattle.vhost_protocol.specs.Codes.{wanted}
+use Rattle.vhost_protocol.specs.Ask.{Asked, ask, param, message, config, regions_in, handles_in, is_usable, given, asks, asks_quietly, sends, ◌>>◌, ◌>>=◌}
+use Rattle.vhost_protocol.specs.declared.asked.Shape.TheVariants as shape
+use Rattle.vhost_protocol.specs.Codes.{allows_handles}
 use Rattle.vhost_protocol.specs.Error.{Error}
 use Rattle.vhost_protocol.specs.FrontendCall.{FrontendCall, SetMemTable, SetLogBase, GetConfig, SetConfig, GetSharedObject, PostcopyAckMemRegions, SetHdrFlags, Info, Frontend}
 use Rattle.vhost_protocol.specs.Heard.{IsSendable, AsksSendable, SendsWhole}
@@ -31,8 +33,8 @@ module _ (H : Type 0) where
   whole-cond false x y h k = k
 
   -- a message of a fixed length
-  whole : (w : Written FrontendReq H) → wanted w.request (length w.handles) ≡ true → nat_le (length (payload_text w.payload)) 4096 ≡ true → nat_le (length w.handles) 32 ≡ true → IsSendable w
-  whole w wants size few = record { wants = wants; size = leb-true (length (payload_text w.payload)) 4096 size; few = leb-true (length w.handles) 32 few }
+  whole : (w : Written FrontendReq H) → allows_handles w.request (length w.handles) ≡ true → nat_le (length (payload_text w.payload)) MAX_MSG_SIZE ≡ true → nat_le (length w.handles) MAX_ATTACHED_FD_ENTRIES ≡ true → IsSendable w
+  whole w wants size few = record { allowed = wants; size = leb-true (length (payload_text w.payload)) MAX_MSG_SIZE size; few = leb-true (length w.handles) MAX_ATTACHED_FD_ENTRIES few }
 
   ruleset wholes = (whole-then, whole-given, whole-cond, whole)
 
@@ -74,7 +76,7 @@ module _ (H : Type 0) where
       go None rest = omega (arith, rest)
       go (Some h) rest = omega (arith, rest)
 
-  any-handles : (n : ℕ) → wanted SET_MEM_TABLE n ≡ true
+  any-handles : (n : ℕ) → allows_handles SET_MEM_TABLE n ≡ true
   any-handles n = go (n == 0)
     where
       go : (b : Bool) → (b || true) ≡ true
@@ -82,46 +84,46 @@ module _ (H : Type 0) where
       go false = refl
 
   whole-table : (f : Frontend) (infos : List (Info H)) → AsksSendable (ask f (SetMemTable infos))
-  whole-table f infos = whole-known (nat_le 1 (length infos) && nat_le (length infos) 32 && list_all is_usable infos) _ sent
+  whole-table f infos = whole-known (nat_le 1 (length infos) && nat_le (length infos) MAX_MEM_REGIONS && list_all is_usable infos) _ sent
     where
       rs : List VhostUserMemoryRegion
       rs = regions_in infos
 
-      table : (reply need_reply : Bool) → length infos ≤ 32 → IsSendable {H = H} (record { request = SET_MEM_TABLE; reply = reply; need_reply = need_reply; payload = Regions rs; handles = handles_in infos })
+      table : (reply need_reply : Bool) → length infos ≤ MAX_MEM_REGIONS → IsSendable {H = H} (record { request = SET_MEM_TABLE; reply = reply; need_reply = need_reply; payload = Regions rs; handles = handles_in infos })
       table reply need_reply most = record {
-        wants = any-handles (length (handles_in infos));
+        allowed = any-handles (length (handles_in infos));
         size = omega (arith, regions-length rs, length-map infos (λ info. info.region), most);
         few = omega (arith, handles-few infos, most);
       }
 
-      sent : (nat_le 1 (length infos) && nat_le (length infos) 32 && list_all is_usable infos) ≡ true → AsksSendable (cond (is_listen f.postcopy) (asks_quietly f SET_MEM_TABLE (Regions rs) (handles_in infos) TheRegions) (sends f SET_MEM_TABLE (Regions rs) (handles_in infos)))
+      sent : (nat_le 1 (length infos) && nat_le (length infos) MAX_MEM_REGIONS && list_all is_usable infos) ≡ true → AsksSendable (cond (is_listen f.postcopy) (asks_quietly f SET_MEM_TABLE (Regions rs) (handles_in infos) shape.Memory) (sends f SET_MEM_TABLE (Regions rs) (handles_in infos)))
       sent usable =
-          let most = leb-true (length infos) 32 (both (nat_le 1 (length infos)) (nat_le (length infos) 32) (both (nat_le 1 (length infos) && nat_le (length infos) 32) (list_all is_usable infos) usable).0).1 in
+          let most = leb-true (length infos) MAX_MEM_REGIONS (both (nat_le 1 (length infos)) (nat_le (length infos) MAX_MEM_REGIONS) (both (nat_le 1 (length infos) && nat_le (length infos) MAX_MEM_REGIONS) (list_all is_usable infos) usable).0).1 in
           whole-cond (is_listen f.postcopy) _ _ (table _ _ most) (table _ _ most)
 
   -- a record of configuration space and bytes behind it
-  whole-bytes : (w : Written FrontendReq H) → wanted w.request (length w.handles) ≡ true → nat_le (length w.handles) 32 ≡ true → length (payload_text w.payload) ≤ 4096 → IsSendable w
-  whole-bytes w wants few size = record { wants = wants; size = size; few = leb-true (length w.handles) 32 few }
+  whole-bytes : (w : Written FrontendReq H) → allows_handles w.request (length w.handles) ≡ true → nat_le (length w.handles) MAX_ATTACHED_FD_ENTRIES ≡ true → length (payload_text w.payload) ≤ MAX_MSG_SIZE → IsSendable w
+  whole-bytes w wants few size = record { allowed = wants; size = size; few = leb-true (length w.handles) MAX_ATTACHED_FD_ENTRIES few }
 
   whole-get_config : (f : Frontend) (o n k : ℕ) (buffer : List ℕ) → AsksSendable {H = H} (ask f (GetConfig o n k buffer))
   whole-get_config f o n k buffer = search (wholes, last) depth 12
     where
-      last : AsksSendable {H = H} (param (nat_le (12 + length buffer) 4096) >> asks f GET_CONFIG (ConfigBytes (config o n k) buffer) [] AConfig)
-      last = whole-known (nat_le (12 + length buffer) 4096) (asks f GET_CONFIG (ConfigBytes (config o n k) buffer) [] AConfig)
-          (λ few. whole-bytes (message f GET_CONFIG (ConfigBytes (config o n k) buffer) []) refl refl (omega (arith, leb-true (12 + length buffer) 4096 few)))
+      last : AsksSendable {H = H} (param (nat_le (12 + length buffer) MAX_MSG_SIZE) >> asks f GET_CONFIG (ConfigBytes (config o n k) buffer) [] shape.Config)
+      last = whole-known (nat_le (12 + length buffer) MAX_MSG_SIZE) (asks f GET_CONFIG (ConfigBytes (config o n k) buffer) [] shape.Config)
+          (λ few. whole-bytes (message f GET_CONFIG (ConfigBytes (config o n k) buffer) []) refl refl (omega (arith, leb-true (12 + length buffer) MAX_MSG_SIZE few)))
 
   whole-set_config : (f : Frontend) (o k : ℕ) (buffer : List ℕ) → AsksSendable {H = H} (ask f (SetConfig o k buffer))
   whole-set_config f o k buffer = search (wholes, last) depth 12
     where
-      last : AsksSendable {H = H} (param (nat_le (12 + length buffer) 4096) >> sends f SET_CONFIG (ConfigBytes (config o (length buffer) k) buffer) [])
-      last = whole-known (nat_le (12 + length buffer) 4096) (sends f SET_CONFIG (ConfigBytes (config o (length buffer) k) buffer) [])
-          (λ few. whole-bytes (message f SET_CONFIG (ConfigBytes (config o (length buffer) k) buffer) []) refl refl (omega (arith, leb-true (12 + length buffer) 4096 few)))
+      last : AsksSendable {H = H} (param (nat_le (12 + length buffer) MAX_MSG_SIZE) >> sends f SET_CONFIG (ConfigBytes (config o (length buffer) k) buffer) [])
+      last = whole-known (nat_le (12 + length buffer) MAX_MSG_SIZE) (sends f SET_CONFIG (ConfigBytes (config o (length buffer) k) buffer) [])
+          (λ few. whole-bytes (message f SET_CONFIG (ConfigBytes (config o (length buffer) k) buffer) []) refl refl (omega (arith, leb-true (12 + length buffer) MAX_MSG_SIZE few)))
 
   whole-object : (f : Frontend) (name : VhostUserSharedMsg) → length name.uuid ≡ 16 → AsksSendable {H = H} (ask f (GetSharedObject name))
   whole-object f name sixteen = search (wholes, named) depth 12
     where
       named : (r reply : Bool) → IsSendable {H = H} (record { request = GET_SHARED_OBJECT; reply = r; need_reply = reply; payload = ObjectName name; handles = [] })
-      named r reply = record { wants = refl; size = omega (arith, sixteen); few = omega arith }
+      named r reply = record { allowed = refl; size = omega (arith, sixteen); few = omega arith }
 
   -- ---- all calls
 

@@ -3,14 +3,14 @@ use Rattle.std.proofs.Common.{◌≡◌, ℕ, false, List, [], ◌∷◌, ◌++�
 use Rattle.vhost_message.specs.FrontendReq.{request_of}
 use Rattle.vhost_message.specs.declared.frontend_req.FrontendReq.{FrontendReq}
 use Rattle.vhost_message.specs.declared.frontend_req.FrontendReq.TheVariants.{SET_FEATURES}
-use Rattle.vhost_protocol.specs.Codes.{wanted}
+use Rattle.vhost_protocol.specs.Codes.{allows_handles}
 use Rattle.vhost_protocol.specs.Error.{Error, Disconnected, PartialMessage, InvalidMessage}
 use Rattle.vhost_protocol.specs.Split.{Message, split, split_after, split_body, body_outcome}
 use Rattle.vhost_protocol.specs.Stream.{Cell, plain, carrying}
 
 -- the first message of a stream of the frontend, with numbers for handles
 cut : List (Cell ℕ) → Result (Message FrontendReq ℕ) Error × List (Cell ℕ)
-cut = split request_of wanted
+cut = split request_of allows_handles
 
 empty_stream : cut [] ≡ (Err Disconnected, [])
 unfolding cut split

@@ -5,9 +5,9 @@ use Rattle.vhost_message.specs.FrontendReq.{request_number}
 use Rattle.vhost_message.specs.Records.{region_text, memory_text}
 use Rattle.vhost_message.specs.Text.{digits}
 use Rattle.vhost_message.specs.declared.frontend_req.FrontendReq.{FrontendReq}
-use Rattle.vhost_message.specs.declared.frontend_req.FrontendReq.TheVariants.{GET_FEATURES, SET_FEATURES, SET_MEM_TABLE, SET_LOG_FD, SET_VRING_NUM, SET_VRING_KICK, GET_PROTOCOL_FEATURES, SET_CONFIG, GET_CONFIG, GPU_SET_SOCKET, SET_DEVICE_STATE_FD, GET_SHMEM_CONFIG, POSTCOPY_END, SET_BACKEND_REQ_FD}
+use Rattle.vhost_message.specs.declared.frontend_req.FrontendReq.TheVariants.{GET_FEATURES, SET_FEATURES, SET_OWNER, SET_MEM_TABLE, SET_LOG_FD, SET_VRING_NUM, SET_VRING_KICK, GET_PROTOCOL_FEATURES, SET_CONFIG, GET_CONFIG, GPU_SET_SOCKET, SET_DEVICE_STATE_FD, GET_SHMEM_CONFIG, POSTCOPY_END, SET_BACKEND_REQ_FD}
 use Rattle.vhost_message.specs.declared.postcopy.PostcopyState.TheVariants.{Listen, End}
-use Rattle.vhost_protocol.specs.DeviceCall.{Call, Answer, GetFeatures, SetFeatures, SetVringNum, SetVringKick, GetProtocolFeatures, SetMemTable, GetConfig, SetGpuSocket, SetDeviceStateFd, SetBackendReqFd, PostcopyEnd, PostcopyAckMemRegions, GetVringBase, GetQueueNum, GetSharedObject, GetInflightFd, GetMaxMemSlots, AddMemRegion, GetShmemConfig, PostcopyAdvice}
+use Rattle.vhost_protocol.specs.DeviceCall.{Call, Answer, SetOwner, GetFeatures, SetFeatures, SetVringNum, SetVringKick, GetProtocolFeatures, SetMemTable, GetConfig, SetGpuSocket, SetDeviceStateFd, SetBackendReqFd, PostcopyEnd, PostcopyAckMemRegions, GetVringBase, GetQueueNum, GetSharedObject, GetInflightFd, GetMaxMemSlots, AddMemRegion, GetShmemConfig, PostcopyAdvice}
 use Rattle.vhost_protocol.specs.Error.{Error, InvalidOperation, InvalidParam, InvalidMessage, InactiveOperation, InvalidSocketFd, Named}
 use Rattle.vhost_protocol.specs.Row.{row}
 use Rattle.vhost_protocol.specs.Served.{Served, reply}
@@ -262,3 +262,39 @@ too_many_regions = refl
 one_region : (does (acks 8) (message SET_MEM_TABLE true (regions 1) (1 ∷ []))).call ≡ Some (SetMemTable (record { guest_phys_addr = 0; memory_size = 0x1000; user_addr = 0x7000; mmap_offset = 0 } ∷ []) (1 ∷ []) (Some false))
 unfolding does done_by opens device message shown acks regions
 one_region = refl
+
+-- ---- acknowledgements: where they are wanted and on, with the device's answer
+
+unable : (c : Call ℕ ℕ ℕ) → Answer c
+unable SetOwner = Err (InvalidOperation (codes "already claimed"))
+unable GetFeatures = Err InvalidParam
+unable c = device c
+
+owner_text : ℕ → List ℕ
+owner_text n = 3 ∷ 0 ∷ 0 ∷ 0 ∷ 5 ∷ 0 ∷ 0 ∷ 0 ∷ 8 ∷ 0 ∷ 0 ∷ 0 ∷ n ∷ replicate 7 0
+
+owner_agreed : (does (acks 8) (message SET_OWNER true [] [])).text ≡ owner_text 0
+unfolding does done_by opens device message shown acks owner_text
+owner_agreed = refl
+
+owner_refused : (done_by unable opens (acks 8) (message SET_OWNER true [] []) (row (acks 8) (message SET_OWNER true [] []))).text ≡ owner_text 1
+unfolding done_by opens unable message shown acks owner_text
+owner_refused = refl
+
+owner_unasked : (does (acks 8) (message SET_OWNER false [] [])).text ≡ []
+unfolding does done_by opens device message shown acks
+owner_unasked = refl
+
+owner_off : (does fresh (message SET_OWNER true [] [])).text ≡ []
+unfolding does done_by opens device message shown
+owner_off = refl
+
+owner_with_body : does (acks 8) (message SET_OWNER true (0 ∷ []) []) ≡ record { call = None; answer = Err InvalidMessage; text = []; handles = []; session = acks 8 }
+unfolding does done_by opens device message shown acks
+owner_with_body = refl
+
+-- features that the device does not tell: nothing is written, and nothing remembered
+no_features : done_by unable opens (acks 8) (message GET_FEATURES true [] []) (row (acks 8) (message GET_FEATURES true [] []))
+    ≡ record { call = Some GetFeatures; answer = Err InvalidParam; text = []; handles = []; session = acks 8 }
+unfolding done_by opens unable message shown acks
+no_features = refl

@@ -3,6 +3,7 @@ use Rattle.std.proofs.Common.{◌≡◌, ℕ, ◌^◌, ◌≤◌, ◌<◌, Bool,
 use Rattle.std.specs.Prelude.{◌==◌}
 use Rattle.std.proofs.lemmas.Bool.{eq-eqb}
 use Rattle.byteorder.specs.Numbers.{little_number-reads_back}
+use Rattle.vhost_message.specs.declared.limits.TheConstants.{MAX_MSG_SIZE}
 use Rattle.vhost_message.specs.Bits.{has_bit}
 use Rattle.vhost_message.specs.declared.frontend_req.FrontendReq.{FrontendReq}
 use Rattle.vhost_message.specs.FrontendReq.{request_of, request_number, request_of-request_number}
@@ -13,7 +14,9 @@ use Rattle.vhost_protocol.specs.Error.{InvalidParam, InvalidMessage}
 use Rattle.vhost_protocol.specs.Written.{Payload, Empty, U64, Written, head_of, payload_text, written_cells, reply_to}
 use Rattle.vhost_protocol.specs.Served.{Acknowledged, Replied, reply, cells_of}
 use Rattle.vhost_protocol.specs.FrontendCall.{FrontendCall, SetMemTable, GetConfig, Frontend}
-use Rattle.vhost_protocol.specs.Ask.{Shape, AnEmpty, AU64, Ack, Reply}
+use Rattle.vhost_protocol.specs.declared.asked.Shape.{Shape}
+use Rattle.vhost_protocol.specs.declared.asked.Awaited.TheVariants.{Ack, Reply}
+use Rattle.vhost_protocol.specs.declared.asked.Shape.TheVariants as shape
 use Rattle.vhost_protocol.specs.AnswerTable.{answered, answer}
 use Rattle.vhost_protocol.specs.ReplySplit.{Received, reply_split}
 use Rattle.vhost_protocol.specs.Take.{record_size, is_valid_record, payload_of, room, is_sized, is_known, answers, understood, take_reply, take}
@@ -22,7 +25,7 @@ use Rattle.vhost_protocol.proofs.TextLaws.{request-small, sendable-valid}
 use Rattle.vhost_protocol.proofs.ReplyLaws.{reply-read}
 
 -- a reply's header is known
-pub reply-known : {H : Type 0} (r : FrontendReq) (payload : Payload) (handles : List H) → length (payload_text payload) ≤ 4096
+pub reply-known : {H : Type 0} (r : FrontendReq) (payload : Payload) (handles : List H) → length (payload_text payload) ≤ MAX_MSG_SIZE
     → is_known (head_of request_number (reply_to r payload handles)) ≡ true
 reply-known r payload handles small =
     ap (λ b. is_some (cond b (request_of (request_number r)) None)) (sendable-valid true false (request_number r) (length (payload_text payload)) small)
@@ -48,7 +51,7 @@ module _ (H : Type 0) where
     pub text : payload_text payload ≡ body ++ more
     pub size : length body ≡ record_size shape
     pub rest : length more ≡ room call
-    pub small : length (payload_text payload) ≤ 4096
+    pub small : length (payload_text payload) ≤ MAX_MSG_SIZE
     pub valid : is_valid_record shape body ≡ true
     pub read : payload_of shape body more ≡ payload
     pub sized : is_sized call (the_reply r payload handles body more) ≡ true
@@ -99,10 +102,10 @@ module _ (H : Type 0) where
       → sent.code ≡ request_number r → has_bit sent.flags 2 ≡ false
       → take call Ack sent f (cells_of request_number (reply r (Acknowledged agreed)) ++ rest) ≡ (answer call Ack f (Acknowledged agreed), rest)
   take-acknowledged call sent f r true rest code flag =
-      ap (λ cut. (understood call Ack sent f cut.0, cut.1)) (reply-read request_number is_known (is_valid_record AU64) (reply_to r (U64 0) []) (digits 8 0) [] rest refl (request-small r) (lit< tt) (reply-known {H = H} r (U64 0) [] (omega arith)) refl)
+      ap (λ cut. (understood call Ack sent f cut.0, cut.1)) (reply-read request_number is_known (is_valid_record shape.U64) (reply_to r (U64 0) []) (digits 8 0) [] rest refl (request-small r) (lit< tt) (reply-known {H = H} r (U64 0) [] (omega arith)) refl)
       ∙ ap (λ b. (cond b (answer call Ack f (Acknowledged true)) (Some (answered f (Err InvalidMessage))), rest)) (reply-answers {H = H} r (U64 0) [] sent code flag)
   take-acknowledged call sent f r false rest code flag =
-      ap (λ cut. (understood call Ack sent f cut.0, cut.1)) (reply-read request_number is_known (is_valid_record AU64) (reply_to r (U64 1) []) (digits 8 1) [] rest refl (request-small r) (lit< tt) (reply-known {H = H} r (U64 1) [] (omega arith)) refl)
+      ap (λ cut. (understood call Ack sent f cut.0, cut.1)) (reply-read request_number is_known (is_valid_record shape.U64) (reply_to r (U64 1) []) (digits 8 1) [] rest refl (request-small r) (lit< tt) (reply-known {H = H} r (U64 1) [] (omega arith)) refl)
       ∙ ap (λ b. (cond b (answer call Ack f (Acknowledged false)) (Some (answered f (Err InvalidMessage))), rest)) (reply-answers {H = H} r (U64 1) [] sent code flag)
 
   -- ---- replies without payload
@@ -121,7 +124,7 @@ module _ (H : Type 0) where
   short-sized (GetConfig offset size flags buffer) r short = absurd short
   short-sized _ r short = refl
 
-  pub readable-number : (call : FrontendCall H) (r : FrontendReq) (n : ℕ) (handles : List H) → IsShort call → n < 2 ^ 64 → IsReadable call AU64 r (U64 n) handles
+  pub readable-number : (call : FrontendCall H) (r : FrontendReq) (n : ℕ) (handles : List H) → IsShort call → n < 2 ^ 64 → IsReadable call shape.U64 r (U64 n) handles
   readable-number call r n handles short fits = record {
     body = digits 8 n;
     more = [];
@@ -134,7 +137,7 @@ module _ (H : Type 0) where
     sized = short-sized call (the_reply r (U64 n) handles (digits 8 n) []) short;
   }
 
-  pub readable-empty : (call : FrontendCall H) (r : FrontendReq) (handles : List H) → IsShort call → IsReadable call AnEmpty r Empty handles
+  pub readable-empty : (call : FrontendCall H) (r : FrontendReq) (handles : List H) → IsShort call → IsReadable call shape.Empty r Empty handles
   readable-empty call r handles short = record {
     body = [];
     more = [];
@@ -149,8 +152,8 @@ module _ (H : Type 0) where
 
   pub take-number : TakesNumber H
   take-number call sent f r short of_r n handles fits rest =
-      take-replied call AU64 sent f r (U64 n) handles rest (short-plainly call short) (readable-number call r n handles short fits) of_r.0 of_r.1
+      take-replied call shape.U64 sent f r (U64 n) handles rest (short-plainly call short) (readable-number call r n handles short fits) of_r.0 of_r.1
 
   pub take-empty : TakesEmpty H
   take-empty call sent f r short of_r handles rest =
-      take-replied call AnEmpty sent f r Empty handles rest (short-plainly call short) (readable-empty call r handles short) of_r.0 of_r.1
+      take-replied call shape.Empty sent f r Empty handles rest (short-plainly call short) (readable-empty call r handles short) of_r.0 of_r.1

@@ -3,7 +3,8 @@ use Rattle.std.proofs.Common.{◌≡◌, ℕ, List, [], ◌∷◌, ◌++◌, rep
 use Rattle.vhost_message.specs.Header.{Header, header_text}
 use Rattle.vhost_message.specs.Text.{digits}
 use Rattle.vhost_protocol.specs.AnswerTable.{Answered, answered}
-use Rattle.vhost_protocol.specs.Ask.{AU64, AConfig, AnEmpty, TheRegions, Ack, Reply}
+use Rattle.vhost_protocol.specs.declared.asked.Awaited.TheVariants.{Ack, Reply}
+use Rattle.vhost_protocol.specs.declared.asked.Shape.TheVariants as shape
 use Rattle.vhost_protocol.specs.Error.{PartialMessage, InvalidMessage, InvalidParam, IncorrectFds, BackendInternalError}
 use Rattle.vhost_protocol.specs.FrontendCall.{GetFeatures, GetQueueNum, GetConfig, GetSharedObject, SetOwner, SetMemTable, SetDeviceStateFd, Info, Nothing, Number, ConfigOf, HandleOf, StateHandle, Bases, Frontend, new_frontend}
 use Rattle.vhost_protocol.specs.ReplySplit.{reply_split, received, bare_or_reply}
@@ -23,7 +24,7 @@ f = new_frontend 2
 -- ---- replies to GET_FEATURES, which was sent without flags
 
 features : List (Cell ℕ) → Option (Answered ℕ) × List (Cell ℕ)
-features cells = take GetFeatures (Reply AU64) (header 1 1 0) f cells
+features cells = take GetFeatures (Reply shape.U64) (header 1 1 0) f cells
 
 known : Option (Answered ℕ)
 known = Some (answered (record f { offered = 0x40000003 }) (Ok (Number 0x40000003)))
@@ -69,7 +70,7 @@ unfolding features reply_split received header f
 nothing = refl
 
 -- a request that was sent with REPLY has no reply: nothing is read
-sent_as_reply : take GetFeatures (Reply AU64) (header 1 5 0) f (plain (u64 1 5 8 3)) ≡ (Some (answered f (Err InvalidParam)), plain {H = ℕ} (u64 1 5 8 3))
+sent_as_reply : take GetFeatures (Reply shape.U64) (header 1 5 0) f (plain (u64 1 5 8 3)) ≡ (Some (answered f (Err InvalidParam)), plain {H = ℕ} (u64 1 5 8 3))
 unfolding header
 sent_as_reply = refl
 
@@ -81,7 +82,7 @@ sent_as_reply_acked = refl
 -- ---- other numbers
 
 queues : ℕ → Option (Answered ℕ) × List (Cell ℕ)
-queues n = take GetQueueNum (Reply AU64) (header 17 1 0) f (plain (u64 17 5 8 n))
+queues n = take GetQueueNum (Reply shape.U64) (header 17 1 0) f (plain (u64 17 5 8 n))
 
 queues_most : queues 0x8000 ≡ (Some (answered (record f { max_queue_num = 0x8000 }) (Ok (Number 0x8000))), [])
 unfolding queues reply_split received header u64 f
@@ -112,7 +113,7 @@ other_size = refl
 -- ---- configuration bytes
 
 config : ℕ → List (Cell ℕ) → Option (Answered ℕ) × List (Cell ℕ)
-config offset cells = take (GetConfig offset 4 0 (replicate 4 0)) (Reply AConfig) (header 24 1 16) f cells
+config offset cells = take (GetConfig offset 4 0 (replicate 4 0)) (Reply shape.Config) (header 24 1 16) f cells
 
 -- a bare reply is taken whole, and nothing more
 bare : config 0x200 (plain (header_text (header 24 5 12) ++ digits 4 0x200 ++ digits 8 0 ++ 9 ∷ [])) ≡ (Some (answered f (Err BackendInternalError)), plain (9 ∷ []))
@@ -134,14 +135,14 @@ unfolding config reply_split received bare_or_reply header f
 half_found = refl
 
 -- into an empty buffer nothing is read
-no_buffer : take (GetConfig 0x100 4 0 []) (Reply AConfig) (header 24 1 12) f (plain (header_text (header 24 5 12))) ≡ (Some (answered f (Err InvalidParam)), plain {H = ℕ} (header_text (header 24 5 12)))
+no_buffer : take (GetConfig 0x100 4 0 []) (Reply shape.Config) (header 24 1 12) f (plain (header_text (header 24 5 12))) ≡ (Some (answered f (Err InvalidParam)), plain {H = ℕ} (header_text (header 24 5 12)))
 unfolding header
 no_buffer = refl
 
 -- ---- handles
 
 object : List ℕ → Option (Answered ℕ) × List (Cell ℕ)
-object handles = take (GetSharedObject (record { uuid = replicate 16 1 })) (Reply AnEmpty) (header 41 1 16) f (carrying handles (header_text (header 41 5 0)))
+object handles = take (GetSharedObject (record { uuid = replicate 16 1 })) (Reply shape.Empty) (header 41 1 16) f (carrying handles (header_text (header 41 5 0)))
 
 object_given : object (7 ∷ []) ≡ (Some (answered f (Ok (HandleOf 7))), [])
 unfolding object reply_split received header f
@@ -158,7 +159,7 @@ object_twice = refl
 -- ---- the transfer of the device's state
 
 state : ℕ → List ℕ → Option (Answered ℕ)
-state n handles = (take (SetDeviceStateFd (record { direction = 0; phase = 0 }) 9) (Reply AU64) (header 42 1 8) f (carrying handles (u64 42 5 8 n))).0
+state n handles = (take (SetDeviceStateFd (record { direction = 0; phase = 0 }) 9) (Reply shape.U64) (header 42 1 8) f (carrying handles (u64 42 5 8 n))).0
 
 state_none : state 0x100 [] ≡ Some (answered f (Ok (StateHandle None)))
 unfolding state reply_split received header u64 f
@@ -187,7 +188,7 @@ info = record { region = record { guest_phys_addr = 0; memory_size = 0x1000; use
 
 -- the reply for one region of 4096 bytes
 regions : ℕ → ℕ → Option (Answered ℕ)
-regions guest size = (take (SetMemTable (info ∷ [])) (Reply TheRegions) (header 5 1 40) f (plain (header_text (header 5 5 size) ++ digits 4 1 ++ digits 4 0 ++ digits 8 guest ++ digits 8 0x1000 ++ digits 8 0xabcd ++ digits 8 0))).0
+regions guest size = (take (SetMemTable (info ∷ [])) (Reply shape.Memory) (header 5 1 40) f (plain (header_text (header 5 5 size) ++ digits 4 1 ++ digits 4 0 ++ digits 8 guest ++ digits 8 0x1000 ++ digits 8 0xabcd ++ digits 8 0))).0
 
 regions_mapped : regions 0 40 ≡ Some (answered f (Ok (Bases (Some (0xabcd ∷ [])))))
 unfolding regions reply_split received header info f

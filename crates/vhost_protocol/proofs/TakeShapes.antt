@@ -3,6 +3,7 @@ use Rattle.std.proofs.Common.{◌≡◌, ℕ, ◌+◌, ◌*◌, ◌≤◌, inl, 
 use Rattle.std.specs.Prelude.{◌==◌, flat_map, All}
 use Rattle.std.proofs.lemmas.Bool.{eq-eqb, ne_eqb}
 use Rattle.std.proofs.lemmas.List.{append-nil}
+use Rattle.vhost_message.specs.declared.limits.TheConstants.{MAX_MEM_REGIONS, MAX_MSG_SIZE, MEMORY_REGION_SIZE}
 use Rattle.vhost_message.specs.declared.frontend_req.FrontendReq.{FrontendReq}
 use Rattle.vhost_message.specs.declared.records.config.VhostUserConfig.{VhostUserConfig}
 use Rattle.vhost_message.specs.declared.records.inflight.VhostUserInflight.{VhostUserInflight}
@@ -19,7 +20,9 @@ use Rattle.vhost_message.specs.Bits.{has_bit}
 use Rattle.vhost_message.specs.FrontendReq.{request_number}
 use Rattle.vhost_message.specs.Header.{Header, header_of, header_text}
 use Rattle.vhost_protocol.specs.AnswerTable.{answered, answer, with_one, only_if}
-use Rattle.vhost_protocol.specs.Ask.{Nobody, Ack, Reply, Shape, AU64, AConfig, AnEmpty, ARegion, AShmem, ARingState, AnInflight, ALog, TheRegions}
+use Rattle.vhost_protocol.specs.declared.asked.Awaited.TheVariants.{Nobody, Ack, Reply}
+use Rattle.vhost_protocol.specs.declared.asked.Shape.{Shape}
+use Rattle.vhost_protocol.specs.declared.asked.Shape.TheVariants as shape
 use Rattle.vhost_protocol.specs.Error.{PartialMessage, InvalidMessage, InvalidParam, BackendInternalError}
 use Rattle.vhost_protocol.specs.FrontendCall.{FrontendCall, SetMemTable, GetConfig, GetInflightFd, ConfigOf, Info, InflightOf, Frontend}
 use Rattle.vhost_protocol.specs.Laws.{IsShort, IsSentFor, IsTableOf, IsConfigOf, IsInflightOf, TakesReply, TakesNothing}
@@ -35,7 +38,7 @@ use Rattle.vhost_protocol.proofs.TakeLaws.{reply-answers, reply-cut, reply-under
 use Rattle.vhost_protocol.proofs.TextLaws.{request-small, header-read}
 
 module _ (H : Type 0) where
-  readable-ring : (call : FrontendCall H) (r : FrontendReq) (v : VhostUserVringState) (handles : List H) → IsShort call → VringStateFits v → IsReadable H call ARingState r (RingState v) handles
+  readable-ring : (call : FrontendCall H) (r : FrontendReq) (v : VhostUserVringState) (handles : List H) → IsShort call → VringStateFits v → IsReadable H call shape.VringState r (RingState v) handles
   readable-ring call r v handles short fits = record {
     body = vring_state_text v;
     more = [];
@@ -48,7 +51,7 @@ module _ (H : Type 0) where
     sized = short-sized H call (the_reply H r (RingState v) handles (vring_state_text v) []) short;
   }
 
-  readable-region : (call : FrontendCall H) (r : FrontendReq) (v : VhostUserSingleMemoryRegion) (handles : List H) → IsShort call → SingleRegionFits v → IsReadable H call ARegion r (OneRegion v) handles
+  readable-region : (call : FrontendCall H) (r : FrontendReq) (v : VhostUserSingleMemoryRegion) (handles : List H) → IsShort call → SingleRegionFits v → IsReadable H call shape.SingleMemoryRegion r (OneRegion v) handles
   readable-region call r v handles short fits = record {
     body = single_region_text v;
     more = [];
@@ -61,7 +64,7 @@ module _ (H : Type 0) where
     sized = short-sized H call (the_reply H r (OneRegion v) handles (single_region_text v) []) short;
   }
 
-  readable-inflight : (call : FrontendCall H) (r : FrontendReq) (i : VhostUserInflight) (handles : List H) → IsShort call → is_valid_inflight i ≡ true → InflightFits i → IsReadable H call AnInflight r (InflightArea i) handles
+  readable-inflight : (call : FrontendCall H) (r : FrontendReq) (i : VhostUserInflight) (handles : List H) → IsShort call → is_valid_inflight i ≡ true → InflightFits i → IsReadable H call shape.Inflight r (InflightArea i) handles
   readable-inflight call r i handles short valid fits = record {
     body = inflight_text i;
     more = [];
@@ -74,7 +77,7 @@ module _ (H : Type 0) where
     sized = short-sized H call (the_reply H r (InflightArea i) handles (inflight_text i) []) short;
   }
 
-  readable-log : (call : FrontendCall H) (r : FrontendReq) (l : VhostUserLog) (handles : List H) → IsShort call → is_valid_log l ≡ true → LogFits l → IsReadable H call ALog r (LogArea l) handles
+  readable-log : (call : FrontendCall H) (r : FrontendReq) (l : VhostUserLog) (handles : List H) → IsShort call → is_valid_log l ≡ true → LogFits l → IsReadable H call shape.Log r (LogArea l) handles
   readable-log call r l handles short valid fits = record {
     body = log_text l;
     more = [];
@@ -87,7 +90,7 @@ module _ (H : Type 0) where
     sized = short-sized H call (the_reply H r (LogArea l) handles (log_text l) []) short;
   }
 
-  readable-shmem : (call : FrontendCall H) (r : FrontendReq) (c : VhostUserShMemConfig) (handles : List H) → IsShort call → ShMemConfigFits c → IsReadable H call AShmem r (Shmem c) handles
+  readable-shmem : (call : FrontendCall H) (r : FrontendReq) (c : VhostUserShMemConfig) (handles : List H) → IsShort call → ShMemConfigFits c → IsReadable H call shape.ShMemConfig r (Shmem c) handles
   readable-shmem call r c handles short fits = record {
     body = shmem_config_text c;
     more = [];
@@ -101,48 +104,48 @@ module _ (H : Type 0) where
   }
 
   -- the table of as many regions as were sent
-  readable-table : (infos : List (Info H)) (r : FrontendReq) (rs : List VhostUserMemoryRegion) (handles : List H) → length rs ≡ length infos → 1 ≤ length rs → length rs ≤ 32 → All RegionFits rs → IsReadable H (SetMemTable infos) TheRegions r (Regions rs) handles
+  readable-table : (infos : List (Info H)) (r : FrontendReq) (rs : List VhostUserMemoryRegion) (handles : List H) → length rs ≡ length infos → 1 ≤ length rs → length rs ≤ MAX_MEM_REGIONS → All RegionFits rs → IsReadable H (SetMemTable infos) shape.Memory r (Regions rs) handles
   readable-table infos r rs handles same least most fits =
-      let bytes : length (flat_map region_text rs) ≡ 32 * length rs = regions-length rs in record {
+      let bytes : length (flat_map region_text rs) ≡ MEMORY_REGION_SIZE * length rs = regions-length rs in record {
         body = memory_text (table_head (length rs));
         more = flat_map region_text rs;
         text = refl;
         size = refl;
-        rest = bytes ∙ ap (λ n. 32 * n) same;
+        rest = bytes ∙ ap (λ n. MEMORY_REGION_SIZE * n) same;
         small = omega (arith, bytes);
         valid = head-valid (length rs) least most;
         read = ap (λ n. Regions (regions_of n (flat_map region_text rs))) (omega (arith, bytes)) ∙ ap (λ x. Regions x) (regions-read rs fits);
         sized =
-            ap (λ b. b && (memory_of (memory_text (table_head (length rs)))).num_regions == length infos && length (flat_map region_text rs) == 32 * length infos)
-            (eq-eqb (length (payload_text (Regions rs))) (8 + 32 * length infos) (omega (arith, bytes, same)))
-            ∙ ap (λ b. b && length (flat_map region_text rs) == 32 * length infos)
+            ap (λ b. b && (memory_of (memory_text (table_head (length rs)))).num_regions == length infos && length (flat_map region_text rs) == MEMORY_REGION_SIZE * length infos)
+            (eq-eqb (length (payload_text (Regions rs))) (8 + MEMORY_REGION_SIZE * length infos) (omega (arith, bytes, same)))
+            ∙ ap (λ b. b && length (flat_map region_text rs) == MEMORY_REGION_SIZE * length infos)
             (eq-eqb (memory_of (memory_text (table_head (length rs)))).num_regions (length infos) (ap (λ m. m.num_regions) (head-read (length rs) most) ∙ same))
-            ∙ eq-eqb (length (flat_map region_text rs)) (32 * length infos) (omega (arith, bytes, same));
+            ∙ eq-eqb (length (flat_map region_text rs)) (MEMORY_REGION_SIZE * length infos) (omega (arith, bytes, same));
       }
 
   -- an area that is not valid is refused, as the answer table says
   take-invalid : (asked : VhostUserInflight) (sent : Header) (f : Frontend) (r : FrontendReq) (i : VhostUserInflight) (handles : List H) (rest : List (Cell H)) → has_bit sent.flags 2 ≡ false → is_valid_inflight i ≡ false → InflightFits i
-      → take (GetInflightFd asked) (Reply AnInflight) sent f (cells_of request_number (reply r (Replied (InflightArea i) handles)) ++ rest) ≡ (answer (GetInflightFd asked) (Reply AnInflight) f (Replied (InflightArea i) handles), rest)
+      → take (GetInflightFd asked) (Reply shape.Inflight) sent f (cells_of request_number (reply r (Replied (InflightArea i) handles)) ++ rest) ≡ (answer (GetInflightFd asked) (Reply shape.Inflight) f (Replied (InflightArea i) handles), rest)
   take-invalid asked sent f r i handles rest flag invalid fits =
       let w : Written FrontendReq H = reply_to r (InflightArea i) handles in
       let cells : List (Cell H) = written_cells request_number w ++ rest in
-      ap (λ b. cond b (Some (answered f (Err InvalidParam)), cells) (take_reply (GetInflightFd asked) AnInflight sent f cells)) flag
-      ∙ ap (λ cut. (understood (GetInflightFd asked) (Reply AnInflight) sent f cut.0, cut.1))
-      (reply-invalid request_number is_known (is_valid_record AnInflight) w (inflight_text i) [] rest refl (request-small r) (lit< tt) (reply-known r (InflightArea i) handles (lit< tt)) (ap (λ x. is_valid_inflight x) (inflight-reads_back i fits) ∙ invalid))
+      ap (λ b. cond b (Some (answered f (Err InvalidParam)), cells) (take_reply (GetInflightFd asked) shape.Inflight sent f cells)) flag
+      ∙ ap (λ cut. (understood (GetInflightFd asked) (Reply shape.Inflight) sent f cut.0, cut.1))
+      (reply-invalid request_number is_known (is_valid_record shape.Inflight) w (inflight_text i) [] rest refl (request-small r) (lit< tt) (reply-known r (InflightArea i) handles (lit< tt)) (ap (λ x. is_valid_inflight x) (inflight-reads_back i fits) ∙ invalid))
       ∙ ap (λ b. (Some (answered f (cond b (with_one handles (InflightOf i)) (Err InvalidMessage))), rest)) (sym invalid)
 
   take-inflight : (asked : VhostUserInflight) (sent : Header) (f : Frontend) (r : FrontendReq) (i : VhostUserInflight) (handles : List H) (rest : List (Cell H)) → IsSentFor r sent → InflightFits i
-      → take (GetInflightFd asked) (Reply AnInflight) sent f (cells_of request_number (reply r (Replied (InflightArea i) handles)) ++ rest) ≡ (answer (GetInflightFd asked) (Reply AnInflight) f (Replied (InflightArea i) handles), rest)
+      → take (GetInflightFd asked) (Reply shape.Inflight) sent f (cells_of request_number (reply r (Replied (InflightArea i) handles)) ++ rest) ≡ (answer (GetInflightFd asked) (Reply shape.Inflight) f (Replied (InflightArea i) handles), rest)
   take-inflight asked sent f r i handles rest of_r fits = go (is_valid_inflight i) refl
     where
-      go : (b : Bool) → is_valid_inflight i ≡ b → take (GetInflightFd asked) (Reply AnInflight) sent f (cells_of request_number (reply r (Replied (InflightArea i) handles)) ++ rest) ≡ (answer (GetInflightFd asked) (Reply AnInflight) f (Replied (InflightArea i) handles), rest)
-      go true valid = take-replied H (GetInflightFd asked) AnInflight sent f r (InflightArea i) handles rest tt (readable-inflight (GetInflightFd asked) r i handles tt valid fits) of_r.0 of_r.1
+      go : (b : Bool) → is_valid_inflight i ≡ b → take (GetInflightFd asked) (Reply shape.Inflight) sent f (cells_of request_number (reply r (Replied (InflightArea i) handles)) ++ rest) ≡ (answer (GetInflightFd asked) (Reply shape.Inflight) f (Replied (InflightArea i) handles), rest)
+      go true valid = take-replied H (GetInflightFd asked) shape.Inflight sent f r (InflightArea i) handles rest tt (readable-inflight (GetInflightFd asked) r i handles tt valid fits) of_r.0 of_r.1
       go false invalid = take-invalid asked sent f r i handles rest of_r.1 invalid fits
 
   -- ---- configuration bytes
 
-  readable-config : (o n k : ℕ) (buffer : List ℕ) (r : FrontendReq) (c : VhostUserConfig) (bytes : List ℕ) (handles : List H) → length bytes ≡ length buffer → 12 + length bytes ≤ 4096 → is_valid_config c ≡ true → ConfigFits c
-      → IsReadable H (GetConfig o n k buffer) AConfig r (ConfigBytes c bytes) handles
+  readable-config : (o n k : ℕ) (buffer : List ℕ) (r : FrontendReq) (c : VhostUserConfig) (bytes : List ℕ) (handles : List H) → length bytes ≡ length buffer → 12 + length bytes ≤ MAX_MSG_SIZE → is_valid_config c ≡ true → ConfigFits c
+      → IsReadable H (GetConfig o n k buffer) shape.Config r (ConfigBytes c bytes) handles
   readable-config o n k buffer r c bytes handles same small valid fits = record {
     body = config_text c;
     more = bytes;
@@ -174,18 +177,18 @@ module _ (H : Type 0) where
 
   -- a bare reply is taken whole
   take-bare : (o n k b : ℕ) (buffer : List ℕ) (sent : Header) (f : Frontend) (r : FrontendReq) (c : VhostUserConfig) (rest : List (Cell H)) → IsSentFor r sent → c.size ≡ 0 → ConfigFits c
-      → take (GetConfig o n k (b ∷ buffer)) (Reply AConfig) sent f (cells_of request_number (reply r (Replied (ConfigBytes c []) [])) ++ rest)
-      ≡ (answer (GetConfig o n k (b ∷ buffer)) (Reply AConfig) f (Replied (ConfigBytes c []) []), rest)
+      → take (GetConfig o n k (b ∷ buffer)) (Reply shape.Config) sent f (cells_of request_number (reply r (Replied (ConfigBytes c []) [])) ++ rest)
+      ≡ (answer (GetConfig o n k (b ∷ buffer)) (Reply shape.Config) f (Replied (ConfigBytes c []) []), rest)
   unfolding bare_or_reply bare-test
   take-bare o n k b buffer sent f r c rest of_r none fits =
       let call : FrontendCall H = GetConfig o n k (b ∷ buffer) in
       let cells : List (Cell H) = written_cells request_number (reply_to r (ConfigBytes c []) []) ++ rest in
-      ap (λ x. cond x (Some (answered f (Err InvalidParam)), cells) (take_reply call AConfig sent f cells)) of_r.1
-      ∙ ap (λ x. let cut = cond x (Ok None, rest) (not_bare is_known (reply_split is_known 12 (is_valid_record AConfig) (length (b ∷ buffer)) cells)) in (understood_config call sent f cut.0, cut.1)) (bare-known sent r c of_r none fits)
+      ap (λ x. cond x (Some (answered f (Err InvalidParam)), cells) (take_reply call shape.Config sent f cells)) of_r.1
+      ∙ ap (λ x. let cut = cond x (Ok None, rest) (not_bare is_known (reply_split is_known 12 (is_valid_record shape.Config) (length (b ∷ buffer)) cells)) in (understood_config call sent f cut.0, cut.1)) (bare-known sent r c of_r none fits)
       ∙ ap (λ x. (Some (answered f (cond x (Err BackendInternalError) (only_if (c.offset == o && c.size == n && c.size == length (b ∷ buffer)) InvalidMessage (ConfigOf c [])))), rest)) (sym (ap (λ x. x && true) (eq-eqb c.size 0 none)))
 
   -- a reply with bytes is not bare: its size says so
-  full-known : (sent : Header) (r : FrontendReq) (c : VhostUserConfig) (x : ℕ) (bytes : List ℕ) (handles : List H) (brings : Bool) → IsSentFor r sent → 12 + length (x ∷ bytes) ≤ 4096
+  full-known : (sent : Header) (r : FrontendReq) (c : VhostUserConfig) (x : ℕ) (bytes : List ℕ) (handles : List H) (brings : Bool) → IsSentFor r sent → 12 + length (x ∷ bytes) ≤ MAX_MSG_SIZE
       → bare-test sent (header_of (header_text (head_of request_number (reply_to {H = H} r (ConfigBytes c (x ∷ bytes)) handles)))) brings (number_at 4 4 (config_text c)) ≡ false
   unfolding bare-test
   full-known sent r c x bytes handles brings of_r small =
@@ -199,28 +202,28 @@ module _ (H : Type 0) where
 
   -- it is taken with its bytes
   take-full : (o n k b : ℕ) (buffer : List ℕ) (sent : Header) (f : Frontend) (r : FrontendReq) (c : VhostUserConfig) (bytes : List ℕ) (handles : List H) (rest : List (Cell H)) → IsSentFor r sent
-      → length bytes ≡ length (b ∷ buffer) → 12 + length bytes ≤ 4096 → is_valid_config c ≡ true → ConfigFits c
-      → take (GetConfig o n k (b ∷ buffer)) (Reply AConfig) sent f (cells_of request_number (reply r (Replied (ConfigBytes c bytes) handles)) ++ rest)
-      ≡ (answer (GetConfig o n k (b ∷ buffer)) (Reply AConfig) f (Replied (ConfigBytes c bytes) handles), rest)
+      → length bytes ≡ length (b ∷ buffer) → 12 + length bytes ≤ MAX_MSG_SIZE → is_valid_config c ≡ true → ConfigFits c
+      → take (GetConfig o n k (b ∷ buffer)) (Reply shape.Config) sent f (cells_of request_number (reply r (Replied (ConfigBytes c bytes) handles)) ++ rest)
+      ≡ (answer (GetConfig o n k (b ∷ buffer)) (Reply shape.Config) f (Replied (ConfigBytes c bytes) handles), rest)
   unfolding bare_or_reply bare-test
   take-full o n k b buffer sent f r c [] handles rest of_r same small valid fits = absurd (omega (arith, same))
   take-full o n k b buffer sent f r c (x ∷ bytes) handles rest of_r same small valid fits =
       let call : FrontendCall H = GetConfig o n k (b ∷ buffer) in
       let p : Payload = ConfigBytes c (x ∷ bytes) in
       let cells : List (Cell H) = written_cells request_number (reply_to r p handles) ++ rest in
-      let kept : IsReadable H call AConfig r p handles = readable-config o n k (b ∷ buffer) r c (x ∷ bytes) handles same small valid fits in
-      ap (λ y. cond y (Some (answered f (Err InvalidParam)), cells) (take_reply call AConfig sent f cells)) of_r.1
-      ∙ ap (λ y. let cut = cond y (Ok None, drop 24 cells) (not_bare is_known (reply_split is_known 12 (is_valid_record AConfig) (length (b ∷ buffer)) cells)) in (understood_config call sent f cut.0, cut.1)) (full-known sent r c x bytes handles (has_some handles) of_r small)
-      ∙ ap (λ y. let cut = not_bare is_known y in (understood_config call sent f cut.0, cut.1)) (reply-cut H call AConfig r p handles rest kept)
-      ∙ ap (λ y. (y, rest)) (reply-understood H call AConfig sent f r p handles kept of_r.0 of_r.1)
+      let kept : IsReadable H call shape.Config r p handles = readable-config o n k (b ∷ buffer) r c (x ∷ bytes) handles same small valid fits in
+      ap (λ y. cond y (Some (answered f (Err InvalidParam)), cells) (take_reply call shape.Config sent f cells)) of_r.1
+      ∙ ap (λ y. let cut = cond y (Ok None, drop 24 cells) (not_bare is_known (reply_split is_known 12 (is_valid_record shape.Config) (length (b ∷ buffer)) cells)) in (understood_config call sent f cut.0, cut.1)) (full-known sent r c x bytes handles (has_some handles) of_r small)
+      ∙ ap (λ y. let cut = not_bare is_known y in (understood_config call sent f cut.0, cut.1)) (reply-cut H call shape.Config r p handles rest kept)
+      ∙ ap (λ y. (y, rest)) (reply-understood H call shape.Config sent f r p handles kept of_r.0 of_r.1)
 
   -- ---- all of them
 
   take-config : (call : FrontendCall H) (sent : Header) (f : Frontend) (r : FrontendReq) (c : VhostUserConfig) (bytes : List ℕ) (handles : List H) (rest : List (Cell H)) → IsSentFor r sent → IsConfigOf call c bytes handles → ConfigFits c
-      → take call (Reply AConfig) sent f (cells_of request_number (reply r (Replied (ConfigBytes c bytes) handles)) ++ rest) ≡ (answer call (Reply AConfig) f (Replied (ConfigBytes c bytes) handles), rest)
+      → take call (Reply shape.Config) sent f (cells_of request_number (reply r (Replied (ConfigBytes c bytes) handles)) ++ rest) ≡ (answer call (Reply shape.Config) f (Replied (ConfigBytes c bytes) handles), rest)
   take-config (GetConfig o n k []) sent f r c bytes handles rest of_r is fits = absurd is
   take-config (GetConfig o n k (b ∷ buffer)) sent f r c bytes handles rest of_r (inl bare) fits =
-      subst {A = List ℕ × List H} (λ x. take call (Reply AConfig) sent f (cells_of request_number (reply r (Replied (ConfigBytes c x.0) x.1)) ++ rest) ≡ (answer call (Reply AConfig) f (Replied (ConfigBytes c x.0) x.1), rest))
+      subst {A = List ℕ × List H} (λ x. take call (Reply shape.Config) sent f (cells_of request_number (reply r (Replied (ConfigBytes c x.0) x.1)) ++ rest) ≡ (answer call (Reply shape.Config) f (Replied (ConfigBytes c x.0) x.1), rest))
       (λ i. (sym bare.1 i, sym bare.2 i)) (take-bare o n k b buffer sent f r c rest of_r bare.0 fits)
     where
       call : FrontendCall H
@@ -229,30 +232,30 @@ module _ (H : Type 0) where
   take-config _ sent f r c bytes handles rest of_r is fits = absurd is
 
   take-table : (call : FrontendCall H) (sent : Header) (f : Frontend) (r : FrontendReq) (rs : List VhostUserMemoryRegion) (handles : List H) (rest : List (Cell H)) → IsSentFor r sent → IsTableOf call rs → All RegionFits rs
-      → take call (Reply TheRegions) sent f (cells_of request_number (reply r (Replied (Regions rs) handles)) ++ rest) ≡ (answer call (Reply TheRegions) f (Replied (Regions rs) handles), rest)
+      → take call (Reply shape.Memory) sent f (cells_of request_number (reply r (Replied (Regions rs) handles)) ++ rest) ≡ (answer call (Reply shape.Memory) f (Replied (Regions rs) handles), rest)
   take-table (SetMemTable infos) sent f r rs handles rest of_r is fits =
-      take-replied H (SetMemTable infos) TheRegions sent f r (Regions rs) handles rest tt (readable-table infos r rs handles is.0 is.1 is.2 fits) of_r.0 of_r.1
+      take-replied H (SetMemTable infos) shape.Memory sent f r (Regions rs) handles rest tt (readable-table infos r rs handles is.0 is.1 is.2 fits) of_r.0 of_r.1
   take-table _ sent f r rs handles rest of_r is fits = absurd is
 
   take-area : (call : FrontendCall H) (sent : Header) (f : Frontend) (r : FrontendReq) (i : VhostUserInflight) (handles : List H) (rest : List (Cell H)) → IsSentFor r sent → IsInflightOf call → InflightFits i
-      → take call (Reply AnInflight) sent f (cells_of request_number (reply r (Replied (InflightArea i) handles)) ++ rest) ≡ (answer call (Reply AnInflight) f (Replied (InflightArea i) handles), rest)
+      → take call (Reply shape.Inflight) sent f (cells_of request_number (reply r (Replied (InflightArea i) handles)) ++ rest) ≡ (answer call (Reply shape.Inflight) f (Replied (InflightArea i) handles), rest)
   take-area (GetInflightFd asked) sent f r i handles rest of_r is fits = take-inflight asked sent f r i handles rest of_r fits
   take-area _ sent f r i handles rest of_r is fits = absurd is
 
   pub take-reply : TakesReply H
-  take-reply call sent f r AnEmpty of_r Empty handles is fits rest = take-empty H call sent f r is of_r handles rest
-  take-reply call sent f r AU64 of_r (U64 n) handles is fits rest = take-number H call sent f r is of_r n handles fits rest
-  take-reply call sent f r ARegion of_r (OneRegion v) handles is fits rest =
-      take-replied H call ARegion sent f r (OneRegion v) handles rest (short-plainly H call is) (readable-region call r v handles is fits) of_r.0 of_r.1
-  take-reply call sent f r AShmem of_r (Shmem c) handles is fits rest =
-      take-replied H call AShmem sent f r (Shmem c) handles rest (short-plainly H call is) (readable-shmem call r c handles is fits) of_r.0 of_r.1
-  take-reply call sent f r ARingState of_r (RingState v) handles is fits rest =
-      take-replied H call ARingState sent f r (RingState v) handles rest (short-plainly H call is) (readable-ring call r v handles is fits) of_r.0 of_r.1
-  take-reply call sent f r AnInflight of_r (InflightArea i) handles is fits rest = take-area call sent f r i handles rest of_r is fits
-  take-reply call sent f r ALog of_r (LogArea l) handles is fits rest =
-      take-replied H call ALog sent f r (LogArea l) handles rest (short-plainly H call is.0) (readable-log call r l handles is.0 is.1 fits) of_r.0 of_r.1
-  take-reply call sent f r TheRegions of_r (Regions rs) handles is fits rest = take-table call sent f r rs handles rest of_r is fits
-  take-reply call sent f r AConfig of_r (ConfigBytes c bytes) handles is fits rest = take-config call sent f r c bytes handles rest of_r is fits
+  take-reply call sent f r shape.Empty of_r Empty handles is fits rest = take-empty H call sent f r is of_r handles rest
+  take-reply call sent f r shape.U64 of_r (U64 n) handles is fits rest = take-number H call sent f r is of_r n handles fits rest
+  take-reply call sent f r shape.SingleMemoryRegion of_r (OneRegion v) handles is fits rest =
+      take-replied H call shape.SingleMemoryRegion sent f r (OneRegion v) handles rest (short-plainly H call is) (readable-region call r v handles is fits) of_r.0 of_r.1
+  take-reply call sent f r shape.ShMemConfig of_r (Shmem c) handles is fits rest =
+      take-replied H call shape.ShMemConfig sent f r (Shmem c) handles rest (short-plainly H call is) (readable-shmem call r c handles is fits) of_r.0 of_r.1
+  take-reply call sent f r shape.VringState of_r (RingState v) handles is fits rest =
+      take-replied H call shape.VringState sent f r (RingState v) handles rest (short-plainly H call is) (readable-ring call r v handles is fits) of_r.0 of_r.1
+  take-reply call sent f r shape.Inflight of_r (InflightArea i) handles is fits rest = take-area call sent f r i handles rest of_r is fits
+  take-reply call sent f r shape.Log of_r (LogArea l) handles is fits rest =
+      take-replied H call shape.Log sent f r (LogArea l) handles rest (short-plainly H call is.0) (readable-log call r l handles is.0 is.1 fits) of_r.0 of_r.1
+  take-reply call sent f r shape.Memory of_r (Regions rs) handles is fits rest = take-table call sent f r rs handles rest of_r is fits
+  take-reply call sent f r shape.Config of_r (ConfigBytes c bytes) handles is fits rest = take-config call sent f r c bytes handles rest of_r is fits
   take-reply call sent f r _ of_r _ handles is fits rest = absurd is
 
   -- ---- a silent handler
@@ -265,7 +268,7 @@ module _ (H : Type 0) where
   -- a record of any shape is missing
   nothing-cut : (shape : Shape) (room : ℕ) → reply_split {H = H} is_known (record_size shape) (is_valid_record shape) room [] ≡ (Err PartialMessage, [])
   unfolding reply_split
-  nothing-cut AnEmpty room = refl
+  nothing-cut shape.Empty room = refl
   nothing-cut _ room = refl
 
   silent-reply : (call : FrontendCall H) (shape : Shape) (sent : Header) (f : Frontend) → take_reply call shape sent f [] ≡ (answer call (Reply shape) f Silent, [])

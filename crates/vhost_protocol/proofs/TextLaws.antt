@@ -2,6 +2,7 @@
 use Rattle.std.proofs.Common.{◌≡◌, ℕ, suc, ◌^◌, ◌≤◌, ◌<◌, Bool, true, false, cond, List, [], ◌∷◌, ◌++◌, length, Option, Some, Result, Ok, Err, refl, ◌∙◌, ap, arith, lit<}
 use Rattle.std.proofs.lemmas.Bool.{le-leb}
 use Rattle.byteorder.specs.Numbers.{little_number-reads_back}
+use Rattle.vhost_message.specs.declared.limits.TheConstants.{MAX_MSG_SIZE}
 use Rattle.vhost_message.specs.Bits.{has_bit}
 use Rattle.vhost_message.specs.declared.frontend_req.FrontendReq.{FrontendReq}
 use Rattle.vhost_message.specs.declared.frontend_req.FrontendReq.TheVariants.{GET_FEATURES}
@@ -46,19 +47,19 @@ flags-small true false = lit< tt
 flags-small false true = lit< tt
 flags-small true true = lit< tt
 
-pub sendable-valid : (a b : Bool) (code size : ℕ) → size ≤ 4096 → is_valid_header (record { code = code; flags = header_flags a b; size = size }) ≡ true
-sendable-valid false false code size h = le-leb size 4096 h
-sendable-valid true false code size h = le-leb size 4096 h
-sendable-valid false true code size h = le-leb size 4096 h
-sendable-valid true true code size h = le-leb size 4096 h
+pub sendable-valid : (a b : Bool) (code size : ℕ) → size ≤ MAX_MSG_SIZE → is_valid_header (record { code = code; flags = header_flags a b; size = size }) ≡ true
+sendable-valid false false code size h = le-leb size MAX_MSG_SIZE h
+sendable-valid true false code size h = le-leb size MAX_MSG_SIZE h
+sendable-valid false true code size h = le-leb size MAX_MSG_SIZE h
+sendable-valid true true code size h = le-leb size MAX_MSG_SIZE h
 
-module _ {R H : Type 0} (request_of : ℕ → Option R) (wanted : R → ℕ → Bool) (number_of : R → ℕ) where
-  -- what can be sent: a known request whose handles are wanted, with at most 4096 bytes
+module _ {R H : Type 0} (request_of : ℕ → Option R) (allows_handles : R → ℕ → Bool) (number_of : R → ℕ) where
+  -- what can be sent: a known request whose handles are allowed, with no more body than allowed
   pub record IsSendable (w : Written R H) : Type 0 where
     pub known : request_of (number_of w.request) ≡ Some w.request
     pub code : number_of w.request < 2 ^ 32
-    pub wants : wanted w.request (length w.handles) ≡ true
-    pub size : length (payload_text w.payload) ≤ 4096
+    pub allowed : allows_handles w.request (length w.handles) ≡ true
+    pub size : length (payload_text w.payload) ≤ MAX_MSG_SIZE
 
   head : Written R H → Header
   head w = head_of number_of w
@@ -67,10 +68,10 @@ module _ {R H : Type 0} (request_of : ℕ → Option R) (wanted : R → ℕ → 
   unfolding head
   written-announced w ok = rw (sendable-valid w.reply w.need_reply (number_of w.request) (length (payload_text w.payload)) ok.size) (ok.known)
 
-  written-body : (w : Written R H) (rest : List (Cell H)) → split_body request_of wanted w.request (head w) w.handles (plain (payload_text w.payload) ++ rest) ≡ (Ok (read_as w), rest)
+  written-body : (w : Written R H) (rest : List (Cell H)) → split_body request_of allows_handles w.request (head w) w.handles (plain (payload_text w.payload) ++ rest) ≡ (Ok (read_as w), rest)
   unfolding head body_outcome
   written-body w rest =
-      body-whole request_of wanted w.request (head w) w.handles (plain (payload_text w.payload)) rest (length-plain H (payload_text w.payload))
+      body-whole request_of allows_handles w.request (head w) w.handles (plain (payload_text w.payload)) rest (length-plain H (payload_text w.payload))
       ∙ rw (plain-bare H (payload_text w.payload), bytes-plain H (payload_text w.payload)) (flags-read w.reply w.need_reply)
     where
       flags-read : (a b : Bool) → ◌≡◌ {A = Result (Message R H) Error × List (Cell H)}
@@ -86,18 +87,18 @@ module _ {R H : Type 0} (request_of : ℕ → Option R) (wanted : R → ℕ → 
   behind w rest = plain (payload_text w.payload) ++ rest
 
   after : Written R H → List (Cell H) → Header → Option R → Result (Message R H) Error × List (Cell H)
-  after w rest h r = split_after request_of wanted h r w.handles (behind w rest)
+  after w rest h r = split_after request_of allows_handles h r w.handles (behind w rest)
 
-  written-header : (w : Written R H) (rest : List (Cell H)) → split request_of wanted (written_cells number_of w ++ rest) ≡ after w rest (header_of (header_text (head w))) (announced request_of (header_of (header_text (head w))))
+  written-header : (w : Written R H) (rest : List (Cell H)) → split request_of allows_handles (written_cells number_of w ++ rest) ≡ after w rest (header_of (header_text (head w))) (announced request_of (header_of (header_text (head w))))
   unfolding split head after behind
   written-header w rest = ap (λ b. cond b (Err PartialMessage, []) (after w rest (header_of (header_text (head w))) (announced request_of (header_of (header_text (head w)))))) (le-shorter 12 (written_cells number_of w ++ rest) (omega arith))
 
   written-after : (w : Written R H) (rest : List (Cell H)) → IsSendable w → after w rest (head w) (Some w.request) ≡ (Ok (read_as w), rest)
   unfolding split_after after behind
-  written-after w rest ok = rw (ok.wants) (written-body w rest)
+  written-after w rest ok = rw (ok.allowed) (written-body w rest)
 
   -- a message that is sent is the first of the stream, whatever follows it
-  pub written-split : (w : Written R H) (rest : List (Cell H)) → IsSendable w → split request_of wanted (written_cells number_of w ++ rest) ≡ (Ok (read_as w), rest)
+  pub written-split : (w : Written R H) (rest : List (Cell H)) → IsSendable w → split request_of allows_handles (written_cells number_of w ++ rest) ≡ (Ok (read_as w), rest)
   unfolding head
   written-split w rest ok = written-header w rest
       ∙ ap (λ h. after w rest h (announced request_of h)) (header-read (head w) ok.code (flags-small w.reply w.need_reply) (omega (arith, ok.size)))

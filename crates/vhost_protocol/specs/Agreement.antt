@@ -3,7 +3,8 @@ use Rattle.std.specs.Prelude.{◌≡◌, ◌^◌, ◌<◌, Bool, true, false, So
 use Rattle.vhost_message.specs.Bits.{has_bit}
 use Rattle.vhost_message.specs.declared.frontend_req.FrontendReq.{FrontendReq}
 use Rattle.vhost_protocol.specs.AnswerTable.{Answered, answer}
-use Rattle.vhost_protocol.specs.Ask.{Awaited, Asked, Refuses, Answers, Sends, ask}
+use Rattle.vhost_protocol.specs.Ask.{Asked, Refuses, Answers, Sends, ask}
+use Rattle.vhost_protocol.specs.declared.asked.Awaited.{Awaited}
 use Rattle.vhost_protocol.specs.DeviceCall.{Answer}
 use Rattle.vhost_protocol.specs.Error.{Error}
 use Rattle.vhost_protocol.specs.Features.{PROTOCOL_FEATURES, REPLY_ACK}
@@ -47,9 +48,9 @@ Fits _ = ⊤
 
 -- the answer table knows what came, and both sides agree from then on, unless this was the last step
 pub record IsKnown {H : Type 0} (call : FrontendCall H) (awaited : Awaited) (g : Frontend) (r : FrontendReq) (o : Outcome H) : Type 0 where
-  pub answered : Answered H
-  pub known : answer call awaited g o.served ≡ Some answered
-  pub agree : is_last r o ≡ false → AgreeOn (answered.session) o.session
+  pub to_caller : Answered H
+  pub known : answer call awaited g o.served ≡ Some to_caller
+  pub agree : is_last r o ≡ false → AgreeOn (to_caller.session) o.session
 
 -- whatever the device answers
 abbrev pub AllKnown : {H B G : Type 0} → FrontendCall H → Awaited → Frontend → FrontendReq → Session → Step H B G → Type 0

@@ -1,15 +1,14 @@
--- What a caller is answered, from what the handler let the frontend know.
+-- The answer table: what a caller is answered, from what was awaited and what the handler let the frontend know.
+-- It reads from its end: `answer` is the table, `from_reply` above it has the replies, and the words of both stand first.
 use Rattle.std.specs.Prelude.{ℕ, Bool, true, false, ◌&&◌, List, [], ◌∷◌, length, map, Option, Some, None, Result, Ok, Err, if◌then◌else◌, ◌==◌, nat_le, bit_and}
+use Rattle.vhost_message.specs.declared.limits.TheConstants.{VHOST_USER_MAX_VRINGS}
 use Rattle.vhost_message.specs.declared.postcopy.PostcopyState.TheVariants.{Advise, Listen, End}
 use Rattle.vhost_message.specs.declared.records.config.VhostUserConfig.{VhostUserConfig}
-use Rattle.vhost_message.specs.declared.records.inflight.VhostUserInflight.{VhostUserInflight}
-use Rattle.vhost_message.specs.declared.records.log.VhostUserLog.{VhostUserLog}
 use Rattle.vhost_message.specs.declared.records.memory.VhostUserMemoryRegion.{VhostUserMemoryRegion}
-use Rattle.vhost_message.specs.declared.records.memory.VhostUserSingleMemoryRegion.{VhostUserSingleMemoryRegion}
-use Rattle.vhost_message.specs.declared.records.shmem.VhostUserShMemConfig.{VhostUserShMemConfig}
-use Rattle.vhost_message.specs.declared.records.vring.VhostUserVringState.{VhostUserVringState}
 use Rattle.vhost_message.specs.Valid.{is_valid_inflight, is_valid_log}
-use Rattle.vhost_protocol.specs.Ask.{Awaited, Nobody, Ack, Reply, regions_in, config}
+use Rattle.vhost_protocol.specs.Ask.{regions_in, config}
+use Rattle.vhost_protocol.specs.declared.asked.Awaited.{Awaited}
+use Rattle.vhost_protocol.specs.declared.asked.Awaited.TheVariants.{Nobody, Ack, Reply}
 use Rattle.vhost_protocol.specs.Error.{Error, InvalidParam, InvalidMessage, PartialMessage, IncorrectFds, BackendInternalError}
 use Rattle.vhost_protocol.specs.FrontendCall.{FrontendCall, GetFeatures, GetProtocolFeatures, GetQueueNum, SetMemTable, SetLogBase, GetVringBase, GetConfig, GetSharedObject, GetInflightFd, GetMaxMemSlots, AddMemRegion, GetShmemConfig, SetDeviceStateFd, CheckDeviceState, PostcopyAdvise, PostcopyListen, PostcopyEnd, Value, Nothing, Number, Bases, Base, ConfigOf, HandleOf, InflightOf, StateHandle, ShmemOf, Frontend}
 use Rattle.vhost_protocol.specs.Served.{Served, Silent, Acknowledged, Replied}
@@ -24,6 +23,8 @@ pub record Answered (H : Type 0) : Type 0 where
 abbrev pub answered : {H : Type 0} → Frontend → Result (Value H) Error → Answered H
 answered f result = record { result = result; session = f }
 
+-- ---- without a reply
+
 -- what a call answers that brings nothing back
 abbrev pub plain_value : {H : Type 0} → FrontendCall H → Value H
 plain_value (SetMemTable infos) = Bases None
@@ -35,6 +36,11 @@ abbrev pub after_success : {H : Type 0} → Frontend → FrontendCall H → Fron
 after_success f PostcopyListen = record f { postcopy = Listen }
 after_success f PostcopyEnd = record f { postcopy = End }
 after_success f _ = f
+
+-- nothing came where a reply was awaited
+abbrev pub unanswered : {H : Type 0} → FrontendCall H → Error
+unanswered (GetConfig offset size flags []) = InvalidParam
+unanswered _ = PartialMessage
 
 -- ---- replies
 
@@ -52,51 +58,6 @@ with_one (h ∷ g ∷ hs) value = Err IncorrectFds
 -- a value where the test holds
 abbrev pub only_if : {A : Type 0} → Bool → Error → A → Result A Error
 only_if holds e a = if holds then Ok a else Err e
-
--- a reply of this shape, if it is one
-abbrev pub as_empty : {A : Type 0} → Payload → A → Option A
-as_empty Empty a = Some a
-as_empty _ a = None
-
--- a number
-abbrev pub as_u64 : {A : Type 0} → Payload → (ℕ → A) → Option A
-as_u64 (U64 n) a = Some (a n)
-as_u64 _ a = None
-
--- a table of regions
-abbrev pub as_regions : {A : Type 0} → Payload → (List VhostUserMemoryRegion → A) → Option A
-as_regions (Regions rs) a = Some (a rs)
-as_regions _ a = None
-
--- one region
-abbrev pub as_region : {A : Type 0} → Payload → (VhostUserSingleMemoryRegion → A) → Option A
-as_region (OneRegion r) a = Some (a r)
-as_region _ a = None
-
--- the sizes of the shared memory
-abbrev pub as_shmem : {A : Type 0} → Payload → (VhostUserShMemConfig → A) → Option A
-as_shmem (Shmem c) a = Some (a c)
-as_shmem _ a = None
-
--- a ring's number
-abbrev pub as_ring_state : {A : Type 0} → Payload → (VhostUserVringState → A) → Option A
-as_ring_state (RingState v) a = Some (a v)
-as_ring_state _ a = None
-
--- configuration bytes
-abbrev pub as_config : {A : Type 0} → Payload → (VhostUserConfig → List ℕ → A) → Option A
-as_config (ConfigBytes c bytes) a = Some (a c bytes)
-as_config _ a = None
-
--- the buffer for descriptors in flight
-abbrev pub as_inflight : {A : Type 0} → Payload → (VhostUserInflight → A) → Option A
-as_inflight (InflightArea i) a = Some (a i)
-as_inflight _ a = None
-
--- the log's area
-abbrev pub as_log : {A : Type 0} → Payload → (VhostUserLog → A) → Option A
-as_log (LogArea l) a = Some (a l)
-as_log _ a = None
 
 -- the same range of guest memory
 abbrev pub is_same_range : VhostUserMemoryRegion → VhostUserMemoryRegion → Bool
@@ -132,34 +93,30 @@ changed f g (Err e) = answered f (Err e)
 
 -- the number of queues is taken over, unless it is beyond all queues ("Multiple queue support")
 abbrev pub queues_reply : {H : Type 0} → Frontend → ℕ → Result (Value H) Error → Answered H
-queues_reply f n result = if nat_le n 0x8000 then changed f (record f { max_queue_num = n }) result else answered f (Err InvalidMessage)
+queues_reply f n result = if nat_le n VHOST_USER_MAX_VRINGS then changed f (record f { max_queue_num = n }) result else answered f (Err InvalidMessage)
+
+-- ---- the table
 
 -- the answer from a reply; a reply of another shape never comes
 abbrev pub from_reply : {H : Type 0} → FrontendCall H → Frontend → Payload → List H → Option (Answered H)
-from_reply GetFeatures f p hs = as_u64 p (λ n. changed f (record f { offered = n }) (alone hs (Ok (Number n))))
-from_reply GetProtocolFeatures f p hs = as_u64 p (λ n. answered f (alone hs (Ok (Number (bit_and n 0x7FFFFF)))))
-from_reply GetQueueNum f p hs = as_u64 p (λ n. queues_reply f n (alone hs (Ok (Number n))))
-from_reply (SetMemTable infos) f p hs =
-    as_regions p (λ rs. answered f (alone hs (only_if (are_same_ranges (regions_in infos) rs) InvalidMessage (Bases (Some (bases_in rs))))))
-from_reply (SetLogBase base region) f p hs = as_log p (λ l. answered f (alone hs (only_if (is_valid_log l) InvalidMessage Nothing)))
-from_reply (GetVringBase i) f p hs = as_ring_state p (λ v. answered f (alone hs (Ok (Number v.num))))
-from_reply (GetConfig offset size flags buffer) f p hs =
-    as_config p (λ c bytes. answered f (config_reply (config offset size flags) buffer hs c bytes))
-from_reply (GetSharedObject name) f p hs = as_empty p (answered f (with_one hs HandleOf))
-from_reply (GetInflightFd asked) f p hs = as_inflight p (λ i. answered f (if is_valid_inflight i then with_one hs (InflightOf i) else Err InvalidMessage))
-from_reply GetMaxMemSlots f p hs = as_u64 p (λ n. answered f (alone hs (Ok (Number n))))
-from_reply (AddMemRegion info) f p hs =
-    as_region p (λ r. answered f (alone hs (only_if (is_same_range info.region r.region) InvalidMessage (Base (Some (r.region.user_addr))))))
-from_reply GetShmemConfig f p hs = as_shmem p (λ c. answered f (alone hs (Ok (ShmemOf c))))
-from_reply (SetDeviceStateFd t h) f p hs = as_u64 p (λ n. answered f (state_reply n hs))
-from_reply CheckDeviceState f p hs = as_u64 p (λ n. answered f (alone hs (only_if (n == 0) BackendInternalError Nothing)))
-from_reply PostcopyAdvise f p hs = as_empty p (changed f (record f { postcopy = Advise }) (with_one hs HandleOf))
-from_reply _ f p hs = None
-
--- nothing came where a reply was awaited
-abbrev pub unanswered : {H : Type 0} → FrontendCall H → Error
-unanswered (GetConfig offset size flags []) = InvalidParam
-unanswered _ = PartialMessage
+from_reply GetFeatures f (U64 n) hs = Some (changed f (record f { offered = n }) (alone hs (Ok (Number n))))
+from_reply GetProtocolFeatures f (U64 n) hs = Some (answered f (alone hs (Ok (Number (bit_and n 0x7FFFFF)))))
+from_reply GetQueueNum f (U64 n) hs = Some (queues_reply f n (alone hs (Ok (Number n))))
+from_reply (SetMemTable infos) f (Regions rs) hs =
+    Some (answered f (alone hs (only_if (are_same_ranges (regions_in infos) rs) InvalidMessage (Bases (Some (bases_in rs))))))
+from_reply (SetLogBase base region) f (LogArea l) hs = Some (answered f (alone hs (only_if (is_valid_log l) InvalidMessage Nothing)))
+from_reply (GetVringBase i) f (RingState v) hs = Some (answered f (alone hs (Ok (Number v.num))))
+from_reply (GetConfig offset size flags buffer) f (ConfigBytes c bytes) hs = Some (answered f (config_reply (config offset size flags) buffer hs c bytes))
+from_reply (GetSharedObject name) f Empty hs = Some (answered f (with_one hs HandleOf))
+from_reply (GetInflightFd asked) f (InflightArea i) hs = Some (answered f (if is_valid_inflight i then with_one hs (InflightOf i) else Err InvalidMessage))
+from_reply GetMaxMemSlots f (U64 n) hs = Some (answered f (alone hs (Ok (Number n))))
+from_reply (AddMemRegion info) f (OneRegion r) hs =
+    Some (answered f (alone hs (only_if (is_same_range info.region r.region) InvalidMessage (Base (Some (r.region.user_addr))))))
+from_reply GetShmemConfig f (Shmem c) hs = Some (answered f (alone hs (Ok (ShmemOf c))))
+from_reply (SetDeviceStateFd t h) f (U64 n) hs = Some (answered f (state_reply n hs))
+from_reply CheckDeviceState f (U64 n) hs = Some (answered f (alone hs (only_if (n == 0) BackendInternalError Nothing)))
+from_reply PostcopyAdvise f Empty hs = Some (changed f (record f { postcopy = Advise }) (with_one hs HandleOf))
+from_reply _ f payload hs = None
 
 -- The caller's answer, from what was awaited and what came; pairs that give None never come.
 abbrev pub answer : {H : Type 0} → FrontendCall H → Awaited → Frontend → Served H → Option (Answered H)

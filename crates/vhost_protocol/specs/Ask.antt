@@ -1,6 +1,7 @@
 -- What a call of the frontend sends, and what it then waits for ("Front-end message types").
 use Rattle.std.specs.Prelude.{ℕ, ◌+◌, ◌^◌, Bool, true, false, not, ◌&&◌, List, [], ◌∷◌, length, map, Option, Some, None, Result, Ok, Err, is_some, if◌then◌else◌, ◌==◌, nat_le, nat_lt, bit_and, ⊤}
 use Rattle.std.specs.List.{list_all, filter_map}
+use Rattle.vhost_message.specs.declared.limits.TheConstants.{MAX_MEM_REGIONS, MAX_MSG_SIZE}
 use Rattle.vhost_message.specs.Bits.{has_bit}
 use Rattle.vhost_message.specs.declared.frontend_req.FrontendReq.{FrontendReq}
 use Rattle.vhost_message.specs.declared.frontend_req.FrontendReq.TheVariants.{GET_FEATURES, SET_FEATURES, SET_OWNER, RESET_OWNER, SET_MEM_TABLE, SET_LOG_BASE, SET_LOG_FD, SET_VRING_NUM, SET_VRING_ADDR, SET_VRING_BASE, GET_VRING_BASE, SET_VRING_KICK, SET_VRING_CALL, SET_VRING_ERR, GET_PROTOCOL_FEATURES, SET_PROTOCOL_FEATURES, GET_QUEUE_NUM, SET_VRING_ENABLE, SET_BACKEND_REQ_FD, GET_CONFIG, SET_CONFIG, POSTCOPY_ADVISE, POSTCOPY_LISTEN, POSTCOPY_END, GET_INFLIGHT_FD, SET_INFLIGHT_FD, RESET_DEVICE, GET_MAX_MEM_SLOTS, ADD_MEM_REG, REM_MEM_REG, GET_SHARED_OBJECT, SET_DEVICE_STATE_FD, CHECK_DEVICE_STATE, GET_SHMEM_CONFIG}
@@ -11,29 +12,15 @@ use Rattle.vhost_message.specs.declared.records.vring.VhostUserVringState.{Vhost
 use Rattle.vhost_message.specs.VringConfig.{ring_addr}
 use Rattle.vhost_message.specs.Records.{single_region}
 use Rattle.vhost_message.specs.Valid.{is_valid_config, is_valid_uuid}
-use Rattle.vhost_protocol.specs.Error.{Error, InvalidParam, InactiveFeature, InactiveOperation}
+use Rattle.vhost_protocol.specs.declared.asked.Awaited.{Awaited}
+use Rattle.vhost_protocol.specs.declared.asked.Awaited.TheVariants.{Nobody, Ack, Reply}
+use Rattle.vhost_protocol.specs.declared.asked.Shape.{Shape}
+use Rattle.vhost_protocol.specs.declared.asked.Shape.TheVariants as shape
+use Rattle.vhost_protocol.specs.Error.{Error, InvalidParam, InactiveFeature, InactiveOperation, test}
 use Rattle.vhost_protocol.specs.Features.{PROTOCOL_FEATURES, MQ, LOG_SHMFD, REPLY_ACK, BACKEND_REQ, PAGEFAULT, CONFIG, INFLIGHT_SHMFD, RESETS_DEVICE, CONFIGURE_MEM_SLOTS, SHARED_OBJECT, DEVICE_STATE, SHMEM}
 use Rattle.vhost_protocol.specs.FrontendCall.{Info, LogRegion, FrontendCall, GetFeatures, SetFeatures, SetOwner, ResetOwner, GetProtocolFeatures, SetProtocolFeatures, GetQueueNum, ResetDevice, SetMemTable, SetLogBase, SetLogFd, SetVringNum, SetVringBase, SetVringAddr, GetVringBase, SetVringCall, SetVringKick, SetVringErr, SetVringEnable, GetConfig, SetConfig, SetBackendRequestFd, GetSharedObject, GetInflightFd, SetInflightFd, GetMaxMemSlots, AddMemRegion, RemoveMemRegion, GetShmemConfig, SetDeviceStateFd, CheckDeviceState, PostcopyAdvise, PostcopyListen, PostcopyEnd, PostcopyAckMemRegions, SetHdrFlags, Value, Nothing, Frontend}
 use Rattle.vhost_protocol.specs.Session.{is_listen}
 use Rattle.vhost_protocol.specs.Written.{Payload, Empty, U64, Regions, OneRegion, RingState, RingAddr, ConfigBytes, InflightArea, LogArea, ObjectName, DeviceState, Written}
-
--- the shape of a reply
-pub data Shape : Type 0 where
-  AnEmpty : Shape
-  AU64 : Shape
-  TheRegions : Shape
-  ARegion : Shape
-  AShmem : Shape
-  ARingState : Shape
-  AConfig : Shape
-  AnInflight : Shape
-  ALog : Shape
-
--- what a frontend waits for once it has sent
-pub data Awaited : Type 0 where
-  Nobody : Awaited
-  Ack : Awaited
-  Reply : Shape → Awaited
 
 -- what becomes of a call: a refusal, an answer without a message, or a message, what is awaited, and the new session
 pub data Asked (H : Type 0) : Type 0 where
@@ -54,17 +41,13 @@ abbrev pub ◌>>=◌ : {H A : Type 0} → Result A Error → (A → Asked H) →
 (Ok a) >>= next = next a
 (Err e) >>= next = Refuses e
 
--- a test that refuses with this error
-abbrev pub test : Bool → Error → Result ⊤ Error
-test holds e = if holds then Ok tt else Err e
-
 -- a test of the arguments
 abbrev pub param : Bool → Result ⊤ Error
 param holds = test holds InvalidParam
 
 -- a protocol feature is acknowledged
-abbrev pub operation : Frontend → ℕ → Result ⊤ Error
-operation f feature = test (has_bit f.acked_protocol_features feature) (InactiveOperation (2 ^ feature))
+abbrev pub frontend_feature : Frontend → ℕ → Result ⊤ Error
+frontend_feature f feature = test (has_bit f.acked_protocol_features feature) (InactiveOperation (2 ^ feature))
 
 -- protocol features are among these features ("Feature negotiation")
 abbrev pub protocol_in : ℕ → Result ⊤ Error
@@ -94,12 +77,12 @@ abbrev pub quietly : {H : Type 0} → Frontend → FrontendReq → Payload → L
 quietly f r payload handles = record (message f r payload handles) { need_reply = false }
 
 -- acknowledgements are on, and the header asks for one
-abbrev pub ack : Frontend → Awaited
-ack f = if has_bit f.acked_protocol_features REPLY_ACK && has_bit f.header_flags 3 then Ack else Nobody
+abbrev pub awaited_ack : Frontend → Awaited
+awaited_ack f = if has_bit f.acked_protocol_features REPLY_ACK && has_bit f.header_flags 3 then Ack else Nobody
 
 -- sent, and perhaps acknowledged
 abbrev pub sends : {H : Type 0} → Frontend → FrontendReq → Payload → List H → Asked H
-sends f r payload handles = Sends (message f r payload handles) (ack f) f
+sends f r payload handles = Sends (message f r payload handles) (awaited_ack f) f
 
 -- sent, and replied to
 abbrev pub asks : {H : Type 0} → Frontend → FrontendReq → Payload → List H → Shape → Asked H
@@ -145,32 +128,32 @@ is_mapping _ = false
 
 -- what a call becomes
 abbrev pub ask : {H : Type 0} → Frontend → FrontendCall H → Asked H
-ask f GetFeatures = asks f GET_FEATURES Empty [] AU64
+ask f GetFeatures = asks f GET_FEATURES Empty [] shape.U64
 ask f (SetFeatures n) = sends (record f { acked = bit_and n f.offered }) SET_FEATURES (U64 n) []
 ask f SetOwner = sends f SET_OWNER Empty []
 ask f ResetOwner = sends f RESET_OWNER Empty []
 ask f GetProtocolFeatures = do
   protocol_in f.offered
-  asks f GET_PROTOCOL_FEATURES Empty [] AU64
+  asks f GET_PROTOCOL_FEATURES Empty [] shape.U64
 ask f (SetProtocolFeatures n) = do
   protocol_in f.offered
   sends (record f { acked_protocol_features = n }) SET_PROTOCOL_FEATURES (U64 n) []
 ask f GetQueueNum = do
-  operation f MQ
-  asks f GET_QUEUE_NUM Empty [] AU64
+  frontend_feature f MQ
+  asks f GET_QUEUE_NUM Empty [] shape.U64
 ask f ResetDevice = do
-  operation f RESETS_DEVICE
+  frontend_feature f RESETS_DEVICE
   sends f RESET_DEVICE Empty []
 ask f (SetMemTable infos) = do
-  param (nat_le 1 (length infos) && nat_le (length infos) 32 && list_all is_usable infos)
+  param (nat_le 1 (length infos) && nat_le (length infos) MAX_MEM_REGIONS && list_all is_usable infos)
   (if is_listen f.postcopy
-      then asks_quietly f SET_MEM_TABLE (Regions (regions_in infos)) (handles_in infos) TheRegions
+      then asks_quietly f SET_MEM_TABLE (Regions (regions_in infos)) (handles_in infos) shape.Memory
       else sends f SET_MEM_TABLE (Regions (regions_in infos)) (handles_in infos))
 ask f (SetLogBase base None) = Sends (message f SET_LOG_BASE (U64 base) []) Nobody f
 ask f (SetLogBase base (Some r)) =
     if has_bit f.acked_protocol_features LOG_SHMFD then (do
       h ← given r.handle
-      asks f SET_LOG_BASE (LogArea (log_area r)) (h ∷ []) ALog)
+      asks f SET_LOG_BASE (LogArea (log_area r)) (h ∷ []) shape.Log)
     else Sends (message f SET_LOG_BASE (U64 base) []) Nobody f
 ask f (SetLogFd h) = sends f SET_LOG_FD Empty (h ∷ [])
 ask f (SetVringNum i n) = do
@@ -185,7 +168,7 @@ ask f (SetVringAddr i c) = do
   sends f SET_VRING_ADDR (RingAddr (ring_addr i c)) []
 ask f (GetVringBase i) = do
   index f i
-  asks f GET_VRING_BASE (RingState (ring_state i 0)) [] ARingState
+  asks f GET_VRING_BASE (RingState (ring_state i 0)) [] shape.VringState
 ask f (SetVringCall i h) = do
   small_index f i
   sends f SET_VRING_CALL (U64 i) (h ∷ [])
@@ -201,60 +184,60 @@ ask f (SetVringEnable i on) = do
   sends f SET_VRING_ENABLE (RingState (ring_state i (if on then 1 else 0))) []
 ask f (GetConfig offset size flags buffer) = do
   param (is_valid_config (config offset size flags))
-  operation f CONFIG
-  param (nat_le (12 + length buffer) 4096)
-  asks f GET_CONFIG (ConfigBytes (config offset size flags) buffer) [] AConfig
+  frontend_feature f CONFIG
+  param (nat_le (12 + length buffer) MAX_MSG_SIZE)
+  asks f GET_CONFIG (ConfigBytes (config offset size flags) buffer) [] shape.Config
 ask f (SetConfig offset flags buffer) = do
-  param (nat_le (length buffer) 4096)
+  param (nat_le (length buffer) MAX_MSG_SIZE)
   param (is_valid_config (config offset (length buffer) flags))
-  operation f CONFIG
-  param (nat_le (12 + length buffer) 4096)
+  frontend_feature f CONFIG
+  param (nat_le (12 + length buffer) MAX_MSG_SIZE)
   sends f SET_CONFIG (ConfigBytes (config offset (length buffer) flags) buffer) []
 ask f (SetBackendRequestFd h) = do
-  operation f BACKEND_REQ
+  frontend_feature f BACKEND_REQ
   sends f SET_BACKEND_REQ_FD Empty (h ∷ [])
 ask f (GetSharedObject name) = do
-  operation f SHARED_OBJECT
+  frontend_feature f SHARED_OBJECT
   param (is_valid_uuid name.uuid)
-  asks f GET_SHARED_OBJECT (ObjectName name) [] AnEmpty
+  asks f GET_SHARED_OBJECT (ObjectName name) [] shape.Empty
 ask f (GetInflightFd i) = do
-  operation f INFLIGHT_SHMFD
-  asks f GET_INFLIGHT_FD (InflightArea i) [] AnInflight
+  frontend_feature f INFLIGHT_SHMFD
+  asks f GET_INFLIGHT_FD (InflightArea i) [] shape.Inflight
 ask f (SetInflightFd i h) = do
-  operation f INFLIGHT_SHMFD
+  frontend_feature f INFLIGHT_SHMFD
   param (not (i.mmap_size == 0) && not (i.num_queues == 0) && not (i.queue_size == 0))
   sends f SET_INFLIGHT_FD (InflightArea i) (h ∷ [])
 ask f GetMaxMemSlots = do
-  operation f CONFIGURE_MEM_SLOTS
-  asks f GET_MAX_MEM_SLOTS Empty [] AU64
+  frontend_feature f CONFIGURE_MEM_SLOTS
+  asks f GET_MAX_MEM_SLOTS Empty [] shape.U64
 ask f (AddMemRegion info) = do
-  operation f CONFIGURE_MEM_SLOTS
+  frontend_feature f CONFIGURE_MEM_SLOTS
   param (not (info.region.memory_size == 0))
   h ← given info.handle
   (if is_listen f.postcopy
-      then asks_quietly f ADD_MEM_REG (OneRegion (single_region info.region)) (h ∷ []) ARegion
+      then asks_quietly f ADD_MEM_REG (OneRegion (single_region info.region)) (h ∷ []) shape.SingleMemoryRegion
       else sends f ADD_MEM_REG (OneRegion (single_region info.region)) (h ∷ []))
 ask f (RemoveMemRegion info) = do
-  operation f CONFIGURE_MEM_SLOTS
+  frontend_feature f CONFIGURE_MEM_SLOTS
   param (not (info.region.memory_size == 0))
   sends f REM_MEM_REG (OneRegion (single_region info.region)) []
 ask f GetShmemConfig = do
-  operation f SHMEM
-  asks f GET_SHMEM_CONFIG Empty [] AShmem
+  frontend_feature f SHMEM
+  asks f GET_SHMEM_CONFIG Empty [] shape.ShMemConfig
 ask f (SetDeviceStateFd t h) = do
-  operation f DEVICE_STATE
-  asks f SET_DEVICE_STATE_FD (DeviceState t) (h ∷ []) AU64
+  frontend_feature f DEVICE_STATE
+  asks f SET_DEVICE_STATE_FD (DeviceState t) (h ∷ []) shape.U64
 ask f CheckDeviceState = do
-  operation f DEVICE_STATE
-  asks f CHECK_DEVICE_STATE Empty [] AU64
+  frontend_feature f DEVICE_STATE
+  asks f CHECK_DEVICE_STATE Empty [] shape.U64
 ask f PostcopyAdvise = do
-  operation f PAGEFAULT
-  asks f POSTCOPY_ADVISE Empty [] AnEmpty
+  frontend_feature f PAGEFAULT
+  asks f POSTCOPY_ADVISE Empty [] shape.Empty
 ask f PostcopyListen = do
-  operation f PAGEFAULT
+  frontend_feature f PAGEFAULT
   sends f POSTCOPY_LISTEN Empty []
 ask f PostcopyEnd = do
-  operation f PAGEFAULT
+  frontend_feature f PAGEFAULT
   sends f POSTCOPY_END Empty []
 ask f (PostcopyAckMemRegions r) = do
   param (is_mapping r)

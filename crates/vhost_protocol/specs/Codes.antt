@@ -3,7 +3,7 @@ use Rattle.std.specs.Prelude.{ℕ, Bool, true, false, ◌||◌, ◌==◌}
 use Rattle.vhost_message.specs.declared.frontend_req.FrontendReq.{FrontendReq}
 use Rattle.vhost_message.specs.declared.frontend_req.FrontendReq.TheVariants.{SET_MEM_TABLE, SET_LOG_BASE, SET_LOG_FD, SET_VRING_KICK, SET_VRING_CALL, SET_VRING_ERR, SET_BACKEND_REQ_FD, SET_INFLIGHT_FD, GPU_SET_SOCKET, ADD_MEM_REG, REM_MEM_REG, SET_DEVICE_STATE_FD}
 
--- the requests that may come with handles
+-- the requests that may come with handles, whatever their number
 abbrev pub carries_handles : FrontendReq → Bool
 carries_handles SET_MEM_TABLE = true
 carries_handles SET_VRING_CALL = true
@@ -19,6 +19,6 @@ carries_handles SET_DEVICE_STATE_FD = true
 carries_handles GPU_SET_SOCKET = true
 carries_handles _ = false
 
--- a request may come with that many handles
-abbrev pub wanted : FrontendReq → ℕ → Bool
-wanted r n = n == 0 || carries_handles r
+-- a request is allowed to come with that many handles
+abbrev pub allows_handles : FrontendReq → ℕ → Bool
+allows_handles r n = n == 0 || carries_handles r

@@ -1,5 +1,5 @@
 -- The errors of the protocol, with texts as lists of codes.
-use Rattle.std.specs.Prelude.{ℕ, ℤ, List, Result, Ok, Err}
+use Rattle.std.specs.Prelude.{ℕ, ℤ, Bool, List, Result, Ok, Err, if◌then◌else◌, ⊤}
 use Rattle.vhost_message.specs.declared.cause.IoCause.{IoCause}
 use Rattle.vhost_message.specs.declared.cause.IoCause.TheVariants as io
 use Rattle.vhost_message.specs.declared.error.Error.TheVariants as code
@@ -36,6 +36,10 @@ pub data Error : Type 0 where
   FileTruncateError : Error
   MemFdSealError : Error
   OutOfMemory : Error
+
+-- a test that fails with this error where it does not hold; tests stand in order, and the first that fails refuses
+abbrev pub test : {E : Type 0} → Bool → E → Result ⊤ E
+test holds e = if holds then Ok tt else Err e
 
 -- ---- the code's own errors, as they are seen here
 

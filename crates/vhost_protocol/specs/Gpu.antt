@@ -59,8 +59,8 @@ pub record GpuSent (H : Type 0) : Type 0 where
   pub awaited : Option GpuReply
 
 -- a message without handles
-abbrev pub sent : {H : Type 0} → GpuBackendReq → List ℕ → List ℕ → Option GpuReply → GpuSent H
-sent request body payload awaited = record { request = request; body = body; payload = payload; handles = []; awaited = awaited }
+abbrev pub gpu_message : {H : Type 0} → GpuBackendReq → List ℕ → List ℕ → Option GpuReply → GpuSent H
+gpu_message request body payload awaited = record { request = request; body = body; payload = payload; handles = []; awaited = awaited }
 
 -- a handle, where there is one
 abbrev pub perhaps : {H : Type 0} → Option H → List H
@@ -69,18 +69,18 @@ perhaps (Some h) = h ∷ []
 
 -- what each call sends and awaits
 abbrev pub gpu_row : {H : Type 0} → GpuCall H → GpuSent H
-gpu_row GetProtocolFeatures = sent code.GET_PROTOCOL_FEATURES [] [] (Some TheFeatures)
-gpu_row (SetProtocolFeatures n) = sent code.SET_PROTOCOL_FEATURES (digits 8 n) [] None
-gpu_row GetDisplayInfo = sent code.GET_DISPLAY_INFO [] [] (Some TheDisplayInfo)
-gpu_row (GetEdid e) = sent code.GET_EDID (edid_request_text e) [] (Some TheEdid)
-gpu_row (SetScanout s) = sent code.SCANOUT (scanout_text s) [] None
-gpu_row (UpdateScanout u image) = sent code.UPDATE (update_text u) image None
-gpu_row (SetDmabufScanout d h) = record (sent code.DMABUF_SCANOUT (dmabuf_scanout_text d) [] None) { handles = perhaps h }
-gpu_row (SetDmabufScanout2 d h) = record (sent code.DMABUF_SCANOUT2 (dmabuf_scanout2_text d) [] None) { handles = perhaps h }
-gpu_row (UpdateDmabufScanout u) = sent code.DMABUF_UPDATE (update_text u) [] (Some TheEmpty)
-gpu_row (MoveCursor c) = sent code.CURSOR_POS (cursor_pos_text c) [] None
-gpu_row (HideCursor c) = sent code.CURSOR_POS_HIDE (cursor_pos_text c) [] None
-gpu_row (UpdateCursor c image) = sent code.CURSOR_UPDATE (cursor_update_text c) image None
+gpu_row GetProtocolFeatures = gpu_message code.GET_PROTOCOL_FEATURES [] [] (Some TheFeatures)
+gpu_row (SetProtocolFeatures n) = gpu_message code.SET_PROTOCOL_FEATURES (digits 8 n) [] None
+gpu_row GetDisplayInfo = gpu_message code.GET_DISPLAY_INFO [] [] (Some TheDisplayInfo)
+gpu_row (GetEdid e) = gpu_message code.GET_EDID (edid_request_text e) [] (Some TheEdid)
+gpu_row (SetScanout s) = gpu_message code.SCANOUT (scanout_text s) [] None
+gpu_row (UpdateScanout u image) = gpu_message code.UPDATE (update_text u) image None
+gpu_row (SetDmabufScanout d h) = record (gpu_message code.DMABUF_SCANOUT (dmabuf_scanout_text d) [] None) { handles = perhaps h }
+gpu_row (SetDmabufScanout2 d h) = record (gpu_message code.DMABUF_SCANOUT2 (dmabuf_scanout2_text d) [] None) { handles = perhaps h }
+gpu_row (UpdateDmabufScanout u) = gpu_message code.DMABUF_UPDATE (update_text u) [] (Some TheEmpty)
+gpu_row (MoveCursor c) = gpu_message code.CURSOR_POS (cursor_pos_text c) [] None
+gpu_row (HideCursor c) = gpu_message code.CURSOR_POS_HIDE (cursor_pos_text c) [] None
+gpu_row (UpdateCursor c image) = gpu_message code.CURSOR_UPDATE (cursor_update_text c) image None
 
 -- the header: requests have no flags
 abbrev pub gpu_head : {H : Type 0} → GpuSent H → Header

@@ -2,7 +2,7 @@
 use Rattle.std.specs.Prelude.{◌≡◌, List, Result, Err, ⊤}
 use Rattle.vhost_message.specs.declared.frontend_req.FrontendReq.{FrontendReq}
 use Rattle.vhost_message.specs.FrontendReq.{request_of, request_number}
-use Rattle.vhost_protocol.specs.Codes.{wanted}
+use Rattle.vhost_protocol.specs.Codes.{allows_handles}
 use Rattle.vhost_protocol.specs.DeviceCall.{Call, Answer}
 use Rattle.vhost_protocol.specs.Error.{Error}
 use Rattle.vhost_protocol.specs.Row.{row}
@@ -34,8 +34,8 @@ module _ {H B G Dev : Type 0} (gives : Dev → (c : Call H B G) → Answer c →
 
   -- one call of `handle_request`
   abbrev pub HandlesRequest : Session → Dev → List (Item H) → Result ⊤ Error → List (Cell H) → Session → Dev → Type 0
-  HandlesRequest = Serves request_of wanted (λ s. s.failed) MeetsRow
+  HandlesRequest = Serves request_of allows_handles (λ s. s.failed) MeetsRow
 
   -- many calls of it
   abbrev pub HandlesRequests : Session → Dev → List (Result ⊤ Error) → List (Item H) → List (Cell H) → Session → Dev → Type 0
-  HandlesRequests = Run request_of wanted (λ s. s.failed) MeetsRow
+  HandlesRequests = Run request_of allows_handles (λ s. s.failed) MeetsRow

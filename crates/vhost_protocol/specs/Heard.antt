@@ -1,13 +1,18 @@
 -- What the handler serves is what the frontend awaits, and is read again.
 use Rattle.std.specs.Prelude.{◌≡◌, ◌^◌, ◌<◌, ◌≤◌, true, false, [], length, All, IfOk, IfSome, Some, Result, ⊤}
+use Rattle.vhost_message.specs.declared.limits.TheConstants.{MAX_ATTACHED_FD_ENTRIES, MAX_MSG_SIZE}
 use Rattle.vhost_message.specs.Bits.{has_bit}
 use Rattle.vhost_message.specs.declared.frontend_req.FrontendReq.{FrontendReq}
 use Rattle.vhost_message.specs.FrontendReq.{request_number}
 use Rattle.vhost_message.specs.LongRecords.{ShMemConfigFits}
 use Rattle.vhost_message.specs.RecordLaws.{RegionFits, VringStateFits, InflightFits, LogFits}
-use Rattle.vhost_protocol.specs.Ask.{Awaited, Reply, Asked, Refuses, Answers, Sends, ask, regions_in, log_area, Shape, AnEmpty, AU64, TheRegions, ARegion, AShmem, ARingState, AConfig, AnInflight, ALog}
+use Rattle.vhost_protocol.specs.Ask.{Asked, Refuses, Answers, Sends, ask, regions_in, log_area}
+use Rattle.vhost_protocol.specs.declared.asked.Awaited.{Awaited}
+use Rattle.vhost_protocol.specs.declared.asked.Awaited.TheVariants.{Reply}
+use Rattle.vhost_protocol.specs.declared.asked.Shape.{Shape}
+use Rattle.vhost_protocol.specs.declared.asked.Shape.TheVariants as shape
 use Rattle.vhost_protocol.specs.AnswerTable.{Answered, answer}
-use Rattle.vhost_protocol.specs.Codes.{wanted}
+use Rattle.vhost_protocol.specs.Codes.{allows_handles}
 use Rattle.vhost_protocol.specs.DeviceCall as device
 use Rattle.vhost_protocol.specs.DeviceCall.{Call, Answer}
 use Rattle.vhost_protocol.specs.Error.{Error}
@@ -23,16 +28,16 @@ use Rattle.vhost_protocol.specs.Step.{Step, Refused, Calls, OpensBackend, OpensG
 
 -- the shape of the reply to a call
 abbrev pub shape_of : {H : Type 0} → FrontendCall H → Shape
-shape_of (SetMemTable infos) = TheRegions
-shape_of (SetLogBase base region) = ALog
-shape_of (GetVringBase i) = ARingState
-shape_of (GetConfig offset size flags buffer) = AConfig
-shape_of (GetSharedObject name) = AnEmpty
-shape_of (GetInflightFd area) = AnInflight
-shape_of (AddMemRegion info) = ARegion
-shape_of GetShmemConfig = AShmem
-shape_of PostcopyAdvise = AnEmpty
-shape_of _ = AU64
+shape_of (SetMemTable infos) = shape.Memory
+shape_of (SetLogBase base region) = shape.Log
+shape_of (GetVringBase i) = shape.VringState
+shape_of (GetConfig offset size flags buffer) = shape.Config
+shape_of (GetSharedObject name) = shape.Empty
+shape_of (GetInflightFd area) = shape.Inflight
+shape_of (AddMemRegion info) = shape.SingleMemoryRegion
+shape_of GetShmemConfig = shape.ShMemConfig
+shape_of PostcopyAdvise = shape.Empty
+shape_of _ = shape.U64
 
 -- the numbers of a device's answer that are replied have the bits of their types
 abbrev pub AnswerFits : {H B G : Type 0} → (c : Call H B G) → Answer c → Type 0
@@ -102,11 +107,11 @@ HearsTheAnswer H = (call : FrontendCall H) (awaited : Awaited) (w : Written Fron
 
 -- ---- what is sent can be sent
 
--- the handles are wanted and not too many, and the body is not too long
+-- the handles are allowed and not too many, and the body is not too long
 pub record IsSendable {H : Type 0} (w : Written FrontendReq H) : Type 0 where
-  pub wants : wanted w.request (length w.handles) ≡ true
-  pub size : length (payload_text w.payload) ≤ 4096
-  pub few : length w.handles ≤ 32
+  pub allowed : allows_handles w.request (length w.handles) ≡ true
+  pub size : length (payload_text w.payload) ≤ MAX_MSG_SIZE
+  pub few : length w.handles ≤ MAX_ATTACHED_FD_ENTRIES
 
 -- the name of an object has sixteen bytes
 abbrev pub IsNamedWell : {H : Type 0} → FrontendCall H → Type 0

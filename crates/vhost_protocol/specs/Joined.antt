@@ -4,7 +4,9 @@ use Rattle.vhost_message.specs.declared.frontend_req.FrontendReq.{FrontendReq}
 use Rattle.vhost_message.specs.declared.frontend_req.FrontendReq.TheVariants.{POSTCOPY_END}
 use Rattle.vhost_message.specs.FrontendReq.{request_number}
 use Rattle.vhost_protocol.specs.AnswerTable.{answer}
-use Rattle.vhost_protocol.specs.Ask.{Awaited, Nobody, Asked, Refuses, Answers, Sends, ask}
+use Rattle.vhost_protocol.specs.Ask.{Asked, Refuses, Answers, Sends, ask}
+use Rattle.vhost_protocol.specs.declared.asked.Awaited.{Awaited}
+use Rattle.vhost_protocol.specs.declared.asked.Awaited.TheVariants.{Nobody}
 use Rattle.vhost_protocol.specs.DeviceCall.{Call, Answer}
 use Rattle.vhost_protocol.specs.Error.{Error}
 use Rattle.vhost_protocol.specs.FrontendCall.{FrontendCall, Value, Frontend}

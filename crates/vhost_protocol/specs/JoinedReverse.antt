@@ -13,7 +13,7 @@ pub data ReverseInput (H : Type 0) : Type 0 where
   SetReplyAck : Bool → ReverseInput H
   SetSharedObject : Bool → ReverseInput H
   SetShmem : Bool → ReverseInput H
-  Call : ReverseCall H → ReverseInput H
+  Asks : ReverseCall H → ReverseInput H
 
 -- in step: nothing is awaited, and nothing is on the way
 pub record ReverseInStep {H : Type 0} (awaited : Bool) (to_server to_backend : List (Cell H)) : Type 0 where
@@ -29,13 +29,13 @@ pub record ReverseShown (H : Type 0) : Type 0 where
   pub last : Bool
 
 -- nothing is sent
-abbrev pub unsent : {H : Type 0} → Result ℕ IoError → ReverseShown H
-unsent result = record { request = []; reply = []; result = result; last = false }
+abbrev pub reverse_unsent : {H : Type 0} → Result ℕ IoError → ReverseShown H
+reverse_unsent result = record { request = []; reply = []; result = result; last = false }
 
 module _ {H Dev : Type 0} (gives : Dev → ReverseCall H → Result ℕ IoError → Dev → Type 0) where
   -- what a call becomes: a refusal, or a message that meets its row, and the answer
   abbrev pub ReverseExchanges : Server → Dev → ReverseAsked H → ReverseShown H → Dev → Type 0
-  ReverseExchanges s d (Refuses e) shown d' = (shown ≡ unsent (Err e)) × (d' ≡ d)
+  ReverseExchanges s d (Refuses e) shown d' = (shown ≡ reverse_unsent (Err e)) × (d' ≡ d)
   ReverseExchanges s d (Sends w awaited) shown d' =
       (o : ReverseOutcome H) × ReverseFollows gives d (reverse_row s (read_as w)) o d'
       × (reverse_answer awaited o.served ≡ Some shown.result)
@@ -45,10 +45,10 @@ module _ {H Dev : Type 0} (gives : Dev → ReverseCall H → Result ℕ IoError 
   -- one joined step
   abbrev pub ReverseJoinedStep : Backend → Server → Dev → ReverseInput H → ReverseShown H → Backend → Server → Dev → Type 0
   ReverseJoinedStep b s d (SetReplyAck on) shown b' s' d' =
-      (shown ≡ unsent (Ok 0)) × (b' ≡ record b { reply_ack = on }) × (s' ≡ record s { reply_ack = on }) × (d' ≡ d)
-  ReverseJoinedStep b s d (SetSharedObject on) shown b' s' d' = (shown ≡ unsent (Ok 0)) × (b' ≡ record b { shared_object = on }) × (s' ≡ s) × (d' ≡ d)
-  ReverseJoinedStep b s d (SetShmem on) shown b' s' d' = (shown ≡ unsent (Ok 0)) × (b' ≡ record b { shmem = on }) × (s' ≡ s) × (d' ≡ d)
-  ReverseJoinedStep b s d (Call c) shown b' s' d' = ReverseExchanges s d (reverse_ask b c) shown d' × (b' ≡ b) × (s' ≡ s)
+      (shown ≡ reverse_unsent (Ok 0)) × (b' ≡ record b { reply_ack = on }) × (s' ≡ record s { reply_ack = on }) × (d' ≡ d)
+  ReverseJoinedStep b s d (SetSharedObject on) shown b' s' d' = (shown ≡ reverse_unsent (Ok 0)) × (b' ≡ record b { shared_object = on }) × (s' ≡ s) × (d' ≡ d)
+  ReverseJoinedStep b s d (SetShmem on) shown b' s' d' = (shown ≡ reverse_unsent (Ok 0)) × (b' ≡ record b { shmem = on }) × (s' ≡ s) × (d' ≡ d)
+  ReverseJoinedStep b s d (Asks c) shown b' s' d' = ReverseExchanges s d (reverse_ask b c) shown d' × (b' ≡ b) × (s' ≡ s)
 
   -- joined steps one after another; nothing comes after the last one
   abbrev pub ReverseJoinedRun : Backend → Server → Dev → List (ReverseInput H × Result ℕ IoError) → Backend → Server → Dev → Type 0

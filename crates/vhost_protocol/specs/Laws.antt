@@ -1,5 +1,6 @@
 -- Laws of the definitions. Functions without a body, in `src/laws`, have them as contracts.
 use Rattle.std.specs.Prelude.{◌≡◌, ℕ, ◌+◌, ◌^◌, ◌<◌, ◌≤◌, ◌⊎◌, Bool, true, false, List, [], ◌∷◌, ◌++◌, length, All, Option, Some, Result, Ok, ⊤}
+use Rattle.vhost_message.specs.declared.limits.TheConstants.{MAX_MEM_REGIONS, MAX_MSG_SIZE, MSG_HEADER_SIZE}
 use Rattle.vhost_message.specs.Bits.{has_bit}
 use Rattle.vhost_message.specs.declared.frontend_req.FrontendReq.{FrontendReq}
 use Rattle.vhost_message.specs.declared.records.config.VhostUserConfig.{VhostUserConfig}
@@ -10,7 +11,10 @@ use Rattle.vhost_message.specs.LongRecords.{ShMemConfigFits}
 use Rattle.vhost_message.specs.RecordLaws.{RegionFits, SingleRegionFits, VringStateFits, ConfigFits, InflightFits, LogFits}
 use Rattle.vhost_message.specs.Valid.{is_valid_config, is_valid_log}
 use Rattle.vhost_protocol.specs.AnswerTable.{answer}
-use Rattle.vhost_protocol.specs.Ask.{Awaited, Ack, Reply, Shape, AU64, AnEmpty, TheRegions, ARegion, AShmem, ARingState, AConfig, AnInflight, ALog}
+use Rattle.vhost_protocol.specs.declared.asked.Awaited.{Awaited}
+use Rattle.vhost_protocol.specs.declared.asked.Awaited.TheVariants.{Ack, Reply}
+use Rattle.vhost_protocol.specs.declared.asked.Shape.{Shape}
+use Rattle.vhost_protocol.specs.declared.asked.Shape.TheVariants as shape
 use Rattle.vhost_protocol.specs.Error.{Error}
 use Rattle.vhost_protocol.specs.FrontendCall.{FrontendCall, SetMemTable, GetConfig, GetInflightFd, Frontend}
 use Rattle.vhost_protocol.specs.Joined.{read_as}
@@ -21,29 +25,34 @@ use Rattle.vhost_protocol.specs.Stream.{Cell}
 use Rattle.vhost_protocol.specs.Take.{take}
 use Rattle.vhost_protocol.specs.Written.{Payload, Empty, U64, Regions, OneRegion, Shmem, RingState, ConfigBytes, InflightArea, LogArea, Written, head_of, payload_text, written_cells}
 
--- ---- how a stream is cut; for every type of codes, and whatever handles are wanted
+-- ---- how a stream is cut; for every type of codes, and whatever handles are allowed
 
 module _ (R H : Type 0) (request_of : ℕ → Option R) where
-  -- The outcome of a stream is that of a front of it: nothing is left behind the front, or what follows makes no difference.
+  -- The outcome of a stream is that of a front of it: nothing is left behind the front, and the end was needed, or what follows makes no difference.
   abbrev pub CutsFront : Type 0
-  CutsFront = (wanted : R → ℕ → Bool) (cells : List (Cell H)) (outcome : Result (Message R H) Error) (rest : List (Cell H))
-      → split request_of wanted cells ≡ (outcome, rest)
+  CutsFront = (allows_handles : R → ℕ → Bool) (cells : List (Cell H)) (outcome : Result (Message R H) Error) (rest : List (Cell H))
+      → split request_of allows_handles cells ≡ (outcome, rest)
       → (front : List (Cell H)) × (cells ≡ front ++ rest)
-      × (((rest ≡ []) × Splits (split request_of wanted) front true outcome) ⊎ Splits (split request_of wanted) front false outcome)
+      × (((rest ≡ []) × Splits (split request_of allows_handles) front true outcome) ⊎ Splits (split request_of allows_handles) front false outcome)
+
+  -- an outcome that needed the end of its stream does not stand without it
+  abbrev pub EndIsNeeded : Type 0
+  EndIsNeeded = (allows_handles : R → ℕ → Bool) (cells : List (Cell H)) (outcome other : Result (Message R H) Error)
+      → Splits (split request_of allows_handles) cells true outcome → Splits (split request_of allows_handles) cells false other → ⊥
 
   -- a message is that of a front which is as long as its header and its body, whatever follows
   abbrev pub FirstIsFront : Type 0
-  FirstIsFront = (wanted : R → ℕ → Bool) (cells : List (Cell H)) (m : Message R H) (rest : List (Cell H))
-      → split request_of wanted cells ≡ (Ok m, rest)
-      → (front : List (Cell H)) × (cells ≡ front ++ rest) × (length front ≡ 12 + length m.body)
-      × Splits (split request_of wanted) front false (Ok m)
+  FirstIsFront = (allows_handles : R → ℕ → Bool) (cells : List (Cell H)) (m : Message R H) (rest : List (Cell H))
+      → split request_of allows_handles cells ≡ (Ok m, rest)
+      → (front : List (Cell H)) × (cells ≡ front ++ rest) × (length front ≡ MSG_HEADER_SIZE + length m.body)
+      × Splits (split request_of allows_handles) front false (Ok m)
 
-  -- a message that is sent with wanted handles, and with at most 4096 bytes of body, is read again, whatever follows it
+  -- a message that is sent with allowed handles, and with no more body than allowed, is read again, whatever follows it
   abbrev pub SentIsRead : (R → ℕ) → Type 0
-  SentIsRead number_of = (wanted : R → ℕ → Bool) (w : Written R H) (rest : List (Cell H))
+  SentIsRead number_of = (allows_handles : R → ℕ → Bool) (w : Written R H) (rest : List (Cell H))
       → request_of (number_of w.request) ≡ Some w.request → number_of w.request < 2 ^ 32
-      → wanted w.request (length w.handles) ≡ true → length (payload_text w.payload) ≤ 4096
-      → split request_of wanted (written_cells number_of w ++ rest) ≡ (Ok (read_as w), rest)
+      → allows_handles w.request (length w.handles) ≡ true → length (payload_text w.payload) ≤ MAX_MSG_SIZE
+      → split request_of allows_handles (written_cells number_of w ++ rest) ≡ (Ok (read_as w), rest)
 
 -- ---- replies
 
@@ -78,12 +87,12 @@ TakesAck H = (call : FrontendCall H) (sent : Header) (f : Frontend) (r : Fronten
 -- a reply of one number is taken
 abbrev pub TakesNumber : (H : Type 0) → Type 0
 TakesNumber H = (call : FrontendCall H) (sent : Header) (f : Frontend) (r : FrontendReq) → IsShort call → IsSentFor r sent
-    → (n : ℕ) (handles : List H) → n < 2 ^ 64 → IsTaken call (Reply AU64) sent f r (Replied (U64 n) handles)
+    → (n : ℕ) (handles : List H) → n < 2 ^ 64 → IsTaken call (Reply shape.U64) sent f r (Replied (U64 n) handles)
 
 -- a reply without a body is taken
 abbrev pub TakesEmpty : (H : Type 0) → Type 0
 TakesEmpty H = (call : FrontendCall H) (sent : Header) (f : Frontend) (r : FrontendReq) → IsShort call → IsSentFor r sent
-    → (handles : List H) → IsTaken call (Reply AnEmpty) sent f r (Replied Empty handles)
+    → (handles : List H) → IsTaken call (Reply shape.Empty) sent f r (Replied Empty handles)
 
 -- the numbers of a payload are within their fields
 abbrev pub PayloadFits : Payload → Type 0
@@ -99,14 +108,14 @@ PayloadFits _ = ⊤
 
 -- as many regions as the call has, and at least one
 abbrev pub IsTableOf : {H : Type 0} → FrontendCall H → List VhostUserMemoryRegion → Type 0
-IsTableOf (SetMemTable infos) rs = (length rs ≡ length infos) × (1 ≤ length rs) × (length rs ≤ 32)
+IsTableOf (SetMemTable infos) rs = (length rs ≡ length infos) × (1 ≤ length rs) × (length rs ≤ MAX_MEM_REGIONS)
 IsTableOf _ rs = ⊥
 
 -- A bare record of size 0 without handles, or a valid one with as many bytes as the call has room for. There is room for one at least.
 abbrev pub IsConfigOf : {H : Type 0} → FrontendCall H → VhostUserConfig → List ℕ → List H → Type 0
 IsConfigOf (GetConfig offset size flags []) c bytes handles = ⊥
 IsConfigOf (GetConfig offset size flags (b ∷ buffer)) c bytes handles =
-    ((c.size ≡ 0) × (bytes ≡ []) × (handles ≡ [])) ⊎ ((length bytes ≡ length (b ∷ buffer)) × (12 + length bytes ≤ 4096) × (is_valid_config c ≡ true))
+    ((c.size ≡ 0) × (bytes ≡ []) × (handles ≡ [])) ⊎ ((length bytes ≡ length (b ∷ buffer)) × (12 + length bytes ≤ MAX_MSG_SIZE) × (is_valid_config c ≡ true))
 IsConfigOf _ c bytes handles = ⊥
 
 -- the one call that is answered by an area, which need not be valid
@@ -116,15 +125,15 @@ IsInflightOf _ = ⊥
 
 -- a payload with these handles is a reply that the call may have
 abbrev pub IsReplyOf : {H : Type 0} → FrontendCall H → Shape → Payload → List H → Type 0
-IsReplyOf call AnEmpty Empty handles = IsShort call
-IsReplyOf call AU64 (U64 n) handles = IsShort call
-IsReplyOf call ARegion (OneRegion r) handles = IsShort call
-IsReplyOf call AShmem (Shmem c) handles = IsShort call
-IsReplyOf call ARingState (RingState v) handles = IsShort call
-IsReplyOf call AnInflight (InflightArea i) handles = IsInflightOf call
-IsReplyOf call ALog (LogArea l) handles = IsShort call × (is_valid_log l ≡ true)
-IsReplyOf call TheRegions (Regions rs) handles = IsTableOf call rs
-IsReplyOf call AConfig (ConfigBytes c bytes) handles = IsConfigOf call c bytes handles
+IsReplyOf call shape.Empty Empty handles = IsShort call
+IsReplyOf call shape.U64 (U64 n) handles = IsShort call
+IsReplyOf call shape.SingleMemoryRegion (OneRegion r) handles = IsShort call
+IsReplyOf call shape.ShMemConfig (Shmem c) handles = IsShort call
+IsReplyOf call shape.VringState (RingState v) handles = IsShort call
+IsReplyOf call shape.Inflight (InflightArea i) handles = IsInflightOf call
+IsReplyOf call shape.Log (LogArea l) handles = IsShort call × (is_valid_log l ≡ true)
+IsReplyOf call shape.Memory (Regions rs) handles = IsTableOf call rs
+IsReplyOf call shape.Config (ConfigBytes c bytes) handles = IsConfigOf call c bytes handles
 IsReplyOf call _ _ handles = ⊥
 
 -- a reply that the call may have is taken

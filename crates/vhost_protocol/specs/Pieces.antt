@@ -4,14 +4,14 @@ use Rattle.vhost_protocol.specs.Stream.{Cell, cell}
 
 -- a byte, or a handle of the next byte
 pub data Piece (H : Type 0) : Type 0 where
-  Byte : ℕ → Piece H
-  Handle : H → Piece H
+  BytePiece : ℕ → Piece H
+  HandlePiece : H → Piece H
 
 -- the cells of some pieces, behind handles that wait for their byte
 abbrev pub cells_behind : {H : Type 0} → (waiting : List H) → List (Piece H) → List (Cell H)
 cells_behind waiting [] = []
-cells_behind waiting (Byte b ∷ pieces) = cell b waiting ∷ cells_behind [] pieces
-cells_behind waiting (Handle h ∷ pieces) = cells_behind (waiting ++ h ∷ []) pieces
+cells_behind waiting (BytePiece b ∷ pieces) = cell b waiting ∷ cells_behind [] pieces
+cells_behind waiting (HandlePiece h ∷ pieces) = cells_behind (waiting ++ h ∷ []) pieces
 
 -- the cells of a whole ring
 abbrev pub ring_cells : {H : Type 0} → List (Piece H) → List (Cell H)

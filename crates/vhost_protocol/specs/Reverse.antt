@@ -19,11 +19,11 @@ use Rattle.vhost_protocol.specs.Split.{Message, announced}
 use Rattle.vhost_protocol.specs.Stream.{Cell, Item, has_some}
 use Rattle.vhost_protocol.specs.Written.{Payload, U64, ObjectName, Mapping, Written}
 
--- two requests come with exactly one handle, the others with none
-abbrev pub backend_wanted : BackendReq → ℕ → Bool
-backend_wanted SHARED_OBJECT_LOOKUP n = n == 1
-backend_wanted SHMEM_MAP n = n == 1
-backend_wanted _ n = n == 0
+-- two requests are allowed to come with exactly one handle, the others with none
+abbrev pub backend_allows_handles : BackendReq → ℕ → Bool
+backend_allows_handles SHARED_OBJECT_LOOKUP n = n == 1
+backend_allows_handles SHMEM_MAP n = n == 1
+backend_allows_handles _ n = n == 0
 
 -- a call, from the device to the frontend's side
 pub data ReverseCall (H : Type 0) : Type 0 where
@@ -137,8 +137,8 @@ handed_on (Ok n) = Ok n
 handed_on (Err e) = Err (ReqHandlerError (cause e))
 
 -- what follows from an answer
-abbrev pub answered : {H : Type 0} → Server → Message BackendReq H → Result ℕ IoError → ReverseOutcome H
-answered s m answer = record { answer = handed_on answer; served = number_back s m answer }
+abbrev pub with_number : {H : Type 0} → Server → Message BackendReq H → Result ℕ IoError → ReverseOutcome H
+with_number s m answer = record { answer = handed_on answer; served = number_back s m answer }
 
 -- a bad body is refused in silence
 abbrev pub bad_body : {H : Type 0} → ReverseStep H
@@ -146,24 +146,24 @@ bad_body = Refused (record { answer = Err InvalidMessage; served = Silent })
 
 -- a call with the name of an object
 abbrev pub object_row : {H : Type 0} → Server → Message BackendReq H → (VhostUserSharedMsg → ReverseCall H) → ReverseStep H
-object_row s m call = if is_bare 16 m && is_valid_name (name_of m.body) then Calls (call (name_of m.body)) (answered s m) else bad_body
+object_row s m call = if is_bare 16 m && is_valid_name (name_of m.body) then Calls (call (name_of m.body)) (with_number s m) else bad_body
 
 -- a call with a mapping
 abbrev pub mapping_row : {H : Type 0} → Server → Message BackendReq H → (VhostUserMMap → ReverseCall H) → ReverseStep H
-mapping_row s m call = if is_bare 40 m && is_valid_mmap (mmap_of m.body) then Calls (call (mmap_of m.body)) (answered s m) else bad_body
+mapping_row s m call = if is_bare 40 m && is_valid_mmap (mmap_of m.body) then Calls (call (mmap_of m.body)) (with_number s m) else bad_body
 
--- with the one handle of the message, which was wanted before the body was read
-abbrev pub with_handle : {H : Type 0} → List H → (H → ReverseStep H) → ReverseStep H
-with_handle [] row = bad_body
-with_handle (h ∷ hs) row = row h
+-- with the one handle of the message, which was there before the body was read
+abbrev pub with_one_handle : {H : Type 0} → List H → (H → ReverseStep H) → ReverseStep H
+with_one_handle [] row = bad_body
+with_one_handle (h ∷ hs) row = row h
 
 -- the row of each request; a known one that is not served is acknowledged
 abbrev pub reverse_row_of : {H : Type 0} → BackendReq → Server → Message BackendReq H → ReverseStep H
-reverse_row_of CONFIG_CHANGE_MSG s m = if is_bare 0 m then Calls HandleConfigChange (answered s m) else bad_body
+reverse_row_of CONFIG_CHANGE_MSG s m = if is_bare 0 m then Calls HandleConfigChange (with_number s m) else bad_body
 reverse_row_of SHARED_OBJECT_ADD s m = object_row s m SharedObjectAdd
 reverse_row_of SHARED_OBJECT_REMOVE s m = object_row s m SharedObjectRemove
-reverse_row_of SHARED_OBJECT_LOOKUP s m = with_handle m.handles (λ h. object_row s m (λ name. SharedObjectLookup name h))
-reverse_row_of SHMEM_MAP s m = with_handle m.handles (λ h. mapping_row s m (λ mapping. ShmemMap mapping h))
+reverse_row_of SHARED_OBJECT_LOOKUP s m = with_one_handle m.handles (λ h. object_row s m (λ name. SharedObjectLookup name h))
+reverse_row_of SHMEM_MAP s m = with_one_handle m.handles (λ h. mapping_row s m (λ mapping. ShmemMap mapping h))
 reverse_row_of SHMEM_UNMAP s m = mapping_row s m ShmemUnmap
 reverse_row_of _ s m = Refused (record { answer = Err InvalidMessage; served = number_back s m (Err (Of InvalidMessage)) })
 
@@ -185,11 +185,11 @@ module _ {H Dev : Type 0} (gives : Dev → ReverseCall H → Result ℕ IoError 
 
   -- one call of `handle_request`
   abbrev pub HandlesReverse : Server → Dev → List (Item H) → Result ℕ Error → List (Cell H) → Server → Dev → Type 0
-  HandlesReverse = Serves backend_request_of backend_wanted (λ s. s.failed) ReverseMeets
+  HandlesReverse = Serves backend_request_of backend_allows_handles (λ s. s.failed) ReverseMeets
 
   -- many calls of it
   abbrev pub HandlesReverses : Server → Dev → List (Result ℕ Error) → List (Item H) → List (Cell H) → Server → Dev → Type 0
-  HandlesReverses = Run backend_request_of backend_wanted (λ s. s.failed) ReverseMeets
+  HandlesReverses = Run backend_request_of backend_allows_handles (λ s. s.failed) ReverseMeets
 
 -- the last step of a joined run: an error in silence
 abbrev pub is_reverse_last : {H : Type 0} → ReverseOutcome H → Bool

@@ -1,6 +1,7 @@
 -- The protocol table: what a handler does with each request ("Front-end message types").
 use Rattle.std.specs.Prelude.{ℕ, ◌+◌, ◌*◌, ◌%◌, ◌^◌, Bool, true, false, not, ◌&&◌, List, [], ◌∷◌, drop, length, Option, Some, None, Result, Ok, Err, if◌then◌else◌, ◌==◌, nat_le, bit_or, codes, ⊤}
 use Rattle.std.specs.List.{list_all}
+use Rattle.vhost_message.specs.declared.limits.TheConstants.{MEMORY_HEAD_SIZE, MEMORY_REGION_SIZE}
 use Rattle.vhost_message.specs.Bits.{has_bit}
 use Rattle.vhost_message.specs.declared.frontend_req.FrontendReq.{FrontendReq}
 use Rattle.vhost_message.specs.declared.frontend_req.FrontendReq.TheVariants.{GET_FEATURES, SET_FEATURES, SET_OWNER, RESET_OWNER, SET_MEM_TABLE, SET_LOG_BASE, SET_VRING_NUM, SET_VRING_ADDR, SET_VRING_BASE, GET_VRING_BASE, SET_VRING_KICK, SET_VRING_CALL, SET_VRING_ERR, GET_PROTOCOL_FEATURES, SET_PROTOCOL_FEATURES, GET_QUEUE_NUM, SET_VRING_ENABLE, SET_BACKEND_REQ_FD, GET_CONFIG, SET_CONFIG, POSTCOPY_ADVISE, POSTCOPY_LISTEN, POSTCOPY_END, GET_INFLIGHT_FD, SET_INFLIGHT_FD, GPU_SET_SOCKET, RESET_DEVICE, GET_MAX_MEM_SLOTS, ADD_MEM_REG, REM_MEM_REG, GET_SHARED_OBJECT, SET_DEVICE_STATE_FD, CHECK_DEVICE_STATE, GET_SHMEM_CONFIG}
@@ -18,7 +19,8 @@ use Rattle.vhost_protocol.specs.Error.{Error, InvalidParam, InvalidOperation, In
 use Rattle.vhost_protocol.specs.Features.{PROTOCOL_FEATURES, MQ, LOG_SHMFD, REPLY_ACK, BACKEND_REQ, PAGEFAULT, CONFIG, INFLIGHT_SHMFD, RESETS_DEVICE, CONFIGURE_MEM_SLOTS, SHARED_OBJECT, SHMEM}
 use Rattle.vhost_protocol.specs.Session.{Session, is_inactive, is_advise, is_listen}
 use Rattle.vhost_protocol.specs.Split.{Message}
-use Rattle.vhost_protocol.specs.Step.{Outcome, Refusal, Step, Refused, Calls, OpensBackend, OpensGpu, ◌>>=◌, ◌>>◌, silently, acknowledged, test, acked, failed_with, replied, replied_or_silent, unwritten}
+use Rattle.vhost_protocol.specs.Step.{Outcome, Refusal, Step, Refused, Calls, OpensBackend, OpensGpu, ◌>>=◌, ◌>>◌, silently, acknowledged, with_ack, failed_with, replied, replied_or_silent, unwritten}
+use Rattle.vhost_protocol.specs.Error.{test}
 use Rattle.vhost_protocol.specs.Written.{Empty, U64, Regions, OneRegion, Shmem, RingState, ConfigBytes, InflightArea, LogArea}
 
 -- ---- tests
@@ -44,8 +46,8 @@ abbrev pub u64 : {H : Type 0} → Message FrontendReq H → Result ℕ (Refusal 
 u64 m = body 8 (u64_at 0) always m
 
 -- a protocol feature is acknowledged
-abbrev pub operation : {H : Type 0} → Session → ℕ → Result ⊤ (Refusal H)
-operation s feature = test (has_bit s.acked_protocol_features feature) (silently (InactiveOperation (2 ^ feature)))
+abbrev pub session_feature : {H : Type 0} → Session → ℕ → Result ⊤ (Refusal H)
+session_feature s feature = test (has_bit s.acked_protocol_features feature) (silently (InactiveOperation (2 ^ feature)))
 
 -- the one element of a list
 abbrev pub only : {A E : Type 0} → E → List A → Result A E
@@ -88,12 +90,13 @@ ring_row m call = do
 abbrev pub is_valid_table : {H : Type 0} → Message FrontendReq H → Bool
 is_valid_table m =
     let n = (memory_of m.body).num_regions in
-    not m.reply && nat_le 8 (length m.body) && is_valid_memory (memory_of m.body) && length m.body == 8 + 32 * n
-    && length m.handles == n && list_all is_valid_region (regions_of n (drop 8 m.body))
+    not m.reply && nat_le MEMORY_HEAD_SIZE (length m.body) && is_valid_memory (memory_of m.body)
+    && length m.body == MEMORY_HEAD_SIZE + MEMORY_REGION_SIZE * n
+    && length m.handles == n && list_all is_valid_region (regions_of n (drop MEMORY_HEAD_SIZE m.body))
 
 -- the regions of a table
 abbrev pub table : {H : Type 0} → Message FrontendReq H → List VhostUserMemoryRegion
-table m = regions_of (memory_of m.body).num_regions (drop 8 m.body)
+table m = regions_of (memory_of m.body).num_regions (drop MEMORY_HEAD_SIZE m.body)
 
 -- the regions, each with the base that the device gave it
 abbrev pub rebased : List VhostUserMemoryRegion → List ℕ → List VhostUserMemoryRegion
@@ -132,7 +135,7 @@ table_row s m = do
   test (is_valid_table m) (acknowledged s m InvalidMessage)
   (if is_listen s.postcopy
       then Calls (SetMemTable (table m) m.handles (Some true)) (with_bases s m)
-      else Calls (SetMemTable (table m) m.handles (Some false)) (acked s m))
+      else Calls (SetMemTable (table m) m.handles (Some false)) (with_ack s m))
 
 -- one region, which is to be mapped while listening
 abbrev pub region_row : {H B G : Type 0} → Session → Message FrontendReq H → Step H B G
@@ -141,7 +144,7 @@ region_row s m = do
   r ← body 40 single_region_of always m
   (if is_listen s.postcopy
       then Calls (AddMemRegion r h (Some true)) (with_base s m r)
-      else Calls (AddMemRegion r h (Some false)) (acked s m))
+      else Calls (AddMemRegion r h (Some false)) (with_ack s m))
 
 -- the configuration bytes, or the same record with size 0 and none ("Device configuration space")
 abbrev pub with_config : {H : Type 0} → Session → VhostUserConfig → Result (List ℕ) Error → Outcome H
@@ -195,122 +198,125 @@ channel s m (Err e) = Err (acknowledged s m e)
 abbrev pub row_of : {H B G : Type 0} → FrontendReq → Session → Message FrontendReq H → Step H B G
 row_of SET_OWNER s m = do
   bare 0 m
-  Calls SetOwner (acked s m)
+  Calls SetOwner (with_ack s m)
 row_of RESET_OWNER s m = do
   bare 0 m
-  Calls ResetOwner (acked s m)
+  Calls ResetOwner (with_ack s m)
 row_of RESET_DEVICE s m = do
-  operation s RESETS_DEVICE
+  session_feature s RESETS_DEVICE
   bare 0 m
-  Calls ResetDevice (acked s m)
+  Calls ResetDevice (with_ack s m)
 row_of GET_FEATURES s m = do
   bare 0 m
   Calls GetFeatures (with_features s)
+-- they are stored also where the device fails
 row_of SET_FEATURES s m = do
   n ← u64 m
-  Calls (SetFeatures n) (acked (record s { acked = n }) m)
+  Calls (SetFeatures n) (with_ack (record s { acked = n }) m)
 row_of SET_MEM_TABLE s m = if is_mapped s m then mapped_row s m else table_row s m
 row_of SET_LOG_BASE s m = do
-  operation s LOG_SHMFD
+  session_feature s LOG_SHMFD
   h ← one_handle m (silently IncorrectFds)
   l ← body 16 log_of is_valid_log m
   Calls (SetLogBase l h) (replied_or_silent s (λ u. LogArea l))
 row_of SET_VRING_NUM s m = do
   v ← body 8 vring_state_of always m
-  Calls (SetVringNum v.index v.num) (acked s m)
+  Calls (SetVringNum v.index v.num) (with_ack s m)
 row_of SET_VRING_BASE s m = do
   v ← body 8 vring_state_of always m
-  Calls (SetVringBase v.index v.num) (acked s m)
+  Calls (SetVringBase v.index v.num) (with_ack s m)
 row_of SET_VRING_ADDR s m = do
   v ← body 40 vring_addr_of is_valid_vring_addr m
-  Calls (SetVringAddr v) (acked s m)
+  Calls (SetVringAddr v) (with_ack s m)
 row_of GET_VRING_BASE s m = do
   v ← body 8 vring_state_of always m
   Calls (GetVringBase v.index) (replied_or_silent s RingState)
-row_of SET_VRING_KICK s m = ring_row m (λ n h. Calls (SetVringKick n h) (acked s m))
-row_of SET_VRING_CALL s m = ring_row m (λ n h. Calls (SetVringCall n h) (acked s m))
-row_of SET_VRING_ERR s m = ring_row m (λ n h. Calls (SetVringErr n h) (acked s m))
+row_of SET_VRING_KICK s m = ring_row m (λ n h. Calls (SetVringKick n h) (with_ack s m))
+row_of SET_VRING_CALL s m = ring_row m (λ n h. Calls (SetVringCall n h) (with_ack s m))
+row_of SET_VRING_ERR s m = ring_row m (λ n h. Calls (SetVringErr n h) (with_ack s m))
 row_of GET_PROTOCOL_FEATURES s m = do
   bare 0 m
   Calls GetProtocolFeatures (replied_or_silent s (λ n. U64 (bit_or n (2 ^ REPLY_ACK))))
+-- they are stored also where the device fails
 row_of SET_PROTOCOL_FEATURES s m = do
   n ← u64 m
-  Calls (SetProtocolFeatures n) (acked (record s { acked_protocol_features = n }) m)
+  Calls (SetProtocolFeatures n) (with_ack (record s { acked_protocol_features = n }) m)
 row_of GET_QUEUE_NUM s m = do
-  operation s MQ
+  session_feature s MQ
   bare 0 m
   Calls GetQueueNum (replied_or_silent s U64)
 row_of GET_MAX_MEM_SLOTS s m = do
-  operation s CONFIGURE_MEM_SLOTS
+  session_feature s CONFIGURE_MEM_SLOTS
   bare 0 m
   Calls GetMaxMemSlots (replied_or_silent s U64)
 row_of SET_VRING_ENABLE s m = do
   v ← body 8 vring_state_of always m
   test (has_bit s.acked PROTOCOL_FEATURES) (silently (InactiveFeature (2 ^ PROTOCOL_FEATURES)))
   test (nat_le v.num 1) (silently InvalidParam)
-  Calls (SetVringEnable v.index (v.num == 1)) (acked s m)
+  Calls (SetVringEnable v.index (v.num == 1)) (with_ack s m)
 row_of GET_CONFIG s m = do
-  operation s CONFIG
+  session_feature s CONFIG
   test (not m.reply && is_valid_area m) (silently InvalidMessage)
   let c = config_of m.body in Calls (GetConfig c.offset c.size c.flags) (with_config s c)
 row_of SET_CONFIG s m = do
-  operation s CONFIG
+  session_feature s CONFIG
   test (not m.reply) (silently InvalidMessage)
   test (is_valid_area m) (acknowledged s m InvalidMessage)
-  let c = config_of m.body in Calls (SetConfig c.offset (drop 12 m.body) c.flags) (acked s m)
+  let c = config_of m.body in Calls (SetConfig c.offset (drop 12 m.body) c.flags) (with_ack s m)
 row_of SET_BACKEND_REQ_FD s m = do
-  operation s BACKEND_REQ
+  session_feature s BACKEND_REQ
   test (not m.reply) (silently InvalidMessage)
   h ← one_handle m (acknowledged s m InvalidMessage)
   OpensBackend h (λ opened. do
     backend ← channel s m opened
-    Calls (SetBackendReqFd backend) (λ u. acked {A = ⊤} s m (Ok u)))
+    Calls (SetBackendReqFd backend) (λ u. with_ack {A = ⊤} s m (Ok u)))
 row_of GPU_SET_SOCKET s m = do
   h ← one_handle m (acknowledged s m InvalidMessage)
   OpensGpu h (λ opened. do
     gpu ← channel s m opened
-    Calls (SetGpuSocket gpu) (acked s m))
+    Calls (SetGpuSocket gpu) (with_ack s m))
 row_of GET_SHARED_OBJECT s m = do
-  operation s SHARED_OBJECT
+  session_feature s SHARED_OBJECT
   name ← body 16 name_of is_valid_name m
   Calls (GetSharedObject name) (with_handle s)
 row_of GET_INFLIGHT_FD s m = do
-  operation s INFLIGHT_SHMFD
+  session_feature s INFLIGHT_SHMFD
   i ← body 24 inflight_of is_valid_inflight m
   Calls (GetInflightFd i) (with_inflight s)
 row_of SET_INFLIGHT_FD s m = do
-  operation s INFLIGHT_SHMFD
+  session_feature s INFLIGHT_SHMFD
   h ← one_handle m (silently IncorrectFds)
   i ← body 24 inflight_of is_valid_inflight m
-  Calls (SetInflightFd i h) (acked s m)
+  Calls (SetInflightFd i h) (with_ack s m)
 row_of ADD_MEM_REG s m = do
-  operation s CONFIGURE_MEM_SLOTS
+  session_feature s CONFIGURE_MEM_SLOTS
   (if is_mapped s m then mapped_row s m else region_row s m)
 row_of REM_MEM_REG s m = do
-  operation s CONFIGURE_MEM_SLOTS
+  session_feature s CONFIGURE_MEM_SLOTS
   (if is_mapped s m then mapped_row s m else (do
     r ← body 40 single_region_of always m
-    Calls (RemoveMemRegion r) (acked s m)))
+    Calls (RemoveMemRegion r) (with_ack s m)))
 row_of SET_DEVICE_STATE_FD s m = do
   h ← one_handle m (silently IncorrectFds)
   t ← body 8 transfer_of is_valid_transfer m
   Calls (SetDeviceStateFd t h) (with_state s)
 row_of CHECK_DEVICE_STATE s m = Calls CheckDeviceState (with_check s)
 row_of GET_SHMEM_CONFIG s m = do
-  operation s SHMEM
+  session_feature s SHMEM
   Calls GetShmemConfig (replied_or_silent s Shmem)
 row_of POSTCOPY_ADVISE s m = do
-  operation s PAGEFAULT
+  session_feature s PAGEFAULT
   test (is_inactive s.postcopy) (silently (InvalidOperation (codes "postcopy already advised")))
   Calls PostcopyAdvice (λ answer. with_handle (if_agreed s Advise answer) answer)
 row_of POSTCOPY_LISTEN s m = do
-  operation s PAGEFAULT
+  session_feature s PAGEFAULT
   test (is_advise s.postcopy) (silently (InvalidOperation (codes "postcopy not advised")))
-  Calls PostcopyListen (λ answer. acked (if_agreed s Listen answer) m answer)
+  Calls PostcopyListen (λ answer. with_ack (if_agreed s Listen answer) m answer)
+-- postcopy has ended also where the device fails
 row_of POSTCOPY_END s m = do
-  operation s PAGEFAULT
+  session_feature s PAGEFAULT
   test (is_listen s.postcopy) (silently (InvalidOperation (codes "postcopy not listening")))
-  Calls PostcopyEnd (acked (record s { postcopy = End }) m)
+  Calls PostcopyEnd (with_ack (record s { postcopy = End }) m)
 row_of _ s m = Refused (silently InvalidMessage)
 
 -- the row of a message

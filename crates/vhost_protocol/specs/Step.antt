@@ -40,8 +40,8 @@ abbrev pub ◌>>◌ : {H B G : Type 0} → Result ⊤ (Refusal H) → Step H B G
 (Err refusal) >> next = Refused refusal
 
 -- an acknowledgement, where acknowledgements are on and the message wants one
-abbrev pub ack : {H : Type 0} → Session → Message FrontendReq H → Bool → Served H
-ack s m agreed = if ack_on s && m.need_reply then Acknowledged agreed else Silent
+abbrev pub ack_back : {H : Type 0} → Session → Message FrontendReq H → Bool → Served H
+ack_back s m agreed = if ack_on s && m.need_reply then Acknowledged agreed else Silent
 
 -- the error, with nothing written
 abbrev pub silently : {H : Type 0} → Error → Refusal H
@@ -49,11 +49,7 @@ silently e = record { error = e; served = Silent }
 
 -- the error, acknowledged
 abbrev pub acknowledged : {H : Type 0} → Session → Message FrontendReq H → Error → Refusal H
-acknowledged s m e = record { error = e; served = ack s m false }
-
--- a test that refuses where it fails
-abbrev pub test : {H : Type 0} → Bool → Refusal H → Result ⊤ (Refusal H)
-test holds refusal = if holds then Ok tt else Err refusal
+acknowledged s m e = record { error = e; served = ack_back s m false }
 
 -- the answer without its value
 abbrev pub done : {A : Type 0} → Result A Error → Result ⊤ Error
@@ -63,12 +59,12 @@ done (Err e) = Err e
 -- ---- what follows from a device's answer
 
 -- the answer is acknowledged
-abbrev pub acked : {H A : Type 0} → Session → Message FrontendReq H → Result A Error → Outcome H
-acked s m answer = record { answer = done answer; served = ack s m (is_ok answer); session = s }
+abbrev pub with_ack : {H A : Type 0} → Session → Message FrontendReq H → Result A Error → Outcome H
+with_ack s m answer = record { answer = done answer; served = ack_back s m (is_ok answer); session = s }
 
 -- an error in the place of the answer, acknowledged
 abbrev pub failed_with : {H : Type 0} → Session → Message FrontendReq H → Error → Outcome H
-failed_with s m e = record { answer = Err e; served = ack s m false; session = s }
+failed_with s m e = record { answer = Err e; served = ack_back s m false; session = s }
 
 -- success, with a reply
 abbrev pub replied : {H : Type 0} → Session → Payload → List H → Outcome H

@@ -1,5 +1,6 @@
 -- Streams of bytes that carry handles.
 use Rattle.std.specs.Prelude.{ℕ, ◌≤◌, List, [], ◌∷◌, ◌++◌, length, map, All, zero, suc, Bool, true, false, ◌||◌}
+use Rattle.vhost_message.specs.declared.limits.TheConstants.{MAX_ATTACHED_FD_ENTRIES}
 
 -- one byte of a stream, with the handles that come with it
 pub record Cell (H : Type 0) : Type 0 where
@@ -10,9 +11,9 @@ pub record Cell (H : Type 0) : Type 0 where
 abbrev pub cell : {H : Type 0} → ℕ → List H → Cell H
 cell byte handles = record { byte = byte; handles = handles }
 
--- no byte carries more than 32 handles
+-- no byte carries more handles than a message may have
 abbrev pub IsStream : {H : Type 0} → List (Cell H) → Type 0
-IsStream cells = All (λ c. length c.handles ≤ 32) cells
+IsStream cells = All (λ c. length c.handles ≤ MAX_ATTACHED_FD_ENTRIES) cells
 
 -- the bytes alone
 abbrev pub bytes : {H : Type 0} → List (Cell H) → List ℕ

@@ -1,5 +1,6 @@
 //! Laws of the definitions.
 
+pub mod concrete;
 pub mod lockstep;
 pub mod messages;
 pub mod replies;

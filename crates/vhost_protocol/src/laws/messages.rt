@@ -1,13 +1,14 @@
 //! How a stream is cut into messages.
 
-ghost use Rattle.vhost_protocol.specs.Laws.{CutsFront, FirstIsFront, SentIsRead};
+ghost use Rattle.vhost_protocol.specs.Laws.{CutsFront, EndIsNeeded, FirstIsFront, SentIsRead};
 
 use vhost_message::Req;
 
-/// A stream is cut at the end of its first message: what follows makes no difference, and a message that was sent is
-/// the first one of the stream, whatever follows it.
+/// A stream is cut at the end of its first message: what follows makes no difference, an outcome at the end of the
+/// stream needed that end, and a message that was sent is the first one of the stream, whatever follows it.
 pub fn cut_in_order<R: Req, H>()
     ensures cut { CutsFront R H R.code }
+    ensures end { EndIsNeeded R H R.code }
     ensures front { FirstIsFront R H R.code }
     ensures read { SentIsRead R H R.code R.number }
 {}

@@ -1,14 +1,14 @@
-//! Each law at concrete types.
+//! Each law at the codes of both channels, so that its bounds are seen to be met.
 
-use crate::laws::lockstep::{heard_as_served, sent_whole};
-use crate::laws::messages::cut_in_order;
-use crate::laws::replies::{read_as_written, taken_as_served};
-use crate::laws::reverse::answered_as_served;
-use crate::laws::rows::{rows_keep_mark, silent_is_last, stays_in_step, stays_negotiated};
+use super::lockstep::{heard_as_served, sent_whole};
+use super::messages::cut_in_order;
+use super::replies::{read_as_written, taken_as_served};
+use super::reverse::answered_as_served;
+use super::rows::{rows_keep_mark, silent_is_last, stays_in_step, stays_negotiated};
 use vhost_message::{BackendReq, FrontendReq};
 
-#[test]
-fn laws_of_both_channels() {
+/// The laws of both channels, with numbers for handles, channels and displays.
+pub fn laws_of_both_channels() {
     cut_in_order::<FrontendReq, u32>();
     cut_in_order::<BackendReq, u32>();
     read_as_written::<FrontendReq, u32>();

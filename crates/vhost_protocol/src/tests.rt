@@ -1,5 +1,0 @@
-//! Values from outside, and each law at a concrete type.
-
-mod laws;
-mod rows;
-mod stream;
