@@ -3,7 +3,7 @@ use Rattle.std.proofs.Common.{◌≡◌, ℕ, ◌+◌, ◌-◌, ◌<◌, ◌≤�
 use Rattle.std.specs.Prelude.{not, is_some, ◌==◌}
 use Rattle.std.specs.Global.{Global}
 use Rattle.std.proofs.lemmas.Bool.Decides.{nat_tests}
-use Rattle.std.proofs.lemmas.List.{take-map, drop-map, take-append-le, drop-append-le, drop-take, take_all, drop_all, length-drop}
+use Rattle.std.proofs.lemmas.List.{take-map, drop-map, take-take, take-append-le, drop-append-le, drop-take, take_all, drop_all, length-drop}
 use Rattle.vhost_message.specs.declared.error.Error.{Error}
 use Rattle.vhost_message.specs.declared.error.Error.TheVariants.{InvalidMessage, PartialMessage}
 use Rattle.vhost_message.specs.declared.header.VhostUserMsgHeader.{VhostUserMsgHeader}
@@ -23,7 +23,7 @@ use Rattle.vhost_connection.specs.Bare.{is_bare, ReadsOrBare}
 use Rattle.vhost_connection.specs.Bare.ReadsOrBare.{bare, whole, ends, invalid, fails}
 use Rattle.vhost_connection.proofs.Fronts.{Serves-list}
 use Rattle.vhost_connection.proofs.Messages.{all-came, some-came}
-use Rattle.vhost_connection.proofs.Bodies.{take-front, payload-bad, payload-whole}
+use Rattle.vhost_connection.proofs.Bodies.{payload-bad, payload-whole}
 use Rattle.vhost_connection.proofs.Receiving.{first-append}
 use Rattle.vhost_connection.proofs.More.{more-parts, more-fails}
 
@@ -77,7 +77,7 @@ module _ {R L H : Type 0} (event : L → Event H → L → Type 0) (code : ℕ �
     begins = let is : count ≡ 24 = omega (arith, f.counted, f.within) in ap (λ n. take n text) (sym is) ∙ f.bytes
 
     head : take 12 text ≡ take 12 (bytes f.cs)
-    head = sym (take-front 12 24 text (omega arith)) ∙ ap (take 12) begins
+    head = sym (take-take 12 24 text (omega arith)) ∙ ap (take 12) begins
 
     body : take 12 (drop 12 text) ≡ take 12 (drop 12 (bytes f.cs))
     body = sym (drop-take 12 12 text) ∙ ap (drop 12) begins ∙ sym (take_all 12 (drop 12 (bytes f.cs)) (omega (arith, all, length-drop 12 (bytes f.cs), length-bytes f.cs)))

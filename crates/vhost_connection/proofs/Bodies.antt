@@ -1,8 +1,9 @@
 -- A header and a record come in, and what fits of a payload.
-use Rattle.std.proofs.Common.{◌≡◌, ℕ, zero, suc, ◌+◌, ◌-◌, ◌<◌, ◌≤◌, List, [], ◌∷◌, ◌++◌, length, length-drop, take, drop, refl, sym, ap, subst, ◌∙◌, arith, Bool, true, false, ◌&&◌, Option, Err, Ok, Vec, nat_lt}
+use Rattle.std.proofs.Common.{◌≡◌, ℕ, ◌+◌, ◌-◌, ◌<◌, ◌≤◌, List, [], ◌++◌, length, length-drop, take, drop, refl, sym, ap, subst, ◌∙◌, arith, Bool, true, false, ◌&&◌, Option, Err, Ok, Vec, nat_lt}
+use Rattle.std.proofs.lemmas.Bool.{lt-ltb, le-ltb}
 use Rattle.std.specs.Prelude.{not}
 use Rattle.std.specs.Global.{Global}
-use Rattle.std.proofs.lemmas.List.{take_all, drop_all, drop-take}
+use Rattle.std.proofs.lemmas.List.{take_all, drop_all, drop-take, take-take}
 use Rattle.vhost_message.specs.declared.cause.IoCause.{IoCause}
 use Rattle.vhost_message.specs.declared.error.Error.{Error}
 use Rattle.vhost_message.specs.declared.error.Error.TheVariants.{InvalidMessage, PartialMessage, SocketRetry, SocketBroken, SocketConnect, SocketError, OutOfMemory}
@@ -15,7 +16,6 @@ use Rattle.vhost_connection.specs.Talk.{State, Serves, Trouble}
 use Rattle.vhost_connection.specs.Talk.Trouble.{was_broken, no_memory, fault}
 use Rattle.vhost_connection.specs.Calls.{ReadsBody, ReadsInto, ReadsPayload, HandsOver, MessageCame, MessageEnds, MessageFails}
 use Rattle.vhost_connection.specs.Front.{PartsCame, gives}
-use Rattle.vhost_connection.proofs.Basics.{less, not-less}
 use Rattle.vhost_connection.proofs.Fronts.{Serves-list, Serves-gives, list-gives, left-gives}
 use Rattle.vhost_connection.proofs.Errors.{socket}
 
@@ -47,12 +47,6 @@ into-fails event read valid old new len before after e whole f =
 
 -- ---- what came
 
-pub take-front : {A : Type 0} (k n : ℕ) (xs : List A) → k ≤ n → take k (take n xs) ≡ take k xs
-take-front zero n xs le = refl
-take-front (suc k) zero xs le = absurd (omega arith)
-take-front (suc k) (suc n) [] le = refl
-take-front (suc k) (suc n) (x ∷ xs) le = ap (λ ys. x ∷ ys) (take-front k n xs (omega arith))
-
 module _ {L H : Type 0} {event : L → Event H → L → Type 0} {old mid : State L H} {len count more : ℕ} {hs : List H} {text before after : List ℕ} (f : PartsCame event old len count more hs text before after mid) where
   came : (new : State L H) (head : ℕ) → len ≡ head → len ≤ count → new.left ≡ mid.left
       → (Serves event old old.budget (receives (heard f.cs (nat_lt (length f.cs) (len + length before))) f.retries) mid → Serves event old old.budget (receives (heard f.cs (nat_lt (length f.cs) (len + length before))) f.retries) new)
@@ -79,7 +73,7 @@ module _ {L H : Type 0} {event : L → Event H → L → Type 0} {old mid : Stat
   ended new head e short s =
       let few : length f.cs < len = omega (arith, f.counted) in
       let p : Serves event old old.budget (receives (heard f.cs true) f.retries) mid =
-      subst (λ b. Serves event old old.budget (receives (heard f.cs b) f.retries) mid) (less (length f.cs) (len + length before) (omega (arith, few))) f.serves in
+      subst (λ b. Serves event old old.budget (receives (heard f.cs b) f.retries) mid) (lt-ltb (length f.cs) (len + length before) (omega (arith, few))) f.serves in
       let none : drop len (bytes f.cs) ≡ [] = drop_all len (bytes f.cs) (omega (arith, few, length-bytes f.cs)) in
       let zero : more ≡ 0 = f.rest ∙ omega (arith, few) in
       record {
@@ -104,7 +98,7 @@ module _ {L H : Type 0} {event : L → Event H → L → Type 0} {old mid : Stat
       ap (λ n. take n text) (sym full) ∙ f.bytes
 
   pub front-of-text : (k : ℕ) → k ≤ len → len ≤ count → take k text ≡ take k (bytes f.cs)
-  front-of-text k le most = sym (take-front k len text le) ∙ ap (take k) (begins most) ∙ take-front k len (bytes f.cs) le
+  front-of-text k le most = sym (take-take k len text le) ∙ ap (take k) (begins most) ∙ take-take k len (bytes f.cs) le
 
   pub part-of : (k n : ℕ) → k + n ≡ len → len ≤ count → take n (drop k text) ≡ take n (drop k (bytes f.cs))
   part-of k n e most = sym (drop-take k n text) ∙ ap (drop k) (ap (λ m. take m text) e ∙ begins most ∙ ap (λ m. take m (bytes f.cs)) (sym e)) ∙ drop-take k n (bytes f.cs)
@@ -161,7 +155,7 @@ into-whole event read valid old mid new len count hs text before after x twelve 
 no-room : {L H : Type 0} {event : L → Event H → L → Type 0} {old new : State L H} {head : ℕ} {after : List ℕ} {cs : List (Cell H)} (m : MessageCame event old head [] after cs new)
     → (length cs ≡ head) × Serves event old old.budget (receives (items cs) m.retries) new
 no-room {event = event} {old} {new} {head} {cs = cs} m =
-    (omega (arith, m.whole, m.within), subst (λ b. Serves event old old.budget (receives (heard cs b) m.retries) new) (not-less (length cs) (head + 0) (omega (arith, m.whole))) m.serves)
+    (omega (arith, m.whole, m.within), subst (λ b. Serves event old old.budget (receives (heard cs b) m.retries) new) (le-ltb (length cs) (head + 0) (omega (arith, m.whole))) m.serves)
 
 pub body-comes : {M T L H : Type 0} (event : L → Event H → L → Type 0) (read : List ℕ → M) (valid : M → Bool) (size : ℕ) (read_body : List ℕ → T) (valid_body : T → Bool) (old new : State L H) (after : List ℕ)
     (x : M × T × ℕ × Option (Vec H Global)) → ReadsPayload event read valid size read_body valid_body old [] (Ok x) after new → ReadsBody event read valid size read_body valid_body old (Ok (x.0, x.1, x.3)) new

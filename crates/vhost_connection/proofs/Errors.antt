@@ -1,6 +1,7 @@
--- What a link's cause becomes.
-use Rattle.std.proofs.Common.{◌≡◌, sym, ◌∙◌, Bool, true, false}
+-- What a link's cause becomes, and how an error is passed on.
+use Rattle.std.proofs.Common.{◌≡◌, sym, ap, ◌∙◌, Bool, true, false, Result, Ok, Err}
 use Rattle.std.specs.Prelude.{if◌then◌else◌}
+use Rattle.std.specs.Result.{IsErrAnd}
 use Rattle.vhost_message.specs.declared.cause.IoCause.{IoCause}
 use Rattle.vhost_message.specs.declared.error.Error.{Error}
 use Rattle.vhost_message.specs.declared.error.Error.TheVariants.{SocketError, SocketConnect, SocketBroken, SocketRetry, OutOfMemory}
@@ -19,3 +20,8 @@ socket P Q c false false false p q r s x = s x
 pub no_memory_error : (e : Error) (c : IoCause) → e ≡ error_of c → e ≡ OutOfMemory → ⊥
 no_memory_error e c is memory =
     socket (λ _. Unit {0}) (λ y. y ≡ OutOfMemory → ⊥) c (is_retry c) (is_break c) (is_denial c) (λ _ h. absurd cc) (λ _ h. absurd cc) (λ _ h. absurd cc) (λ _ h. absurd cc) tt (sym is ∙ memory)
+
+-- A `?` whose error is passed on as it is answers that error.
+pub passed-on : {T E : Type 0} {e : E} (r : Result T E) → IsErrAnd r (λ y. y ≡ e) → r ≡ Err e
+passed-on (Ok x) h = absurd h
+passed-on (Err y) h = ap (λ z. Err z) h

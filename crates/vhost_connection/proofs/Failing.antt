@@ -2,6 +2,7 @@
 use Rattle.std.proofs.Common.{◌≡◌, ℕ, ◌≤◌, [], length, refl, sym, ap, subst, ◌∙◌, arith, inl, inr, Bool, true, false, ◌||◌, IsTrue, Option, Some, None}
 use Rattle.std.specs.Prelude.{if◌then◌else◌}
 use Rattle.std.proofs.lemmas.List.{append-nil}
+use Rattle.vhost_message.specs.declared.limits.TheConstants.{MAX_MSG_TEXT}
 use Rattle.vhost_message.specs.declared.cause.IoCause.{IoCause}
 use Rattle.vhost_message.specs.declared.error.Error.{Error}
 use Rattle.vhost_message.specs.declared.error.Error.TheVariants.{SocketError, SocketConnect, SocketBroken, SocketRetry}
@@ -39,13 +40,9 @@ pub first-is : (c : IoCause) (moved : Bool) → first_cause (if moved then Some 
 first-is c true = refl
 first-is c false = refl
 
-or-true : (b : Bool) → b || true ≡ true
-or-true true = refl
-or-true false = refl
-
 module _ {L H : Type 0} (event : L → Event H → L → Type 0) (old : State L H) (grows breaks : Bool) (m : Move H) where
   -- an endpoint's trouble is a failure of the side
-  pub trouble-fails : (e : Error) (new : State L H) → Trouble event old old.budget grows breaks m e new → breaks ≡ false → length m.taken ≤ 4108 → Fails event old false e new
+  pub trouble-fails : (e : Error) (new : State L H) → Trouble event old old.budget grows breaks m e new → breaks ≡ false → length m.taken ≤ MAX_MSG_TEXT → Fails event old false e new
   trouble-fails e new (trouble_broken b n s) whole few = was_broken b (s ∙ ap (λ (l : Bool). record old { list = l; faulted = false }) (sym (ap (λ (x : State L H). x.list) s)))
   trouble-fails e new (trouble_memory w b l n s) whole few = no_memory l (s ∙ ap (λ (f : Bool). record old { faulted = f }) (sym (ap (λ (x : State L H). x.faulted) s)))
   trouble-fails e new (trouble_fault c b t f r most k y l) whole few = fault c (m then refused c) b t (spends old.budget m (is_retry c) f most)
@@ -53,7 +50,7 @@ module _ {L H : Type 0} (event : L → Event H → L → Type 0) (old : State L 
       (k ∙ rw (whole, refused-moved m c (is_retry c)) refl) y
 
   -- between a request and the end of its answer it breaks the endpoint, too
-  pub trouble-breaks : (e : Error) (new : State L H) → Trouble event old old.budget grows breaks m e new → length m.taken ≤ 4108 → Fails event old true e (broken_on e new)
+  pub trouble-breaks : (e : Error) (new : State L H) → Trouble event old old.budget grows breaks m e new → length m.taken ≤ MAX_MSG_TEXT → Fails event old true e (broken_on e new)
   trouble-breaks e new (trouble_broken {c = c} b n s) few = was_broken b
       (ap (λ (x : State L H). record x { broken = first_cause x.broken c }) s ∙ ap (λ (x : Option IoCause). record old { broken = first_cause x c; faulted = false }) b
       ∙ ap (λ (x : Option IoCause). record old { broken = x; faulted = false }) (sym b)

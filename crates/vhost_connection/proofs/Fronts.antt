@@ -1,5 +1,6 @@
 -- The first bytes of a message come in.
 use Rattle.std.proofs.Common.{◌≡◌, ℕ, ◌+◌, ◌-◌, ◌<◌, ◌≤◌, List, [], ◌∷◌, ◌++◌, length, drop, min, add-zero, refl, subst, sym, ap, ◌∙◌, arith, Bool, true, false, ◌||◌, Some, None, nat_lt, Result, Ok, Err}
+use Rattle.std.proofs.lemmas.Bool.{lt-ltb, le-ltb}
 use Rattle.std.specs.Prelude.{if◌then◌else◌, not}
 use Rattle.std.proofs.lemmas.List.{take_all, drop_all}
 use Rattle.vhost_message.specs.declared.cause.IoCause.{IoCause}
@@ -18,16 +19,15 @@ use Rattle.vhost_connection.specs.Calls.{MessageFails}
 use Rattle.vhost_connection.specs.Front.{FrontCame, FrontFails, PartsCame, ReadsParts, ReadsFront, gives}
 use Rattle.vhost_connection.specs.declared.list.Front.{Front}
 use Rattle.vhost_connection.proofs.Talking.{served, serves, failed, gave-up}
-use Rattle.vhost_connection.proofs.Basics.{less, not-less}
 
 -- what came, where it was no fault that stopped it
 pub heard-as : {S H : Type 0} (event : S → Event H → S → Type 0) (old new : S) (room budget left : ℕ) (stop : PassEnd) (cs : List (Cell H))
     → ((c : IoCause) → stop ≡ Fault c → ⊥) → GotAs event old room budget left stop cs new
     → (length cs ≤ room) × Moved event old (receives (heard cs (nat_lt (length cs) room)) (budget - left)) new
 heard-as event old new room budget left Whole cs miss (len, p) =
-    (omega arith, Moved-as (ap (λ b. receives (heard cs b) (budget - left)) (sym (not-less (length cs) room (omega arith)))) p)
+    (omega arith, Moved-as (ap (λ b. receives (heard cs b) (budget - left)) (sym (le-ltb (length cs) room (omega arith)))) p)
 heard-as event old new room budget left AtEnd cs miss (len, p) =
-    (omega arith, Moved-as (ap (λ b. receives (heard cs b) (budget - left)) (sym (less (length cs) room len))) p)
+    (omega arith, Moved-as (ap (λ b. receives (heard cs b) (budget - left)) (sym (lt-ltb (length cs) room len))) p)
 heard-as event old new room budget left (Fault c) cs miss p = absurd (miss c refl)
 
 pub parts-came : {L H : Type 0} (event : L → Event H → L → Type 0) (old new : State L H) (link : L) (before after text : List ℕ) (got : Parts) (hs : List H) (len : ℕ)
@@ -51,8 +51,8 @@ parts-came event old new link before after text got hs len a s broken g miss =
     }
 
 pub moved-some : {H : Type 0} (cs : List (Cell H)) (n len : ℕ) → 0 < len → n ≡ min len (length cs) → nat_lt 0 n ≡ (has_some (items cs) || false)
-moved-some [] n len pos e = not-less 0 n (omega (arith, e))
-moved-some (c ∷ cs) n len pos e = less 0 n (omega (arith, e))
+moved-some [] n len pos e = le-ltb 0 n (omega (arith, e))
+moved-some (c ∷ cs) n len pos e = lt-ltb 0 n (omega (arith, e))
 
 pub parts-fail : {L H : Type 0} (event : L → Event H → L → Type 0) (old new : State L H) (link : L) (before after text : List ℕ) (got : Parts) (hs : List H) (len : ℕ) (c : IoCause) (e : Error)
     → 0 < len → old.ahead ≡ [] → new ≡ failed old link true got.left (if nat_lt 0 got.count then Some c else old.broken) → old.broken ≡ None → e ≡ error_of c

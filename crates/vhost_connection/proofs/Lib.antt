@@ -1,4 +1,3 @@
-pub mod Basics
 pub mod Joining
 pub mod Sending
 pub mod Receiving

@@ -1,5 +1,7 @@
 -- Headers and bodies come in.
 use Rattle.std.proofs.Common.{◌≡◌, ℕ, ◌<◌, ◌≤◌, List, [], length, take, sym, ap, subst, ◌∙◌, arith, Bool, true, false, Option, Err, Ok, Vec}
+use Rattle.std.proofs.lemmas.Bool.{lt-ltb, le-ltb}
+use Rattle.std.proofs.lemmas.List.{nil_from_length}
 use Rattle.std.specs.Prelude.{not}
 use Rattle.std.specs.Global.{Global}
 use Rattle.vhost_message.specs.declared.error.Error.{Error}
@@ -13,18 +15,17 @@ use Rattle.vhost_connection.specs.Talk.Trouble.{was_broken, no_memory, fault}
 use Rattle.vhost_connection.specs.Calls.{ReadsHeader, HandsOver}
 use Rattle.vhost_connection.specs.Front.{FrontCame, FrontFails, gives}
 use Rattle.vhost_connection.proofs.Errors.{socket}
-use Rattle.vhost_connection.proofs.Basics.{less, not-less, is-nil}
 use Rattle.vhost_connection.proofs.Fronts.{Serves-list, Serves-gives, list-gives, left-gives}
 
 -- All that was asked for came.
 pub all-came : {L H : Type 0} {event : L → Event H → L → Type 0} {old mid : State L H} {len count : ℕ} {hs : List H} {text : List ℕ} (f : FrontCame event old len count hs text mid) → len ≤ count
     → Serves event old old.budget (receives (items f.cs) f.retries) mid
-all-came {event = event} {old} {mid} {len} f most = subst (λ b. Serves event old old.budget (receives (heard f.cs b) f.retries) mid) (not-less (length f.cs) len (omega (arith, f.counted))) f.serves
+all-came {event = event} {old} {mid} {len} f most = subst (λ b. Serves event old old.budget (receives (heard f.cs b) f.retries) mid) (le-ltb (length f.cs) len (omega (arith, f.counted))) f.serves
 
 -- The end came first.
 pub some-came : {L H : Type 0} {event : L → Event H → L → Type 0} {old mid : State L H} {len count : ℕ} {hs : List H} {text : List ℕ} (f : FrontCame event old len count hs text mid) → count < len
     → Serves event old old.budget (receives (heard f.cs true) f.retries) mid
-some-came {event = event} {old} {mid} {len} f most = subst (λ b. Serves event old old.budget (receives (heard f.cs b) f.retries) mid) (less (length f.cs) len (omega (arith, f.counted))) f.serves
+some-came {event = event} {old} {mid} {len} f most = subst (λ b. Serves event old old.budget (receives (heard f.cs b) f.retries) mid) (lt-ltb (length f.cs) len (omega (arith, f.counted))) f.serves
 
 header-trouble : {M L H : Type 0} (event : L → Event H → L → Type 0) (read : List ℕ → M) (valid : M → Bool) (old new : State L H) (cs : List (Cell H)) (r : ℕ) (e : Error)
     → length cs < 12 → Trouble event old old.budget true false (receives (items cs) r) e new → ReadsHeader event read valid old (Err e) new
@@ -41,7 +42,7 @@ header-fails event read valid old new len e twelve f = header-trouble event read
 pub header-none : {M L H : Type 0} (event : L → Event H → L → Type 0) (read : List ℕ → M) (valid : M → Bool) (old mid new : State L H) (len count : ℕ) (hs : List H) (text : List ℕ)
     → len ≡ 12 → FrontCame event old len count hs text mid → count ≡ 0 → new ≡ record mid { list = true } → ReadsHeader event read valid old (Err Disconnected) new
 header-none event read valid old mid new len count hs text twelve f none s =
-    let nil : f.cs ≡ [] = is-nil f.cs (sym f.counted ∙ none) in
+    let nil : f.cs ≡ [] = nil_from_length f.cs (sym f.counted ∙ none) in
     let p : Serves event old old.budget (receives (heard [] true) f.retries) mid = subst (λ cs. Serves event old old.budget (receives (heard cs true) f.retries) mid) nil (some-came f (omega arith)) in
     (f.retries, subst (λ x. Serves event old old.budget (receives (heard [] true) f.retries) x) (sym s) (Serves-list true p), ap (λ (y : State _ _). y.list) s)
 

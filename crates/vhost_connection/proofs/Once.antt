@@ -1,8 +1,9 @@
 -- One call of the link hands out bytes.
 use Rattle.std.proofs.Common.{◌≡◌, ℕ, zero, suc, ◌+◌, ◌<◌, List, [], ◌∷◌, length, take, drop, min, refl, sym, ap, subst, ◌∙◌, arith, true, false, Option, None, Ok, Vec, nat_lt}
+use Rattle.std.proofs.lemmas.Bool.{lt-ltb, le-ltb}
 use Rattle.std.specs.Prelude.{not}
 use Rattle.std.specs.Global.{Global}
-use Rattle.std.proofs.lemmas.List.{take_at}
+use Rattle.std.proofs.lemmas.List.{nil_from_length, take_at, take-take}
 use Rattle.vhost_message.specs.declared.cause.IoCause.{IoCause}
 use Rattle.vhost_message.specs.declared.error.Error.{Error}
 use Rattle.vhost_message.specs.Cause.{error_of}
@@ -15,10 +16,8 @@ use Rattle.vhost_connection.specs.Pass.{receives, GetsPiece, Arrives}
 use Rattle.vhost_connection.specs.Talk.{State, Serves, Trouble}
 use Rattle.vhost_connection.specs.Calls.{HandsOver}
 use Rattle.vhost_connection.specs.Front.{ReadsCountOnce, gives}
-use Rattle.vhost_connection.proofs.Basics.{less, not-less, is-nil}
 use Rattle.vhost_connection.proofs.Talking.{served, serves, failed, gave-up}
 use Rattle.vhost_connection.proofs.Fronts.{Serves-gives, list-gives, left-gives}
-use Rattle.vhost_connection.proofs.Bodies.{take-front}
 
 alone-first : {H : Type 0} (hs : List H) (bs : List ℕ) → brings_handles (drop 1 (carrying hs bs)) ≡ false
 alone-first hs [] = refl
@@ -31,11 +30,11 @@ first-carried hs (b ∷ bs) none = refl
 moved-once : {S H : Type 0} (event : S → Event H → S → Type 0) (old new : S) (before after : List ℕ) (n len : ℕ) (handles : List H) → 0 < len → (a : Arrives event old before 0 n after handles new)
     → Moved event old (receives (heard (carrying handles a.front) (nat_lt (length (carrying handles a.front)) (min 1 len))) 0) new
 moved-once event old new before after zero len handles pos a =
-    let nil : a.front ≡ [] = is-nil a.front a.long in
-    Moved-as (rw (nil, less 0 (min 1 len) (omega (arith, pos))) refl) (Moved-once Ended (a.ended refl))
+    let nil : a.front ≡ [] = nil_from_length a.front a.long in
+    Moved-as (rw (nil, lt-ltb 0 (min 1 len) (omega (arith, pos))) refl) (Moved-once Ended (a.ended refl))
 moved-once event old new before after (suc n) len handles pos a =
     let long = length-carrying handles a.front ∙ a.long in
-    Moved-as (rw (not-less (length (carrying handles a.front)) (min 1 len) (omega (arith, long))) refl) (Moved-once (Handed (carrying handles a.front)) (a.some (omega arith)))
+    Moved-as (rw (le-ltb (length (carrying handles a.front)) (min 1 len) (omega (arith, long))) refl) (Moved-once (Handed (carrying handles a.front)) (a.some (omega arith)))
 
 pub once-came : {L H : Type 0} (event : L → Event H → L → Type 0) (old mid new : State L H) (link : L) (before after text : List ℕ) (len n : ℕ) (handles : List H) (given : Option (Vec H Global))
     → 0 < len → length before ≡ len → old.ahead ≡ [] → mid ≡ served old link false old.left → old.broken ≡ None → GetsPiece event old.link before 0 (Ok n) after handles link → take len text ≡ after
@@ -47,7 +46,7 @@ once-came event old mid new link before after text len n handles given pos long 
     let m = receives (heard cs (nat_lt (length cs) (min 1 len))) 0 in
     let p : Serves event old 0 m mid = serves old mid link false old.left 0 m a s broken refl (omega arith) (moved-once event old.link link before after n len handles pos g) in
     let text-is : take n text ≡ g.front =
-    sym (take-front n len text (omega (arith, g.within, long))) ∙ ap (take n) (front ∙ g.room) ∙ take_at g.front (drop (0 + n) before) n g.long in (
+    sym (take-take n len text (omega (arith, g.within, long))) ∙ ap (take n) (front ∙ g.room) ∙ take_at g.front (drop (0 + n) before) n g.long in (
       cs,
       record {
         serves = subst (λ x. Serves event old 0 m x) (sym is) (Serves-gives handles p);
@@ -72,7 +71,7 @@ pub unasked : {L H : Type 0} (event : L → Event H → L → Type 0) (old : Sta
 unasked {H = H} event old len text z a broken = (
   [],
   record {
-    serves = let none : nat_lt 0 (min 1 len) ≡ false = not-less 0 (min 1 len) (omega (arith, z)) in
+    serves = let none : nat_lt 0 (min 1 len) ≡ false = le-ltb 0 (min 1 len) (omega (arith, z)) in
         serves old (record old { faulted = false }) old.link old.list old.left 0 (receives (heard {H = H} [] (nat_lt 0 (min 1 len))) 0) a refl broken refl (omega arith) (Moved-as (rw none refl) still);
     within = omega arith;
     alone = refl;

@@ -1,9 +1,10 @@
 -- A request is read: its header, then its body.
-use Rattle.std.proofs.Common.{◌≡◌, ℕ, ◌+◌, ◌<◌, ◌≤◌, Bool, true, false, ◌&&◌, ◌⊎◌, inl, inr, List, [], ◌∷◌, ◌++◌, length, Option, Some, None, Result, Ok, Err, refl, sym, ◌∙◌, ap, subst, append_assoc, arith, nat_lt}
+use Rattle.std.proofs.Common.{◌≡◌, ℕ, ◌+◌, ◌<◌, ◌≤◌, Bool, true, false, ◌&&◌, ◌⊎◌, inl, inr, List, [], ◌++◌, length, Option, Some, None, Result, Ok, Err, refl, sym, ◌∙◌, ap, subst, arith, nat_lt}
 use Rattle.std.specs.Prelude.{is_some, ok_or, Vec}
 use Rattle.std.specs.Global.{Global}
-use Rattle.std.proofs.lemmas.List.{map-append, length-map}
+use Rattle.std.proofs.lemmas.List.{length-map}
 use Rattle.std.proofs.lemmas.Bool.Decides.{nat_tests}
+use Rattle.vhost_message.specs.declared.limits.TheConstants.{MAX_MSG_SIZE}
 use Rattle.vhost_message.specs.declared.header.VhostUserMsgHeader.{VhostUserMsgHeader}
 use Rattle.vhost_message.specs.declared.error.Error as declared
 use Rattle.vhost_message.specs.declared.error.Error.TheVariants.{Disconnected, PartialMessage, InvalidMessage}
@@ -11,9 +12,9 @@ use Rattle.vhost_message.specs.Header.{Header, header_of, is_valid_header}
 use Rattle.vhost_message.specs.MsgHeader.{fields_of, of_fields}
 use Rattle.vhost_protocol.specs.Error as protocol
 use Rattle.vhost_protocol.specs.Error.{seen}
-use Rattle.vhost_protocol.specs.Stream.{Cell, bytes, Byte, End, first_handles, brings_handles, items, heard}
+use Rattle.vhost_protocol.specs.Stream.{Cell, bytes, first_handles, brings_handles, items, heard}
 use Rattle.vhost_protocol.specs.Split.{split, Splits}
-use Rattle.vhost_link.specs.Law.{Event, move, ◌then◌}
+use Rattle.vhost_link.specs.Law.{Event}
 use Rattle.vhost_connection.specs.Pass.{receives}
 use Rattle.vhost_connection.specs.Talk.{State, Serves}
 use Rattle.vhost_connection.specs.Calls.{ReadsHeader, ReadsBytes, ReadsData}
@@ -21,15 +22,8 @@ use Rattle.vhost_connection.proofs.Talking.{Serves-on}
 use Rattle.vhost_connection.specs.Hearing.{Hears, Fails}
 use Rattle.vhost_connection.proofs.Failing.{trouble-fails}
 use Rattle.vhost_connection.proofs.Faults.{body-fails}
+use Rattle.vhost_connection.proofs.More.{both-heard}
 use Rattle.vhost_protocol.proofs.Splitting.{head_in, message_in, Announces, no-byte, part-of-header, bad-header, unwanted-handles, cut-body, handles-in-body, whole-message}
-
-add-cells : {H : Type 0} (cs ds : List (Cell H)) (b : Bool) → items cs ++ heard ds b ≡ heard (cs ++ ds) b
-add-cells cs ds true = sym (append_assoc (items cs) (items ds) (End ∷ [])) ∙ ap (λ xs. xs ++ End ∷ []) (sym (map-append Byte cs ds))
-add-cells cs ds false = sym (map-append Byte cs ds)
-
--- a header and then a body, as one move
-received-then : {H : Type 0} (cs ds : List (Cell H)) (b : Bool) (r q : ℕ) → receives (items cs) r then receives (heard ds b) q ≡ receives (heard (cs ++ ds) b) (r + q)
-received-then cs ds b r q = ap (λ xs. move xs [] (r + q) 0) (add-cells cs ds b)
 
 module _ {L H A : Type 0} (event : L → Event H → L → Type 0) (cut : List (Cell H) → A × List (Cell H)) where
   -- what was received by one call
@@ -46,7 +40,7 @@ module _ {L H A : Type 0} (event : L → Event H → L → Type 0) (cut : List (
         cells = cs ++ ds;
         ended = ended;
         retries = r + d.retries;
-        serves = subst (λ m. Serves event old old.budget m new) (received-then cs ds ended r d.retries) (Serves-on p left q);
+        serves = subst (λ m. Serves event old old.budget m new) (both-heard cs ds ended r d.retries) (Serves-on p left q);
         splits = s;
       }
 
@@ -148,11 +142,11 @@ module _ {R L H : Type 0} (event : L → Event H → L → Type 0) (request_of :
   pub header-size : (old mid : State L H) (x : VhostUserMsgHeader R × Option (Vec H Global)) (p : HeaderReads old (Ok x) mid) → (fields_of x.0).size ≡ (head_in p.0).size
   header-size old mid x p = ap (λ (h : VhostUserMsgHeader R). (fields_of h).size) p.4
 
-valid-small : (h : Header) → is_valid_header h ≡ true → h.size ≤ 4096
+valid-small : (h : Header) → is_valid_header h ≡ true → h.size ≤ MAX_MSG_SIZE
 valid-small h e = grind (arith, nat_tests, e)
 
--- the body of a valid header has at most 4096 bytes
-pub valid-size : {R : Type 0} (known : Bool) (h : VhostUserMsgHeader R) → (known && is_valid_header (fields_of h)) ≡ true → (fields_of h).size ≤ 4096
+-- the body of a valid header is not too long
+pub valid-size : {R : Type 0} (known : Bool) (h : VhostUserMsgHeader R) → (known && is_valid_header (fields_of h)) ≡ true → (fields_of h).size ≤ MAX_MSG_SIZE
 valid-size known h e = valid-small (fields_of h) (both-true known (is_valid_header (fields_of h)) e)
 
 -- as many bytes as cells

@@ -1,6 +1,7 @@
 -- Cells come in piece by piece.
 use Rattle.std.proofs.Common.{◌≡◌, ℕ, ◌+◌, ◌-◌, ◌<◌, ◌≤◌, List, [], ◌∷◌, ◌++◌, length, take, drop, add-zero, zero-add, length-drop, refl, sym, ap, ◌∙◌, arith, Bool, true, false, IsTrue, Ok, Err, Result, ◌||◌, append_assoc, subst, ◌==◌}
-use Rattle.std.proofs.lemmas.List.{append-nil, take_rest, take_at, drop_at, drop-drop, take_all, drop_all, take-append-drop, length-take-le, map-append, length-append}
+use Rattle.std.proofs.Math.Bool.{or-true, or-false}
+use Rattle.std.proofs.lemmas.List.{nil_from_length, append-nil, take_rest, take_at, drop_at, drop-drop, take_all, drop_all, take-append-drop, length-take-le, map-append, length-append}
 use Rattle.std.proofs.lemmas.Bool.Decides.{nat_tests}
 use borrow.Rule.Slice.PartMut.{put_mid}
 use Rattle.vhost_message.specs.declared.cause.IoCause.{IoCause}
@@ -10,7 +11,6 @@ use Rattle.vhost_link.proofs.Cells.{length-carrying, bytes-carrying, bytes-appen
 use Rattle.vhost_link.specs.Law.{Event, Handed, Refused, Move, Moved, ◌then◌, done, refused, Receives}
 use Rattle.vhost_link.specs.Law.Moved.{still, more}
 use Rattle.vhost_link.proofs.Moves.{Moved-as, Moved-then, then_assoc}
-use Rattle.vhost_connection.proofs.Basics.{is-nil}
 use Rattle.vhost_connection.specs.Pass.{receives, GetsWhole, GetsParts, FrontCame, Fills, Arrives, GetsPiece, GetsRest, GotAs}
 use Rattle.vhost_connection.specs.declared.pass.RecvPass.{RecvPass}
 use Rattle.vhost_connection.specs.declared.pass.PassEnd.{PassEnd}
@@ -80,7 +80,7 @@ filled {cs = cs} {before} {after} f = ap length f.bytes ∙ length-append (bytes
 
 same-room : (room after front : List ℕ) (count n : ℕ) → after ≡ take count room ++ (front ++ drop (count + n) room) → length front ≡ n → n ≡ 0 → after ≡ room
 same-room room after front count n e long none =
-    let nil : front ≡ [] = is-nil front (long ∙ none) in
+    let nil : front ≡ [] = nil_from_length front (long ∙ none) in
     e ∙ rw (nil, none, add-zero count) (take-append-drop count room)
 
 -- what `is_empty` says of a list
@@ -94,14 +94,6 @@ is-zero n b e t = grind (arith, nat_tests)
 pub no-list : {A : Type 0} (xs : List A) (n : ℕ) (b : Bool) → n ≡ length xs → b ≡ (n == 0) → b ≡ true → xs ≡ []
 no-list [] n b len e t = refl
 no-list (x ∷ xs) n b len e t = absurd (let z = is-zero n b e t in omega arith)
-
-pub or_true : (b : Bool) → b || true ≡ true
-or_true true = refl
-or_true false = refl
-
-pub or_false : (b : Bool) → b || false ≡ b
-or_false true = refl
-or_false false = refl
 
 -- nothing has come yet
 pub reads-start : {S H : Type 0} (event : S → Event H → S → Type 0) (old : S) (before : List ℕ) (budget : ℕ) → HasRead event old before budget 0 false budget before old
@@ -132,13 +124,13 @@ pub reads-more-some : {S H : Type 0} {event : S → Event H → S → Type 0} {o
     → HasRead event old before budget count surplus left room mid → Arrives event mid room count n after hs new → 0 < n → has_some hs ≡ true
     → HasRead event old before budget (count + n) true left after new
 reads-more-some {event} {old} {new = new} {before} {after = after} {budget} {count} {n} {left} {surplus} h a pos some =
-    subst (λ b. HasRead event old before budget (count + n) b left after new) (ap (λ b. surplus || b) some ∙ or_true surplus) (reads-more h a pos)
+    subst (λ b. HasRead event old before budget (count + n) b left after new) (ap (λ b. surplus || b) some ∙ or-true surplus) (reads-more h a pos)
 
 pub reads-more-none : {S H : Type 0} {event : S → Event H → S → Type 0} {old mid new : S} {before room after : List ℕ} {budget count n left : ℕ} {surplus : Bool} {hs : List H}
     → HasRead event old before budget count surplus left room mid → Arrives event mid room count n after hs new → 0 < n → hs ≡ []
     → HasRead event old before budget (count + n) surplus left after new
 reads-more-none {event} {old} {new = new} {before} {after = after} {budget} {count} {n} {left} {surplus} h a pos none =
-    subst (λ b. HasRead event old before budget (count + n) b left after new) (ap (λ xs. surplus || has_some xs) none ∙ or_false surplus) (reads-more h a pos)
+    subst (λ b. HasRead event old before budget (count + n) b left after new) (ap (λ xs. surplus || has_some xs) none ∙ or-false surplus) (reads-more h a pos)
 
 -- the link wants to be called again
 pub reads-again : {S H : Type 0} {event : S → Event H → S → Type 0} {old mid new : S} {before room after : List ℕ} {budget count left less : ℕ} {surplus : Bool} (c : IoCause)

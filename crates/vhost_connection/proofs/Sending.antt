@@ -1,5 +1,6 @@
 -- A text goes out piece by piece.
-use Rattle.std.proofs.Common.{◌≡◌, ℕ, ◌+◌, ◌-◌, ◌<◌, ◌≤◌, List, [], ◌∷◌, ◌++◌, length, take, drop, get_or, add-zero, zero-add, length-drop, refl, sym, ap, subst, ◌∙◌, arith, Bool, true, ◌||◌, IsTrue, nat_lt, Option, Some, None, Ok, Err, Result, Bor}
+use Rattle.std.proofs.Common.{◌≡◌, ℕ, suc, ◌+◌, ◌-◌, ◌<◌, ◌≤◌, List, [], ◌∷◌, ◌++◌, length, take, drop, get_or, add-zero, zero-add, length-drop, refl, sym, ap, subst, ◌∙◌, arith, Bool, true, ◌||◌, IsTrue, nat_lt, Option, Some, None, Ok, Err, Result, Bor}
+use Rattle.std.proofs.lemmas.Bool.{lt-ltb}
 use Rattle.std.specs.Prelude.{if◌then◌else◌}
 use Rattle.std.proofs.Math.Seq.{take-add, take-append-add}
 use Rattle.std.proofs.lemmas.List.{append-nil, take_all, take-append-le, length-append}
@@ -12,7 +13,6 @@ use Rattle.vhost_link.proofs.Moves.{Moved-as, Moved-then, then_assoc}
 use Rattle.vhost_link.proofs.Cells.{length-carrying, piece-first, piece-later, plain-is, plain-append}
 use Rattle.vhost_connection.specs.declared.pass.SendPass.{SendPass}
 use Rattle.vhost_connection.specs.Pass.{sends, joined, SendsPart, SentAs, SendsWhole}
-use Rattle.vhost_connection.proofs.Basics.{suc-pos, less}
 use Rattle.vhost_connection.proofs.Joining.{joined-more, joined-rest}
 
 pub first-piece : {S H : Type 0} (event : S → Event H → S → Type 0) (old new : S) (bytes : List ℕ) (hs : List H) (count : ℕ) (r : Result ℕ IoCause)
@@ -42,7 +42,7 @@ one-retry cs r s c p e h k = Moved-as (refused-is cs r c h ∙ ap (sends cs) (sy
 
 has-count : {A : Type 0} (xs : List A) (n : ℕ) (b : Bool) → n ≡ length xs → b ≡ nat_lt 0 n → b ≡ has_some xs
 has-count [] n b e t = t ∙ ap (nat_lt 0) e
-has-count (x ∷ xs) n b e t = t ∙ ap (nat_lt 0) e ∙ suc-pos (length xs)
+has-count (x ∷ xs) n b e t = t ∙ ap (nat_lt 0) e ∙ lt-ltb 0 (suc (length xs)) (omega arith)
 
 -- all of the text
 pub whole : {S H : Type 0} {event : S → Event H → S → Type 0} {old new : S} (text : List (Cell H)) (budget count : ℕ) (moved : Bool) (left : ℕ)
@@ -71,7 +71,7 @@ has-either (x ∷ xs) ys = refl
 
 has-front : {A : Type 0} (xs : List A) (n m : ℕ) → m ≡ length xs + n → has_some xs || nat_lt 0 n ≡ nat_lt 0 m
 has-front [] n m e = rw (e, zero-add n) refl
-has-front (x ∷ xs) n m e = sym (less 0 m (omega arith))
+has-front (x ∷ xs) n m e = sym (lt-ltb 0 m (omega arith))
 
 both : {H : Type 0} (cs ds : List (Cell H)) (r s t : ℕ) → t ≡ r + s → sends cs r then sends ds s ≡ sends (cs ++ ds) t
 both cs ds r s t k = rw k refl

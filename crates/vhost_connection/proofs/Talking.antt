@@ -1,7 +1,8 @@
 -- What the calls of an endpoint add up to.
 use Rattle.std.proofs.Common.{◌≡◌, ℕ, zero, suc, ◌+◌, ◌-◌, ◌<◌, ◌≤◌, List, [], ◌∷◌, ◌++◌, length, take, drop, min, append_assoc, refl, sym, ap, subst, ◌∙◌, arith, Bool, true, false, ◌||◌, IsTrue, Option, Some, None, nat_lt, Err, Ok, Result}
+use Rattle.std.proofs.lemmas.Bool.{lt-ltb}
 use Rattle.std.specs.Prelude.{if◌then◌else◌}
-use Rattle.std.proofs.lemmas.List.{append-nil, take_all, take-append-le, take-append-drop, length-take-le}
+use Rattle.std.proofs.lemmas.List.{nil_from_length, append-nil, take_all, take-append-le, take-append-drop, length-take-le}
 use Rattle.vhost_message.specs.declared.cause.IoCause.{IoCause}
 use Rattle.vhost_message.specs.declared.error.Error.{Error}
 use Rattle.vhost_message.specs.Cause.{is_retry, error_of}
@@ -14,7 +15,6 @@ use Rattle.vhost_connection.specs.Pass.{sends, SendsSome, SendsWhole}
 use Rattle.vhost_connection.specs.Talk.{State, Talks, Serves, Trouble, has_moved, IsBroken}
 use Rattle.vhost_connection.specs.Talk.Trouble.{was_broken, fault}
 use Rattle.vhost_connection.specs.Calls.{Sends, SendsOnce}
-use Rattle.vhost_connection.proofs.Basics.{suc-pos, is-nil}
 
 -- Calls compose, whatever is heard ahead.
 pub Talks-then : {L H : Type 0} {event : L → Event H → L → Type 0} {old mid new : State L H} {m n : Move H} → Talks event old m mid → Talks event mid n new → Talks event old (m then n) new
@@ -72,7 +72,7 @@ talks old new m a b k p = record {
 some-take : {A : Type 0} (n : ℕ) (xs : List A) → n < length xs → has_some (take n xs) ≡ nat_lt 0 n
 some-take zero xs h = refl
 some-take (suc n) [] h = absurd (omega arith)
-some-take (suc n) (x ∷ xs) h = sym (suc-pos n)
+some-take (suc n) (x ∷ xs) h = sym (lt-ltb 0 (suc n) (omega arith))
 
 -- what a call that was served leaves
 abbrev pub served : {L H : Type 0} → State L H → L → Bool → ℕ → State L H
@@ -179,7 +179,7 @@ front-once event old new bytes part handles k room (Ok n) count pos is (most, so
     let same : take n part ≡ take n bytes = ap (take n) is ∙ sym (take-append-le n (take k bytes) (drop k bytes) (omega (arith, ap length is))) ∙ ap (take n) (take-append-drop k bytes) in (
       omega (arith, count, len),
       (λ h. subst (λ bs. (0 < n) × event old (Taken (carrying handles bs)) new) same (some (omega (arith, count, len)))),
-      λ h. none (is-nil part (omega (arith, count, len, ap length h))),
+      λ h. none (nil_from_length part (omega (arith, count, len, ap length h))),
     )
 front-once event old new bytes part handles k room (Err c) count pos is (some, p) =
     let len : length part ≡ k = ap length is ∙ length-take-le k bytes (omega (arith, count)) in

@@ -1,5 +1,6 @@
 -- What a side hears of its stream, and how a call of a side may fail.
 use Rattle.std.specs.Prelude.{◌≡◌, ℕ, ◌<◌, ◌≤◌, List, length, Some, None, Bool, true, false, ◌||◌, ◌⊎◌, if◌then◌else◌}
+use Rattle.vhost_message.specs.declared.limits.TheConstants.{MAX_MSG_TEXT}
 use Rattle.vhost_message.specs.declared.cause.IoCause.{IoCause}
 use Rattle.vhost_message.specs.Cause.{error_of}
 use Rattle.vhost_message.specs.declared.error.Error.{Error}
@@ -31,7 +32,7 @@ pub data Fails {L H : Type 0} (event : L → Event H → L → Type 0) (old : St
   no_memory : {new : State L H} → old.list ≡ false → new ≡ record old { faulted = new.faulted } → Fails event old between OutOfMemory new
   -- the link failed, or retried once too often; at most one message had gone out
   fault : (c : IoCause) (m : Move H) {new : State L H} → old.broken ≡ None → Talks event old m new → Spends old.budget m
-      → length m.taken ≤ 4108
+      → length m.taken ≤ MAX_MSG_TEXT
       → new.broken ≡ (if between || has_moved m then Some c else None) → new.faulted ≡ true → Fails event old between (error_of c) new
 
 -- the endpoint after a call between a request and the end of its answer: an error of the link breaks it, unless it was broken before

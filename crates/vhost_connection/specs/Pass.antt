@@ -2,6 +2,7 @@
 use Rattle.std.specs.Prelude.{◌≡◌, ◌++◌, ℕ, ◌+◌, ◌-◌, ◌<◌, ◌≤◌, List, [], length, take, drop, min, Option, Some, None, Bool, true, IsTrue, nat_lt, Result, Ok, Err}
 use Rattle.std.specs.List.{flat_map}
 use Rattle.std.specs.Borrow.{Bor}
+use Rattle.vhost_message.specs.declared.limits.TheConstants.{MAX_ATTACHED_FD_ENTRIES}
 use Rattle.vhost_message.specs.declared.cause.IoCause.{IoCause}
 use Rattle.vhost_message.specs.Cause.{is_retry}
 use Rattle.vhost_protocol.specs.Stream.{Cell, carrying, has_some, bytes, brings_handles, first_handles, Item, items, heard}
@@ -65,7 +66,7 @@ pub record Arrives {S H : Type 0} (event : S → Event H → S → Type 0) (old 
   pub some : 0 < n → event old (Handed (carrying handles front)) new
   pub ended : n ≡ 0 → event old Ended new
   pub none : n ≡ 0 → handles ≡ []
-  pub few : length handles ≤ 32
+  pub few : length handles ≤ MAX_ATTACHED_FD_ENTRIES
 
 abbrev pub GetsPiece : {S H : Type 0} → (S → Event H → S → Type 0) → S → List ℕ → ℕ → Result ℕ IoCause → List ℕ → List H → S → Type 0
 GetsPiece event old before count (Ok n) after handles new = Arrives event old before count n after handles new
@@ -95,7 +96,7 @@ pub record FrontCame {S H : Type 0} (event : S → Event H → S → Type 0) (ol
   pub some : 0 < n → Moved event old (receives (items (carrying handles front)) retries) new
   pub ended : n ≡ 0 → Moved event old (receives (heard [] true) retries) new
   pub none : n ≡ 0 → handles ≡ []
-  pub few : length handles ≤ 32
+  pub few : length handles ≤ MAX_ATTACHED_FD_ENTRIES
 
 abbrev pub FirstAs : {S H : Type 0} → (S → Event H → S → Type 0) → S → List ℕ → ℕ → ℕ → ℕ → Option IoCause → List ℕ → List H → S → Type 0
 FirstAs event old before budget n left None after handles new = FrontCame event old before (budget - left) n after handles new
@@ -111,7 +112,7 @@ pub record GetsWhole {S H : Type 0} (event : S → Event H → S → Type 0) (ol
   pub fills : Fills cs before after
   pub count : got.count ≡ length cs
   pub handles : hs ≡ first_handles cs
-  pub few : length hs ≤ 32
+  pub few : length hs ≤ MAX_ATTACHED_FD_ENTRIES
   pub left : got.left ≤ budget
   pub ended : GotAs event old (length before) budget got.left got.stop cs new
 

@@ -10,10 +10,7 @@ use crate::list::HandleList;
 use std::alloc::Global;
 use std::marker::PhantomData;
 use vhost_link::Link;
-use vhost_message::{Error, IoCause, MsgHeader, Result};
-
-/// The greatest body of a message that is kept in an endpoint, in bytes.
-const MAX_BODY: usize = 4096;
+use vhost_message::{Error, IoCause, MAX_MSG_TEXT, MsgHeader, Result};
 
 /// One end of a connection, by which whole messages go out and come in: the header type is `M`.
 ///
@@ -38,7 +35,7 @@ pub struct Endpoint<M, L: Link> {
     /// For handles that are dropped.
     spare: HandleList<L::Handle>,
     /// The bytes of one message on their way out or in: a header and the greatest body.
-    text: [u8; 4108],
+    text: [u8; MAX_MSG_TEXT],
     alloc: Global,
     of: PhantomData<M>,
 }
@@ -71,7 +68,7 @@ impl<M: MsgHeader, L: Link> Endpoint<M, L> {
             faulted: false,
             list: Some(list),
             spare,
-            text: [0; 4108],
+            text: [0; MAX_MSG_TEXT],
             alloc,
             of: PhantomData,
         })

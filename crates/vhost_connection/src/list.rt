@@ -1,38 +1,37 @@
 //! Lists with room for the handles of one message.
 
 ghost use Rattle.std.specs.Prelude.{◌≡◌, ◌≤◌, [], IfErr, IfOk, false, is_some, vec_capacity, vec_len};
+ghost use Rattle.vhost_message.specs.declared.limits.TheConstants.{MAX_ATTACHED_FD_ENTRIES};
 
 use std::alloc::{AllocError, Global};
-
-/// As many handles as a byte may bring.
-pub const MAX_HANDLES: usize = 32;
+use vhost_message::MAX_ATTACHED_FD_ENTRIES;
 
 /// An empty list with room for the handles of a message.
 #[derive(Drop)]
 pub struct HandleList<H> {
     pub list: Vec<H>,
     ghost empty: { vec_len list ≡ 0 },
-    ghost places: { 32 ≤ vec_capacity list },
+    ghost places: { MAX_ATTACHED_FD_ENTRIES ≤ vec_capacity list },
 }
 
 impl<H> HandleList<H> {
     /// A list of its own, unless its growth is refused.
     pub fn new(alloc: Global) -> Result<HandleList<H>, AllocError> {
         Ok(HandleList {
-            list: Vec::with_capacity(alloc, MAX_HANDLES)?,
+            list: Vec::with_capacity(alloc, MAX_ATTACHED_FD_ENTRIES)?,
         })
     }
 }
 
 /// Takes the list out, or makes one where it was given away.
 pub fn take_list<H>(place: &mut Option<HandleList<H>>, alloc: Global) -> Result<Vec<H>, AllocError>
-    ensures taken { IfOk result (λ v. (v.items ≡ []) × (32 ≤ vec_capacity v)) }
+    ensures taken { IfOk result (λ v. (v.items ≡ []) × (MAX_ATTACHED_FD_ENTRIES ≤ vec_capacity v)) }
     ensures memory { IfErr result (λ _. is_some place.old ≡ false) }
     ensures left { is_some place.new ≡ false }
 {
     match place.take() {
         Some(HandleList { list }) => Ok(list),
-        None => Vec::with_capacity(alloc, MAX_HANDLES),
+        None => Vec::with_capacity(alloc, MAX_ATTACHED_FD_ENTRIES),
     }
 }
 
@@ -42,5 +41,5 @@ pub struct Front<H> {
     pub count: usize,
     pub more: usize,
     pub list: Vec<H>,
-    ghost places: { 32 ≤ vec_capacity list },
+    ghost places: { MAX_ATTACHED_FD_ENTRIES ≤ vec_capacity list },
 }

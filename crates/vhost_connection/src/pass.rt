@@ -1,6 +1,7 @@
 //! One pass over a link, with a budget of retries.
 
 ghost use Rattle.std.specs.Prelude.{◌≡◌, ◌<◌, ◌≤◌, [], length, take, vec_capacity, map, if◌then◌else◌};
+ghost use Rattle.vhost_message.specs.declared.limits.TheConstants.{MAX_ATTACHED_FD_ENTRIES};
 ghost use Rattle.vhost_protocol.specs.Stream.{carrying};
 ghost use Rattle.vhost_connection.specs.Pass.{SendsPart, SendsSome, SendsWhole, joined, GetsPiece, GetsFirst, GetsRest, GetsWhole, GetsParts};
 
@@ -22,7 +23,7 @@ fn send_part<L: Link>(
     handles: &[&L::Handle],
     count: usize,
 ) -> Result<usize, IoCause>
-    requires handles { length handles.now ≤ 32 }
+    requires handles { length handles.now ≤ MAX_ATTACHED_FD_ENTRIES }
     requires count { count < length bytes.now }
     ensures { SendsPart L.event link.old (carrying (map (λ h. h.now) handles.now) bytes.now) count result link.new }
 {
@@ -39,7 +40,7 @@ pub fn send_once<L: Link>(
     bytes: &[u8],
     handles: &[&L::Handle],
 ) -> Result<usize, IoCause>
-    requires { length handles.now ≤ 32 }
+    requires { length handles.now ≤ MAX_ATTACHED_FD_ENTRIES }
     ensures { SendsSome L.event link.old bytes.now (map (λ h. h.now) handles.now) result link.new }
 {
     if bytes.is_empty() {
@@ -50,7 +51,7 @@ pub fn send_once<L: Link>(
 
 /// Sends all of the bytes, with the handles on the first of them.
 fn send_whole<L: Link>(link: &mut L, bytes: &[u8], handles: &[&L::Handle], budget: u32) -> SendPass
-    requires { length handles.now ≤ 32 }
+    requires { length handles.now ≤ MAX_ATTACHED_FD_ENTRIES }
     ensures { SendsWhole L.event link.old (carrying (map (λ h. h.now) handles.now) bytes.now) budget result link.new }
 {
     let mut count = 0;
@@ -85,7 +86,7 @@ fn send_piece<L: Link>(
     moved: bool,
     budget: u32,
 ) -> SendPass
-    requires { length handles.now ≤ 32 }
+    requires { length handles.now ≤ MAX_ATTACHED_FD_ENTRIES }
     ensures { SendsWhole L.event link.old (carrying (if moved then [] else map (λ h. h.now) handles.now) piece.now) budget result link.new }
 {
     if moved {
@@ -102,7 +103,7 @@ pub fn send_pieces<L: Link>(
     handles: &[&L::Handle],
     budget: u32,
 ) -> SendPass
-    requires { length handles.now ≤ 32 }
+    requires { length handles.now ≤ MAX_ATTACHED_FD_ENTRIES }
     ensures { SendsWhole L.event link.old (carrying (map (λ h. h.now) handles.now) (joined pieces.now)) budget result link.new }
 {
     let mut moved = false;
@@ -155,7 +156,7 @@ fn recv_piece<L: Link>(
 ) -> Result<usize, IoCause>
     requires count { count < length room.old }
     requires list { list.old.items ≡ [] }
-    requires places { 32 ≤ vec_capacity list.old }
+    requires places { MAX_ATTACHED_FD_ENTRIES ≤ vec_capacity list.old }
     ensures got { GetsPiece L.event link.old room.old count result room.new list.new.items link.new }
     ensures places { vec_capacity list.old ≤ vec_capacity list.new }
 {
@@ -180,7 +181,7 @@ fn recv_first<L: Link>(
 ) -> First
     requires room { 0 < length room.old }
     requires list { list.old.items ≡ [] }
-    requires places { 32 ≤ vec_capacity list.old }
+    requires places { MAX_ATTACHED_FD_ENTRIES ≤ vec_capacity list.old }
     ensures got { GetsFirst L.event link.old room.old budget result room.new list.new.items link.new }
     ensures places { vec_capacity list.old ≤ vec_capacity list.new }
 {
@@ -216,7 +217,7 @@ pub fn recv_rest<L: Link>(
     budget: u32,
 ) -> RecvPass
     requires list { spare.old.items ≡ [] }
-    requires places { 32 ≤ vec_capacity spare.old }
+    requires places { MAX_ATTACHED_FD_ENTRIES ≤ vec_capacity spare.old }
     ensures got { GetsRest L.event link.old room.old budget result room.new link.new }
     ensures list { spare.new.items ≡ [] }
     ensures places { vec_capacity spare.old ≤ vec_capacity spare.new }
@@ -272,9 +273,9 @@ fn recv_whole<L: Link>(
 ) -> RecvPass
     requires room { 0 < length room.old }
     requires list { list.old.items ≡ [] }
-    requires places { 32 ≤ vec_capacity list.old }
+    requires places { MAX_ATTACHED_FD_ENTRIES ≤ vec_capacity list.old }
     requires spare { spare.old.items ≡ [] }
-    requires spare_places { 32 ≤ vec_capacity spare.old }
+    requires spare_places { MAX_ATTACHED_FD_ENTRIES ≤ vec_capacity spare.old }
     ensures got { GetsWhole L.event link.old room.old budget result room.new list.new.items link.new }
     ensures places { vec_capacity list.old ≤ vec_capacity list.new }
     ensures spare { spare.new.items ≡ [] }
@@ -318,9 +319,9 @@ fn recv_message<L: Link>(
     requires some { 0 < len }
     requires len { len ≤ length text.old }
     requires list { list.old.items ≡ [] }
-    requires places { 32 ≤ vec_capacity list.old }
+    requires places { MAX_ATTACHED_FD_ENTRIES ≤ vec_capacity list.old }
     requires spare { spare.old.items ≡ [] }
-    requires spare_places { 32 ≤ vec_capacity spare.old }
+    requires spare_places { MAX_ATTACHED_FD_ENTRIES ≤ vec_capacity spare.old }
     ensures got { GetsWhole L.event link.old (take len text.old) budget result (take len text.new) list.new.items link.new }
     ensures places { vec_capacity list.old ≤ vec_capacity list.new }
     ensures spare { spare.new.items ≡ [] }
@@ -352,9 +353,9 @@ pub fn recv_parts<L: Link>(
     requires some { 0 < len }
     requires len { len ≤ length text.old }
     requires list { list.old.items ≡ [] }
-    requires places { 32 ≤ vec_capacity list.old }
+    requires places { MAX_ATTACHED_FD_ENTRIES ≤ vec_capacity list.old }
     requires spare { spare.old.items ≡ [] }
-    requires spare_places { 32 ≤ vec_capacity spare.old }
+    requires spare_places { MAX_ATTACHED_FD_ENTRIES ≤ vec_capacity spare.old }
     ensures got { GetsParts L.event link.old len room.old budget result text.new room.new list.new.items link.new }
     ensures places { vec_capacity list.old ≤ vec_capacity list.new }
     ensures spare { spare.new.items ≡ [] }
@@ -388,7 +389,7 @@ pub fn recv_once<L: Link>(
     requires some { 0 < len }
     requires len { len ≤ length text.old }
     requires list { list.old.items ≡ [] }
-    requires places { 32 ≤ vec_capacity list.old }
+    requires places { MAX_ATTACHED_FD_ENTRIES ≤ vec_capacity list.old }
     ensures got { GetsPiece L.event link.old (take len text.old) 0 result (take len text.new) list.new.items link.new }
     ensures places { vec_capacity list.old ≤ vec_capacity list.new }
 {
@@ -405,7 +406,7 @@ pub fn recv_bytes<L: Link>(
 ) -> RecvPass
     requires len { len ≤ length text.old }
     requires list { spare.old.items ≡ [] }
-    requires places { 32 ≤ vec_capacity spare.old }
+    requires places { MAX_ATTACHED_FD_ENTRIES ≤ vec_capacity spare.old }
     ensures got { GetsRest L.event link.old (take len text.old) budget result (take len text.new) link.new }
     ensures list { spare.new.items ≡ [] }
     ensures places { vec_capacity spare.old ≤ vec_capacity spare.new }

@@ -1,16 +1,19 @@
 -- What the example device does at each call: why it refuses, what it answers, and what it changes.
-use Rattle.std.specs.Prelude.{◌≡◌, ℕ, Bool, true, false, not, ◌&&◌, ◌==◌, nat_eq, nat_lt, nat_le, bit_and, if◌then◌else◌, List, [], ◌∷◌, map, replicate, slice_index, slice_set, codes, Option, Some, None, Result, Ok, Err, is_ok, ⊤}
+use Rattle.std.specs.Prelude.{◌≡◌, ℕ, ◌+◌, ◌-◌, Bool, true, false, not, ◌&&◌, ◌==◌, ◌^◌, nat_eq, nat_lt, nat_le, bit_and, if◌then◌else◌, List, [], ◌∷◌, map, replicate, slice_index, slice_set, codes, Option, Some, None, Result, Ok, Err, is_ok, ⊤}
 use Rattle.std.specs.Cmp.Lexicographic.{pointwise}
 use Rattle.std.specs.declared.alloc.Global.{Global}
 use Rattle.vhost_message.specs.Bits.{has_bit}
 use Rattle.vhost_message.specs.Records.{region_within}
 use Rattle.vhost_message.specs.declared.cause.IoCause.{IoCause}
+use Rattle.vhost_message.specs.declared.limits.TheConstants.{VHOST_USER_CONFIG_OFFSET}
+use Rattle.vhost_message.specs.declared.protocol_bit.TheConstants.{SHMEM}
 use Rattle.vhost_message.specs.declared.records.inflight.VhostUserInflight.{VhostUserInflight}
 use Rattle.vhost_protocol.specs.DeviceCall.{Call, Answer, SetOwner, ResetOwner, ResetDevice, GetFeatures, SetFeatures, SetMemTable, SetVringNum, SetVringAddr, SetVringBase, GetVringBase, SetVringKick, SetVringCall, SetVringErr, GetProtocolFeatures, SetProtocolFeatures, GetQueueNum, SetVringEnable, GetConfig, SetConfig, SetBackendReqFd, SetGpuSocket, GetSharedObject, GetInflightFd, SetInflightFd, GetMaxMemSlots, AddMemRegion, RemoveMemRegion, SetDeviceStateFd, CheckDeviceState, GetShmemConfig, PostcopyAdvice, PostcopyListen, PostcopyEnd, PostcopyAckMemRegions, SetLogBase}
 use Rattle.vhost_protocol.specs.Error.{Error, Named, InvalidParam, InvalidOperation, InactiveFeature, InactiveOperation, ReqHandlerError, OutOfMemory}
 use Rattle.vhost_protocol.specs.Features.{PROTOCOL_FEATURES, CONFIG}
 use Rattle.vhost_dummy_backend.specs.Spares.{but_last, left, IsLast, IsLastCopied}
 use Rattle.vhost_dummy_backend.specs.declared.dummy.DummyBackendReqHandler.{DummyBackendReqHandler}
+use Rattle.vhost_dummy_backend.specs.declared.dummy.TheConstants.{MAX_QUEUE_NUM, MAX_VRING_NUM, MAX_MEM_SLOTS, VIRTIO_FEATURES}
 
 -- ---- how a call ends
 
@@ -66,14 +69,14 @@ fresh alloc spare = record {
   features_acked = false;
   acked_features = 0;
   acked_protocol_features = 0;
-  queue_num = 2;
-  vring_num = 0 ∷ 0 ∷ [];
-  vring_base = 0 ∷ 0 ∷ [];
+  queue_num = MAX_QUEUE_NUM;
+  vring_num = replicate MAX_QUEUE_NUM 0;
+  vring_base = replicate MAX_QUEUE_NUM 0;
   call_fd = None ∷ None ∷ [];
   kick_fd = None ∷ None ∷ [];
   err_fd = None ∷ None ∷ [];
-  vring_started = false ∷ false ∷ [];
-  vring_enabled = false ∷ false ∷ [];
+  vring_started = replicate MAX_QUEUE_NUM false;
+  vring_enabled = replicate MAX_QUEUE_NUM false;
   inflight_file = None;
   shared_file = None;
   shmem_config = None;
@@ -83,15 +86,11 @@ fresh alloc spare = record {
 
 -- a ring of this index is there
 abbrev pub has_ring : {L H : Type 0} → DummyBackendReqHandler L H → ℕ → Bool
-has_ring d index = nat_lt index d.queue_num && nat_lt index 2
+has_ring d index = nat_lt index d.queue_num && nat_lt index MAX_QUEUE_NUM
 
 -- what refuses a call on a ring that is not there
 abbrev pub no_ring : {L H : Type 0} → DummyBackendReqHandler L H → ℕ → Option Error
 no_ring d index = refusal ((has_ring d index, InvalidParam) ∷ [])
-
--- the features that it offers: the protocol's, and two of its own
-abbrev pub virtio_features : ℕ
-virtio_features = 0x40000003
 
 -- what there is of configuration space
 abbrev pub config_bytes : List ℕ
@@ -108,34 +107,35 @@ abbrev pub DummyGives : {L H B G : Type 0} → (H → Result H IoCause → Type 
 DummyGives copies old SetOwner = Does old (refusal ((not old.owned, InvalidOperation (codes "already claimed")) ∷ [])) tt (record old { owned = true })
 DummyGives copies old ResetOwner = Becomes old (record old { owned = false; features_acked = false; acked_features = 0; acked_protocol_features = 0 })
 DummyGives copies old ResetDevice = Becomes old (record old { features_acked = false; acked_features = 0 })
-DummyGives copies old GetFeatures = Answers old virtio_features
+DummyGives copies old GetFeatures = Answers old VIRTIO_FEATURES
 -- without the features of the protocol all rings are enabled, with them none is
 DummyGives copies old (SetFeatures features) = Does old
-    (refusal ((old.owned, InvalidOperation (codes "not owned")) ∷ (not old.features_acked, InvalidOperation (codes "features already set")) ∷ (bit_and features virtio_features == features, InvalidParam) ∷ []))
-    tt (record old { acked_features = features; features_acked = true; vring_enabled = replicate 2 (not (has_bit features PROTOCOL_FEATURES)) })
-DummyGives copies old GetProtocolFeatures = Answers old 0x7fffff
+    (refusal ((old.owned, InvalidOperation (codes "not owned")) ∷ (not old.features_acked, InvalidOperation (codes "features already set")) ∷ (bit_and features VIRTIO_FEATURES == features, InvalidParam) ∷ []))
+    tt (record old { acked_features = features; features_acked = true; vring_enabled = replicate MAX_QUEUE_NUM (not (has_bit features PROTOCOL_FEATURES)) })
+-- all features of the protocol: the last is SHMEM
+DummyGives copies old GetProtocolFeatures = Answers old (2 ^ (SHMEM + 1) - 1)
 DummyGives copies old (SetProtocolFeatures features) = Becomes old (record old { acked_protocol_features = features })
 -- rings
-DummyGives copies old GetQueueNum = Answers old 2
-DummyGives copies old (SetVringNum index num) = Does old (refusal ((has_ring old index, InvalidParam) ∷ (nat_le 1 num && nat_le num 256, InvalidParam) ∷ []))
+DummyGives copies old GetQueueNum = Answers old MAX_QUEUE_NUM
+DummyGives copies old (SetVringNum index num) = Does old (refusal ((has_ring old index, InvalidParam) ∷ (nat_le 1 num && nat_le num MAX_VRING_NUM, InvalidParam) ∷ []))
     tt (record old { vring_num = slice_set old.vring_num index num })
 DummyGives copies old (SetVringAddr addresses) = Does old (no_ring old addresses.index) tt old
-DummyGives copies old (SetVringBase index base) = Does old (refusal ((has_ring old index, InvalidParam) ∷ (nat_lt base 256, InvalidParam) ∷ []))
+DummyGives copies old (SetVringBase index base) = Does old (refusal ((has_ring old index, InvalidParam) ∷ (nat_lt base MAX_VRING_NUM, InvalidParam) ∷ []))
     tt (record old { vring_base = slice_set old.vring_base index base })
 DummyGives copies old (GetVringBase index) = Does old (no_ring old index)
     (record { index = index; num = slice_index old.vring_base index }) (record old { vring_started = slice_set old.vring_started index false })
 DummyGives copies old (SetVringKick index fd) = Does old (no_ring old index) tt (record old { kick_fd = slice_set old.kick_fd index fd; vring_started = slice_set old.vring_started index true })
 DummyGives copies old (SetVringCall index fd) = Does old (no_ring old index) tt (record old { call_fd = slice_set old.call_fd index fd })
 DummyGives copies old (SetVringErr index fd) = Does old (no_ring old index) tt (record old { err_fd = slice_set old.err_fd index fd })
-DummyGives copies old (SetVringEnable index enable) = Does old (refusal ((has_bit old.acked_features PROTOCOL_FEATURES, InactiveFeature 0x40000000) ∷ (has_ring old index, InvalidParam) ∷ []))
+DummyGives copies old (SetVringEnable index enable) = Does old (refusal ((has_bit old.acked_features PROTOCOL_FEATURES, InactiveFeature (2 ^ PROTOCOL_FEATURES)) ∷ (has_ring old index, InvalidParam) ∷ []))
     tt (record old { vring_enabled = slice_set old.vring_enabled index enable })
--- configuration space: four bytes at 0x100
+-- configuration space: four bytes at its beginning
 DummyGives copies old (GetConfig offset size flags) = Makes old
-    (refusal ((has_bit old.acked_protocol_features CONFIG, InactiveOperation 0x200) ∷ (offset == 0x100 && size == 4, InvalidParam) ∷ [])) config_bytes
+    (refusal ((has_bit old.acked_protocol_features CONFIG, InactiveOperation (2 ^ CONFIG)) ∷ (offset == VHOST_USER_CONFIG_OFFSET && size == 4, InvalidParam) ∷ [])) config_bytes
 DummyGives copies old (SetConfig offset bytes flags) = Does old
-    (refusal ((has_bit old.acked_protocol_features CONFIG, InactiveOperation 0x200) ∷ (offset == 0x100 && pointwise nat_eq bytes config_bytes, InvalidParam) ∷ [])) tt old
+    (refusal ((has_bit old.acked_protocol_features CONFIG, InactiveOperation (2 ^ CONFIG)) ∷ (offset == VHOST_USER_CONFIG_OFFSET && pointwise nat_eq bytes config_bytes, InvalidParam) ∷ [])) tt old
 -- memory: while postcopy listens, a region lies where the frontend has it
-DummyGives copies old GetMaxMemSlots = Answers old 509
+DummyGives copies old GetMaxMemSlots = Answers old MAX_MEM_SLOTS
 DummyGives copies old (SetMemTable regions files (Some true)) = Makes old None (Some (map (λ r. r.user_addr) regions))
 DummyGives copies old (SetMemTable regions files (Some false)) = Answers old None
 DummyGives copies old (SetMemTable regions files None) = Answers old None

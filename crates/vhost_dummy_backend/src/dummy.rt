@@ -1,14 +1,14 @@
 //! The example device and what it remembers.
 
-ghost use Rattle.std.specs.Prelude.{◌≡◌, ◌<◌, Some, IfOk, IfErr, true, false, bit_or};
-ghost use Rattle.vhost_message.specs.Bits.{has_bit};
+ghost use Rattle.std.specs.Prelude.{◌≡◌, ◌^◌, Some, IfOk, IfErr, true, false, bit_or};
 ghost use Rattle.vhost_message.specs.declared.error.Error.TheVariants.{InvalidParam};
+ghost use Rattle.vhost_message.specs.declared.protocol_bit.TheConstants.{SHMEM};
 
 use crate::spares::Spares;
 use bitflags::Flags;
 use std::alloc::Global;
 use vhost_link::Link;
-use vhost_message::{Error, Result, VhostUserProtocolFeatures, VhostUserShMemConfig};
+use vhost_message::{Error, Result, VhostUserProtocolFeatures, VhostUserShMemConfig, virtio_bit};
 
 /// How many rings it has.
 pub const MAX_QUEUE_NUM: usize = 2;
@@ -20,7 +20,7 @@ pub const MAX_VRING_NUM: usize = 256;
 pub const MAX_MEM_SLOTS: usize = 509;
 
 /// The virtio features that it offers: two of the device's own, and the protocol features.
-pub const VIRTIO_FEATURES: u64 = 0x4000_0003;
+pub const VIRTIO_FEATURES: u64 = (1 << virtio_bit::PROTOCOL_FEATURES) | 0b11;
 
 /// A device without any function, that keeps the rules of the protocol. Where it has to give a handle, it gives one of
 /// those that it was made with, the last one first.
@@ -92,7 +92,7 @@ impl<L: Link> DummyBackendReqHandler<L> {
 
     /// Gives it regions of shared memory, and the feature SHMEM of the protocol.
     pub fn set_shmem_config(&mut self, config: VhostUserShMemConfig)
-        ensures { self.new ≡ record self.old { shmem_config = Some config; acked_protocol_features = bit_or self.old.acked_protocol_features 0x400000 } }
+        ensures { self.new ≡ record self.old { shmem_config = Some config; acked_protocol_features = bit_or self.old.acked_protocol_features (2 ^ SHMEM) } }
     {
         self.acked_protocol_features |= VhostUserProtocolFeatures::SHMEM.bits();
         self.shmem_config = Some(config);
@@ -110,12 +110,4 @@ impl<L: Link> DummyBackendReqHandler<L> {
             Err(Error::InvalidParam)
         }
     }
-}
-
-/// Whether a word has this bit, counted from 0.
-pub(crate) fn is_set(word: u64, bit: u32) -> bool
-    requires { bit < 64 }
-    ensures { result ≡ has_bit word bit }
-{
-    (word >> bit) % 2 == 1
 }

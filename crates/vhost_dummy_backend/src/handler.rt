@@ -1,15 +1,16 @@
 //! What the example device does at each call.
 
-ghost use Rattle.std.specs.Prelude.{◌≡◌, Ok, Err, IfOk, map, if◌then◌else◌};
-ghost use Rattle.vhost_message.specs.Bits.{has_bit};
+ghost use Rattle.std.specs.Prelude.{◌≡◌, ◌^◌, Ok, Err, IfOk, map, if◌then◌else◌};
+ghost use Rattle.vhost_message.specs.Bits.{has_bit as is_set};
 ghost use Rattle.vhost_protocol.specs.DeviceCall.{SetMemTable, SetVringKick, SetVringCall, SetVringErr, SetBackendReqFd, SetGpuSocket};
 ghost use Rattle.vhost_protocol.specs.Error.{InactiveOperation, seen_result};
+ghost use Rattle.vhost_protocol.specs.Features.{CONFIG};
 ghost use Rattle.vhost_device.specs.Answers.{seen_bases};
 ghost use Rattle.vhost_backend_req.specs.declared.backend.Backend.{Backend};
 ghost use Rattle.vhost_gpu_backend_req.specs.declared.backend.GpuBackend.{GpuBackend};
 
 use crate::dummy::{
-    DummyBackendReqHandler, MAX_MEM_SLOTS, MAX_QUEUE_NUM, MAX_VRING_NUM, VIRTIO_FEATURES, is_set,
+    DummyBackendReqHandler, MAX_MEM_SLOTS, MAX_QUEUE_NUM, MAX_VRING_NUM, VIRTIO_FEATURES,
 };
 use bitflags::Flags;
 use std::alloc::{AllocError, Global};
@@ -22,14 +23,8 @@ use vhost_message::{
     VhostTransferStatePhase, VhostUserConfigFlags, VhostUserInflight, VhostUserLog,
     VhostUserMemoryRegion, VhostUserMemoryRegionBase, VhostUserProtocolFeatures,
     VhostUserShMemConfig, VhostUserSharedMsg, VhostUserSingleMemoryRegion, VhostUserVirtioFeatures,
-    VhostUserVringAddrFlags, VhostUserVringState,
+    VhostUserVringAddrFlags, VhostUserVringState, has_bit, protocol_bit, virtio_bit,
 };
-
-/// The bit of the virtio feature that opens the features of the protocol.
-const PROTOCOL_FEATURES_BIT: u32 = 30;
-
-/// The bit of the feature of the protocol that opens the configuration.
-const CONFIG_BIT: u32 = 9;
 
 /// All that can be read of the configuration, or written.
 const CONFIG_BYTES: [u8; 4] = [0xa5; 4];
@@ -54,9 +49,9 @@ fn user_addresses(
 
 /// InactiveOperation where the configuration was not negotiated.
 fn check_config(protocol_features: u64) -> Result<()>
-    ensures { seen_result result ≡ (if has_bit protocol_features 9 then Ok tt else Err (InactiveOperation 0x200)) }
+    ensures { seen_result result ≡ (if is_set protocol_features CONFIG then Ok tt else Err (InactiveOperation (2 ^ CONFIG))) }
 {
-    if !is_set(protocol_features, CONFIG_BIT) {
+    if !has_bit(protocol_features, protocol_bit::CONFIG) {
         return Err(Error::InactiveOperation(VhostUserProtocolFeatures::CONFIG));
     }
     Ok(())
@@ -108,7 +103,7 @@ impl<L: Link> VhostUserBackendReqHandlerMut for DummyBackendReqHandler<L> {
         self.acked_features = features;
         self.features_acked = true;
         // Without the features of the protocol there is no request that would enable a ring.
-        self.vring_enabled = [!is_set(features, PROTOCOL_FEATURES_BIT); MAX_QUEUE_NUM];
+        self.vring_enabled = [!has_bit(features, virtio_bit::PROTOCOL_FEATURES); MAX_QUEUE_NUM];
         Ok(())
     }
 
@@ -206,7 +201,7 @@ impl<L: Link> VhostUserBackendReqHandlerMut for DummyBackendReqHandler<L> {
     }
 
     fn set_vring_enable(&mut self, index: u32, enable: bool) -> Result<()> {
-        if !is_set(self.acked_features, PROTOCOL_FEATURES_BIT) {
+        if !has_bit(self.acked_features, virtio_bit::PROTOCOL_FEATURES) {
             return Err(Error::InactiveFeature(VhostUserVirtioFeatures::PROTOCOL_FEATURES));
         }
         let ring = self.ring(index)?;

@@ -1,12 +1,13 @@
 //! What an endpoint receives.
 
 ghost use Rattle.std.specs.Prelude.{◌≡◌, ◌≢◌, ◌+◌, ◌<◌, ◌≤◌, length, vec_capacity, IfOk, IfErr};
+ghost use Rattle.vhost_message.specs.declared.limits.TheConstants.{MAX_ATTACHED_FD_ENTRIES, MAX_MSG_SIZE, MAX_MSG_TEXT};
 
-use crate::endpoint::{Endpoint, MAX_BODY};
+use crate::endpoint::Endpoint;
 use crate::list::{Front, HandleList, take_list};
 use crate::pass::{PassEnd, recv_bytes, recv_once, recv_parts, recv_rest};
 use vhost_link::Link;
-use vhost_message::{Error, MsgHeader, Result, VhostUserMsgValidator};
+use vhost_message::{Error, MAX_MSG_SIZE, MsgHeader, Result, VhostUserMsgValidator};
 
 impl<M: MsgHeader, L: Link> Endpoint<M, L> {
     ghost use Rattle.std.specs.Prelude.{None, true};
@@ -50,7 +51,7 @@ impl<M: MsgHeader, L: Link> Endpoint<M, L> {
     /// InvalidMessage: all of them were received, and one brought handles. A fault, or one retry more than were left
     /// of the budget, breaks the endpoint.
     pub fn recv_data(&mut self, len: usize) -> Result<(usize, &[u8])>
-        requires { len ≤ 4096 }
+        requires { len ≤ MAX_MSG_SIZE }
         ensures* lender { sem 𝓛 (Leaves (the_row M.row L.row L.Handle.row) self.entry (λ end. ReadsData L.event (state self.old) len result (state end))) }
         ensures count { IfOk result (λ x. (x.0 ≤ len) × (length x.1.now ≡ x.0)) }
         ensures memory { IfErr result (λ e. e ≢ OutOfMemory) }
@@ -61,7 +62,7 @@ impl<M: MsgHeader, L: Link> Endpoint<M, L> {
 
     /// Receives bytes to the front of the text, up to so many or the end.
     fn read_data(&mut self, len: usize) -> Result<usize>
-        requires { len ≤ 4096 }
+        requires { len ≤ MAX_MSG_SIZE }
         ensures read { ReadsCount L.event (state self.old) len result self.new.text (state self.new) }
         ensures memory { IfErr result (λ e. e ≢ OutOfMemory) }
     {
@@ -88,14 +89,14 @@ impl<M: MsgHeader, L: Link> Endpoint<M, L> {
 
     /// Receives a header and a record, with the handles of the first byte. The header's size is not looked at.
     ///
-    /// OversizedMsg: the record is longer than 4096 bytes; nothing was received, and nothing changed. PartialMessage:
+    /// OversizedMsg: the record is longer than `MAX_MSG_SIZE`; nothing was received, and nothing changed. PartialMessage:
     /// the stream ended before or within them. InvalidMessage: both were received, and one is not valid. OutOfMemory:
     /// as in `recv_header`.
     pub fn recv_body<T: VhostUserMsgValidator + Drop>(
         &mut self,
     ) -> Result<(M, T, Option<Vec<L::Handle>>)>
-        ensures long { 4096 < T.SIZE → Refuses (state self.old) OversizedMsg result (state self.new) }
-        ensures received { T.SIZE ≤ 4096 → ReadsBody L.event M.read M.valid T.SIZE T.read T.valid (state self.old) result (state self.new) }
+        ensures long { MAX_MSG_SIZE < T.SIZE → Refuses (state self.old) OversizedMsg result (state self.new) }
+        ensures received { T.SIZE ≤ MAX_MSG_SIZE → ReadsBody L.event M.read M.valid T.SIZE T.read T.valid (state self.old) result (state self.new) }
     {
         let (header, body, _, handles) = self.recv_payload_into_buf(&mut [])?;
         Ok((header, body, handles))
@@ -129,7 +130,7 @@ impl<M: MsgHeader, L: Link> Endpoint<M, L> {
     /// Receives a header and a record, and then what fits into the buffer, up to the stream's end; the answer has how
     /// many bytes that was, and the handles of the first byte. The header's size is not looked at.
     ///
-    /// OversizedMsg: the record is longer than 4096 bytes; nothing was received, and nothing changed. PartialMessage:
+    /// OversizedMsg: the record is longer than `MAX_MSG_SIZE`; nothing was received, and nothing changed. PartialMessage:
     /// the stream ended before or within header and record. InvalidMessage: all of it was received, and one of the two
     /// is not valid. OutOfMemory: as in `recv_header`.
     #[tactic(auto, unfolding(crate::specs::State::ahead_of))]
@@ -137,11 +138,11 @@ impl<M: MsgHeader, L: Link> Endpoint<M, L> {
         &mut self,
         buf: &mut [u8],
     ) -> Result<(M, T, usize, Option<Vec<L::Handle>>)>
-        ensures long { 4096 < T.SIZE → Refuses (state self.old) OversizedMsg result (state self.new) }
-        ensures unread { 4096 < T.SIZE → buf.new ≡ buf.old }
-        ensures received { T.SIZE ≤ 4096 → ReadsPayload L.event M.read M.valid T.SIZE T.read T.valid (state self.old) buf.old result buf.new (state self.new) }
+        ensures long { MAX_MSG_SIZE < T.SIZE → Refuses (state self.old) OversizedMsg result (state self.new) }
+        ensures unread { MAX_MSG_SIZE < T.SIZE → buf.new ≡ buf.old }
+        ensures received { T.SIZE ≤ MAX_MSG_SIZE → ReadsPayload L.event M.read M.valid T.SIZE T.read T.valid (state self.old) buf.old result buf.new (state self.new) }
     {
-        if T::SIZE > MAX_BODY {
+        if T::SIZE > MAX_MSG_SIZE {
             return Err(Error::OversizedMsg);
         }
         self.recv_payload(buf)
@@ -152,7 +153,7 @@ impl<M: MsgHeader, L: Link> Endpoint<M, L> {
         &mut self,
         buf: &mut [u8],
     ) -> Result<(M, T, usize, Option<Vec<L::Handle>>)>
-        requires { T.SIZE ≤ 4096 }
+        requires { T.SIZE ≤ MAX_MSG_SIZE }
         ensures { ReadsPayload L.event M.read M.valid T.SIZE T.read T.valid (state self.old) buf.old result buf.new (state self.new) }
     {
         let head = M::SIZE;
@@ -181,7 +182,7 @@ impl<M: MsgHeader, L: Link> Endpoint<M, L> {
         len: usize,
         handles: &mut Option<Vec<L::Handle>>,
     ) -> Result<(usize, &[u8])>
-        requires { len ≤ 4096 }
+        requires { len ≤ MAX_MSG_SIZE }
         ensures* lender { sem 𝓛 (Leaves (the_row M.row L.row L.Handle.row) self.entry (λ end. ReadsOnce L.event (state self.old) len result handles.new (state end))) }
         ensures count { IfOk result (λ x. (x.0 ≤ len) × (length x.1.now ≡ x.0)) }
         ensures none { IfErr result (λ _. handles.new ≡ None) }
@@ -194,7 +195,7 @@ impl<M: MsgHeader, L: Link> Endpoint<M, L> {
 
     /// Receives at most so many bytes to the front of the text by one call of the link.
     fn read_once(&mut self, len: usize) -> Result<(usize, Option<Vec<L::Handle>>)>
-        requires { len ≤ 4096 }
+        requires { len ≤ MAX_MSG_SIZE }
         ensures { ReadsCountOnce L.event (state self.old) len result self.new.text (state self.new) }
     {
         self.faulted = false;
@@ -217,7 +218,7 @@ impl<M: MsgHeader, L: Link> Endpoint<M, L> {
     /// Receives so many bytes to the front of the text, or fewer and then the end, with the handles of the first.
     pub(super) fn recv_front(&mut self, len: usize) -> Result<Front<L::Handle>>
         requires some { 0 < len }
-        requires len { len ≤ 4108 }
+        requires len { len ≤ MAX_MSG_TEXT }
         ensures { ReadsFront L.event (state self.old) len result self.new.text (state self.new) }
     {
         self.recv_parts(len, &mut [])
@@ -227,7 +228,7 @@ impl<M: MsgHeader, L: Link> Endpoint<M, L> {
     /// with the handles of the first.
     fn recv_parts(&mut self, len: usize, room: &mut [u8]) -> Result<Front<L::Handle>>
         requires some { 0 < len }
-        requires len { len ≤ 4108 }
+        requires len { len ≤ MAX_MSG_TEXT }
         ensures { ReadsParts L.event (state self.old) len room.old result self.new.text room.new (state self.new) }
     {
         self.faulted = false;
@@ -273,7 +274,7 @@ impl<M: MsgHeader, L: Link> Endpoint<M, L> {
     /// Takes the list back; its handles are dropped.
     #[tactic(auto, unfolding(crate::specs::State::ahead_of))]
     pub(super) fn put_back(&mut self, mut list: Vec<L::Handle>)
-        requires { 32 ≤ vec_capacity list }
+        requires { MAX_ATTACHED_FD_ENTRIES ≤ vec_capacity list }
         ensures state { state self.new ≡ record (state self.old) { list = true } }
         ensures text { self.new.text ≡ self.old.text }
     {
@@ -284,7 +285,7 @@ impl<M: MsgHeader, L: Link> Endpoint<M, L> {
     /// Gives the list away where it has handles, and else takes it back.
     #[tactic(auto, unfolding(crate::specs::State::ahead_of))]
     pub(super) fn give(&mut self, list: Vec<L::Handle>) -> Option<Vec<L::Handle>>
-        requires { 32 ≤ vec_capacity list }
+        requires { MAX_ATTACHED_FD_ENTRIES ≤ vec_capacity list }
         ensures given { HandsOver result list.items }
         ensures state { state self.new ≡ gives (state self.old) list.items }
         ensures text { self.new.text ≡ self.old.text }

@@ -1,15 +1,15 @@
 //! What an endpoint sends.
 
 ghost use Rattle.std.specs.Prelude.{◌≡◌, ◌≢◌, ◌+◌, ◌++◌, ◌<◌, ◌≤◌, ◌^◌, [], length, take, map, min, IfErr};
+ghost use Rattle.vhost_message.specs.declared.limits.TheConstants.{MAX_ATTACHED_FD_ENTRIES, MAX_MSG_SIZE, MAX_MSG_TEXT};
 ghost use Rattle.vhost_protocol.specs.Stream.{carrying};
 ghost use Rattle.vhost_connection.specs.Pass.{joined};
 
-use crate::endpoint::{Endpoint, MAX_BODY};
-use crate::list::MAX_HANDLES;
+use crate::endpoint::Endpoint;
 use crate::pass::{send_once, send_pieces};
 use crate::pieces::{gather, total_len};
 use vhost_link::Link;
-use vhost_message::{ByteValued, Error, MsgHeader, Result};
+use vhost_message::{ByteValued, Error, MAX_ATTACHED_FD_ENTRIES, MAX_MSG_SIZE, MsgHeader, Result};
 
 /// Writes a header and the body behind it.
 fn put<M: ByteValued, T: ByteValued>(out: &mut [u8], header: &M, body: &T)
@@ -30,14 +30,14 @@ impl<M: MsgHeader, L: Link> Endpoint<M, L> {
 
     /// Sends a header, with the handles on its first byte.
     ///
-    /// IncorrectFds: there are more than 32 handles; nothing was written, and nothing changed.
+    /// IncorrectFds: there are more than `MAX_ATTACHED_FD_ENTRIES` handles; nothing was written, and nothing changed.
     #[tactic(auto, unfolding(crate::specs::State::ahead_of))]
     pub fn send_header(&mut self, header: &M, handles: &[&L::Handle]) -> Result<()>
-        ensures many { 32 < length handles.now → Refuses (state self.old) IncorrectFds result (state self.new) }
-        ensures sent { length handles.now ≤ 32 → Sends L.event (state self.old) (carrying (map (λ h. h.now) handles.now) (M.text header.now)) result (state self.new) }
+        ensures many { MAX_ATTACHED_FD_ENTRIES < length handles.now → Refuses (state self.old) IncorrectFds result (state self.new) }
+        ensures sent { length handles.now ≤ MAX_ATTACHED_FD_ENTRIES → Sends L.event (state self.old) (carrying (map (λ h. h.now) handles.now) (M.text header.now)) result (state self.new) }
         ensures memory { IfErr result (λ e. e ≢ OutOfMemory) }
     {
-        if handles.len() > MAX_HANDLES {
+        if handles.len() > MAX_ATTACHED_FD_ENTRIES {
             return Err(Error::IncorrectFds);
         }
         header.encode_into(&mut self.text[..M::SIZE]);
@@ -46,8 +46,8 @@ impl<M: MsgHeader, L: Link> Endpoint<M, L> {
 
     /// Sends a header and a body, with the handles on the first byte.
     ///
-    /// OversizedMsg: the body is longer than 4096 bytes, or than a header of this type may say. IncorrectFds: there
-    /// are more than 32 handles. In both cases nothing was written, and nothing changed.
+    /// OversizedMsg: the body is longer than `MAX_MSG_SIZE`, or than a header of this type may say. IncorrectFds: there
+    /// are more than `MAX_ATTACHED_FD_ENTRIES` handles. In both cases nothing was written, and nothing changed.
     #[tactic(auto, unfolding(crate::specs::State::ahead_of))]
     pub fn send_message<T: ByteValued>(
         &mut self,
@@ -55,17 +55,17 @@ impl<M: MsgHeader, L: Link> Endpoint<M, L> {
         body: &T,
         handles: &[&L::Handle],
     ) -> Result<()>
-        ensures long { min 4096 M.MAX_MSG_SIZE < T.SIZE → Refuses (state self.old) OversizedMsg result (state self.new) }
-        ensures many { T.SIZE ≤ min 4096 M.MAX_MSG_SIZE → 32 < length handles.now → Refuses (state self.old) IncorrectFds result (state self.new) }
-        ensures sent { T.SIZE ≤ min 4096 M.MAX_MSG_SIZE → length handles.now ≤ 32 →
+        ensures long { min MAX_MSG_SIZE M.MAX_MSG_SIZE < T.SIZE → Refuses (state self.old) OversizedMsg result (state self.new) }
+        ensures many { T.SIZE ≤ min MAX_MSG_SIZE M.MAX_MSG_SIZE → MAX_ATTACHED_FD_ENTRIES < length handles.now → Refuses (state self.old) IncorrectFds result (state self.new) }
+        ensures sent { T.SIZE ≤ min MAX_MSG_SIZE M.MAX_MSG_SIZE → length handles.now ≤ MAX_ATTACHED_FD_ENTRIES →
             Sends L.event (state self.old) (carrying (map (λ h. h.now) handles.now) (M.text header.now ++ T.text body.now)) result (state self.new) }
-        ensures fits { T.SIZE ≤ min 4096 M.MAX_MSG_SIZE → length handles.now ≤ 32 → T.fits body.now }
+        ensures fits { T.SIZE ≤ min MAX_MSG_SIZE M.MAX_MSG_SIZE → length handles.now ≤ MAX_ATTACHED_FD_ENTRIES → T.fits body.now }
         ensures memory { IfErr result (λ e. e ≢ OutOfMemory) }
     {
-        if T::SIZE > MAX_BODY || T::SIZE > M::MAX_MSG_SIZE {
+        if T::SIZE > MAX_MSG_SIZE || T::SIZE > M::MAX_MSG_SIZE {
             return Err(Error::OversizedMsg);
         }
-        if handles.len() > MAX_HANDLES {
+        if handles.len() > MAX_ATTACHED_FD_ENTRIES {
             return Err(Error::IncorrectFds);
         }
         let len = M::SIZE + T::SIZE;
@@ -76,8 +76,8 @@ impl<M: MsgHeader, L: Link> Endpoint<M, L> {
     /// Sends a header, a body and a payload, with the handles on the first byte. The payload goes out from where it
     /// lies.
     ///
-    /// OversizedMsg: the body is longer than 4096 bytes, or body and payload together than a header of this type may
-    /// say. IncorrectFds: there are more than 32 handles. In both cases nothing was written, and nothing changed.
+    /// OversizedMsg: the body is longer than `MAX_MSG_SIZE`, or body and payload together than a header of this type may
+    /// say. IncorrectFds: there are more than `MAX_ATTACHED_FD_ENTRIES` handles. In both cases nothing was written, and nothing changed.
     #[tactic(auto, unfolding(crate::specs::State::ahead_of))]
     pub fn send_message_with_payload<T: ByteValued>(
         &mut self,
@@ -86,22 +86,22 @@ impl<M: MsgHeader, L: Link> Endpoint<M, L> {
         payload: &[u8],
         handles: &[&L::Handle],
     ) -> Result<()>
-        ensures long_body { 4096 < T.SIZE → Refuses (state self.old) OversizedMsg result (state self.new) }
+        ensures long_body { MAX_MSG_SIZE < T.SIZE → Refuses (state self.old) OversizedMsg result (state self.new) }
         ensures long { M.MAX_MSG_SIZE < T.SIZE + length payload.now → Refuses (state self.old) OversizedMsg result (state self.new) }
-        ensures many { T.SIZE ≤ 4096 → T.SIZE + length payload.now ≤ M.MAX_MSG_SIZE → 32 < length handles.now →
+        ensures many { T.SIZE ≤ MAX_MSG_SIZE → T.SIZE + length payload.now ≤ M.MAX_MSG_SIZE → MAX_ATTACHED_FD_ENTRIES < length handles.now →
             Refuses (state self.old) IncorrectFds result (state self.new) }
-        ensures sent { T.SIZE ≤ 4096 → T.SIZE + length payload.now ≤ M.MAX_MSG_SIZE → length handles.now ≤ 32 →
+        ensures sent { T.SIZE ≤ MAX_MSG_SIZE → T.SIZE + length payload.now ≤ M.MAX_MSG_SIZE → length handles.now ≤ MAX_ATTACHED_FD_ENTRIES →
             Sends L.event (state self.old) (carrying (map (λ h. h.now) handles.now) (M.text header.now ++ T.text body.now ++ payload.now)) result (state self.new) }
-        ensures fits { T.SIZE ≤ 4096 → T.SIZE + length payload.now ≤ M.MAX_MSG_SIZE → length handles.now ≤ 32 → T.fits body.now }
+        ensures fits { T.SIZE ≤ MAX_MSG_SIZE → T.SIZE + length payload.now ≤ M.MAX_MSG_SIZE → length handles.now ≤ MAX_ATTACHED_FD_ENTRIES → T.fits body.now }
         ensures memory { IfErr result (λ e. e ≢ OutOfMemory) }
     {
-        if T::SIZE > MAX_BODY || T::SIZE > M::MAX_MSG_SIZE {
+        if T::SIZE > MAX_MSG_SIZE || T::SIZE > M::MAX_MSG_SIZE {
             return Err(Error::OversizedMsg);
         }
         if payload.len() > M::MAX_MSG_SIZE - T::SIZE {
             return Err(Error::OversizedMsg);
         }
-        if handles.len() > MAX_HANDLES {
+        if handles.len() > MAX_ATTACHED_FD_ENTRIES {
             return Err(Error::IncorrectFds);
         }
         let len = M::SIZE + T::SIZE;
@@ -111,8 +111,8 @@ impl<M: MsgHeader, L: Link> Endpoint<M, L> {
 
     /// Sends the first bytes of the text, and a payload behind them.
     fn send_text(&mut self, len: usize, payload: &[u8], handles: &[&L::Handle]) -> Result<()>
-        requires len { len ≤ 4108 }
-        requires handles { length handles.now ≤ 32 }
+        requires len { len ≤ MAX_MSG_TEXT }
+        requires handles { length handles.now ≤ MAX_ATTACHED_FD_ENTRIES }
         ensures sent { Sends L.event (state self.old) (carrying (map (λ h. h.now) handles.now) (take len self.old.text ++ payload.now)) result (state self.new) }
         ensures memory { IfErr result (λ e. e ≢ OutOfMemory) }
     {
@@ -128,21 +128,21 @@ impl<M: MsgHeader, L: Link> Endpoint<M, L> {
 
     /// Sends all bytes of the pieces, with the handles on the first byte; the answer is how many.
     ///
-    /// OversizedMsg: there are more bytes than a `usize` can count. IncorrectFds: there are more than 32 handles, or
+    /// OversizedMsg: there are more bytes than a `usize` can count. IncorrectFds: there are more than `MAX_ATTACHED_FD_ENTRIES` handles, or
     /// handles without a byte. In both cases nothing was written, and nothing changed.
     #[tactic(auto, unfolding(crate::specs::State::ahead_of))]
     pub fn send_iovec_all(&mut self, iovs: &[&[u8]], handles: &[&L::Handle]) -> Result<usize>
         ensures long { 2 ^ 64 ≤ length (joined iovs.now) → Refuses (state self.old) OversizedMsg result (state self.new) }
-        ensures many { length (joined iovs.now) < 2 ^ 64 → 32 < length handles.now → Refuses (state self.old) IncorrectFds result (state self.new) }
+        ensures many { length (joined iovs.now) < 2 ^ 64 → MAX_ATTACHED_FD_ENTRIES < length handles.now → Refuses (state self.old) IncorrectFds result (state self.new) }
         ensures bare { joined iovs.now ≡ [] → 0 < length handles.now → Refuses (state self.old) IncorrectFds result (state self.new) }
-        ensures sent { length (joined iovs.now) < 2 ^ 64 → length handles.now ≤ 32 → (joined iovs.now ≡ [] → handles.now ≡ []) →
+        ensures sent { length (joined iovs.now) < 2 ^ 64 → length handles.now ≤ MAX_ATTACHED_FD_ENTRIES → (joined iovs.now ≡ [] → handles.now ≡ []) →
             SendsAll L.event (state self.old) (carrying (map (λ h. h.now) handles.now) (joined iovs.now)) result (state self.new) }
         ensures memory { IfErr result (λ e. e ≢ OutOfMemory) }
     {
         let Some(len) = total_len(iovs) else {
             return Err(Error::OversizedMsg);
         };
-        if handles.len() > MAX_HANDLES || (len == 0 && !handles.is_empty()) {
+        if handles.len() > MAX_ATTACHED_FD_ENTRIES || (len == 0 && !handles.is_empty()) {
             return Err(Error::IncorrectFds);
         }
         self.faulted = false;
@@ -156,17 +156,17 @@ impl<M: MsgHeader, L: Link> Endpoint<M, L> {
 
     /// Sends a front of the bytes by one call of the link, with the handles on the first byte; the answer is how many.
     ///
-    /// Without bytes and handles the link is not called. IncorrectFds: there are more than 32 handles, or handles
+    /// Without bytes and handles the link is not called. IncorrectFds: there are more than `MAX_ATTACHED_FD_ENTRIES` handles, or handles
     /// without a byte; nothing was written, and nothing changed. A fault or a retry breaks nothing.
     #[tactic(auto, unfolding(crate::specs::State::ahead_of))]
     pub fn send_slice(&mut self, bytes: &[u8], handles: &[&L::Handle]) -> Result<usize>
-        ensures many { 32 < length handles.now → Refuses (state self.old) IncorrectFds result (state self.new) }
+        ensures many { MAX_ATTACHED_FD_ENTRIES < length handles.now → Refuses (state self.old) IncorrectFds result (state self.new) }
         ensures bare { bytes.now ≡ [] → 0 < length handles.now → Refuses (state self.old) IncorrectFds result (state self.new) }
-        ensures sent { length handles.now ≤ 32 → (bytes.now ≡ [] → handles.now ≡ []) →
+        ensures sent { length handles.now ≤ MAX_ATTACHED_FD_ENTRIES → (bytes.now ≡ [] → handles.now ≡ []) →
             SendsOnce L.event (state self.old) (map (λ h. h.now) handles.now) bytes.now result (state self.new) }
         ensures memory { IfErr result (λ e. e ≢ OutOfMemory) }
     {
-        if handles.len() > MAX_HANDLES || (bytes.is_empty() && !handles.is_empty()) {
+        if handles.len() > MAX_ATTACHED_FD_ENTRIES || (bytes.is_empty() && !handles.is_empty()) {
             return Err(Error::IncorrectFds);
         }
         self.faulted = false;
@@ -178,20 +178,20 @@ impl<M: MsgHeader, L: Link> Endpoint<M, L> {
     }
 
     /// Sends a front of the bytes of all pieces by one call of the link, with the handles on the first byte; the answer
-    /// is how many, 4108 at most.
+    /// is how many, `MAX_MSG_TEXT` at most.
     ///
-    /// Without bytes and handles the link is not called. IncorrectFds: there are more than 32 handles, or handles
+    /// Without bytes and handles the link is not called. IncorrectFds: there are more than `MAX_ATTACHED_FD_ENTRIES` handles, or handles
     /// without a byte; nothing was written, and nothing changed. A fault or a retry breaks nothing.
     #[tactic(auto, unfolding(crate::specs::State::ahead_of))]
     pub fn send_iovec(&mut self, iovs: &[&[u8]], handles: &[&L::Handle]) -> Result<usize>
-        ensures many { 32 < length handles.now → Refuses (state self.old) IncorrectFds result (state self.new) }
+        ensures many { MAX_ATTACHED_FD_ENTRIES < length handles.now → Refuses (state self.old) IncorrectFds result (state self.new) }
         ensures bare { joined iovs.now ≡ [] → 0 < length handles.now → Refuses (state self.old) IncorrectFds result (state self.new) }
-        ensures sent { length handles.now ≤ 32 → (joined iovs.now ≡ [] → handles.now ≡ []) →
+        ensures sent { length handles.now ≤ MAX_ATTACHED_FD_ENTRIES → (joined iovs.now ≡ [] → handles.now ≡ []) →
             SendsOnce L.event (state self.old) (map (λ h. h.now) handles.now) (joined iovs.now) result (state self.new) }
         ensures memory { IfErr result (λ e. e ≢ OutOfMemory) }
     {
         let len = gather(&mut self.text[..], iovs);
-        if handles.len() > MAX_HANDLES || (len == 0 && !handles.is_empty()) {
+        if handles.len() > MAX_ATTACHED_FD_ENTRIES || (len == 0 && !handles.is_empty()) {
             return Err(Error::IncorrectFds);
         }
         self.faulted = false;

@@ -1,19 +1,18 @@
 use Rattle.std.proofs.Common.{refl, ap, sym, ◌∙◌, ◌≡◌, false, true, rules, arith, take}
 use Rattle.std.specs.Prelude.{is_some, Bool}
 use Rattle.std.proofs.lemmas.List.{length-take-le}
-use Rattle.std.proofs.lemmas.Result.{err_from_is_err_and}
 use Rattle.vhost_connection.specs.State.{ahead_of, state}
 use Rattle.vhost_connection.specs.Talk.{State}
 use Rattle.vhost_connection.specs.Talk.Trouble.{no_memory}
 use Rattle.vhost_connection.proofs.Talking.{broken}
 use Rattle.vhost_connection.proofs.Once.{once-came, once-refused, unasked}
+use Rattle.vhost_connection.proofs.Errors.{passed-on}
 use Rattle.vhost_connection.proofs.endpoint.Endpoint.read_once.Goals as goal
 
 pub returns-in_err-expect_sound : goal.returns-in_err-expect_sound
 unfolding ahead_of
 returns-in_err-expect_sound g c =
-    let p = err_from_is_err_and c.from_residual.result c.from_residual.ensures.1 in
-    rw (p.1, p.2) (broken g.L.Link.event (state c.args.self.now) 0 true false _ c.in_err-expect_sound.ensures.broken)
+    rw (passed-on c.from_residual.result c.from_residual.ensures.1) (broken g.L.Link.event (state c.args.self.now) 0 true false _ c.in_err-expect_sound.ensures.broken)
 
 pub returns-then-len-eq0 : goal.returns-then-len-eq0
 unfolding ahead_of

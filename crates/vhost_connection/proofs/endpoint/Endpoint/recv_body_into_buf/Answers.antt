@@ -1,13 +1,12 @@
 use Rattle.std.proofs.Common.{rules, sym, ◌∙◌}
-use Rattle.std.proofs.lemmas.Result.{err_from_is_err_and}
 use Rattle.vhost_connection.specs.State.{state}
 use Rattle.vhost_connection.proofs.Bodies.{into-fails, into-bad, into-whole, ended}
+use Rattle.vhost_connection.proofs.Errors.{passed-on}
 use Rattle.vhost_connection.proofs.endpoint.Endpoint.recv_body_into_buf.Goals as goal
 
 pub returns-in_err-count : goal.returns-in_err-count
 returns-in_err-count g c =
-    let p = err_from_is_err_and c.from_residual.result c.from_residual.ensures.1 in
-    rw (p.1, p.2) (into-fails g.L.Link.event g.M.ByteValued.read g.M.VhostUserMsgValidator.valid (state c.args.self.now) (state c.recv_parts.new.self) _ _ _ _ (search rules) c.in_err-count.ensures)
+    rw (passed-on c.from_residual.result c.from_residual.ensures.1) (into-fails g.L.Link.event g.M.ByteValued.read g.M.VhostUserMsgValidator.valid (state c.args.self.now) (state c.recv_parts.new.self) _ _ _ _ (search rules) c.in_err-count.ensures)
 
 pub returns-then-count-len : goal.returns-then-count-len
 returns-then-count-len g c = ended c.in_ok-count.ensures _ _ (search rules) c.if-count-len.true c.put_back.ensures.state

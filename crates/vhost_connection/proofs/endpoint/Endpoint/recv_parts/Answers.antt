@@ -1,18 +1,17 @@
 use Rattle.std.proofs.Common.{refl, ap, sym, ◌∙◌, ◌≡◌, false, true, Some, nat_lt}
 use Rattle.std.specs.Prelude.{is_some, Bool, if◌then◌else◌}
-use Rattle.std.proofs.lemmas.Result.{err_from_is_err_and}
 use Rattle.vhost_connection.specs.State.{ahead_of, state}
 use Rattle.vhost_connection.specs.Talk.{State}
 use Rattle.vhost_connection.specs.Talk.Trouble.{no_memory}
 use Rattle.vhost_connection.proofs.Talking.{broken}
 use Rattle.vhost_connection.proofs.Fronts.{parts-came, parts-fail, nothing-comes}
+use Rattle.vhost_connection.proofs.Errors.{passed-on}
 use Rattle.vhost_connection.proofs.endpoint.Endpoint.recv_parts.Goals as goal
 
 pub returns-in_err-expect_sound : goal.returns-in_err-expect_sound
 unfolding ahead_of
 returns-in_err-expect_sound g c =
-    let p = err_from_is_err_and c.from_residual.result c.from_residual.ensures.1 in
-    rw (p.1, p.2) (nothing-comes c.args.len c.args.room.now c.requires.some (broken g.L.Link.event (state c.args.self.now) _ true false _ c.in_err-expect_sound.ensures.broken))
+    rw (passed-on c.from_residual.result c.from_residual.ensures.1) (nothing-comes c.args.len c.args.room.now c.requires.some (broken g.L.Link.event (state c.args.self.now) _ true false _ c.in_err-expect_sound.ensures.broken))
 
 pub returns-in_default : goal.returns-in_default
 unfolding ahead_of

@@ -1,7 +1,7 @@
 use Rattle.std.proofs.Common.{ℕ, ◌≡◌, ◌+◌, ◌-◌, rules, sym, ◌∙◌, arith, ap, take, drop}
-use Rattle.std.proofs.lemmas.Result.{err_from_is_err_and}
 use Rattle.vhost_connection.specs.State.{state}
 use Rattle.vhost_connection.proofs.Bodies.{payload-fails, payload-bad, payload-whole, ended, bad-left, bad-right}
+use Rattle.vhost_connection.proofs.Errors.{passed-on}
 use Rattle.vhost_connection.proofs.endpoint.Endpoint.recv_payload.Goals as goal
 use Rattle.vhost_connection.proofs.endpoint.Endpoint.recv_payload.Goals.{then-not-is_valid-via-then-not-is_valid, then-not-is_valid-via-else-not-is_valid+then-not-is_valid-2}
 
@@ -14,8 +14,7 @@ behind head size all s = omega arith
 
 pub returns-in_err-count : goal.returns-in_err-count
 returns-in_err-count g c =
-    let p = err_from_is_err_and c.from_residual.result c.from_residual.ensures.1 in
-    rw (p.1, p.2) (payload-fails g.L.Link.event g.M.ByteValued.read g.M.VhostUserMsgValidator.valid g.T.ByteValued.SIZE g.T.ByteValued.read g.T.VhostUserMsgValidator.valid (state c.args.self.now) (state c.recv_parts.new.self) _ _ _ _
+    rw (passed-on c.from_residual.result c.from_residual.ensures.1) (payload-fails g.L.Link.event g.M.ByteValued.read g.M.VhostUserMsgValidator.valid g.T.ByteValued.SIZE g.T.ByteValued.read g.T.VhostUserMsgValidator.valid (state c.args.self.now) (state c.recv_parts.new.self) _ _ _ _
     (sizes c.SIZE-head.result c.SIZE.result _ (search rules) c.SIZE.ensures) c.in_err-count.ensures)
 
 pub returns-then-count-len : goal.returns-then-count-len

@@ -1,15 +1,14 @@
 use Rattle.std.proofs.Common.{refl, map, length, rules, Ok, Err}
-use Rattle.std.proofs.lemmas.Result.{err_from_is_err_and}
 use Rattle.vhost_connection.specs.Pass.{joined}
 use Rattle.vhost_connection.specs.State.{ahead_of, state}
 use Rattle.vhost_connection.proofs.Talking.{once-broken, sent-once, refused-once, front-once}
+use Rattle.vhost_connection.proofs.Errors.{passed-on}
 use Rattle.vhost_connection.proofs.endpoint.Endpoint.send_iovec.Goals as goal
 
 pub returns-in_err-expect_sound-clause-sent : goal.returns-in_err-expect_sound-clause-sent
 unfolding ahead_of
 returns-in_err-expect_sound-clause-sent g c =
-    let p = err_from_is_err_and c.from_residual.result c.from_residual.ensures.1 in
-    λ few some. rw (p.1, p.2) (once-broken g.L.Link.event (state c.args.self.now) (map (λ h. h.now) c.args.handles.now) (joined c.args.iovs.now) _ c.in_err-expect_sound.ensures.broken)
+    λ few some. rw (passed-on c.from_residual.result c.from_residual.ensures.1) (once-broken g.L.Link.event (state c.args.self.now) (map (λ h. h.now) c.args.handles.now) (joined c.args.iovs.now) _ c.in_err-expect_sound.ensures.broken)
 
 pub returns-in-Ok-clause-sent : goal.returns-in-Ok-clause-sent
 unfolding ahead_of

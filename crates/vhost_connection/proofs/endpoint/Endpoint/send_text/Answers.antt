@@ -1,16 +1,15 @@
 use Rattle.std.proofs.Common.{refl, ◌++◌, take, map}
 use Rattle.std.proofs.lemmas.List.{append-nil}
-use Rattle.std.proofs.lemmas.Result.{err_from_is_err_and}
 use Rattle.vhost_protocol.specs.Stream.{carrying}
 use Rattle.vhost_connection.specs.State.{ahead_of, state}
 use Rattle.vhost_connection.proofs.Talking.{sent-all, sent-some, sends-broken}
+use Rattle.vhost_connection.proofs.Errors.{passed-on}
 use Rattle.vhost_connection.proofs.endpoint.Endpoint.send_text.Goals as goal
 
 pub returns-in_err-expect_sound-clause-sent : goal.returns-in_err-expect_sound-clause-sent
 unfolding ahead_of
 returns-in_err-expect_sound-clause-sent g c =
-    let p = err_from_is_err_and c.from_residual.result c.from_residual.ensures.1 in
-    rw (p.1, p.2) (sends-broken g.L.Link.event (state c.args.self.now) (carrying (map (λ h. h.now) c.args.handles.now) (take c.args.len c.args.self.now.text ++ c.args.payload.now)) _ c.in_err-expect_sound.ensures.broken)
+    rw (passed-on c.from_residual.result c.from_residual.ensures.1) (sends-broken g.L.Link.event (state c.args.self.now) (carrying (map (λ h. h.now) c.args.handles.now) (take c.args.len c.args.self.now.text ++ c.args.payload.now)) _ c.in_err-expect_sound.ensures.broken)
 
 pub returns-in-None-clause-sent : goal.returns-in-None-clause-sent
 unfolding ahead_of

@@ -1,16 +1,15 @@
 use Rattle.std.proofs.Common.{sym, ◌∙◌}
-use Rattle.std.proofs.lemmas.Result.{err_from_is_err_and}
 use Rattle.vhost_message.specs.MsgHeader.{fields_of}
 use Rattle.vhost_connection.specs.State.{state}
 use Rattle.vhost_connection.proofs.Bodies.{bad-left, bad-right}
 use Rattle.vhost_connection.proofs.Bare.{front-fails, ended-bare, bare-comes, whole-comes, bad-comes, rest-fails}
+use Rattle.vhost_connection.proofs.Errors.{passed-on}
 use Rattle.vhost_connection.proofs.endpoint.bare.Endpoint+VhostUserMsgHeader+R+L.recv_payload_or_bare.Goals as goal
 use Rattle.vhost_connection.proofs.endpoint.bare.Endpoint+VhostUserMsgHeader+R+L.recv_payload_or_bare.Goals.{then-not-is_valid-via-then-not-is_valid, then-not-is_valid-via-else-not-is_valid+then-not-is_valid-2}
 
 pub returns-in_err-count : goal.returns-in_err-count
 returns-in_err-count g c =
-    let p = err_from_is_err_and c.from_residual.result c.from_residual.ensures.1 in
-    rw (p.1, p.2) (front-fails g.L.Link.event g.R.Req.code (fields_of c.args.request.now) (state c.args.self.now) (state c.recv_front.new.self) c.args.buf.now _ c.in_err-count.ensures)
+    rw (passed-on c.from_residual.result c.from_residual.ensures.1) (front-fails g.L.Link.event g.R.Req.code (fields_of c.args.request.now) (state c.args.self.now) (state c.recv_front.new.self) c.args.buf.now _ c.in_err-count.ensures)
 
 pub returns-then-count-lt24 : goal.returns-then-count-lt24
 returns-then-count-lt24 g c =
