@@ -1,15 +1,16 @@
 -- Rows of requests, and the arms that follow them, test by test.
 use Rattle.std.proofs.Common.{◌≡◌, Bool, true, false, Result, Ok, Err, refl, sym, subst}
-use Rattle.std.specs.Prelude.{⊤, if◌then◌else◌}
+use Rattle.std.specs.Prelude.{⊤, if◌then◌else◌, IsErrAnd}
+use Rattle.std.proofs.lemmas.Result.{err_from_is_err_and}
 use Rattle.vhost_message.specs.declared.error.Error as declared
 use Rattle.vhost_message.specs.declared.frontend_req.FrontendReq.{FrontendReq}
 use Rattle.vhost_protocol.specs.DeviceCall.{Call, Answer}
-use Rattle.vhost_protocol.specs.Error.{Error, seen, seen_result}
+use Rattle.vhost_protocol.specs.Error.{Error, seen, seen_result, test}
 use Rattle.vhost_protocol.specs.Heard.{AnswerFits}
 use Rattle.vhost_protocol.specs.Served.{Silent}
 use Rattle.vhost_protocol.specs.Session.{Session}
 use Rattle.vhost_protocol.specs.Split.{Message}
-use Rattle.vhost_protocol.specs.Step.{Outcome, Refusal, Step, Refused, Calls, OpensBackend, OpensGpu, ◌>>=◌, ◌>>◌, silently, test, ack, acknowledged, unwritten}
+use Rattle.vhost_protocol.specs.Step.{Outcome, Refusal, Step, Refused, Calls, OpensBackend, OpensGpu, ◌>>=◌, ◌>>◌, silently, ack_back, acknowledged, unwritten}
 use Rattle.vhost_link.specs.Law.{Event}
 use Rattle.vhost_connection.specs.Talk.{State}
 use Rattle.vhost_backend_req_handler.specs.Serving as serving
@@ -59,20 +60,25 @@ module _ {L H B G Dev : Type 0} {event : L → Event H → L → Type 0} {gives 
 
   -- nothing is left but a refusal that is acknowledged
   pub refused_aloud : {old new : State L H} {s s' : Session} {d : Dev} (m : Message FrontendReq H) {result : Result ⊤ declared.Error} (e : Error)
-      → Tells event old (reply_cells r (ack s m false)) (Err e) result new → s' ≡ s → s' ≡ kept_unsent r s s → Answers event gives opens_backend opens_gpu r (Refused (acknowledged s m e)) old s d result new s' d
+      → Tells event old (reply_cells r (ack_back s m false)) (Err e) result new → s' ≡ s → s' ≡ kept_unsent r s s → Answers event gives opens_backend opens_gpu r (Refused (acknowledged s m e)) old s d result new s' d
   refused_aloud {s = s} m e (serving.whole is p) same kept = serving.answered (record {
-    outcome = record { answer = Err e; served = ack s m false; session = s };
+    outcome = record { answer = Err e; served = ack_back s m false; session = s };
     follows = (refl, refl);
     is_answer = sym is;
     replies = p;
     session = same;
   })
   refused_aloud {s = s} m e (serving.stopped p) same kept = serving.interrupted (record {
-    outcome = record { answer = Err e; served = ack s m false; session = s };
+    outcome = record { answer = Err e; served = ack_back s m false; session = s };
     follows = (refl, refl);
     stops = p;
     session = kept;
   })
+
+  -- a `?` ends the arm with its error
+  pub ends : {step : Step H B G} {old new : State L H} {s s' : Session} {d d' : Dev} {result : Result ⊤ declared.Error} {e : declared.Error} → IsErrAnd result (λ y. y ≡ e)
+      → Answers event gives opens_backend opens_gpu r step old s d (Err e) new s' d' → Answers event gives opens_backend opens_gpu r step old s d result new s' d'
+  ends {result = result} exit p = let q = err_from_is_err_and result exit in rw (q.1, q.2) p
 
   -- a test refused
   pub fails : {A : Type 0} {t : Result A (Refusal H)} (next : A → Step H B G) {old : State L H} {s : Session} {d : Dev} (e : declared.Error) → t ≡ tested (Err e) → IsReady old

@@ -1,5 +1,4 @@
-pub mod Tables
-pub mod Flags
+pub mod Rebasing
 pub mod RingHandles
 pub mod Areas
 pub mod Channels

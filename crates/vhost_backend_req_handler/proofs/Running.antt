@@ -6,7 +6,7 @@ use Rattle.vhost_message.specs.declared.error.Error as declared
 use Rattle.vhost_message.specs.declared.error.Error.TheVariants as code
 use Rattle.vhost_message.specs.declared.cause.IoCause.TheVariants as cause
 use Rattle.vhost_message.specs.FrontendReq.{request_of}
-use Rattle.vhost_protocol.specs.Codes.{wanted}
+use Rattle.vhost_protocol.specs.Codes.{allows_handles}
 use Rattle.vhost_protocol.specs.DeviceCall.{Call, Answer}
 use Rattle.vhost_protocol.specs.Error.{Error, seen, seen_result}
 use Rattle.vhost_protocol.specs.Handler.{HandlesRequest, MeetsRow}
@@ -91,7 +91,7 @@ module _ {L H B G Dev : Type 0} (event : L → Event H → L → Type 0) (gives 
         move = nothing;
         talks = quiet old;
         failures = refl;
-        handles = subst (λ f. run.ServesUnless request_of wanted (λ (t : Session). t.failed) (MeetsRow (fitting gives) opens_backend opens_gpu) f s d [] (Err (seen (code.SocketBroken (cause.Raw n)))) [] s d)
+        handles = subst (λ f. run.ServesUnless request_of allows_handles (λ (t : Session). t.failed) (MeetsRow (fitting gives) opens_backend opens_gpu) f s d [] (Err (seen (code.SocketBroken (cause.Raw n)))) [] s d)
             (sym marked) (refl, (refl, refl, refl, refl));
       } in
       inl (subst (λ (x : Dev). Entry old s d answer new s' x) (sym kept) (subst (λ (x : Session). Entry old s d answer new x d) (sym same)

@@ -4,7 +4,7 @@ use Rattle.std.specs.Prelude.{⊤, ℤ}
 use Rattle.vhost_message.specs.declared.error.Error as declared
 use Rattle.vhost_message.specs.declared.frontend_req.FrontendReq.{FrontendReq}
 use Rattle.vhost_message.specs.FrontendReq.{request_of}
-use Rattle.vhost_protocol.specs.Codes.{wanted}
+use Rattle.vhost_protocol.specs.Codes.{allows_handles}
 use Rattle.vhost_protocol.specs.DeviceCall.{Call, Answer}
 use Rattle.vhost_protocol.specs.Error.{Error, seen}
 use Rattle.vhost_protocol.specs.Handler.{Follows, MeetsRow}
@@ -31,14 +31,14 @@ module _ {L H B G Dev : Type 0} (event : L → Event H → L → Type 0) (gives 
 
   -- an entry of a run
   handles-any : (s s' : Session) (d d' : Dev) (outcome : Result (Message FrontendReq H) Error) (answer : Result ⊤ Error) (written : List (Cell H))
-      → run.Handles request_of wanted (λ (t : Session). t.failed) (MeetsRow (fitting gives) opens_backend opens_gpu) s d outcome answer written s' d'
-      → run.Handles request_of wanted (λ (t : Session). t.failed) (MeetsRow (fitting any_answer) opens_backend opens_gpu) s tt outcome answer written s' tt
+      → run.Handles request_of allows_handles (λ (t : Session). t.failed) (MeetsRow (fitting gives) opens_backend opens_gpu) s d outcome answer written s' d'
+      → run.Handles request_of allows_handles (λ (t : Session). t.failed) (MeetsRow (fitting any_answer) opens_backend opens_gpu) s tt outcome answer written s' tt
   handles-any s s' d d' (Err e) answer written p = (p.0, p.1, p.2, refl)
   handles-any s s' d d' (Ok m) answer written p = (p.0, follows-any s d d' p.0 _ p.1, p.2, p.3, p.4)
 
   serves-any : (s s' : Session) (d d' : Dev) (mark : Option ℤ) (input : List (Item H)) (answer : Result ⊤ Error) (written : List (Cell H))
-      → run.ServesUnless request_of wanted (λ (t : Session). t.failed) (MeetsRow (fitting gives) opens_backend opens_gpu) mark s d input answer written s' d'
-      → run.ServesUnless request_of wanted (λ (t : Session). t.failed) (MeetsRow (fitting any_answer) opens_backend opens_gpu) mark s tt input answer written s' tt
+      → run.ServesUnless request_of allows_handles (λ (t : Session). t.failed) (MeetsRow (fitting gives) opens_backend opens_gpu) mark s d input answer written s' d'
+      → run.ServesUnless request_of allows_handles (λ (t : Session). t.failed) (MeetsRow (fitting any_answer) opens_backend opens_gpu) mark s tt input answer written s' tt
   serves-any s s' d d' (Some n) input answer written (none, p) = (none, (p.0, p.1, p.2, refl))
   serves-any s s' d d' None input answer written (outcome, hears, p) = (outcome, hears, handles-any s s' d d' outcome answer written p)
 

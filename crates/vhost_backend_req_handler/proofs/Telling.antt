@@ -8,12 +8,13 @@ use Rattle.vhost_message.specs.Cause.{is_retry, is_break, is_denial, error_of}
 use Rattle.vhost_message.specs.declared.frontend_req.FrontendReq.{FrontendReq}
 use Rattle.vhost_message.specs.FrontendReq.{request_number}
 use Rattle.vhost_message.specs.Header.{Header, header_text}
+use Rattle.vhost_message.specs.declared.limits.TheConstants.{MAX_MSG_SIZE, MAX_MSG_TEXT}
 use Rattle.vhost_protocol.specs.Error as protocol
 use Rattle.vhost_protocol.specs.Error.{seen_result}
 use Rattle.vhost_protocol.specs.Served.{Replied}
 use Rattle.vhost_protocol.specs.Session.{Session, ack_on}
 use Rattle.vhost_protocol.specs.Split.{Message}
-use Rattle.vhost_protocol.specs.Step.{acked, done}
+use Rattle.vhost_protocol.specs.Step.{with_ack, done}
 use Rattle.vhost_protocol.specs.Stream.{Cell, items, carrying}
 use Rattle.vhost_protocol.specs.Written.{Payload, U64, payload_text}
 use Rattle.vhost_link.specs.Law.{Event, nothing, ◌then◌}
@@ -31,7 +32,7 @@ use Rattle.vhost_backend_req_handler.specs.declared.request.Request.{Request}
 use Rattle.vhost_connection.proofs.Failing.{broken-socket, first-is}
 
 module _ {L H : Type 0} (event : L → Event H → L → Type 0) where
-  trouble-stops : (old mid : State L H) (cells : List (Cell H)) (n r : ℕ) (e : Error) → IsReady old → length cells ≤ 4108
+  trouble-stops : (old mid : State L H) (cells : List (Cell H)) (n r : ℕ) (e : Error) → IsReady old → length cells ≤ MAX_MSG_TEXT
       → Trouble event old old.budget false false (sends (take n cells) r) e mid → Stops event old cells e (broken_on e mid)
   trouble-stops old mid cells n r e ready few (talk.was_broken b m s) = absurd (cc (ready.broken, b))
   trouble-stops old mid cells n r e ready few (talk.no_memory g b l m s) = absurd (cc g)
@@ -51,7 +52,7 @@ module _ {L H : Type 0} (event : L → Event H → L → Type 0) where
       } in
       subst (λ (x : State L H). Stops event old cells (error_of c) x) (sym after) stops
 
-  few-cells : (hs : List H) (g : Header) (text : List ℕ) → length text ≤ 4096 → length (carrying hs (header_text g ++ text)) ≤ 4108
+  few-cells : (hs : List H) (g : Header) (text : List ℕ) → length text ≤ MAX_MSG_SIZE → length (carrying hs (header_text g ++ text)) ≤ MAX_MSG_TEXT
   few-cells hs g text small = rw (length-carrying hs (header_text g ++ text), length-append (header_text g) text) (omega (arith, small))
 
   -- the header of a reply and its payload, as they were sent
@@ -69,7 +70,7 @@ module _ {L H : Type 0} (event : L → Event H → L → Type 0) where
 
   -- a fault stopped it
   pub reply-stopped : (old mid new : State L H) (r code : FrontendReq) (hs : List H) (h : Header) (size : ℕ) (text : List ℕ) (payload : Payload) (e : Error) → code ≡ r
-      → h ≡ record { code = request_number code; flags = 5; size = size } → text ≡ payload_text payload → length (payload_text payload) ≡ size → size ≤ 4096
+      → h ≡ record { code = request_number code; flags = 5; size = size } → text ≡ payload_text payload → length (payload_text payload) ≡ size → size ≤ MAX_MSG_SIZE
       → IsReady old → Sends event old (carrying hs (header_text h ++ text)) (Err e) mid → new ≡ broken_on e mid → Tells event old (reply_cells r (Replied payload hs)) (Ok tt) (Err e) new
   reply-stopped old mid new r code hs h size text payload e is head same len small ready p after =
       let t = subst (λ x. Trouble event old old.budget false false (sends (take p.0 (carrying hs x)) p.1) e mid) (same-text r code h size text payload is head same len) p.2 in
@@ -103,24 +104,24 @@ module _ {L H : Type 0} (event : L → Event H → L → Type 0) where
 
   -- no acknowledgement is wanted
   pub unacked : (old : State L H) (r : FrontendReq) (s : Session) (m : Message FrontendReq H) (answer : Result ⊤ Error) → IsReady old → (ack_on s && m.need_reply) ≡ false
-      → let o = acked s m (seen_result answer) in Tells event old (reply_cells r o.served) o.answer answer old
+      → let o = with_ack s m (seen_result answer) in Tells event old (reply_cells r o.served) o.answer answer old
   unacked old r s m answer ready off = rw (off, done-same (seen_result answer)) (serving.whole refl (none-sent old ready))
 
   -- it went out
   pub ack-sent : (old new : State L H) (r : FrontendReq) (s : Session) (m : Message FrontendReq H) (answer : Result ⊤ Error) → (ack_on s && m.need_reply) ≡ true
       → Tells event old (reply_cells r (Replied (U64 (if is_ok (seen_result answer) then 0 else 1)) [])) (Ok tt) (Ok tt) new
-      → let o = acked s m (seen_result answer) in Tells event old (reply_cells r o.served) o.answer answer new
+      → let o = with_ack s m (seen_result answer) in Tells event old (reply_cells r o.served) o.answer answer new
   ack-sent old new r s m answer on (serving.whole is p) = rw (on, done-same (seen_result answer)) (serving.whole refl p)
 
   -- a fault stopped it
   pub ack-stopped : (old new : State L H) (r : FrontendReq) (s : Session) (m : Message FrontendReq H) (answer : Result ⊤ Error) (e : Error) → (ack_on s && m.need_reply) ≡ true
       → Tells event old (reply_cells r (Replied (U64 (if is_ok (seen_result answer) then 0 else 1)) [])) (Ok tt) (Err e) new
-      → let o = acked s m (seen_result answer) in Tells event old (reply_cells r o.served) o.answer (Err e) new
+      → let o = with_ack s m (seen_result answer) in Tells event old (reply_cells r o.served) o.answer (Err e) new
   ack-stopped old new r s m answer e on (serving.whole is p) = absurd (cc is)
   ack-stopped old new r s m answer e on (serving.stopped p) = rw (on) (serving.stopped p)
 
 -- the answer without its value is acknowledged alike
-pub acked-done : {H A : Type 0} (s : Session) (m : Message FrontendReq H) (x : Result A protocol.Error) (y : Result ⊤ protocol.Error) → y ≡ done x → acked s m y ≡ acked s m x
+pub acked-done : {H A : Type 0} (s : Session) (m : Message FrontendReq H) (x : Result A protocol.Error) (y : Result ⊤ protocol.Error) → y ≡ done x → with_ack s m y ≡ with_ack s m x
 acked-done s m (Ok a) y e = rw e refl
 acked-done s m (Err a) y e = rw e refl
 

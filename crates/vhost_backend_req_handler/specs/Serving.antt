@@ -7,9 +7,10 @@ use Rattle.vhost_message.specs.declared.error.Error as declared
 use Rattle.vhost_message.specs.declared.frontend_req.FrontendReq.{FrontendReq}
 use Rattle.vhost_message.specs.declared.frontend_req.FrontendReq.TheVariants.{GET_FEATURES}
 use Rattle.vhost_message.specs.FrontendReq.{request_of, request_number}
+use Rattle.vhost_message.specs.declared.limits.TheConstants.{MAX_MSG_TEXT}
 use Rattle.vhost_protocol.specs.Stream.{Cell}
 use Rattle.vhost_protocol.specs.Error.{Error, seen, seen_result}
-use Rattle.vhost_protocol.specs.Codes.{wanted}
+use Rattle.vhost_protocol.specs.Codes.{allows_handles}
 use Rattle.vhost_protocol.specs.Split.{Message, split}
 use Rattle.vhost_protocol.specs.Session.{Session}
 use Rattle.vhost_protocol.specs.DeviceCall.{Call, Answer}
@@ -36,8 +37,8 @@ pub record Reads {H : Type 0} (bytes : List ℕ) (request : Request) (m : Messag
 
 -- one request is read, with its handles, or why not
 abbrev pub ReadsRequest : {L H : Type 0} → (L → Event H → L → Type 0) → State L H → Result (Request × Option (Vec H Global)) declared.Error → List ℕ → State L H → Type 0
-ReadsRequest {H} event old (Ok x) bytes new = (m : Message FrontendReq H) × Reads bytes x.0 m × HandsOver x.1 m.handles × Hears event (split request_of wanted) old (Ok m) new
-ReadsRequest event old (Err e) bytes new = Hears event (split request_of wanted) old (Err (seen e)) new ⊎ Fails event old false e new
+ReadsRequest {H} event old (Ok x) bytes new = (m : Message FrontendReq H) × Reads bytes x.0 m × HandsOver x.1 m.handles × Hears event (split request_of allows_handles) old (Ok m) new
+ReadsRequest event old (Err e) bytes new = Hears event (split request_of allows_handles) old (Err (seen e)) new ⊎ Fails event old false e new
 
 -- ---- tests
 
@@ -75,7 +76,7 @@ pub record Stops {L H : Type 0} (event : L → Event H → L → Type 0) (old : 
   pub retries : ℕ
   pub talks : Talks event old (sends (take count cells) retries then refused cause) new
   pub spent : IsTrue (is_retry cause) → retries ≡ old.budget
-  pub few : length cells ≤ 4108
+  pub few : length cells ≤ MAX_MSG_TEXT
   pub broken : new.broken ≡ Some cause
   pub faulted : new.faulted ≡ true
 
@@ -133,7 +134,7 @@ module _ {L H B G Dev : Type 0} (event : L → Event H → L → Type 0) (gives 
   -- What remains after a call that failed: a fault while the request was read changed nothing, and one in the reply left what its row says of session and device.
   pub data Remains (old : State L H) (s : Session) (d : Dev) (e : declared.Error) (new : State L H) (s' : Session) (d' : Dev) : Type 0 where
     unread : s' ≡ s → d' ≡ d → Remains old s d e new s' d'
-    unanswered : (m : Message FrontendReq H) (mid : State L H) → Hears event (split request_of wanted) old (Ok m) mid
+    unanswered : (m : Message FrontendReq H) (mid : State L H) → Hears event (split request_of allows_handles) old (Ok m) mid
         → Interrupted m.request (row_of m.request s m) mid s d e new s' d' → Remains old s d e new s' d'
 
   -- One request was not served.

@@ -1,8 +1,8 @@
 //! Serving a frontend: each request is read whole, tested, and answered by its row of the protocol table.
 #![tactic(auto)]
 
+mod bases;
 mod handler;
-mod regions;
 mod request;
 mod session;
 mod session_core;

@@ -1,8 +1,9 @@
 //! A request as it was read.
 
 ghost use Rattle.std.specs.Prelude.{◌≡◌, ◌≤◌, ◌+◌, List, ◌==◌, ◌&&◌, not, drop, length, take};
-ghost use Rattle.vhost_protocol.specs.Codes.{carries_handles as may_carry, wanted};
+ghost use Rattle.vhost_protocol.specs.Codes.{carries_handles as may_carry, allows_handles};
 ghost use Rattle.vhost_connection.specs.Calls.{HandsOver};
+ghost use Rattle.vhost_message.specs.declared.limits.TheConstants.{MAX_MSG_SIZE};
 
 use vhost_message::FrontendReq;
 
@@ -14,7 +15,7 @@ pub struct Request {
     pub need_reply: bool,
     pub len: usize,
     /// No body is longer.
-    ghost short: { len ≤ 4096 },
+    ghost short: { len ≤ MAX_MSG_SIZE },
 }
 
 impl Request {
@@ -28,7 +29,7 @@ impl Request {
 
 /// Whether a request of this code may bring these handles: none, or those of a code that carries some.
 pub fn are_wanted<H>(code: FrontendReq, handles: &Option<Vec<H>>) -> bool
-    ensures { (hs : List H) → HandsOver handles.now hs → result ≡ wanted code (length hs) }
+    ensures { (hs : List H) → HandsOver handles.now hs → result ≡ allows_handles code (length hs) }
 {
     handles.is_none() || carries_handles(code)
 }

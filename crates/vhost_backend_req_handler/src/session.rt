@@ -1,6 +1,6 @@
 //! What a handler remembers of its frontend.
 
-use vhost_message::PostcopyState;
+use vhost_message::{PostcopyState, has_bit, protocol_bit, virtio_bit};
 
 /// The features offered and acknowledged, how far postcopy has come, and the failure that marks the session, if any.
 #[derive(Clone, Copy, Debug)]
@@ -36,7 +36,8 @@ impl Session {
         ensures { result ≡ ack_on (session_of self.now) }
     {
         let (offered, acked_protocol_features) = (self.offered, self.acked_protocol_features);
-        offered & 0x4000_0000 != 0 && acked_protocol_features & 8 != 0
+        has_bit(offered, virtio_bit::PROTOCOL_FEATURES)
+            && has_bit(acked_protocol_features, protocol_bit::REPLY_ACK)
     }
 
     /// Whether a request is acknowledged that asks for it, or does not.

@@ -11,7 +11,7 @@ use std::alloc::Global;
 use vhost_connection::Endpoint;
 use vhost_device::VhostUserBackendReqHandlerMut;
 use vhost_link::Link;
-use vhost_message::{Error, FrontendReq, IoCause, Result, VhostUserMsgHeader};
+use vhost_message::{Error, FrontendReq, IoCause, MAX_MSG_SIZE, Result, VhostUserMsgHeader};
 
 mod channels;
 mod checks;
@@ -38,7 +38,7 @@ pub struct SessionCore<L: Link> {
     endpoint: Endpoint<Header, L>,
     session: Session,
     /// The body of the request that is served lies at its front.
-    body: [u8; 4096],
+    body: [u8; MAX_MSG_SIZE],
     /// For the channels that a frontend opens.
     budget: u32,
     alloc: Global,
@@ -68,7 +68,7 @@ impl<L: Link> SessionCore<L> {
         Ok(SessionCore {
             endpoint: Endpoint::from_stream(alloc, link, budget)?,
             session: Session::new(),
-            body: [0; 4096],
+            body: [0; MAX_MSG_SIZE],
             budget,
             alloc,
         })
@@ -149,7 +149,7 @@ impl<L: Link> SessionCore<L> {
     /// Reads one request: its header and handles, and its body whole, however it is cut.
     fn read_request(&mut self) -> Result<(Request, Option<Vec<L::Handle>>)>
         ensures request { ReadsRequest L.event (endpoint_of self.old) result self.new.body (endpoint_of self.new) }
-        ensures session { self.new.session ≡ self.old.session }
+        ensures session { session_in self.new ≡ session_in self.old }
     {
         let (header, handles) = self.endpoint.recv_header()?;
         let code = header.get_code()?;

@@ -11,7 +11,7 @@ use vhost_backend_req::Backend;
 use vhost_device::VhostUserBackendReqHandlerMut;
 use vhost_gpu_backend_req::GpuBackend;
 use vhost_link::{Handle, Kind, Link};
-use vhost_message::{Error, IoCause, Result, VhostUserProtocolFeatures};
+use vhost_message::{Error, IoCause, Result, protocol_bit};
 
 impl<L: Link> SessionCore<L> {
     ghost use Rattle.vhost_backend_req_handler.specs.Core.{MeetsRowWith};
@@ -26,7 +26,7 @@ impl<L: Link> SessionCore<L> {
     ) -> Result<()>
         ensures { MeetsRowWith L.event L.opens L.Handle.kinds D.gives SET_BACKEND_REQ_FD self.old device.old request handles result self.new device.new }
     {
-        self.operation(VhostUserProtocolFeatures::BACKEND_REQ)?;
+        self.operation(protocol_bit::BACKEND_REQ)?;
         self.valid(!request.reply)?;
         let Some(file) = only(handles) else {
             return self.send_ack(request, Err(Error::InvalidMessage));
@@ -66,8 +66,10 @@ impl<L: Link> SessionCore<L> {
         ensures opened { OpensAs L.opens L.Handle.kinds file (seen_result result) }
         ensures same { self.new ≡ self.old }
     {
-        let link = self.open(file)?;
-        Backend::from_stream(self.alloc, link, self.budget)
+        match self.open(file) {
+            Ok(link) => Backend::from_stream(self.alloc, link, self.budget),
+            Err(error) => Err(error),
+        }
     }
 
     /// Opens a handle as the channel to a display, with the session's budget.
@@ -75,8 +77,10 @@ impl<L: Link> SessionCore<L> {
         ensures opened { OpensAs L.opens L.Handle.kinds file (seen_result result) }
         ensures same { self.new ≡ self.old }
     {
-        let link = self.open(file)?;
-        GpuBackend::from_stream(self.alloc, link, self.budget)
+        match self.open(file) {
+            Ok(link) => GpuBackend::from_stream(self.alloc, link, self.budget),
+            Err(error) => Err(error),
+        }
     }
 
     /// Opens a handle as a link. InvalidSocketFd, NotUnixSocket, NotStreamSocket: it is no Unix stream socket, or could

@@ -1,12 +1,13 @@
 //! The tests that rows have in common.
 
-ghost use Rattle.std.specs.Prelude.{◌≡◌, ◌≤◌, ◌^◌, ◌==◌, ℕ, List, IfOk, true, ok_or, nat_le};
+ghost use Rattle.std.specs.Prelude.{◌≡◌, ◌≤◌, ◌<◌, ◌^◌, ◌==◌, List, IfOk, true, ok_or, nat_le};
 ghost use Rattle.vhost_message.specs.declared.frontend_req.FrontendReq.{FrontendReq};
 ghost use Rattle.vhost_protocol.specs.Split.{Message};
-ghost use Rattle.vhost_protocol.specs.Error.{FrontendInternalError, InactiveFeature, InvalidMessage, InvalidOperation, InvalidParam, seen};
+ghost use Rattle.vhost_protocol.specs.Error.{FrontendInternalError, InactiveFeature, InvalidMessage, InvalidOperation, InvalidParam, seen, test};
 ghost use Rattle.vhost_protocol.specs.Row as row;
-ghost use Rattle.vhost_protocol.specs.Step.{Refusal, silently, test};
+ghost use Rattle.vhost_protocol.specs.Step.{Refusal, silently};
 ghost use Rattle.vhost_message.specs.Bits.{has_bit};
+ghost use Rattle.vhost_message.specs.declared.limits.TheConstants.{MAX_MSG_SIZE};
 ghost use Rattle.vhost_connection.specs.Calls.{HandsOver};
 
 use crate::request::Request;
@@ -15,7 +16,7 @@ use bitflags::Flags;
 use vhost_link::Link;
 use vhost_message::{
     Error, Result, VhostUserMsgValidator, VhostUserProtocolFeatures, VhostUserU64,
-    VhostUserVirtioFeatures,
+    VhostUserVirtioFeatures, has_bit,
 };
 
 impl<L: Link> SessionCore<L> {
@@ -34,7 +35,7 @@ impl<L: Link> SessionCore<L> {
 
     /// The one record that the body is. InvalidMessage: it is not that long, not valid, or the message is a reply.
     pub(crate) fn record<T: VhostUserMsgValidator + Drop>(&self, request: Request) -> Result<T>
-        requires { T.SIZE ≤ 4096 }
+        requires { T.SIZE ≤ MAX_MSG_SIZE }
         ensures row { (m : Message FrontendReq L.Handle) → Reads self.now.body request m → row.body T.SIZE T.read T.valid m ≡ tested result }
         ensures valid { IfOk result (λ r. T.valid r ≡ true) }
     {
@@ -56,29 +57,35 @@ impl<L: Link> SessionCore<L> {
         Ok(number.value)
     }
 
-    /// InactiveOperation: the protocol feature is not acknowledged.
-    pub(crate) fn operation(&self, feature: VhostUserProtocolFeatures) -> Result<()>
-        ensures { (bit : ℕ) → feature.bits ≡ 2 ^ bit → row.operation {H = L.Handle} (session_in self.now) bit ≡ tested result }
+    /// InactiveOperation: the protocol feature of this bit is not acknowledged.
+    pub(crate) fn operation(&self, bit: u32) -> Result<()>
+        requires { bit < 64 }
+        ensures { row.session_feature {H = L.Handle} (session_in self.now) bit ≡ tested result }
     {
-        if self.session.acked_protocol_features & feature.bits() == 0 {
-            return Err(Error::InactiveOperation(feature));
+        let acked_protocol_features = self.session.acked_protocol_features;
+        if !has_bit(acked_protocol_features, bit) {
+            return Err(Error::InactiveOperation(VhostUserProtocolFeatures::from_bits_retain(
+                1 << bit,
+            )));
         }
         Ok(())
     }
 
-    /// InactiveFeature: the virtio feature is not acknowledged.
-    pub(crate) fn feature(&self, feature: VhostUserVirtioFeatures) -> Result<()>
-        ensures { (bit : ℕ) → feature.bits ≡ 2 ^ bit → test {H = L.Handle} (has_bit (session_in self.now).acked bit) (silently (InactiveFeature (2 ^ bit))) ≡ tested result }
+    /// InactiveFeature: the virtio feature of this bit is not acknowledged.
+    pub(crate) fn feature(&self, bit: u32) -> Result<()>
+        requires { bit < 64 }
+        ensures { test (has_bit (session_in self.now).acked bit) (silently {H = L.Handle} (InactiveFeature (2 ^ bit))) ≡ tested result }
     {
-        if self.session.acked & feature.bits() == 0 {
-            return Err(Error::InactiveFeature(feature));
+        let acked = self.session.acked;
+        if !has_bit(acked, bit) {
+            return Err(Error::InactiveFeature(VhostUserVirtioFeatures::from_bits_retain(1 << bit)));
         }
         Ok(())
     }
 
     /// InvalidParam: the number of a switch is neither 0 nor 1.
     pub(crate) fn switch(&self, num: u32) -> Result<()>
-        ensures { test {H = L.Handle} (nat_le num 1) (silently InvalidParam) ≡ tested result }
+        ensures { test (nat_le num 1) (silently {H = L.Handle} InvalidParam) ≡ tested result }
     {
         if num > 1 {
             return Err(Error::InvalidParam);
@@ -88,7 +95,7 @@ impl<L: Link> SessionCore<L> {
 
     /// FrontendInternalError: the number is not 0.
     pub(crate) fn zero(&self, number: u64) -> Result<()>
-        ensures { test {H = L.Handle} (number == 0) (silently FrontendInternalError) ≡ tested result }
+        ensures { test (number == 0) (silently {H = L.Handle} FrontendInternalError) ≡ tested result }
     {
         if number != 0 {
             return Err(Error::FrontendInternalError);
@@ -98,7 +105,7 @@ impl<L: Link> SessionCore<L> {
 
     /// InvalidMessage: the message is not valid.
     pub(crate) fn valid(&self, valid: bool) -> Result<()>
-        ensures { test {H = L.Handle} valid (silently InvalidMessage) ≡ tested result }
+        ensures { test valid (silently {H = L.Handle} InvalidMessage) ≡ tested result }
     {
         if !valid {
             return Err(Error::InvalidMessage);
@@ -108,7 +115,7 @@ impl<L: Link> SessionCore<L> {
 
     /// InvalidOperation with this reason: postcopy is in another state than that.
     pub(crate) fn allowed(&self, allowed: bool, reason: &'static str) -> Result<()>
-        ensures { test {H = L.Handle} allowed (silently (InvalidOperation reason.now)) ≡ tested result }
+        ensures { test allowed (silently {H = L.Handle} (InvalidOperation reason.now)) ≡ tested result }
     {
         if !allowed {
             return Err(Error::InvalidOperation(reason));

@@ -5,9 +5,10 @@ ghost use Rattle.vhost_backend_req.specs.declared.backend.Backend.{Backend};
 ghost use Rattle.vhost_device.specs.Answers.{seen_bytes};
 ghost use Rattle.vhost_gpu_backend_req.specs.declared.backend.GpuBackend.{GpuBackend};
 ghost use Rattle.vhost_message.specs.declared.records.config.VhostUserConfig.{VhostUserConfig};
-ghost use Rattle.vhost_protocol.specs.Error.{InvalidMessage};
-ghost use Rattle.vhost_protocol.specs.Step.{Step, ◌>>◌ as ◌then◌, silently, test};
+ghost use Rattle.vhost_protocol.specs.Error.{InvalidMessage, test};
+ghost use Rattle.vhost_protocol.specs.Step.{Step, ◌>>◌ as ◌then◌, silently};
 ghost use Rattle.vhost_message.specs.Records.{config_of};
+ghost use Rattle.vhost_message.specs.declared.limits.TheConstants.{MAX_MSG_SIZE};
 ghost use Rattle.vhost_message.specs.declared.frontend_req.FrontendReq.{FrontendReq};
 ghost use Rattle.vhost_message.specs.declared.frontend_req.FrontendReq.TheVariants.{GET_CONFIG, SET_CONFIG};
 ghost use Rattle.vhost_protocol.specs.Row.{is_valid_area, with_config};
@@ -20,11 +21,11 @@ use vhost_device::VhostUserBackendReqHandlerMut;
 use vhost_link::Link;
 use vhost_message::{
     ByteValued, Error, Result, VhostUserConfig, VhostUserConfigFlags, VhostUserMsgValidator,
-    VhostUserProtocolFeatures,
+    protocol_bit,
 };
 
 /// The length of the record before the bytes.
-const RECORD: usize = 12;
+const RECORD: usize = VhostUserConfig::SIZE;
 
 impl<L: Link> SessionCore<L> {
     ghost use Rattle.vhost_backend_req_handler.specs.Core.{MeetsRow, endpoint_of, session_in};
@@ -39,7 +40,7 @@ impl<L: Link> SessionCore<L> {
     ) -> Result<()>
         ensures { MeetsRow L.event L.opens L.Handle.kinds D.gives GET_CONFIG self.old device.old request result self.new device.new }
     {
-        self.operation(VhostUserProtocolFeatures::CONFIG)?;
+        self.operation(protocol_bit::CONFIG)?;
         let config = self.whole_area(request)?;
         let flags = VhostUserConfigFlags::from_bits_retain(config.flags);
         let answer = device.get_config(config.offset, config.size, flags);
@@ -54,7 +55,7 @@ impl<L: Link> SessionCore<L> {
     ) -> Result<()>
         ensures { MeetsRow L.event L.opens L.Handle.kinds D.gives SET_CONFIG self.old device.old request result self.new device.new }
     {
-        self.operation(VhostUserProtocolFeatures::CONFIG)?;
+        self.operation(protocol_bit::CONFIG)?;
         self.valid(!request.reply)?;
         let Some(config) = self.area(request) else {
             return self.send_ack(request, Err(Error::InvalidMessage));
@@ -72,7 +73,7 @@ impl<L: Link> SessionCore<L> {
         config: VhostUserConfig,
         answer: Result<Vec<u8>>,
     ) -> Result<()>
-        requires { 12 + config.size ≤ 4096 }
+        requires { RECORD + config.size ≤ MAX_MSG_SIZE }
         ensures sends { request.code ≡ GET_CONFIG → IsReady (endpoint_of self.old)
             → let outcome = with_config (session_in self.old) config (seen_bytes answer) in Tells L.event (endpoint_of self.old) (reply_cells GET_CONFIG outcome.served) outcome.answer result (endpoint_of self.new) }
         ensures session { session_in self.new ≡ (with_config {H = L.Handle} (session_in self.old) config (seen_bytes answer)).session }
@@ -90,7 +91,7 @@ impl<L: Link> SessionCore<L> {
     fn whole_area(&self, request: Request) -> Result<VhostUserConfig>
         ensures row { (m : Message FrontendReq L.Handle) → Reads self.now.body request m → (next : VhostUserConfig → Step L.Handle (Backend L L.Handle) (GpuBackend L L.Handle))
             → (test (not m.reply && is_valid_area m) (silently InvalidMessage) then next (config_of m.body)) ≡ goes_on result next }
-        ensures len { IfOk result (λ c. 12 + c.size ≤ 4096) }
+        ensures len { IfOk result (λ c. RECORD + c.size ≤ MAX_MSG_SIZE) }
     {
         if request.reply {
             return Err(Error::InvalidMessage);
@@ -102,7 +103,7 @@ impl<L: Link> SessionCore<L> {
     fn area(&self, request: Request) -> Option<VhostUserConfig>
         ensures valid { (m : Message FrontendReq L.Handle) → Reads self.now.body request m → is_valid_area m ≡ is_some result }
         ensures record { (m : Message FrontendReq L.Handle) → Reads self.now.body request m → IfSome result (λ c. c ≡ config_of m.body) }
-        ensures len { IfSome result (λ c. request.len ≡ 12 + c.size) }
+        ensures len { IfSome result (λ c. request.len ≡ RECORD + c.size) }
     {
         let config = VhostUserConfig::decode(&self.body[..RECORD]);
         if request.len >= RECORD

@@ -7,7 +7,7 @@ use crate::session_core::SessionCore;
 use bitflags::Flags;
 use vhost_device::VhostUserBackendReqHandlerMut;
 use vhost_link::Link;
-use vhost_message::{Result, VhostUserProtocolFeatures, VhostUserU64};
+use vhost_message::{Result, VhostUserProtocolFeatures, VhostUserU64, protocol_bit};
 
 impl<L: Link> SessionCore<L> {
     ghost use Rattle.vhost_backend_req_handler.specs.Core.{MeetsRow};
@@ -77,7 +77,7 @@ impl<L: Link> SessionCore<L> {
     ) -> Result<()>
         ensures { MeetsRow L.event L.opens L.Handle.kinds D.gives GET_QUEUE_NUM self.old device.old request result self.new device.new }
     {
-        self.operation(VhostUserProtocolFeatures::MQ)?;
+        self.operation(protocol_bit::MQ)?;
         self.bare(request, 0)?;
         let number = device.get_queue_num()?;
         self.send_reply(request, &VhostUserU64::new(number), &[])
@@ -91,7 +91,7 @@ impl<L: Link> SessionCore<L> {
     ) -> Result<()>
         ensures { MeetsRow L.event L.opens L.Handle.kinds D.gives GET_MAX_MEM_SLOTS self.old device.old request result self.new device.new }
     {
-        self.operation(VhostUserProtocolFeatures::CONFIGURE_MEM_SLOTS)?;
+        self.operation(protocol_bit::CONFIGURE_MEM_SLOTS)?;
         self.bare(request, 0)?;
         let number = device.get_max_mem_slots()?;
         self.send_reply(request, &VhostUserU64::new(number), &[])

@@ -6,7 +6,7 @@ use crate::request::Request;
 use crate::session_core::SessionCore;
 use vhost_device::VhostUserBackendReqHandlerMut;
 use vhost_link::Link;
-use vhost_message::{Error, Result, VhostUserInflight, VhostUserProtocolFeatures};
+use vhost_message::{Error, Result, VhostUserInflight, protocol_bit};
 
 impl<L: Link> SessionCore<L> {
     ghost use Rattle.vhost_backend_req_handler.specs.Core.{MeetsRow, MeetsRowWith};
@@ -19,7 +19,7 @@ impl<L: Link> SessionCore<L> {
     ) -> Result<()>
         ensures { MeetsRow L.event L.opens L.Handle.kinds D.gives GET_INFLIGHT_FD self.old device.old request result self.new device.new }
     {
-        self.operation(VhostUserProtocolFeatures::INFLIGHT_SHMFD)?;
+        self.operation(protocol_bit::INFLIGHT_SHMFD)?;
         let asked: VhostUserInflight = self.record(request)?;
         let (inflight, file) = device.get_inflight_fd(&asked)?;
         self.send_reply(request, &inflight, &[&file])
@@ -34,7 +34,7 @@ impl<L: Link> SessionCore<L> {
     ) -> Result<()>
         ensures { MeetsRowWith L.event L.opens L.Handle.kinds D.gives SET_INFLIGHT_FD self.old device.old request handles result self.new device.new }
     {
-        self.operation(VhostUserProtocolFeatures::INFLIGHT_SHMFD)?;
+        self.operation(protocol_bit::INFLIGHT_SHMFD)?;
         let file = self.one_handle(handles, Error::IncorrectFds)?;
         let inflight: VhostUserInflight = self.record(request)?;
         let answer = device.set_inflight_fd(&inflight, file);

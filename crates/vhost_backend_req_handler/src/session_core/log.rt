@@ -6,7 +6,7 @@ use crate::request::Request;
 use crate::session_core::SessionCore;
 use vhost_device::VhostUserBackendReqHandlerMut;
 use vhost_link::Link;
-use vhost_message::{Error, Result, VhostUserLog, VhostUserProtocolFeatures};
+use vhost_message::{Error, Result, VhostUserLog, protocol_bit};
 
 impl<L: Link> SessionCore<L> {
     ghost use Rattle.vhost_backend_req_handler.specs.Core.{MeetsRowWith};
@@ -20,7 +20,7 @@ impl<L: Link> SessionCore<L> {
     ) -> Result<()>
         ensures { MeetsRowWith L.event L.opens L.Handle.kinds D.gives SET_LOG_BASE self.old device.old request handles result self.new device.new }
     {
-        self.operation(VhostUserProtocolFeatures::LOG_SHMFD)?;
+        self.operation(protocol_bit::LOG_SHMFD)?;
         let file = self.one_handle(handles, Error::IncorrectFds)?;
         let log: VhostUserLog = self.record(request)?;
         device.set_log_base(&log, file)?;

@@ -16,23 +16,16 @@ ghost use Rattle.vhost_protocol.specs.Row as row;
 ghost use Rattle.vhost_protocol.specs.Row.{is_mapped, is_valid_table, mapped_row, region_row, table, table_row, with_bases};
 ghost use Rattle.vhost_protocol.specs.Split.{Message};
 
-use crate::regions::{put_regions, read_front, rebase_all};
+use crate::bases::rebase_all;
 use crate::request::{Request, part};
 use crate::session_core::SessionCore;
 use vhost_device::VhostUserBackendReqHandlerMut;
 use vhost_link::Link;
 use vhost_message::{
-    ByteValued, Error, Result, VhostUserMemory, VhostUserMemoryRegion, VhostUserMsgValidator,
-    VhostUserProtocolFeatures, VhostUserSingleMemoryRegion,
+    ByteValued, Error, MAX_MEM_REGIONS, MEMORY_HEAD_SIZE, MEMORY_REGION_SIZE, Result,
+    VhostUserMemory, VhostUserMemoryRegion, VhostUserMsgValidator, VhostUserSingleMemoryRegion,
+    VhostUserU64, protocol_bit, put_regions, read_front,
 };
-
-/// The greatest number of regions in a table.
-const VHOST_USER_MAX_REGIONS: usize = 32;
-
-/// The lengths of a table's head and of a region, in bytes.
-const HEAD: usize = 8;
-
-const REGION: usize = 32;
 
 /// Whether the device agreed, whatever it gave.
 fn agreed(answer: Result<Option<Vec<u64>>>) -> Result<()>
@@ -57,7 +50,7 @@ impl<L: Link> SessionCore<L> {
     ) -> Result<()>
         ensures { MeetsRow L.event L.opens L.Handle.kinds D.gives REM_MEM_REG self.old device.old request result self.new device.new }
     {
-        self.operation(VhostUserProtocolFeatures::CONFIGURE_MEM_SLOTS)?;
+        self.operation(protocol_bit::CONFIGURE_MEM_SLOTS)?;
         if self.is_mapped(request) {
             return self.mapped(device, request);
         }
@@ -75,7 +68,7 @@ impl<L: Link> SessionCore<L> {
     ) -> Result<()>
         ensures { MeetsRowWith L.event L.opens L.Handle.kinds D.gives ADD_MEM_REG self.old device.old request handles result self.new device.new }
     {
-        self.operation(VhostUserProtocolFeatures::CONFIGURE_MEM_SLOTS)?;
+        self.operation(protocol_bit::CONFIGURE_MEM_SLOTS)?;
         if self.is_mapped(request) {
             return self.mapped(device, request);
         }
@@ -106,7 +99,7 @@ impl<L: Link> SessionCore<L> {
     ) -> Result<()>
         ensures { MeetsStepWith L.event L.opens L.Handle.kinds D.gives (λ s m. table_row s m) SET_MEM_TABLE self.old device.old request handles result self.new device.new }
     {
-        let mut places = [VhostUserMemoryRegion::default(); VHOST_USER_MAX_REGIONS];
+        let mut places = [VhostUserMemoryRegion::default(); MAX_MEM_REGIONS];
         let regions = &mut places[..];
         let Some((count, files)) = self.read_table(request, handles, regions) else {
             return self.send_ack(request, Err(Error::InvalidMessage));
@@ -130,14 +123,18 @@ impl<L: Link> SessionCore<L> {
         handles: Option<Vec<L::Handle>>,
         places: &mut [VhostUserMemoryRegion],
     ) -> Option<(usize, Vec<L::Handle>)>
-        requires { length places.old ≡ 32 }
+        requires { length places.old ≡ MAX_MEM_REGIONS }
         ensures valid { (m : Message FrontendReq L.Handle) → Reads self.now.body request m → HandsOver handles m.handles → is_valid_table m ≡ is_some result }
         ensures table { (m : Message FrontendReq L.Handle) → Reads self.now.body request m → HandsOver handles m.handles → IfSome result (λ t. (take t.0 places.new ≡ table m) × (t.1.items ≡ m.handles)) }
-        ensures count { IfSome result (λ t. t.0 ≤ 32) }
+        ensures count { IfSome result (λ t. t.0 ≤ MAX_MEM_REGIONS) }
     {
         let files = handles?;
         let count = self.table_len(request, files.len())?;
-        if read_front(part(&self.body, HEAD, request.len), places, count) {
+        if read_front(
+            part(&self.body, MEMORY_HEAD_SIZE, request.len),
+            places,
+            count,
+        ) {
             Some((count, files))
         } else {
             None
@@ -147,22 +144,22 @@ impl<L: Link> SessionCore<L> {
     /// How many regions the table of a request has, where it has as many bytes and handles as it says.
     fn table_len(&self, request: Request, handles: usize) -> Option<usize>
         ensures valid { (m : Message FrontendReq L.Handle) → Reads self.now.body request m
-            → (not m.reply && nat_le 8 (length m.body) && is_valid_memory (memory_of m.body) && length m.body == 8 + 32 * (memory_of m.body).num_regions && handles == (memory_of m.body).num_regions) ≡ is_some result }
+            → (not m.reply && nat_le MEMORY_HEAD_SIZE (length m.body) && is_valid_memory (memory_of m.body) && length m.body == MEMORY_HEAD_SIZE + MEMORY_REGION_SIZE * (memory_of m.body).num_regions && handles == (memory_of m.body).num_regions) ≡ is_some result }
         ensures count { (m : Message FrontendReq L.Handle) → Reads self.now.body request m → IfSome result (λ n. n ≡ (memory_of m.body).num_regions) }
-        ensures len { IfSome result (λ n. (request.len ≡ 8 + 32 * n) × (n ≤ 32)) }
+        ensures len { IfSome result (λ n. (request.len ≡ MEMORY_HEAD_SIZE + MEMORY_REGION_SIZE * n) × (n ≤ MAX_MEM_REGIONS)) }
     {
-        let head = VhostUserMemory::decode(&self.body[..HEAD]);
+        let head = VhostUserMemory::decode(&self.body[..MEMORY_HEAD_SIZE]);
         let count = head.num_regions as usize;
         if request.reply {
             return None;
         }
-        if request.len < HEAD {
+        if request.len < MEMORY_HEAD_SIZE {
             return None;
         }
         if !head.is_valid() {
             return None;
         }
-        if request.len != HEAD + REGION * count {
+        if request.len != MEMORY_HEAD_SIZE + MEMORY_REGION_SIZE * count {
             return None;
         }
         if handles != count {
@@ -179,7 +176,7 @@ impl<L: Link> SessionCore<L> {
         table: &mut [VhostUserMemoryRegion],
         bases: Option<Vec<u64>>,
     ) -> Result<()>
-        requires { length table.old ≤ 32 }
+        requires { length table.old ≤ MAX_MEM_REGIONS }
         ensures sends { (m : Message FrontendReq L.Handle) → Reads self.old.body request m → request.code ≡ SET_MEM_TABLE → IsReady (endpoint_of self.old) → table.old ≡ row.table m
             → let outcome = with_bases (session_in self.old) m (seen_bases (Ok bases)) in Tells L.event (endpoint_of self.old) (reply_cells SET_MEM_TABLE outcome.served) outcome.answer result (endpoint_of self.new) }
         ensures session { (m : Message FrontendReq L.Handle) → session_in self.new ≡ (with_bases (session_in self.old) m (seen_bases (Ok bases))).session }
@@ -199,15 +196,15 @@ impl<L: Link> SessionCore<L> {
 
     /// Replies with a table of regions.
     fn send_regions(&mut self, request: Request, regions: &[VhostUserMemoryRegion]) -> Result<()>
-        requires { length regions.now ≤ 32 }
+        requires { length regions.now ≤ MAX_MEM_REGIONS }
         ensures sends { request.code ≡ SET_MEM_TABLE → IsReady (endpoint_of self.old)
             → Tells L.event (endpoint_of self.old) (reply_cells SET_MEM_TABLE (Replied (Regions regions.now) [])) (Ok tt) result (endpoint_of self.new) }
-        ensures session { self.new.session ≡ self.old.session }
+        ensures session { session_in self.new ≡ session_in self.old }
         ensures fits { All RegionFits regions.now }
     {
-        let mut text = [0; REGION * VHOST_USER_MAX_REGIONS];
+        let mut text = [0; MEMORY_REGION_SIZE * MAX_MEM_REGIONS];
         let payload = &mut text[..];
-        let payload = &mut payload[..REGION * regions.len()];
+        let payload = &mut payload[..MEMORY_REGION_SIZE * regions.len()];
         put_regions(regions, payload);
         let head = VhostUserMemory::new(regions.len() as u32);
         self.send_reply_with(request, &head, payload)
@@ -255,7 +252,7 @@ impl<L: Link> SessionCore<L> {
     fn is_mapped(&self, request: Request) -> bool
         ensures { (m : Message FrontendReq L.Handle) → Reads self.now.body request m → is_mapped (session_in self.now) m ≡ result }
     {
-        self.session.is_listening() && request.len == 8
+        self.session.is_listening() && request.len == VhostUserU64::SIZE
     }
 
     /// The frontend has mapped the regions. The answer stays unwritten.

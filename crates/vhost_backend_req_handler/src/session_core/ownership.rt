@@ -6,7 +6,7 @@ use crate::request::Request;
 use crate::session_core::SessionCore;
 use vhost_device::VhostUserBackendReqHandlerMut;
 use vhost_link::Link;
-use vhost_message::{Result, VhostUserProtocolFeatures};
+use vhost_message::{Result, protocol_bit};
 
 impl<L: Link> SessionCore<L> {
     ghost use Rattle.vhost_backend_req_handler.specs.Core.{MeetsRow};
@@ -45,7 +45,7 @@ impl<L: Link> SessionCore<L> {
     ) -> Result<()>
         ensures { MeetsRow L.event L.opens L.Handle.kinds D.gives RESET_DEVICE self.old device.old request result self.new device.new }
     {
-        self.operation(VhostUserProtocolFeatures::RESET_DEVICE)?;
+        self.operation(protocol_bit::RESET_DEVICE)?;
         self.bare(request, 0)?;
         let answer = device.reset_device();
         self.send_ack(request, answer)

@@ -6,7 +6,7 @@ use crate::request::Request;
 use crate::session_core::SessionCore;
 use vhost_device::VhostUserBackendReqHandlerMut;
 use vhost_link::Link;
-use vhost_message::{PostcopyState, Result, VhostUserEmpty, VhostUserProtocolFeatures};
+use vhost_message::{PostcopyState, Result, VhostUserEmpty, protocol_bit};
 
 impl<L: Link> SessionCore<L> {
     ghost use Rattle.vhost_backend_req_handler.specs.Core.{MeetsRow};
@@ -19,7 +19,7 @@ impl<L: Link> SessionCore<L> {
     ) -> Result<()>
         ensures { MeetsRow L.event L.opens L.Handle.kinds D.gives POSTCOPY_ADVISE self.old device.old request result self.new device.new }
     {
-        self.operation(VhostUserProtocolFeatures::PAGEFAULT)?;
+        self.operation(protocol_bit::PAGEFAULT)?;
         self.allowed(self.session.is_inactive(), "postcopy already advised")?;
         match device.postcopy_advice() {
             Ok(file) => {
@@ -38,7 +38,7 @@ impl<L: Link> SessionCore<L> {
     ) -> Result<()>
         ensures { MeetsRow L.event L.opens L.Handle.kinds D.gives POSTCOPY_LISTEN self.old device.old request result self.new device.new }
     {
-        self.operation(VhostUserProtocolFeatures::PAGEFAULT)?;
+        self.operation(protocol_bit::PAGEFAULT)?;
         self.allowed(self.session.is_advised(), "postcopy not advised")?;
         match device.postcopy_listen() {
             Ok(()) => {
@@ -57,7 +57,7 @@ impl<L: Link> SessionCore<L> {
     ) -> Result<()>
         ensures { MeetsRow L.event L.opens L.Handle.kinds D.gives POSTCOPY_END self.old device.old request result self.new device.new }
     {
-        self.operation(VhostUserProtocolFeatures::PAGEFAULT)?;
+        self.operation(protocol_bit::PAGEFAULT)?;
         self.allowed(self.session.is_listening(), "postcopy not listening")?;
         self.session.postcopy = PostcopyState::End;
         let answer = device.postcopy_end();

@@ -2,20 +2,21 @@
 
 ghost use Rattle.std.specs.Prelude.{◌≡◌, ◌≤◌, ◌+◌, ◌++◌, [], length, map, Ok, is_ok, if◌then◌else◌};
 ghost use Rattle.vhost_message.specs.declared.frontend_req.FrontendReq.{FrontendReq};
+ghost use Rattle.vhost_message.specs.declared.limits.TheConstants.{MAX_ATTACHED_FD_ENTRIES, MAX_MSG_SIZE};
 ghost use Rattle.vhost_protocol.specs.Error.{seen_result};
 ghost use Rattle.vhost_protocol.specs.Served.{Replied};
 ghost use Rattle.vhost_protocol.specs.Split.{Message};
-ghost use Rattle.vhost_protocol.specs.Step.{acked};
+ghost use Rattle.vhost_protocol.specs.Step.{with_ack};
 ghost use Rattle.vhost_protocol.specs.Written.{Payload, payload_text};
 
 use crate::request::Request;
 use crate::session_core::{Header, SessionCore};
 use vhost_connection::break_on_fault;
 use vhost_link::Link;
-use vhost_message::{ByteValued, Result, VhostUserU64};
+use vhost_message::{ByteValued, Result, VhostUserU64, header_bit};
 
 /// The flag of a reply.
-const REPLY: u32 = 4;
+const REPLY: u32 = 1 << header_bit::REPLY;
 
 /// The body of an acknowledgement: 0 for success, else 1.
 fn ack_body(answer: &Result<()>) -> VhostUserU64
@@ -34,14 +35,16 @@ impl<L: Link> SessionCore<L> {
     /// Acknowledges a request that asks for it where acknowledgements are on, and answers the device's result.
     pub(crate) fn send_ack(&mut self, request: Request, answer: Result<()>) -> Result<()>
         ensures sends { (r : FrontendReq) (m : Message FrontendReq L.Handle) → Reads self.old.body request m → request.code ≡ r → IsReady (endpoint_of self.old)
-            → let outcome = acked (session_in self.old) m (seen_result answer) in Tells L.event (endpoint_of self.old) (reply_cells r outcome.served) outcome.answer result (endpoint_of self.new) }
-        ensures session { self.new.session ≡ self.old.session }
+            → let outcome = with_ack (session_in self.old) m (seen_result answer) in Tells L.event (endpoint_of self.old) (reply_cells r outcome.served) outcome.answer result (endpoint_of self.new) }
+        ensures session { session_in self.new ≡ session_in self.old }
     {
         if !self.session.acknowledges(request.need_reply) {
             return answer;
         }
-        self.send_reply(request, &ack_body(&answer), &[])?;
-        answer
+        match self.send_reply(request, &ack_body(&answer), &[]) {
+            Ok(()) => answer,
+            Err(error) => Err(error),
+        }
     }
 
     /// Replies to a request, with the handles on the first byte. A fault here is one between a request and the end of
@@ -52,11 +55,11 @@ impl<L: Link> SessionCore<L> {
         body: &T,
         handles: &[&L::Handle],
     ) -> Result<()>
-        requires size { T.SIZE ≤ 4096 }
-        requires handles { length handles.now ≤ 32 }
+        requires size { T.SIZE ≤ MAX_MSG_SIZE }
+        requires handles { length handles.now ≤ MAX_ATTACHED_FD_ENTRIES }
         ensures sends { (r : FrontendReq) (payload : Payload) → request.code ≡ r → IsReady (endpoint_of self.old) → T.text body.now ≡ payload_text payload → length (payload_text payload) ≡ T.SIZE
             → Tells L.event (endpoint_of self.old) (reply_cells r (Replied payload (map (λ h. h.now) handles.now))) (Ok tt) result (endpoint_of self.new) }
-        ensures session { self.new.session ≡ self.old.session }
+        ensures session { session_in self.new ≡ session_in self.old }
         ensures fits { T.fits body.now }
     {
         let header = Header::new(request.code, REPLY, T::SIZE as u32);
@@ -76,10 +79,10 @@ impl<L: Link> SessionCore<L> {
         body: &T,
         payload: &[u8],
     ) -> Result<()>
-        requires size { T.SIZE + length payload.now ≤ 4096 }
+        requires size { T.SIZE + length payload.now ≤ MAX_MSG_SIZE }
         ensures sends { (r : FrontendReq) (whole : Payload) → request.code ≡ r → IsReady (endpoint_of self.old) → T.text body.now ++ payload.now ≡ payload_text whole → length (payload_text whole) ≡ T.SIZE + length payload.now
             → Tells L.event (endpoint_of self.old) (reply_cells r (Replied whole [])) (Ok tt) result (endpoint_of self.new) }
-        ensures session { self.new.session ≡ self.old.session }
+        ensures session { session_in self.new ≡ session_in self.old }
         ensures fits { T.fits body.now }
     {
         let header = Header::new(request.code, REPLY, (T::SIZE + payload.len()) as u32);

@@ -14,10 +14,10 @@ use crate::request::Request;
 use crate::session_core::SessionCore;
 use vhost_device::VhostUserBackendReqHandlerMut;
 use vhost_link::Link;
-use vhost_message::{Error, Result};
+use vhost_message::{Error, Result, has_bit};
 
 /// The bit of a ring's number that says that it comes without a handle.
-const NO_HANDLE: u64 = 0x100;
+const NO_HANDLE: u32 = 8;
 
 /// Whether a message has exactly one handle.
 fn is_one<H: Drop>(handles: &Option<Vec<H>>) -> bool
@@ -86,9 +86,11 @@ impl<L: Link> SessionCore<L> {
     {
         let number = self.number(request)?;
         let index = (number % 256) as u8;
-        if number & NO_HANDLE == 0 {
-            let handle = self.one_handle(handles, Error::InvalidMessage)?;
-            return Ok((index, Some(handle)));
+        if !has_bit(number, NO_HANDLE) {
+            return match self.one_handle(handles, Error::InvalidMessage) {
+                Ok(handle) => Ok((index, Some(handle))),
+                Err(error) => Err(error),
+            };
         }
         if is_one(&handles) {
             return Err(Error::InvalidMessage);

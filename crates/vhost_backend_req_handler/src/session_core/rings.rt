@@ -8,8 +8,7 @@ use bitflags::Flags;
 use vhost_device::VhostUserBackendReqHandlerMut;
 use vhost_link::Link;
 use vhost_message::{
-    Result, VhostUserVirtioFeatures, VhostUserVringAddr, VhostUserVringAddrFlags,
-    VhostUserVringState,
+    Result, VhostUserVringAddr, VhostUserVringAddrFlags, VhostUserVringState, virtio_bit,
 };
 
 impl<L: Link> SessionCore<L> {
@@ -84,7 +83,7 @@ impl<L: Link> SessionCore<L> {
         ensures { MeetsRow L.event L.opens L.Handle.kinds D.gives SET_VRING_ENABLE self.old device.old request result self.new device.new }
     {
         let ring: VhostUserVringState = self.record(request)?;
-        self.feature(VhostUserVirtioFeatures::PROTOCOL_FEATURES)?;
+        self.feature(virtio_bit::PROTOCOL_FEATURES)?;
         self.switch(ring.num)?;
         let answer = device.set_vring_enable(ring.index, ring.num == 1);
         self.send_ack(request, answer)

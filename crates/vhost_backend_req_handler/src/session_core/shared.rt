@@ -6,7 +6,7 @@ use crate::request::Request;
 use crate::session_core::SessionCore;
 use vhost_device::VhostUserBackendReqHandlerMut;
 use vhost_link::Link;
-use vhost_message::{Result, VhostUserEmpty, VhostUserProtocolFeatures, VhostUserSharedMsg};
+use vhost_message::{Result, VhostUserEmpty, VhostUserSharedMsg, protocol_bit};
 
 impl<L: Link> SessionCore<L> {
     ghost use Rattle.vhost_backend_req_handler.specs.Core.{MeetsRow};
@@ -19,7 +19,7 @@ impl<L: Link> SessionCore<L> {
     ) -> Result<()>
         ensures { MeetsRow L.event L.opens L.Handle.kinds D.gives GET_SHARED_OBJECT self.old device.old request result self.new device.new }
     {
-        self.operation(VhostUserProtocolFeatures::SHARED_OBJECT)?;
+        self.operation(protocol_bit::SHARED_OBJECT)?;
         let name = match self.record::<VhostUserSharedMsg>(request) {
             Ok(name) => name,
             Err(error) => return Err(error),
@@ -38,7 +38,7 @@ impl<L: Link> SessionCore<L> {
     ) -> Result<()>
         ensures { MeetsRow L.event L.opens L.Handle.kinds D.gives GET_SHMEM_CONFIG self.old device.old request result self.new device.new }
     {
-        self.operation(VhostUserProtocolFeatures::SHMEM)?;
+        self.operation(protocol_bit::SHMEM)?;
         let config = device.get_shmem_config()?;
         self.send_reply(request, &config, &[])
     }

@@ -2,8 +2,6 @@
 use Rattle.std.proofs.Common.{refl, ap, Ok, Err}
 use Rattle.vhost_message.specs.declared.frontend_req.FrontendReq.TheVariants.{CHECK_DEVICE_STATE}
 use Rattle.vhost_protocol.specs.Written.{U64}
-use Rattle.vhost_backend_req_handler.specs.Session.{session_of}
-use Rattle.vhost_backend_req_handler.specs.declared.session.Session.{Session}
 use Rattle.vhost_backend_req_handler.proofs.Arms.{called}
 use Rattle.vhost_message.specs.Text.{digits}
 use Rattle.vhost_message.specs.declared.records.plain.VhostUserU64.{VhostUserU64}
@@ -11,10 +9,10 @@ use Rattle.vhost_backend_req_handler.proofs.session_core.SessionCore.check_devic
 
 pub returns-in-Ok : goal.returns-in-Ok
 returns-in-Ok g c m reads is ready =
-    let kept = ap (λ (x : Session). session_of x) c.send_reply.ensures.session in
+    let kept = c.send_reply.ensures.session in
     called (Ok tt) c.in-Ok.ensures tt (c.send_reply.ensures.sends CHECK_DEVICE_STATE (U64 0) is ready (ap (λ (x : VhostUserU64). digits 8 x.value) c.new.ensures) refl) kept kept
 
 pub returns-in-Err : goal.returns-in-Err
 returns-in-Err g c m reads is ready =
-    let kept = ap (λ (x : Session). session_of x) c.send_reply-in-Err.ensures.session in
+    let kept = c.send_reply-in-Err.ensures.session in
     called (Err _) c.in-Err.ensures tt (c.send_reply-in-Err.ensures.sends CHECK_DEVICE_STATE (U64 1) is ready (ap (λ (x : VhostUserU64). digits 8 x.value) c.new-in-Err.ensures) refl) kept kept

@@ -1,24 +1,18 @@
 -- GPU_SET_SOCKET: its row.
-use Rattle.std.proofs.Common.{ap, Ok, Err}
+use Rattle.std.proofs.Common.{ap, Ok, Err, ◌∙◌, sym, subst}
 use Rattle.vhost_message.specs.declared.frontend_req.FrontendReq.TheVariants.{GPU_SET_SOCKET}
-use Rattle.vhost_protocol.specs.Error.{seen, seen_result}
-use Rattle.vhost_backend_req_handler.specs.Core.{session_in}
-use Rattle.vhost_backend_req_handler.specs.Session.{session_of}
-use Rattle.vhost_backend_req_handler.specs.declared.session.Session.{Session}
-use Rattle.vhost_backend_req_handler.proofs.Arms.{called}
-use Rattle.std.proofs.Common.{◌∙◌, ap, sym, subst}
+use Rattle.vhost_protocol.specs.Error.{seen, seen_result, InvalidMessage}
+use Rattle.vhost_backend_req_handler.specs.Core.{session_in, endpoint_of}
+use Rattle.vhost_backend_req_handler.proofs.Arms.{called, opens_display, fails_aloud, refused_aloud, passes}
 use Rattle.std.specs.Prelude.{⊤}
-use Rattle.vhost_protocol.specs.Error.{InvalidMessage}
-use Rattle.vhost_protocol.specs.Step.{acknowledged, acked}
-use Rattle.vhost_backend_req_handler.specs.Core.{endpoint_of}
+use Rattle.vhost_protocol.specs.Step.{acknowledged, with_ack}
 use Rattle.vhost_backend_req_handler.specs.Serving.{IsReady, Reads, Tells, reply_cells}
 use Rattle.vhost_backend_req_handler.specs.declared.session_core.SessionCore.{SessionCore}
-use Rattle.vhost_backend_req_handler.proofs.Arms.{opens_display, fails_aloud, refused_aloud, passes}
 use Rattle.vhost_backend_req_handler.proofs.session_core.SessionCore.gpu_set_socket.Goals as goal
 
 pub returns-in_default : goal.returns-in_default
 returns-in_default g c m reads over is ready =
-    let kept = ap (λ (x : Session). session_of x) c.send_ack.ensures.session in
+    let kept = c.send_ack.ensures.session in
     fails_aloud _ _ (c.in_default.ensures m.handles over (acknowledged (session_in c.args.self.now) m InvalidMessage)) (refused_aloud m InvalidMessage (c.send_ack.ensures.sends GPU_SET_SOCKET m reads is ready) kept kept)
 
 pub returns-in-Ok : goal.returns-in-Ok
@@ -26,8 +20,8 @@ returns-in-Ok g c m reads over is ready =
     let same = c.in-Ok.ensures.same in
     let reads_on = subst (λ (x : SessionCore _ _). Reads x.body c.args.request m) (sym same) reads in
     let ready_on = subst (λ (x : SessionCore _ _). IsReady (endpoint_of x)) (sym same) ready in
-    let tells = subst (λ (x : SessionCore _ _). let o = acked {A = ⊤} (session_in x) m (seen_result c.set_gpu_socket-answer.result) in Tells g.L.Link.event (endpoint_of x) (reply_cells GPU_SET_SOCKET o.served) o.answer c.send_ack-in-Ok.result (endpoint_of c.send_ack-in-Ok.new.self)) same (c.send_ack-in-Ok.ensures.sends GPU_SET_SOCKET m reads_on is ready_on) in
-    let kept = ap (λ (x : Session). session_of x) c.send_ack-in-Ok.ensures.session ∙ ap (λ (x : SessionCore _ _). session_in x) same in
+    let tells = subst (λ (x : SessionCore _ _). let o = with_ack {A = ⊤} (session_in x) m (seen_result c.set_gpu_socket-answer.result) in Tells g.L.Link.event (endpoint_of x) (reply_cells GPU_SET_SOCKET o.served) o.answer c.send_ack-in-Ok.result (endpoint_of c.send_ack-in-Ok.new.self)) same (c.send_ack-in-Ok.ensures.sends GPU_SET_SOCKET m reads_on is ready_on) in
+    let kept = c.send_ack-in-Ok.ensures.session ∙ ap (λ (x : SessionCore _ _). session_in x) same in
     passes _ _ (c.in-Some.ensures m.handles over (acknowledged (session_in c.args.self.now) m InvalidMessage)) (opens_display (Ok c.in-Ok.gpu) c.in-Ok.ensures.opened (called (seen_result c.set_gpu_socket-answer.result) c.set_gpu_socket-answer.ensures tt tells kept kept))
 
 pub returns-in-Err : goal.returns-in-Err
@@ -35,6 +29,6 @@ returns-in-Err g c m reads over is ready =
     let same = c.in-Err.ensures.same in
     let reads_on = subst (λ (x : SessionCore _ _). Reads x.body c.args.request m) (sym same) reads in
     let ready_on = subst (λ (x : SessionCore _ _). IsReady (endpoint_of x)) (sym same) ready in
-    let tells = subst (λ (x : SessionCore _ _). let o = acked {A = ⊤} (session_in x) m (Err (seen c.in-Err.error)) in Tells g.L.Link.event (endpoint_of x) (reply_cells GPU_SET_SOCKET o.served) o.answer c.send_ack-in-Err.result (endpoint_of c.send_ack-in-Err.new.self)) same (c.send_ack-in-Err.ensures.sends GPU_SET_SOCKET m reads_on is ready_on) in
-    let kept = ap (λ (x : Session). session_of x) c.send_ack-in-Err.ensures.session ∙ ap (λ (x : SessionCore _ _). session_in x) same in
+    let tells = subst (λ (x : SessionCore _ _). let o = with_ack {A = ⊤} (session_in x) m (Err (seen c.in-Err.error)) in Tells g.L.Link.event (endpoint_of x) (reply_cells GPU_SET_SOCKET o.served) o.answer c.send_ack-in-Err.result (endpoint_of c.send_ack-in-Err.new.self)) same (c.send_ack-in-Err.ensures.sends GPU_SET_SOCKET m reads_on is ready_on) in
+    let kept = c.send_ack-in-Err.ensures.session ∙ ap (λ (x : SessionCore _ _). session_in x) same in
     passes _ _ (c.in-Some.ensures m.handles over (acknowledged (session_in c.args.self.now) m InvalidMessage)) (opens_display (Err (seen c.in-Err.error)) c.in-Err.ensures.opened (refused_aloud m (seen c.in-Err.error) tells kept kept))

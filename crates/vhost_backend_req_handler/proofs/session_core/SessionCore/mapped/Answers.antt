@@ -1,18 +1,15 @@
 -- The frontend has mapped the regions.
-use Rattle.std.proofs.lemmas.Result.{err_from_is_err_and}
 use Rattle.vhost_protocol.specs.Error.{seen_result}
-use Rattle.vhost_backend_req_handler.proofs.Arms.{fails, fails_plain, passes, passes_plain, answered_plainly, unwritten_is}
+use Rattle.vhost_backend_req_handler.proofs.Arms.{answered_plainly, ends, fails, fails_plain, passes, passes_plain, unwritten_is}
 use Rattle.vhost_backend_req_handler.proofs.session_core.SessionCore.mapped.Goals as goal
 
 pub returns-in_err-number : goal.returns-in_err-number
 returns-in_err-number g c r m reads is ready =
-    let p = err_from_is_err_and c.from_residual.result c.from_residual.ensures.1 in
-    rw (p.1, p.2) (fails _ _ (c.in_err-number.ensures m reads) ready)
+    ends c.from_residual.ensures.1 (fails _ _ (c.in_err-number.ensures m reads) ready)
 
 pub returns-in_err-zero : goal.returns-in_err-zero
 returns-in_err-zero g c r m reads is ready =
-    let p = err_from_is_err_and c.from_residual-in_err-zero.result c.from_residual-in_err-zero.ensures.1 in
-    rw (p.1, p.2) (passes _ _ (c.in_ok-number.ensures m reads) (fails_plain _ _ c.in_err-zero.ensures ready))
+    ends c.from_residual-in_err-zero.ensures.1 (passes _ _ (c.in_ok-number.ensures m reads) (fails_plain _ _ c.in_err-zero.ensures ready))
 
 pub returns : goal.returns
 returns g c r m reads is ready =

@@ -1,14 +1,11 @@
 -- A handle is opened as the channel to a display.
 use Rattle.std.proofs.Common.{Ok, Err, refl}
-use Rattle.std.proofs.lemmas.Result.{err_from_is_err_and}
 use Rattle.vhost_protocol.specs.Error.{seen}
 use Rattle.vhost_backend_req_handler.proofs.Channels.{becomes}
 use Rattle.vhost_backend_req_handler.proofs.session_core.SessionCore.open_gpu.Goals as goal
 
-pub returns-in_err-link-clause-opened : goal.returns-in_err-link-clause-opened
-returns-in_err-link-clause-opened g c =
-    let p = err_from_is_err_and c.from_residual.result c.from_residual.ensures.1 in
-    rw (p.1, p.2) (Err (seen c.in_err-link.field-0.0), c.in_err-link.ensures.opened, refl)
+pub returns-in-Ok-clause-opened : goal.returns-in-Ok-clause-opened
+returns-in-Ok-clause-opened g c = (Ok c.in-Ok.link, c.in-Ok.ensures.opened, becomes c.in-Ok.link c.from_stream.result c.from_stream.ensures.memory)
 
-pub returns-clause-opened : goal.returns-clause-opened
-returns-clause-opened g c = (Ok c.in_ok-link.link, c.in_ok-link.ensures.opened, becomes c.in_ok-link.link c.from_stream.result c.from_stream.ensures.memory)
+pub returns-in-Err-clause-opened : goal.returns-in-Err-clause-opened
+returns-in-Err-clause-opened g c = (Err (seen c.in-Err.error), c.in-Err.ensures.opened, refl)

@@ -1,29 +1,23 @@
 -- POSTCOPY_LISTEN: its row.
-use Rattle.std.proofs.Common.{refl, ap, Ok, Err}
-use Rattle.std.proofs.lemmas.Result.{err_from_is_err_and}
+use Rattle.std.proofs.Common.{Ok, Err}
 use Rattle.vhost_message.specs.declared.frontend_req.FrontendReq.TheVariants.{POSTCOPY_LISTEN}
-use Rattle.vhost_backend_req_handler.specs.Session.{session_of}
-use Rattle.vhost_backend_req_handler.specs.declared.session.Session.{Session}
-use Rattle.vhost_backend_req_handler.proofs.Arms.{called, fails_plain, passes_plain}
-use Rattle.vhost_backend_req_handler.proofs.Arms.{as_tested}
+use Rattle.vhost_backend_req_handler.proofs.Arms.{as_tested, called, ends, fails_plain, passes_plain}
 use Rattle.vhost_backend_req_handler.proofs.session_core.SessionCore.postcopy_listen.Goals as goal
 
 pub returns-in_err-operation : goal.returns-in_err-operation
 returns-in_err-operation g c m reads is ready =
-    let p = err_from_is_err_and c.from_residual.result c.from_residual.ensures.1 in
-    rw (p.1, p.2) (fails_plain _ _ (c.in_err-operation.ensures 8 refl) ready)
+    ends c.from_residual.ensures.1 (fails_plain _ _ c.in_err-operation.ensures ready)
 
 pub returns-in_err-allowed : goal.returns-in_err-allowed
 returns-in_err-allowed g c m reads is ready =
-    let p = err_from_is_err_and c.from_residual-in_err-allowed.result c.from_residual-in_err-allowed.ensures.1 in
-    rw (p.1, p.2) (passes_plain _ (c.in_ok-operation.ensures 8 refl) (fails_plain _ _ (as_tested _ c.is_advised.ensures c.in_err-allowed.ensures) ready))
+    ends c.from_residual-in_err-allowed.ensures.1 (passes_plain _ c.in_ok-operation.ensures (fails_plain _ _ (as_tested _ c.is_advised.ensures c.in_err-allowed.ensures) ready))
 
 pub returns-in-Ok : goal.returns-in-Ok
 returns-in-Ok g c m reads is ready =
-    let kept = ap (λ (x : Session). session_of x) c.send_ack.ensures.session in
-    passes_plain _ (c.in_ok-operation.ensures 8 refl) (passes_plain _ (as_tested _ c.is_advised.ensures c.in_ok-allowed.ensures) (called (Ok tt) c.in-Ok.ensures tt (c.send_ack.ensures.sends POSTCOPY_LISTEN m reads is ready) kept kept))
+    let kept = c.send_ack.ensures.session in
+    passes_plain _ c.in_ok-operation.ensures (passes_plain _ (as_tested _ c.is_advised.ensures c.in_ok-allowed.ensures) (called (Ok tt) c.in-Ok.ensures tt (c.send_ack.ensures.sends POSTCOPY_LISTEN m reads is ready) kept kept))
 
 pub returns-in-Err : goal.returns-in-Err
 returns-in-Err g c m reads is ready =
-    let kept = ap (λ (x : Session). session_of x) c.send_ack-in-Err.ensures.session in
-    passes_plain _ (c.in_ok-operation.ensures 8 refl) (passes_plain _ (as_tested _ c.is_advised.ensures c.in_ok-allowed.ensures) (called (Err _) c.in-Err.ensures tt (c.send_ack-in-Err.ensures.sends POSTCOPY_LISTEN m reads is ready) kept kept))
+    let kept = c.send_ack-in-Err.ensures.session in
+    passes_plain _ c.in_ok-operation.ensures (passes_plain _ (as_tested _ c.is_advised.ensures c.in_ok-allowed.ensures) (called (Err _) c.in-Err.ensures tt (c.send_ack-in-Err.ensures.sends POSTCOPY_LISTEN m reads is ready) kept kept))

@@ -1,24 +1,18 @@
 -- RESET_DEVICE: its row.
-use Rattle.std.proofs.Common.{refl, ap}
-use Rattle.std.proofs.lemmas.Result.{err_from_is_err_and}
 use Rattle.vhost_message.specs.declared.frontend_req.FrontendReq.TheVariants.{RESET_DEVICE}
 use Rattle.vhost_protocol.specs.Error.{seen_result}
-use Rattle.vhost_backend_req_handler.specs.Session.{session_of}
-use Rattle.vhost_backend_req_handler.specs.declared.session.Session.{Session}
-use Rattle.vhost_backend_req_handler.proofs.Arms.{called, fails_plain, passes_plain}
+use Rattle.vhost_backend_req_handler.proofs.Arms.{called, ends, fails_plain, passes_plain}
 use Rattle.vhost_backend_req_handler.proofs.session_core.SessionCore.reset_device.Goals as goal
 
 pub returns-in_err-operation : goal.returns-in_err-operation
 returns-in_err-operation g c m reads is ready =
-    let p = err_from_is_err_and c.from_residual.result c.from_residual.ensures.1 in
-    rw (p.1, p.2) (fails_plain _ _ (c.in_err-operation.ensures 13 refl) ready)
+    ends c.from_residual.ensures.1 (fails_plain _ _ c.in_err-operation.ensures ready)
 
 pub returns-in_err-bare : goal.returns-in_err-bare
 returns-in_err-bare g c m reads is ready =
-    let p = err_from_is_err_and c.from_residual-in_err-bare.result c.from_residual-in_err-bare.ensures.1 in
-    rw (p.1, p.2) (passes_plain _ (c.in_ok-operation.ensures 13 refl) (fails_plain _ _ (c.in_err-bare.ensures m reads) ready))
+    ends c.from_residual-in_err-bare.ensures.1 (passes_plain _ c.in_ok-operation.ensures (fails_plain _ _ (c.in_err-bare.ensures m reads) ready))
 
 pub returns : goal.returns
 returns g c m reads is ready =
-    let kept = ap (λ (x : Session). session_of x) c.send_ack.ensures.session in
-    passes_plain _ (c.in_ok-operation.ensures 13 refl) (passes_plain _ (c.in_ok-bare.ensures m reads) (called (seen_result c.reset_device-answer.result) c.reset_device-answer.ensures tt (c.send_ack.ensures.sends RESET_DEVICE m reads is ready) kept kept))
+    let kept = c.send_ack.ensures.session in
+    passes_plain _ c.in_ok-operation.ensures (passes_plain _ (c.in_ok-bare.ensures m reads) (called (seen_result c.reset_device-answer.result) c.reset_device-answer.ensures tt (c.send_ack.ensures.sends RESET_DEVICE m reads is ready) kept kept))

@@ -1,6 +1,5 @@
 -- An acknowledgement goes out where one is wanted.
 use Rattle.std.proofs.Common.{◌≡◌, true, false, ◌&&◌, refl}
-use Rattle.std.proofs.lemmas.Result.{err_from_is_err_and}
 use Rattle.vhost_protocol.specs.Session.{ack_on}
 use Rattle.vhost_protocol.specs.Written.{U64}
 use Rattle.vhost_backend_req_handler.specs.Core.{endpoint_of, session_in}
@@ -12,16 +11,14 @@ returns-then-not-acknowledges-clause-sends g c r m reads is ready =
     let s = session_in c.args.self.now in
     unacked g.L.Link.event _ r s m c.args.answer ready (ack-tested s c.acknowledges.result false reads c.acknowledges.ensures c.if-not-acknowledges.true)
 
-pub returns-in_err-send_reply-clause-sends : goal.returns-in_err-send_reply-clause-sends
-returns-in_err-send_reply-clause-sends g c r m reads is ready =
+pub returns-in-Ok-clause-sends : goal.returns-in-Ok-clause-sends
+returns-in-Ok-clause-sends g c r m reads is ready =
     let s = session_in c.args.self.now in
     let on : (ack_on s && m.need_reply) ≡ true = ack-tested s c.acknowledges.result true reads c.acknowledges.ensures c.if-not-acknowledges.false in
-    let p = err_from_is_err_and c.from_residual.result c.from_residual.ensures.1 in
-    rw (p.1, p.2) (ack-stopped g.L.Link.event _ (endpoint_of c.send_reply.new.self) r s m c.args.answer _ on
-    (c.in_err-send_reply.ensures.sends r (U64 _) is ready (rw c.ack_body.ensures refl) refl))
+    ack-sent g.L.Link.event _ (endpoint_of c.send_reply.new.self) r s m c.args.answer on (c.in-Ok.ensures.sends r (U64 _) is ready (rw c.ack_body.ensures refl) refl)
 
-pub returns-clause-sends : goal.returns-clause-sends
-returns-clause-sends g c r m reads is ready =
+pub returns-in-Err-clause-sends : goal.returns-in-Err-clause-sends
+returns-in-Err-clause-sends g c r m reads is ready =
     let s = session_in c.args.self.now in
     let on : (ack_on s && m.need_reply) ≡ true = ack-tested s c.acknowledges.result true reads c.acknowledges.ensures c.if-not-acknowledges.false in
-    ack-sent g.L.Link.event _ (endpoint_of c.send_reply.new.self) r s m c.args.answer on (c.in_ok-send_reply.ensures.sends r (U64 _) is ready (rw c.ack_body.ensures refl) refl)
+    ack-stopped g.L.Link.event _ (endpoint_of c.send_reply.new.self) r s m c.args.answer _ on (c.in-Err.ensures.sends r (U64 _) is ready (rw c.ack_body.ensures refl) refl)

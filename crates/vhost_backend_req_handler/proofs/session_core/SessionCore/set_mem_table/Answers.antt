@@ -1,6 +1,5 @@
 -- SET_MEM_TABLE: its row.
 use Rattle.vhost_message.specs.declared.frontend_req.FrontendReq.TheVariants.{SET_MEM_TABLE}
-use Rattle.vhost_backend_req_handler.proofs.Arms.{}
 use Rattle.std.proofs.Common.{◌∙◌}
 use Rattle.vhost_backend_req_handler.proofs.Arms.{by_row, then_as, else_as}
 use Rattle.vhost_backend_req_handler.proofs.session_core.SessionCore.set_mem_table.Goals as goal

@@ -1,6 +1,6 @@
 use Rattle.std.proofs.Common.{◌≡◌, ◌++◌, take, drop}
 use Rattle.vhost_protocol.specs.Row.{rebased}
-use Rattle.vhost_backend_req_handler.proofs.regions.rebase.Given as goal
+use Rattle.vhost_backend_req_handler.proofs.bases.rebase.Given as goal
 
 -- the regions so far have their address, and the others are as they were
 abbrev pub invariant-regions : goal.invariant-regions

@@ -1,6 +1,6 @@
 use Rattle.std.proofs.Common.{◌∙◌, arith}
-use Rattle.vhost_backend_req_handler.proofs.Tables.{rebased-more, rebased-all}
-use Rattle.vhost_backend_req_handler.proofs.regions.rebase.Goals as goal
+use Rattle.vhost_backend_req_handler.proofs.Rebasing.{rebased-more, rebased-all}
+use Rattle.vhost_backend_req_handler.proofs.bases.rebase.Goals as goal
 
 pub regions-preserved : goal.regions-preserved
 regions-preserved c =
