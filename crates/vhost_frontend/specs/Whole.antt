@@ -6,14 +6,13 @@ use Rattle.vhost_link.specs.Law.{Event}
 use Rattle.vhost_frontend_core.specs.declared.asked.Sent.{Sent}
 use Rattle.vhost_frontend_core.specs.declared.internal.FrontendInternal.{FrontendInternal}
 use Rattle.vhost_frontend_core.specs.Halves.{AsksHalf, AsksHalfWithRoom, TakesHalf}
-use Rattle.vhost_frontend_core.specs.Session.{awaited_of}
 
 module _ {L H : Type 0} (event : L → Event H → L → Type 0) (call : FrontendCall H) where
   -- It ended where it asked; or its message went out, and then its answer was taken, which is shown as this value.
   pub data Calls {A : Type 0} (asks : FrontendInternal L H → Result Sent declared.Error → FrontendInternal L H → Type 0) (value : A → Value H) (old : FrontendInternal L H)
       : Result A declared.Error → FrontendInternal L H → Type 0 where
     ended : {e : declared.Error} {new : FrontendInternal L H} → asks old (Err e) new → Calls asks value old (Err e) new
-    answered : {sent : Sent} {middle new : FrontendInternal L H} {result : Result A declared.Error} → asks old (Ok sent) middle → TakesHalf event call value (awaited_of sent.awaited) sent middle result new
+    answered : {sent : Sent} {middle new : FrontendInternal L H} {result : Result A declared.Error} → asks old (Ok sent) middle → TakesHalf event call value sent.awaited sent middle result new
         → Calls asks value old result new
 
   -- a call

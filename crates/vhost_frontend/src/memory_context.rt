@@ -1,13 +1,12 @@
 //! Regions of memory and the handles that map them, side by side.
 
 ghost use Rattle.std.specs.Prelude.{◌≡◌, ◌<◌, ◌≤◌, ◌++◌, ◌∷◌, [], length, map};
+ghost use Rattle.vhost_message.specs.declared.limits.TheConstants.{MAX_MEM_REGIONS};
 
-use vhost_message::VhostUserMemoryRegion;
+use vhost_message::{MAX_MEM_REGIONS, VhostUserMemoryRegion};
 
-/// The most regions, and so the most handles.
-const PLACES: usize = 32;
-
-/// The regions of a memory table and the handles that map them, one for each. It has places for 32 and takes no memory.
+/// The regions of a memory table and the handles that map them, one for each. It has places for as many as a table may have, and
+/// takes no memory.
 ///
 /// Mirrors the upstream type of this name.
 #[derive(Drop)]
@@ -18,11 +17,11 @@ pub struct VhostUserMemoryContext<'a, H> {
 /// The first `count` of each are held.
 #[derive(Drop)]
 struct Held<'a, H> {
-    regions: [VhostUserMemoryRegion; 32],
-    handles: [&'a H; 32],
+    regions: [VhostUserMemoryRegion; MAX_MEM_REGIONS],
+    handles: [&'a H; MAX_MEM_REGIONS],
     count: usize,
-    ghost fits: { count ≤ 32 },
-    ghost whole: { length regions ≡ 32 },
+    ghost fits: { count ≤ MAX_MEM_REGIONS },
+    ghost whole: { length regions ≡ MAX_MEM_REGIONS },
 }
 
 impl<'a, H> VhostUserMemoryContext<'a, H> {
@@ -36,17 +35,17 @@ impl<'a, H> VhostUserMemoryContext<'a, H> {
         VhostUserMemoryContext { held: None }
     }
 
-    /// Adds a region, and the handle that maps it. The caller knows that fewer than 32 are held.
+    /// Adds a region, and the handle that maps it. The caller knows that fewer are held than a table may have.
     pub fn append(&mut self, region: &VhostUserMemoryRegion, handle: &'a H)
-        requires { length (regions_of self.old) < 32 }
+        requires { length (regions_of self.old) < MAX_MEM_REGIONS }
         ensures regions { regions_of self.new ≡ regions_of self.old ++ region.now ∷ [] }
         ensures handles { handles_of self.new ≡ handles_of self.old ++ handle.now ∷ [] }
     {
         match &mut self.held {
             None => {
                 self.held = Some(Held {
-                    regions: [*region; PLACES],
-                    handles: [handle; PLACES],
+                    regions: [*region; MAX_MEM_REGIONS],
+                    handles: [handle; MAX_MEM_REGIONS],
                     count: 1,
                 });
             }

@@ -4,7 +4,7 @@ ghost use Rattle.std.specs.Prelude.{◌≡◌, IfOk, IfErr};
 ghost use Rattle.vhost_message.specs.declared.error.Error.TheVariants.{OutOfMemory};
 ghost use Rattle.vhost_connection.specs.State.{fresh};
 ghost use Rattle.vhost_protocol.specs.FrontendCall.{new_frontend};
-ghost use Rattle.vhost_protocol.specs.Ask.{Nobody};
+ghost use Rattle.vhost_protocol.specs.declared.asked.Awaited.TheVariants.{Nobody};
 ghost use Rattle.vhost_frontend_core.specs.Frontend.{endpoint_of, session_of, awaits};
 
 use std::alloc::Global;

@@ -2,7 +2,9 @@
 use Rattle.std.proofs.Common.{◌≡◌, ℕ, ◌⊎◌, inl, inr, List, Result, Ok, Err, IfOk, refl, sym, subst}
 use Rattle.vhost_message.specs.declared.error.Error as declared
 use Rattle.vhost_message.specs.Header.{Header}
-use Rattle.vhost_protocol.specs.Ask.{Awaited, Reply, TheRegions}
+use Rattle.vhost_protocol.specs.declared.asked.Awaited.{Awaited}
+use Rattle.vhost_protocol.specs.declared.asked.Awaited.TheVariants.{Reply}
+use Rattle.vhost_protocol.specs.declared.asked.Shape.TheVariants as shape
 use Rattle.vhost_protocol.specs.Error.{Error}
 use Rattle.vhost_protocol.specs.FrontendCall.{FrontendCall, SetMemTable, SetHdrFlags, Info, Frontend, Value}
 use Rattle.vhost_link.specs.declared.plain.PlainHandle.{PlainHandle}
@@ -14,7 +16,6 @@ use Rattle.vhost_frontend_core.specs.Halves.{AsksHalfWithRoom}
 use Rattle.vhost_frontend_core.specs.Awaiting.{MayAwait}
 use Rattle.vhost_frontend_core.specs.Kept.{IsKeptFor}
 use Rattle.vhost_frontend_core.specs.declared.asked.Kept.{Kept}
-use Rattle.vhost_frontend_core.specs.Session.{awaited_of}
 use Rattle.vhost_frontend_core.specs.declared.asked.Sent.{Sent}
 use Rattle.vhost_frontend_core.specs.declared.internal.FrontendInternal.{FrontendInternal}
 use Rattle.vhost_message.specs.declared.flags.header.VhostUserHeaderFlag.{VhostUserHeaderFlag}
@@ -40,8 +41,8 @@ module _ {call call' : FrontendCall PlainHandle} (is : call ≡ call') where
   pub asked-by : (old : FrontendInternal Ends PlainHandle) (r : Result Sent declared.Error) (new : FrontendInternal Ends PlainHandle) → AsksHalfWithRoom event call' old r new → AsksHalfWithRoom event call old r new
   asked-by old r new p = subst (λ x. AsksHalfWithRoom event x old r new) (sym is) p
 
-  pub kept-by : (r : Result Sent declared.Error) → IfOk r (λ sent. IsKeptFor call' (awaited_of sent.awaited) sent.kept) → IfOk r (λ sent. IsKeptFor call (awaited_of sent.awaited) sent.kept)
-  kept-by r p = subst (λ x. IfOk r (λ sent. IsKeptFor x (awaited_of sent.awaited) sent.kept)) (sym is) p
+  pub kept-by : (r : Result Sent declared.Error) → IfOk r (λ sent. IsKeptFor call' sent.awaited sent.kept) → IfOk r (λ sent. IsKeptFor call sent.awaited sent.kept)
+  kept-by r p = subst (λ x. IfOk r (λ sent. IsKeptFor x sent.awaited sent.kept)) (sym is) p
 
   pub proper-by : (r : Result Sent declared.Error) → IfOk r (λ sent. IsProper call') → IfOk r (λ sent. IsProper call)
   proper-by r p = subst (λ x. IfOk r (λ sent. IsProper x)) (sym is) p
@@ -77,7 +78,7 @@ took-either (inl p) one other = one p
 took-either (inr q) one other = other q
 
 -- what is kept of a table whose reply is awaited
-pub kept-reply : (infos : List (Info PlainHandle)) (a : Awaited) (k : Kept) → a ≡ Reply TheRegions → IsKeptFor (SetMemTable infos) a k → IsKeptFor (SetMemTable infos) (Reply TheRegions) k
+pub kept-reply : (infos : List (Info PlainHandle)) (a : Awaited) (k : Kept) → a ≡ Reply shape.Memory → IsKeptFor (SetMemTable infos) a k → IsKeptFor (SetMemTable infos) (Reply shape.Memory) k
 kept-reply infos a k is p = subst (λ x. IsKeptFor (SetMemTable infos) x k) is p
 
 -- nothing is taken of a call for which nothing is sent

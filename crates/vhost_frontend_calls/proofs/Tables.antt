@@ -5,6 +5,7 @@ use Rattle.std.specs.List.{list_all}
 use Rattle.std.proofs.lemmas.Bool.{leb-true}
 use Rattle.std.proofs.lemmas.List.{take_more, take_more_set, map-append}
 use Rattle.std.proofs.lemmas.List.Elements.{All-append, All-cons, All-nil, All-head, All-tail}
+use Rattle.vhost_message.specs.declared.limits.TheConstants.{MAX_MEM_REGIONS}
 use Rattle.vhost_message.specs.RecordLaws.{RegionFits}
 use Rattle.vhost_protocol.specs.Ask.{ask, Refuses, is_usable, regions_in}
 use Rattle.vhost_protocol.specs.Error.{InvalidParam}
@@ -12,12 +13,12 @@ use Rattle.vhost_protocol.specs.FrontendCall.{SetMemTable, Frontend, Info}
 use Rattle.vhost_frontend_calls.specs.Calls.{info_of}
 use Rattle.vhost_frontend_calls.specs.declared.call.RegionInfo.{RegionInfo}
 
--- a table has at most 32 regions
-pub too-many : {H : Type 0} (f : Frontend) (infos : List (Info H)) → 32 < length infos → ask f (SetMemTable infos) ≡ Refuses InvalidParam
-too-many f infos many = rw (refused (nat_le 1 (length infos)) (nat_le (length infos) 32) (list_all is_usable infos) (over (nat_le (length infos) 32) refl)) refl
+-- a table has no more regions than it may have
+pub too-many : {H : Type 0} (f : Frontend) (infos : List (Info H)) → MAX_MEM_REGIONS < length infos → ask f (SetMemTable infos) ≡ Refuses InvalidParam
+too-many f infos many = rw (refused (nat_le 1 (length infos)) (nat_le (length infos) MAX_MEM_REGIONS) (list_all is_usable infos) (over (nat_le (length infos) MAX_MEM_REGIONS) refl)) refl
   where
-    over : (b : Bool) → nat_le (length infos) 32 ≡ b → b ≡ false
-    over true e = let h = leb-true (length infos) 32 e in absurd (omega (arith, h, many))
+    over : (b : Bool) → nat_le (length infos) MAX_MEM_REGIONS ≡ b → b ≡ false
+    over true e = let h = leb-true (length infos) MAX_MEM_REGIONS e in absurd (omega (arith, h, many))
     over false e = refl
 
     refused : (a b c : Bool) → b ≡ false → (a && b && c) ≡ false

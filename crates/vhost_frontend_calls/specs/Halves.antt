@@ -4,7 +4,7 @@ use Rattle.vhost_message.specs.declared.error.Error as declared
 use Rattle.vhost_message.specs.Header.{Header}
 use Rattle.vhost_protocol.specs.AnswerTable.{answered}
 use Rattle.vhost_protocol.specs.Agreement.{Fits}
-use Rattle.vhost_protocol.specs.Ask.{Awaited}
+use Rattle.vhost_protocol.specs.declared.asked.Awaited.{Awaited}
 use Rattle.vhost_protocol.specs.Error.{Error}
 use Rattle.vhost_protocol.specs.FrontendCall.{FrontendCall, SetHdrFlags, Value, Frontend}
 use Rattle.vhost_protocol.specs.Heard.{CallFits, IsNamedWell}

@@ -5,7 +5,6 @@ ghost use Rattle.vhost_link.specs.Mem.{event};
 ghost use Rattle.vhost_protocol.specs.FrontendCall as calls;
 ghost use Rattle.vhost_frontend_core.specs.Halves.{AsksHalf, AsksHalfWithRoom};
 ghost use Rattle.vhost_frontend_core.specs.Kept.{IsKeptFor};
-ghost use Rattle.vhost_frontend_core.specs.Session.{awaited_of};
 ghost use Rattle.vhost_frontend_calls.specs.Calls.{call_of, info_of, log_region_of};
 ghost use Rattle.vhost_frontend_calls.specs.Halves.{IsSent, IsProper, AsksCall};
 
@@ -15,7 +14,8 @@ use bitflags::Flags;
 use vhost_frontend_core::{FrontendInternal, Sent};
 use vhost_link::MemLink;
 use vhost_message::{
-    ByteValued, Error, Result, VhostUserHeaderFlag, VhostUserProtocolFeatures, VhostUserSharedMsg,
+    ByteValued, Error, MAX_MEM_REGIONS, Result, VhostUserHeaderFlag, VhostUserProtocolFeatures,
+    VhostUserSharedMsg,
 };
 
 /// Asks by the half of the call's name. None: nothing is sent for the call, and it was done.
@@ -23,7 +23,7 @@ use vhost_message::{
 /// Errors are those of that half.
 pub fn ask(frontend: &mut FrontendInternal<MemLink>, call: &FrontendCall) -> Result<Option<Sent>>
     ensures asked { AsksCall (call_of call.now) frontend.old result frontend.new }
-    ensures kept { IfOk result (λ asked. IfSome asked (λ sent. IsKeptFor (call_of call.now) (awaited_of sent.awaited) sent.kept)) }
+    ensures kept { IfOk result (λ asked. IfSome asked (λ sent. IsKeptFor (call_of call.now) sent.awaited sent.kept)) }
     ensures proper { IfOk result (λ asked. IfSome asked (λ sent. IsProper (call_of call.now))) }
 {
     match call {
@@ -42,7 +42,7 @@ pub fn ask(frontend: &mut FrontendInternal<MemLink>, call: &FrontendCall) -> Res
 fn ask_half(frontend: &mut FrontendInternal<MemLink>, call: &FrontendCall) -> Result<Sent>
     requires { IsSent (call_of call.now) }
     ensures asked { AsksHalfWithRoom event (call_of call.now) frontend.old result frontend.new }
-    ensures kept { IfOk result (λ sent. IsKeptFor (call_of call.now) (awaited_of sent.awaited) sent.kept) }
+    ensures kept { IfOk result (λ sent. IsKeptFor (call_of call.now) sent.awaited sent.kept) }
     ensures proper { IfOk result (λ _. IsProper (call_of call.now)) }
 {
     match call {
@@ -139,13 +139,13 @@ fn ask_log_base(
     frontend.ask_set_log_base(base, Some(region.lent()))
 }
 
-/// The half of SET_MEM_TABLE. A table has at most 32 regions.
+/// The half of SET_MEM_TABLE. More regions than a table may have are refused.
 fn ask_table(frontend: &mut FrontendInternal<MemLink>, regions: &[RegionInfo]) -> Result<Sent>
     ensures asked { AsksHalfWithRoom event (calls.SetMemTable (map info_of regions.now)) frontend.old result frontend.new }
-    ensures kept { IfOk result (λ sent. IsKeptFor (calls.SetMemTable (map info_of regions.now)) (awaited_of sent.awaited) sent.kept) }
+    ensures kept { IfOk result (λ sent. IsKeptFor (calls.SetMemTable (map info_of regions.now)) sent.awaited sent.kept) }
     ensures proper { IfOk result (λ _. IsProper (calls.SetMemTable (map info_of regions.now))) }
 {
-    if regions.len() > 32 {
+    if regions.len() > MAX_MEM_REGIONS {
         return Err(Error::InvalidParam);
     }
     let table = table_of(regions);

@@ -2,11 +2,10 @@
 
 ghost use Rattle.std.specs.Prelude.{◌≡◌};
 ghost use Rattle.vhost_message.specs.MsgHeader.{fields_of};
-ghost use Rattle.vhost_protocol.specs.Ask.{Nobody};
+ghost use Rattle.vhost_protocol.specs.declared.asked.Awaited.TheVariants.{Nobody};
 ghost use Rattle.vhost_frontend_core.specs.Awaiting.{MayAwait};
 ghost use Rattle.vhost_frontend_core.specs.Frontend.{endpoint_of, session_of, awaits};
 ghost use Rattle.vhost_frontend_core.specs.Kept.{IsKeptFor};
-ghost use Rattle.vhost_frontend_core.specs.Session.{awaited_of};
 ghost use Rattle.vhost_frontend_calls.specs.Calls.{call_of, answer_of};
 ghost use Rattle.vhost_frontend_calls.specs.Halves.{IsSent, TakesResult};
 
@@ -26,8 +25,8 @@ pub fn take(
     call: &FrontendCall,
     sent: Sent,
 ) -> FrontendAnswer
-    ensures taken { IsSent (call_of call.now) → MayAwait (call_of call.now) (awaited_of sent.awaited) → IsKeptFor (call_of call.now) (awaited_of sent.awaited) sent.kept
-        → TakesResult (call_of call.now) (awaited_of sent.awaited) (fields_of sent.request) (endpoint_of frontend.old) (session_of frontend.old) (answer_of result) (endpoint_of frontend.new) (session_of frontend.new) }
+    ensures taken { IsSent (call_of call.now) → MayAwait (call_of call.now) sent.awaited → IsKeptFor (call_of call.now) sent.awaited sent.kept
+        → TakesResult (call_of call.now) sent.awaited (fields_of sent.request) (endpoint_of frontend.old) (session_of frontend.old) (answer_of result) (endpoint_of frontend.new) (session_of frontend.new) }
     ensures quiet { IsSent (call_of call.now) → awaits frontend.new ≡ Nobody }
 {
     match call {

@@ -1,13 +1,14 @@
 -- The half that asks, test by test.
 use Rattle.std.proofs.Common.{◌≡◌, ℕ, Bool, true, false, List, Option, Some, None, Result, Ok, Err, refl, sym, ap, subst}
-use Rattle.std.specs.Prelude.{⊤, if◌then◌else◌}
+use Rattle.std.specs.Prelude.{⊤, IsErrAnd, if◌then◌else◌}
 use Rattle.vhost_message.specs.declared.error.Error as declared
 use Rattle.vhost_message.specs.declared.error.Error.TheVariants as code
 use Rattle.vhost_message.specs.declared.frontend_req.FrontendReq.{FrontendReq}
 use Rattle.vhost_message.specs.Bits.{has_bit}
 use Rattle.vhost_protocol.specs.Error.{Error, seen}
 use Rattle.vhost_protocol.specs.FrontendCall.{Frontend}
-use Rattle.vhost_protocol.specs.Ask.{Awaited, Asked, Sends, ◌>>◌, ◌>>=◌, given, quietly}
+use Rattle.vhost_protocol.specs.Ask.{Asked, Sends, ◌>>◌, ◌>>=◌, given, quietly}
+use Rattle.vhost_protocol.specs.declared.asked.Awaited.{Awaited}
 use Rattle.vhost_protocol.specs.Written.{Payload, Written}
 use Rattle.vhost_link.specs.Law.{Event}
 use Rattle.vhost_connection.specs.Talk.{State}
@@ -17,10 +18,11 @@ use Rattle.vhost_frontend_core.specs.declared.asked.Kept.{Kept}
 use Rattle.vhost_frontend_core.specs.declared.asked.Sent.{Sent}
 
 module _ {L H : Type 0} {event : L → Event H → L → Type 0} where
-  -- a test refused
-  pub stops : {t : Result ⊤ Error} (next : Asked H) {old : State L H} {f : Frontend} {before : Awaited} (e : declared.Error) → t ≡ Err (seen e)
-      → Asks event (t >> next) old f before (Err e) old f before
-  stops next e is = asking.refuses (rw is refl)
+  -- a test refused, and `?` answers so
+  pub stops : {t : Result ⊤ Error} (next : Asked H) {old : State L H} {f : Frontend} {before : Awaited} (e : declared.Error) {result : Result Sent declared.Error} → IsErrAnd result (λ x. x ≡ e) → t ≡ Err (seen e)
+      → Asks event (t >> next) old f before result old f before
+  stops next e {result = Err x} same is = asking.refuses (rw (same, is) refl)
+  stops next e {result = Ok sent} none is = absurd none
 
   -- it passed: the rest decides
   pub passes : {t : Result ⊤ Error} {next : Asked H} {old new : State L H} {f f' : Frontend} {before after : Awaited} {result : Result Sent declared.Error} → t ≡ Ok tt

@@ -4,7 +4,11 @@ use Rattle.vhost_message.specs.declared.frontend_req.FrontendReq.{FrontendReq}
 use Rattle.vhost_protocol.specs.Error.{Error}
 use Rattle.vhost_protocol.specs.FrontendCall.{FrontendCall, Frontend, SetLogBase}
 use Rattle.vhost_protocol.specs.Written.{Written}
-use Rattle.vhost_protocol.specs.Ask.{Awaited, Ack, Nobody, Reply, Shape, ALog, Asked, Sends, ask, given, ◌>>◌, ◌>>=◌}
+use Rattle.vhost_protocol.specs.Ask.{Asked, Sends, ask, given, ◌>>◌, ◌>>=◌}
+use Rattle.vhost_protocol.specs.declared.asked.Awaited.{Awaited}
+use Rattle.vhost_protocol.specs.declared.asked.Awaited.TheVariants.{Ack, Nobody, Reply}
+use Rattle.vhost_protocol.specs.declared.asked.Shape.{Shape}
+use Rattle.vhost_protocol.specs.declared.asked.Shape.TheVariants as shape
 use Rattle.vhost_frontend_core.specs.Taking.{IsAck}
 use Rattle.vhost_frontend_core.specs.Awaiting.{MayAwait, AwaitsAllowed}
 
@@ -18,10 +22,10 @@ or-ack b s = inl (is-ack b)
 or-reply : (s : Shape) → IsAck (Reply s) ⊎ (Reply s ≡ Reply s)
 or-reply s = inr refl
 
-or-none : (Nobody ≡ Nobody) ⊎ (Nobody ≡ Reply ALog)
+or-none : (Nobody ≡ Nobody) ⊎ (Nobody ≡ Reply shape.Log)
 or-none = inl refl
 
-or-log : (Reply ALog ≡ Nobody) ⊎ (Reply ALog ≡ Reply ALog)
+or-log : (Reply shape.Log ≡ Nobody) ⊎ (Reply shape.Log ≡ Reply shape.Log)
 or-log = inr refl
 
 module _ (H : Type 0) (call : FrontendCall H) where

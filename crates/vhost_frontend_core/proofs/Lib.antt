@@ -1,9 +1,9 @@
+pub mod Exits
 pub mod Handed
 pub mod Replying
 pub mod Sending
 pub mod Taking
 pub mod Asking
-pub mod Flags
 pub mod Awaiting
 pub mod Tables
 pub mod TakingTable

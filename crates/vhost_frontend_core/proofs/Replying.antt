@@ -11,12 +11,13 @@ use Rattle.vhost_message.specs.declared.header.VhostUserMsgHeader.{VhostUserMsgH
 use Rattle.vhost_message.specs.FrontendReq.{request_of}
 use Rattle.vhost_message.specs.Header.{Header, header_of, is_valid_header, is_reply_for}
 use Rattle.vhost_message.specs.MsgHeader.{fields_of, of_fields}
-use Rattle.vhost_protocol.specs.Stream.{Cell, bytes, first_handles, is_shorter, items}
+use Rattle.vhost_protocol.specs.Stream.{Cell, bytes, first_handles, items}
 use Rattle.vhost_protocol.specs.Error.{Error, PartialMessage, InvalidMessage}
 use Rattle.vhost_protocol.specs.ReplySplit.{Received, reply_split, received}
 use Rattle.vhost_protocol.specs.Split.{Splits}
 use Rattle.vhost_protocol.specs.Take.{is_known}
-use Rattle.vhost_protocol.proofs.SplitLaws.{le-shorter}
+use Rattle.vhost_protocol.proofs.ReplyLaws.{reply-rest}
+use Rattle.vhost_protocol.proofs.SplitLaws.{le-shorter, lt-shorter, one-more}
 use Rattle.vhost_link.specs.Law.{Event}
 use Rattle.vhost_link.proofs.Cells.{length-bytes}
 use Rattle.vhost_connection.specs.Pass.{receives}
@@ -50,11 +51,6 @@ bytes-drop (suc n) (c ∷ cs) = bytes-drop n cs
 first-append : {H : Type 0} (cs rest : List (Cell H)) → 0 < length cs → first_handles (cs ++ rest) ≡ first_handles cs
 first-append [] rest h = absurd (omega arith)
 first-append (c ∷ cs) rest h = refl
-
-pub short-shorter : {A : Type 0} (n : ℕ) (xs : List A) → length xs < n → is_shorter n xs ≡ true
-short-shorter zero xs h = absurd (omega arith)
-short-shorter (suc n) [] h = refl
-short-shorter (suc n) (x ∷ xs) h = short-shorter n xs (omega arith)
 
 -- where a list fills the room, or nothing follows it
 take-fit : {A : Type 0} (n : ℕ) (xs rest : List A) → length xs ≤ n → (length xs ≡ n) ⊎ (rest ≡ []) → take n (xs ++ rest) ≡ xs
@@ -99,9 +95,13 @@ module _ {H : Type 0} (size room : ℕ) (valid : List ℕ → Bool) where
       split true = refl
       split false = refl
 
-  reply-short : (cs : List (Cell H)) → length cs < 12 + size → reply_cut size valid room cs ≡ (Err PartialMessage, [])
+  -- one cell more would have been read, too
+  reads-more : (cs : List (Cell H)) (next : Cell H) → length cs < 12 + size + room → (reply_cut size valid room (cs ++ next ∷ [])).1 ≡ []
+  reads-more cs next short = reply-rest is_known size valid room (cs ++ next ∷ []) (one-more (12 + size + room) cs next short)
+
+  pub reply-short : (cs : List (Cell H)) → length cs < 12 + size → Splits (reply_cut size valid room) cs true (Err PartialMessage)
   unfolding reply_split
-  reply-short cs short = rw (short-shorter (12 + size) cs short) refl
+  reply-short cs short = (rw (lt-shorter (12 + size) cs short) refl, λ next. reads-more cs next (omega (arith, short)))
 
   pub splits : (cs : List (Cell H)) (o : Result (Received H) Error) → 12 + size ≤ length cs → length cs ≤ 12 + size + room → outcome cs ≡ o → Splits (reply_cut size valid room) cs (nat_lt (length cs) (12 + size + room)) o
   splits cs o low high e = go (nat_lt (length cs) (12 + size + room)) refl
@@ -109,8 +109,11 @@ module _ {H : Type 0} (size room : ℕ) (valid : List ℕ → Bool) where
       full : nat_lt (length cs) (12 + size + room) ≡ false → length cs ≡ 12 + size + room
       full e = let f : 12 + size + room ≤ length cs = grind (arith, nat_tests) in omega arith
 
+      short : nat_lt (length cs) (12 + size + room) ≡ true → length cs < 12 + size + room
+      short e = grind (arith, nat_tests)
+
       go : (b : Bool) → nat_lt (length cs) (12 + size + room) ≡ b → Splits (reply_cut size valid room) cs b o
-      go true is = ap (reply_cut size valid room) (sym (append-nil cs)) ∙ reply-whole cs [] low high (inr refl) ∙ ap (λ x. (x, [])) e
+      go true is = (ap (reply_cut size valid room) (sym (append-nil cs)) ∙ reply-whole cs [] low high (inr refl) ∙ ap (λ x. (x, [])) e, λ next. reads-more cs next (short is))
       go false is = λ rest. reply-whole cs rest low high (inl (full is)) ∙ ap (λ x. (x, rest)) e
 
   is-whole : (cs : List (Cell H)) → (is_some (request_of (header_of (take 12 (bytes cs))).code) && is_valid_header (header_of (take 12 (bytes cs)))) ≡ true → valid (take size (drop 12 (bytes cs))) ≡ true → outcome cs ≡ Ok (reply_in cs)

@@ -1,5 +1,5 @@
 -- A reply with configuration bytes comes in, or a bare one.
-use Rattle.std.proofs.Common.{◌≡◌, ℕ, ◌+◌, ◌<◌, ◌≤◌, List, [], ◌++◌, length, take, drop, refl, sym, ap, ◌∙◌, arith, lit≤, Bool, true, false, ◌&&◌, Option, Some, None, Result, Ok, Err, Vec, eqb-true}
+use Rattle.std.proofs.Common.{◌≡◌, ℕ, ◌+◌, ◌<◌, ◌≤◌, List, [], ◌∷◌, ◌++◌, length, take, drop, refl, sym, ap, ◌∙◌, arith, lit≤, Bool, true, false, ◌&&◌, Option, Some, None, Result, Ok, Err, Vec, eqb-true}
 use Rattle.std.specs.Prelude.{not, is_some, nat_lt, ◌==◌}
 use Rattle.std.specs.Global.{Global}
 use Rattle.std.proofs.lemmas.List.{drop_all, drop_at, length-append, length-drop, append-nil}
@@ -19,7 +19,8 @@ use Rattle.vhost_protocol.specs.Error.{Error, PartialMessage, InvalidMessage}
 use Rattle.vhost_protocol.specs.ReplySplit.{Received, is_bare_reply, not_bare, bare_or_reply}
 use Rattle.vhost_protocol.specs.Split.{Splits}
 use Rattle.vhost_protocol.specs.Take.{is_known, answers}
-use Rattle.vhost_protocol.proofs.SplitLaws.{le-shorter}
+use Rattle.vhost_protocol.proofs.ReplyLaws.{bare-rest}
+use Rattle.vhost_protocol.proofs.SplitLaws.{le-shorter, lt-shorter, one-more}
 use Rattle.vhost_link.specs.Law.{Event}
 use Rattle.vhost_link.proofs.Cells.{length-bytes}
 use Rattle.vhost_connection.specs.Pass.{receives}
@@ -34,7 +35,7 @@ use Rattle.vhost_frontend_core.specs.Taking.{reply_cut}
 use Rattle.vhost_frontend_core.specs.TakingConfig.{config_cut, is_reply_of, RecvsConfig}
 use Rattle.vhost_frontend_core.specs.TakingConfig.RecvsConfig.{came, unfit, crowded, bare, none, failed}
 use Rattle.vhost_frontend_core.proofs.Handed.{hands-none, hands-some}
-use Rattle.vhost_frontend_core.proofs.Replying.{known-is, short-shorter, reply_in, outcome, splits, is-invalid, head-is, whole-when}
+use Rattle.vhost_frontend_core.proofs.Replying.{known-is, reply_in, outcome, splits, is-invalid, head-is, whole-when}
 
 abbrev valid : List ℕ → Bool
 valid bs = is_valid_config (config_of bs)
@@ -59,12 +60,12 @@ module _ {H : Type 0} (sent : Header) (room : ℕ) where
   long cs rest le = omega (arith, length-append cs rest)
 
   -- header and record decide whether it is bare, whatever follows
-  config-whole : (cs rest : List (Cell H)) (o : Result (Received H) Error) → 24 ≤ length cs → is_bare request_of sent cs ≡ false → reply_cut 12 valid room (cs ++ rest) ≡ (o, rest) → config_cut sent room (cs ++ rest) ≡ (some_reply o, rest)
+  config-whole : (cs rest left : List (Cell H)) (o : Result (Received H) Error) → 24 ≤ length cs → is_bare request_of sent cs ≡ false → reply_cut 12 valid room (cs ++ rest) ≡ (o, left) → config_cut sent room (cs ++ rest) ≡ (some_reply o, left)
   unfolding bare_or_reply
-  config-whole cs rest o le no_bare is =
+  config-whole cs rest left o le no_bare is =
       let far = le-shorter 24 (cs ++ rest) (long cs rest le) in
       let same : is_bare_reply is_known (answers sent) (cs ++ rest) ≡ false = bare-as (cs ++ rest) ∙ bare-front request_of sent cs rest le ∙ no_bare in
-      rw (far, same, is) (whole-is o rest)
+      rw (far, same, is) (whole-is o left)
 
   config-bare : (cs rest : List (Cell H)) → length cs ≡ 24 → is_bare request_of sent cs ≡ true → config_cut sent room (cs ++ rest) ≡ (Ok None, rest)
   unfolding bare_or_reply
@@ -74,13 +75,19 @@ module _ {H : Type 0} (sent : Header) (room : ℕ) where
       let same : is_bare_reply is_known (answers sent) (cs ++ rest) ≡ true = bare-as (cs ++ rest) ∙ bare-front request_of sent cs rest le ∙ is in
       rw (far, same, drop_at cs rest 24 len) refl
 
-  config-short : (cs : List (Cell H)) → length cs < 24 → config_cut sent room cs ≡ (Err PartialMessage, [])
+  config-short : (cs : List (Cell H)) → length cs < 24 → Splits (config_cut sent room) cs true (Err PartialMessage)
   unfolding bare_or_reply
-  config-short cs short = rw (short-shorter 24 cs short) refl
+  config-short cs short = (
+    rw (lt-shorter 24 cs short) refl,
+    λ next. bare-rest is_known (answers sent) valid room (cs ++ next ∷ []) (let few = one-more 24 cs next short in omega (arith, few)),
+  )
 
   config-splits : (cs : List (Cell H)) (ended : Bool) (o : Result (Received H) Error) → 24 ≤ length cs → is_bare request_of sent cs ≡ false → Splits (reply_cut 12 valid room) cs ended o → Splits (config_cut sent room) cs ended (some_reply o)
-  config-splits cs true o le no_bare s = ap (config_cut sent room) (sym (append-nil cs)) ∙ config-whole cs [] o le no_bare (ap (reply_cut 12 valid room) (append-nil cs) ∙ s)
-  config-splits cs false o le no_bare s = λ rest. config-whole cs rest o le no_bare (s rest)
+  config-splits cs true o le no_bare s = (
+    ap (config_cut sent room) (sym (append-nil cs)) ∙ config-whole cs [] [] o le no_bare (ap (reply_cut 12 valid room) (append-nil cs) ∙ s.0),
+    λ next. let all = cs ++ next ∷ [] in ap (λ x. x.1) (config-whole cs (next ∷ []) (reply_cut 12 valid room all).1 (reply_cut 12 valid room all).0 le no_bare refl) ∙ s.1 next,
+  )
+  config-splits cs false o le no_bare s = λ rest. config-whole cs rest rest o le no_bare (s rest)
 
 module _ {L H : Type 0} (event : L → Event H → L → Type 0) (sent : Header) (old : State L H) (before : List ℕ) where
   config-came : (new : State L H) (after : List ℕ) (cs : List (Cell H)) (o : Result (Received H) Error) → MessageCame event old 24 before after cs new → outcome 12 (length before) valid cs ≡ o → is_bare request_of sent cs ≡ false

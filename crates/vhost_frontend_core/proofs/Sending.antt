@@ -2,12 +2,14 @@
 use Rattle.std.proofs.Common.{◌≡◌, ℕ, zero, suc, ◌+◌, ◌*◌, ◌/◌, ◌%◌, ◌<◌, ◌≤◌, List, ◌++◌, length, take, refl, sym, ap, subst, ◌∙◌, arith, Bool, true, false, Result, Ok, Err, length-take}
 use Rattle.std.specs.Prelude.{◌==◌, IfOk, IfErr, is_err}
 use Rattle.std.proofs.lemmas.List.{length-append}
+use Rattle.vhost_message.specs.declared.limits.TheConstants.{MAX_MSG_SIZE, MAX_MSG_TEXT}
 use Rattle.vhost_message.specs.declared.error.Error as declared
 use Rattle.vhost_message.specs.declared.frontend_req.FrontendReq.{FrontendReq}
 use Rattle.vhost_message.specs.FrontendReq.{request_number}
 use Rattle.vhost_message.specs.Bits.{has_bit}
 use Rattle.vhost_message.specs.Header.{Header, header_text, with_version}
 use Rattle.vhost_message.specs.MsgHeader.{fields_of}
+use Rattle.vhost_protocol.specs.declared.asked.Awaited.{Awaited}
 use Rattle.vhost_protocol.specs.Stream.{carrying}
 use Rattle.vhost_protocol.specs.Written.{Payload, payload_text, Written, header_flags, head_of, written_cells}
 use Rattle.vhost_link.specs.Law.{Event}
@@ -18,10 +20,8 @@ use Rattle.vhost_connection.specs.Calls.{Sends}
 use Rattle.vhost_connection.specs.Hearing.{Fails}
 use Rattle.vhost_connection.specs.Hearing.Fails.{was_broken, no_memory, fault}
 use Rattle.vhost_connection.proofs.Failing.{trouble-fails}
-use Rattle.vhost_frontend_core.specs.Session.{awaited_of}
 use Rattle.vhost_frontend_core.specs.Asking.{request_with, Goes}
 use Rattle.vhost_frontend_core.specs.declared.asked.Sent.{Sent}
-use Rattle.vhost_frontend_core.specs.declared.asked.Awaited as declared_awaited
 
 -- two bits make the flags of a header
 two-bits : (x y : ℕ) → x < 2 → y < 2 → header_flags (x == 1) (y == 1) ≡ 4 * x + 8 * y + 1
@@ -72,9 +72,9 @@ module _ {L H : Type 0} (event : L → Event H → L → Type 0) where
     unfolding w
     cells-are header head = ap (λ (x : Header). carrying handles (header_text x ++ (body ++ payload))) head ∙ ap (λ xs. carrying handles (header_text (head_of request_number w) ++ xs)) (sym text)
 
-    pub whole-goes : (old mid new : State L H) (sent : Sent) (header : Header) (asked : declared_awaited.Awaited) → mid ≡ record old { list = true }
+    pub whole-goes : (old mid new : State L H) (sent : Sent) (header : Header) (asked : Awaited) → mid ≡ record old { list = true }
         → header ≡ record { code = request_number code; flags = with_version flags; size = size + length payload } → fields_of sent.request ≡ header → sent.awaited ≡ asked
-        → Sends event mid (carrying handles (header_text header ++ (body ++ payload))) (Ok tt) new → Goes event (request_with flags code p handles) (awaited_of asked) old sent new
+        → Sends event mid (carrying handles (header_text header ++ (body ++ payload))) (Ok tt) new → Goes event (request_with flags code p handles) asked old sent new
     unfolding w
     whole-goes old mid new sent header asked is fields h a (r, q, list, left) =
         let head = head-is header fields in
@@ -85,13 +85,13 @@ module _ {L H : Type 0} (event : L → Event H → L → Type 0) where
           retries = r;
           serves = record { talks = talks-listed old new s.talks; retries = s.retries; failures = s.failures; before = s.before; after = s.after; faulted = s.faulted };
           header = h ∙ head;
-          awaits = ap awaited_of a;
+          awaits = a;
           list = list ∙ ap (λ (x : State L H). x.list) is;
         }
 
-  pub front-fails : (handles : List H) (header : Header) (text : List ℕ) (old mid new : State L H) (e : declared.Error) → length text ≤ 4096 → mid ≡ record old { list = true }
+  pub front-fails : (handles : List H) (header : Header) (text : List ℕ) (old mid new : State L H) (e : declared.Error) → length text ≤ MAX_MSG_SIZE → mid ≡ record old { list = true }
       → Sends event mid (carrying handles (header_text header ++ text)) (Err e) new → Fails event old false e new
   front-fails handles header text old mid new e most is (n, r, t, short) =
       let sent = carrying handles (header_text header ++ text) in
-      let few : length (take n sent) ≤ 4108 = omega (arith, length-take n sent, length-carrying handles (header_text header ++ text), length-append (header_text header) text, most) in
+      let few : length (take n sent) ≤ MAX_MSG_TEXT = omega (arith, length-take n sent, length-carrying handles (header_text header ++ text), length-append (header_text header) text, most) in
       fails-listed old false e new (subst (λ (x : State L H). Fails event x false e new) is (trouble-fails event mid false false (sends (take n sent) r) e new t refl few))

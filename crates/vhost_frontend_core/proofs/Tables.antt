@@ -2,13 +2,13 @@
 use Rattle.std.proofs.Common.{◌≡◌, ◌≤◌, ◌<◌, ℕ, zero, suc, ◌+◌, ◌*◌, List, [], ◌∷◌, ◌++◌, length, take, drop, set, slice_index, slice_index_or, flat_map, map, Bor, Bool, true, false, Option, Some, None, append-nil, refl, ap, sym, ◌∙◌, arith}
 use Rattle.std.specs.Prelude.{◌&&◌, is_some, unwrap_or}
 use Rattle.std.specs.List.{list_all, filter_map}
-use Rattle.std.proofs.lemmas.Grind.{flat_map-append}
 use Rattle.std.proofs.lemmas.List.{drop-drop, get_or-take, length-take, map-append, take_more, take_more_set}
 use Rattle.std.proofs.lemmas.List.Elements.{filter_map-append}
 use Rattle.std.proofs.lemmas.List.Folds.{list_all-map, list_all_at}
-use Rattle.vhost_message.specs.Text.{number_at}
-use Rattle.vhost_message.specs.Records.{region_at, region_text, regions_of}
+use Rattle.vhost_message.specs.declared.limits.TheConstants.{MEMORY_REGION_SIZE}
+use Rattle.vhost_message.specs.Records.{region_at, regions_of}
 use Rattle.vhost_message.specs.declared.records.memory.VhostUserMemoryRegion.{VhostUserMemoryRegion}
+use Rattle.vhost_message.proofs.Regions.{regions_of-more, length-regions_of}
 use Rattle.vhost_protocol.specs.AnswerTable.{are_same_ranges, is_same_range, bases_in}
 use Rattle.vhost_protocol.specs.Ask.{is_usable, regions_in, handles_in}
 use Rattle.vhost_protocol.specs.FrontendCall.{Info}
@@ -63,49 +63,6 @@ handle-taken {H} rs i r other h within all is taken =
     let usable : is_usable (info_in r) ≡ true = ap (λ (x : VhostUserMemoryRegionInfo H). is_usable (info_in x)) is ∙ usable-at rs i r within all in
     ap (λ (x : VhostUserMemoryRegionInfo H). lent x.mmap_handle) (sym is) ∙ lent-or r.mmap_handle other (and-right _ _ usable) ∙ ap (λ (x : Bor H). Some x.now) (sym taken)
 
--- ---- writing
-
--- one region more is written
-pub text-more : (i : ℕ) (rs : List VhostUserMemoryRegion) (d : VhostUserMemoryRegion) → i < length rs
-    → flat_map region_text (take (i + 1) rs) ≡ flat_map region_text (take i rs) ++ region_text (slice_index_or rs i d)
-text-more i rs d fits =
-    ap (flat_map region_text) (take_more rs i d fits) ∙ flat_map-append region_text (take i rs) (slice_index_or rs i d ∷ [])
-    ∙ ap (λ bs. flat_map region_text (take i rs) ++ bs) (append-nil (region_text (slice_index_or rs i d)))
-
--- ---- reading
-
--- a number within the first n bytes
-number_within : (n i k : ℕ) (bs : List ℕ) → i + k ≤ n → number_at i k (take n bs) ≡ number_at i k bs
-number_within n i zero bs fits = refl
-number_within n i (suc k) bs fits =
-    let byte : slice_index (take n bs) i ≡ slice_index bs i = get_or-take n bs i 0 (omega arith) in
-    let rest = number_within n (suc i) k bs (omega arith) in
-    λ j. byte j + 256 * rest j
-
--- a region is within its 32 bytes
-pub region_within_text : (n : ℕ) (bs : List ℕ) → n ≡ 32 → region_at 0 (take n bs) ≡ region_at 0 bs
-region_within_text n bs e =
-    let start = number_within n 0 8 bs (omega arith) in
-    let size = number_within n 8 8 bs (omega arith) in
-    let user = number_within n 16 8 bs (omega arith) in
-    let offset = number_within n 24 8 bs (omega arith) in
-    λ i. record { guest_phys_addr = start i; memory_size = size i; user_addr = user i; mmap_offset = offset i }
-
--- one region more is read
-pub regions_of-more : (i : ℕ) (bs : List ℕ) → regions_of (i + 1) bs ≡ regions_of i bs ++ region_at 0 (drop (32 * i) bs) ∷ []
-regions_of-more zero bs = refl
-regions_of-more (suc i) bs =
-    let place : 32 * suc i ≡ 32 + 32 * i = omega arith in
-    let next : drop (32 * i) (drop 32 bs) ≡ drop (32 * suc i) bs = drop-drop (32 * i) 32 bs ∙ ap (λ j. drop j bs) (sym place) in
-    let rest : regions_of (i + 1) (drop 32 bs) ≡ regions_of i (drop 32 bs) ++ region_at 0 (drop (32 * suc i) bs) ∷ [] =
-    regions_of-more i (drop 32 bs) ∙ ap (λ xs. regions_of i (drop 32 bs) ++ region_at 0 xs ∷ []) next in
-    let after : suc i + 1 ≡ suc (i + 1) = omega arith in
-    rw after (ap (λ rs. region_at 0 bs ∷ rs) rest)
-
-pub length-regions_of : (n : ℕ) (bs : List ℕ) → length (regions_of n bs) ≡ n
-length-regions_of zero bs = refl
-length-regions_of (suc n) bs = ap suc (length-regions_of n (drop 32 bs))
-
 -- ---- comparing
 
 -- one region more is compared
@@ -123,7 +80,7 @@ same-more (a ∷ xs) (b ∷ ys) x y e = ap (λ c. is_same_range a b && c) (same-
     join true = refl
     join false = refl
 
-module _ (i : ℕ) (asked : List VhostUserMemoryRegion) (text : List ℕ) (r : VhostUserMemoryRegion) (within : i < length asked) (is : r ≡ region_at 0 (drop (32 * i) text)) where
+module _ (i : ℕ) (asked : List VhostUserMemoryRegion) (text : List ℕ) (r : VhostUserMemoryRegion) (within : i < length asked) (is : r ≡ region_at (MEMORY_REGION_SIZE * i) text) where
   read-more : regions_of (i + 1) text ≡ regions_of i text ++ r ∷ []
   read-more = regions_of-more i text ∙ ap (λ (x : VhostUserMemoryRegion). regions_of i text ++ x ∷ []) (sym is)
 

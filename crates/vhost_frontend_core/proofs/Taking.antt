@@ -11,7 +11,9 @@ use Rattle.vhost_protocol.specs.Stream.{Cell, has_some}
 use Rattle.vhost_protocol.specs.Error.{Error, InvalidParam, InvalidMessage, seen}
 use Rattle.vhost_protocol.specs.Split.{Splits}
 use Rattle.vhost_protocol.specs.FrontendCall.{FrontendCall, Frontend, Value}
-use Rattle.vhost_protocol.specs.Ask.{Shape, Awaited, Nobody, Ack, Reply}
+use Rattle.vhost_protocol.specs.declared.asked.Shape.{Shape}
+use Rattle.vhost_protocol.specs.declared.asked.Awaited.{Awaited}
+use Rattle.vhost_protocol.specs.declared.asked.Awaited.TheVariants.{Nobody, Ack, Reply}
 use Rattle.vhost_protocol.specs.AnswerTable.{Answered, answered, answer, after_success, plain_value, with_one}
 use Rattle.vhost_protocol.specs.Served.{Acknowledged, Replied}
 use Rattle.vhost_protocol.specs.ReplySplit.{Received}
@@ -61,7 +63,7 @@ module _ {L H : Type 0} {event : L → Event H → L → Type 0} where
   hears-by {cut = cut} {of} read_as o by h = record { cells = h.cells; ended = h.ended; retries = h.retries; serves = h.serves; splits = go h.ended h.splits }
     where
       go : (ended : Bool) → Splits cut h.cells ended o → Splits of h.cells ended (read_as o)
-      go true e = by h.cells ∙ ap (λ x. (read_as x.0, x.1)) e
+      go true e = (by h.cells ∙ ap (λ x. (read_as x.0, x.1)) e.0, λ next. ap (λ x. x.1) (by (h.cells ++ next ∷ [])) ∙ e.1 next)
       go false e = λ rest. by (h.cells ++ rest) ∙ ap (λ x. (read_as x.0, x.1)) (e rest)
 
   -- ---- acknowledgements
@@ -128,10 +130,10 @@ module _ {L H : Type 0} {event : L → Event H → L → Type 0} where
     replied r plain x sized e = reads-reply (Ok r) plain x.hears (rw (x.answers, sized) e)
 
     -- there is none
-    pub missing : {new : State L H} {A : Type 0} {value : A → Value H} {e : declared.Error} → has_bit sent.flags 2 ≡ false → Missing event size valid room old sent e new → Takes event call value (Reply shape) sent old f (Err e) new f
-    missing plain (unfit r x bad) = taken (reads-reply (Ok r) plain x (rw bad refl))
-    missing {e = e} plain (none x) = taken (reads-reply (Err (seen e)) plain x refl)
-    missing plain (failed x) = stopped x
+    pub reads-missing : {new : State L H} {A : Type 0} {value : A → Value H} {e : declared.Error} → has_bit sent.flags 2 ≡ false → Missing event size valid room old sent e new → Takes event call value (Reply shape) sent old f (Err e) new f
+    reads-missing plain (unfit r x bad) = taken (reads-reply (Ok r) plain x (rw bad refl))
+    reads-missing {e = e} plain (none x) = taken (reads-reply (Err (seen e)) plain x refl)
+    reads-missing plain (failed x) = stopped x
 
     -- a request that was sent as a reply has none
     pub none-for-reply : {A : Type 0} {value : A → Value H} → has_bit sent.flags 2 ≡ true → Takes event call value (Reply shape) sent old f (Err code.InvalidParam) old f
@@ -148,7 +150,7 @@ module _ {T L H : Type 0} {event : L → Event H → L → Type 0} (call : Front
     where
       go : {e : declared.Error} {new : State L H} → Awaits event size decode valid old sent (Err e) new → Takes event call value (Reply shape) sent old f (Err e) new f
       go (is_reply flag) = none-for-reply call shape size 0 (λ bs. valid (decode bs)) by flag
-      go (is_request plain m) = missing call shape size 0 (λ bs. valid (decode bs)) by plain m
+      go (is_request plain m) = reads-missing call shape size 0 (λ bs. valid (decode bs)) by plain m
 
   -- the answer from a reply, with whatever handles
   pub any-replied : {new : State L H} {f' : Frontend} {A : Type 0} {value : A → Value H} {result : Result A declared.Error} {t : T} {hs : Option (Vec H Global)} → Awaits event size decode valid old sent (Ok (t, hs)) new

@@ -9,7 +9,9 @@ use Rattle.vhost_message.specs.Bits.{has_bit}
 use Rattle.vhost_message.specs.Header.{Header}
 use Rattle.vhost_message.specs.Records.{config_of}
 use Rattle.vhost_protocol.specs.AnswerTable.{Answered, answered, only_if, config_reply}
-use Rattle.vhost_protocol.specs.Ask.{Reply, AConfig, config}
+use Rattle.vhost_protocol.specs.Ask.{config}
+use Rattle.vhost_protocol.specs.declared.asked.Awaited.TheVariants.{Reply}
+use Rattle.vhost_protocol.specs.declared.asked.Shape.TheVariants as shape
 use Rattle.vhost_protocol.specs.Error.{Error, InvalidMessage, seen}
 use Rattle.vhost_protocol.specs.FrontendCall.{Frontend, GetConfig, ConfigOf, Value}
 use Rattle.vhost_protocol.specs.ReplySplit.{Received}
@@ -53,44 +55,44 @@ module _ {H : Type 0} (offset size flags : ℕ) (sent : Header) (f : Frontend) (
 
 module _ {L H : Type 0} {event : L → Event H → L → Type 0} (offset size flags : ℕ) {sent : Header} {f : Frontend} {old : State L H} where
   -- a request that was sent as a reply has none
-  pub config-for-reply : (buffer : List ℕ) → has_bit sent.flags 2 ≡ true → Takes event (GetConfig offset size flags buffer) shown (Reply AConfig) sent old f (Err code.InvalidParam) old f
+  pub config-for-reply : (buffer : List ℕ) → has_bit sent.flags 2 ≡ true → Takes event (GetConfig offset size flags buffer) shown (Reply shape.Config) sent old f (Err code.InvalidParam) old f
   config-for-reply buffer reply = taken (unread (λ cells. rw reply refl))
 
   -- into an empty buffer nothing is read
-  pub config-for-none : (buffer : List ℕ) → has_bit sent.flags 2 ≡ false → length buffer ≡ 0 → Takes event (GetConfig offset size flags buffer) shown (Reply AConfig) sent old f (Err code.InvalidParam) old f
+  pub config-for-none : (buffer : List ℕ) → has_bit sent.flags 2 ≡ false → length buffer ≡ 0 → Takes event (GetConfig offset size flags buffer) shown (Reply shape.Config) sent old f (Err code.InvalidParam) old f
   config-for-none [] plain e = taken (unread (λ cells. rw plain refl))
   config-for-none (b ∷ buffer) plain e = absurd cc
 
   module _ (b : ℕ) (bs : List ℕ) (plain : has_bit sent.flags 2 ≡ false) {new : State L H} {f' : Frontend} (same_session : f' ≡ f) where
     hears-reply : (o : Result (Option (Received H)) Error) {x : Answered H} → Hears event (config_cut sent (length (b ∷ bs))) old o new → understood_config (GetConfig offset size flags (b ∷ bs)) sent f o ≡ Some x
-        → Reads event (GetConfig offset size flags (b ∷ bs)) (Reply AConfig) sent f old (Some x) new
+        → Reads event (GetConfig offset size flags (b ∷ bs)) (Reply shape.Config) sent f old (Some x) new
     hears-reply o h e =
-        read (subst (λ y. Hears event (take (GetConfig offset size flags (b ∷ bs)) (Reply AConfig) sent f) old y new) e
+        read (subst (λ y. Hears event (take (GetConfig offset size flags (b ∷ bs)) (Reply shape.Config) sent f) old y new) e
         (hears-by (λ r. understood_config (GetConfig offset size flags (b ∷ bs)) sent f r) o (λ cells. rw plain refl) h))
 
     -- the part came
     taken-part : (part : VhostUserConfig) (v : Vec ℕ Global) (after : List ℕ) → RecvsConfig event (length (b ∷ bs)) old sent (Ok part) after new → v.items ≡ after → is_asked (config offset size flags) (length (b ∷ bs)) part ≡ true
-        → Takes event (GetConfig offset size flags (b ∷ bs)) shown (Reply AConfig) sent old f (Ok (part, v)) new f'
+        → Takes event (GetConfig offset size flags (b ∷ bs)) shown (Reply shape.Config) sent old f (Ok (part, v)) new f'
     taken-part part v after (came r h is alone is_part whole) full same =
         taken (hears-reply (Ok (Some r)) h (told offset size flags sent f b bs r true is alone (ap (λ (p : VhostUserConfig). is_asked (config offset size flags) (length (b ∷ bs)) p) (sym is_part) ∙ same)
         ∙ (λ j. Some (answered (sym same_session j) (Ok (ConfigOf (sym is_part j) (sym (full ∙ whole) j)))))))
 
     -- another part came
     refused-part : (part : VhostUserConfig) (after : List ℕ) → RecvsConfig event (length (b ∷ bs)) old sent (Ok part) after new → is_asked (config offset size flags) (length (b ∷ bs)) part ≡ false
-        → Takes event (GetConfig offset size flags (b ∷ bs)) shown (Reply AConfig) sent old f (Err code.InvalidMessage) new f'
+        → Takes event (GetConfig offset size flags (b ∷ bs)) shown (Reply shape.Config) sent old f (Err code.InvalidMessage) new f'
     refused-part part after (came r h is alone is_part whole) same =
         taken (hears-reply (Ok (Some r)) h (told offset size flags sent f b bs r false is alone (ap (λ (p : VhostUserConfig). is_asked (config offset size flags) (length (b ∷ bs)) p) (sym is_part) ∙ same)
         ∙ ap (λ (g : Frontend). Some (answered g (Err InvalidMessage))) (sym same_session)))
 
     -- none came
-    missing-part : (e : declared.Error) (after : List ℕ) → RecvsConfig event (length (b ∷ bs)) old sent (Err e) after new → Takes event (GetConfig offset size flags (b ∷ bs)) shown (Reply AConfig) sent old f (Err e) new f'
-    missing-part e after x = subst (λ (g : Frontend). Takes event (GetConfig offset size flags (b ∷ bs)) shown (Reply AConfig) sent old f (Err e) new g) (sym same_session) (go e x)
+    missing-part : (e : declared.Error) (after : List ℕ) → RecvsConfig event (length (b ∷ bs)) old sent (Err e) after new → Takes event (GetConfig offset size flags (b ∷ bs)) shown (Reply shape.Config) sent old f (Err e) new f'
+    missing-part e after x = subst (λ (g : Frontend). Takes event (GetConfig offset size flags (b ∷ bs)) shown (Reply shape.Config) sent old f (Err e) new g) (sym same_session) (go e x)
       where
         many : (r : Received H) (hs : List H) → has_some hs ≡ true → ◌≡◌ {A = Option (Answered H)} (Some (answered f (config_reply (config offset size flags) (b ∷ bs) hs (config_of r.body) r.payload))) (Some (answered f (Err InvalidMessage)))
         many r [] e = absurd cc
         many r (h ∷ hs) e = refl
 
-        go : (e : declared.Error) → RecvsConfig event (length (b ∷ bs)) old sent (Err e) after new → Takes event (GetConfig offset size flags (b ∷ bs)) shown (Reply AConfig) sent old f (Err e) new f
+        go : (e : declared.Error) → RecvsConfig event (length (b ∷ bs)) old sent (Err e) after new → Takes event (GetConfig offset size flags (b ∷ bs)) shown (Reply shape.Config) sent old f (Err e) new f
         go e (unfit r h is) = taken (hears-reply (Ok (Some r)) h (rw is refl))
         go e (crowded r h is some) = taken (hears-reply (Ok (Some r)) h (rw is (many r r.handles some)))
         go e (bare h) = taken (hears-reply (Ok None) h refl)
@@ -99,25 +101,25 @@ module _ {L H : Type 0} {event : L → Event H → L → Type 0} (offset size fl
 
   module _ (buffer : List ℕ) (plain : has_bit sent.flags 2 ≡ false) {new : State L H} {f' : Frontend} (same_session : f' ≡ f) (asked : VhostUserConfig) (count : ℕ) (after : List ℕ) (is_config : asked ≡ config offset size flags) where
     pub config-taken : (part : VhostUserConfig) (v : Vec ℕ Global) → count ≡ length buffer → (count ≡ 0 → ⊥) → RecvsConfig event count old sent (Ok part) after new → v.items ≡ after → is_asked asked count part ≡ true
-        → Takes event (GetConfig offset size flags buffer) shown (Reply AConfig) sent old f (Ok (part, v)) new f'
+        → Takes event (GetConfig offset size flags buffer) shown (Reply shape.Config) sent old f (Ok (part, v)) new f'
     config-taken part v e some x full same = go buffer e
       where
-        go : (bs : List ℕ) → count ≡ length bs → Takes event (GetConfig offset size flags bs) shown (Reply AConfig) sent old f (Ok (part, v)) new f'
+        go : (bs : List ℕ) → count ≡ length bs → Takes event (GetConfig offset size flags bs) shown (Reply shape.Config) sent old f (Ok (part, v)) new f'
         go [] e = absurd (some e)
         go (b ∷ bs) e = taken-part b bs plain same_session part v after (subst (λ n. RecvsConfig event n old sent (Ok part) after new) e x) full ((λ j. is_asked (sym is_config j) (sym e j) part) ∙ same)
 
     pub config-refused : (part : VhostUserConfig) → count ≡ length buffer → (count ≡ 0 → ⊥) → RecvsConfig event count old sent (Ok part) after new → is_asked asked count part ≡ false
-        → Takes event (GetConfig offset size flags buffer) shown (Reply AConfig) sent old f (Err code.InvalidMessage) new f'
+        → Takes event (GetConfig offset size flags buffer) shown (Reply shape.Config) sent old f (Err code.InvalidMessage) new f'
     config-refused part e some x same = go buffer e
       where
-        go : (bs : List ℕ) → count ≡ length bs → Takes event (GetConfig offset size flags bs) shown (Reply AConfig) sent old f (Err code.InvalidMessage) new f'
+        go : (bs : List ℕ) → count ≡ length bs → Takes event (GetConfig offset size flags bs) shown (Reply shape.Config) sent old f (Err code.InvalidMessage) new f'
         go [] e = absurd (some e)
         go (b ∷ bs) e = refused-part b bs plain same_session part after (subst (λ n. RecvsConfig event n old sent (Ok part) after new) e x) ((λ j. is_asked (sym is_config j) (sym e j) part) ∙ same)
 
     pub config-missing : (error : declared.Error) → count ≡ length buffer → (count ≡ 0 → ⊥) → RecvsConfig event count old sent (Err error) after new
-        → Takes event (GetConfig offset size flags buffer) shown (Reply AConfig) sent old f (Err error) new f'
+        → Takes event (GetConfig offset size flags buffer) shown (Reply shape.Config) sent old f (Err error) new f'
     config-missing error e some x = go buffer e
       where
-        go : (bs : List ℕ) → count ≡ length bs → Takes event (GetConfig offset size flags bs) shown (Reply AConfig) sent old f (Err error) new f'
+        go : (bs : List ℕ) → count ≡ length bs → Takes event (GetConfig offset size flags bs) shown (Reply shape.Config) sent old f (Err error) new f'
         go [] e = absurd (some e)
         go (b ∷ bs) e = missing-part b bs plain same_session error after (subst (λ n. RecvsConfig event n old sent (Err error) after new) e x)

@@ -10,12 +10,14 @@ use Rattle.vhost_protocol.specs.Error.{Error, seen}
 use Rattle.vhost_protocol.specs.Written.{Payload, Written, written_cells, head_of}
 use Rattle.vhost_protocol.specs.FrontendCall.{Frontend}
 use Rattle.vhost_protocol.specs.Ask as ask
-use Rattle.vhost_protocol.specs.Ask.{Awaited, Reply, Shape, Asked, Sends}
+use Rattle.vhost_protocol.specs.Ask.{Asked, Sends}
+use Rattle.vhost_protocol.specs.declared.asked.Awaited.{Awaited}
+use Rattle.vhost_protocol.specs.declared.asked.Awaited.TheVariants.{Reply}
+use Rattle.vhost_protocol.specs.declared.asked.Shape.{Shape}
 use Rattle.vhost_link.specs.Law.{Event}
 use Rattle.vhost_connection.specs.Pass.{sends}
 use Rattle.vhost_connection.specs.Talk.{State, Serves}
 use Rattle.vhost_connection.specs.Hearing.{Fails}
-use Rattle.vhost_frontend_core.specs.Session.{awaited_of}
 use Rattle.vhost_frontend_core.specs.declared.asked.Sent.{Sent}
 
 -- what a test of the code answered, as a test of the definitions
@@ -33,7 +35,7 @@ module _ {L H : Type 0} (event : L → Event H → L → Type 0) where
     pub retries : ℕ
     pub serves : Serves event old old.budget (sends (written_cells request_number w) retries) new
     pub header : fields_of sent.request ≡ head_of request_number w
-    pub awaits : awaited_of sent.awaited ≡ asked
+    pub awaits : sent.awaited ≡ asked
     pub list : new.list ≡ true
 
   -- The same, or the link failed; then what was awaited before still is.

@@ -1,26 +1,29 @@
 -- What a call may await once its request went out.
 use Rattle.std.specs.Prelude.{◌≡◌, ◌⊎◌, ⊤}
 use Rattle.vhost_protocol.specs.FrontendCall.{FrontendCall, GetFeatures, GetProtocolFeatures, GetQueueNum, SetMemTable, SetLogBase, GetVringBase, GetConfig, GetSharedObject, GetInflightFd, GetMaxMemSlots, AddMemRegion, GetShmemConfig, SetDeviceStateFd, CheckDeviceState, PostcopyAdvise, PostcopyAckMemRegions}
-use Rattle.vhost_protocol.specs.Ask.{Awaited, Nobody, Reply, AnEmpty, AU64, TheRegions, ARegion, AShmem, ARingState, AConfig, AnInflight, ALog, Asked, Sends}
+use Rattle.vhost_protocol.specs.Ask.{Asked, Sends}
+use Rattle.vhost_protocol.specs.declared.asked.Awaited.{Awaited}
+use Rattle.vhost_protocol.specs.declared.asked.Awaited.TheVariants.{Nobody, Reply}
+use Rattle.vhost_protocol.specs.declared.asked.Shape.TheVariants as shape
 use Rattle.vhost_frontend_core.specs.Taking.{IsAck}
 
 -- the reply of its shape; or, for all other calls, an acknowledgement or nothing
 abbrev pub MayAwait : {H : Type 0} → FrontendCall H → Awaited → Type 0
-MayAwait GetFeatures a = a ≡ Reply AU64
-MayAwait GetProtocolFeatures a = a ≡ Reply AU64
-MayAwait GetQueueNum a = a ≡ Reply AU64
-MayAwait (SetMemTable infos) a = IsAck a ⊎ (a ≡ Reply TheRegions)
-MayAwait (SetLogBase base region) a = (a ≡ Nobody) ⊎ (a ≡ Reply ALog)
-MayAwait (GetVringBase i) a = a ≡ Reply ARingState
-MayAwait (GetConfig offset size flags buffer) a = a ≡ Reply AConfig
-MayAwait (GetSharedObject name) a = a ≡ Reply AnEmpty
-MayAwait (GetInflightFd area) a = a ≡ Reply AnInflight
-MayAwait GetMaxMemSlots a = a ≡ Reply AU64
-MayAwait (AddMemRegion info) a = IsAck a ⊎ (a ≡ Reply ARegion)
-MayAwait GetShmemConfig a = a ≡ Reply AShmem
-MayAwait (SetDeviceStateFd t h) a = a ≡ Reply AU64
-MayAwait CheckDeviceState a = a ≡ Reply AU64
-MayAwait PostcopyAdvise a = a ≡ Reply AnEmpty
+MayAwait GetFeatures a = a ≡ Reply shape.U64
+MayAwait GetProtocolFeatures a = a ≡ Reply shape.U64
+MayAwait GetQueueNum a = a ≡ Reply shape.U64
+MayAwait (SetMemTable infos) a = IsAck a ⊎ (a ≡ Reply shape.Memory)
+MayAwait (SetLogBase base region) a = (a ≡ Nobody) ⊎ (a ≡ Reply shape.Log)
+MayAwait (GetVringBase i) a = a ≡ Reply shape.VringState
+MayAwait (GetConfig offset size flags buffer) a = a ≡ Reply shape.Config
+MayAwait (GetSharedObject name) a = a ≡ Reply shape.Empty
+MayAwait (GetInflightFd area) a = a ≡ Reply shape.Inflight
+MayAwait GetMaxMemSlots a = a ≡ Reply shape.U64
+MayAwait (AddMemRegion info) a = IsAck a ⊎ (a ≡ Reply shape.SingleMemoryRegion)
+MayAwait GetShmemConfig a = a ≡ Reply shape.ShMemConfig
+MayAwait (SetDeviceStateFd t h) a = a ≡ Reply shape.U64
+MayAwait CheckDeviceState a = a ≡ Reply shape.U64
+MayAwait PostcopyAdvise a = a ≡ Reply shape.Empty
 MayAwait (PostcopyAckMemRegions r) a = a ≡ Nobody
 MayAwait _ a = IsAck a
 

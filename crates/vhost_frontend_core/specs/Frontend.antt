@@ -2,11 +2,11 @@
 use Rattle.vhost_message.specs.declared.frontend_req.FrontendReq.{FrontendReq}
 use Rattle.vhost_message.specs.declared.header.VhostUserMsgHeader.{VhostUserMsgHeader}
 use Rattle.vhost_protocol.specs.FrontendCall.{Frontend}
-use Rattle.vhost_protocol.specs.Ask.{Awaited}
+use Rattle.vhost_protocol.specs.declared.asked.Awaited.{Awaited}
 use Rattle.vhost_connection.specs.declared.endpoint.Endpoint.{Endpoint}
 use Rattle.vhost_connection.specs.Talk.{State}
 use Rattle.vhost_connection.specs.State.{state}
-use Rattle.vhost_frontend_core.specs.Session.{frontend_of, awaited_of}
+use Rattle.vhost_frontend_core.specs.Session.{frontend_of}
 use Rattle.vhost_frontend_core.specs.declared.internal.FrontendInternal.{FrontendInternal}
 
 -- its endpoint
@@ -19,7 +19,7 @@ session_of f = frontend_of f.session
 
 -- what it awaits
 abbrev pub awaits : {L H : Type 0} → FrontendInternal L H → Awaited
-awaits f = awaited_of f.awaited
+awaits f = f.awaited
 
 -- the same frontend over another endpoint
 abbrev pub with_endpoint : {L H : Type 0} → FrontendInternal L H → Endpoint (VhostUserMsgHeader FrontendReq) L H → FrontendInternal L H

@@ -3,14 +3,14 @@ use Rattle.std.specs.Prelude.{Result, ⊤}
 use Rattle.vhost_message.specs.declared.error.Error as declared
 use Rattle.vhost_message.specs.MsgHeader.{fields_of}
 use Rattle.vhost_protocol.specs.FrontendCall.{FrontendCall, Value, Nothing}
-use Rattle.vhost_protocol.specs.Ask.{Awaited, ask}
+use Rattle.vhost_protocol.specs.Ask.{ask}
+use Rattle.vhost_protocol.specs.declared.asked.Awaited.{Awaited}
 use Rattle.vhost_link.specs.Law.{Event}
 use Rattle.vhost_frontend_core.specs.declared.asked.Sent.{Sent}
 use Rattle.vhost_frontend_core.specs.declared.internal.FrontendInternal.{FrontendInternal}
 use Rattle.vhost_frontend_core.specs.Asking.{Asks, AsksWithRoom}
 use Rattle.vhost_frontend_core.specs.Taking.{Takes, IsAck}
 use Rattle.vhost_frontend_core.specs.Frontend.{endpoint_of, session_of, awaits}
-use Rattle.vhost_frontend_core.specs.Session.{awaited_of}
 
 module _ {L H : Type 0} (event : L → Event H → L → Type 0) (call : FrontendCall H) where
   -- the half of a call that asks
@@ -27,4 +27,4 @@ module _ {L H : Type 0} (event : L → Event H → L → Type 0) (call : Fronten
 
   -- the same of a call that is only acknowledged
   abbrev pub TakesAck : Sent → FrontendInternal L H → Result ⊤ declared.Error → FrontendInternal L H → Type 0
-  TakesAck sent old result new = IsAck (awaited_of sent.awaited) → TakesHalf (λ _. Nothing) (awaited_of sent.awaited) sent old result new
+  TakesAck sent old result new = IsAck sent.awaited → TakesHalf (λ _. Nothing) sent.awaited sent old result new

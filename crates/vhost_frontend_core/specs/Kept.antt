@@ -3,7 +3,9 @@ use Rattle.std.specs.Prelude.{◌≡◌, ℕ, List, length, take, ⊤}
 use Rattle.vhost_message.specs.declared.records.config.VhostUserConfig.{VhostUserConfig}
 use Rattle.vhost_message.specs.declared.records.memory.VhostUserMemoryRegion.{VhostUserMemoryRegion}
 use Rattle.vhost_protocol.specs.FrontendCall.{FrontendCall, SetMemTable, GetConfig, AddMemRegion}
-use Rattle.vhost_protocol.specs.Ask.{Awaited, Reply, regions_in, config}
+use Rattle.vhost_protocol.specs.Ask.{regions_in, config}
+use Rattle.vhost_protocol.specs.declared.asked.Awaited.{Awaited}
+use Rattle.vhost_protocol.specs.declared.asked.Awaited.TheVariants.{Reply}
 use Rattle.vhost_frontend_core.specs.declared.asked.Kept as code
 use Rattle.vhost_frontend_core.specs.declared.asked.Kept.TheVariants as kept
 

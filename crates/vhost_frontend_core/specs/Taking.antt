@@ -3,6 +3,7 @@ use Rattle.std.specs.Prelude.{◌≡◌, ℕ, ◌+◌, ◌*◌, List, [], ◌∷
 use Rattle.std.specs.Global.{Global}
 use Rattle.vhost_message.specs.declared.error.Error as declared
 use Rattle.vhost_message.specs.declared.error.Error.TheVariants as code
+use Rattle.vhost_message.specs.declared.limits.TheConstants.{MEMORY_HEAD_SIZE, MEMORY_REGION_SIZE}
 use Rattle.vhost_message.specs.Bits.{has_bit}
 use Rattle.vhost_message.specs.Header.{Header}
 use Rattle.vhost_message.specs.Records.{u64_at, memory_of}
@@ -10,7 +11,8 @@ use Rattle.vhost_message.specs.Valid.{is_valid_memory}
 use Rattle.vhost_protocol.specs.Stream.{Cell, has_some}
 use Rattle.vhost_protocol.specs.Error.{Error, seen}
 use Rattle.vhost_protocol.specs.FrontendCall.{FrontendCall, Frontend, Value}
-use Rattle.vhost_protocol.specs.Ask.{Awaited, Nobody, Ack}
+use Rattle.vhost_protocol.specs.declared.asked.Awaited.{Awaited}
+use Rattle.vhost_protocol.specs.declared.asked.Awaited.TheVariants.{Nobody, Ack}
 use Rattle.vhost_protocol.specs.AnswerTable.{Answered, answered, with_one}
 use Rattle.vhost_protocol.specs.ReplySplit.{Received, reply_split}
 use Rattle.vhost_protocol.specs.Take.{is_known, answers, take}
@@ -30,7 +32,7 @@ valued value (Err e) = Err (seen e)
 
 -- a reply of a table has so many regions, as its header, its head and its bytes say
 abbrev pub is_table : {H : Type 0} → (count : ℕ) → Received H → Bool
-is_table count r = r.header.size == 8 + 32 * count && (memory_of r.body).num_regions == count && length r.payload == 32 * count
+is_table count r = r.header.size == MEMORY_HEAD_SIZE + MEMORY_REGION_SIZE * count && (memory_of r.body).num_regions == count && length r.payload == MEMORY_REGION_SIZE * count
 
 module _ {L H : Type 0} (event : L → Event H → L → Type 0) where
   -- The reply for a request came.
@@ -91,13 +93,13 @@ module _ {L H : Type 0} (event : L → Event H → L → Type 0) where
 
   -- A reply with a table of so many regions and without a handle is received: their bytes lie in the room.
   pub data RecvsTable (count : ℕ) (old : State L H) (sent : Header) : Result ⊤ declared.Error → List ℕ → State L H → Type 0 where
-    table : (reply : Received H) {after : List ℕ} {new : State L H} → Comes 8 (λ bs. is_valid_memory (memory_of bs)) (32 * count) old sent reply new → is_table count reply ≡ true → reply.handles ≡ [] → after ≡ reply.payload
+    table : (reply : Received H) {after : List ℕ} {new : State L H} → Comes MEMORY_HEAD_SIZE (λ bs. is_valid_memory (memory_of bs)) (MEMORY_REGION_SIZE * count) old sent reply new → is_table count reply ≡ true → reply.handles ≡ [] → after ≡ reply.payload
         → RecvsTable count old sent (Ok tt) after new
-    no_table : (reply : Received H) {after : List ℕ} {new : State L H} → Comes 8 (λ bs. is_valid_memory (memory_of bs)) (32 * count) old sent reply new → is_table count reply ≡ false
+    no_table : (reply : Received H) {after : List ℕ} {new : State L H} → Comes MEMORY_HEAD_SIZE (λ bs. is_valid_memory (memory_of bs)) (MEMORY_REGION_SIZE * count) old sent reply new → is_table count reply ≡ false
         → RecvsTable count old sent (Err code.InvalidMessage) after new
-    crowded_table : (reply : Received H) {after : List ℕ} {new : State L H} → Comes 8 (λ bs. is_valid_memory (memory_of bs)) (32 * count) old sent reply new → is_table count reply ≡ true → has_some reply.handles ≡ true
+    crowded_table : (reply : Received H) {after : List ℕ} {new : State L H} → Comes MEMORY_HEAD_SIZE (λ bs. is_valid_memory (memory_of bs)) (MEMORY_REGION_SIZE * count) old sent reply new → is_table count reply ≡ true → has_some reply.handles ≡ true
         → RecvsTable count old sent (Err code.InvalidMessage) after new
-    missing : {e : declared.Error} {after : List ℕ} {new : State L H} → Missing 8 (λ bs. is_valid_memory (memory_of bs)) (32 * count) old sent e new → RecvsTable count old sent (Err e) after new
+    missing : {e : declared.Error} {after : List ℕ} {new : State L H} → Missing MEMORY_HEAD_SIZE (λ bs. is_valid_memory (memory_of bs)) (MEMORY_REGION_SIZE * count) old sent e new → RecvsTable count old sent (Err e) after new
 
 -- an acknowledgement, or nothing, is awaited
 abbrev pub IsAck : Awaited → Type 0

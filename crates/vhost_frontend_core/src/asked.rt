@@ -1,51 +1,21 @@
-//! What a frontend awaits of a request that it sent.
+//! What a frontend keeps of a request that it sent.
 
 ghost use Rattle.std.specs.Prelude.{◌≡◌, ◌≤◌, [], vec_capacity};
+ghost use Rattle.vhost_message.specs.declared.limits.TheConstants.{MAX_MEM_REGIONS};
 
-use vhost_message::{FrontendReq, VhostUserConfig, VhostUserMemoryRegion, VhostUserMsgHeader};
-
-/// What a reply holds.
-#[derive(Clone, Copy, Debug, PartialEq, Eq)]
-pub enum Shape {
-    /// Nothing.
-    Empty,
-    /// One number.
-    U64,
-    /// A memory table.
-    Memory,
-    /// One region of memory.
-    SingleMemoryRegion,
-    /// The regions of shared memory.
-    ShMemConfig,
-    /// A ring's number.
-    VringState,
-    /// A part of the configuration space.
-    Config,
-    /// The buffer for descriptors in flight.
-    Inflight,
-    /// The area of the dirty log.
-    Log,
-}
-
-/// What is awaited.
-#[derive(Clone, Copy, Debug, PartialEq, Eq)]
-pub enum Awaited {
-    /// Nothing.
-    Nobody,
-    /// An acknowledgement.
-    Ack,
-    /// A reply of this shape.
-    Reply(Shape),
-}
+use vhost_message::{
+    FrontendReq, MAX_MEM_REGIONS, VhostUserConfig, VhostUserMemoryRegion, VhostUserMsgHeader,
+};
+use vhost_protocol::Awaited;
 
 /// A memory table that was sent, and an empty list with room for where its regions are mapped.
 #[derive(Drop)]
 pub struct KeptTable {
     /// The first `count` are its regions.
-    pub(crate) regions: [VhostUserMemoryRegion; 32],
+    pub(crate) regions: [VhostUserMemoryRegion; MAX_MEM_REGIONS],
     pub(crate) count: usize,
     pub(crate) bases: Vec<u64>,
-    ghost few: { count ≤ 32 },
+    ghost few: { count ≤ MAX_MEM_REGIONS },
     ghost empty: { bases.items ≡ [] },
     ghost room: { count ≤ vec_capacity bases },
 }

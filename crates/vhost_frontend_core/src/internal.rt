@@ -3,15 +3,15 @@
 ghost use Rattle.std.specs.Prelude.{◌≡◌, IfOk, IfErr};
 ghost use Rattle.vhost_message.specs.declared.error.Error.TheVariants.{OutOfMemory};
 ghost use Rattle.vhost_protocol.specs.FrontendCall.{new_frontend};
-ghost use Rattle.vhost_protocol.specs.Ask.{Nobody};
+ghost use Rattle.vhost_protocol.specs.declared.asked.Awaited.TheVariants.{Nobody};
 
-use crate::asked::Awaited;
 use crate::session::FrontendSession;
 use bitflags::Flags;
 use std::alloc::Global;
 use vhost_connection::Endpoint;
 use vhost_link::Link;
 use vhost_message::{FrontendReq, Result, VhostUserHeaderFlag, VhostUserMsgHeader};
+use vhost_protocol::Awaited;
 
 mod config;
 mod config_bytes;

@@ -2,10 +2,10 @@
 #![tactic(auto)]
 
 mod asked;
-mod bits;
 mod internal;
 mod regions;
 mod session;
 
-pub use asked::{Awaited, Sent, Shape};
+pub use asked::Sent;
 pub use internal::FrontendInternal;
+pub use vhost_protocol::{Awaited, Shape};

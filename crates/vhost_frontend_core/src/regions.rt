@@ -1,8 +1,9 @@
 //! The regions of a memory table: which may be sent, their bytes and handles, and where a reply says that they are mapped.
 
-ghost use Rattle.std.specs.Prelude.{◌≡◌, ◌≤◌, ◌*◌, ◌&&◌, ◌==◌, true, IfOk, IfSome, flat_map, is_some, length, map, nat_le, take};
+ghost use Rattle.std.specs.Prelude.{◌≡◌, ◌≤◌, ◌*◌, ◌&&◌, ◌==◌, true, IfOk, IfSome, is_some, length, map, nat_le, take};
 ghost use Rattle.std.specs.List.{list_all};
-ghost use Rattle.vhost_message.specs.Records.{region_text, regions_of};
+ghost use Rattle.vhost_message.specs.declared.limits.TheConstants.{MAX_MEM_REGIONS, MEMORY_REGION_SIZE};
+ghost use Rattle.vhost_message.specs.Records.{regions_of};
 ghost use Rattle.vhost_protocol.specs.Ask as ask;
 ghost use Rattle.vhost_protocol.specs.AnswerTable.{are_same_ranges, is_same_range, bases_in};
 ghost use Rattle.vhost_frontend_core.specs.Asking.{tested};
@@ -10,13 +11,7 @@ ghost use Rattle.vhost_frontend_core.specs.Regions.{info_in, infos_in};
 
 use crate::asked::KeptTable;
 use vhost_backend::VhostUserMemoryRegionInfo;
-use vhost_message::{ByteValued, Error, Result, VhostUserMemoryRegion};
-
-/// How many regions a table has at most.
-pub const MAX_REGIONS: usize = 32;
-
-/// How many bytes a region has.
-pub const REGION: usize = 32;
+use vhost_message::{Error, MAX_MEM_REGIONS, Result, VhostUserMemoryRegion, read_region};
 
 /// Whether both regions are the same range of guest memory.
 pub fn is_same(region: &VhostUserMemoryRegion, other: &VhostUserMemoryRegion) -> bool
@@ -46,13 +41,13 @@ fn are_usable<H>(regions: &[VhostUserMemoryRegionInfo<H>]) -> bool
 
 /// The handle of the first region of a table, where the table may be sent.
 ///
-/// InvalidParam: there is no region, there are more than 32, or one has the size 0 or no handle.
+/// InvalidParam: there is no region, there are more than a table may have, or one has the size 0 or no handle.
 pub fn first_handle<'a, H>(regions: &[VhostUserMemoryRegionInfo<'a, H>]) -> Result<&'a H>
-    ensures test { ask.param (nat_le 1 (length (infos_in regions.now)) && nat_le (length (infos_in regions.now)) 32 && list_all ask.is_usable (infos_in regions.now)) ≡ tested result }
-    ensures few { IfOk result (λ _. length regions.now ≤ 32) }
+    ensures test { ask.param (nat_le 1 (length (infos_in regions.now)) && nat_le (length (infos_in regions.now)) MAX_MEM_REGIONS && list_all ask.is_usable (infos_in regions.now)) ≡ tested result }
+    ensures few { IfOk result (λ _. length regions.now ≤ MAX_MEM_REGIONS) }
     ensures usable { IfOk result (λ _. list_all ask.is_usable (infos_in regions.now) ≡ true) }
 {
-    if regions.is_empty() || regions.len() > MAX_REGIONS || !are_usable(regions) {
+    if regions.is_empty() || regions.len() > MAX_MEM_REGIONS || !are_usable(regions) {
         return Err(Error::InvalidParam);
     }
     let region = regions[0];
@@ -62,16 +57,16 @@ pub fn first_handle<'a, H>(regions: &[VhostUserMemoryRegionInfo<'a, H>]) -> Resu
     Ok(handle)
 }
 
-/// The handles of regions that all have one, at the front of 32 places; in the other places is this one.
+/// The handles of regions that all have one, at the front of a table's places; in the other places is this one.
 pub fn handles_of<'a, H>(
     regions: &[VhostUserMemoryRegionInfo<'a, H>],
     other: &'a H,
-) -> [&'a H; MAX_REGIONS]
-    requires few { length regions.now ≤ 32 }
+) -> [&'a H; MAX_MEM_REGIONS]
+    requires few { length regions.now ≤ MAX_MEM_REGIONS }
     requires usable { list_all ask.is_usable (infos_in regions.now) ≡ true }
     ensures { map (λ h. h.now) (take (length regions.now) result) ≡ ask.handles_in (infos_in regions.now) }
 {
-    let mut handles = [other; MAX_REGIONS];
+    let mut handles = [other; MAX_MEM_REGIONS];
     'regions: for i in 0..regions.len() {
         let region = regions[i];
         handles[i] = region.mmap_handle.unwrap_or(other);
@@ -79,31 +74,23 @@ pub fn handles_of<'a, H>(
     handles
 }
 
-/// The regions of a table, at the front of 32 places.
-pub fn table_of<H>(regions: &[VhostUserMemoryRegionInfo<H>]) -> [VhostUserMemoryRegion; MAX_REGIONS]
-    requires { length regions.now ≤ 32 }
+/// The regions of a table, at the front of a table's places.
+pub fn table_of<H>(
+    regions: &[VhostUserMemoryRegionInfo<H>],
+) -> [VhostUserMemoryRegion; MAX_MEM_REGIONS]
+    requires { length regions.now ≤ MAX_MEM_REGIONS }
     ensures { take (length regions.now) result ≡ ask.regions_in (infos_in regions.now) }
 {
-    let mut table = [VhostUserMemoryRegion::default(); MAX_REGIONS];
+    let mut table = [VhostUserMemoryRegion::default(); MAX_MEM_REGIONS];
     'regions: for i in 0..regions.len() {
         table[i] = regions[i].to_region();
     }
     table
 }
 
-/// Writes the regions, 32 bytes each.
-pub fn put_regions(regions: &[VhostUserMemoryRegion], out: &mut [u8])
-    requires { length out.old ≡ 32 * length regions.now }
-    ensures { out.new ≡ flat_map region_text regions.now }
-{
-    'regions: for i in 0..regions.len() {
-        regions[i].encode_into(&mut out[32 * i..32 * i + 32]);
-    }
-}
-
 /// Where a table's regions are mapped, as the text of a reply's regions says. None: they are other regions.
 pub fn bases_of(table: KeptTable, text: &[u8]) -> Option<Vec<u64>>
-    requires { length text.now ≡ 32 * table.count }
+    requires { length text.now ≡ MEMORY_REGION_SIZE * table.count }
     ensures same { is_some result ≡ are_same_ranges (take table.count table.regions) (regions_of table.count text.now) }
     ensures bases { IfSome result (λ bases. bases.items ≡ bases_in (regions_of table.count text.now)) }
 {
@@ -114,7 +101,7 @@ pub fn bases_of(table: KeptTable, text: &[u8]) -> Option<Vec<u64>>
     } = table;
     let mut same = true;
     'regions: for i in 0..count {
-        let region = VhostUserMemoryRegion::decode(&text[32 * i..32 * i + 32]);
+        let region = read_region(text, i);
         same &= is_same(&regions[i], &region);
         bases.push_reserved(region.user_addr);
     }

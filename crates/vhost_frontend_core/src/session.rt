@@ -1,20 +1,20 @@
 //! What a frontend remembers of its backend, and the tests of its calls.
 
-ghost use Rattle.std.specs.Prelude.{◌≡◌, ◌^◌, ℕ, IfOk, false};
+ghost use Rattle.std.specs.Prelude.{◌≡◌, ◌<◌, IfOk, false};
 ghost use Rattle.vhost_message.specs.Bits.{has_bit as is_set};
+ghost use Rattle.vhost_message.specs.declared.header_bit.TheConstants.{NEED_REPLY, REPLY};
 ghost use Rattle.vhost_protocol.specs.Ask as ask;
 ghost use Rattle.vhost_protocol.specs.FrontendCall.{new_frontend};
 ghost use Rattle.vhost_protocol.specs.Session.{is_listen};
-ghost use Rattle.vhost_frontend_core.specs.Session.{frontend_of, awaited_of};
+ghost use Rattle.vhost_frontend_core.specs.Session.{frontend_of};
 ghost use Rattle.vhost_frontend_core.specs.Asking.{tested};
 
-use crate::asked::Awaited;
-use crate::bits::has_bit;
 use bitflags::Flags;
 use vhost_message::{
     Error, PostcopyState, Result, VhostUserMsgValidator, VhostUserProtocolFeatures,
-    VhostUserVirtioFeatures,
+    VhostUserVirtioFeatures, has_bit, header_bit, protocol_bit, virtio_bit,
 };
+use vhost_protocol::Awaited;
 
 /// The features offered and acknowledged, the number of queues, the flags of each request, and how far postcopy has come.
 #[derive(Clone, Copy, Debug)]
@@ -45,13 +45,15 @@ impl FrontendSession {
     /// What a request awaits that is only acknowledged: an acknowledgement, where both sides agreed on them and the
     /// header asks for one.
     pub fn acknowledgement(&self) -> Awaited
-        ensures { awaited_of result ≡ ask.ack (frontend_of self.now) }
+        ensures { result ≡ ask.awaited_ack (frontend_of self.now) }
     {
         let (acked_protocol_features, header_flags) = (
             self.acked_protocol_features,
             self.header_flags,
         );
-        if has_bit(acked_protocol_features, 3) && has_bit(header_flags.into(), 3) {
+        if has_bit(acked_protocol_features, protocol_bit::REPLY_ACK)
+            && has_bit(header_flags.into(), header_bit::NEED_REPLY)
+        {
             Awaited::Ack
         } else {
             Awaited::Nobody
@@ -60,11 +62,15 @@ impl FrontendSession {
 
     /// The flags of a request that asks for no acknowledgement.
     pub fn quiet_flags(&self) -> u32
-        ensures reply { is_set result 2 ≡ is_set (frontend_of self.now).header_flags 2 }
-        ensures need_reply { is_set result 3 ≡ false }
+        ensures reply { is_set result REPLY ≡ is_set (frontend_of self.now).header_flags REPLY }
+        ensures need_reply { is_set result NEED_REPLY ≡ false }
     {
         let flags = self.header_flags;
-        if has_bit(flags.into(), 2) { 4 } else { 0 }
+        if has_bit(flags.into(), header_bit::REPLY) {
+            1 << header_bit::REPLY
+        } else {
+            0
+        }
     }
 
     /// Whether the backend listens for page faults.
@@ -74,11 +80,14 @@ impl FrontendSession {
         matches!(self.postcopy, PostcopyState::Listen)
     }
 
-    /// InactiveOperation: the protocol feature is not acknowledged.
-    pub fn operation(&self, feature: VhostUserProtocolFeatures) -> Result<()>
-        ensures { (bit : ℕ) → feature.bits ≡ 2 ^ bit → ask.operation (frontend_of self.now) bit ≡ tested result }
+    /// InactiveOperation: the protocol feature of this bit is not acknowledged.
+    pub fn needs(&self, bit: u32) -> Result<()>
+        requires { bit < 64 }
+        ensures { ask.frontend_feature (frontend_of self.now) bit ≡ tested result }
     {
-        if self.acked_protocol_features & feature.bits() == 0 {
+        let acked_protocol_features = self.acked_protocol_features;
+        if !has_bit(acked_protocol_features, bit) {
+            let feature = VhostUserProtocolFeatures::from_bits_retain(1 << bit);
             return Err(Error::InactiveOperation(feature));
         }
         Ok(())
@@ -112,9 +121,8 @@ impl FrontendSession {
 pub fn protocol_in(features: u64) -> Result<()>
     ensures { ask.protocol_in features ≡ tested result }
 {
-    let protocol = VhostUserVirtioFeatures::PROTOCOL_FEATURES;
-    if features & protocol.bits() == 0 {
-        return Err(Error::InactiveFeature(protocol));
+    if !has_bit(features, virtio_bit::PROTOCOL_FEATURES) {
+        return Err(Error::InactiveFeature(VhostUserVirtioFeatures::PROTOCOL_FEATURES));
     }
     Ok(())
 }

@@ -13,7 +13,7 @@ impl<L: Link> Quiet<L> {
 
     /// Gives the device the table of all regions. While postcopy listens, the answer is where each one is mapped, else nothing.
     ///
-    /// InvalidParam: there are no regions or more than 32, or the size of one is 0, or one has no handle. InvalidMessage: the
+    /// InvalidParam: there are no regions or more than a table may have, or the size of one is 0, or one has no handle. InvalidMessage: the
     /// reply is of other regions.
     pub fn set_mem_table(
         &mut self,

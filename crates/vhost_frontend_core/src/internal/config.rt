@@ -5,7 +5,7 @@ ghost use Rattle.vhost_protocol.specs.FrontendCall as call;
 ghost use Rattle.vhost_message.specs.Valid.{is_valid_config};
 ghost use Rattle.vhost_protocol.specs.Ask as ask;
 ghost use Rattle.vhost_frontend_core.specs.Asking.{tested};
-ghost use Rattle.vhost_protocol.specs.Ask.{Nobody};
+ghost use Rattle.vhost_protocol.specs.declared.asked.Awaited.TheVariants.{Nobody};
 ghost use Rattle.vhost_message.specs.FlagBits.{config_bits};
 
 use crate::asked::Sent;
@@ -13,8 +13,8 @@ use crate::internal::FrontendInternal;
 use crate::session::{param, valid};
 use vhost_link::Link;
 use vhost_message::{
-    FrontendReq, Result, VhostUserConfig, VhostUserConfigFlags, VhostUserMsgValidator,
-    VhostUserProtocolFeatures,
+    ByteValued, FrontendReq, MAX_MSG_SIZE, Result, VhostUserConfig, VhostUserConfigFlags,
+    VhostUserMsgValidator, protocol_bit,
 };
 
 impl<L: Link> FrontendInternal<L> {
@@ -32,10 +32,10 @@ impl<L: Link> FrontendInternal<L> {
     ) -> Result<Sent>
         ensures { AsksHalf L.event (call.SetConfig offset (config_bits flags) buffer.now) self.old result self.new }
     {
-        param(buffer.len() <= 4096)?;
+        param(buffer.len() <= MAX_MSG_SIZE)?;
         let part = part_of(offset, buffer.len() as u32, flags)?;
-        self.session.operation(VhostUserProtocolFeatures::CONFIG)?;
-        param(12 + buffer.len() <= 4096)?;
+        self.session.needs(protocol_bit::CONFIG)?;
+        param(VhostUserConfig::SIZE + buffer.len() <= MAX_MSG_SIZE)?;
         let request = (
             FrontendReq::SET_CONFIG,
             self.session.header_flags,

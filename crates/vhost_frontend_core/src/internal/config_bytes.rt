@@ -1,35 +1,38 @@
 //! Bytes of the device's configuration space.
 
 ghost use Rattle.std.specs.Prelude.{◌≡◌, ◌≤◌, ◌+◌, ◌&&◌, ◌==◌, ℕ, List, [], IfOk, length, nat_le};
+ghost use Rattle.vhost_message.specs.declared.limits.TheConstants.{MAX_MSG_SIZE};
 ghost use Rattle.vhost_message.specs.FlagBits.{config_bits};
 ghost use Rattle.vhost_message.specs.FrontendReq.{request_of};
 ghost use Rattle.vhost_message.specs.Header.{is_reply_for};
 ghost use Rattle.vhost_message.specs.MsgHeader.{fields_of};
 ghost use Rattle.vhost_message.specs.declared.frontend_req.FrontendReq.TheVariants.{GET_CONFIG};
 ghost use Rattle.vhost_protocol.specs.Ask as ask;
-ghost use Rattle.vhost_protocol.specs.Ask.{Nobody, Reply, AConfig};
+ghost use Rattle.vhost_protocol.specs.declared.asked.Awaited.TheVariants.{Nobody, Reply};
+ghost use Rattle.vhost_protocol.specs.declared.asked.Shape.TheVariants as shape;
 ghost use Rattle.vhost_protocol.specs.FrontendCall as call;
 ghost use Rattle.vhost_protocol.specs.Written.{ConfigBytes};
 ghost use Rattle.vhost_frontend_core.specs.Asking.{tested};
 ghost use Rattle.vhost_frontend_core.specs.Kept.{KeepsConfig, IsKeptFor};
 ghost use Rattle.vhost_frontend_core.specs.TakingConfig.{is_asked};
 
-use crate::asked::{Awaited, Kept, Sent, Shape};
+use crate::asked::{Kept, Sent};
 use crate::internal::config::part_of;
 use crate::internal::{FrontendInternal, Header};
 use vhost_connection::break_on_fault;
 use vhost_link::Link;
 use vhost_message::{
-    Error, FrontendReq, Result, VhostUserConfig, VhostUserConfigFlags, VhostUserProtocolFeatures,
+    ByteValued, Error, FrontendReq, MAX_MSG_SIZE, Result, VhostUserConfig, VhostUserConfigFlags,
+    protocol_bit,
 };
+use vhost_protocol::{Awaited, Shape};
 
 /// How many bytes the record of a part has.
-const RECORD: usize = 12;
+const RECORD: usize = VhostUserConfig::SIZE;
 
 impl<L: Link> FrontendInternal<L> {
     ghost use Rattle.vhost_frontend_core.specs.Asking.{AsksWithRoom};
     ghost use Rattle.vhost_frontend_core.specs.Frontend.{endpoint_of, session_of, awaits};
-    ghost use Rattle.vhost_frontend_core.specs.Session.{awaited_of};
     ghost use Rattle.vhost_frontend_core.specs.TakingConfig.{RecvsConfig};
     ghost use Rattle.vhost_frontend_core.specs.Halves.{AsksHalfWithRoom, TakesHalf};
 
@@ -45,18 +48,18 @@ impl<L: Link> FrontendInternal<L> {
         buffer: &[u8],
     ) -> Result<Sent>
         ensures asked { AsksHalfWithRoom L.event (call.GetConfig offset size (config_bits flags) buffer.now) self.old result self.new }
-        ensures kept { IfOk result (λ sent. IsKeptFor {H = L.Handle} (call.GetConfig offset size (config_bits flags) buffer.now) (awaited_of sent.awaited) sent.kept) }
+        ensures kept { IfOk result (λ sent. IsKeptFor {H = L.Handle} (call.GetConfig offset size (config_bits flags) buffer.now) sent.awaited sent.kept) }
     {
         let part = part_of(offset, size, flags)?;
-        self.session.operation(VhostUserProtocolFeatures::CONFIG)?;
+        self.session.needs(protocol_bit::CONFIG)?;
         fits(buffer)?;
         self.ask_bytes(part, buffer)
     }
 
     /// The same of a valid part, and of a buffer that fits.
     fn ask_bytes(&mut self, part: VhostUserConfig, buffer: &[u8]) -> Result<Sent>
-        requires fits { 12 + length buffer.now ≤ 4096 }
-        ensures asked { AsksWithRoom L.event (ask.asks (session_of self.old) GET_CONFIG (ConfigBytes part buffer.now) [] AConfig) (endpoint_of self.old) (session_of self.old) (awaits self.old) result (endpoint_of self.new) (session_of self.new) (awaits self.new) }
+        requires fits { 12 + length buffer.now ≤ MAX_MSG_SIZE }
+        ensures asked { AsksWithRoom L.event (ask.asks (session_of self.old) GET_CONFIG (ConfigBytes part buffer.now) [] shape.Config) (endpoint_of self.old) (session_of self.old) (awaits self.old) result (endpoint_of self.new) (session_of self.new) (awaits self.new) }
         ensures kept { IfOk result (λ sent. KeepsConfig part (length buffer.now) sent.kept) }
     {
         let Ok(bytes) = Vec::from_slice(self.alloc, buffer) else {
@@ -83,8 +86,8 @@ impl<L: Link> FrontendInternal<L> {
     /// BackendInternalError: the reply is bare, since the device has no such bytes. InvalidMessage: the reply is of another
     /// part, or has a handle.
     pub fn take_get_config(&mut self, sent: Sent) -> Result<(VhostUserConfig, Vec<u8>)>
-        ensures taken { (offset size flags : ℕ) (buffer : List ℕ) → IsKeptFor {H = L.Handle} (call.GetConfig offset size flags buffer) (Reply AConfig) sent.kept
-            → TakesHalf L.event (call.GetConfig offset size flags buffer) (λ part. call.ConfigOf part.0 part.1.items) (Reply AConfig) sent self.old result self.new }
+        ensures taken { (offset size flags : ℕ) (buffer : List ℕ) → IsKeptFor {H = L.Handle} (call.GetConfig offset size flags buffer) (Reply shape.Config) sent.kept
+            → TakesHalf L.event (call.GetConfig offset size flags buffer) (λ part. call.ConfigOf part.0 part.1.items) (Reply shape.Config) sent self.old result self.new }
         ensures quiet { awaits self.new ≡ Nobody }
     {
         self.awaited = Awaited::Nobody;
@@ -141,10 +144,10 @@ impl<L: Link> FrontendInternal<L> {
 
 /// InvalidParam: behind its record the buffer is more than fits.
 fn fits(buffer: &[u8]) -> Result<()>
-    ensures test { ask.param (nat_le (12 + length buffer.now) 4096) ≡ tested result }
-    ensures fits { IfOk result (λ _. 12 + length buffer.now ≤ 4096) }
+    ensures test { ask.param (nat_le (12 + length buffer.now) MAX_MSG_SIZE) ≡ tested result }
+    ensures fits { IfOk result (λ _. 12 + length buffer.now ≤ MAX_MSG_SIZE) }
 {
-    if buffer.len() > 4096 - RECORD {
+    if buffer.len() > MAX_MSG_SIZE - RECORD {
         return Err(Error::InvalidParam);
     }
     Ok(())

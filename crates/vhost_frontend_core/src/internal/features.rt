@@ -2,22 +2,22 @@
 
 ghost use Rattle.std.specs.Prelude.{◌≡◌, ℕ, bit_and};
 ghost use Rattle.vhost_protocol.specs.FrontendCall as call;
-ghost use Rattle.vhost_protocol.specs.Ask.{Nobody, Reply, AU64};
+ghost use Rattle.vhost_protocol.specs.declared.asked.Awaited.TheVariants.{Nobody, Reply};
+ghost use Rattle.vhost_protocol.specs.declared.asked.Shape.TheVariants as shape;
 
-use crate::asked::{Sent, Shape};
+use crate::asked::Sent;
 use crate::internal::FrontendInternal;
 use crate::session::protocol_in;
 use bitflags::Flags;
 use vhost_link::Link;
 use vhost_message::{
-    Error, FrontendReq, Result, VhostUserEmpty, VhostUserProtocolFeatures, VhostUserU64,
+    Error, FrontendReq, Result, VHOST_USER_MAX_VRINGS, VhostUserEmpty, VhostUserProtocolFeatures,
+    VhostUserU64, protocol_bit,
 };
+use vhost_protocol::Shape;
 
 /// The bits of the protocol features that have a meaning.
 const KNOWN_FEATURES: u64 = 0x7f_ffff;
-
-/// The most queues that a device may have.
-const MAX_QUEUES: u64 = 0x8000;
 
 impl<L: Link> FrontendInternal<L> {
     ghost use Rattle.vhost_frontend_core.specs.Frontend.{awaits};
@@ -32,7 +32,7 @@ impl<L: Link> FrontendInternal<L> {
 
     /// Takes the features, and remembers them as offered.
     pub fn take_get_features(&mut self, sent: Sent) -> Result<u64>
-        ensures taken { TakesHalf L.event call.GetFeatures call.Number (Reply AU64) sent self.old result self.new }
+        ensures taken { TakesHalf L.event call.GetFeatures call.Number (Reply shape.U64) sent self.old result self.new }
         ensures quiet { awaits self.new ≡ Nobody }
     {
         match self.take_plain_reply::<VhostUserU64>(sent) {
@@ -79,7 +79,7 @@ impl<L: Link> FrontendInternal<L> {
 
     /// Takes the features; bits without a meaning are dropped.
     pub fn take_get_protocol_features(&mut self, sent: Sent) -> Result<VhostUserProtocolFeatures>
-        ensures taken { TakesHalf L.event call.GetProtocolFeatures (λ features. call.Number features.bits) (Reply AU64) sent self.old result self.new }
+        ensures taken { TakesHalf L.event call.GetProtocolFeatures (λ features. call.Number features.bits) (Reply shape.U64) sent self.old result self.new }
         ensures quiet { awaits self.new ≡ Nobody }
     {
         match self.take_plain_reply::<VhostUserU64>(sent) {
@@ -115,7 +115,7 @@ impl<L: Link> FrontendInternal<L> {
     pub fn ask_get_queue_num(&mut self) -> Result<Sent>
         ensures { AsksHalf L.event call.GetQueueNum self.old result self.new }
     {
-        self.session.operation(VhostUserProtocolFeatures::MQ)?;
+        self.session.needs(protocol_bit::MQ)?;
         self.ask_reply(FrontendReq::GET_QUEUE_NUM, Shape::U64, &VhostUserEmpty, &[])
     }
 
@@ -123,12 +123,12 @@ impl<L: Link> FrontendInternal<L> {
     ///
     /// InvalidMessage: it is greater than 0x8000; the old number stays.
     pub fn take_get_queue_num(&mut self, sent: Sent) -> Result<u64>
-        ensures taken { TakesHalf L.event call.GetQueueNum call.Number (Reply AU64) sent self.old result self.new }
+        ensures taken { TakesHalf L.event call.GetQueueNum call.Number (Reply shape.U64) sent self.old result self.new }
         ensures quiet { awaits self.new ≡ Nobody }
     {
         match self.take_plain_reply::<VhostUserU64>(sent) {
             Ok(number) => {
-                if number.value > MAX_QUEUES {
+                if number.value > VHOST_USER_MAX_VRINGS {
                     return Err(Error::InvalidMessage);
                 }
                 self.session.max_queue_num = number.value;

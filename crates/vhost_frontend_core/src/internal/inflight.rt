@@ -5,12 +5,14 @@ ghost use Rattle.vhost_protocol.specs.FrontendCall as call;
 ghost use Rattle.vhost_message.specs.declared.records.inflight.VhostUserInflight.{VhostUserInflight};
 ghost use Rattle.vhost_protocol.specs.Ask as ask;
 ghost use Rattle.vhost_frontend_core.specs.Asking.{tested};
-ghost use Rattle.vhost_protocol.specs.Ask.{Nobody, Reply, AnInflight};
+ghost use Rattle.vhost_protocol.specs.declared.asked.Awaited.TheVariants.{Nobody, Reply};
+ghost use Rattle.vhost_protocol.specs.declared.asked.Shape.TheVariants as shape;
 
-use crate::asked::{Sent, Shape};
+use crate::asked::Sent;
 use crate::internal::FrontendInternal;
 use vhost_link::Link;
-use vhost_message::{Error, FrontendReq, Result, VhostUserInflight, VhostUserProtocolFeatures};
+use vhost_message::{Error, FrontendReq, Result, VhostUserInflight, protocol_bit};
+use vhost_protocol::Shape;
 
 impl<L: Link> FrontendInternal<L> {
     ghost use Rattle.vhost_frontend_core.specs.Frontend.{awaits};
@@ -22,8 +24,7 @@ impl<L: Link> FrontendInternal<L> {
     pub fn ask_get_inflight_fd(&mut self, inflight: &VhostUserInflight) -> Result<Sent>
         ensures { AsksHalf L.event (call.GetInflightFd inflight.now) self.old result self.new }
     {
-        self.session
-            .operation(VhostUserProtocolFeatures::INFLIGHT_SHMFD)?;
+        self.session.needs(protocol_bit::INFLIGHT_SHMFD)?;
         self.ask_reply(FrontendReq::GET_INFLIGHT_FD, Shape::Inflight, inflight, &[])
     }
 
@@ -31,7 +32,7 @@ impl<L: Link> FrontendInternal<L> {
     ///
     /// InvalidMessage: no handle came. IncorrectFds: several did.
     pub fn take_get_inflight_fd(&mut self, sent: Sent) -> Result<(VhostUserInflight, L::Handle)>
-        ensures taken { (asked : VhostUserInflight) → TakesHalf L.event (call.GetInflightFd asked) (λ buffer. call.InflightOf buffer.0 buffer.1) (Reply AnInflight) sent self.old result self.new }
+        ensures taken { (asked : VhostUserInflight) → TakesHalf L.event (call.GetInflightFd asked) (λ buffer. call.InflightOf buffer.0 buffer.1) (Reply shape.Inflight) sent self.old result self.new }
         ensures quiet { awaits self.new ≡ Nobody }
     {
         match self.take_reply_with_handle::<VhostUserInflight>(sent) {
@@ -51,8 +52,7 @@ impl<L: Link> FrontendInternal<L> {
     ) -> Result<Sent>
         ensures { AsksHalf L.event (call.SetInflightFd inflight.now handle.now) self.old result self.new }
     {
-        self.session
-            .operation(VhostUserProtocolFeatures::INFLIGHT_SHMFD)?;
+        self.session.needs(protocol_bit::INFLIGHT_SHMFD)?;
         used(inflight)?;
         self.ask_ack(FrontendReq::SET_INFLIGHT_FD, inflight, &[handle])
     }

@@ -5,23 +5,23 @@ ghost use Rattle.vhost_protocol.specs.FrontendCall as call;
 ghost use Rattle.vhost_protocol.specs.FrontendCall.{LogRegion};
 ghost use Rattle.vhost_message.specs.declared.frontend_req.FrontendReq.TheVariants.{SET_LOG_BASE};
 ghost use Rattle.vhost_protocol.specs.Written.{U64};
-ghost use Rattle.vhost_protocol.specs.Ask.{Nobody, Reply, ALog, Sends, message};
+ghost use Rattle.vhost_protocol.specs.Ask.{Sends, message};
+ghost use Rattle.vhost_protocol.specs.declared.asked.Awaited.TheVariants.{Nobody, Reply};
+ghost use Rattle.vhost_protocol.specs.declared.asked.Shape.TheVariants as shape;
 ghost use Rattle.vhost_frontend_core.specs.Regions.{log_region_in};
 
-use crate::asked::{Awaited, Sent, Shape};
-use crate::bits::has_bit;
+use crate::asked::Sent;
 use crate::internal::FrontendInternal;
 use vhost_backend::VhostUserDirtyLogRegion;
 use vhost_link::Link;
 use vhost_message::{
-    Error, FrontendReq, Result, VhostUserEmpty, VhostUserLog, VhostUserProtocolFeatures,
-    VhostUserU64,
+    Error, FrontendReq, Result, VhostUserEmpty, VhostUserLog, VhostUserU64, has_bit, protocol_bit,
 };
+use vhost_protocol::{Awaited, Shape};
 
 impl<L: Link> FrontendInternal<L> {
     ghost use Rattle.vhost_frontend_core.specs.Frontend.{endpoint_of, session_of, awaits};
     ghost use Rattle.vhost_frontend_core.specs.Asking.{Asks};
-    ghost use Rattle.vhost_frontend_core.specs.Session.{awaited_of};
     ghost use Rattle.vhost_frontend_core.specs.Halves.{AsksHalf, TakesHalf, TakesAck};
 
     /// Says where the log lies: at this base, or in this region where shared memory is agreed on.
@@ -37,7 +37,10 @@ impl<L: Link> FrontendInternal<L> {
         let Some(area) = region else {
             return self.ask_base(base);
         };
-        if !has_bit(self.session.acked_protocol_features, 1) {
+        if !has_bit(
+            self.session.acked_protocol_features,
+            protocol_bit::LOG_SHMFD,
+        ) {
             return self.ask_base(base);
         }
         let Some(handle) = area.mmap_handle else {
@@ -63,9 +66,9 @@ impl<L: Link> FrontendInternal<L> {
     ///
     /// InvalidMessage: the area in the reply is not valid.
     pub fn take_set_log_base(&mut self, sent: Sent) -> Result<()>
-        ensures area { (base : ℕ) (region : Option (LogRegion L.Handle)) → awaited_of sent.awaited ≡ Reply ALog
-            → TakesHalf L.event (call.SetLogBase base region) (λ _. call.Nothing) (Reply ALog) sent self.old result self.new }
-        ensures base { (base : ℕ) (region : Option (LogRegion L.Handle)) → awaited_of sent.awaited ≡ Nobody
+        ensures area { (base : ℕ) (region : Option (LogRegion L.Handle)) → sent.awaited ≡ Reply shape.Log
+            → TakesHalf L.event (call.SetLogBase base region) (λ _. call.Nothing) (Reply shape.Log) sent self.old result self.new }
+        ensures base { (base : ℕ) (region : Option (LogRegion L.Handle)) → sent.awaited ≡ Nobody
             → TakesHalf L.event (call.SetLogBase base region) (λ _. call.Nothing) Nobody sent self.old result self.new }
         ensures quiet { awaits self.new ≡ Nobody }
     {

@@ -2,7 +2,8 @@
 
 ghost use Rattle.std.specs.Prelude.{◌≡◌, ◌==◌, not, IfOk, Some};
 ghost use Rattle.vhost_protocol.specs.Ask as ask;
-ghost use Rattle.vhost_protocol.specs.Ask.{Nobody, Reply, AU64, ARegion};
+ghost use Rattle.vhost_protocol.specs.declared.asked.Awaited.TheVariants.{Nobody, Reply};
+ghost use Rattle.vhost_protocol.specs.declared.asked.Shape.TheVariants as shape;
 ghost use Rattle.vhost_protocol.specs.FrontendCall as call;
 ghost use Rattle.vhost_message.specs.Records.{region_within};
 ghost use Rattle.vhost_message.specs.declared.records.memory.VhostUserMemoryRegion.{VhostUserMemoryRegion};
@@ -13,19 +14,19 @@ ghost use Rattle.vhost_frontend_core.specs.Asking.{tested};
 ghost use Rattle.vhost_frontend_core.specs.Regions.{info_in};
 ghost use Rattle.vhost_frontend_core.specs.declared.asked.Kept.TheVariants.{Region};
 
-use crate::asked::{Awaited, Kept, Sent, Shape};
+use crate::asked::{Kept, Sent};
 use crate::internal::FrontendInternal;
 use crate::regions::is_same;
 use vhost_backend::VhostUserMemoryRegionInfo;
 use vhost_link::Link;
 use vhost_message::{
-    Error, FrontendReq, Result, VhostUserEmpty, VhostUserMemoryRegion, VhostUserProtocolFeatures,
-    VhostUserSingleMemoryRegion, VhostUserU64,
+    Error, FrontendReq, Result, VhostUserEmpty, VhostUserMemoryRegion, VhostUserSingleMemoryRegion,
+    VhostUserU64, protocol_bit,
 };
+use vhost_protocol::{Awaited, Shape};
 
 impl<L: Link> FrontendInternal<L> {
     ghost use Rattle.vhost_frontend_core.specs.Frontend.{awaits};
-    ghost use Rattle.vhost_frontend_core.specs.Session.{awaited_of};
     ghost use Rattle.vhost_frontend_core.specs.Taking.{IsAck};
     ghost use Rattle.vhost_frontend_core.specs.Halves.{AsksHalf, TakesHalf, TakesAck};
 
@@ -35,8 +36,7 @@ impl<L: Link> FrontendInternal<L> {
     pub fn ask_get_max_mem_slots(&mut self) -> Result<Sent>
         ensures { AsksHalf L.event call.GetMaxMemSlots self.old result self.new }
     {
-        self.session
-            .operation(VhostUserProtocolFeatures::CONFIGURE_MEM_SLOTS)?;
+        self.session.needs(protocol_bit::CONFIGURE_MEM_SLOTS)?;
         self.ask_reply(
             FrontendReq::GET_MAX_MEM_SLOTS,
             Shape::U64,
@@ -47,7 +47,7 @@ impl<L: Link> FrontendInternal<L> {
 
     /// Takes the number.
     pub fn take_get_max_mem_slots(&mut self, sent: Sent) -> Result<u64>
-        ensures taken { TakesHalf L.event call.GetMaxMemSlots call.Number (Reply AU64) sent self.old result self.new }
+        ensures taken { TakesHalf L.event call.GetMaxMemSlots call.Number (Reply shape.U64) sent self.old result self.new }
         ensures quiet { awaits self.new ≡ Nobody }
     {
         match self.take_plain_reply::<VhostUserU64>(sent) {
@@ -80,8 +80,7 @@ impl<L: Link> FrontendInternal<L> {
     fn ask_add_region(&mut self, region: &VhostUserMemoryRegionInfo<L::Handle>) -> Result<Sent>
         ensures { AsksHalf L.event (call.AddMemRegion (info_in region.now)) self.old result self.new }
     {
-        self.session
-            .operation(VhostUserProtocolFeatures::CONFIGURE_MEM_SLOTS)?;
+        self.session.needs(protocol_bit::CONFIGURE_MEM_SLOTS)?;
         sized(region)?;
         let Some(handle) = region.mmap_handle else {
             return Err(Error::InvalidParam);
@@ -103,9 +102,9 @@ impl<L: Link> FrontendInternal<L> {
     ///
     /// InvalidMessage: the reply is of another region.
     pub fn take_add_mem_region(&mut self, sent: Sent) -> Result<Option<u64>>
-        ensures mapped { (info : call.Info L.Handle) → sent.kept ≡ Region info.region → awaited_of sent.awaited ≡ Reply ARegion
-            → TakesHalf L.event (call.AddMemRegion info) call.Base (Reply ARegion) sent self.old result self.new }
-        ensures acked { (info : call.Info L.Handle) → IsAck (awaited_of sent.awaited) → TakesHalf L.event (call.AddMemRegion info) call.Base (awaited_of sent.awaited) sent self.old result self.new }
+        ensures mapped { (info : call.Info L.Handle) → sent.kept ≡ Region info.region → sent.awaited ≡ Reply shape.SingleMemoryRegion
+            → TakesHalf L.event (call.AddMemRegion info) call.Base (Reply shape.SingleMemoryRegion) sent self.old result self.new }
+        ensures acked { (info : call.Info L.Handle) → IsAck sent.awaited → TakesHalf L.event (call.AddMemRegion info) call.Base sent.awaited sent self.old result self.new }
         ensures quiet { awaits self.new ≡ Nobody }
     {
         match sent.awaited {
@@ -119,7 +118,7 @@ impl<L: Link> FrontendInternal<L> {
 
     /// Takes where the region is mapped.
     fn take_mapped(&mut self, sent: Sent) -> Result<Option<u64>>
-        ensures taken { (info : call.Info L.Handle) → sent.kept ≡ Region info.region → TakesHalf L.event (call.AddMemRegion info) call.Base (Reply ARegion) sent self.old result self.new }
+        ensures taken { (info : call.Info L.Handle) → sent.kept ≡ Region info.region → TakesHalf L.event (call.AddMemRegion info) call.Base (Reply shape.SingleMemoryRegion) sent self.old result self.new }
         ensures quiet { awaits self.new ≡ Nobody }
     {
         let Sent {
@@ -142,8 +141,7 @@ impl<L: Link> FrontendInternal<L> {
     ) -> Result<Sent>
         ensures { AsksHalf L.event (call.RemoveMemRegion (info_in region.now)) self.old result self.new }
     {
-        self.session
-            .operation(VhostUserProtocolFeatures::CONFIGURE_MEM_SLOTS)?;
+        self.session.needs(protocol_bit::CONFIGURE_MEM_SLOTS)?;
         sized(region)?;
         self.ask_ack(FrontendReq::REM_MEM_REG, &region.to_single_region(), &[])
     }

@@ -3,16 +3,17 @@
 ghost use Rattle.std.specs.Prelude.{◌≡◌};
 ghost use Rattle.vhost_protocol.specs.FrontendCall as call;
 ghost use Rattle.vhost_message.specs.declared.records.shared.VhostUserSharedMsg.{VhostUserSharedMsg};
-ghost use Rattle.vhost_protocol.specs.Ask.{Nobody, Reply, AnEmpty, AShmem};
+ghost use Rattle.vhost_protocol.specs.declared.asked.Awaited.TheVariants.{Nobody, Reply};
+ghost use Rattle.vhost_protocol.specs.declared.asked.Shape.TheVariants as shape;
 
-use crate::asked::{Sent, Shape};
+use crate::asked::Sent;
 use crate::internal::FrontendInternal;
 use crate::session::valid;
 use vhost_link::Link;
 use vhost_message::{
-    FrontendReq, Result, VhostUserEmpty, VhostUserProtocolFeatures, VhostUserShMemConfig,
-    VhostUserSharedMsg,
+    FrontendReq, Result, VhostUserEmpty, VhostUserShMemConfig, VhostUserSharedMsg, protocol_bit,
 };
+use vhost_protocol::Shape;
 
 impl<L: Link> FrontendInternal<L> {
     ghost use Rattle.vhost_frontend_core.specs.Frontend.{awaits};
@@ -24,8 +25,7 @@ impl<L: Link> FrontendInternal<L> {
     pub fn ask_get_shared_object(&mut self, name: &VhostUserSharedMsg) -> Result<Sent>
         ensures { AsksHalf L.event (call.GetSharedObject name.now) self.old result self.new }
     {
-        self.session
-            .operation(VhostUserProtocolFeatures::SHARED_OBJECT)?;
+        self.session.needs(protocol_bit::SHARED_OBJECT)?;
         valid(name)?;
         self.ask_reply(FrontendReq::GET_SHARED_OBJECT, Shape::Empty, name, &[])
     }
@@ -34,7 +34,7 @@ impl<L: Link> FrontendInternal<L> {
     ///
     /// InvalidMessage: none came. IncorrectFds: several did.
     pub fn take_get_shared_object(&mut self, sent: Sent) -> Result<L::Handle>
-        ensures taken { (name : VhostUserSharedMsg) → TakesHalf L.event (call.GetSharedObject name) call.HandleOf (Reply AnEmpty) sent self.old result self.new }
+        ensures taken { (name : VhostUserSharedMsg) → TakesHalf L.event (call.GetSharedObject name) call.HandleOf (Reply shape.Empty) sent self.old result self.new }
         ensures quiet { awaits self.new ≡ Nobody }
     {
         match self.take_reply_with_handle::<VhostUserEmpty>(sent) {
@@ -49,7 +49,7 @@ impl<L: Link> FrontendInternal<L> {
     pub fn ask_get_shmem_config(&mut self) -> Result<Sent>
         ensures { AsksHalf L.event call.GetShmemConfig self.old result self.new }
     {
-        self.session.operation(VhostUserProtocolFeatures::SHMEM)?;
+        self.session.needs(protocol_bit::SHMEM)?;
         self.ask_reply(
             FrontendReq::GET_SHMEM_CONFIG,
             Shape::ShMemConfig,
@@ -60,7 +60,7 @@ impl<L: Link> FrontendInternal<L> {
 
     /// Takes the regions.
     pub fn take_get_shmem_config(&mut self, sent: Sent) -> Result<VhostUserShMemConfig>
-        ensures taken { TakesHalf L.event call.GetShmemConfig call.ShmemOf (Reply AShmem) sent self.old result self.new }
+        ensures taken { TakesHalf L.event call.GetShmemConfig call.ShmemOf (Reply shape.ShMemConfig) sent self.old result self.new }
         ensures quiet { awaits self.new ≡ Nobody }
     {
         match self.take_plain_reply::<VhostUserShMemConfig>(sent) {
@@ -75,8 +75,7 @@ impl<L: Link> FrontendInternal<L> {
     pub fn ask_set_backend_request_fd(&mut self, handle: &L::Handle) -> Result<Sent>
         ensures { AsksHalf L.event (call.SetBackendRequestFd handle.now) self.old result self.new }
     {
-        self.session
-            .operation(VhostUserProtocolFeatures::BACKEND_REQ)?;
+        self.session.needs(protocol_bit::BACKEND_REQ)?;
         self.ask_ack(FrontendReq::SET_BACKEND_REQ_FD, &VhostUserEmpty, &[handle])
     }
 

@@ -2,12 +2,12 @@
 
 ghost use Rattle.std.specs.Prelude.{◌≡◌};
 ghost use Rattle.vhost_protocol.specs.FrontendCall as call;
-ghost use Rattle.vhost_protocol.specs.Ask.{Nobody};
+ghost use Rattle.vhost_protocol.specs.declared.asked.Awaited.TheVariants.{Nobody};
 
 use crate::asked::Sent;
 use crate::internal::FrontendInternal;
 use vhost_link::Link;
-use vhost_message::{FrontendReq, Result, VhostUserEmpty, VhostUserProtocolFeatures};
+use vhost_message::{FrontendReq, Result, VhostUserEmpty, protocol_bit};
 
 impl<L: Link> FrontendInternal<L> {
     ghost use Rattle.vhost_frontend_core.specs.Frontend.{awaits};
@@ -49,8 +49,7 @@ impl<L: Link> FrontendInternal<L> {
     pub fn ask_reset_device(&mut self) -> Result<Sent>
         ensures { AsksHalf L.event call.ResetDevice self.old result self.new }
     {
-        self.session
-            .operation(VhostUserProtocolFeatures::RESET_DEVICE)?;
+        self.session.needs(protocol_bit::RESET_DEVICE)?;
         self.ask_ack(FrontendReq::RESET_DEVICE, &VhostUserEmpty, &[])
     }
 

@@ -5,19 +5,19 @@ ghost use Rattle.vhost_protocol.specs.FrontendCall as call;
 ghost use Rattle.vhost_message.specs.declared.frontend_req.FrontendReq.{FrontendReq};
 ghost use Rattle.vhost_protocol.specs.Ask as ask;
 ghost use Rattle.vhost_frontend_core.specs.Asking.{tested};
-ghost use Rattle.vhost_protocol.specs.Ask.{Nobody, Reply, AnEmpty};
+ghost use Rattle.vhost_protocol.specs.declared.asked.Awaited.TheVariants.{Nobody, Reply};
+ghost use Rattle.vhost_protocol.specs.declared.asked.Shape.TheVariants as shape;
 
-use crate::asked::{Awaited, Sent, Shape};
+use crate::asked::Sent;
 use crate::internal::FrontendInternal;
 use vhost_link::Link;
 use vhost_message::{
-    Error, FrontendReq, PostcopyState, Result, VhostUserEmpty, VhostUserProtocolFeatures,
-    VhostUserU64,
+    Error, FrontendReq, PostcopyState, Result, VhostUserEmpty, VhostUserU64, protocol_bit,
 };
+use vhost_protocol::{Awaited, Shape};
 
 impl<L: Link> FrontendInternal<L> {
     ghost use Rattle.vhost_frontend_core.specs.Frontend.{awaits};
-    ghost use Rattle.vhost_frontend_core.specs.Session.{awaited_of};
     ghost use Rattle.vhost_frontend_core.specs.Halves.{AsksHalf, TakesHalf, TakesAck};
 
     /// Tells that postcopy is going to begin, and asks for the handle of page faults.
@@ -26,8 +26,7 @@ impl<L: Link> FrontendInternal<L> {
     pub fn ask_postcopy_advise(&mut self) -> Result<Sent>
         ensures { AsksHalf L.event call.PostcopyAdvise self.old result self.new }
     {
-        self.session
-            .operation(VhostUserProtocolFeatures::PAGEFAULT)?;
+        self.session.needs(protocol_bit::PAGEFAULT)?;
         self.ask_reply(
             FrontendReq::POSTCOPY_ADVISE,
             Shape::Empty,
@@ -40,7 +39,7 @@ impl<L: Link> FrontendInternal<L> {
     ///
     /// InvalidMessage: none came. IncorrectFds: several did.
     pub fn take_postcopy_advise(&mut self, sent: Sent) -> Result<L::Handle>
-        ensures taken { TakesHalf L.event call.PostcopyAdvise call.HandleOf (Reply AnEmpty) sent self.old result self.new }
+        ensures taken { TakesHalf L.event call.PostcopyAdvise call.HandleOf (Reply shape.Empty) sent self.old result self.new }
         ensures quiet { awaits self.new ≡ Nobody }
     {
         match self.take_reply_with_handle::<VhostUserEmpty>(sent) {
@@ -58,8 +57,7 @@ impl<L: Link> FrontendInternal<L> {
     pub fn ask_postcopy_listen(&mut self) -> Result<Sent>
         ensures { AsksHalf L.event call.PostcopyListen self.old result self.new }
     {
-        self.session
-            .operation(VhostUserProtocolFeatures::PAGEFAULT)?;
+        self.session.needs(protocol_bit::PAGEFAULT)?;
         self.ask_ack(FrontendReq::POSTCOPY_LISTEN, &VhostUserEmpty, &[])
     }
 
@@ -83,8 +81,7 @@ impl<L: Link> FrontendInternal<L> {
     pub fn ask_postcopy_end(&mut self) -> Result<Sent>
         ensures { AsksHalf L.event call.PostcopyEnd self.old result self.new }
     {
-        self.session
-            .operation(VhostUserProtocolFeatures::PAGEFAULT)?;
+        self.session.needs(protocol_bit::PAGEFAULT)?;
         self.ask_ack(FrontendReq::POSTCOPY_END, &VhostUserEmpty, &[])
     }
 
@@ -116,7 +113,7 @@ impl<L: Link> FrontendInternal<L> {
 
     /// Nothing is to be taken.
     pub fn take_postcopy_ack_mem_regions(&mut self, sent: Sent) -> Result<()>
-        ensures taken { (code : FrontendReq) → awaited_of sent.awaited ≡ Nobody → TakesHalf L.event (call.PostcopyAckMemRegions code) (λ _. call.Nothing) Nobody sent self.old result self.new }
+        ensures taken { (code : FrontendReq) → sent.awaited ≡ Nobody → TakesHalf L.event (call.PostcopyAckMemRegions code) (λ _. call.Nothing) Nobody sent self.old result self.new }
         ensures quiet { awaits self.new ≡ Nobody }
     {
         self.take_ack(sent)

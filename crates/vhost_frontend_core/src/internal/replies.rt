@@ -1,21 +1,22 @@
 //! What all halves that take have in common: an acknowledgement or a reply comes.
 
 ghost use Rattle.std.specs.Prelude.{◌≡◌, ◌≤◌, List};
+ghost use Rattle.vhost_message.specs.declared.limits.TheConstants.{MAX_MSG_SIZE};
 ghost use Rattle.vhost_message.specs.MsgHeader.{fields_of};
-ghost use Rattle.vhost_protocol.specs.Ask.{Nobody};
+ghost use Rattle.vhost_protocol.specs.declared.asked.Awaited.TheVariants.{Nobody};
 ghost use Rattle.vhost_protocol.specs.AnswerTable.{with_one};
 ghost use Rattle.vhost_protocol.specs.Error.{seen_result};
 ghost use Rattle.vhost_connection.specs.Calls.{HandsOver};
 
-use crate::asked::{Awaited, Sent};
+use crate::asked::Sent;
 use crate::internal::{FrontendInternal, Header};
 use vhost_connection::break_on_fault;
 use vhost_link::Link;
 use vhost_message::{Error, Result, VhostUserMsgValidator, VhostUserU64};
+use vhost_protocol::Awaited;
 
 impl<L: Link> FrontendInternal<L> {
     ghost use Rattle.vhost_frontend_core.specs.Frontend.{endpoint_of, session_of, awaits};
-    ghost use Rattle.vhost_frontend_core.specs.Session.{awaited_of};
     ghost use Rattle.vhost_frontend_core.specs.Taking.{RecvsPayload, Recvs, Awaits, AwaitsAlone, AwaitsOne, RecvsAck, Acks};
 
     /// Receives the reply for a request: the size that its header says, a record, how many bytes of payload lie in the room
@@ -25,7 +26,7 @@ impl<L: Link> FrontendInternal<L> {
         request: &Header,
         room: &mut [u8],
     ) -> Result<(u32, T, usize, Option<Vec<L::Handle>>)>
-        requires { T.SIZE ≤ 4096 }
+        requires { T.SIZE ≤ MAX_MSG_SIZE }
         ensures same { self.new ≡ record self.old { endpoint = self.new.endpoint } }
         ensures received { RecvsPayload L.event T.SIZE T.read T.valid (endpoint_of self.old) (fields_of request.now) room.old result room.new (endpoint_of self.new) }
     {
@@ -48,7 +49,7 @@ impl<L: Link> FrontendInternal<L> {
         &mut self,
         request: &Header,
     ) -> Result<(T, Option<Vec<L::Handle>>)>
-        requires { T.SIZE ≤ 4096 }
+        requires { T.SIZE ≤ MAX_MSG_SIZE }
         ensures same { self.new ≡ record self.old { endpoint = self.new.endpoint } }
         ensures received { Recvs L.event T.SIZE T.read T.valid (endpoint_of self.old) (fields_of request.now) result (endpoint_of self.new) }
     {
@@ -63,7 +64,7 @@ impl<L: Link> FrontendInternal<L> {
     pub(crate) fn take_ack(&mut self, sent: Sent) -> Result<()>
         ensures session { session_of self.new ≡ session_of self.old }
         ensures quiet { awaits self.new ≡ Nobody }
-        ensures taken { Acks L.event (endpoint_of self.old) (fields_of sent.request) (awaited_of sent.awaited) result (endpoint_of self.new) }
+        ensures taken { Acks L.event (endpoint_of self.old) (fields_of sent.request) sent.awaited result (endpoint_of self.new) }
     {
         self.awaited = Awaited::Nobody;
         let (request, awaited) = (sent.request, sent.awaited);
@@ -96,7 +97,7 @@ impl<L: Link> FrontendInternal<L> {
         &mut self,
         sent: Sent,
     ) -> Result<(T, Option<Vec<L::Handle>>)>
-        requires { T.SIZE ≤ 4096 }
+        requires { T.SIZE ≤ MAX_MSG_SIZE }
         ensures session { session_of self.new ≡ session_of self.old }
         ensures quiet { awaits self.new ≡ Nobody }
         ensures taken { Awaits L.event T.SIZE T.read T.valid (endpoint_of self.old) (fields_of sent.request) result (endpoint_of self.new) }
@@ -113,7 +114,7 @@ impl<L: Link> FrontendInternal<L> {
         &mut self,
         sent: Sent,
     ) -> Result<T>
-        requires { T.SIZE ≤ 4096 }
+        requires { T.SIZE ≤ MAX_MSG_SIZE }
         ensures session { session_of self.new ≡ session_of self.old }
         ensures quiet { awaits self.new ≡ Nobody }
         ensures taken { AwaitsAlone L.event T.SIZE T.read T.valid (endpoint_of self.old) (fields_of sent.request) result (endpoint_of self.new) }
@@ -132,7 +133,7 @@ impl<L: Link> FrontendInternal<L> {
         &mut self,
         sent: Sent,
     ) -> Result<(T, L::Handle)>
-        requires { T.SIZE ≤ 4096 }
+        requires { T.SIZE ≤ MAX_MSG_SIZE }
         ensures session { session_of self.new ≡ session_of self.old }
         ensures quiet { awaits self.new ≡ Nobody }
         ensures taken { AwaitsOne L.event T.SIZE T.read T.valid (endpoint_of self.old) (fields_of sent.request) result (endpoint_of self.new) }

@@ -2,7 +2,7 @@
 
 ghost use Rattle.std.specs.Prelude.{◌≡◌, ℕ};
 ghost use Rattle.vhost_protocol.specs.FrontendCall as call;
-ghost use Rattle.vhost_protocol.specs.Ask.{Nobody};
+ghost use Rattle.vhost_protocol.specs.declared.asked.Awaited.TheVariants.{Nobody};
 
 use crate::asked::Sent;
 use crate::internal::FrontendInternal;

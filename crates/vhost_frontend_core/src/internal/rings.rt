@@ -3,15 +3,17 @@
 ghost use Rattle.std.specs.Prelude.{◌≡◌, ℕ, Bool};
 ghost use Rattle.vhost_protocol.specs.FrontendCall as call;
 ghost use Rattle.vhost_message.specs.declared.vring_config.VringConfigData.{VringConfigData};
-ghost use Rattle.vhost_protocol.specs.Ask.{Nobody, Reply, ARingState};
+ghost use Rattle.vhost_protocol.specs.declared.asked.Awaited.TheVariants.{Nobody, Reply};
+ghost use Rattle.vhost_protocol.specs.declared.asked.Shape.TheVariants as shape;
 
-use crate::asked::{Sent, Shape};
+use crate::asked::Sent;
 use crate::internal::FrontendInternal;
 use crate::session::{param, protocol_in};
 use vhost_link::Link;
 use vhost_message::{
     FrontendReq, Result, VhostUserVringAddr, VhostUserVringState, VringConfigData,
 };
+use vhost_protocol::Shape;
 
 impl<L: Link> FrontendInternal<L> {
     ghost use Rattle.vhost_frontend_core.specs.Frontend.{awaits};
@@ -92,7 +94,7 @@ impl<L: Link> FrontendInternal<L> {
 
     /// Takes the ring's next descriptor.
     pub fn take_get_vring_base(&mut self, sent: Sent) -> Result<u32>
-        ensures taken { (index : ℕ) → TakesHalf L.event (call.GetVringBase index) call.Number (Reply ARingState) sent self.old result self.new }
+        ensures taken { (index : ℕ) → TakesHalf L.event (call.GetVringBase index) call.Number (Reply shape.VringState) sent self.old result self.new }
         ensures quiet { awaits self.new ≡ Nobody }
     {
         match self.take_plain_reply::<VhostUserVringState>(sent) {

@@ -1,19 +1,21 @@
 //! What all halves that ask have in common: a request goes out whole.
 
 ghost use Rattle.std.specs.Prelude.{◌≡◌, ◌+◌, ◌++◌, ◌≤◌, length, map};
+ghost use Rattle.vhost_message.specs.declared.limits.TheConstants.{MAX_ATTACHED_FD_ENTRIES, MAX_MSG_SIZE};
 ghost use Rattle.vhost_protocol.specs.Written.{Payload, payload_text};
 ghost use Rattle.vhost_protocol.specs.Ask as ask;
 
-use crate::asked::{Awaited, Sent, Shape};
+use crate::asked::Sent;
 use crate::internal::FrontendInternal;
 use crate::session::FrontendSession;
 use vhost_link::Link;
 use vhost_message::{ByteValued, Error, FrontendReq, Result, VhostUserMsgHeader};
+use vhost_protocol::{Awaited, Shape};
 
 impl<L: Link> FrontendInternal<L> {
     ghost use Rattle.vhost_frontend_core.specs.Asking.{Asks, Tries, request_with};
     ghost use Rattle.vhost_frontend_core.specs.Frontend.{endpoint_of, session_of, awaits};
-    ghost use Rattle.vhost_frontend_core.specs.Session.{frontend_of, awaited_of, shape_of};
+    ghost use Rattle.vhost_frontend_core.specs.Session.{frontend_of};
 
     /// Sends a request with these flags: a record, and bytes behind it.
     pub(crate) fn send<T: ByteValued>(
@@ -23,11 +25,11 @@ impl<L: Link> FrontendInternal<L> {
         payload: &[u8],
         handles: &[&L::Handle],
     ) -> Result<Sent>
-        requires size { T.SIZE + length payload.now ≤ 4096 }
-        requires handles { length handles.now ≤ 32 }
+        requires size { T.SIZE + length payload.now ≤ MAX_MSG_SIZE }
+        requires handles { length handles.now ≤ MAX_ATTACHED_FD_ENTRIES }
         ensures session { session_of self.new ≡ session_of self.old }
         ensures sent { (p : Payload) → payload_text p ≡ T.text body.now ++ payload.now
-            → Tries L.event (request_with request.1 request.0 p (map (λ h. h.now) handles.now)) (awaited_of request.2) (endpoint_of self.old) (awaits self.old) result (endpoint_of self.new) (awaits self.new) }
+            → Tries L.event (request_with request.1 request.0 p (map (λ h. h.now) handles.now)) request.2 (endpoint_of self.old) (awaits self.old) result (endpoint_of self.new) (awaits self.new) }
     {
         let (code, flags, awaited) = request;
         if self.endpoint.make_list().is_err() {
@@ -54,8 +56,8 @@ impl<L: Link> FrontendInternal<L> {
         body: &T,
         handles: &[&L::Handle],
     ) -> Result<Sent>
-        requires size { T.SIZE ≤ 4096 }
-        requires handles { length handles.now ≤ 32 }
+        requires size { T.SIZE ≤ MAX_MSG_SIZE }
+        requires handles { length handles.now ≤ MAX_ATTACHED_FD_ENTRIES }
         ensures { (p : Payload) → payload_text p ≡ T.text body.now
             → Asks L.event (ask.sends (session_of self.old) code p (map (λ h. h.now) handles.now)) (endpoint_of self.old) (session_of self.old) (awaits self.old) result (endpoint_of self.new) (session_of self.new) (awaits self.new) }
     {
@@ -70,8 +72,8 @@ impl<L: Link> FrontendInternal<L> {
         body: &T,
         handles: &[&L::Handle],
     ) -> Result<Sent>
-        requires size { T.SIZE ≤ 4096 }
-        requires handles { length handles.now ≤ 32 }
+        requires size { T.SIZE ≤ MAX_MSG_SIZE }
+        requires handles { length handles.now ≤ MAX_ATTACHED_FD_ENTRIES }
         ensures { (p : Payload) → payload_text p ≡ T.text body.now
             → Asks L.event (ask.sends (frontend_of next) code p (map (λ h. h.now) handles.now)) (endpoint_of self.old) (session_of self.old) (awaits self.old) result (endpoint_of self.new) (session_of self.new) (awaits self.new) }
     {
@@ -93,10 +95,10 @@ impl<L: Link> FrontendInternal<L> {
         body: &T,
         handles: &[&L::Handle],
     ) -> Result<Sent>
-        requires size { T.SIZE ≤ 4096 }
-        requires handles { length handles.now ≤ 32 }
+        requires size { T.SIZE ≤ MAX_MSG_SIZE }
+        requires handles { length handles.now ≤ MAX_ATTACHED_FD_ENTRIES }
         ensures { (p : Payload) → payload_text p ≡ T.text body.now
-            → Asks L.event (ask.asks (session_of self.old) code p (map (λ h. h.now) handles.now) (shape_of shape)) (endpoint_of self.old) (session_of self.old) (awaits self.old) result (endpoint_of self.new) (session_of self.new) (awaits self.new) }
+            → Asks L.event (ask.asks (session_of self.old) code p (map (λ h. h.now) handles.now) shape) (endpoint_of self.old) (session_of self.old) (awaits self.old) result (endpoint_of self.new) (session_of self.new) (awaits self.new) }
     {
         let flags = self.session.header_flags;
         self.send((code, flags, Awaited::Reply(shape)), body, &[], handles)

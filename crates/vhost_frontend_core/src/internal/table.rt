@@ -1,44 +1,44 @@
 //! The memory table.
 
 ghost use Rattle.std.specs.Prelude.{◌≡◌, ◌≤◌, ◌*◌, List, IfOk, length, map, take};
+ghost use Rattle.vhost_message.specs.declared.limits.TheConstants.{MAX_ATTACHED_FD_ENTRIES, MAX_MEM_REGIONS, MEMORY_REGION_SIZE};
 ghost use Rattle.vhost_message.specs.MsgHeader.{fields_of};
 ghost use Rattle.vhost_message.specs.declared.frontend_req.FrontendReq.TheVariants.{SET_MEM_TABLE};
 ghost use Rattle.vhost_protocol.specs.Ask as ask;
-ghost use Rattle.vhost_protocol.specs.Ask.{Nobody, Reply, TheRegions};
+ghost use Rattle.vhost_protocol.specs.declared.asked.Awaited.TheVariants.{Nobody, Reply};
+ghost use Rattle.vhost_protocol.specs.declared.asked.Shape.TheVariants as shape;
 ghost use Rattle.vhost_protocol.specs.FrontendCall as call;
 ghost use Rattle.vhost_protocol.specs.Written.{Regions};
 ghost use Rattle.vhost_frontend_core.specs.Kept.{KeepsTable, IsKeptFor};
 ghost use Rattle.vhost_frontend_core.specs.Regions.{infos_in, bases_seen};
 
-use crate::asked::{Awaited, Kept, KeptTable, Sent, Shape};
+use crate::asked::{Kept, KeptTable, Sent};
 use crate::internal::{FrontendInternal, Header};
-use crate::regions::{
-    MAX_REGIONS, REGION, bases_of, first_handle, handles_of, put_regions, table_of,
-};
+use crate::regions::{bases_of, first_handle, handles_of, table_of};
 use vhost_backend::VhostUserMemoryRegionInfo;
 use vhost_link::Link;
-use vhost_message::{Error, FrontendReq, Result, VhostUserMemory, VhostUserMemoryRegion};
-
-/// How many bytes the head of a table has.
-const HEAD: usize = 8;
+use vhost_message::{
+    Error, FrontendReq, MAX_MEM_REGIONS, MEMORY_HEAD_SIZE, MEMORY_REGION_SIZE, Result,
+    VhostUserMemory, VhostUserMemoryRegion, put_regions,
+};
+use vhost_protocol::{Awaited, Shape};
 
 impl<L: Link> FrontendInternal<L> {
     ghost use Rattle.vhost_frontend_core.specs.Asking.{AsksWithRoom, Tries, request_with};
     ghost use Rattle.vhost_frontend_core.specs.Frontend.{endpoint_of, session_of, awaits};
-    ghost use Rattle.vhost_frontend_core.specs.Session.{awaited_of};
     ghost use Rattle.vhost_frontend_core.specs.Taking.{IsAck, RecvsTable};
     ghost use Rattle.vhost_frontend_core.specs.Halves.{AsksHalfWithRoom, TakesHalf};
 
-    /// Gives the device its memory: 1 to 32 regions, each with the handle that maps it.
+    /// Gives the device its memory: 1 region or more, each with the handle that maps it.
     ///
-    /// InvalidParam: there is no region, there are more than 32, or one has the size 0 or no handle. OutOfMemory: a growth
+    /// InvalidParam: there is no region, there are more than a table may have, or one has the size 0 or no handle. OutOfMemory: a growth
     /// was refused, and nothing changed.
     pub fn ask_set_mem_table(
         &mut self,
         regions: &[VhostUserMemoryRegionInfo<L::Handle>],
     ) -> Result<Sent>
         ensures asked { AsksHalfWithRoom L.event (call.SetMemTable (infos_in regions.now)) self.old result self.new }
-        ensures kept { IfOk result (λ sent. IsKeptFor {H = L.Handle} (call.SetMemTable (infos_in regions.now)) (awaited_of sent.awaited) sent.kept) }
+        ensures kept { IfOk result (λ sent. IsKeptFor {H = L.Handle} (call.SetMemTable (infos_in regions.now)) sent.awaited sent.kept) }
     {
         let first = first_handle(regions)?;
         let count = regions.len();
@@ -54,13 +54,13 @@ impl<L: Link> FrontendInternal<L> {
     /// The same while postcopy listens, of the first `count` regions of a table.
     fn ask_bases(
         &mut self,
-        table: [VhostUserMemoryRegion; MAX_REGIONS],
+        table: [VhostUserMemoryRegion; MAX_MEM_REGIONS],
         count: usize,
         handles: &[&L::Handle],
     ) -> Result<Sent>
-        requires few { count ≤ 32 }
-        requires handles { length handles.now ≤ 32 }
-        ensures asked { AsksWithRoom L.event (ask.asks_quietly (session_of self.old) SET_MEM_TABLE (Regions (take count table)) (map (λ h. h.now) handles.now) TheRegions) (endpoint_of self.old) (session_of self.old) (awaits self.old) result (endpoint_of self.new) (session_of self.new) (awaits self.new) }
+        requires few { count ≤ MAX_MEM_REGIONS }
+        requires handles { length handles.now ≤ MAX_ATTACHED_FD_ENTRIES }
+        ensures asked { AsksWithRoom L.event (ask.asks_quietly (session_of self.old) SET_MEM_TABLE (Regions (take count table)) (map (λ h. h.now) handles.now) shape.Memory) (endpoint_of self.old) (session_of self.old) (awaits self.old) result (endpoint_of self.new) (session_of self.new) (awaits self.new) }
         ensures kept { IfOk result (λ sent. KeepsTable (take count table) sent.kept) }
     {
         let Ok(bases) = Vec::with_capacity(self.alloc, count) else {
@@ -87,15 +87,15 @@ impl<L: Link> FrontendInternal<L> {
         regions: &[VhostUserMemoryRegion],
         handles: &[&L::Handle],
     ) -> Result<Sent>
-        requires few { length regions.now ≤ 32 }
-        requires handles { length handles.now ≤ 32 }
+        requires few { length regions.now ≤ MAX_MEM_REGIONS }
+        requires handles { length handles.now ≤ MAX_ATTACHED_FD_ENTRIES }
         ensures session { session_of self.new ≡ session_of self.old }
-        ensures sent { Tries L.event (request_with request.0 SET_MEM_TABLE (Regions regions.now) (map (λ h. h.now) handles.now)) (awaited_of request.1) (endpoint_of self.old) (awaits self.old) result (endpoint_of self.new) (awaits self.new) }
+        ensures sent { Tries L.event (request_with request.0 SET_MEM_TABLE (Regions regions.now) (map (λ h. h.now) handles.now)) request.1 (endpoint_of self.old) (awaits self.old) result (endpoint_of self.new) (awaits self.new) }
     {
         let (flags, awaited) = request;
-        let mut text = [0; REGION * MAX_REGIONS];
+        let mut text = [0; MEMORY_REGION_SIZE * MAX_MEM_REGIONS];
         let payload = &mut text[..];
-        let payload = &mut payload[..REGION * regions.len()];
+        let payload = &mut payload[..MEMORY_REGION_SIZE * regions.len()];
         put_regions(regions, payload);
         let head = VhostUserMemory::new(regions.len() as u32);
         let request = (FrontendReq::SET_MEM_TABLE, flags, awaited);
@@ -107,10 +107,10 @@ impl<L: Link> FrontendInternal<L> {
     ///
     /// InvalidMessage: the reply is of other regions.
     pub fn take_set_mem_table(&mut self, sent: Sent) -> Result<Option<Vec<u64>>>
-        ensures mapped { (infos : List (call.Info L.Handle)) → IsKeptFor {H = L.Handle} (call.SetMemTable infos) (Reply TheRegions) sent.kept → awaited_of sent.awaited ≡ Reply TheRegions
-            → TakesHalf L.event (call.SetMemTable infos) (λ bases. call.Bases (bases_seen bases)) (Reply TheRegions) sent self.old result self.new }
-        ensures acked { (infos : List (call.Info L.Handle)) → IsAck (awaited_of sent.awaited)
-            → TakesHalf L.event (call.SetMemTable infos) (λ bases. call.Bases (bases_seen bases)) (awaited_of sent.awaited) sent self.old result self.new }
+        ensures mapped { (infos : List (call.Info L.Handle)) → IsKeptFor {H = L.Handle} (call.SetMemTable infos) (Reply shape.Memory) sent.kept → sent.awaited ≡ Reply shape.Memory
+            → TakesHalf L.event (call.SetMemTable infos) (λ bases. call.Bases (bases_seen bases)) (Reply shape.Memory) sent self.old result self.new }
+        ensures acked { (infos : List (call.Info L.Handle)) → IsAck sent.awaited
+            → TakesHalf L.event (call.SetMemTable infos) (λ bases. call.Bases (bases_seen bases)) sent.awaited sent self.old result self.new }
         ensures quiet { awaits self.new ≡ Nobody }
     {
         match sent.awaited {
@@ -127,7 +127,7 @@ impl<L: Link> FrontendInternal<L> {
     /// InvalidParam: the request was sent as a reply, so there is none.
     fn take_bases(&mut self, sent: Sent) -> Result<Option<Vec<u64>>>
         ensures taken { (infos : List (call.Info L.Handle)) → KeepsTable (ask.regions_in infos) sent.kept
-            → TakesHalf L.event (call.SetMemTable infos) (λ bases. call.Bases (bases_seen bases)) (Reply TheRegions) sent self.old result self.new }
+            → TakesHalf L.event (call.SetMemTable infos) (λ bases. call.Bases (bases_seen bases)) (Reply shape.Memory) sent self.old result self.new }
         ensures quiet { awaits self.new ≡ Nobody }
     {
         self.awaited = Awaited::Nobody;
@@ -138,9 +138,9 @@ impl<L: Link> FrontendInternal<L> {
         let Kept::Table(table) = kept else {
             return Err(Error::InvalidMessage);
         };
-        let mut text = [0; REGION * MAX_REGIONS];
+        let mut text = [0; MEMORY_REGION_SIZE * MAX_MEM_REGIONS];
         let room = &mut text[..];
-        let room = &mut room[..REGION * table.count];
+        let room = &mut room[..MEMORY_REGION_SIZE * table.count];
         match self.recv_table(&request, table.count, room) {
             Ok(()) => match bases_of(table, room) {
                 Some(bases) => Ok(Some(bases)),
@@ -154,20 +154,20 @@ impl<L: Link> FrontendInternal<L> {
     ///
     /// InvalidMessage: it has another number of regions, or a handle.
     fn recv_table(&mut self, request: &Header, count: usize, room: &mut [u8]) -> Result<()>
-        requires few { count ≤ 32 }
-        requires room { length room.old ≡ 32 * count }
+        requires few { count ≤ MAX_MEM_REGIONS }
+        requires room { length room.old ≡ MEMORY_REGION_SIZE * count }
         ensures same { self.new ≡ record self.old { endpoint = self.new.endpoint } }
         ensures received { RecvsTable L.event count (endpoint_of self.old) (fields_of request.now) result room.new (endpoint_of self.new) }
     {
         match self.recv_payload::<VhostUserMemory>(request, room) {
             Ok((size, head, len, handles)) => {
-                if size as usize != HEAD + REGION * count {
+                if size as usize != MEMORY_HEAD_SIZE + MEMORY_REGION_SIZE * count {
                     return Err(Error::InvalidMessage);
                 }
                 if head.num_regions as usize != count {
                     return Err(Error::InvalidMessage);
                 }
-                if len != REGION * count {
+                if len != MEMORY_REGION_SIZE * count {
                     return Err(Error::InvalidMessage);
                 }
                 if handles.is_some() {

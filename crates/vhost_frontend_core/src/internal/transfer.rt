@@ -6,17 +6,19 @@ ghost use Rattle.vhost_message.specs.declared.records.transfer.VhostUserTransfer
 ghost use Rattle.vhost_protocol.specs.AnswerTable.{state_reply};
 ghost use Rattle.vhost_connection.specs.Calls.{HandsOver};
 ghost use Rattle.vhost_frontend_core.specs.Taking.{valued};
-ghost use Rattle.vhost_protocol.specs.Ask.{Nobody, Reply, AU64};
+ghost use Rattle.vhost_protocol.specs.declared.asked.Awaited.TheVariants.{Nobody, Reply};
+ghost use Rattle.vhost_protocol.specs.declared.asked.Shape.TheVariants as shape;
 ghost use Rattle.vhost_message.specs.Transfer.{direction_number, phase_number};
 
-use crate::asked::{Sent, Shape};
+use crate::asked::Sent;
 use crate::internal::FrontendInternal;
 use crate::internal::replies::one_of;
 use vhost_link::Link;
 use vhost_message::{
     Error, FrontendReq, Result, VhostTransferStateDirection, VhostTransferStatePhase,
-    VhostUserEmpty, VhostUserProtocolFeatures, VhostUserTransferDeviceState, VhostUserU64,
+    VhostUserEmpty, VhostUserTransferDeviceState, VhostUserU64, protocol_bit,
 };
+use vhost_protocol::Shape;
 
 impl<L: Link> FrontendInternal<L> {
     ghost use Rattle.vhost_frontend_core.specs.Frontend.{awaits};
@@ -33,8 +35,7 @@ impl<L: Link> FrontendInternal<L> {
     ) -> Result<Sent>
         ensures { AsksHalf L.event (call.SetDeviceStateFd (record { direction = direction_number direction; phase = phase_number phase }) handle.now) self.old result self.new }
     {
-        self.session
-            .operation(VhostUserProtocolFeatures::DEVICE_STATE)?;
+        self.session.needs(protocol_bit::DEVICE_STATE)?;
         let transfer = VhostUserTransferDeviceState::new(direction, phase);
         self.ask_reply(
             FrontendReq::SET_DEVICE_STATE_FD,
@@ -48,7 +49,7 @@ impl<L: Link> FrontendInternal<L> {
     ///
     /// BackendInternalError: the device failed. IncorrectFds: several handles came.
     pub fn take_set_device_state_fd(&mut self, sent: Sent) -> Result<Option<L::Handle>>
-        ensures taken { (transfer : VhostUserTransferDeviceState) (handle : L.Handle) → TakesHalf L.event (call.SetDeviceStateFd transfer handle) call.StateHandle (Reply AU64) sent self.old result self.new }
+        ensures taken { (transfer : VhostUserTransferDeviceState) (handle : L.Handle) → TakesHalf L.event (call.SetDeviceStateFd transfer handle) call.StateHandle (Reply shape.U64) sent self.old result self.new }
         ensures quiet { awaits self.new ≡ Nobody }
     {
         match self.take_reply::<VhostUserU64>(sent) {
@@ -63,8 +64,7 @@ impl<L: Link> FrontendInternal<L> {
     pub fn ask_check_device_state(&mut self) -> Result<Sent>
         ensures { AsksHalf L.event call.CheckDeviceState self.old result self.new }
     {
-        self.session
-            .operation(VhostUserProtocolFeatures::DEVICE_STATE)?;
+        self.session.needs(protocol_bit::DEVICE_STATE)?;
         self.ask_reply(
             FrontendReq::CHECK_DEVICE_STATE,
             Shape::U64,
@@ -77,7 +77,7 @@ impl<L: Link> FrontendInternal<L> {
     ///
     /// BackendInternalError: it failed.
     pub fn take_check_device_state(&mut self, sent: Sent) -> Result<()>
-        ensures taken { TakesHalf L.event call.CheckDeviceState (λ _. call.Nothing) (Reply AU64) sent self.old result self.new }
+        ensures taken { TakesHalf L.event call.CheckDeviceState (λ _. call.Nothing) (Reply shape.U64) sent self.old result self.new }
         ensures quiet { awaits self.new ≡ Nobody }
     {
         match self.take_plain_reply::<VhostUserU64>(sent) {

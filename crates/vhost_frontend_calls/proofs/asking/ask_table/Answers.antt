@@ -7,8 +7,8 @@ use Rattle.vhost_frontend_calls.proofs.Halves.{if-ok}
 use Rattle.vhost_frontend_calls.proofs.Tables.{too-many, all-regions}
 use Rattle.vhost_frontend_calls.proofs.asking.ask_table.Goals as goal
 
-pub returns-then-regions-gt32-clause-asked : goal.returns-then-regions-gt32-clause-asked
-returns-then-regions-gt32-clause-asked c = roomy (refuses (too-many _ (map info_of c.args.regions.now) (omega (arith, length-map c.args.regions.now info_of, c.if-regions-gt32.true))))
+pub returns-then-regions-gt-MAX_MEM_REGIONS-clause-asked : goal.returns-then-regions-gt-MAX_MEM_REGIONS-clause-asked
+returns-then-regions-gt-MAX_MEM_REGIONS-clause-asked c = roomy (refuses (too-many _ (map info_of c.args.regions.now) (omega (arith, length-map c.args.regions.now info_of, c.if-regions-gt-MAX_MEM_REGIONS.true))))
 
 pub returns-clause-proper : goal.returns-clause-proper
 returns-clause-proper c = if-ok c.ask_set_mem_table.result (record { named = tt; bits = tt; small = all-regions c.args.regions.now c.table_of-table.ensures.fits })

@@ -1,12 +1,13 @@
 -- One more region, and one more handle.
 use Rattle.std.proofs.Common.{◌≡◌, ◌<◌, ◌++◌, ◌∷◌, [], Option, Some, length, ap, sym, ◌∙◌, arith}
 use Rattle.std.proofs.lemmas.List.{length-set, length-take-le, take_more_set}
+use Rattle.vhost_message.specs.declared.limits.TheConstants.{MAX_MEM_REGIONS}
 use Rattle.vhost_frontend.specs.MemoryContext.{regions_in}
 use Rattle.vhost_frontend.specs.declared.memory_context.Held.{Held}
 use Rattle.vhost_frontend.proofs.memory_context.VhostUserMemoryContext.append.Goals as goal
 
--- where fewer than 32 are held, one more fits
-one-more : {H : Type 0} (o : Option (Held H)) (held : Held H) → o ≡ Some held → length (regions_in o) < 32 → held.count < 32
+-- where fewer are held than a table may have, one more fits
+one-more : {H : Type 0} (o : Option (Held H)) (held : Held H) → o ≡ Some held → length (regions_in o) < MAX_MEM_REGIONS → held.count < MAX_MEM_REGIONS
 one-more o held is few =
     let len = ap (λ x. length (regions_in x)) is ∙ length-take-le held.count held.regions (omega (arith, held.fits, held.whole)) in
     omega (arith, len, few)

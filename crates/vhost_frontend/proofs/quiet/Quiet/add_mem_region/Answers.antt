@@ -1,19 +1,16 @@
 -- ADD_MEM_REG whole.
-use Rattle.std.proofs.lemmas.Result.{err_from_is_err_and}
 use Rattle.std.proofs.Common.{◌∙◌}
 use Rattle.vhost_protocol.specs.FrontendCall.{AddMemRegion}
 use Rattle.vhost_frontend_core.specs.Regions.{info_in}
-use Rattle.vhost_frontend.specs.Whole.Calls.{ended, answered}
-use Rattle.vhost_frontend.proofs.Whole.{either, may-await, still-awaits, taken-as}
+use Rattle.vhost_frontend.specs.Whole.Calls.{answered}
+use Rattle.vhost_frontend.proofs.Whole.{either, ends, may-await, still-awaits, taken-as}
 use Rattle.vhost_frontend.proofs.quiet.Quiet.add_mem_region.Goals as goal
 
 pub invariant_of-self : goal.invariant_of-self
 invariant_of-self g c = record { quiet = still-awaits c.in_err-sent.ensures.asked ∙ c.args.self.now.quiet }
 
 pub returns-in_err-sent : goal.returns-in_err-sent
-returns-in_err-sent g c =
-    let p = err_from_is_err_and c.from_residual.result c.from_residual.ensures.1 in
-    rw (p.1, p.2) (ended c.in_err-sent.ensures.asked)
+returns-in_err-sent g c = ends _ c.from_residual.ensures.1 c.in_err-sent.ensures.asked
 
 pub returns : goal.returns
 returns g c =

@@ -1,19 +1,16 @@
 -- GET_CONFIG whole.
-use Rattle.std.proofs.lemmas.Result.{err_from_is_err_and}
 use Rattle.std.proofs.Common.{◌∙◌}
 use Rattle.vhost_message.specs.FlagBits.{config_bits}
 use Rattle.vhost_protocol.specs.FrontendCall.{GetConfig}
-use Rattle.vhost_frontend.specs.Whole.Calls.{ended, answered}
-use Rattle.vhost_frontend.proofs.Whole.{may-await-with-room, still-awaits-with-room, taken-as}
+use Rattle.vhost_frontend.specs.Whole.Calls.{answered}
+use Rattle.vhost_frontend.proofs.Whole.{ends, may-await-with-room, still-awaits-with-room, taken-as}
 use Rattle.vhost_frontend.proofs.quiet.Quiet.get_config.Goals as goal
 
 pub invariant_of-self : goal.invariant_of-self
 invariant_of-self g c = record { quiet = still-awaits-with-room c.in_err-sent.ensures.asked ∙ c.args.self.now.quiet }
 
 pub returns-in_err-sent : goal.returns-in_err-sent
-returns-in_err-sent g c =
-    let p = err_from_is_err_and c.from_residual.result c.from_residual.ensures.1 in
-    rw (p.1, p.2) (ended c.in_err-sent.ensures.asked)
+returns-in_err-sent g c = ends _ c.from_residual.ensures.1 c.in_err-sent.ensures.asked
 
 pub returns : goal.returns
 returns g c =

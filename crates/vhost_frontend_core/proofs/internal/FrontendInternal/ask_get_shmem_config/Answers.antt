@@ -1,14 +1,11 @@
 -- GET_SHMEM_CONFIG: what is asked.
 use Rattle.std.proofs.Common.{refl}
-use Rattle.std.proofs.lemmas.Result.{err_from_is_err_and}
 use Rattle.vhost_protocol.specs.Written.{Empty}
 use Rattle.vhost_frontend_core.proofs.Asking.{stops, passes}
 use Rattle.vhost_frontend_core.proofs.internal.FrontendInternal.ask_get_shmem_config.Goals as goal
 
-pub returns-in_err-operation : goal.returns-in_err-operation
-returns-in_err-operation g c =
-    let p = err_from_is_err_and c.from_residual.result c.from_residual.ensures.1 in
-    rw (p.1, p.2) (stops _ _ (c.in_err-operation.ensures 22 refl))
+pub returns-in_err-needs : goal.returns-in_err-needs
+returns-in_err-needs g c = stops _ _ c.from_residual.ensures.1 c.in_err-needs.ensures
 
 pub returns : goal.returns
-returns g c = passes (c.in_ok-operation.ensures 22 refl) (c.ask_reply.ensures Empty refl)
+returns g c = passes c.in_ok-needs.ensures (c.ask_reply.ensures Empty refl)

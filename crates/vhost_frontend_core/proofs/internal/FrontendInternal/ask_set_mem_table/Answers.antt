@@ -1,6 +1,5 @@
 -- SET_MEM_TABLE: what is asked.
 use Rattle.std.proofs.Common.{sym, ◌∙◌}
-use Rattle.std.proofs.lemmas.Result.{err_from_is_err_and}
 use Rattle.vhost_message.specs.declared.frontend_req.FrontendReq.TheVariants.{SET_MEM_TABLE}
 use Rattle.vhost_protocol.specs.Written.{Regions}
 use Rattle.vhost_frontend_core.specs.Asking.{request_with}
@@ -9,9 +8,7 @@ use Rattle.vhost_frontend_core.proofs.Asking.{stops, passes, else_as, tried-as, 
 use Rattle.vhost_frontend_core.proofs.internal.FrontendInternal.ask_set_mem_table.Goals as goal
 
 pub returns-in_err-first-clause-asked : goal.returns-in_err-first-clause-asked
-returns-in_err-first-clause-asked g c =
-    let p = err_from_is_err_and c.from_residual.result c.from_residual.ensures.1 in
-    rw (p.1, p.2) (roomy (stops _ _ c.in_err-first.ensures.test))
+returns-in_err-first-clause-asked g c = roomy (stops _ _ c.from_residual.ensures.1 c.in_err-first.ensures.test)
 
 pub returns-clause-asked : goal.returns-clause-asked
 returns-clause-asked g c =

@@ -1,16 +1,14 @@
 -- An acknowledgement.
 use Rattle.std.proofs.Common.{ℕ, ◌∙◌, ap, sym}
 use Rattle.std.specs.Prelude.{◌==◌}
-use Rattle.std.proofs.lemmas.Result.{err_from_is_err_and}
 use Rattle.vhost_message.specs.declared.records.plain.VhostUserU64.{VhostUserU64}
 use Rattle.vhost_frontend_core.specs.Taking.RecvsAck.{agreed, refused, crowded_ack, unacked}
+use Rattle.vhost_frontend_core.proofs.Exits.{err_is}
 use Rattle.vhost_frontend_core.proofs.Handed.{hands-none, hands-some, nonzero}
 use Rattle.vhost_frontend_core.proofs.internal.FrontendInternal.recv_ack.Goals as goal
 
 pub returns-in_err-number-clause-received : goal.returns-in_err-number-clause-received
-returns-in_err-number-clause-received g c =
-    let p = err_from_is_err_and c.from_residual.result c.from_residual.ensures.1 in
-    rw (p.1, p.2) (unacked c.in_err-number.ensures.received)
+returns-in_err-number-clause-received g c = rw (err_is _ _ c.from_residual.ensures.1) (unacked c.in_err-number.ensures.received)
 
 pub returns-then-is_some-clause-received : goal.returns-then-is_some-clause-received
 returns-then-is_some-clause-received g c =

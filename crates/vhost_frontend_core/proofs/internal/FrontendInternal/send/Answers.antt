@@ -1,6 +1,7 @@
 -- A request goes out whole.
 use Rattle.std.proofs.Common.{ℕ, ◌+◌, ◌≤◌, ◌++◌, Bool, length, sym, ap, ◌∙◌, arith}
 use Rattle.std.proofs.lemmas.List.{length-append}
+use Rattle.vhost_message.specs.declared.limits.TheConstants.{MAX_MSG_SIZE}
 use Rattle.vhost_message.specs.FrontendReq.{request_number}
 use Rattle.vhost_message.specs.Header.{Header, with_version}
 use Rattle.vhost_message.specs.MsgHeader.{fields_of}
@@ -33,6 +34,6 @@ pub returns-in-Err-clause-sent : goal.returns-in-Err-clause-sent
 returns-in-Err-clause-sent g c p text =
     let m = at-ok c.make_list.result c.make_list.ensures.made (sym c.is_err.ensures.value ∙ c.if-is_err.false) in
     let long = g.met.T.ByteValued.text_length c.args.body.now (c.in-Err.ensures.fits (omega (arith, c.requires.size)) c.requires.size c.requires.handles) in
-    let most : length (g.T.ByteValued.text c.args.body.now ++ c.args.payload.now) ≤ 4096 = omega (arith, length-append (g.T.ByteValued.text c.args.body.now) c.args.payload.now, long, c.requires.size) in
+    let most : length (g.T.ByteValued.text c.args.body.now ++ c.args.payload.now) ≤ MAX_MSG_SIZE = omega (arith, length-append (g.T.ByteValued.text c.args.body.now) c.args.payload.now, long, c.requires.size) in
     broke (front-fails g.L.Link.event _ (fields_of c.new-header.result) (g.T.ByteValued.text c.args.body.now ++ c.args.payload.now) (state c.args.self.now.endpoint) (state c.make_list.new.self) (state c.send_message_with_payload.new.self) c.in-Err.error most m.1
     (c.in-Err.ensures.sent (omega (arith, c.requires.size)) c.requires.size c.requires.handles))

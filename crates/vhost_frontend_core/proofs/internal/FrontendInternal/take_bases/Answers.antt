@@ -1,6 +1,8 @@
 -- SET_MEM_TABLE: its reply while postcopy listens.
 use Rattle.std.proofs.Common.{◌≡◌, ◌*◌, length, take, sym, ap, subst, refl, ◌∙◌, arith}
-use Rattle.vhost_protocol.specs.Ask.{TheRegions, regions_in}
+use Rattle.vhost_message.specs.declared.limits.TheConstants.{MEMORY_HEAD_SIZE, MEMORY_REGION_SIZE}
+use Rattle.vhost_protocol.specs.Ask.{regions_in}
+use Rattle.vhost_protocol.specs.declared.asked.Shape.TheVariants as shape
 use Rattle.vhost_protocol.specs.FrontendCall.{SetMemTable}
 use Rattle.vhost_message.specs.Records.{memory_of}
 use Rattle.vhost_message.specs.Valid.{is_valid_memory}
@@ -14,7 +16,7 @@ use Rattle.vhost_frontend_core.proofs.internal.FrontendInternal.take_bases.Goals
 
 pub returns-then-is_reply-clause-taken : goal.returns-then-is_reply-clause-taken
 returns-then-is_reply-clause-taken g c infos kept =
-    none-for-reply (SetMemTable infos) TheRegions 8 (32 * length infos) (λ bs. is_valid_memory (memory_of bs)) (λ cells. refl) (sym c.is_reply.ensures ∙ c.if-is_reply.true)
+    none-for-reply (SetMemTable infos) shape.Memory MEMORY_HEAD_SIZE (MEMORY_REGION_SIZE * length infos) (λ bs. is_valid_memory (memory_of bs)) (λ cells. refl) (sym c.is_reply.ensures ∙ c.if-is_reply.true)
 
 pub returns-in-Some-clause-taken : goal.returns-in-Some-clause-taken
 returns-in-Some-clause-taken g c infos kept =

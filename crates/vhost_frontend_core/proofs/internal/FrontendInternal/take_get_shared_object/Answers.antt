@@ -1,7 +1,7 @@
 -- GET_SHARED_OBJECT: its reply.
 use Rattle.std.proofs.Common.{ap, sym, refl, Some, Result, true}
 use Rattle.vhost_protocol.specs.AnswerTable.{answered}
-use Rattle.vhost_protocol.specs.Ask.{AnEmpty}
+use Rattle.vhost_protocol.specs.declared.asked.Shape.TheVariants as shape
 use Rattle.vhost_protocol.specs.Error.{Error}
 use Rattle.vhost_protocol.specs.FrontendCall.{Frontend, GetSharedObject, HandleOf, Value}
 use Rattle.vhost_frontend_core.specs.Frontend.{session_of}
@@ -10,10 +10,10 @@ use Rattle.vhost_frontend_core.proofs.internal.FrontendInternal.take_get_shared_
 
 pub returns-in-Ok-clause-taken : goal.returns-in-Ok-clause-taken
 returns-in-Ok-clause-taken g c name =
-    one-replied (GetSharedObject name) AnEmpty 0 (λ bs. record {}) (λ v. true) (λ cells. refl) (λ r. refl) c.in-Ok.ensures.taken
+    one-replied (GetSharedObject name) shape.Empty 0 (λ bs. record {}) (λ v. true) (λ cells. refl) (λ r. refl) c.in-Ok.ensures.taken
     (λ r is ok. ap (λ (f : Frontend). Some (answered f (Rattle.std.proofs.Common.Ok (HandleOf c.in-Ok.handle)))) (sym c.take_reply_with_handle.ensures.session))
 
 pub returns-in-Err-clause-taken : goal.returns-in-Err-clause-taken
 returns-in-Err-clause-taken g c name =
-    one-fails (GetSharedObject name) AnEmpty 0 (λ bs. record {}) (λ v. true) (λ cells. refl) (λ r. refl)
+    one-fails (GetSharedObject name) shape.Empty 0 (λ bs. record {}) (λ v. true) (λ cells. refl) (λ r. refl)
     (λ r t is ok several. ap (λ (x : Result (Value _) Error). Some (answered (session_of c.args.self.now) x)) (with-one-err (λ h. HandleOf h) r.handles _ several)) c.take_reply_with_handle.ensures.session c.in-Err.ensures.taken
