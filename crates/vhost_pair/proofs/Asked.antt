@@ -8,7 +8,8 @@ use Rattle.vhost_message.specs.FrontendReq.{request_number}
 use Rattle.vhost_message.specs.Header.{Header}
 use Rattle.vhost_message.specs.MsgHeader.{fields_of}
 use Rattle.vhost_protocol.specs.AnswerTable.{Answered}
-use Rattle.vhost_protocol.specs.Ask.{Awaited, Refuses, Sends, ask}
+use Rattle.vhost_protocol.specs.Ask.{Refuses, Sends, ask}
+use Rattle.vhost_protocol.specs.declared.asked.Awaited.{Awaited}
 use Rattle.vhost_protocol.specs.Error.{seen}
 use Rattle.vhost_protocol.specs.FrontendCall.{FrontendCall, Frontend}
 use Rattle.vhost_protocol.specs.Take.{take}
@@ -20,7 +21,6 @@ use Rattle.vhost_connection.specs.Talk.{State}
 use Rattle.vhost_frontend_core.specs.Asking as asking
 use Rattle.vhost_frontend_core.specs.Asking.{AsksWithRoom, Goes}
 use Rattle.vhost_frontend_core.specs.declared.asked.Sent.{Sent}
-use Rattle.vhost_frontend_core.specs.Session.{awaited_of}
 use Rattle.vhost_frontend_core.specs.Taking.{Reads, unread, read}
 use Rattle.vhost_pair.specs.OnWay.{incoming, outgoing, Carries}
 use Rattle.vhost_pair.specs.Joined.{IsUsed}
@@ -44,7 +44,7 @@ module _ (call : FrontendCall PlainHandle) (fe : End) (f : Frontend) (before : A
     pub asked : ask f call ≡ Sends message aw' f'
     pub request : outgoing fe' ≡ outgoing fe ++ written_cells request_number message
     pub incoming : incoming fe' ≡ incoming fe
-    pub awaits : awaited_of sent.awaited ≡ aw'
+    pub awaits : sent.awaited ≡ aw'
     pub header : fields_of sent.request ≡ head_of request_number message
     pub broken : fe'.broken ≡ None
     pub faulted : fe'.faulted ≡ false

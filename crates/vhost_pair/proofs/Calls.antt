@@ -3,7 +3,9 @@ use Rattle.std.proofs.Common.{◌≡◌, Bool, true, false, cond, [], Option, So
 use Rattle.std.specs.Prelude.{⊤}
 use Rattle.vhost_message.specs.declared.frontend_req.FrontendReq.{FrontendReq}
 use Rattle.vhost_message.specs.declared.frontend_req.FrontendReq.TheVariants.{SET_MEM_TABLE, ADD_MEM_REG}
-use Rattle.vhost_protocol.specs.Ask.{Asked, Awaited, Sends, ask, param, quietly, is_mapping, given, Nobody, ◌>>◌, ◌>>=◌}
+use Rattle.vhost_protocol.specs.Ask.{Asked, Sends, ask, param, quietly, is_mapping, given, ◌>>◌, ◌>>=◌}
+use Rattle.vhost_protocol.specs.declared.asked.Awaited.{Awaited}
+use Rattle.vhost_protocol.specs.declared.asked.Awaited.TheVariants.{Nobody}
 use Rattle.vhost_protocol.specs.Error.{Error}
 use Rattle.vhost_protocol.specs.FrontendCall.{FrontendCall, Frontend, SetLogBase, PostcopyAckMemRegions}
 use Rattle.vhost_protocol.specs.Joined.{is_end}

@@ -7,9 +7,11 @@ use Rattle.vhost_message.specs.declared.error.Error.TheVariants as error
 use Rattle.vhost_message.specs.declared.frontend_req.FrontendReq.{FrontendReq}
 use Rattle.vhost_message.specs.FrontendReq.{request_number}
 use Rattle.vhost_message.specs.MsgHeader.{fields_of}
+use Rattle.vhost_message.specs.declared.limits.TheConstants.{MAX_MSG_TEXT}
 use Rattle.vhost_protocol.specs.AnswerTable.{Answered, answered}
 use Rattle.vhost_protocol.specs.Ask as ask
-use Rattle.vhost_protocol.specs.Ask.{Awaited, ask}
+use Rattle.vhost_protocol.specs.Ask.{ask}
+use Rattle.vhost_protocol.specs.declared.asked.Awaited.{Awaited}
 use Rattle.vhost_protocol.specs.Error.{Error, OutOfMemory, seen, seen_result}
 use Rattle.vhost_protocol.specs.FrontendCall.{FrontendCall, SetHdrFlags, Value, Nothing, Frontend}
 use Rattle.vhost_protocol.specs.Handler.{Meets}
@@ -61,8 +63,8 @@ module _ {Dev : Type 0} (gives : Gives Dev) (call : FrontendCall PlainHandle) (b
     asked-whole : outgoing fe1 ≡ written_cells request_number w
     asked-whole = ask1.request ∙ ap (λ xs. xs ++ written_cells request_number w) sound.no_request
 
-    few-asked : length (outgoing fe1) ≤ 4108
-    few-asked = subst (λ cells. length cells ≤ 4108) (sym asked-whole) (few-written w (sendable call good old.frontend w aw1 f1 ask1.asked).size)
+    few-asked : length (outgoing fe1) ≤ MAX_MSG_TEXT
+    few-asked = subst (λ cells. length cells ≤ MAX_MSG_TEXT) (sym asked-whole) (few-written w (sendable call good old.frontend w aw1 f1 ask1.asked).size)
 
     module _ (ans : Result (Value PlainHandle) Error) (stop : Option Stop) (new : Parts Dev) (v : Served gives call sent (record old { asking = fe1; frontend = f1; awaited = aw1 }) ans stop new) where
       abbrev he1 : End
@@ -153,21 +155,21 @@ module _ {Dev : Type 0} (gives : Gives Dev) (call : FrontendCall PlainHandle) (b
           replied : List (Cell PlainHandle)
           replied = cells_of request_number (reply w.request h.outcome.served)
 
-          few-served : length (outgoing he2) ≤ 4108
-          few-served = subst (λ cells. length cells ≤ 4108) (sym h.written) k.few
+          few-served : length (outgoing he2) ≤ MAX_MSG_TEXT
+          few-served = subst (λ cells. length cells ≤ MAX_MSG_TEXT) (sym h.written) k.few
 
           is_reply : new.reply ≡ text_of replied
           is_reply = v.reply few-served ∙ ap text_of h.written
 
-          cut : ◌≡◌ {A = Option (Answered PlainHandle) × List (Cell PlainHandle)} (Some (answered new.frontend ans), incoming new.asking) (Some k.known.answered, [])
+          cut : ◌≡◌ {A = Option (Answered PlainHandle) × List (Cell PlainHandle)} (Some (answered new.frontend ans), incoming new.asking) (Some k.known.to_caller, [])
           cut = sym t.cut ∙ ap (λ cells. take call aw1 (fields_of sent.request) f1 cells) (arrived he2 fe2 new.serving fe3 v.back nothing-left ∙ h.written)
               ∙ ap (λ header. take call aw1 header f1 replied) ask1.header ∙ k.taken
 
-          some : Some (answered new.frontend ans) ≡ Some k.known.answered
+          some : Some (answered new.frontend ans) ≡ Some k.known.to_caller
           some = pair-first cut
 
-          session : new.frontend ≡ k.known.answered.session
-          session = ap {A = Option (Answered PlainHandle)} (λ x. (from_some (k.known.answered) x).session) some
+          session : new.frontend ≡ k.known.to_caller.session
+          session = ap {A = Option (Answered PlainHandle)} (λ x. (from_some (k.known.to_caller) x).session) some
 
           faultless : (new.asking.faulted || new.serving.faulted) ≡ false
           faultless = ap (λ b. b || new.serving.faulted) t.faulted ∙ ap {A = End} (λ e. e.faulted) v.back.sender ∙ h.faulted
@@ -186,7 +188,7 @@ module _ {Dev : Type 0} (gives : Gives Dev) (call : FrontendCall PlainHandle) (b
 
           in_step : last ≡ false → InStep new.frontend new.session new.awaited (outgoing new.asking ++ incoming new.serving) (outgoing new.serving ++ incoming new.asking)
           in_step before = record {
-            agree = subst (λ g. AgreeOn g new.session) (sym session) (subst (λ u. AgreeOn (k.known.answered.session) u) (sym h.session) (k.known.agree before));
+            agree = subst (λ g. AgreeOn g new.session) (sym session) (subst (λ u. AgreeOn (k.known.to_caller.session) u) (sym h.session) (k.known.agree before));
             nobody = v.quiet;
             no_request = no_request;
             no_reply = no_reply;
@@ -267,7 +269,7 @@ module _ {Dev : Type 0} (gives : Gives Dev) (call : FrontendCall PlainHandle) (b
           let here : asked ≡ old = by.same ∙ ap {A = End} (λ s. record old { asking = s; frontend = asked.frontend; awaited = asked.awaited }) unchanged ∙ ap {A = Frontend} (λ g. record old { frontend = g; awaited = asked.awaited }) u.session ∙ ap {A = Awaited} (λ a. record old { awaited = a }) u.awaits in
           let same : new ≡ record old { request = new.request; reply = no_text } = end.same ∙ ap {A = Parts Dev} (λ p. record p { request = new.request; reply = no_text }) here in
           let gone_none : outgoing asked.asking ≡ [] = ap {A = End} (λ s. outgoing s) unchanged ∙ sound.no_request in
-          let is_request : new.request ≡ text_of (outgoing old.asking) = end.request (subst (λ cells. length cells ≤ 4108) (sym gone_none) (omega arith)) ∙ ap {A = End} (λ s. text_of (outgoing s)) unchanged in
+          let is_request : new.request ≡ text_of (outgoing old.asking) = end.request (subst (λ cells. length cells ≤ MAX_MSG_TEXT) (sym gone_none) (omega arith)) ∙ ap {A = End} (λ s. text_of (outgoing s)) unchanged in
           inl (subst (λ t. Keeps gives (as_view old None) call (answer_of x.answer) (as_view new t)) (sym none)
           (subst (λ a. Keeps gives (as_view old None) call a (as_view new None)) (sym end.answer) (refused-here (seen e) new refuses same is_request)))
       by-cases (inr k) =

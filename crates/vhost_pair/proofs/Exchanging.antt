@@ -4,7 +4,8 @@ use Rattle.std.specs.Prelude.{IfSome}
 use Rattle.vhost_message.specs.declared.error.Error as declared
 use Rattle.vhost_message.specs.declared.error.Error.TheVariants as error
 use Rattle.vhost_message.specs.declared.frontend_req.FrontendReq.{FrontendReq}
-use Rattle.vhost_protocol.specs.Ask.{Awaited, Sends, ask}
+use Rattle.vhost_protocol.specs.Ask.{Sends, ask}
+use Rattle.vhost_protocol.specs.declared.asked.Awaited.{Awaited}
 use Rattle.vhost_protocol.specs.FrontendCall.{FrontendCall, SetHdrFlags, Nothing, Frontend}
 use Rattle.vhost_protocol.specs.Written.{Written}
 use Rattle.vhost_link.specs.declared.plain.PlainHandle.{PlainHandle}
@@ -14,7 +15,6 @@ use Rattle.vhost_frontend_core.specs.Asking as asking
 use Rattle.vhost_frontend_core.specs.Awaiting.{MayAwait}
 use Rattle.vhost_frontend_core.specs.Frontend.{endpoint_of, session_of, awaits}
 use Rattle.vhost_frontend_core.specs.Halves.{AsksHalfWithRoom}
-use Rattle.vhost_frontend_core.specs.Session.{awaited_of}
 use Rattle.vhost_frontend_core.specs.declared.asked.Sent.{Sent}
 use Rattle.vhost_frontend_core.specs.declared.internal.FrontendInternal.{FrontendInternal}
 use Rattle.vhost_frontend_core.proofs.Awaiting.{awaits-allowed}
@@ -45,7 +45,7 @@ module _ (call : FrontendCall PlainHandle) (old new : Core) where
   refusal-of : (e : declared.Error) → AsksCall call old (Err e) new → AsksHalfWithRoom event call old (Err e) new
   refusal-of e (halves.refused h) = h
 
-  sent-half : (sent : Sent) → AsksHalfWithRoom event call old (Ok sent) new → IsSent call × MayAwait call (awaited_of sent.awaited)
+  sent-half : (sent : Sent) → AsksHalfWithRoom event call old (Ok sent) new → IsSent call × MayAwait call sent.awaited
   sent-half sent (asking.roomy (asking.goes {w = w} {awaited = awaited} {f' = g} is goes)) =
       (sends-something (session_of old) call w awaited g is, subst (λ a. MayAwait call a) (sym goes.awaits) (awaits-allowed (session_of old) call w awaited g is))
 
@@ -53,7 +53,7 @@ module _ (call : FrontendCall PlainHandle) (old new : Core) where
   sent-in : (o : Option Sent) (sent : Sent) → o ≡ Some sent → AsksCall call old (Ok o) new → AsksHalfWithRoom event call old (Ok sent) new
   sent-in o sent is h = half-of sent (subst (λ (x : Option Sent). AsksCall call old (Ok x) new) is h)
 
-  pub sent-so : (o : Option Sent) (sent : Sent) → o ≡ Some sent → AsksCall call old (Ok o) new → IsSent call × MayAwait call (awaited_of sent.awaited)
+  pub sent-so : (o : Option Sent) (sent : Sent) → o ≡ Some sent → AsksCall call old (Ok o) new → IsSent call × MayAwait call sent.awaited
   sent-so o sent is h = sent-half sent (sent-in o sent is h)
 
   module _ {Dev : Type 0} (gives : Gives Dev) (before : Parts Dev) (asks : before.asking ≡ endpoint_of old) (frontend : before.frontend ≡ session_of old) (awaited : before.awaited ≡ awaits old) where

@@ -3,7 +3,9 @@ use Rattle.std.proofs.Common.{◌≡◌, ◌≤◌, Option, Some, None, Result, 
 use Rattle.std.specs.Prelude.{⊤, ◌||◌, is_err, IsOk}
 use Rattle.vhost_message.specs.declared.error.Error as declared
 use Rattle.vhost_message.specs.MsgHeader.{fields_of}
-use Rattle.vhost_protocol.specs.Ask.{Awaited, Nobody}
+use Rattle.vhost_message.specs.declared.limits.TheConstants.{MAX_MSG_TEXT}
+use Rattle.vhost_protocol.specs.declared.asked.Awaited.{Awaited}
+use Rattle.vhost_protocol.specs.declared.asked.Awaited.TheVariants.{Nobody}
 use Rattle.vhost_protocol.specs.Error.{Error}
 use Rattle.vhost_protocol.specs.FrontendCall.{FrontendCall, Value, Frontend}
 use Rattle.vhost_protocol.specs.Session.{Session}
@@ -11,7 +13,6 @@ use Rattle.vhost_link.specs.declared.plain.PlainHandle.{PlainHandle}
 use Rattle.vhost_link.specs.Mem.{event}
 use Rattle.vhost_backend_req_handler.specs.Serving.{HandlesOne}
 use Rattle.vhost_frontend_core.specs.declared.asked.Sent.{Sent}
-use Rattle.vhost_frontend_core.specs.Session.{awaited_of}
 use Rattle.vhost_frontend_calls.specs.Halves.{TakesResult}
 use Rattle.vhost_pair.specs.declared.halt.Stop.{Stop}
 use Rattle.vhost_pair.specs.declared.halt.Stop.TheVariants.{Premise}
@@ -43,12 +44,12 @@ module _ {Dev : Type 0} (gives : Gives Dev) (call : FrontendCall PlainHandle) (s
   HandlesSo he he' result s d = HandlesOne event gives opens_backend opens_gpu he old.session old.device result he' s d
 
   -- the request was copied, handed over, and the answer taken
-  module _ (copy : Text) (copied : length (outgoing old.asking) ≤ 4108 → copy ≡ text_of (outgoing old.asking)) (mid new : Parts Dev) where
+  module _ (copy : Text) (copied : length (outgoing old.asking) ≤ MAX_MSG_TEXT → copy ≡ text_of (outgoing old.asking)) (mid new : Parts Dev) where
     abbrev copied_parts : Parts Dev
     copied_parts = record old { request = copy }
 
     served-so : (result : Result ⊤ declared.Error) (answer : Result (Value PlainHandle) Error) (stop : Option Stop) → HandedOver gives copied_parts result mid
-        → TakesResult call (awaited_of sent.awaited) (fields_of sent.request) mid.asking mid.frontend answer new.asking new.frontend
+        → TakesResult call sent.awaited (fields_of sent.request) mid.asking mid.frontend answer new.asking new.frontend
         → new ≡ record mid { asking = new.asking; frontend = new.frontend; awaited = new.awaited } → new.awaited ≡ Nobody
         → stop ≡ stop_of (ends call) (new.asking.faulted || new.serving.faulted) result new.reply.bytes → Served gives call sent old answer stop new
     served-so result answer stop h takes same quiet stops =
@@ -64,7 +65,7 @@ module _ {Dev : Type 0} (gives : Gives Dev) (call : FrontendCall PlainHandle) (s
           handled = subst (λ s. old.session.failed ≡ None → HandlesSo h.serving_then h.serving_after result s new.device) session (subst (λ d. old.session.failed ≡ None → HandlesSo h.serving_then h.serving_after result mid.session d) device h.handled);
           asking_after = mid.asking;
           back = subst (λ e. Carries h.serving_after h.asking_then e mid.asking) serving h.back;
-          takes = subst (λ f. TakesResult call (awaited_of sent.awaited) (fields_of sent.request) mid.asking f answer new.asking new.frontend) (ap {A = Parts Dev} (λ p. p.frontend) h.same) takes;
+          takes = subst (λ f. TakesResult call sent.awaited (fields_of sent.request) mid.asking f answer new.asking new.frontend) (ap {A = Parts Dev} (λ p. p.frontend) h.same) takes;
           quiet = quiet;
           request = λ few. ap {A = Parts Dev} (λ p. p.request) same ∙ ap {A = Parts Dev} (λ p. p.request) h.same ∙ copied few;
           reply = λ few. ap {A = Parts Dev} (λ p. p.reply) same ∙ h.reply few;
@@ -72,7 +73,7 @@ module _ {Dev : Type 0} (gives : Gives Dev) (call : FrontendCall PlainHandle) (s
         }
 
     pub served-copied : (from : Parts Dev) (result : Result ⊤ declared.Error) (answer : Result (Value PlainHandle) Error) (stop : Option Stop) → from ≡ copied_parts → HandsOver gives from (Some result) mid
-        → TakesResult call (awaited_of sent.awaited) (fields_of sent.request) mid.asking mid.frontend answer new.asking new.frontend
+        → TakesResult call sent.awaited (fields_of sent.request) mid.asking mid.frontend answer new.asking new.frontend
         → new ≡ record mid { asking = new.asking; frontend = new.frontend; awaited = new.awaited } → new.awaited ≡ Nobody
         → stop ≡ stop_of (ends call) (new.asking.faulted || new.serving.faulted) result new.reply.bytes → Served gives call sent old answer stop new
     served-copied from result answer stop is h takes same quiet stops =

@@ -2,7 +2,9 @@
 use Rattle.std.proofs.Common.{◌≡◌, ℕ, Bool, true, false, cond, List, Option, Some, None, Result, Ok, Err, IfSome}
 use Rattle.std.specs.Prelude.{⊤, nat_le}
 use Rattle.vhost_protocol.specs.AnswerTable.{Answered, answered, answer, after_success, alone, with_one, changed, queues_reply, from_reply}
-use Rattle.vhost_protocol.specs.Ask.{Awaited, Nobody, Ack, Reply, Asked, Refuses, Answers, Sends, ask, given, ◌>>◌, ◌>>=◌}
+use Rattle.vhost_protocol.specs.Ask.{Asked, Refuses, Answers, Sends, ask, given, ◌>>◌, ◌>>=◌}
+use Rattle.vhost_protocol.specs.declared.asked.Awaited.{Awaited}
+use Rattle.vhost_protocol.specs.declared.asked.Awaited.TheVariants.{Nobody, Ack, Reply}
 use Rattle.vhost_protocol.specs.Error.{Error, InvalidMessage}
 use Rattle.vhost_protocol.specs.FrontendCall.{FrontendCall, GetFeatures, GetProtocolFeatures, GetQueueNum, SetMemTable, SetLogBase, GetVringBase, GetConfig, GetSharedObject, GetInflightFd, GetMaxMemSlots, AddMemRegion, GetShmemConfig, SetDeviceStateFd, CheckDeviceState, PostcopyAdvise, PostcopyListen, PostcopyEnd, SetHdrFlags, Value, Number, HandleOf, Frontend}
 use Rattle.vhost_protocol.specs.Served.{Served, Silent, Acknowledged, Replied}

@@ -102,7 +102,7 @@ module _ (old new : State Ends PlainHandle) (m : Move PlainHandle) (p : Talks ev
   incoming-cut cut cs true outcome e splits =
       let none = incoming-ended cs e in
       let front : incoming old ≡ cs = incoming-handed ∙ ap (λ is. cells_in is ++ incoming new) e ∙ ap (λ xs. xs ++ incoming new) (heard-cells cs true) ∙ ap (λ xs. cs ++ xs) none ∙ append-nil cs in
-      ap cut front ∙ splits ∙ ap (λ xs. (outcome, xs)) (sym none)
+      ap cut front ∙ splits.0 ∙ ap (λ xs. (outcome, xs)) (sym none)
   incoming-cut cut cs false outcome e splits =
       let front : incoming old ≡ cs ++ incoming new = incoming-handed ∙ ap (λ is. cells_in is ++ incoming new) e ∙ ap (λ xs. xs ++ incoming new) (heard-cells cs false) in
       ap cut front ∙ splits (incoming new)

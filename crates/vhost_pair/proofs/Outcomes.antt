@@ -1,6 +1,6 @@
 -- What becomes of a call, where the handler serves its request.
 use Rattle.std.proofs.Common.{◌≡◌, ℕ, ◌≤◌, inl, inr, false, List, [], ◌∷◌, length, Some, sym, ◌∙◌, subst, arith, lit<, length-append}
-use Rattle.std.specs.Prelude.{if◌then◌else◌}
+use Rattle.std.specs.Prelude.{if◌then◌else◌, Result}
 use Rattle.vhost_message.specs.Bits.{has_bit}
 use Rattle.vhost_message.specs.declared.frontend_req.FrontendReq.{FrontendReq}
 use Rattle.vhost_message.specs.declared.records.config.VhostUserConfig.{VhostUserConfig}
@@ -8,12 +8,15 @@ use Rattle.vhost_message.specs.declared.records.memory.VhostUserMemoryRegion.{Vh
 use Rattle.vhost_message.specs.FrontendReq.{request_of, request_number, request_of-request_number}
 use Rattle.vhost_message.specs.Header.{header_text}
 use Rattle.vhost_message.specs.LongRecords.{shmem_config-length}
+use Rattle.vhost_message.specs.declared.limits.TheConstants.{MAX_MSG_SIZE, MAX_MSG_TEXT}
 use Rattle.vhost_protocol.specs.Agreement.{IsNegotiated, IsKnown}
-use Rattle.vhost_protocol.specs.Ask.{Asked, Awaited, Sends, ask, Shape, AnEmpty, AU64, TheRegions, ARegion, AShmem, ARingState, AConfig, AnInflight, ALog}
-use Rattle.vhost_protocol.specs.Codes.{wanted}
+use Rattle.vhost_protocol.specs.Ask.{Asked, Sends, ask}
+use Rattle.vhost_protocol.specs.declared.asked.Awaited.{Awaited}
+use Rattle.vhost_protocol.specs.declared.asked.Shape.{Shape}
+use Rattle.vhost_protocol.specs.declared.asked.Shape.TheVariants as shape
+use Rattle.vhost_protocol.specs.Codes.{allows_handles}
 use Rattle.vhost_protocol.specs.DeviceCall.{Call, Answer}
 use Rattle.vhost_protocol.specs.Error.{Error}
-use Rattle.std.specs.Prelude.{Result}
 use Rattle.vhost_protocol.specs.FrontendCall.{FrontendCall, Frontend, SetMemTable, GetConfig}
 use Rattle.vhost_protocol.specs.Handler.{Follows, Meets}
 use Rattle.vhost_protocol.specs.Heard.{IsAwaitedBy, AsksPlainly, AsksSendable, IsSendable, IsGoodReply, shape_of}
@@ -40,33 +43,33 @@ use Rattle.vhost_frontend_calls.specs.Halves.{IsProper}
 
 -- ---- messages are short
 
-pub few-written : (w : Written FrontendReq PlainHandle) → length (payload_text w.payload) ≤ 4096 → length (written_cells request_number w) ≤ 4108
+pub few-written : (w : Written FrontendReq PlainHandle) → length (payload_text w.payload) ≤ MAX_MSG_SIZE → length (written_cells request_number w) ≤ MAX_MSG_TEXT
 few-written w small =
     rw (length-carrying w.handles (written_text request_number w), length-append (header_text (head_of request_number w)) (payload_text w.payload)) (omega (arith, small))
 
-table-small : (call : FrontendCall PlainHandle) (rs : List VhostUserMemoryRegion) → IsTableOf call rs → length (payload_text (Regions rs)) ≤ 4096
+table-small : (call : FrontendCall PlainHandle) (rs : List VhostUserMemoryRegion) → IsTableOf call rs → length (payload_text (Regions rs)) ≤ MAX_MSG_SIZE
 table-small (SetMemTable infos) rs good = omega (arith, regions-length rs, good.2)
 table-small _ rs good = absurd good
 
-config-small : (call : FrontendCall PlainHandle) (c : VhostUserConfig) (bytes : List ℕ) (handles : List PlainHandle) → IsConfigOf call c bytes handles → length (payload_text (ConfigBytes c bytes)) ≤ 4096
+config-small : (call : FrontendCall PlainHandle) (c : VhostUserConfig) (bytes : List ℕ) (handles : List PlainHandle) → IsConfigOf call c bytes handles → length (payload_text (ConfigBytes c bytes)) ≤ MAX_MSG_SIZE
 config-small (GetConfig o n k []) c bytes handles good = absurd good
-config-small (GetConfig o n k (b ∷ buffer)) c bytes handles (inl bare) = subst (λ (bs : List ℕ). length (payload_text (ConfigBytes c bs)) ≤ 4096) (sym bare.1) (lit< tt)
+config-small (GetConfig o n k (b ∷ buffer)) c bytes handles (inl bare) = subst (λ (bs : List ℕ). length (payload_text (ConfigBytes c bs)) ≤ MAX_MSG_SIZE) (sym bare.1) (lit< tt)
 config-small (GetConfig o n k (b ∷ buffer)) c bytes handles (inr whole) = omega (arith, whole.1)
 config-small _ c bytes handles good = absurd good
 
-reply-small : (call : FrontendCall PlainHandle) (shape : Shape) (payload : Payload) (handles : List PlainHandle) → IsReplyOf call shape payload handles → PayloadFits payload → length (payload_text payload) ≤ 4096
-reply-small call AnEmpty Empty handles good fits = omega arith
-reply-small call AU64 (U64 n) handles good fits = lit< tt
-reply-small call ARegion (OneRegion r) handles good fits = lit< tt
-reply-small call AShmem (Shmem c) handles good fits = omega (arith, shmem_config-length c fits)
-reply-small call ARingState (RingState v) handles good fits = lit< tt
-reply-small call AnInflight (InflightArea i) handles good fits = lit< tt
-reply-small call ALog (LogArea l) handles good fits = lit< tt
-reply-small call TheRegions (Regions rs) handles good fits = table-small call rs good
-reply-small call AConfig (ConfigBytes c bytes) handles good fits = config-small call c bytes handles good
+reply-small : (call : FrontendCall PlainHandle) (shape : Shape) (payload : Payload) (handles : List PlainHandle) → IsReplyOf call shape payload handles → PayloadFits payload → length (payload_text payload) ≤ MAX_MSG_SIZE
+reply-small call shape.Empty Empty handles good fits = omega arith
+reply-small call shape.U64 (U64 n) handles good fits = lit< tt
+reply-small call shape.SingleMemoryRegion (OneRegion r) handles good fits = lit< tt
+reply-small call shape.ShMemConfig (Shmem c) handles good fits = omega (arith, shmem_config-length c fits)
+reply-small call shape.VringState (RingState v) handles good fits = lit< tt
+reply-small call shape.Inflight (InflightArea i) handles good fits = lit< tt
+reply-small call shape.Log (LogArea l) handles good fits = lit< tt
+reply-small call shape.Memory (Regions rs) handles good fits = table-small call rs good
+reply-small call shape.Config (ConfigBytes c bytes) handles good fits = config-small call c bytes handles good
 reply-small call _ _ handles good fits = absurd good
 
-few-replied : (call : FrontendCall PlainHandle) (r : FrontendReq) (served : Served PlainHandle) → IsGoodReply call served → length (cells_of request_number (reply r served)) ≤ 4108
+few-replied : (call : FrontendCall PlainHandle) (r : FrontendReq) (served : Served PlainHandle) → IsGoodReply call served → length (cells_of request_number (reply r served)) ≤ MAX_MSG_TEXT
 few-replied call r Silent good = omega arith
 few-replied call r (Acknowledged agreed) good = few-written (reply_to r (U64 (if agreed then 0 else 1)) []) (lit< tt)
 few-replied call r (Replied payload handles) good = few-written (reply_to r payload handles) (reply-small call (shape_of call) payload handles good.0 good.1)
@@ -84,10 +87,10 @@ module _ {H B G Dev : Type 0} (gives wider : Dev → (c : Call H B G) → Answer
 -- ---- a call that was sent
 
 module _ (call : FrontendCall PlainHandle) (proper : IsProper call) (f : Frontend) (w : Written FrontendReq PlainHandle) (awaited : Awaited) (g : Frontend) (asked : ask f call ≡ Sends w awaited g) where
-  pub sendable : text.IsSendable request_of wanted request_number w
+  pub sendable : text.IsSendable request_of allows_handles request_number w
   sendable =
       let p : IsSendable w = subst (λ (x : Asked PlainHandle). AsksSendable x) asked (sends-whole PlainHandle f call proper.named) in
-      record { known = request_of-request_number w.request; code = request-small w.request; wants = p.wants; size = p.size }
+      record { known = request_of-request_number w.request; code = request-small w.request; allowed = p.allowed; size = p.size }
 
   plainly : IsAwaitedBy call awaited × (w.reply ≡ has_bit f.header_flags 2)
   plainly = subst (λ (x : Asked PlainHandle). AsksPlainly f call x) asked (awaits-shape PlainHandle f call)
@@ -96,10 +99,10 @@ module _ (call : FrontendCall PlainHandle) (proper : IsProper call) (f : Fronten
     -- What follows from the outcome of the handler's row.
     pub record Outcomes (o : Outcome PlainHandle) : Type 0 where
       pub known : IsKnown call awaited g w.request o
-      pub taken : take call awaited (head_of request_number w) g (cells_of request_number (reply w.request o.served)) ≡ (Some known.answered, [])
+      pub taken : take call awaited (head_of request_number w) g (cells_of request_number (reply w.request o.served)) ≡ (Some known.to_caller, [])
       pub meets : Meets gives opens_backend opens_gpu s d (read_as w) o d'
       pub failed : o.session.failed ≡ s.failed
-      pub few : length (cells_of request_number (reply w.request o.served)) ≤ 4108
+      pub few : length (cells_of request_number (reply w.request o.served)) ≤ MAX_MSG_TEXT
 
     pub outcomes : (o : Outcome PlainHandle) → Meets (fitting gives) opens_backend opens_gpu s d (read_as w) o d' → Outcomes o
     outcomes o met =
@@ -107,7 +110,7 @@ module _ (call : FrontendCall PlainHandle) (proper : IsProper call) (f : Fronten
         let good : IsGoodReply call o.served = met-good (fitting gives) opens_backend opens_gpu (λ old c a new p. p.1) f s call w awaited g d o d' proper.small asked met in
         record {
           known = known;
-          taken = hears-answer PlainHandle call awaited w g o.served known.answered (plainly.1 ∙ plain) plainly.0 good known.known;
+          taken = hears-answer PlainHandle call awaited w g o.served known.to_caller (plainly.1 ∙ plain) plainly.0 good known.known;
           meets = follows-wider (fitting gives) gives opens_backend opens_gpu (λ old c a new p. p.0) s d (row s (read_as w)) o d' met;
           failed = followed-mark (fitting gives) opens_backend opens_gpu s d (row s (read_as w)) o d' (rows-keep PlainHandle _ _ w.request s (read_as w)) met;
           few = few-replied call w.request o.served good;

@@ -2,7 +2,8 @@
 use Rattle.std.proofs.Common.{◌≡◌, ℕ, ◌+◌, suc, get_or, ◌<◌, List, [], ◌∷◌, ◌++◌, length, take, drop, Option, Some, None, Result, Ok, Err, refl, sym, ◌∙◌, ap, subst, arith, inl, append_assoc, false}
 use Rattle.std.proofs.lemmas.List.{append-nil, take-append-drop}
 use Rattle.std.proofs.Math.Seq.{take-suc, drop-cons}
-use Rattle.std.specs.Prelude.{⊤, is_some, is_err, OnOk, IfOk}
+use Rattle.std.specs.Prelude.{⊤, is_some, is_err, OnOk, IfOk, IsErrAnd}
+use Rattle.std.proofs.lemmas.Result.{err_from_is_err_and}
 use Rattle.vhost_frontend_calls.specs.declared.call.FrontendCall as code
 use Rattle.vhost_frontend_calls.specs.declared.answer.FrontendAnswer.{FrontendAnswer}
 use Rattle.vhost_pair.specs.declared.halt.Halt.{Halt}
@@ -73,9 +74,12 @@ module _ {Dev : Type 0} (gives : Gives Dev) (calls : List code.FrontendCall) (i 
       let e : suc i ≡ i + 1 = omega arith in
       subst (λ cs. Ran gives old cs before (after ++ a ∷ []) new) (sym (take-suc calls i d within) ∙ ap (λ n. take n calls) e) (ran-next gives old mid new (take i calls) before after (get_or calls i d) a r step)
 
-  pub ran-to : (old mid new : View Dev) (before after : List FrontendAnswer) (h : Halt)
-      → Ran gives old (take i calls) before after mid → Steps gives mid (call_of (get_or calls i d)) (Err h) new → RunsCalls gives old calls before (Err h) after new
-  ran-to old mid new before after h r step = subst (λ cs. RunsCalls gives old cs before (Err h) after new) cut-there (ran-until gives old mid new (take i calls) before after (get_or calls i d) (drop (suc i) calls) h r step)
+  -- a `?` ends them with its error
+  pub ran-to : (old mid new : View Dev) (before after : List FrontendAnswer) (result : Result ⊤ Halt) (h : Halt) → IsErrAnd result (λ y. y ≡ h)
+      → Ran gives old (take i calls) before after mid → Steps gives mid (call_of (get_or calls i d)) (Err h) new → RunsCalls gives old calls before result after new
+  ran-to old mid new before after result h exit r step =
+      let q = err_from_is_err_and result exit in
+      rw (q.1, q.2) (subst (λ cs. RunsCalls gives old cs before (Err h) after new) cut-there (ran-until gives old mid new (take i calls) before after (get_or calls i d) (drop (suc i) calls) h r step))
 
 -- what holds of a success, where there is no error
 pub held : {A E : Type 0} (r : Result A E) (P : Type 0) → is_err r ≡ false → IfOk r (λ a. P) → P

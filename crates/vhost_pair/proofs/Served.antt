@@ -6,7 +6,7 @@ use Rattle.vhost_message.specs.declared.error.Error as declared
 use Rattle.vhost_message.specs.declared.error.Error.TheVariants as error
 use Rattle.vhost_message.specs.declared.frontend_req.FrontendReq.{FrontendReq}
 use Rattle.vhost_message.specs.FrontendReq.{request_of, request_number}
-use Rattle.vhost_protocol.specs.Codes.{wanted}
+use Rattle.vhost_protocol.specs.Codes.{allows_handles}
 use Rattle.vhost_protocol.specs.Error.{Error, OutOfMemory, seen_result}
 use Rattle.vhost_protocol.specs.Handler.{Meets, MeetsRow}
 use Rattle.vhost_protocol.specs.Joined.{is_last, is_end, read_as}
@@ -62,15 +62,15 @@ module _ {Dev : Type 0} (gives : Gives Dev) (he he' : End) (s s' : Session) (d d
     pub faulted : he'.faulted ≡ false
     pub budget : he'.budget ≡ he.budget
 
-  pub is-served : (w : Written FrontendReq PlainHandle) (r : Result ⊤ Error) → IsSendable request_of wanted request_number w → IsHandled r → incoming he ≡ written_cells request_number w → outgoing he ≡ [] → s.failed ≡ None → IsServed w r
+  pub is-served : (w : Written FrontendReq PlainHandle) (r : Result ⊤ Error) → IsSendable request_of allows_handles request_number w → IsHandled r → incoming he ≡ written_cells request_number w → outgoing he ≡ [] → s.failed ≡ None → IsServed w r
   is-served w r sendable h came clear failed =
-      let sv : run.ServesUnless request_of wanted (λ (t : Session). t.failed) (MeetsRow (fitting gives) opens_backend opens_gpu) None s d h.move.handed r h.move.taken s' d' =
-      subst (λ x. run.ServesUnless request_of wanted (λ (t : Session). t.failed) (MeetsRow (fitting gives) opens_backend opens_gpu) x s d h.move.handed r h.move.taken s' d') failed h.handles in
-      let cut = incoming-cut he he' h.move h.talks (split request_of wanted) sv.1.0 sv.1.1 sv.0 sv.1.2 sv.1.3 in
-      let whole = written-split request_of wanted request_number w [] sendable in
-      let both = sym cut ∙ ap (λ cells. split request_of wanted cells) (came ∙ sym (append-nil (written_cells request_number w))) ∙ whole in
+      let sv : run.ServesUnless request_of allows_handles (λ (t : Session). t.failed) (MeetsRow (fitting gives) opens_backend opens_gpu) None s d h.move.handed r h.move.taken s' d' =
+      subst (λ x. run.ServesUnless request_of allows_handles (λ (t : Session). t.failed) (MeetsRow (fitting gives) opens_backend opens_gpu) x s d h.move.handed r h.move.taken s' d') failed h.handles in
+      let cut = incoming-cut he he' h.move h.talks (split request_of allows_handles) sv.1.0 sv.1.1 sv.0 sv.1.2 sv.1.3 in
+      let whole = written-split request_of allows_handles request_number w [] sendable in
+      let both = sym cut ∙ ap (λ cells. split request_of allows_handles cells) (came ∙ sym (append-nil (written_cells request_number w))) ∙ whole in
       let m : MeetsRow (fitting gives) opens_backend opens_gpu s d (read_as w) r h.move.taken s' d' =
-      subst (λ x. run.Handles request_of wanted (λ (t : Session). t.failed) (MeetsRow (fitting gives) opens_backend opens_gpu) s d x r h.move.taken s' d') (pair-first both) sv.2 in
+      subst (λ x. run.Handles request_of allows_handles (λ (t : Session). t.failed) (MeetsRow (fitting gives) opens_backend opens_gpu) s d x r h.move.taken s' d') (pair-first both) sv.2 in
       record {
         outcome = m.0;
         meets = m.1;
@@ -87,14 +87,14 @@ module _ {Dev : Type 0} (gives : Gives Dev) (he he' : End) (s s' : Session) (d d
 -- the mark of a session stays
 module _ {Dev : Type 0} (gives : Gives Dev) (he he' : End) (s s' : Session) (d d' : Dev) where
   handles-mark : (outcome : Result (Message FrontendReq PlainHandle) Error) (r : Result ⊤ Error) (written : List (Cell PlainHandle))
-      → run.Handles request_of wanted (λ (t : Session). t.failed) (MeetsRow (fitting gives) opens_backend opens_gpu) s d outcome r written s' d' → s'.failed ≡ s.failed
+      → run.Handles request_of allows_handles (λ (t : Session). t.failed) (MeetsRow (fitting gives) opens_backend opens_gpu) s d outcome r written s' d' → s'.failed ≡ s.failed
   handles-mark (Err e) r written h = ap {A = Session} (λ t. t.failed) h.2
   handles-mark (Ok m) r written h = ap {A = Session} (λ t. t.failed) h.4 ∙ followed-mark (fitting gives) opens_backend opens_gpu s d (row s m) h.0 d' (rows-keep PlainHandle _ _ m.request s m) h.1
 
   pub handled-mark : (r : Result ⊤ Error) → Handled event gives opens_backend opens_gpu he s d r he' s' d' → s.failed ≡ None → s'.failed ≡ None
   handled-mark r h failed =
-      let sv : run.ServesUnless request_of wanted (λ (t : Session). t.failed) (MeetsRow (fitting gives) opens_backend opens_gpu) None s d h.move.handed r h.move.taken s' d' =
-      subst (λ x. run.ServesUnless request_of wanted (λ (t : Session). t.failed) (MeetsRow (fitting gives) opens_backend opens_gpu) x s d h.move.handed r h.move.taken s' d') failed h.handles in
+      let sv : run.ServesUnless request_of allows_handles (λ (t : Session). t.failed) (MeetsRow (fitting gives) opens_backend opens_gpu) None s d h.move.handed r h.move.taken s' d' =
+      subst (λ x. run.ServesUnless request_of allows_handles (λ (t : Session). t.failed) (MeetsRow (fitting gives) opens_backend opens_gpu) x s d h.move.handed r h.move.taken s' d') failed h.handles in
       handles-mark sv.0 r h.move.taken sv.2 ∙ failed
 
 -- ---- where a run stops

@@ -6,13 +6,13 @@ use Rattle.vhost_message.specs.declared.error.Error as declared
 use Rattle.vhost_message.specs.declared.error.Error.TheVariants as error
 use Rattle.vhost_message.specs.MsgHeader.{fields_of}
 use Rattle.vhost_protocol.specs.AnswerTable.{answered}
-use Rattle.vhost_protocol.specs.Ask.{Awaited, Refuses, ask}
+use Rattle.vhost_protocol.specs.Ask.{Refuses, ask}
+use Rattle.vhost_protocol.specs.declared.asked.Awaited.{Awaited}
 use Rattle.vhost_protocol.specs.Error.{Error, seen, seen_result}
 use Rattle.vhost_protocol.specs.FrontendCall.{FrontendCall, Value, Frontend}
 use Rattle.vhost_protocol.specs.Session.{Session}
 use Rattle.vhost_link.specs.declared.plain.PlainHandle.{PlainHandle}
 use Rattle.vhost_frontend_core.specs.declared.asked.Sent.{Sent}
-use Rattle.vhost_frontend_core.specs.Session.{awaited_of}
 use Rattle.vhost_pair.specs.declared.halt.Stop.{Stop}
 use Rattle.vhost_pair.specs.declared.sides.Exchanged.{Exchanged}
 use Rattle.vhost_pair.specs.Device.{Gives}
@@ -43,7 +43,7 @@ module _ {Dev : Type 0} (gives : Gives Dev) (call : FrontendCall PlainHandle) (o
         by-cases (inl h) = h
         by-cases (inr k) = absurd (faulted-stops (ap (λ b. new.asking.faulted || b) (ap {A = End} (λ e. e.faulted) v.back.sender ∙ k.faulted) ∙ or-true new.asking.faulted))
 
-    taken : IsTaken call (awaited_of sent.awaited) (fields_of sent.request) f1 v.asking_after (Some (answered new.frontend ans)) new.asking
+    taken : IsTaken call sent.awaited (fields_of sent.request) f1 v.asking_after (Some (answered new.frontend ans)) new.asking
     taken = by-cases v.takes
       where
         whole : v.asking_after.broken ≡ None
@@ -55,9 +55,9 @@ module _ {Dev : Type 0} (gives : Gives Dev) (call : FrontendCall PlainHandle) (o
         list : v.asking_after.list ≡ true
         list = ap {A = End} (λ e. e.list) v.back.receiver ∙ ap {A = End} (λ e. e.list) v.there.sender ∙ ask1.list
 
-        by-cases : TakesResult call (awaited_of sent.awaited) (fields_of sent.request) v.asking_after f1 ans new.asking new.frontend
-            → IsTaken call (awaited_of sent.awaited) (fields_of sent.request) f1 v.asking_after (Some (answered new.frontend ans)) new.asking
-        by-cases (inl t) = is-taken call (awaited_of sent.awaited) (fields_of sent.request) f1 v.asking_after (Some (answered new.frontend ans)) whole faultless t
+        by-cases : TakesResult call sent.awaited (fields_of sent.request) v.asking_after f1 ans new.asking new.frontend
+            → IsTaken call sent.awaited (fields_of sent.request) f1 v.asking_after (Some (answered new.frontend ans)) new.asking
+        by-cases (inl t) = is-taken call sent.awaited (fields_of sent.request) f1 v.asking_after (Some (answered new.frontend ans)) whole faultless t
         by-cases (inr (same, e, fails)) =
             let k : Faults v.asking_after new.asking = faults v.asking_after new.asking true e fails whole list in
             absurd (faulted-stops (ap (λ b. b || new.serving.faulted) k.faulted))

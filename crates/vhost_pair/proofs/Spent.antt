@@ -4,6 +4,7 @@ use Rattle.std.specs.Prelude.{sum_by}
 use Rattle.std.proofs.lemmas.List.{drop-drop}
 use Rattle.std.proofs.lemmas.List.Sums.{sum_by-append}
 use Rattle.std.proofs.Math.Seq.{take-add}
+use Rattle.vhost_message.specs.declared.limits.TheConstants.{MAX_MSG_TEXT}
 use Rattle.vhost_message.specs.declared.error.Error as declared
 use Rattle.vhost_message.specs.declared.error.Error.TheVariants as error
 use Rattle.vhost_link.specs.declared.plain.PlainHandle.{PlainHandle}
@@ -49,7 +50,7 @@ pub record Faults (old new : State Ends PlainHandle) : Type 0 where
   pub move : Move PlainHandle
   pub talks : Talks event old move new
   pub spends : Spends old.budget move
-  pub few : length move.taken ≤ 4108
+  pub few : length move.taken ≤ MAX_MSG_TEXT
   pub faulted : new.faulted ≡ true
 
 pub faults : (old new : State Ends PlainHandle) (between : Bool) (e : declared.Error) → Fails event old between e new → old.broken ≡ None → old.list ≡ true → Faults old new

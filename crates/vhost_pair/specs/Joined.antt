@@ -9,7 +9,8 @@ use Rattle.vhost_protocol.specs.Agreement.{Negotiates}
 use Rattle.vhost_protocol.specs.DeviceCall.{GetFeatures}
 use Rattle.vhost_protocol.specs.Features.{PROTOCOL_FEATURES}
 use Rattle.vhost_protocol.specs.FrontendCall.{FrontendCall, Value, Frontend}
-use Rattle.vhost_protocol.specs.Ask.{Awaited, Sends, ask}
+use Rattle.vhost_protocol.specs.Ask.{Sends, ask}
+use Rattle.vhost_protocol.specs.declared.asked.Awaited.{Awaited}
 use Rattle.vhost_protocol.specs.Handler.{Meets}
 use Rattle.vhost_protocol.specs.Joined.{Shown, InStep, JoinedStep, read_as}
 use Rattle.vhost_protocol.specs.Step.{Outcome}

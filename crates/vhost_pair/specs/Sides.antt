@@ -3,9 +3,12 @@ use Rattle.std.specs.Prelude.{◌≡◌, ℕ, ◌≤◌, List, [], ◌++◌, len
 use Rattle.vhost_message.specs.declared.error.Error as declared
 use Rattle.vhost_message.specs.declared.error.Error.TheVariants.{OutOfMemory}
 use Rattle.vhost_message.specs.MsgHeader.{fields_of}
+use Rattle.vhost_message.specs.declared.limits.TheConstants.{MAX_MSG_TEXT}
 use Rattle.vhost_protocol.specs.Error.{Error, seen}
 use Rattle.vhost_protocol.specs.FrontendCall.{FrontendCall, PostcopyEnd, SetHdrFlags, Value, Nothing, Frontend, new_frontend}
-use Rattle.vhost_protocol.specs.Ask.{Awaited, Nobody, ask}
+use Rattle.vhost_protocol.specs.Ask.{ask}
+use Rattle.vhost_protocol.specs.declared.asked.Awaited.{Awaited}
+use Rattle.vhost_protocol.specs.declared.asked.Awaited.TheVariants.{Nobody}
 use Rattle.vhost_protocol.specs.Session.{Session, fresh as new_session}
 use Rattle.vhost_link.specs.declared.plain.PlainHandle.{PlainHandle}
 use Rattle.vhost_link.specs.declared.cut.Cut.{Cut}
@@ -17,7 +20,6 @@ use Rattle.vhost_backend_req_handler.specs.Core as core
 use Rattle.vhost_backend_req_handler.specs.Serving.{HandlesOne}
 use Rattle.vhost_frontend_core.specs.Asking.{AsksWithRoom}
 use Rattle.vhost_frontend_core.specs.Frontend as frontend
-use Rattle.vhost_frontend_core.specs.Session.{awaited_of}
 use Rattle.vhost_frontend_core.specs.declared.asked.Sent.{Sent}
 use Rattle.vhost_pair.specs.declared.halt.Halt.{Halt}
 use Rattle.vhost_pair.specs.declared.halt.Halt.TheVariants as halt
@@ -125,7 +127,7 @@ stop_of _ _ _ _ = None
 pub record EndsUnsent {Dev : Type 0} (e : declared.Error) (old : Parts Dev) (x : Exchanged) (new : Parts Dev) : Type 0 where
   pub answer : answer_of x.answer ≡ Err (seen e)
   pub same : new ≡ record old { request = new.request; reply = no_text }
-  pub request : length (outgoing old.asking) ≤ 4108 → new.request ≡ text_of (outgoing old.asking)
+  pub request : length (outgoing old.asking) ≤ MAX_MSG_TEXT → new.request ≡ text_of (outgoing old.asking)
   pub stopped : old.asking.faulted ≡ true → x.stop ≡ Some Premise
   pub goes_on : old.asking.faulted ≡ false → x.stop ≡ None
 
@@ -144,7 +146,7 @@ module _ {Dev : Type 0} (gives : Gives Dev) where
     pub serving_after : State Ends PlainHandle
     pub handled : old.session.failed ≡ None → HandlesOne event gives opens_backend opens_gpu serving_then old.session old.device result serving_after new.session new.device
     pub back : Carries serving_after asking_then new.serving new.asking
-    pub reply : length (outgoing serving_after) ≤ 4108 → new.reply ≡ text_of (outgoing serving_after)
+    pub reply : length (outgoing serving_after) ≤ MAX_MSG_TEXT → new.reply ≡ text_of (outgoing serving_after)
     pub same : new ≡ record old { asking = new.asking; serving = new.serving; session = new.session; device = new.device; reply = new.reply }
 
   -- The same; or the request found no room where the handler had more to receive, or the reply where the frontend had.
@@ -166,10 +168,10 @@ module _ {Dev : Type 0} (gives : Gives Dev) (call : FrontendCall PlainHandle) wh
     pub handled : old.session.failed ≡ None → HandlesOne event gives opens_backend opens_gpu serving_then old.session old.device result serving_after new.session new.device
     pub asking_after : State Ends PlainHandle
     pub back : Carries serving_after asking_then new.serving asking_after
-    pub takes : TakesResult call (awaited_of sent.awaited) (fields_of sent.request) asking_after old.frontend answer new.asking new.frontend
+    pub takes : TakesResult call sent.awaited (fields_of sent.request) asking_after old.frontend answer new.asking new.frontend
     pub quiet : new.awaited ≡ Nobody
-    pub request : length (outgoing old.asking) ≤ 4108 → new.request ≡ text_of (outgoing old.asking)
-    pub reply : length (outgoing serving_after) ≤ 4108 → new.reply ≡ text_of (outgoing serving_after)
+    pub request : length (outgoing old.asking) ≤ MAX_MSG_TEXT → new.request ≡ text_of (outgoing old.asking)
+    pub reply : length (outgoing serving_after) ≤ MAX_MSG_TEXT → new.reply ≡ text_of (outgoing serving_after)
     pub stops : stop ≡ stop_of (ends call) (new.asking.faulted || new.serving.faulted) result new.reply.bytes
 
   -- The same; or the request found no room where the handler had more to receive, or the reply where the frontend had.

@@ -5,8 +5,6 @@ mod halt;
 mod joined;
 mod law;
 mod sides;
-#[cfg(test)]
-mod tests;
 mod ways;
 mod wire;
 

@@ -41,7 +41,6 @@ impl<D: VhostUserBackendReqHandlerMut<Link = MemLink>> Sides<D> {
     ghost use Rattle.vhost_frontend_core.specs.Awaiting.{MayAwait};
     ghost use Rattle.vhost_frontend_core.specs.Frontend.{endpoint_of as asking_end};
     ghost use Rattle.vhost_frontend_core.specs.Kept.{IsKeptFor};
-    ghost use Rattle.vhost_frontend_core.specs.Session.{awaited_of};
     ghost use Rattle.vhost_frontend_calls.specs.Halves.{IsSent};
     ghost use Rattle.vhost_pair.specs.Sides.{parts_of, fresh_parts, HaveLists, Exchanges, Serves, HandsOver, EndsUnsent, stop_of};
     ghost use Rattle.vhost_pair.specs.Text.{no_text};
@@ -152,8 +151,8 @@ impl<D: VhostUserBackendReqHandlerMut<Link = MemLink>> Sides<D> {
     /// Has a request served that was sent, and takes its answer.
     fn serve(&mut self, call: &FrontendCall, sent: Sent) -> Exchanged
         requires sent { IsSent (call_of call.now) }
-        requires awaited { MayAwait (call_of call.now) (awaited_of sent.awaited) }
-        requires kept { IsKeptFor (call_of call.now) (awaited_of sent.awaited) sent.kept }
+        requires awaited { MayAwait (call_of call.now) sent.awaited }
+        requires kept { IsKeptFor (call_of call.now) sent.awaited sent.kept }
         ensures { Serves D.gives (call_of call.now) sent (parts_of self.old) result (parts_of self.new) }
     {
         copy_request(&mut self.frontend, &mut self.request);

@@ -4,6 +4,7 @@ ghost use Rattle.std.specs.Prelude.{◌≡◌, ◌≤◌, [], IfOk, IfErr, OnOk,
 ghost use Rattle.vhost_backend_req_handler.specs.Core.{endpoint_of as serving, session_in};
 ghost use Rattle.vhost_connection.specs.State.{state};
 ghost use Rattle.vhost_message.specs.declared.error.Error.TheVariants.{OutOfMemory};
+ghost use Rattle.vhost_message.specs.declared.limits.TheConstants.{MAX_MSG_TEXT};
 ghost use Rattle.vhost_frontend_core.specs.Frontend.{endpoint_of as asking, session_of, awaits};
 ghost use Rattle.vhost_pair.specs.OnWay.{outgoing, Carries};
 ghost use Rattle.vhost_pair.specs.Text.{text_of};
@@ -34,7 +35,7 @@ fn carry(from: &mut End, to: &mut End) -> Result<()>
 
 /// Copies what an endpoint sent.
 fn copy(end: &mut End, wire: &mut Wire)
-    ensures text { length (outgoing (state end.old)) ≤ 4108 → text_in wire.new ≡ text_of (outgoing (state end.old)) }
+    ensures text { length (outgoing (state end.old)) ≤ MAX_MSG_TEXT → text_in wire.new ≡ text_of (outgoing (state end.old)) }
     ensures same { state end.new ≡ state end.old }
 {
     wire.copy(end.link().taken());
@@ -74,7 +75,7 @@ pub fn carry_reply(
 
 /// Copies what the frontend sent.
 pub fn copy_request(frontend: &mut FrontendInternal<MemLink>, wire: &mut Wire)
-    ensures text { length (outgoing (asking frontend.old)) ≤ 4108 → text_in wire.new ≡ text_of (outgoing (asking frontend.old)) }
+    ensures text { length (outgoing (asking frontend.old)) ≤ MAX_MSG_TEXT → text_in wire.new ≡ text_of (outgoing (asking frontend.old)) }
     ensures same { asking frontend.new ≡ asking frontend.old }
     ensures frontend { (session_of frontend.new ≡ session_of frontend.old) × (awaits frontend.new ≡ awaits frontend.old) }
 {
@@ -83,7 +84,7 @@ pub fn copy_request(frontend: &mut FrontendInternal<MemLink>, wire: &mut Wire)
 
 /// Copies what the handler sent.
 pub fn copy_reply(handler: &mut SessionCore<MemLink>, wire: &mut Wire)
-    ensures text { length (outgoing (serving handler.old)) ≤ 4108 → text_in wire.new ≡ text_of (outgoing (serving handler.old)) }
+    ensures text { length (outgoing (serving handler.old)) ≤ MAX_MSG_TEXT → text_in wire.new ≡ text_of (outgoing (serving handler.old)) }
     ensures same { serving handler.new ≡ serving handler.old }
     ensures handler { session_in handler.new ≡ session_in handler.old }
 {

@@ -2,23 +2,20 @@
 
 ghost use Rattle.std.specs.Prelude.{◌≡◌, ◌≤◌, length, IfOk, vec_capacity};
 ghost use Rattle.vhost_protocol.specs.Stream.{bytes, first_handles};
+ghost use Rattle.vhost_message.specs.declared.limits.TheConstants.{MAX_ATTACHED_FD_ENTRIES, MAX_MSG_TEXT};
 ghost use Rattle.vhost_pair.specs.Text.{text_of, no_text};
 
 use std::alloc::{AllocError, Global};
 use std::collections::VecDeque;
 use vhost_link::{HeldByte, PlainHandle};
-
-/// The greatest message, in bytes, and the most handles on its first byte.
-const MOST: usize = 4108;
-
-const MOST_HANDLES: usize = 32;
+use vhost_message::{MAX_ATTACHED_FD_ENTRIES, MAX_MSG_TEXT};
 
 /// The bytes of a message and the handles on its first byte, with room for the greatest one.
 #[derive(Drop)]
 pub struct Wire {
     bytes: Vec<u8>,
     handles: Vec<PlainHandle>,
-    ghost room: { (4108 ≤ vec_capacity bytes) × (32 ≤ vec_capacity handles) },
+    ghost room: { (MAX_MSG_TEXT ≤ vec_capacity bytes) × (MAX_ATTACHED_FD_ENTRIES ≤ vec_capacity handles) },
 }
 
 impl Wire {
@@ -29,8 +26,8 @@ impl Wire {
         ensures { IfOk result (λ wire. text_in wire ≡ no_text) }
     {
         Ok(Wire {
-            bytes: Vec::with_capacity(alloc, MOST)?,
-            handles: Vec::with_capacity(alloc, MOST_HANDLES)?,
+            bytes: Vec::with_capacity(alloc, MAX_MSG_TEXT)?,
+            handles: Vec::with_capacity(alloc, MAX_ATTACHED_FD_ENTRIES)?,
         })
     }
 
@@ -59,9 +56,9 @@ impl Wire {
     /// Copies the bytes that a link took in, and the handles on the first. More than the greatest message is no message:
     /// nothing is copied of it.
     pub fn copy(&mut self, sent: &VecDeque<HeldByte>)
-        ensures { length sent.now.items ≤ 4108 → text_in self.new ≡ text_of sent.now.items }
+        ensures { length sent.now.items ≤ MAX_MSG_TEXT → text_in self.new ≡ text_of sent.now.items }
     {
-        if sent.len() > MOST {
+        if sent.len() > MAX_MSG_TEXT {
             return;
         }
         copy_bytes(&mut self.bytes, sent);
@@ -83,7 +80,7 @@ fn copy_bytes(out: &mut Vec<u8>, sent: &VecDeque<HeldByte>)
 
 /// Copies the handles on the first byte into a list that has room for them.
 fn copy_handles(out: &mut Vec<PlainHandle>, sent: &VecDeque<HeldByte>)
-    requires { 32 ≤ vec_capacity out.old }
+    requires { MAX_ATTACHED_FD_ENTRIES ≤ vec_capacity out.old }
     ensures items { out.new.items ≡ first_handles sent.now.items }
     ensures room { vec_capacity out.new ≡ vec_capacity out.old }
 {

@@ -1,6 +1,5 @@
 use Rattle.std.proofs.Common.{◌∙◌, sym, subst, arith, take, [], Ok, Err, ◌+◌}
 use Rattle.std.proofs.lemmas.List.{take_all}
-use Rattle.std.proofs.lemmas.Result.{err_from_is_err_and}
 use Rattle.vhost_frontend_calls.specs.Calls.{call_of}
 use Rattle.vhost_pair.proofs.Running.{Ran, ran-none, ran-all, ran-one, ran-to, found}
 use Rattle.vhost_pair.specs.Joined.{Steps, RunsCalls}
@@ -22,9 +21,8 @@ loop-call-preserved g c = record {
 
 pub returns-in_err-answer : goal.returns-in_err-answer
 returns-in_err-answer g c =
-    let p = err_from_is_err_and c.from_residual.result c.from_residual.ensures.1 in
-    rw (p.1, p.2) (ran-to g.D.VhostUserBackendReqHandlerMut.gives c.args.calls.now c.loop-call.call-index c.call-item.result c.loop-call-test.true c.args.self.now c.loop-call.self c.step.new.self c.args.out.now.items c.loop-call.out.items c.in_err-answer.field-0.0 c.loop-call.invariant.ran
-    (subst (λ call. Steps g.D.VhostUserBackendReqHandlerMut.gives c.loop-call.self (call_of call) (Err c.in_err-answer.field-0.0) c.step.new.self) c.call-item.is c.in_err-answer.ensures))
+    ran-to g.D.VhostUserBackendReqHandlerMut.gives c.args.calls.now c.loop-call.call-index c.call-item.result c.loop-call-test.true c.args.self.now c.loop-call.self c.step.new.self c.args.out.now.items c.loop-call.out.items c.from_residual.result c.in_err-answer.field-0.0 c.from_residual.ensures.1 c.loop-call.invariant.ran
+    (subst (λ call. Steps g.D.VhostUserBackendReqHandlerMut.gives c.loop-call.self (call_of call) (Err c.in_err-answer.field-0.0) c.step.new.self) c.call-item.is c.in_err-answer.ensures)
 
 pub returns : goal.returns
 returns g c =
