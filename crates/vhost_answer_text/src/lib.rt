@@ -5,8 +5,6 @@ mod answer;
 mod error;
 mod lists;
 mod message;
-#[cfg(test)]
-mod tests;
 
 pub use answer::Answer;
 pub use message::Message;

@@ -15,8 +15,6 @@ mod region;
 mod ring;
 mod several;
 mod single;
-#[cfg(test)]
-mod tests;
 mod words;
 
 pub use line::call_of;

@@ -8,7 +8,8 @@ use Rattle.vhost_pair.specs.declared.halt.Halt.{Halt}
 use Rattle.vhost_pair.specs.declared.halt.Stop.{Stop}
 use Rattle.vhost_call_words.specs.Calls.{Call, call_in}
 use Rattle.vhost_lines.specs.Lines.{lines, bad_line, GivesLine}
-use Rattle.vhost_lines.specs.Shown.{good_lines, AnswersCall, AnswersAll, ShowsText}
+use Rattle.vhost_lines.specs.Output.{AppendsFront}
+use Rattle.vhost_lines.specs.Shown.{good_lines, AnswersCall, AnswersAll, ShowsText, ShowsFrontOf}
 
 -- what is written twice
 pub Appends-twice : (a b c : Option (List ℕ)) (x y : List ℕ) → Appends a b x → Appends b c y → Appends a c (x ++ y)
@@ -124,3 +125,38 @@ module _ {V : Type 0} (Step : V → Call → Result FrontendAnswer Halt → V �
       let given : GivesLine (Some goes.rest) after true line = rw goes.is_left at gives in
       let found : (ls : List (List ℕ)) → bad_line n (line ∷ ls) ≡ Some n = λ ls. rw (sym is) refl in
       sym (goes.bad ∙ ap (bad_line n) given.2 ∙ found (lines given.0))
+
+  -- no line is answered yet
+  pub front-none : (IsFresh : V → Type 0) (before : Option (List ℕ)) (start : V) (out : Option (List ℕ)) → IsFresh start
+      → IfSome before (λ text. ShowsFrontOf Step request_of reply_of stopped_of IsFresh text out out)
+  front-none IsFresh None start out fresh = tt
+  front-none IsFresh (Some whole) start out fresh =
+      (start, start, [], good_lines (lines whole), [], fresh, refl, (refl, refl), ([], [], refl, Appends-none out))
+
+  -- the lines so far are shown whole
+  pub front-now : (IsFresh : V → Type 0) (before : Option (List ℕ)) (start now : V) (old out left : Option (List ℕ)) (n : ℕ) → IsFresh start
+      → GoesOn before start now old out left n → IfSome before (λ text. ShowsFrontOf Step request_of reply_of stopped_of IsFresh text old out)
+  front-now IsFresh None start now old out left n fresh goes = tt
+  front-now IsFresh (Some whole) start now old out left n fresh goes =
+      (start, now, goes.done, good_lines (lines goes.rest), goes.shown, fresh, goes.good, goes.answered, (goes.shown, [], sym (append-nil goes.shown), goes.written))
+
+  -- of the last line a front is shown
+  pub front-next : (IsFresh : V → Type 0) (before : Option (List ℕ)) (start now : V) (old out left : Option (List ℕ)) (n : ℕ) (line : List ℕ) (call : Call) (text : List ℕ) (new : V) (later after : Option (List ℕ))
+      → IsFresh start → GoesOn before start now old out left n → GivesLine left after true line → Some call ≡ call_in line
+      → AnswersCall Step request_of reply_of stopped_of now call text new → AppendsFront out later text
+      → IfSome before (λ whole. ShowsFrontOf Step request_of reply_of stopped_of IsFresh whole old later)
+  front-next IsFresh None start now old out left n line call text new later after fresh goes gives is one written = tt
+  front-next IsFresh (Some whole) start now old out left n line call text new later after fresh goes gives is one (front, rest, split, written) =
+      let given : GivesLine (Some goes.rest) after true line = rw goes.is_left at gives in
+      let good : (ls : List (List ℕ)) → good_lines (line ∷ ls) ≡ line ∷ good_lines ls = λ ls. rw (sym is) refl in (
+        start,
+        new,
+        goes.done ++ line ∷ [],
+        good_lines (lines given.0),
+        goes.shown ++ text,
+        fresh,
+        goes.good ∙ ap (λ ls. goes.done ++ good_lines ls) given.2 ∙ ap (λ ls. goes.done ++ ls) (good (lines given.0))
+            ∙ sym (append_assoc goes.done (line ∷ []) (good_lines (lines given.0))),
+        answers-more start goes.done goes.shown now line call text new goes.answered (sym is) one,
+        (goes.shown ++ front, rest, ap (λ t. goes.shown ++ t) split ∙ sym (append_assoc goes.shown front rest), Appends-twice old out later goes.shown front goes.written written),
+      )

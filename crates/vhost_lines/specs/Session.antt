@@ -14,7 +14,7 @@ use Rattle.vhost_pair.specs.Sides.{as_view, fresh_parts}
 use Rattle.vhost_pair.specs.Text.{Text}
 use Rattle.vhost_pair.specs.declared.halt.Halt.{Halt}
 use Rattle.vhost_pair.specs.declared.halt.Stop.{Stop}
-use Rattle.vhost_lines.specs.Shown.{AnswersCall, ShowsText}
+use Rattle.vhost_lines.specs.Shown.{AnswersCall, ShowsText, ShowsFrontOf}
 
 -- the example device
 abbrev pub Device : Type 0
@@ -56,3 +56,7 @@ Answers = AnswersCall Steps request_of reply_of stopped_of
 -- what is written shows the lines of a text, answered by a session as it begins, up to the first one that is no call
 abbrev pub ShowsLines : List ℕ → Option (List ℕ) → Option (List ℕ) → Type 0
 ShowsLines = ShowsText Steps request_of reply_of stopped_of IsFresh
+
+-- what is written is a front of what the lines of a text show, answered by a session as it begins
+abbrev pub ShowsFront : List ℕ → Option (List ℕ) → Option (List ℕ) → Type 0
+ShowsFront = ShowsFrontOf Steps request_of reply_of stopped_of IsFresh

@@ -9,6 +9,7 @@ use Rattle.vhost_pair.specs.declared.halt.Stop.TheVariants.{Premise}
 use Rattle.std.specs.Io.KnownBytes.{Appends}
 use Rattle.vhost_call_words.specs.Calls.{Call, call_in}
 use Rattle.vhost_lines.specs.Lines.{lines}
+use Rattle.vhost_lines.specs.Output.{AppendsFront}
 use Rattle.vhost_answer_text.specs.Text.{message_text, answer_text}
 
 -- the lines before the first one that is no call
@@ -43,3 +44,9 @@ module _ {V : Type 0} (Step : V → Call → Result FrontendAnswer Halt → V �
   -- From a session as it begins, the lines of a text that are calls up to the first one that is none are answered, and what is written is what they show.
   abbrev pub ShowsText : (V → Type 0) → List ℕ → Option (List ℕ) → Option (List ℕ) → Type 0
   ShowsText IsFresh text old new = (start end : V) × (shown : List ℕ) × IsFresh start × AnswersAll start (good_lines (lines text)) shown end × Appends old new shown
+
+  -- What is written is a front of what such lines show, up to some line: all of it, or what came before a write that failed.
+  abbrev pub ShowsFrontOf : (V → Type 0) → List ℕ → Option (List ℕ) → Option (List ℕ) → Type 0
+  ShowsFrontOf IsFresh text old new =
+      (start end : V) × (done later : List (List ℕ)) × (shown : List ℕ)
+      × IsFresh start × (good_lines (lines text) ≡ done ++ later) × AnswersAll start done shown end × AppendsFront old new shown

@@ -2,6 +2,9 @@
 #![tactic(auto)]
 
 mod device;
+mod fault;
 mod lines;
+mod output;
 
+pub use fault::Fault;
 pub use lines::run_lines;

@@ -1,17 +1,19 @@
 //! The lines of the input, each answered in its turn.
 
-ghost use Rattle.std.specs.Prelude.{◌≡◌, ◌≢◌, ◌≤◌, ℕ, List, Some, IfSome, IfOk, OnOk, codes};
+ghost use Rattle.std.specs.Prelude.{◌≡◌, ◌≢◌, ◌≤◌, Some, IfSome, IfOk, OnOk, codes};
 ghost use Rattle.vhost_pair.specs.declared.halt.Stop.TheVariants.{Premise};
 ghost use Rattle.std.specs.Io.KnownBytes.{Appends};
 ghost use Rattle.vhost_lines.specs.Lines.{lines, bad_line, status_of, complaint_of, GivesLine};
 ghost use Rattle.vhost_lines.specs.Shown.{line_text};
 ghost use Rattle.vhost_frontend_calls.specs.Calls.{call_of};
-ghost use Rattle.vhost_lines.specs.Session.{IsFresh, Answers, ShowsLines, request_of, reply_of, stopped_of};
+ghost use Rattle.vhost_lines.specs.Session.{IsFresh, Answers, ShowsLines, ShowsFront, request_of, reply_of, stopped_of};
 
 use crate::device::{Device, new_device};
-use std::alloc::{AllocError, Global};
+use crate::fault::{Fault, input_fault};
+use crate::output::write_line;
+use std::alloc::Global;
 use std::io;
-use std::io::{BufRead, Write};
+use std::io::{BufRead, ErrorKind, Write};
 use vhost_answer_text::{Answer, Message};
 use vhost_call_words::call_of;
 use vhost_frontend_calls::{FrontendAnswer, FrontendCall};
@@ -20,33 +22,13 @@ use vhost_pair::{Halt, Joined, Stop};
 /// A frontend joined to the example device.
 type Session = Joined<Device>;
 
-/// The lines can't go on: a reader, a writer or a link failed, or memory was refused.
-#[derive(Clone, Copy)]
-struct Fault;
-
-impl From<io::Error> for Fault {
-    fn from(_error: io::Error) -> Fault {
-        Fault
-    }
-}
-
-impl From<AllocError> for Fault {
-    fn from(_error: AllocError) -> Fault {
-        Fault
-    }
-}
-
-impl From<Halt> for Fault {
-    fn from(_halt: Halt) -> Fault {
-        Fault
-    }
-}
-
 /// Runs the calls of the input, one a line, on one session over the example device, and shows each line's request,
 /// reply and answer.
 ///
 /// The status is 0 at the end of the input; 1 after a line that is no call, which `errors` is told; 2 after a fault
-/// of a reader, a writer or a link, or for want of memory, and then the line that met it isn't shown.
+/// of a reader, a writer or a link, or for want of memory, which `errors` is told in one line, and then the line that met
+/// it isn't shown. Nothing is written to `output` after a write or a flush of it that failed: whatever the status, what was
+/// written is a front of what the lines show.
 /// Where the device wants memory for bytes of its configuration space, it refuses the call, and the line shows that.
 pub fn run_lines<I: BufRead, W: Write, E: Write>(
     alloc: Global,
@@ -58,24 +40,34 @@ pub fn run_lines<I: BufRead, W: Write, E: Write>(
     ensures status { result ≢ 2 → IfSome (I.remaining input.old) (λ text. result ≡ status_of (bad_line 1 (lines text))) }
     ensures told { result ≢ 2 → IfSome (I.remaining input.old) (λ text. Appends (E.contents errors.old) (E.contents errors.new) (complaint_of (bad_line 1 (lines text)))) }
     ensures shown { result ≢ 2 → IfSome (I.remaining input.old) (λ text. ShowsLines text (W.contents output.old) (W.contents output.new)) }
+    ensures front { IfSome (I.remaining input.old) (λ text. ShowsFront text (W.contents output.old) (W.contents output.new)) }
 {
     match answer_lines(alloc, input, output) {
         Ok(None) => 0,
         Ok(Some(number)) => match complain(number, errors) {
             Ok(()) => 1,
-            Err(Fault) => 2,
+            Err(_) => 2,
         },
-        Err(Fault) => 2,
+        Err(fault) => {
+            tell(fault, errors);
+            2
+        }
     }
 }
 
 /// Tells which line is no call.
-fn complain<E: Write>(number: u64, errors: &mut E) -> Result<(), Fault>
+fn complain<E: Write>(number: u64, errors: &mut E) -> io::Result<()>
     ensures { OnOk result (Appends (E.contents errors.old) (E.contents errors.new) (complaint_of (Some number))) }
 {
     writeln!(errors, "line {number}: bad call")?;
-    errors.flush()?;
-    Ok(())
+    errors.flush()
+}
+
+/// Tells why the lines can't go on. Where that can't be written either, nobody can be told.
+fn tell<E: Write>(fault: Fault, errors: &mut E) {
+    if writeln!(errors, "{fault}").is_ok() {
+        let _ = errors.flush();
+    }
 }
 
 /// Answers the lines up to the end, or to one that is no call; its number.
@@ -86,19 +78,26 @@ fn answer_lines<I: BufRead, W: Write>(
 ) -> Result<Option<u64>, Fault>
     ensures bad { IfOk result (λ bad. IfSome (I.remaining input.old) (λ text. bad ≡ bad_line 1 (lines text))) }
     ensures shown { OnOk result (IfSome (I.remaining input.old) (λ text. ShowsLines text (W.contents output.old) (W.contents output.new))) }
+    ensures front { IfSome (I.remaining input.old) (λ text. ShowsFront text (W.contents output.old) (W.contents output.new)) }
 {
     let mut session = new_session(alloc)?;
     let mut line = Vec::new(alloc);
+    let mut shown = Vec::new(alloc);
     for number in 1..u64::MAX {
-        if !read_line(input, &mut line)? {
-            return Ok(None);
+        match read_line(input, &mut line) {
+            Ok(true) => {}
+            Ok(false) => return Ok(None),
+            Err(error) => return Err(input_fault(error)),
         }
         match call_of(alloc, &line)? {
-            Some(call) => answer_call(&mut session, &call, output)?,
+            Some(call) => {
+                show_call(&mut session, &call, &mut shown)?;
+                write_line(output, &shown)?;
+            }
             None => return Ok(Some(number)),
         }
     }
-    Err(Fault)
+    Err(Fault::Input(io::Error::from(ErrorKind::FileTooLarge)))
 }
 
 /// Both sides as they begin.
@@ -111,7 +110,7 @@ fn new_session(alloc: Global) -> Result<Session, Fault>
 }
 
 /// Reads the next line without its end. False where there is none.
-fn read_line<I: BufRead>(input: &mut I, line: &mut Vec<u8>) -> Result<bool, Fault>
+fn read_line<I: BufRead>(input: &mut I, line: &mut Vec<u8>) -> io::Result<bool>
     ensures { IfOk result (λ more. GivesLine (I.remaining input.old) (I.remaining input.new) more line.new.items) }
 {
     line.clear();
@@ -124,51 +123,44 @@ fn read_line<I: BufRead>(input: &mut I, line: &mut Vec<u8>) -> Result<bool, Faul
     Ok(true)
 }
 
-/// Does a call, and shows its line.
-fn answer_call<W: Write>(
-    session: &mut Session,
-    call: &FrontendCall,
-    output: &mut W,
-) -> Result<(), Fault>
-    ensures { OnOk result ((text : List ℕ) × Answers session.old (call_of call.now) text session.new × Appends (W.contents output.old) (W.contents output.new) text) }
+/// Does a call, and makes its line.
+fn show_call(session: &mut Session, call: &FrontendCall, shown: &mut Vec<u8>) -> Result<(), Fault>
+    ensures { OnOk result (Answers session.old (call_of call.now) shown.new.items session.new) }
 {
     match session.step(call) {
-        Ok(answer) => show_answer(session, &answer, output),
-        Err(Halt::Stopped) => show_stopped(output),
-        Err(Halt::OutOfMemory) => Err(Fault),
+        Ok(answer) => show_answer(session, &answer, shown),
+        Err(Halt::Stopped) => show_stopped(shown),
+        Err(Halt::OutOfMemory) => Err(Fault::OutOfMemory),
     }
 }
 
-/// Shows the line of an answered call, unless a link failed or memory was refused in its middle.
-fn show_answer<W: Write>(
-    session: &Session,
-    answer: &FrontendAnswer,
-    output: &mut W,
-) -> Result<(), Fault>
+/// Makes the line of an answered call, unless a link failed or memory was refused in its middle.
+fn show_answer(session: &Session, answer: &FrontendAnswer, shown: &mut Vec<u8>) -> Result<(), Fault>
     ensures premises { OnOk result (stopped_of session.now ≢ Some Premise) }
-    ensures line { OnOk result (Appends (W.contents output.old) (W.contents output.new) (line_text (request_of session.now) (reply_of session.now) answer.now)) }
+    ensures line { OnOk result (shown.new.items ≡ line_text (request_of session.now) (reply_of session.now) answer.now) }
 {
     if session.stopped() == Some(Stop::Premise) {
-        return Err(Fault);
+        return Err(Fault::Link);
     }
     let (bytes, handles) = session.last_request();
     let request = Message { bytes, handles };
     let (bytes, handles) = session.last_reply();
     let reply = Message { bytes, handles };
     let answer = Answer(answer);
-    writeln!(output, "{request} {reply} {answer}")?;
-    output.flush()?;
-    Ok(())
+    shown.clear();
+    match writeln!(shown, "{request} {reply} {answer}") {
+        Ok(()) => Ok(()),
+        Err(_) => Err(Fault::OutOfMemory),
+    }
 }
 
-/// Shows the line of a call behind the run's end.
-fn show_stopped<W: Write>(output: &mut W) -> Result<(), Fault>
-    ensures { OnOk result (Appends (W.contents output.old) (W.contents output.new) (codes "- - stopped\n")) }
+/// Makes the line of a call behind the run's end.
+fn show_stopped(shown: &mut Vec<u8>) -> Result<(), Fault>
+    ensures { OnOk result (shown.new.items ≡ codes "- - stopped\n") }
 {
-    writeln!(output, "- - stopped")?;
-    output.flush()?;
-    Ok(())
+    shown.clear();
+    match writeln!(shown, "- - stopped") {
+        Ok(()) => Ok(()),
+        Err(_) => Err(Fault::OutOfMemory),
+    }
 }
-
-#[cfg(test)]
-mod tests;

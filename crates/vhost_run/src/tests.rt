@@ -1,93 +1,15 @@
-//! Lines over memory: what they print, and the status.
+//! What a script of lines can't say: readers and writers that fail, and many lines.
 
-use super::run_lines;
 use std::io;
 use std::io::{BufReader, ErrorKind, Read, Write};
 use std::process::Abort;
 use std::test::Fail;
+use vhost_lines::run_lines;
 
 const FEATURES: &str =
     "010000000100000000000000 0100000005000000080000000300004000000000 ok 0x40000003\n";
 
 const OWNER: &str = "030000000100000000000000 - ok\n";
-
-const STOPPED: &str = "- - stopped\n";
-
-/// Runs lines, and compares what they print, what is told of a bad one, and the status.
-fn expect_lines(
-    rt: &(impl AllocGlobal + Abort),
-    input: &[u8],
-    output: &[&str],
-    errors: &str,
-    status: u8,
-) -> Result<(), Fail> {
-    let mut left = input;
-    let mut written = Vec::new(rt.alloc());
-    let mut told = Vec::new(rt.alloc());
-    let result = run_lines(rt.alloc(), &mut left, &mut written, &mut told);
-    assert_eq!(rt; result, status, "status");
-    let mut expected = String::new(rt.alloc());
-    for line in output {
-        expected.push_str(line)?;
-    }
-    assert_eq!(rt; written.as_slice(), expected.as_bytes(), "output");
-    assert_eq!(rt; told.as_slice(), errors.as_bytes(), "errors");
-    Ok(())
-}
-
-#[test]
-fn first_calls(rt: HostRuntime) -> Result<(), Fail> {
-    expect_lines(
-        &rt,
-        b"get_features\nset_owner\nset_owner\nget_features\nnonsense\n",
-        &[FEATURES, OWNER, OWNER, STOPPED],
-        "line 5: bad call\n",
-        1,
-    )
-}
-
-#[test]
-fn ends(rt: HostRuntime) -> Result<(), Fail> {
-    expect_lines(&rt, b"", &[], "", 0)?;
-    expect_lines(&rt, b"set_owner\n", &[OWNER], "", 0)?;
-    expect_lines(&rt, b"set_owner\nget_features", &[OWNER, FEATURES], "", 0)?;
-    expect_lines(&rt, b"\n", &[], "line 1: bad call\n", 1)?;
-    expect_lines(
-        &rt,
-        b"set_owner\n\nset_owner\n",
-        &[OWNER],
-        "line 2: bad call\n",
-        1,
-    )?;
-    expect_lines(
-        &rt,
-        b"set_owner\n\xff\xfe\n",
-        &[OWNER],
-        "line 2: bad call\n",
-        1,
-    )
-}
-
-#[test]
-fn bad_lines(rt: HostRuntime) -> Result<(), Fail> {
-    for line in [
-        "get_feature",
-        "get_featuress",
-        "Get_features",
-        "get_features ",
-        " get_features",
-        "get_features 1",
-        "get_features\r",
-        "get_features\t",
-        "set_owner  ",
-        "set_owner set_owner",
-        " ",
-        "get_features\0",
-    ] {
-        expect_lines(&rt, line.as_bytes(), &[], "line 1: bad call\n", 1)?;
-    }
-    Ok(())
-}
 
 /// A reader of one text, that fails behind it.
 #[derive(Drop)]
@@ -138,19 +60,24 @@ fn torn_input(rt: HostRuntime) -> Result<(), Fail> {
     let status = run_lines(rt.alloc(), &mut input, &mut output, &mut errors);
     assert_eq!(rt; status, 2);
     assert_eq!(rt; output.as_slice(), FEATURES.as_bytes());
-    assert_eq!(rt; errors.as_slice(), b"".as_slice());
+    assert_eq!(rt; errors.as_slice(), b"input: connection reset\n".as_slice());
     Ok(())
 }
 
 #[test]
 fn failing_outputs(rt: HostRuntime) -> Result<(), Fail> {
-    for (room, can_flush, status) in [(80, true, 0), (79, true, 2), (0, true, 2), (80, false, 2)] {
+    for (room, can_flush, status, told) in [
+        (80, true, 0, ""),
+        (79, true, 2, "output: write zero\n"),
+        (0, true, 2, "output: write zero\n"),
+        (80, false, 2, "output: broken pipe\n"),
+    ] {
         let mut input: &[u8] = b"get_features\n";
         let mut output = Narrow { room, can_flush };
         let mut errors = Vec::new(rt.alloc());
         let result = run_lines(rt.alloc(), &mut input, &mut output, &mut errors);
         assert_eq!(rt; result, status, "room {room}");
-        assert_eq!(rt; errors.as_slice(), b"".as_slice());
+        assert_eq!(rt; errors.as_slice(), told.as_bytes());
     }
     for (room, can_flush, status) in [(17, true, 1), (16, true, 2), (17, false, 2)] {
         let mut input: &[u8] = b"nonsense\n";
@@ -211,8 +138,47 @@ fn nothing_after_a_fault(rt: HostRuntime) -> Result<(), Fail> {
             &whole.as_bytes()[..room],
             "room {room}"
         );
-        assert_eq!(rt; errors.as_slice(), b"".as_slice(), "room {room}");
+        let told = b"output: broken pipe\n".as_slice();
+        assert_eq!(rt; errors.as_slice(), told, "room {room}");
     }
+    Ok(())
+}
+
+/// A writer that takes a byte at a time, and is interrupted before each.
+#[derive(Drop)]
+struct Halting {
+    taken: Vec<u8>,
+    is_ready: bool,
+}
+
+impl Write for Halting {
+    fn write(&mut self, buf: &[u8]) -> io::Result<usize> {
+        self.is_ready = !self.is_ready;
+        if !self.is_ready {
+            return Err(io::Error::from(ErrorKind::Interrupted));
+        }
+        let count = buf.len().min(1);
+        self.taken.extend_from_slice(&buf[..count])?;
+        Ok(count)
+    }
+
+    fn flush(&mut self) -> io::Result<()> {
+        Ok(())
+    }
+}
+
+#[test]
+fn interrupted_writes(rt: HostRuntime) -> Result<(), Fail> {
+    let mut input: &[u8] = b"get_features\n";
+    let mut output = Halting {
+        taken: Vec::new(rt.alloc()),
+        is_ready: false,
+    };
+    let mut errors = Vec::new(rt.alloc());
+    let status = run_lines(rt.alloc(), &mut input, &mut output, &mut errors);
+    assert_eq!(rt; status, 0);
+    assert_eq!(rt; output.taken.as_slice(), FEATURES.as_bytes());
+    assert_eq!(rt; errors.as_slice(), b"".as_slice());
     Ok(())
 }
 
