@@ -1,59 +1,68 @@
-//! Plays scripts of served sessions, one file each, and says which lines were not met.
+//! Plays scripts, one file each, and says which lines were not met. The language is told in `docs/TESTS.md`.
 #![tactic(auto)]
 
-mod dummy;
-mod link;
-mod miss;
-mod noting;
-mod player;
-mod probe;
-mod sharing;
-mod stage;
-mod words;
+mod actor;
+mod asking;
+mod endpoint;
+mod joined;
+mod lines;
+mod play;
+mod served;
 
-use miss::Miss;
-use stage::Stage;
+use play::{Tally, play_session};
 use std::process::ExitCode;
+use std::sync::Wait;
 use std::{env, fs, io};
+use vhost_test_tools::{Miss, read_sessions};
 
-/// Plays the scripts that the arguments name, and serves a device behind its lock.
+/// Plays the files that the arguments name. A file after `--refused` must be refused.
 ///
-/// Status 0 means that each line was met, 1 that some line was not, and 2 that a file could not be read, or nothing
-/// printed.
+/// Status 0 means that each file was met, 1 that some was not, and 2 that a file could not be read, or nothing printed.
 fn main(rt: HostRuntime) -> ExitCode {
-    let shared = sharing::behind_a_lock(&rt, rt.alloc());
-    match play_all(&rt, shared) {
+    match play_all(&rt, &rt) {
         Ok(true) => ExitCode::SUCCESS,
         Ok(false) => ExitCode::from(1),
         Err(_) => ExitCode::from(2),
     }
 }
 
-/// Plays the scripts that the arguments name, and tells how it went with the shared device; whether all was met.
-fn play_all(rt: &HostRuntime, shared: Result<(), Miss>) -> io::Result<bool> {
-    let mut met = shared.is_ok();
-    match shared {
-        Ok(()) => println!(rt; "a device behind its lock")?,
-        Err(miss) => println!(rt; "a device behind its lock: {miss}")?,
-    }
+/// Plays the files that the arguments name; whether each was met.
+fn play_all(rt: &HostRuntime, waits: &impl Wait) -> io::Result<bool> {
+    let mut met = true;
+    let mut is_refused = false;
     for name in env::args(rt)?.skip(1) {
-        met &= play(rt, name.as_str())?;
+        if name.as_str() == "--refused" {
+            is_refused = true;
+            continue;
+        }
+        met &= play_file(rt, waits, name.as_str())? != is_refused;
+        is_refused = false;
     }
     Ok(met)
 }
 
-/// Plays a script; whether each line was met. After one that was not, the rest of its session is left out.
-fn play(rt: &HostRuntime, name: &str) -> io::Result<bool> {
+/// Plays a file; whether it was met. After a difference the rest of its session is left out, after a line that can't be read
+/// the rest of the file.
+fn play_file(rt: &HostRuntime, waits: &impl Wait, name: &str) -> io::Result<bool> {
     let text = fs::read_to_string(rt, name)?;
-    let mut stage = Stage::new(rt.alloc());
+    let mut tally = Tally::new();
     let mut met = true;
-    for (line, number) in text.lines().zip(1u64..) {
-        if let Err(miss) = stage.step(line) {
-            println!(rt; "{name}:{number}: {miss}")?;
-            stage.abandon();
+    let sessions = match read_sessions(rt.alloc(), text.as_str()) {
+        Ok(sessions) => sessions,
+        Err(refusal) => {
+            println!(rt; "{name}:{}: {}", refusal.number, refusal.miss)?;
+            return Ok(false);
+        }
+    };
+    for session in &sessions {
+        if let Err(refusal) = play_session(waits, rt.alloc(), session, &mut tally) {
+            println!(rt; "{name}:{}: {}", refusal.number, refusal.miss)?;
             met = false;
+            if !matches!(&refusal.miss, Miss::Differs(_)) {
+                break;
+            }
         }
     }
-    println!(rt; "{name}: {stage}")?;
+    println!(rt; "{name}: {tally}")?;
     Ok(met)
 }

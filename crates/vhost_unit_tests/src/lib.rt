@@ -2,14 +2,20 @@
 #![tactic(auto)]
 
 #[cfg(test)]
-mod connection;
+mod backend;
 #[cfg(test)]
-mod device;
+mod channels;
+#[cfg(test)]
+mod connection;
 #[cfg(test)]
 mod dummy_backend;
 #[cfg(test)]
 mod frontend;
 #[cfg(test)]
 mod gpu_message;
+#[cfg(test)]
+mod joined;
+#[cfg(test)]
+mod link;
 #[cfg(test)]
 mod message;

@@ -1,0 +1,41 @@
+//! Answers as words.
+
+use crate::errors::carried_text;
+use crate::handles::handle_text;
+use std::alloc::{AllocError, Global};
+use vhost_answer_text::Answer;
+use vhost_frontend_calls::FrontendAnswer;
+use vhost_message::Result as Outcome;
+
+/// The answer of a frontend's call: as `vhost-run` shows it, and moreover what an error carries, and the kinds of handles.
+pub fn answer_text(alloc: Global, answer: &FrontendAnswer) -> Result<String, AllocError> {
+    let mut text = match answer {
+        FrontendAnswer::Handle(handle) | FrontendAnswer::StateHandle(Some(handle)) => {
+            let handle = handle_text(alloc, *handle)?;
+            return format!(in alloc; "ok [{handle}]");
+        }
+        FrontendAnswer::Inflight(area, handle) => {
+            let handle = handle_text(alloc, *handle)?;
+            let (size, offset) = (area.mmap_size, area.mmap_offset);
+            let (queues, length) = (area.num_queues, area.queue_size);
+            return format!(in alloc; "ok {size} {offset} {queues} {length} [{handle}]");
+        }
+        other => {
+            let shown = Answer(other);
+            format!(in alloc; "{shown}")?
+        }
+    };
+    if let FrontendAnswer::Failed(error) = answer {
+        text.push_str(carried_text(alloc, error)?.as_str())?;
+    }
+    Ok(text)
+}
+
+/// The answer of a call that shows what it shows by a text: `ok` and the text, or the error.
+pub fn outcome_text(alloc: Global, outcome: Outcome<String>) -> Result<String, AllocError> {
+    match outcome {
+        Ok(shown) if shown.is_empty() => "ok".to_string(alloc),
+        Ok(shown) => format!(in alloc; "ok {shown}"),
+        Err(error) => answer_text(alloc, &FrontendAnswer::Failed(error)),
+    }
+}

@@ -1,0 +1,122 @@
+//! Calls of a frontend, read from lines of words.
+
+use crate::bytes::bytes_of;
+use crate::handles::handle_of;
+use crate::miss::{Miss, unreadable};
+use crate::numbers::narrow;
+use bitflags::Flags;
+use std::alloc::Global;
+use vhost_call_words::call_of;
+use vhost_frontend_calls::FrontendCall;
+use vhost_link::PlainHandle;
+use vhost_message::VhostUserHeaderFlag;
+
+/// The first number of a handle that stands for a word of the line.
+const FIRST: u32 = 4_000_000_000;
+
+/// The call of a line: as `vhost-run` takes it, where moreover a handle may have its kind, as `7:unix`, a region or a log may
+/// have `none` in the place of its handle, `set_hdr_flags` takes any flags, and `get_config` may end with `buffer BYTES`.
+pub fn call_in(alloc: Global, text: &str) -> Result<FrontendCall, Miss> {
+    if let Some(flags) = text.strip_prefix("set_hdr_flags ") {
+        let flags = VhostUserHeaderFlag::from_bits_retain(narrow(alloc, flags)?);
+        return Ok(FrontendCall::SetHdrFlags(flags));
+    }
+    let (words, buffer) = text.split_once(" buffer ").unwrap_or((text, ""));
+    let (words, handles) = replaced(alloc, words)?;
+    let Some(mut call) = call_of(alloc, words.as_bytes())? else {
+        return Err(unreadable(alloc, "a call", text));
+    };
+    if !buffer.is_empty() {
+        lend_buffer(alloc, &mut call, buffer)?;
+    }
+    if put_back(&mut call, &handles) {
+        return Ok(call);
+    }
+    Err(unreadable(alloc, "a handle", text))
+}
+
+/// The words of a line where a number stands for each handle with a kind and each `none`; and what these were.
+fn replaced(alloc: Global, text: &str) -> Result<(String, Vec<Option<PlainHandle>>), Miss> {
+    let mut words = String::new(alloc);
+    let mut handles = Vec::new(alloc);
+    for word in text.split(' ') {
+        if !words.is_empty() {
+            words.push(' ')?;
+        }
+        let handle = if word == "none" {
+            None
+        } else if word.contains(":") {
+            Some(handle_of(alloc, word)?)
+        } else {
+            words.push_str(word)?;
+            continue;
+        };
+        let number = FIRST as usize;
+        let place = number.wrapping_add(handles.len());
+        words.push_str(format!(in alloc; "{place}")?.as_str())?;
+        handles.push(handle)?;
+    }
+    Ok((words, handles))
+}
+
+/// Puts a buffer in the place of the zeros of `get_config`.
+fn lend_buffer(alloc: Global, call: &mut FrontendCall, digits: &str) -> Result<(), Miss> {
+    match call {
+        FrontendCall::GetConfig(_, _, _, buffer) => *buffer = bytes_of(alloc, 0, digits)?,
+        _ => return Err(unreadable(alloc, "a call with a buffer", digits)),
+    }
+    Ok(())
+}
+
+/// The handle that a handle of the line stands for.
+fn meant(handle: PlainHandle, handles: &[Option<PlainHandle>]) -> Option<PlainHandle> {
+    match handle.id.checked_sub(FIRST) {
+        Some(place) => match handles.get(place as usize) {
+            Some(meant) => *meant,
+            None => Some(handle),
+        },
+        None => Some(handle),
+    }
+}
+
+/// The same, where there may be none.
+fn meant_or_none(
+    handle: Option<PlainHandle>,
+    handles: &[Option<PlainHandle>],
+) -> Option<PlainHandle> {
+    meant(handle?, handles)
+}
+
+/// Puts the handles back that numbers stand for. Whether a handle is where there has to be one.
+fn put_back(call: &mut FrontendCall, handles: &[Option<PlainHandle>]) -> bool {
+    match call {
+        FrontendCall::SetMemTable(regions) => {
+            for info in regions.iter_mut() {
+                info.mmap_handle = meant_or_none(info.mmap_handle, handles);
+            }
+            true
+        }
+        FrontendCall::AddMemRegion(info) | FrontendCall::RemoveMemRegion(info) => {
+            info.mmap_handle = meant_or_none(info.mmap_handle, handles);
+            true
+        }
+        FrontendCall::SetLogBase(_, Some(region)) => {
+            region.mmap_handle = meant_or_none(region.mmap_handle, handles);
+            true
+        }
+        FrontendCall::SetLogFd(handle)
+        | FrontendCall::SetVringCall(_, handle)
+        | FrontendCall::SetVringKick(_, handle)
+        | FrontendCall::SetVringErr(_, handle)
+        | FrontendCall::SetBackendRequestFd(handle)
+        | FrontendCall::SetInflightFd(_, handle)
+        | FrontendCall::SetDeviceStateFd(_, _, handle) => match meant(*handle, handles) {
+            Some(meant) => {
+                *handle = meant;
+                true
+            }
+            None => false,
+        },
+        _ => handles.is_empty(),
+    }
+}

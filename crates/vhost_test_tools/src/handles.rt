@@ -1,0 +1,71 @@
+//! Handles as words.
+
+use crate::miss::{Miss, unreadable};
+use crate::numbers::{narrow, number_of};
+use std::alloc::{AllocError, Global};
+use vhost_link::{Kind, PlainHandle};
+
+/// The handles of a list in brackets, as `[7,8:unix]` or `[7*33]`, and what follows it, where there is one.
+pub fn handles_in<'a>(alloc: Global, text: &'a str) -> Result<(Vec<PlainHandle>, &'a str), Miss> {
+    let mut handles = Vec::new(alloc);
+    let Some(list) = text.strip_prefix("[") else {
+        return Ok((handles, text));
+    };
+    let Some((list, rest)) = list.split_once("]") else {
+        return Err(unreadable(alloc, "handles", text));
+    };
+    for word in list.split(',') {
+        let (word, count) = match word.split_once("*") {
+            Some((word, count)) => (word, number_of(alloc, count)?),
+            None => (word, 1),
+        };
+        let handle = handle_of(alloc, word)?;
+        for _ in 0..count {
+            handles.push(handle)?;
+        }
+    }
+    Ok((handles, rest.strip_prefix(" ").unwrap_or(rest)))
+}
+
+/// A handle: its number, and its kind where it is a socket.
+pub(crate) fn handle_of(alloc: Global, word: &str) -> Result<PlainHandle, Miss> {
+    let (number, kind) = word.split_once(":").unwrap_or((word, ""));
+    let kind = match kind {
+        "" if !word.ends_with(":") => Kind::NoSocket,
+        "inet" => Kind::NotUnix,
+        "datagram" => Kind::NotStream,
+        "unix" => Kind::UnixStream,
+        _ => return Err(unreadable(alloc, "a handle", word)),
+    };
+    let id = narrow(alloc, number)?;
+    Ok(PlainHandle { id, kind })
+}
+
+/// A handle as a script writes it.
+pub fn handle_text(alloc: Global, handle: PlainHandle) -> Result<String, AllocError> {
+    let id = handle.id;
+    match handle.kind {
+        Kind::NoSocket => format!(in alloc; "{id}"),
+        Kind::NotUnix => format!(in alloc; "{id}:inet"),
+        Kind::NotStream => format!(in alloc; "{id}:datagram"),
+        Kind::UnixStream => format!(in alloc; "{id}:unix"),
+    }
+}
+
+/// Puts handles behind a text, in brackets; nothing for none.
+pub fn push_handles(
+    alloc: Global,
+    text: &mut String,
+    handles: &[PlainHandle],
+) -> Result<(), AllocError> {
+    let mut open = "[";
+    for handle in handles {
+        text.push_str(open)?;
+        text.push_str(handle_text(alloc, *handle)?.as_str())?;
+        open = ",";
+    }
+    if handles.is_empty() {
+        return Ok(());
+    }
+    text.push_str("]")
+}

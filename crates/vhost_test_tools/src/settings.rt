@@ -1,0 +1,132 @@
+//! What a session is set to before its steps.
+
+use crate::cuts::cuts_of;
+use crate::handles::handles_in;
+use crate::miss::{Miss, unreadable};
+use crate::numbers::{narrow, number_of};
+use std::alloc::Global;
+
+/// Which device a session has.
+#[derive(Clone, Copy, PartialEq, Eq)]
+pub enum Over<'a> {
+    /// It was not told.
+    Untold,
+    /// One whose calls and answers are told by the script.
+    Scripted,
+    /// The same behind a lock.
+    Locked,
+    /// The example device, with these handles to give out.
+    Dummy(&'a str),
+}
+
+/// What a session is set to.
+#[derive(Clone, Copy)]
+pub struct Settings<'a> {
+    /// The session is played for each number from the first to the one before the end.
+    pub first: usize,
+    pub end: usize,
+    pub over: Over<'a>,
+    pub queues: u64,
+    pub budget: u32,
+    /// The cuts of the link, and of the handler's link where both sides are joined.
+    pub cuts: &'a str,
+    pub serving_cuts: &'a str,
+    /// The handles that can't say of what kind they are.
+    pub silent: &'a str,
+    /// Whether messages have the headers of the display's channel.
+    pub gpu: bool,
+}
+
+impl<'a> Settings<'a> {
+    /// Where nothing is told.
+    pub(crate) fn new() -> Settings<'a> {
+        Settings {
+            first: 0,
+            end: 1,
+            over: Over::Untold,
+            queues: 2,
+            budget: 2,
+            cuts: "",
+            serving_cuts: "",
+            silent: "",
+            gpu: false,
+        }
+    }
+
+    /// Takes a setting of a session of this kind. Whether the word is a setting.
+    pub(crate) fn take(
+        &mut self,
+        alloc: Global,
+        kind: &str,
+        word: &str,
+        rest: &'a str,
+    ) -> Result<bool, Miss> {
+        if !belongs(kind, word) {
+            return Err(unreadable(alloc, "what such a session has", word));
+        }
+        match word {
+            "for" => (self.first, self.end) = range_of(alloc, rest)?,
+            "over" => self.over = over_of(alloc, rest)?,
+            "queues" => self.queues = number_of(alloc, rest)?,
+            "budget" => self.budget = narrow(alloc, rest)?,
+            "cuts" => {
+                let _readable = cuts_of(alloc, 0, rest)?;
+                self.cuts = rest;
+            }
+            "serving_cuts" => {
+                let _readable = cuts_of(alloc, 0, rest)?;
+                self.serving_cuts = rest;
+            }
+            "silent" => {
+                let _readable = handles_in(alloc, rest)?;
+                self.silent = rest;
+            }
+            "gpu" => self.gpu = true,
+            _ => return Ok(false),
+        }
+        Ok(true)
+    }
+}
+
+/// Whether sessions of this kind have this setting. Other words are none.
+fn belongs(kind: &str, word: &str) -> bool {
+    match word {
+        "for" | "budget" | "cuts" => kind != "lines",
+        "over" => matches!(kind, "served" | "joined"),
+        "queues" => matches!(kind, "asking" | "joined"),
+        "serving_cuts" => kind == "joined",
+        "silent" => kind == "served",
+        "gpu" => kind == "endpoint",
+        _ => true,
+    }
+}
+
+/// A range, as `n 12..32`.
+fn range_of(alloc: Global, text: &str) -> Result<(usize, usize), Miss> {
+    let Some((first, end)) = text
+        .strip_prefix("n ")
+        .and_then(|range| range.split_once(".."))
+    else {
+        return Err(unreadable(alloc, "a range", text));
+    };
+    let (first, end) = (number_of(alloc, first)?, number_of(alloc, end)?);
+    if first < end {
+        return Ok((first as usize, end as usize));
+    }
+    Err(unreadable(alloc, "a range", text))
+}
+
+/// A device.
+fn over_of<'a>(alloc: Global, text: &'a str) -> Result<Over<'a>, Miss> {
+    match text {
+        "scripted" => return Ok(Over::Scripted),
+        "locked" => return Ok(Over::Locked),
+        "dummy" => return Ok(Over::Dummy("")),
+        _ => {}
+    }
+    let Some(handles) = text.strip_prefix("dummy ") else {
+        return Err(unreadable(alloc, "a device", text));
+    };
+    let _readable = handles_in(alloc, handles)?;
+    Ok(Over::Dummy(handles))
+}

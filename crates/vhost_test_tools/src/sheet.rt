@@ -1,0 +1,111 @@
+//! The calls that a device is to be asked, and what it answers.
+
+use crate::miss::{Miss, differs, expect, unreadable};
+use crate::value::{Shape, Value, shape_of, value_of};
+use std::alloc::Global;
+use std::collections::VecDeque;
+use vhost_message::{Error, Result as Outcome};
+
+/// A call that is to come, and what it is answered.
+#[derive(Drop)]
+struct Asked {
+    call: String,
+    shape: Shape,
+    /// None: it was not told yet.
+    value: Option<Value>,
+}
+
+/// The calls that are to come, in order, and the first difference that was met.
+#[derive(Drop)]
+pub struct Sheet {
+    asked: VecDeque<Asked>,
+    difference: Option<Miss>,
+    alloc: Global,
+}
+
+impl Sheet {
+    /// With no call.
+    pub fn new(alloc: Global) -> Sheet {
+        Sheet {
+            asked: VecDeque::new(alloc),
+            difference: None,
+            alloc,
+        }
+    }
+
+    /// The device is to be asked this call, behind the others.
+    pub fn want(&mut self, call: &str) -> Result<(), Miss> {
+        self.expect_told()?;
+        let (name, _) = call.split_once(" ").unwrap_or((call, ""));
+        let Some(shape) = shape_of(name) else {
+            return Err(unreadable(self.alloc, "a call of the device", call));
+        };
+        let call = call.to_string(self.alloc)?;
+        self.asked.push_back(Asked {
+            call,
+            shape,
+            value: None,
+        })?;
+        Ok(())
+    }
+
+    /// The device answers so to the last of the calls.
+    pub fn give(&mut self, text: &str) -> Result<(), Miss> {
+        match self.asked.back_mut() {
+            Some(asked) if asked.value.is_none() => {
+                asked.value = Some(value_of(self.alloc, asked.shape, text)?);
+                Ok(())
+            }
+            _ => Err(unreadable(self.alloc, "a call of the device before it", text)),
+        }
+    }
+
+    /// Tests that it was told what the device answers, where it answers something.
+    pub fn expect_told(&self) -> Result<(), Miss> {
+        match self.asked.back() {
+            Some(asked) if asked.value.is_none() && asked.shape != Shape::Nothing => Err(unreadable(
+                self.alloc,
+                "what the device gives",
+                asked.call.as_str(),
+            )),
+            _ => Ok(()),
+        }
+    }
+
+    /// The device is asked this call. It answers what was told, or an error where another call was to come, or none.
+    pub(crate) fn ask(&mut self, call: &str) -> Outcome<Value> {
+        let difference = match self.asked.pop_front() {
+            Some(asked) => match expect(self.alloc, asked.call.as_str(), call) {
+                Ok(()) => return answered(asked.value),
+                Err(difference) => difference,
+            },
+            None => differs(self.alloc, "no more calls of the device", call),
+        };
+        if self.difference.is_none() {
+            self.difference = Some(difference);
+        }
+        Err(Error::InvalidOperation("another call was to come"))
+    }
+
+    /// Tests that the device was asked these calls, and no other; and asks for none any more.
+    pub fn check(&mut self) -> Result<(), Miss> {
+        let missing = match self.asked.pop_front() {
+            Some(asked) => Err(differs(self.alloc, asked.call.as_str(), "no such call")),
+            None => Ok(()),
+        };
+        self.asked.clear();
+        match self.difference.take() {
+            Some(difference) => Err(difference),
+            None => missing,
+        }
+    }
+}
+
+/// What was told.
+fn answered(value: Option<Value>) -> Outcome<Value> {
+    match value {
+        Some(Value::Failed(error)) => Err(error),
+        Some(value) => Ok(value),
+        None => Ok(Value::Nothing),
+    }
+}

@@ -1,0 +1,155 @@
+//! What a device answers.
+
+use crate::bytes::bytes_of;
+use crate::errors::error_of;
+use crate::handles::handles_in;
+use crate::miss::{Miss, unreadable};
+use crate::numbers::{narrow, number_of};
+use std::alloc::Global;
+use vhost_link::PlainHandle;
+use vhost_message::{Error, VhostUserInflight, VhostUserShMemConfig, VhostUserVringState};
+
+/// What kind of value a call of the device answers.
+#[derive(Clone, Copy, PartialEq, Eq)]
+pub(crate) enum Shape {
+    Nothing,
+    Number,
+    Bases,
+    Base,
+    State,
+    Bytes,
+    Handle,
+    Area,
+    StateHandle,
+    Regions,
+}
+
+/// What a call of the device answers.
+#[derive(Drop)]
+pub(crate) enum Value {
+    Nothing,
+    Failed(Error),
+    Number(u64),
+    Bases(Option<Vec<u64>>),
+    Base(Option<u64>),
+    State(VhostUserVringState),
+    Bytes(Vec<u8>),
+    Handle(PlainHandle),
+    Area(VhostUserInflight, PlainHandle),
+    StateHandle(Option<PlainHandle>),
+    Regions(VhostUserShMemConfig),
+}
+
+/// What a call answers, by its name. None: there is no such call.
+pub(crate) fn shape_of(name: &str) -> Option<Shape> {
+    Some(match name {
+        "get_features" | "get_protocol_features" | "get_queue_num" | "get_max_mem_slots" => {
+            Shape::Number
+        }
+        "set_mem_table" => Shape::Bases,
+        "add_mem_region" => Shape::Base,
+        "get_vring_base" => Shape::State,
+        "get_config" => Shape::Bytes,
+        "get_shared_object" | "postcopy_advice" => Shape::Handle,
+        "get_inflight_fd" => Shape::Area,
+        "set_device_state_fd" => Shape::StateHandle,
+        "get_shmem_config" => Shape::Regions,
+        "set_owner" | "reset_owner" | "reset_device" | "set_features" | "set_protocol_features" =>
+            Shape::Nothing,
+        "set_vring_num"
+        | "set_vring_base"
+        | "set_vring_enable"
+        | "set_vring_addr"
+        | "set_vring_kick"
+        | "set_vring_call"
+        | "set_vring_err" => Shape::Nothing,
+        "set_config"
+        | "set_backend_req_fd"
+        | "set_gpu_socket"
+        | "set_inflight_fd"
+        | "remove_mem_region"
+        | "set_log_base" => Shape::Nothing,
+        "check_device_state" | "postcopy_listen" | "postcopy_end" | "postcopy_ack_mem_regions" =>
+            Shape::Nothing,
+        _ => return None,
+    })
+}
+
+/// The value of a kind that words tell, or the error.
+pub(crate) fn value_of(alloc: Global, shape: Shape, text: &str) -> Result<Value, Miss> {
+    if let Some(error) = text.strip_prefix("err ") {
+        return Ok(Value::Failed(error_of(alloc, error)?));
+    }
+    match shape {
+        Shape::Nothing => Err(unreadable(alloc, "an error", text)),
+        Shape::Number => Ok(Value::Number(number_of(alloc, text)?)),
+        Shape::Bases if text == "none" => Ok(Value::Bases(None)),
+        Shape::Bases => Ok(Value::Bases(Some(numbers_of(alloc, text)?))),
+        Shape::Base if text == "none" => Ok(Value::Base(None)),
+        Shape::Base => Ok(Value::Base(Some(number_of(alloc, text)?))),
+        Shape::State => state_of(alloc, text),
+        Shape::Bytes => Ok(Value::Bytes(bytes_of(alloc, 0, text)?)),
+        Shape::Handle => Ok(Value::Handle(only_handle(alloc, text)?)),
+        Shape::Area => area_of(alloc, text),
+        Shape::StateHandle if text == "none" => Ok(Value::StateHandle(None)),
+        Shape::StateHandle => Ok(Value::StateHandle(Some(only_handle(alloc, text)?))),
+        Shape::Regions => regions_of(alloc, text),
+    }
+}
+
+/// Numbers with commas between them.
+fn numbers_of(alloc: Global, text: &str) -> Result<Vec<u64>, Miss> {
+    let mut numbers = Vec::new(alloc);
+    for word in text.split(',') {
+        numbers.push(number_of(alloc, word)?)?;
+    }
+    Ok(numbers)
+}
+
+/// One handle in brackets.
+fn only_handle(alloc: Global, text: &str) -> Result<PlainHandle, Miss> {
+    let (handles, rest) = handles_in(alloc, text)?;
+    match handles.first() {
+        Some(handle) if rest.is_empty() && handles.len() == 1 => Ok(*handle),
+        _ => Err(unreadable(alloc, "a handle", text)),
+    }
+}
+
+/// A ring and a number.
+fn state_of(alloc: Global, text: &str) -> Result<Value, Miss> {
+    let Some((ring, number)) = text.split_once(" ") else {
+        return Err(unreadable(alloc, "a ring and a number", text));
+    };
+    let (ring, number) = (narrow(alloc, ring)?, narrow(alloc, number)?);
+    Ok(Value::State(VhostUserVringState::new(ring, number)))
+}
+
+/// Size, offset, number of queues, their size, and a handle.
+fn area_of(alloc: Global, text: &str) -> Result<Value, Miss> {
+    let mut words = text.splitn(5, ' ');
+    let (Some(size), Some(offset), Some(queues), Some(length), Some(handle)) = (
+        words.next(),
+        words.next(),
+        words.next(),
+        words.next(),
+        words.next(),
+    ) else {
+        return Err(unreadable(alloc, "an area and its handle", text));
+    };
+    let area = VhostUserInflight::new(
+        number_of(alloc, size)?,
+        number_of(alloc, offset)?,
+        narrow(alloc, queues)?,
+        narrow(alloc, length)?,
+    );
+    Ok(Value::Area(area, only_handle(alloc, handle)?))
+}
+
+/// A number of regions, and their sizes.
+fn regions_of(alloc: Global, text: &str) -> Result<Value, Miss> {
+    let Some((count, sizes)) = text.split_once(" ") else {
+        return Err(unreadable(alloc, "regions and their sizes", text));
+    };
+    let (count, sizes) = (narrow(alloc, count)?, numbers_of(alloc, sizes)?);
+    Ok(Value::Regions(VhostUserShMemConfig::new(count, &sizes)))
+}

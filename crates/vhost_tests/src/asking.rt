@@ -1,0 +1,111 @@
+//! Asking sessions: a frontend alone, over a link in memory.
+
+mod side;
+mod whole;
+
+use crate::asking::side::Side;
+use std::alloc::Global;
+use std::sync::Wait;
+use vhost_frontend_calls::FrontendCall;
+use vhost_test_tools::{
+    Miss, Settings, Traffic, answer_text, call_in, cuts_of, expect, number_of, unreadable,
+};
+
+/// A frontend, and what its next call is to do.
+#[derive(Drop)]
+pub(crate) struct Asking {
+    side: Side,
+    traffic: Traffic,
+    /// The next call.
+    call: Option<FrontendCall>,
+    alloc: Global,
+}
+
+impl Asking {
+    /// A new session, by whole calls or by their halves.
+    pub(crate) fn new(
+        alloc: Global,
+        settings: &Settings<'_>,
+        n: usize,
+        is_whole: bool,
+    ) -> Result<Asking, Miss> {
+        let cuts = cuts_of(alloc, n, settings.cuts)?;
+        let side = if is_whole {
+            Side::whole(alloc, settings, cuts)?
+        } else {
+            Side::halves(alloc, settings, cuts)?
+        };
+        Ok(Asking {
+            side,
+            traffic: Traffic::new(alloc, n),
+            call: None,
+            alloc,
+        })
+    }
+
+    /// Does what a line says, or compares it.
+    pub(crate) fn step(&mut self, rt: &impl Wait, word: &str, rest: &str) -> Result<(), Miss> {
+        match word {
+            "call" if self.call.is_none() => {
+                self.call = Some(call_in(self.alloc, rest)?);
+                Ok(())
+            }
+            "request" => self.traffic.want(rest),
+            "reply" => self.side.push(self.alloc, &self.traffic, rest),
+            "answer" => self.answer(rt, rest),
+            "agreed" => self.agree(rt, rest),
+            "link" => self.expect_link(rest),
+            "left" => self.side.check_left(self.alloc, &mut self.traffic, rest),
+            _ => Err(unreadable(self.alloc, "a step", word)),
+        }
+    }
+
+    /// Makes the call, and compares what was written, and the answer.
+    fn answer(&mut self, rt: &impl Wait, wanted: &str) -> Result<(), Miss> {
+        let Some(call) = self.call.take() else {
+            return Err(unreadable(self.alloc, "a call before its answer", wanted));
+        };
+        let answer = self.side.call(self.alloc, rt, &call)?;
+        let written = self.side.check(self.alloc, &mut self.traffic);
+        let met = answer_text(self.alloc, &answer)?;
+        written?;
+        expect(self.alloc, wanted, met.as_str())
+    }
+
+    /// Makes the calls by which both sides agree on these features of the protocol.
+    fn agree(&mut self, rt: &impl Wait, features: &str) -> Result<(), Miss> {
+        let features = number_of(self.alloc, features)?;
+        let reply = "0100000005000000080000000000004000000000";
+        let choice = format!(in self.alloc; "set_protocol_features {features}")?;
+        let choice = call_in(self.alloc, choice.as_str())?;
+        self.side.push(self.alloc, &self.traffic, reply)?;
+        let calls = [
+            (FrontendCall::GetFeatures, "ok 0x40000000"),
+            (FrontendCall::SetFeatures(0x4000_0000), "ok"),
+            (choice, "ok"),
+        ];
+        for (call, wanted) in &calls {
+            let answer = self.side.call(self.alloc, rt, call)?;
+            let met = answer_text(self.alloc, &answer)?;
+            expect(self.alloc, wanted, met.as_str())?;
+        }
+        self.side.skip(self.alloc, &mut self.traffic)
+    }
+
+    /// Tests whether the last call met a fault of the link, where this is told.
+    fn expect_link(&mut self, wanted: &str) -> Result<(), Miss> {
+        match self.side.faulted() {
+            Some(true) => expect(self.alloc, wanted, "faulted"),
+            Some(false) => expect(self.alloc, wanted, "sound"),
+            None => Ok(()),
+        }
+    }
+
+    /// Tests that each call was made, and all was received.
+    pub(crate) fn end(&mut self) -> Result<(), Miss> {
+        if self.call.is_some() {
+            return Err(unreadable(self.alloc, "an answer", "none"));
+        }
+        self.side.end(self.alloc, &mut self.traffic)
+    }
+}

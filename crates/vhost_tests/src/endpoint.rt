@@ -1,0 +1,183 @@
+//! Endpoints: one end of a link, by its own calls.
+
+mod pieces;
+mod receives;
+mod records;
+mod sends;
+
+use crate::endpoint::pieces::{offset_text, send_pieces};
+use crate::endpoint::receives::{Room, receive, receive_or_bare};
+use crate::endpoint::sends::send;
+use std::alloc::Global;
+use vhost_connection::Endpoint;
+use vhost_gpu_message::{GpuBackendReq, VhostUserGpuMsgHeader};
+use vhost_link::MemLink;
+use vhost_message::{FrontendReq, IoCause, MsgHeader, VhostUserMsgHeader};
+use vhost_test_tools::{
+    Miss, Settings, Traffic, bytes_text, counted, cuts_of, expect, message_of, narrow,
+    outcome_text, unreadable,
+};
+
+/// An endpoint of frontend requests, or of the display's channel.
+#[derive(Drop)]
+enum End {
+    Requests(Endpoint<VhostUserMsgHeader<FrontendReq>, MemLink>),
+    Display(Endpoint<VhostUserGpuMsgHeader<GpuBackendReq>, MemLink>),
+}
+
+/// An endpoint, and what its next call is to do.
+#[derive(Drop)]
+pub(crate) struct EndpointPlayer {
+    end: End,
+    traffic: Traffic,
+    /// The next call.
+    call: Option<String>,
+    /// What the last call received into.
+    room: Room,
+    alloc: Global,
+}
+
+impl EndpointPlayer {
+    /// A new endpoint over a new link.
+    pub(crate) fn new(
+        alloc: Global,
+        settings: &Settings<'_>,
+        n: usize,
+    ) -> Result<EndpointPlayer, Miss> {
+        let link = MemLink::new(alloc, cuts_of(alloc, n, settings.cuts)?);
+        let end = if settings.gpu {
+            End::Display(Endpoint::from_stream(alloc, link, settings.budget)?)
+        } else {
+            End::Requests(Endpoint::from_stream(alloc, link, settings.budget)?)
+        };
+        Ok(EndpointPlayer {
+            end,
+            traffic: Traffic::new(alloc, n),
+            call: None,
+            room: Room::new(alloc),
+            alloc,
+        })
+    }
+
+    /// Does what a line says, or compares it.
+    pub(crate) fn step(&mut self, word: &str, rest: &str) -> Result<(), Miss> {
+        match word {
+            "received" => self.traffic.push(self.end.link(), rest),
+            "call" if self.call.is_none() => {
+                self.call = Some(rest.to_string(self.alloc)?);
+                Ok(())
+            }
+            "sent" => self.traffic.want(rest),
+            "answer" => self.answer(rest),
+            "buffer" => self.expect_buffer(rest),
+            "link" => {
+                let met = if self.end.faulted() {
+                    "faulted"
+                } else {
+                    "sound"
+                };
+                expect(self.alloc, rest, met)
+            }
+            "left" => self.traffic.check_left(self.end.link(), rest),
+            _ => Err(unreadable(self.alloc, "a step", word)),
+        }
+    }
+
+    /// Makes the call, and compares what was written, and the answer.
+    fn answer(&mut self, wanted: &str) -> Result<(), Miss> {
+        let Some(call) = self.call.take() else {
+            return Err(unreadable(self.alloc, "a call before its answer", wanted));
+        };
+        let wanted = counted(self.alloc, self.traffic.n(), wanted)?;
+        let (name, args) = call.as_str().split_once(" ").unwrap_or((call.as_str(), ""));
+        let met = self.end.call(self.alloc, &mut self.room, name, args)?;
+        self.traffic.check(self.end.link())?;
+        expect(self.alloc, wanted.as_str(), met.as_str())
+    }
+
+    /// Tests what the buffer of the last call holds.
+    fn expect_buffer(&mut self, wanted: &str) -> Result<(), Miss> {
+        let wanted = message_of(self.alloc, self.traffic.n(), wanted)?;
+        expect(
+            self.alloc,
+            bytes_text(self.alloc, &wanted.bytes)?.as_str(),
+            bytes_text(self.alloc, &self.room.buffer)?.as_str(),
+        )
+    }
+
+    /// Tests that each call was made, and all was received.
+    pub(crate) fn end(&mut self) -> Result<(), Miss> {
+        if self.call.is_some() {
+            return Err(unreadable(self.alloc, "an answer", "none"));
+        }
+        self.traffic.end(self.end.link())
+    }
+}
+
+impl End {
+    /// The link below.
+    fn link(&mut self) -> &mut MemLink {
+        match self {
+            End::Requests(end) => end.link(),
+            End::Display(end) => end.link(),
+        }
+    }
+
+    /// Whether the last call that sent or received met a fault.
+    fn faulted(&self) -> bool {
+        match self {
+            End::Requests(end) => end.faulted(),
+            End::Display(end) => end.faulted(),
+        }
+    }
+
+    /// Makes a call.
+    fn call(
+        &mut self,
+        alloc: Global,
+        room: &mut Room,
+        name: &str,
+        args: &str,
+    ) -> Result<String, Miss> {
+        match self {
+            End::Requests(end) if name == "recv_payload_or_bare" => {
+                receive_or_bare(alloc, end, room, args)
+            }
+            End::Requests(end) => call_any(alloc, end, room, name, args),
+            End::Display(end) => call_any(alloc, end, room, name, args),
+        }
+    }
+}
+
+/// Makes a call of any endpoint.
+fn call_any<M: MsgHeader>(
+    alloc: Global,
+    end: &mut Endpoint<M, MemLink>,
+    room: &mut Room,
+    name: &str,
+    args: &str,
+) -> Result<String, Miss> {
+    match name {
+        "recv_header"
+        | "recv_data"
+        | "recv_body"
+        | "recv_body_into_buf"
+        | "recv_payload_into_buf"
+        | "recv_into_buf" => receive(alloc, end, room, name, args),
+        "send_header" | "send_message" | "send_message_with_payload" => {
+            send(alloc, end, name, args)
+        }
+        "send_slice" | "send_iovec" | "send_iovec_all" => send_pieces(alloc, end, name, args),
+        "get_sub_iovs_offset" => offset_text(alloc, args),
+        "make_list" => match end.make_list() {
+            Ok(()) => Ok("ok".to_string(alloc)?),
+            Err(error) => Ok(outcome_text(alloc, Err(error))?),
+        },
+        "break_with" => {
+            let number: u16 = narrow(alloc, args)?;
+            end.break_with(IoCause::Raw(number.into()));
+            Ok("ok".to_string(alloc)?)
+        }
+        _ => Err(unreadable(alloc, "a call of an endpoint", name)),
+    }
+}

@@ -1,0 +1,214 @@
+//! Served sessions: a handler over a link in memory, with a device.
+
+mod dummy;
+mod handler;
+
+use crate::served::dummy::{set_shares, state_text};
+use crate::served::handler::Handler;
+use std::alloc::{AllocError, Global};
+use std::cell::RefCell;
+use std::rc::Rc;
+use std::sync::Wait;
+use vhost_message::Result as Outcome;
+use vhost_test_tools::{
+    Miss, Settings, Sheet, Traffic, Wire, count_of, expect, lend, narrow, number_of, outcome_text,
+    unreadable,
+};
+
+/// A handler, and what is to happen until its next answer.
+#[derive(Drop)]
+pub(crate) struct Served {
+    handler: Handler,
+    wire: Rc<RefCell<Wire>>,
+    sheet: Rc<RefCell<Sheet>>,
+    traffic: Traffic,
+    /// How many answers of the next run are still to be told, and those that were.
+    to_come: usize,
+    answers: String,
+    count: usize,
+    /// Whether the device's calls are told by the script.
+    is_scripted: bool,
+    alloc: Global,
+}
+
+impl Served {
+    /// A new session.
+    pub(crate) fn new(alloc: Global, settings: &Settings<'_>, n: usize) -> Result<Served, Miss> {
+        let sheet = Rc::new(alloc, RefCell::new(Sheet::new(alloc)))?;
+        let (handler, wire) = Handler::new(alloc, settings, n, &sheet)?;
+        let is_scripted = handler.is_scripted();
+        Ok(Served {
+            handler,
+            wire,
+            sheet,
+            traffic: Traffic::new(alloc, n),
+            to_come: 0,
+            answers: String::new(alloc),
+            count: 0,
+            is_scripted,
+            alloc,
+        })
+    }
+
+    /// Does what a line says, or compares it.
+    pub(crate) fn step(&mut self, rt: &impl Wait, word: &str, rest: &str) -> Result<(), Miss> {
+        match word {
+            "request" => self
+                .traffic
+                .push(&mut lend(self.alloc, &self.wire)?.mem, rest),
+            "device" if self.is_scripted => lend(self.alloc, &self.sheet)?.want(rest),
+            "gives" if self.is_scripted => lend(self.alloc, &self.sheet)?.give(rest),
+            "reply" => self.traffic.want(rest),
+            "answer" => self.answer(rt, rest),
+            "run" => self.begin_run(rest),
+            "agreed" => self.agree(rt, rest),
+            _ => self.aside(word, rest),
+        }
+    }
+
+    /// Does what a line says that is no part of an exchange.
+    fn aside(&mut self, word: &str, rest: &str) -> Result<(), Miss> {
+        match word {
+            "link" => self.expect_link(rest),
+            "left" => self
+                .traffic
+                .check_left(&mut lend(self.alloc, &self.wire)?.mem, rest),
+            "set_failed" => self.fail(rest),
+            "opens" => self.set_opening(rest),
+            "state" => self.expect_state(rest),
+            "shares" => match self.handler.dummy_mut() {
+                Some(device) => set_shares(self.alloc, device, rest),
+                None => Err(unreadable(self.alloc, "a step", word)),
+            },
+            _ => Err(unreadable(self.alloc, "a step", word)),
+        }
+    }
+
+    /// Serves a request, and compares; or takes an answer of the run that is told.
+    fn answer(&mut self, rt: &impl Wait, wanted: &str) -> Result<(), Miss> {
+        lend(self.alloc, &self.sheet)?.expect_told()?;
+        if self.to_come == 0 {
+            let outcome = self.handler.serve(rt);
+            let met = text_of(self.alloc, outcome)?;
+            return self.compare(wanted, met.as_str());
+        }
+        self.answers.push_str(wanted)?;
+        self.answers.push_str("; ")?;
+        self.to_come = self.to_come.wrapping_sub(1);
+        if self.to_come == 0 {
+            return self.run();
+        }
+        Ok(())
+    }
+
+    /// The next so many answers are those of one run.
+    fn begin_run(&mut self, count: &str) -> Result<(), Miss> {
+        self.count = count_of(self.alloc, 0, count)?;
+        self.to_come = self.count;
+        self.answers.clear();
+        if self.count == 0 {
+            return self.run();
+        }
+        Ok(())
+    }
+
+    /// Runs the handler for as many requests as answers were told, and compares.
+    fn run(&mut self) -> Result<(), Miss> {
+        let mut met = String::new(self.alloc);
+        for outcome in self.handler.run(self.alloc, self.count)? {
+            met.push_str(text_of(self.alloc, outcome)?.as_str())?;
+            met.push_str("; ")?;
+        }
+        let wanted = std::mem::replace(&mut self.answers, String::new(self.alloc));
+        self.compare(wanted.as_str(), met.as_str())
+    }
+
+    /// Compares the device's calls, what was written, and the answers; and wants nothing more.
+    fn compare(&mut self, wanted: &str, met: &str) -> Result<(), Miss> {
+        let asked = lend(self.alloc, &self.sheet)?.check();
+        let written = self.traffic.check(&lend(self.alloc, &self.wire)?.mem);
+        asked?;
+        written?;
+        expect(self.alloc, wanted, met)
+    }
+
+    /// Has the device offer its virtio features, and then chooses these features of the protocol.
+    fn agree(&mut self, rt: &impl Wait, features: &str) -> Result<(), Miss> {
+        let features = number_of(self.alloc, features)?;
+        if self.is_scripted {
+            let mut sheet = lend(self.alloc, &self.sheet)?;
+            sheet.want("get_features")?;
+            sheet.give("0x40000000")?;
+            sheet.want(format!(in self.alloc; "set_protocol_features {features}")?.as_str())?;
+        }
+        let mut requests = format!(in self.alloc;
+            "010000000100000000000000 100000000100000008000000 "
+        )?;
+        requests.push_str(hex::encode(self.alloc, features.to_le_bytes().as_slice())?.as_str())?;
+        self.traffic
+            .push(&mut lend(self.alloc, &self.wire)?.mem, requests.as_str())?;
+        let offered = text_of(self.alloc, self.handler.serve(rt))?;
+        let chosen = text_of(self.alloc, self.handler.serve(rt))?;
+        self.traffic.skip(&lend(self.alloc, &self.wire)?.mem);
+        lend(self.alloc, &self.sheet)?.check()?;
+        expect(self.alloc, "ok", offered.as_str())?;
+        expect(self.alloc, "ok", chosen.as_str())
+    }
+
+    /// Tests whether the last request met a fault of the link.
+    fn expect_link(&mut self, wanted: &str) -> Result<(), Miss> {
+        match self.handler.faulted() {
+            Some(true) => expect(self.alloc, wanted, "faulted"),
+            Some(false) => expect(self.alloc, wanted, "sound"),
+            None => Err(unreadable(self.alloc, "a device without a lock", wanted)),
+        }
+    }
+
+    /// Marks the session as failed with a number of the system.
+    fn fail(&mut self, number: &str) -> Result<(), Miss> {
+        let number: u16 = narrow(self.alloc, number)?;
+        self.handler.set_failed(number.into());
+        Ok(())
+    }
+
+    /// From now on the link opens each handle, or none.
+    fn set_opening(&mut self, text: &str) -> Result<(), Miss> {
+        let shut = match text.strip_prefix("fault:") {
+            Some(number) => {
+                let number: u16 = narrow(self.alloc, number)?;
+                Some(number.into())
+            }
+            None if text == "all" => None,
+            None => return Err(unreadable(self.alloc, "a fault", text)),
+        };
+        lend(self.alloc, &self.wire)?.shut = shut;
+        Ok(())
+    }
+
+    /// Tests a field of the example device.
+    fn expect_state(&mut self, text: &str) -> Result<(), Miss> {
+        let (name, wanted) = text.split_once(" ").unwrap_or((text, ""));
+        let Some(device) = self.handler.dummy_mut() else {
+            return Err(unreadable(self.alloc, "a step", "state"));
+        };
+        let met = state_text(self.alloc, device, name)?;
+        expect(self.alloc, wanted, met.as_str())
+    }
+
+    /// Tests that nothing is wanted any more, and nothing is left.
+    pub(crate) fn end(&mut self) -> Result<(), Miss> {
+        if self.to_come > 0 {
+            return Err(unreadable(self.alloc, "an answer", "none"));
+        }
+        lend(self.alloc, &self.sheet)?.check()?;
+        self.traffic.end(&mut lend(self.alloc, &self.wire)?.mem)
+    }
+}
+
+/// The answer of a request.
+fn text_of(alloc: Global, outcome: Outcome<()>) -> Result<String, AllocError> {
+    match outcome {
+        Ok(()) => "ok".to_string(alloc),
+        Err(error) => outcome_text(alloc, Err(error)),
+    }
+}

@@ -1,0 +1,5 @@
+//! Devices as drivers see them: texts of errors, rings from outside, and each call through both wrappers.
+
+mod calls;
+mod errors;
+mod plain;

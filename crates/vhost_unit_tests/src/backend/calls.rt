@@ -1,0 +1,181 @@
+//! Each call of a device through both wrappers.
+
+use std::cell::RefCell;
+use std::sync::{RwLock, Wait};
+use vhost_backend::{
+    Error, Result, VhostBackend, VhostBackendMut, VhostUserDirtyLogRegion,
+    VhostUserMemoryRegionInfo, VringConfigData,
+};
+
+// What each call was given, in the order of the calls.
+#[derive(Clone, Copy, Default)]
+struct Device {
+    seen: [u64; 14],
+}
+
+impl Device {
+    fn sees(&mut self, call: usize, given: u64) -> Result<()> {
+        if let Some(place) = self.seen.get_mut(call) {
+            *place = given;
+        }
+        Ok(())
+    }
+}
+
+// A ring's index and a handle as one number.
+fn pair(queue_index: usize, number: u32) -> u64 {
+    (queue_index as u64).wrapping_mul(0x10000) ^ u64::from(number)
+}
+
+impl VhostBackendMut for Device {
+    type Handle = u32;
+
+    fn get_features(&mut self) -> Result<u64> {
+        self.sees(0, 1)?;
+        Ok(0x4000_0000)
+    }
+
+    fn set_features(&mut self, features: u64) -> Result<()> {
+        self.sees(1, features)
+    }
+
+    fn set_owner(&mut self) -> Result<()> {
+        self.sees(2, 1)
+    }
+
+    fn reset_owner(&mut self) -> Result<()> {
+        self.sees(3, 1)
+    }
+
+    fn set_mem_table(
+        &mut self,
+        regions: &[VhostUserMemoryRegionInfo<'_, u32>],
+    ) -> Result<Option<Vec<u64>>> {
+        let Some(region) = regions.first() else {
+            return Err(Error::InvalidGuestMemory);
+        };
+        self.sees(4, region.memory_size)?;
+        Ok(None)
+    }
+
+    fn set_log_base(
+        &mut self,
+        base: u64,
+        region: Option<VhostUserDirtyLogRegion<'_, u32>>,
+    ) -> Result<()> {
+        self.sees(5, base ^ region.map_or(0, |log| log.mmap_size))
+    }
+
+    fn set_log_fd(&mut self, fd: &u32) -> Result<()> {
+        self.sees(6, u64::from(*fd))
+    }
+
+    fn set_vring_num(&mut self, queue_index: usize, num: u16) -> Result<()> {
+        self.sees(7, pair(queue_index, u32::from(num)))
+    }
+
+    fn set_vring_addr(&mut self, queue_index: usize, config_data: &VringConfigData) -> Result<()> {
+        self.sees(8, pair(queue_index, config_data.flags))
+    }
+
+    fn set_vring_base(&mut self, queue_index: usize, base: u16) -> Result<()> {
+        self.sees(9, pair(queue_index, u32::from(base)))
+    }
+
+    fn get_vring_base(&mut self, queue_index: usize) -> Result<u32> {
+        self.sees(10, pair(queue_index, 0))?;
+        Ok(77)
+    }
+
+    fn set_vring_call(&mut self, queue_index: usize, fd: &u32) -> Result<()> {
+        self.sees(11, pair(queue_index, *fd))
+    }
+
+    fn set_vring_kick(&mut self, queue_index: usize, fd: &u32) -> Result<()> {
+        self.sees(12, pair(queue_index, *fd))
+    }
+
+    fn set_vring_err(&mut self, queue_index: usize, fd: &u32) -> Result<()> {
+        self.sees(13, pair(queue_index, *fd))
+    }
+}
+
+// Each call once; what the two that answer a number have answered.
+fn call_each<B: VhostBackend<Handle = u32>>(backend: &B, rt: &impl Wait) -> Result<(u64, u32)> {
+    let handle: u32 = 9;
+    let region = VhostUserMemoryRegionInfo::new(0, 0x2000, 0, 0, Some(&handle));
+    let log = VhostUserDirtyLogRegion {
+        mmap_size: 0x300,
+        mmap_offset: 0,
+        mmap_handle: Some(&handle),
+    };
+    let features = backend.get_features(rt)?;
+    backend.set_features(rt, 3)?;
+    backend.set_owner(rt)?;
+    backend.reset_owner(rt)?;
+    let _ = backend.set_mem_table(rt, &[region])?;
+    backend.set_log_base(rt, 0x7000, Some(log))?;
+    backend.set_log_fd(rt, &handle)?;
+    backend.set_vring_num(rt, 1, 256)?;
+    backend.set_vring_addr(rt, 2, &VringConfigData::default())?;
+    backend.set_vring_base(rt, 3, 4)?;
+    let base = backend.get_vring_base(rt, 5)?;
+    backend.set_vring_call(rt, 6, &handle)?;
+    backend.set_vring_kick(rt, 7, &handle)?;
+    backend.set_vring_err(rt, 8, &handle)?;
+    Ok((features, base))
+}
+
+// What `call_each` gave each call.
+const GIVEN: [u64; 14] = [
+    1, 3, 1, 1, 0x2000, 0x7300, 9, 0x10100, 0x20000, 0x30004, 0x50000, 0x60009, 0x70009, 0x80009,
+];
+
+#[test]
+fn behind_a_lock(rt: HostRuntime) {
+    let device = RwLock::new(Device::default());
+    let answers = call_each(&device, &rt);
+    assert!(rt; matches!(answers, Ok((0x4000_0000, 77))));
+    assert_eq!(rt; device.into_inner().seen, GIVEN);
+}
+
+#[test]
+fn in_a_cell(rt: HostRuntime) {
+    let device = RefCell::new(Device::default());
+    let answers = call_each(&device, &rt);
+    assert!(rt; matches!(answers, Ok((0x4000_0000, 77))));
+    assert_eq!(rt; device.into_inner().seen, GIVEN);
+}
+
+// Whether the call was refused, since the device is in use.
+fn is_refused<T: Drop>(answer: Result<T>) -> bool {
+    matches!(answer, Err(Error::InvalidOperation))
+}
+
+#[test]
+fn in_a_cell_in_use(rt: HostRuntime) {
+    let device = RefCell::new(Device::default());
+    let held = device.try_borrow_mut();
+    assert!(rt; held.is_ok());
+    let handle: u32 = 9;
+    let config = VringConfigData::default();
+    let refused = [
+        is_refused(device.get_features(&rt)),
+        is_refused(device.set_features(&rt, 3)),
+        is_refused(device.set_owner(&rt)),
+        is_refused(device.reset_owner(&rt)),
+        is_refused(device.set_mem_table(&rt, &[])),
+        is_refused(device.set_log_base(&rt, 0x7000, None)),
+        is_refused(device.set_log_fd(&rt, &handle)),
+        is_refused(device.set_vring_num(&rt, 1, 256)),
+        is_refused(device.set_vring_addr(&rt, 2, &config)),
+        is_refused(device.set_vring_base(&rt, 3, 4)),
+        is_refused(device.get_vring_base(&rt, 5)),
+        is_refused(device.set_vring_call(&rt, 6, &handle)),
+        is_refused(device.set_vring_kick(&rt, 7, &handle)),
+        is_refused(device.set_vring_err(&rt, 8, &handle)),
+    ];
+    assert_eq!(rt; refused, [true; 14]);
+    drop(held);
+    assert!(rt; device.set_owner(&rt).is_ok());
+}
