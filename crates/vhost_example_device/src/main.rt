@@ -1,0 +1,46 @@
+//! Serves a device of one's own over a link in memory.
+#![tactic(auto)]
+
+mod device;
+
+use device::Device;
+use vhost_backend_req_handler::SessionCore;
+use vhost_link::MemLink;
+
+/// How many retries a message may take.
+const BUDGET: u32 = 3;
+
+/// What a frontend sends: a call's name, its bytes.
+const REQUESTS: [(&str, &[u8]); 4] = [
+    ("SET_OWNER", &[3, 0, 0, 0, 1, 0, 0, 0, 0, 0, 0, 0]),
+    (
+        "SET_FEATURES of bit 0",
+        &[2, 0, 0, 0, 1, 0, 0, 0, 8, 0, 0, 0, 1, 0, 0, 0, 0, 0, 0, 0],
+    ),
+    (
+        "SET_FEATURES of bit 1",
+        &[2, 0, 0, 0, 1, 0, 0, 0, 8, 0, 0, 0, 2, 0, 0, 0, 0, 0, 0, 0],
+    ),
+    ("a header cut short", &[3, 0, 0, 0, 1]),
+];
+
+/// Prints how each request was answered, and what the device has become.
+fn main(rt: HostRuntime) -> anyhow::Result<()> {
+    let mut link = MemLink::new(rt.alloc(), Vec::new(rt.alloc()));
+    for (_, bytes) in &REQUESTS {
+        link.push(bytes, &[])?;
+    }
+    let mut session = SessionCore::new(rt.alloc(), link, BUDGET)?;
+    let mut device = Device {
+        owned: false,
+        features: 0,
+    };
+    for (name, _) in &REQUESTS {
+        match session.handle_request(&mut device) {
+            Ok(()) => println!(rt; "{name}: served")?,
+            Err(error) => println!(rt; "{name}: {error}")?,
+        }
+    }
+    println!(rt; "owned: {}, features: {:#x}", device.owned, device.features)?;
+    Ok(())
+}

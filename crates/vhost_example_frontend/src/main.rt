@@ -1,0 +1,69 @@
+//! Asks a device as a hypervisor does, over a link in memory that holds the device's answers.
+#![tactic(auto)]
+
+use bitflags::Flags;
+use vhost_frontend::Quiet;
+use vhost_link::{Link, MemLink};
+use vhost_message::{Result, VhostUserConfigFlags, VhostUserHeaderFlag, VhostUserProtocolFeatures};
+
+/// How many rings the driver has at first, and how many retries a message may take.
+const RINGS: u64 = 2;
+
+const BUDGET: u32 = 3;
+
+/// What the device answers, in order: virtio features (bits 0 and 30), protocol features (CONFIG and REPLY_ACK), two
+/// acknowledgements, and four bytes of the configuration space at 0x100.
+const ANSWERS: [&[u8]; 5] = [
+    &[
+        1, 0, 0, 0, 5, 0, 0, 0, 8, 0, 0, 0, 1, 0, 0, 0x40, 0, 0, 0, 0,
+    ],
+    &[15, 0, 0, 0, 5, 0, 0, 0, 8, 0, 0, 0, 8, 2, 0, 0, 0, 0, 0, 0],
+    &[3, 0, 0, 0, 5, 0, 0, 0, 8, 0, 0, 0, 0, 0, 0, 0, 0, 0, 0, 0],
+    &[8, 0, 0, 0, 5, 0, 0, 0, 8, 0, 0, 0, 1, 0, 0, 0, 0, 0, 0, 0],
+    &[
+        24, 0, 0, 0, 5, 0, 0, 0, 16, 0, 0, 0, 0, 1, 0, 0, 4, 0, 0, 0, 0, 0, 0, 0, 1, 2, 3, 4,
+    ],
+];
+
+/// Agrees on features with the device, and wants each request acknowledged from then on; the protocol features chosen.
+fn negotiate<L: Link>(frontend: &mut Quiet<L>) -> Result<VhostUserProtocolFeatures> {
+    let features = frontend.get_features()?;
+    frontend.set_features(features)?;
+    let features = frontend.get_protocol_features()?;
+    frontend.set_protocol_features(features)?;
+    frontend.set_hdr_flags(VhostUserHeaderFlag::NEED_REPLY);
+    Ok(features)
+}
+
+/// Prints what a call answered.
+fn show<T: Drop>(rt: &HostRuntime, name: &str, answer: Result<T>) -> anyhow::Result<()> {
+    match answer {
+        Ok(_) => println!(rt; "{name}: ok")?,
+        Err(error) => println!(rt; "{name}: {error}")?,
+    }
+    Ok(())
+}
+
+fn main(rt: HostRuntime) -> anyhow::Result<()> {
+    let mut link = MemLink::new(rt.alloc(), Vec::new(rt.alloc()));
+    for answer in &ANSWERS {
+        link.push(answer, &[])?;
+    }
+    let mut frontend = Quiet::new(rt.alloc(), link, RINGS, BUDGET)?;
+    let features = negotiate(&mut frontend)?;
+    println!(rt; "protocol features: {:#x}", features.bits())?;
+    show(&rt, "set_owner", frontend.set_owner())?;
+    show(
+        &rt,
+        "set_vring_num of ring 0",
+        frontend.set_vring_num(0, 1000),
+    )?;
+    show(
+        &rt,
+        "set_vring_num of ring 2",
+        frontend.set_vring_num(2, 256),
+    )?;
+    let (part, bytes) = frontend.get_config(0x100, 4, VhostUserConfigFlags::empty(), &[0; 4])?;
+    println!(rt; "get_config at {:#x}: {:?}", part.offset, bytes.as_slice())?;
+    show(&rt, "get_vring_base of ring 1", frontend.get_vring_base(1))
+}
