@@ -1,3 +1,6 @@
+mod Windows
+mod Handing
+pub mod Adding
 pub mod Joining
 pub mod Sending
 pub mod Receiving

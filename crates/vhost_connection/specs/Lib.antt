@@ -1,3 +1,4 @@
+pub mod Ahead
 pub mod Pass
 pub mod Talk
 pub mod Calls

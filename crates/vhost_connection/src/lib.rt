@@ -1,6 +1,8 @@
 //! Endpoints: whole messages over a link.
 #![tactic(auto)]
 
+mod ahead;
+mod buffer;
 mod endpoint;
 mod fault;
 mod list;
