@@ -1,6 +1,3 @@
-mod Windows
-mod Handing
-pub mod Adding
 pub mod Joining
 pub mod Sending
 pub mod Receiving

@@ -1,4 +1,3 @@
-pub mod Ahead
 pub mod Pass
 pub mod Talk
 pub mod Calls

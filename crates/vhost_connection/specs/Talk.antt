@@ -54,10 +54,10 @@ pub data Trouble {L H : Type 0} (event : L → Event H → L → Type 0) (old : 
   -- its list had been given away, there is no memory for another, and nothing changed
   no_memory : {new : State L H} → grows ≡ true → old.broken ≡ None → old.list ≡ false → m ≡ nothing → new ≡ record old { faulted = false }
       → Trouble event old limit grows breaks m OutOfMemory new
-  -- the link failed, or retried once more than the limit allows: the endpoint is broken where something had moved, and else as before; so is what is left for a body
+  -- the link failed, or retried once more than the limit allows: the endpoint is broken where something had moved, and else as before
   fault : (c : IoCause) {new : State L H} → old.broken ≡ None → Talks event old (m then refused c) new → m.failures ≡ 0 → m.retries ≤ limit
       → (IsTrue (is_retry c) → m.retries ≡ limit) → new.broken ≡ (if breaks || has_moved m then Some c else None) → new.faulted ≡ true
-      → (old.list ≡ true → new.list ≡ true) × ((breaks || has_moved m) ≡ false → new.left ≡ old.left) → Trouble event old limit grows breaks m (error_of c) new
+      → (old.list ≡ true → new.list ≡ true) → Trouble event old limit grows breaks m (error_of c) new
 
 -- it is broken, and this error says so
 abbrev pub IsBroken : {L H : Type 0} → State L H → Error → Type 0

@@ -1,8 +1,6 @@
 //! Endpoints: whole messages over a link.
 #![tactic(auto)]
 
-mod ahead;
-mod buffer;
 mod endpoint;
 mod fault;
 mod list;

@@ -71,7 +71,7 @@ impl<M: MsgHeader, L: Link> Endpoint<M, L> {
             return Err(Error::SocketBroken(cause));
         }
         let got = recv_bytes(
-            &mut self.source,
+            &mut self.link,
             &mut self.text[..],
             len,
             &mut self.spare.list,
@@ -206,7 +206,7 @@ impl<M: MsgHeader, L: Link> Endpoint<M, L> {
         let Ok(mut list) = take_list(&mut self.list, self.alloc) else {
             return Err(Error::OutOfMemory);
         };
-        match recv_once(&mut self.source, &mut self.text[..], len, &mut list) {
+        match recv_once(&mut self.link, &mut self.text[..], len, &mut list) {
             Ok(count) => Ok((count, self.give(list))),
             Err(cause) => {
                 self.put_back(list);
@@ -237,7 +237,7 @@ impl<M: MsgHeader, L: Link> Endpoint<M, L> {
             return Err(Error::OutOfMemory);
         };
         let got = recv_parts(
-            &mut self.source,
+            &mut self.link,
             &mut self.text[..],
             len,
             room,
@@ -245,12 +245,11 @@ impl<M: MsgHeader, L: Link> Endpoint<M, L> {
             &mut self.spare.list,
             self.budget,
         );
+        self.left = got.left;
         if let PassEnd::Fault(cause) = got.stop {
             self.put_back(list);
-            self.left = if got.count > 0 { got.left } else { self.left };
             return Err(self.fail(cause, got.count > 0));
         }
-        self.left = got.left;
         Ok(Front {
             count: got.count,
             more: got.more,
@@ -264,7 +263,7 @@ impl<M: MsgHeader, L: Link> Endpoint<M, L> {
         ensures { ReadsMore L.event (state self.old) room.old result room.new (state self.new) }
     {
         self.faulted = false;
-        let got = recv_rest(&mut self.source, room, &mut self.spare.list, self.left);
+        let got = recv_rest(&mut self.link, room, &mut self.spare.list, self.left);
         self.left = got.left;
         if let PassEnd::Fault(cause) = got.stop {
             return Err(self.fail(cause, true));

@@ -9,9 +9,7 @@ use crate::endpoint::Endpoint;
 use crate::pass::{send_once, send_pieces};
 use crate::pieces::{gather, total_len};
 use vhost_link::Link;
-use vhost_message::{
-    ByteValued, Error, MAX_ATTACHED_FD_ENTRIES, MAX_MSG_SIZE, MAX_MSG_TEXT, MsgHeader, Result,
-};
+use vhost_message::{ByteValued, Error, MAX_ATTACHED_FD_ENTRIES, MAX_MSG_SIZE, MsgHeader, Result};
 
 /// Writes a header and the body behind it.
 fn put<M: ByteValued, T: ByteValued>(out: &mut [u8], header: &M, body: &T)
@@ -22,17 +20,6 @@ fn put<M: ByteValued, T: ByteValued>(out: &mut [u8], header: &M, body: &T)
     let (front, rest) = out.split_at_mut(M::SIZE);
     header.encode_into(front);
     body.encode_into(rest);
-}
-
-/// Writes a header, the body behind it and a payload behind both.
-fn put_all<M: ByteValued, T: ByteValued>(out: &mut [u8], header: &M, body: &T, payload: &[u8])
-    requires { length out.old ≡ M.SIZE + T.SIZE + length payload.now }
-    ensures text { out.new ≡ M.text header.now ++ T.text body.now ++ payload.now }
-    ensures fits { T.fits body.now }
-{
-    let (front, rest) = out.split_at_mut(M::SIZE + T::SIZE);
-    put(front, header, body);
-    rest.copy_from_slice(payload);
 }
 
 impl<M: MsgHeader, L: Link> Endpoint<M, L> {
@@ -86,8 +73,8 @@ impl<M: MsgHeader, L: Link> Endpoint<M, L> {
         self.send_text(len, &[], handles)
     }
 
-    /// Sends a header, a body and a payload, with the handles on the first byte: as one piece where they have at most
-    /// `MAX_MSG_TEXT` bytes together, and else the payload goes out from where it lies.
+    /// Sends a header, a body and a payload, with the handles on the first byte. The payload goes out from where it
+    /// lies.
     ///
     /// OversizedMsg: the body is longer than `MAX_MSG_SIZE`, or body and payload together than a header of this type may
     /// say. IncorrectFds: there are more than `MAX_ATTACHED_FD_ENTRIES` handles. In both cases nothing was written, and nothing changed.
@@ -118,13 +105,8 @@ impl<M: MsgHeader, L: Link> Endpoint<M, L> {
             return Err(Error::IncorrectFds);
         }
         let len = M::SIZE + T::SIZE;
-        if payload.len() > MAX_MSG_TEXT - len {
-            put(&mut self.text[..len], header, body);
-            return self.send_text(len, payload, handles);
-        }
-        let whole = len + payload.len();
-        put_all(&mut self.text[..whole], header, body, payload);
-        self.send_text(whole, &[], handles)
+        put(&mut self.text[..len], header, body);
+        self.send_text(len, payload, handles)
     }
 
     /// Sends the first bytes of the text, and a payload behind them.
@@ -137,7 +119,7 @@ impl<M: MsgHeader, L: Link> Endpoint<M, L> {
         self.faulted = false;
         self.expect_sound()?;
         let pieces = [&self.text[..len], payload];
-        let sent = send_pieces(&mut self.source.link, &pieces, handles, self.budget);
+        let sent = send_pieces(&mut self.link, &pieces, handles, self.budget);
         match sent.fault {
             None => Ok(()),
             Some(cause) => Err(self.fail(cause, sent.moved)),
@@ -165,7 +147,7 @@ impl<M: MsgHeader, L: Link> Endpoint<M, L> {
         }
         self.faulted = false;
         self.expect_sound()?;
-        let sent = send_pieces(&mut self.source.link, iovs, handles, self.budget);
+        let sent = send_pieces(&mut self.link, iovs, handles, self.budget);
         match sent.fault {
             None => Ok(len),
             Some(cause) => Err(self.fail(cause, sent.moved)),
@@ -189,7 +171,7 @@ impl<M: MsgHeader, L: Link> Endpoint<M, L> {
         }
         self.faulted = false;
         self.expect_sound()?;
-        match send_once(&mut self.source.link, bytes, handles) {
+        match send_once(&mut self.link, bytes, handles) {
             Ok(count) => Ok(count),
             Err(cause) => Err(self.fail(cause, false)),
         }
@@ -214,7 +196,7 @@ impl<M: MsgHeader, L: Link> Endpoint<M, L> {
         }
         self.faulted = false;
         self.expect_sound()?;
-        match send_once(&mut self.source.link, &self.text[..len], handles) {
+        match send_once(&mut self.link, &self.text[..len], handles) {
             Ok(count) => Ok(count),
             Err(cause) => Err(self.fail(cause, false)),
         }
