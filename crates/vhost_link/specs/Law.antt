@@ -21,6 +21,11 @@ abbrev pub Sends : {S H : Type 0} → (S → Event H → S → Type 0) → S →
 Sends event old bytes handles (Ok n) new = (0 < n) × (n ≤ length bytes) × event old (Taken (carrying handles (take n bytes))) new
 Sends event old bytes handles (Err c) new = event old (Refused c) new
 
+-- A send to a link that takes in all that it is given: all of so many bytes went in; or it failed, and the link takes in all of the next one.
+abbrev pub TakesAll : {S : Type 0} → (S → Type 0) → ℕ → Result ℕ IoCause → S → Type 0
+TakesAll takes_all len (Ok n) new = n ≡ len
+TakesAll takes_all len (Err c) new = takes_all new
+
 -- A receive of n bytes: it hands them out with the handles on the first, or it tells the end.
 pub record HandsOut {S H : Type 0} (event : S → Event H → S → Type 0) (old : S) (n : ℕ) (front : List ℕ) (handles : List H) (new : S) : Type 0 where
   pub some : 0 < n → event old (Handed (carrying handles front)) new

@@ -1,4 +1,5 @@
 pub mod Law
 pub mod Cuts
 pub mod Ends
+pub mod Marks
 pub mod Mem

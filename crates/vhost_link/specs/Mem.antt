@@ -19,6 +19,10 @@ event old Ended new = (old.pending ≡ []) × Gives old.script 0 × (new ≡ rec
 event old (Taken cs) new = (0 < length cs) × Gives old.script (length cs) × (new ≡ record old { sent = old.sent ++ cs; script = drop 1 old.script })
 event old (Refused c) new = Fails old.script c old.starved new.starved × (new ≡ record old { script = drop 1 old.script; starved = new.starved })
 
+-- no call that comes is cut
+abbrev pub is_uncut : Ends → Type 0
+is_uncut link = link.script ≡ []
+
 -- a duplicate is always refused
 abbrev pub refuses_duplicate : Result Ends IoCause → Type 0
 refuses_duplicate (Ok l) = ⊥

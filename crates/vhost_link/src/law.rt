@@ -2,7 +2,7 @@
 
 ghost use Rattle.std.specs.Prelude.{◌≡◌, ◌<◌, ◌≤◌, [], Result, length, vec_capacity, map};
 ghost use Rattle.vhost_message.specs.declared.limits.TheConstants.{MAX_ATTACHED_FD_ENTRIES};
-ghost use Rattle.vhost_link.specs.Law.{Event, Sends, Receives};
+ghost use Rattle.vhost_link.specs.Law.{Event, Sends, TakesAll, Receives};
 
 use crate::handle::Handle;
 use vhost_message::IoCause;
@@ -19,6 +19,9 @@ pub trait Link: Drop {
     /// What one call may have done, from the link before it to the link after it.
     ghost event: { Self → Event Self.Handle → Self → Type 0 };
 
+    /// Where this holds, a send takes in all the bytes, unless it fails. A link need not promise it.
+    ghost takes_all: { Self → Type 0 } = { λ _. ⊥ };
+
     /// What duplicating the link may answer.
     ghost duplicates: { Self → Result Self IoCause → Type 0 };
 
@@ -31,7 +34,8 @@ pub trait Link: Drop {
     fn send(&mut self, bytes: &[u8], handles: &[&Self::Handle]) -> Result<usize, IoCause>
         requires bytes { 0 < length bytes.now }
         requires handles { length handles.now ≤ MAX_ATTACHED_FD_ENTRIES }
-        ensures { Sends event self.old bytes.now (map (λ h. h.now) handles.now) result self.new };
+        ensures law { Sends event self.old bytes.now (map (λ h. h.now) handles.now) result self.new }
+        ensures whole { takes_all self.old → TakesAll takes_all (length bytes.now) result self.new };
 
     /// Receives what fits into the room, up to the next byte that brings handles; the answer is how many bytes, and 0 at the end of the stream.
     ///

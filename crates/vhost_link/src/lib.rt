@@ -2,16 +2,16 @@
 #![tactic(auto)]
 
 mod cut;
+mod flow;
 mod handle;
-mod held;
 mod law;
+mod mark;
 mod mem;
-mod pieces;
 mod plain;
 
 pub use cut::Cut;
+pub use flow::Flow;
 pub use handle::{Handle, Kind};
-pub use held::HeldByte;
 pub use law::Link;
 pub use mem::MemLink;
 pub use plain::PlainHandle;

@@ -3,16 +3,15 @@
 ghost use Rattle.std.specs.Prelude.{◌≡◌, [], ◌++◌, ◌<◌, ◌≤◌, length, map, OnOk, OnErr, IsOk, vec_capacity};
 ghost use Rattle.vhost_message.specs.declared.limits.TheConstants.{MAX_ATTACHED_FD_ENTRIES};
 ghost use Rattle.vhost_protocol.specs.Stream.{carrying};
-ghost use Rattle.vhost_link.specs.Law.{Sends, Receives};
+ghost use Rattle.vhost_link.specs.Law.{Sends, TakesAll, Receives};
 ghost use Rattle.vhost_link.specs.Cuts.{allowed};
 ghost use Rattle.vhost_link.specs.Ends.{empty, Carried};
-ghost use Rattle.vhost_link.specs.Mem.{StreamLaw, GivesLaw, SendsAll, received};
+ghost use Rattle.vhost_link.specs.Mem.{StreamLaw, GivesLaw, SendsAll, received, is_uncut};
 
-use crate::cut::Cut;
-use crate::held::HeldByte;
+use crate::cut::{Cut, next_cut};
+use crate::flow::Flow;
 use crate::law::Link;
-use crate::pieces::{copied, next_cut, pop_first, push_bytes, take_plain};
-use crate::plain::PlainHandle;
+use crate::plain::{PlainHandle, copied};
 use std::alloc::{AllocError, Global};
 use std::collections::VecDeque;
 use std::marker::Model;
@@ -23,8 +22,8 @@ use vhost_message::errno::ENOMEM;
 /// One end of a connection in memory: what it will hand out, what it took in, and how its next calls are cut.
 #[derive(Drop)]
 pub struct MemLink {
-    pending: VecDeque<HeldByte>,
-    sent: VecDeque<HeldByte>,
+    pending: Flow,
+    sent: Flow,
     script: VecDeque<Cut>,
     starved: bool,
     alloc: Global,
@@ -35,7 +34,7 @@ impl Model for MemLink {
 
     ghost Value = { Ends };
 
-    ghost view = { λ link. record { pending = link.pending.items; sent = link.sent.items; script = link.script.items; starved = link.starved } };
+    ghost view = { λ link. record { pending = link.pending; sent = link.sent; script = link.script.items; starved = link.starved } };
 }
 
 impl MemLink {
@@ -44,8 +43,8 @@ impl MemLink {
         ensures { result ≡ empty script.items }
     {
         MemLink {
-            pending: VecDeque::new(alloc),
-            sent: VecDeque::new(alloc),
+            pending: Flow::new(alloc),
+            sent: Flow::new(alloc),
             script: VecDeque::from_vec(script),
             starved: false,
             alloc,
@@ -53,8 +52,8 @@ impl MemLink {
     }
 
     /// What it took in and was not carried away, in order.
-    pub fn taken(&self) -> &VecDeque<HeldByte>
-        ensures { result.now.items ≡ self.now.sent }
+    pub fn taken(&self) -> &Flow
+        ensures { result.now ≡ self.now.sent }
     {
         &self.sent
     }
@@ -90,18 +89,20 @@ impl MemLink {
         ensures refused { OnErr result (self.new ≡ self.old) }
     {
         let handles = Vec::from_slice(self.alloc, handles)?;
-        push_bytes(&mut self.pending, self.alloc, bytes, handles)
+        self.pending.put(bytes, handles)
     }
 }
 
 impl Link for MemLink {
     ghost use Rattle.std.specs.Prelude.{◌≡◌, Ok, []};
     ghost use Rattle.vhost_link.specs.Ends.{empty};
-    ghost use Rattle.vhost_link.specs.Mem.{event, refuses_duplicate};
+    ghost use Rattle.vhost_link.specs.Mem.{event, is_uncut, refuses_duplicate};
 
     type Handle = PlainHandle;
 
     ghost event = { event };
+
+    ghost takes_all = { is_uncut };
 
     ghost duplicates = { λ link result. refuses_duplicate result };
 
@@ -112,11 +113,12 @@ impl Link for MemLink {
         requires bytes { 0 < length bytes.now }
         requires handles { length handles.now ≤ MAX_ATTACHED_FD_ENTRIES }
         ensures law { Sends event self.old bytes.now (map (λ h. h.now) handles.now) result self.new }
+        ensures whole { is_uncut self.old → TakesAll is_uncut (length bytes.now) result self.new }
         ensures exact { SendsAll (allowed self.old.script (length bytes.now)) result }
     {
         let count = next_cut(&mut self.script, bytes.len())?;
         let sent = match copied(self.alloc, handles) {
-            Ok(list) => push_bytes(&mut self.sent, self.alloc, &bytes[..count], list),
+            Ok(list) => self.sent.put(&bytes[..count], list),
             Err(refusal) => Err(refusal),
         };
         if sent.is_err() {
@@ -136,13 +138,7 @@ impl Link for MemLink {
         ensures exact { result ≡ received (allowed self.old.script (length room.old)) self.old.pending }
     {
         let most = next_cut(&mut self.script, room.len())?;
-        match pop_first(&mut self.pending, handles) {
-            None => Ok(0),
-            Some(byte) => {
-                room[0] = byte;
-                Ok(1 + take_plain(&mut self.pending, &mut room[1..most]))
-            }
-        }
+        Ok(self.pending.get(&mut room[..most], handles))
     }
 
     fn duplicate(&self) -> Result<MemLink, IoCause> {

@@ -1,8 +1,9 @@
 //! A handle that stands for nothing outside the program.
 
-ghost use Rattle.std.specs.Prelude.{◌≡◌, Ok};
+ghost use Rattle.std.specs.Prelude.{◌≡◌, Ok, IfOk, length, map, vec_len};
 
 use crate::handle::{Handle, Kind};
+use std::alloc::{AllocError, Global};
 use vhost_message::IoCause;
 
 /// A handle that is a number and a kind. What it stands for is known to whoever made it.
@@ -26,4 +27,18 @@ impl Handle for PlainHandle {
     fn duplicate(&self) -> Result<PlainHandle, IoCause> {
         Ok(*self)
     }
+}
+
+/// The same handles, in a list of their own.
+pub(crate) fn copied(
+    alloc: Global,
+    handles: &[&PlainHandle],
+) -> Result<Vec<PlainHandle>, AllocError>
+    ensures { IfOk result (λ list. (list.items ≡ map (λ h. h.now) handles.now) × (vec_len list ≡ length handles.now)) }
+{
+    let mut list = Vec::new(alloc);
+    for handle in handles {
+        list.push(**handle)?;
+    }
+    Ok(list)
 }
