@@ -54,7 +54,7 @@ module _ (H : Type 0) where
   ruleset answers = (answered-feature, answered-unless, answered-if, answered-back)
 
   pub reverse-answers : ReverseAnswers H
-  reverse-answers b s HandleConfigChange same = tt
+  reverse-answers b s HandleConfigChange same = search answers depth 12
   reverse-answers b s (SharedObjectAdd name) same = search answers depth 12
   reverse-answers b s (SharedObjectRemove name) same = search answers depth 12
   reverse-answers b s (SharedObjectLookup name h) same = search answers depth 12

@@ -4,15 +4,15 @@ use Rattle.std.specs.Prelude.{codes}
 use Rattle.vhost_message.specs.BackendReq.{backend_request_number}
 use Rattle.vhost_message.specs.declared.backend_req.BackendReq.{BackendReq}
 use Rattle.vhost_message.specs.declared.backend_req.BackendReq.TheVariants.{VRING_CALL}
-use Rattle.vhost_protocol.specs.Error.{Error, Raw, Named, InvalidMessage, PartialMessage, FrontendInternalError}
+use Rattle.vhost_protocol.specs.Error.{Error, Raw, Named, InvalidMessage, PartialMessage, FrontendInternalError, ReqHandlerError}
 use Rattle.vhost_protocol.specs.IoError.{IoError, Because, Of}
 use Rattle.vhost_protocol.specs.Joined.{read_as}
-use Rattle.vhost_protocol.specs.Reverse.{ReverseCall, SharedObjectAdd, ShmemMap, Backend, ReverseAsked, Refuses, Sends, reverse_ask, reverse_answer, Server, ReverseOutcome, ReverseStep, Refused, Calls, reverse_row, error_number}
+use Rattle.vhost_protocol.specs.Reverse.{ReverseCall, HandleConfigChange, SharedObjectAdd, ShmemMap, Backend, ReverseAsked, Refuses, Sends, reverse_ask, reverse_answer, Server, ReverseOutcome, ReverseStep, Refused, Calls, reverse_row, error_number}
 use Rattle.vhost_protocol.specs.Served.{Replied, reply}
 use Rattle.vhost_protocol.specs.Written.{Written, U64, written_text}
 
 backend : Bool → Bool → Backend
-backend ack on = record { reply_ack = ack; shared_object = on; shmem = on; failed = None }
+backend ack on = record { reply_ack = ack; shared_object = on; shmem = on; config_change = on; failed = None }
 
 server : Bool → Server
 server ack = record { reply_ack = ack; failed = None }
@@ -57,6 +57,23 @@ nil_awaited : line true (Ok 0) (SharedObjectAdd (record { uuid = replicate 16 0 
     ≡ (6 ∷ 0 ∷ 0 ∷ 0 ∷ 9 ∷ 0 ∷ 0 ∷ 0 ∷ 0x10 ∷ replicate 19 0, [], Some (Err InvalidMessage), Some (Err (Of PartialMessage)))
 unfolding line outcome backend server
 nil_awaited = refl
+
+changed_silent : line false (Ok 0) HandleConfigChange ≡ (2 ∷ 0 ∷ 0 ∷ 0 ∷ 1 ∷ replicate 7 0, [], Some (Ok 0), Some (Ok 0))
+unfolding line outcome backend server
+changed_silent = refl
+
+changed : line true (Ok 0) HandleConfigChange ≡ (2 ∷ 0 ∷ 0 ∷ 0 ∷ 9 ∷ replicate 7 0, 2 ∷ 0 ∷ 0 ∷ 0 ∷ 5 ∷ 0 ∷ 0 ∷ 0 ∷ 8 ∷ replicate 11 0, Some (Ok 0), Some (Ok 0))
+unfolding line outcome backend server
+changed = refl
+
+changed_in_vain : line true (Err (Because (Raw (pos 38)))) HandleConfigChange
+    ≡ (2 ∷ 0 ∷ 0 ∷ 0 ∷ 9 ∷ replicate 7 0, 2 ∷ 0 ∷ 0 ∷ 0 ∷ 5 ∷ 0 ∷ 0 ∷ 0 ∷ 8 ∷ 0 ∷ 0 ∷ 0 ∷ 0xda ∷ replicate 7 0xff, Some (Err (ReqHandlerError (Raw (pos 38)))), Some (Err (Of FrontendInternalError)))
+unfolding line outcome backend server
+changed_in_vain = refl
+
+unagreed : reverse_ask {H = ℕ} (backend true false) HandleConfigChange ≡ Refuses (Because (Raw (pos 38)))
+unfolding backend
+unagreed = refl
 
 raw_38 : error_number (Because (Raw (pos 38))) ≡ 0xFFFFFFFFFFFFFFDA
 raw_38 = refl

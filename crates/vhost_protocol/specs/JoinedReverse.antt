@@ -13,6 +13,7 @@ pub data ReverseInput (H : Type 0) : Type 0 where
   SetReplyAck : Bool → ReverseInput H
   SetSharedObject : Bool → ReverseInput H
   SetShmem : Bool → ReverseInput H
+  SetConfigChange : Bool → ReverseInput H
   Asks : ReverseCall H → ReverseInput H
 
 -- in step: nothing is awaited, and nothing is on the way
@@ -48,6 +49,7 @@ module _ {H Dev : Type 0} (gives : Dev → ReverseCall H → Result ℕ IoError 
       (shown ≡ reverse_unsent (Ok 0)) × (b' ≡ record b { reply_ack = on }) × (s' ≡ record s { reply_ack = on }) × (d' ≡ d)
   ReverseJoinedStep b s d (SetSharedObject on) shown b' s' d' = (shown ≡ reverse_unsent (Ok 0)) × (b' ≡ record b { shared_object = on }) × (s' ≡ s) × (d' ≡ d)
   ReverseJoinedStep b s d (SetShmem on) shown b' s' d' = (shown ≡ reverse_unsent (Ok 0)) × (b' ≡ record b { shmem = on }) × (s' ≡ s) × (d' ≡ d)
+  ReverseJoinedStep b s d (SetConfigChange on) shown b' s' d' = (shown ≡ reverse_unsent (Ok 0)) × (b' ≡ record b { config_change = on }) × (s' ≡ s) × (d' ≡ d)
   ReverseJoinedStep b s d (Asks c) shown b' s' d' = ReverseExchanges s d (reverse_ask b c) shown d' × (b' ≡ b) × (s' ≡ s)
 
   -- joined steps one after another; nothing comes after the last one

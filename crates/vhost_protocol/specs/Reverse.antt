@@ -17,7 +17,7 @@ use Rattle.vhost_protocol.specs.Run.{Serves, Run}
 use Rattle.vhost_protocol.specs.Served.{Served, Silent, Replied, reply, cells_of}
 use Rattle.vhost_protocol.specs.Split.{Message, announced}
 use Rattle.vhost_protocol.specs.Stream.{Cell, Item, has_some}
-use Rattle.vhost_protocol.specs.Written.{Payload, U64, ObjectName, Mapping, Written}
+use Rattle.vhost_protocol.specs.Written.{Payload, Empty, U64, ObjectName, Mapping, Written}
 
 -- two requests are allowed to come with exactly one handle, the others with none
 abbrev pub backend_allows_handles : BackendReq → ℕ → Bool
@@ -36,11 +36,12 @@ pub data ReverseCall (H : Type 0) : Type 0 where
 
 -- ---- the asking side
 
--- what the asking side remembers: its three flags, and the number of a failure
+-- what the asking side remembers: its four flags, and the number of a failure
 pub record Backend : Type 0 where
   pub reply_ack : Bool
   pub shared_object : Bool
   pub shmem : Bool
+  pub config_change : Bool
   pub failed : Option ℤ
 
 -- what becomes of a call: a refusal, or a message, and whether an answer is awaited
@@ -68,7 +69,7 @@ sends_mapping b r mapping handles =
 
 -- what a call becomes
 abbrev pub reverse_ask : {H : Type 0} → Backend → ReverseCall H → ReverseAsked H
-reverse_ask b HandleConfigChange = Refuses (Because (Raw (pos 38)))
+reverse_ask b HandleConfigChange = if b.config_change then sends_unless b.failed b CONFIG_CHANGE_MSG Empty [] else Refuses (Because (Raw (pos 38)))
 reverse_ask b (SharedObjectAdd name) = sends_object b SHARED_OBJECT_ADD name []
 reverse_ask b (SharedObjectRemove name) = sends_object b SHARED_OBJECT_REMOVE name []
 reverse_ask b (SharedObjectLookup name h) = sends_object b SHARED_OBJECT_LOOKUP name (h ∷ [])
