@@ -1,5 +1,5 @@
 -- Calls of a side that fail.
-use Rattle.std.proofs.Common.{◌≡◌, ℕ, ◌≤◌, [], length, refl, sym, ap, subst, ◌∙◌, arith, inl, inr, Bool, true, false, ◌||◌, IsTrue, Option, Some, None}
+use Rattle.std.proofs.Common.{◌≡◌, ℕ, ◌+◌, ◌++◌, ◌≤◌, [], length, refl, sym, ap, subst, ◌∙◌, arith, inl, inr, Bool, true, false, ◌||◌, IsTrue, Option, Some, None}
 use Rattle.std.specs.Prelude.{if◌then◌else◌}
 use Rattle.std.proofs.lemmas.List.{append-nil}
 use Rattle.vhost_message.specs.declared.limits.TheConstants.{MAX_MSG_TEXT}
@@ -7,9 +7,11 @@ use Rattle.vhost_message.specs.declared.cause.IoCause.{IoCause}
 use Rattle.vhost_message.specs.declared.error.Error.{Error}
 use Rattle.vhost_message.specs.declared.error.Error.TheVariants.{SocketError, SocketConnect, SocketBroken, SocketRetry}
 use Rattle.vhost_message.specs.Cause.{is_retry, is_break, is_denial, error_of}
-use Rattle.vhost_link.specs.Law.{Event, Move, move, ◌then◌, refused}
+use Rattle.vhost_protocol.specs.Stream.{items}
+use Rattle.vhost_link.specs.Law.{Event, Refused, Move, more, move, ◌then◌, refused}
+use Rattle.vhost_connection.proofs.Adding.{refused-handed}
 use Rattle.vhost_connection.specs.State.{first_cause}
-use Rattle.vhost_connection.specs.Talk.{State, Trouble, has_moved}
+use Rattle.vhost_connection.specs.Talk.{State, Talks, Fell, Trouble, has_moved}
 use Rattle.vhost_connection.specs.Talk.Trouble.{was_broken as trouble_broken, no_memory as trouble_memory, fault as trouble_fault}
 use Rattle.vhost_connection.specs.Hearing.{Spends, Fails, broken_on}
 use Rattle.vhost_connection.specs.Hearing.Fails.{was_broken, no_memory, fault}
@@ -40,14 +42,29 @@ pub first-is : (c : IoCause) (moved : Bool) → first_cause (if moved then Some 
 first-is c true = refl
 first-is c false = refl
 
+-- what it did and the failure, added up
+pub fell-talks : {L H : Type 0} {event : L → Event H → L → Type 0} {old new : State L H} {m : Move H} (c : IoCause) → Fell event old m c new → Talks event old (m then refused c) new
+fell-talks {H = H} {old = old} {new} {m} c f =
+    let t = f.talks in
+    let none : (refused {H = H} c).handed ≡ [] = refused-handed c in
+    record {
+      below = t.below then refused c;
+      moved = more {e = Refused c} t.moved f.last;
+      handed = ap (λ zs. items old.ahead ++ (t.below.handed ++ zs)) none ∙ ap (λ zs. items old.ahead ++ zs) (append-nil t.below.handed) ∙ t.handed
+          ∙ ap (λ zs. zs ++ items new.ahead) (sym (append-nil m.handed) ∙ ap (λ zs. m.handed ++ zs) (sym none));
+      taken = ap (λ xs. xs ++ (refused {H = H} c).taken) t.taken;
+      retries = ap (λ n. n + (refused {H = H} c).retries) t.retries;
+      failures = ap (λ n. n + (refused {H = H} c).failures) t.failures;
+      budget = t.budget;
+    }
+
 module _ {L H : Type 0} (event : L → Event H → L → Type 0) (old : State L H) (grows breaks : Bool) (m : Move H) where
   -- an endpoint's trouble is a failure of the side
   pub trouble-fails : (e : Error) (new : State L H) → Trouble event old old.budget grows breaks m e new → breaks ≡ false → length m.taken ≤ MAX_MSG_TEXT → Fails event old false e new
-  trouble-fails e new (trouble_broken b n s) whole few = was_broken b (s ∙ ap (λ (l : Bool). record old { list = l; faulted = false }) (sym (ap (λ (x : State L H). x.list) s)))
+  trouble-fails e new (trouble_broken b n s) whole few =
+      was_broken b (s ∙ ap (λ (l : Bool). record old { list = l; faulted = false }) (sym (ap (λ (x : State L H). x.list) s))) (λ l. ap (λ (x : State L H). x.list) s ∙ l)
   trouble-fails e new (trouble_memory w b l n s) whole few = no_memory l (s ∙ ap (λ (f : Bool). record old { faulted = f }) (sym (ap (λ (x : State L H). x.faulted) s)))
-  trouble-fails e new (trouble_fault c b t f r most k y l) whole few = fault c (m then refused c) b t (spends old.budget m (is_retry c) f most)
-      (rw (refused-taken m c (is_retry c)) few)
-      (k ∙ rw (whole, refused-moved m c (is_retry c)) refl) y
+  trouble-fails e new (trouble_fault c b t f r most k y l) whole few = fault c m b t f r most few (k ∙ rw whole refl) y (l.0, (λ h. l.1 (rw whole h)))
 
   -- between a request and the end of its answer it breaks the endpoint, too
   pub trouble-breaks : (e : Error) (new : State L H) → Trouble event old old.budget grows breaks m e new → length m.taken ≤ MAX_MSG_TEXT → Fails event old true e (broken_on e new)
@@ -55,12 +72,17 @@ module _ {L H : Type 0} (event : L → Event H → L → Type 0) (old : State L 
       (ap (λ (x : State L H). record x { broken = first_cause x.broken c }) s ∙ ap (λ (x : Option IoCause). record old { broken = first_cause x c; faulted = false }) b
       ∙ ap (λ (x : Option IoCause). record old { broken = x; faulted = false }) (sym b)
       ∙ ap (λ (l : Bool). record old { list = l; faulted = false }) (sym (ap (λ (x : State L H). x.list) s)))
+      (λ l. ap (λ (x : State L H). x.list) s ∙ l)
   trouble-breaks e new (trouble_memory w b l n s) few = no_memory l (s ∙ ap (λ (f : Bool). record old { faulted = f }) (sym (ap (λ (x : State L H). x.faulted) s)))
   trouble-breaks e new (trouble_fault c b t f r most k y l) few =
       let after : broken_on (error_of c) new ≡ record new { broken = Some c } =
       broken-socket c new (is_retry c) (is_break c) (is_denial c) ∙ ap (λ (x : Option IoCause). record new { broken = x }) (ap (λ (x : Option IoCause). first_cause x c) k ∙ first-is c (breaks || has_moved m)) in
       let failed : Fails event old true (error_of c) (record new { broken = Some c }) =
-      fault c (m then refused c) b
-      (record { below = t.below; moved = t.moved; handed = t.handed; taken = t.taken; retries = t.retries; failures = t.failures; budget = t.budget })
-      (spends old.budget m (is_retry c) f most) (rw (refused-taken m c (is_retry c)) few) refl y in
+      fault c m b
+      (record {
+        before = t.before;
+        talks = record { below = t.talks.below; moved = t.talks.moved; handed = t.talks.handed; taken = t.talks.taken; retries = t.talks.retries; failures = t.talks.failures; budget = t.talks.budget };
+        last = t.last;
+      })
+      f r most few refl y (l.0, (λ h. absurd (cc h))) in
       subst (λ (x : State L H). Fails event old true (error_of c) x) (sym after) failed

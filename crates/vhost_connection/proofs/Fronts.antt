@@ -6,8 +6,8 @@ use Rattle.std.proofs.lemmas.List.{take_all, drop_all}
 use Rattle.vhost_message.specs.declared.cause.IoCause.{IoCause}
 use Rattle.vhost_message.specs.declared.error.Error.{Error}
 use Rattle.vhost_message.specs.Cause.{error_of}
-use Rattle.vhost_protocol.specs.Stream.{Cell, bytes, has_some, items, heard}
-use Rattle.vhost_link.specs.Law.{Event, Move, Moved, nothing}
+use Rattle.vhost_protocol.specs.Stream.{Cell, bytes, has_some, items, heard, plain}
+use Rattle.vhost_link.specs.Law.{Event, Move, Moved, nothing, ◌then◌}
 use Rattle.vhost_link.proofs.Cells.{length-bytes}
 use Rattle.vhost_link.proofs.Moves.{Moved-as}
 use Rattle.vhost_connection.specs.declared.pass.Parts.{Parts}
@@ -18,7 +18,8 @@ use Rattle.vhost_connection.specs.Talk.{State, Serves, Trouble}
 use Rattle.vhost_connection.specs.Calls.{MessageFails}
 use Rattle.vhost_connection.specs.Front.{FrontCame, FrontFails, PartsCame, ReadsParts, ReadsFront, gives}
 use Rattle.vhost_connection.specs.declared.list.Front.{Front}
-use Rattle.vhost_connection.proofs.Talking.{served, serves, failed, gave-up}
+use Rattle.vhost_connection.specs.Ahead.{Way, reads_ahead}
+use Rattle.vhost_connection.proofs.Talking.{At, went-from, down-from, served, serves, failed, gave-up}
 
 -- what came, where it was no fault that stopped it
 pub heard-as : {S H : Type 0} (event : S → Event H → S → Type 0) (old new : S) (room budget left : ℕ) (stop : PassEnd) (cs : List (Cell H))
@@ -30,16 +31,16 @@ heard-as event old new room budget left AtEnd cs miss (len, p) =
     (omega arith, Moved-as (ap (λ b. receives (heard cs b) (budget - left)) (sym (lt-ltb (length cs) room len))) p)
 heard-as event old new room budget left (Fault c) cs miss p = absurd (miss c refl)
 
-pub parts-came : {L H : Type 0} (event : L → Event H → L → Type 0) (old new : State L H) (link : L) (before after text : List ℕ) (got : Parts) (hs : List H) (len : ℕ)
-    → old.ahead ≡ [] → new ≡ served old link false got.left → old.broken ≡ None → GetsParts event old.link len before old.budget got text after hs link
+pub parts-came : {L H : Type 0} (event : L → Event H → L → Type 0) (old new : State L H) (from to : Way L) (before after text : List ℕ) (got : Parts) (hs : List H) (len : ℕ)
+    → At old from → new ≡ served old to.link (plain to.ahead) false got.left → old.broken ≡ None → GetsParts (reads_ahead event) from len before old.budget got text after hs to
     → ((c : IoCause) → got.stop ≡ Fault c → ⊥) → PartsCame event old len got.count got.more hs text before after new
-parts-came event old new link before after text got hs len a s broken g miss =
-    let q = heard-as event old.link link (len + length before) old.budget got.left got.stop g.cs miss g.ended in
+parts-came event old new from to before after text got hs len a s broken g miss =
+    let q = heard-as (reads_ahead event) from to (len + length before) old.budget got.left got.stop g.cs miss g.ended in
     let r = old.budget - got.left in
     record {
       cs = g.cs;
       retries = r;
-      serves = serves old new link false got.left old.budget (receives (heard g.cs (nat_lt (length g.cs) (len + length before))) r) a s broken refl (omega arith) q.1;
+      serves = serves old new to.link (plain to.ahead) false got.left old.budget (receives (heard g.cs (nat_lt (length g.cs) (len + length before))) r) s broken refl (omega arith) (went-from old from to (receives (heard g.cs (nat_lt (length g.cs) (len + length before))) r) a q.1);
       within = q.0;
       counted = g.count;
       rest = g.more;
@@ -54,18 +55,22 @@ pub moved-some : {H : Type 0} (cs : List (Cell H)) (n len : ℕ) → 0 < len →
 moved-some [] n len pos e = le-ltb 0 n (omega (arith, e))
 moved-some (c ∷ cs) n len pos e = lt-ltb 0 n (omega (arith, e))
 
-pub parts-fail : {L H : Type 0} (event : L → Event H → L → Type 0) (old new : State L H) (link : L) (before after text : List ℕ) (got : Parts) (hs : List H) (len : ℕ) (c : IoCause) (e : Error)
-    → 0 < len → old.ahead ≡ [] → new ≡ failed old link true got.left (if nat_lt 0 got.count then Some c else old.broken) → old.broken ≡ None → e ≡ error_of c
-    → GetsParts event old.link len before old.budget got text after hs link → got.stop ≡ Fault c → MessageFails event old len before after e new
-parts-fail event old new link before after text got hs len c e pos a s broken is g fault =
+none-moved : {H : Type 0} (cs : List (Cell H)) (n len : ℕ) → n ≡ min len (length cs) → (has_some (items cs) || false) ≡ false → n ≡ 0
+none-moved [] n len e none = omega (arith, e)
+none-moved (c ∷ cs) n len e none = absurd (cc none)
+
+pub parts-fail : {L H : Type 0} (event : L → Event H → L → Type 0) (old new : State L H) (from to : Way L) (left : ℕ) (before after text : List ℕ) (got : Parts) (hs : List H) (len : ℕ) (c : IoCause) (e : Error)
+    → 0 < len → At old from → new ≡ failed old to.link (plain to.ahead) true left (if nat_lt 0 got.count then Some c else old.broken) → (got.count ≡ 0 → left ≡ old.left) → old.broken ≡ None → e ≡ error_of c
+    → GetsParts (reads_ahead event) from len before old.budget got text after hs to → got.stop ≡ Fault c → MessageFails event old len before after e new
+parts-fail event old new from to left before after text got hs len c e pos a s same broken is g fault =
     let q = rw fault at g.ended in
     let r = old.budget - got.left in
     record {
       cs = g.cs;
       retries = r;
       short = q.0;
-      trouble = gave-up event old new link true got.left (if nat_lt 0 got.count then Some c else old.broken) old.budget true false (receives (items g.cs) r) c e a s broken is
-          (rw (broken, moved-some g.cs got.count len pos g.count) refl) (λ h. refl) refl (omega arith) (λ h. let z = q.1 h in omega arith) q.2;
+      trouble = gave-up event old new to.link (plain to.ahead) true left (if nat_lt 0 got.count then Some c else old.broken) old.budget true false (receives (items g.cs) r) c e s broken is
+          (rw (broken, moved-some g.cs got.count len pos g.count) refl) (λ h. refl) (λ h. same (none-moved g.cs got.count len g.count h)) refl (omega arith) (λ h. let z = q.1 h in omega arith) (down-from old from to (receives (items g.cs) r) c a q.2);
       room = g.room ∙ ap (λ n. drop len (bytes g.cs) ++ drop n before) g.more;
     }
 

@@ -1,5 +1,9 @@
+mod Windows
+mod Handing
+pub mod Adding
 pub mod Joining
 pub mod Sending
+pub mod AtOnce
 pub mod Receiving
 pub mod Talking
 pub mod Fronts
@@ -10,7 +14,10 @@ pub mod States
 pub mod Errors
 pub mod Once
 pub mod Failing
-pub mod Faults
 pub mod Reading
 pub mod More
+pub mod Replying
 pub mod Bare
+pub mod Asking
+pub mod Handed
+pub mod Replies

@@ -14,6 +14,7 @@ use Rattle.vhost_connection.specs.Talk.{State, Serves, Trouble}
 use Rattle.vhost_connection.specs.Talk.Trouble.{was_broken, no_memory, fault}
 use Rattle.vhost_connection.specs.Calls.{ReadsHeader, HandsOver}
 use Rattle.vhost_connection.specs.Front.{FrontCame, FrontFails, gives}
+use Rattle.vhost_connection.specs.Requests.{HeadCame}
 use Rattle.vhost_connection.proofs.Errors.{socket}
 use Rattle.vhost_connection.proofs.Fronts.{Serves-list, Serves-gives, list-gives, left-gives}
 
@@ -70,18 +71,34 @@ header-bad event read valid old mid new len count hs text x twelve f most is bad
       ap (λ (y : State _ _). y.list) s,
     )
 
-pub header-whole : {M L H : Type 0} (event : L → Event H → L → Type 0) (read : List ℕ → M) (valid : M → Bool) (old mid new : State L H) (len count : ℕ) (hs : List H) (text : List ℕ) (x : M × Option (Vec H Global))
-    → len ≡ 12 → FrontCame event old len count hs text mid → len ≤ count → x.0 ≡ read (take len text) → valid x.0 ≡ true → HandsOver x.1 hs → new ≡ gives mid hs → ReadsHeader event read valid old (Ok x) new
-header-whole event read valid old mid new len count hs text x twelve f most is ok h s =
+pub head-whole : {M L H : Type 0} (event : L → Event H → L → Type 0) (read : List ℕ → M) (valid : M → Bool) (old mid : State L H) (len count : ℕ) (hs : List H) (text : List ℕ) (x : M)
+    → len ≡ 12 → FrontCame event old len count hs text mid → len ≤ count → x ≡ read (take len text) → valid x ≡ true → HeadCame event read valid old x hs mid
+head-whole event read valid old mid len count hs text x twelve f most is ok =
     let full : count ≡ len = omega (arith, f.counted, f.within) in
+    record {
+      cells = f.cs;
+      retries = f.retries;
+      serves = all-came f most;
+      long = omega (arith, f.counted);
+      decoded = is ∙ ap read (ap (λ n. take n text) (sym full) ∙ f.bytes);
+      accepted = ok;
+      handles = f.first;
+      list = f.list;
+      left = f.left;
+    }
+
+-- a header came, and its handles are given
+pub header-given : {M L H : Type 0} (event : L → Event H → L → Type 0) (read : List ℕ → M) (valid : M → Bool) (old mid new : State L H) (hs : List H) (x : M × Option (Vec H Global))
+    → HeadCame event read valid old x.0 hs mid → HandsOver x.1 hs → new ≡ gives mid hs → ReadsHeader event read valid old (Ok x) new
+header-given event read valid old mid new hs x h over s =
     let left : new.left ≡ mid.left = ap (λ (y : State _ _). y.left) s ∙ left-gives mid hs in (
-      f.cs,
-      f.retries,
-      subst (λ y. Serves event old old.budget (receives (items f.cs) f.retries) y) (sym s) (Serves-gives hs (all-came f most)),
-      omega (arith, f.counted),
-      is ∙ ap read (ap (λ n. take n text) (sym full) ∙ f.bytes),
-      ok,
-      subst (λ ys. HandsOver x.1 ys) f.first h,
-      ap (λ (y : State _ _). y.list) s ∙ list-gives mid hs f.list ∙ ap (λ ys. not (has_some ys)) f.first,
-      omega (arith, f.left),
+      h.cells,
+      h.retries,
+      subst (λ y. Serves event old old.budget (receives (items h.cells) h.retries) y) (sym s) (Serves-gives hs h.serves),
+      h.long,
+      h.decoded,
+      h.accepted,
+      subst (λ ys. HandsOver x.1 ys) h.handles over,
+      ap (λ (y : State _ _). y.list) s ∙ list-gives mid hs h.list ∙ ap (λ ys. not (has_some ys)) h.handles,
+      omega (arith, h.left),
     )

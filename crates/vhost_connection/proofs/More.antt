@@ -5,42 +5,42 @@ use Rattle.std.proofs.lemmas.Bool.Decides.{nat_tests}
 use Rattle.vhost_message.specs.declared.cause.IoCause.{IoCause}
 use Rattle.vhost_message.specs.declared.error.Error.{Error}
 use Rattle.vhost_message.specs.Cause.{error_of}
-use Rattle.vhost_protocol.specs.Stream.{Cell, bytes, items, heard}
-use Rattle.vhost_link.specs.Law.{Event, Move, ◌then◌, refused}
+use Rattle.vhost_protocol.specs.Stream.{Cell, bytes, items, heard, plain}
+use Rattle.vhost_link.specs.Law.{Event, Move, ◌then◌}
 use Rattle.vhost_link.proofs.Cells.{length-bytes, bytes-append}
-use Rattle.vhost_link.proofs.Moves.{then_assoc}
 use Rattle.vhost_connection.specs.declared.pass.RecvPass.{RecvPass}
 use Rattle.vhost_connection.specs.declared.pass.PassEnd.TheVariants.{Fault}
 use Rattle.vhost_connection.specs.Pass.{receives, GetsRest}
-use Rattle.vhost_connection.specs.Talk.{State, Talks, Serves, Trouble}
+use Rattle.vhost_connection.specs.Talk.{State, Talks, Fell, Serves, Trouble}
 use Rattle.vhost_connection.specs.Talk.Trouble.{was_broken, no_memory, fault}
 use Rattle.vhost_connection.specs.Calls.{MessageFails}
 use Rattle.vhost_connection.specs.Front.{FrontCame, PartsCame, MoreCame, MoreFails}
-use Rattle.vhost_connection.proofs.Talking.{Talks-then, Talks-as, Serves-on, served, failed, gave-up}
+use Rattle.vhost_connection.specs.Ahead.{Way, reads_ahead}
+use Rattle.vhost_connection.proofs.Talking.{Talks-then, Talks-as, Serves-on, At, down-from, served, failed, gave-up}
 use Rattle.vhost_connection.proofs.Messages.{all-came}
 use Rattle.vhost_connection.proofs.Data.{data-came}
 use Rattle.vhost_connection.proofs.Receiving.{both, both-end, first-append}
 
 -- as much as fits, or the end
-pub more-came : {L H : Type 0} (event : L → Event H → L → Type 0) (old new : State L H) (link : L) (before after : List ℕ) (got : RecvPass)
-    → old.ahead ≡ [] → new ≡ served old link old.list got.left → old.broken ≡ None → GetsRest event old.link before old.left got after link
+pub more-came : {L H : Type 0} (event : L → Event H → L → Type 0) (old new : State L H) (from to : Way L) (before after : List ℕ) (got : RecvPass)
+    → At old from → new ≡ served old to.link (plain to.ahead) old.list got.left → old.broken ≡ None → GetsRest (reads_ahead event) from before old.left got after to
     → ((c : IoCause) → got.stop ≡ Fault c → ⊥) → MoreCame event old got.count before after new
-more-came event old new link before after got a s broken g miss =
-    let d = data-came event old new link before after got (length before) a s broken g miss refl in
+more-came event old new from to before after got a s broken g miss =
+    let d = data-came event old new from to before after got (length before) a s broken g miss refl in
     record { cs = g.cs; retries = d.retries; serves = d.serves; within = d.within; counted = g.count; room = g.fills.bytes; left = d.left; list = d.list }
 
 -- less, and then a fault
-pub more-fault : {L H : Type 0} (event : L → Event H → L → Type 0) (old new : State L H) (link : L) (before after : List ℕ) (got : RecvPass) (c : IoCause) (e : Error)
-    → old.ahead ≡ [] → new ≡ failed old link old.list got.left (Some c) → old.broken ≡ None → e ≡ error_of c
-    → GetsRest event old.link before old.left got after link → got.stop ≡ Fault c → MoreFails event old before after e new
-more-fault event old new link before after got c e a s broken is g stop =
+pub more-fault : {L H : Type 0} (event : L → Event H → L → Type 0) (old new : State L H) (from to : Way L) (before after : List ℕ) (got : RecvPass) (c : IoCause) (e : Error)
+    → At old from → new ≡ failed old to.link (plain to.ahead) old.list got.left (Some c) → old.broken ≡ None → e ≡ error_of c
+    → GetsRest (reads_ahead event) from before old.left got after to → got.stop ≡ Fault c → MoreFails event old before after e new
+more-fault event old new from to before after got c e a s broken is g stop =
     let q = rw stop at g.ended in
     let r = old.left - got.left in
     record {
       cs = g.cs;
       retries = r;
       short = q.0;
-      trouble = gave-up event old new link old.list got.left (Some c) old.left false true (receives (items g.cs) r) c e a s broken is refl (λ h. h) refl (omega arith) (λ h. let z = q.1 h in omega arith) q.2;
+      trouble = gave-up event old new to.link (plain to.ahead) old.list got.left (Some c) old.left false true (receives (items g.cs) r) c e s broken is refl (λ h. h) (λ h. absurd (cc h)) refl (omega arith) (λ h. let z = q.1 h in omega arith) (down-from old from to (receives (items g.cs) r) c a q.2);
       room = g.fills.bytes;
     }
 
@@ -62,10 +62,14 @@ trouble-on {event = event} {old} {mid} {new} {end} (x ∷ cs) ds r s some p left
     let m : Move _ = receives (items (x ∷ cs)) r in
     let n : Move _ = receives (items ds) s in
     let k : Move _ = receives (items ((x ∷ cs) ++ ds)) (r + s) in
-    let u : Talks event old (k then refused c) new = Talks-as (sym (then_assoc m n (refused c)) ∙ ap (λ (z : Move _). z then refused c) (both (x ∷ cs) ds r s (r + s) refl)) (Talks-then p.talks t) in
-    let v : Talks event old (k then refused c) (record new { list = true }) = record { below = u.below; moved = u.moved; handed = u.handed; taken = u.taken; retries = u.retries; failures = u.failures; budget = u.budget } in
+    let u : Talks event old k (record new { link = t.before }) = Talks-as (both (x ∷ cs) ds r s (r + s) refl) (Talks-then p.talks t.talks) in
+    let v : Fell event old k c (record new { list = true }) = record {
+      before = t.before;
+      talks = record { below = u.below; moved = u.moved; handed = u.handed; taken = u.taken; retries = u.retries; failures = u.failures; budget = u.budget };
+      last = t.last;
+    } in
     subst (λ z. Trouble event old old.budget true false k (error_of c) z) (sym is)
-    (fault c p.before v refl (omega (arith, most)) (λ h. let z = spent h in omega arith) broken faulted (λ h. refl))
+    (fault c p.before v refl (omega (arith, most)) (λ h. let z = spent h in omega arith) broken faulted ((λ h. refl), λ h. absurd (cc h)))
 
 module _ {L H : Type 0} {event : L → Event H → L → Type 0} {old mid : State L H} {len count : ℕ} {hs : List H} {text : List ℕ} (f : FrontCame event old len count hs text mid) where
   pub full : len ≤ count → length f.cs ≡ len

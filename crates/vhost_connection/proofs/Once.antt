@@ -7,16 +7,18 @@ use Rattle.std.proofs.lemmas.List.{nil_from_length, take_at, take-take}
 use Rattle.vhost_message.specs.declared.cause.IoCause.{IoCause}
 use Rattle.vhost_message.specs.declared.error.Error.{Error}
 use Rattle.vhost_message.specs.Cause.{error_of}
-use Rattle.vhost_protocol.specs.Stream.{carrying, brings_handles, first_handles, has_some, heard}
+use Rattle.vhost_protocol.specs.Stream.{carrying, brings_handles, first_handles, has_some, heard, plain}
 use Rattle.vhost_link.specs.Law.{Event, Handed, Ended, Refused, Moved, nothing}
-use Rattle.vhost_link.specs.Law.Moved.{still, more}
+use Rattle.vhost_link.specs.Law.Moved.{still}
 use Rattle.vhost_link.proofs.Cells.{length-carrying, bytes-carrying, brings-plain}
 use Rattle.vhost_link.proofs.Moves.{Moved-as, Moved-once}
 use Rattle.vhost_connection.specs.Pass.{receives, GetsPiece, Arrives}
 use Rattle.vhost_connection.specs.Talk.{State, Serves, Trouble}
 use Rattle.vhost_connection.specs.Calls.{HandsOver}
 use Rattle.vhost_connection.specs.Front.{ReadsCountOnce, gives}
-use Rattle.vhost_connection.proofs.Talking.{served, serves, failed, gave-up}
+use Rattle.vhost_connection.specs.Ahead.{Way, reads_ahead}
+use Rattle.vhost_connection.proofs.Adding.{went-silent}
+use Rattle.vhost_connection.proofs.Talking.{At, went-from, down-from, served, serves, failed, gave-up}
 use Rattle.vhost_connection.proofs.Fronts.{Serves-gives, list-gives, left-gives}
 
 alone-first : {H : Type 0} (hs : List H) (bs : List ℕ) → brings_handles (drop 1 (carrying hs bs)) ≡ false
@@ -36,15 +38,15 @@ moved-once event old new before after (suc n) len handles pos a =
     let long = length-carrying handles a.front ∙ a.long in
     Moved-as (rw (le-ltb (length (carrying handles a.front)) (min 1 len) (omega (arith, long))) refl) (Moved-once (Handed (carrying handles a.front)) (a.some (omega arith)))
 
-pub once-came : {L H : Type 0} (event : L → Event H → L → Type 0) (old mid new : State L H) (link : L) (before after text : List ℕ) (len n : ℕ) (handles : List H) (given : Option (Vec H Global))
-    → 0 < len → length before ≡ len → old.ahead ≡ [] → mid ≡ served old link false old.left → old.broken ≡ None → GetsPiece event old.link before 0 (Ok n) after handles link → take len text ≡ after
+pub once-came : {L H : Type 0} (event : L → Event H → L → Type 0) (old mid new : State L H) (from to : Way L) (before after text : List ℕ) (len n : ℕ) (handles : List H) (given : Option (Vec H Global))
+    → 0 < len → length before ≡ len → At old from → mid ≡ served old to.link (plain to.ahead) false old.left → old.broken ≡ None → GetsPiece (reads_ahead event) from before 0 (Ok n) after handles to → take len text ≡ after
     → HandsOver given handles → new ≡ gives mid handles → ReadsCountOnce event old len (Ok (n, given)) text new
-once-came event old mid new link before after text len n handles given pos long a s broken g front over is =
+once-came event old mid new from to before after text len n handles given pos long a s broken g front over is =
     let cs = carrying handles g.front in
     let count : length cs ≡ n = length-carrying handles g.front ∙ g.long in
     let first : first_handles cs ≡ handles = first-carried handles g.front (λ z. g.none (sym g.long ∙ z)) in
     let m = receives (heard cs (nat_lt (length cs) (min 1 len))) 0 in
-    let p : Serves event old 0 m mid = serves old mid link false old.left 0 m a s broken refl (omega arith) (moved-once event old.link link before after n len handles pos g) in
+    let p : Serves event old 0 m mid = serves old mid to.link (plain to.ahead) false old.left 0 m s broken refl (omega arith) (went-from old from to m a (moved-once (reads_ahead event) from to before after n len handles pos g)) in
     let text-is : take n text ≡ g.front =
     sym (take-take n len text (omega (arith, g.within, long))) ∙ ap (take n) (front ∙ g.room) ∙ take_at g.front (drop (0 + n) before) n g.long in (
       cs,
@@ -61,18 +63,18 @@ once-came event old mid new link before after text len n handles given pos long 
       subst (λ hs. HandsOver given hs) (sym first) over,
     )
 
-pub once-refused : {L H : Type 0} (event : L → Event H → L → Type 0) (old new : State L H) (link : L) (c : IoCause) (e : Error)
-    → old.ahead ≡ [] → new ≡ failed old link true old.left old.broken → old.broken ≡ None → e ≡ error_of c → event old.link (Refused c) link → Trouble event old 0 true false nothing e new
-once-refused event old new link c e a s broken is p =
-    gave-up event old new link true old.left old.broken 0 true false nothing c e a s broken is broken (λ h. refl) refl (omega arith) (λ h. refl) (more still p)
+pub once-refused : {L H : Type 0} (event : L → Event H → L → Type 0) (old new : State L H) (from to : Way L) (c : IoCause) (e : Error)
+    → At old from → new ≡ failed old to.link (plain to.ahead) true old.left old.broken → old.broken ≡ None → e ≡ error_of c → reads_ahead event from (Refused c) to → Trouble event old 0 true false nothing e new
+once-refused event old new from to c e a s broken is p =
+    gave-up event old new to.link (plain to.ahead) true old.left old.broken 0 true false nothing c e s broken is broken (λ h. refl) (λ h. refl) refl (omega arith) (λ h. refl) (down-from old from to nothing c a (record { before = from; moved = still; last = p }))
 
 pub unasked : {L H : Type 0} (event : L → Event H → L → Type 0) (old : State L H) (len : ℕ) (text : List ℕ)
-    → len ≡ 0 → old.ahead ≡ [] → old.broken ≡ None → ReadsCountOnce event old len (Ok (0, None)) text (record old { faulted = false })
-unasked {H = H} event old len text z a broken = (
+    → len ≡ 0 → old.broken ≡ None → ReadsCountOnce event old len (Ok (0, None)) text (record old { faulted = false })
+unasked {H = H} event old len text z broken = (
   [],
   record {
     serves = let none : nat_lt 0 (min 1 len) ≡ false = le-ltb 0 (min 1 len) (omega (arith, z)) in
-        serves old (record old { faulted = false }) old.link old.list old.left 0 (receives (heard {H = H} [] (nat_lt 0 (min 1 len))) 0) a refl broken refl (omega arith) (Moved-as (rw none refl) still);
+        serves old (record old { faulted = false }) old.link old.ahead old.list old.left 0 (receives (heard {H = H} [] (nat_lt 0 (min 1 len))) 0) refl broken refl (omega arith) (went-silent old.ahead (rw none refl) (Moved-as (rw none refl) still));
     within = omega arith;
     alone = refl;
     left = refl;

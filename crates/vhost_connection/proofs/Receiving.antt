@@ -8,9 +8,9 @@ use Rattle.vhost_message.specs.declared.cause.IoCause.{IoCause}
 use Rattle.vhost_message.specs.Cause.{is_retry}
 use Rattle.vhost_protocol.specs.Stream.{Cell, carrying, Byte, End, items, heard, bytes, brings_handles, has_some, first_handles}
 use Rattle.vhost_link.proofs.Cells.{length-carrying, bytes-carrying, bytes-append, length-bytes, brings-append, brings-carrying}
-use Rattle.vhost_link.specs.Law.{Event, Handed, Refused, Move, Moved, ◌then◌, done, refused, Receives}
+use Rattle.vhost_link.specs.Law.{Event, Handed, Refused, Moved, ◌then◌, done, Receives}
 use Rattle.vhost_link.specs.Law.Moved.{still, more}
-use Rattle.vhost_link.proofs.Moves.{Moved-as, Moved-then, then_assoc}
+use Rattle.vhost_link.proofs.Moves.{Moved-as, Moved-then}
 use Rattle.vhost_connection.specs.Pass.{receives, GetsWhole, GetsParts, FrontCame, Fills, Arrives, GetsPiece, GetsRest, GotAs}
 use Rattle.vhost_connection.specs.declared.pass.RecvPass.{RecvPass}
 use Rattle.vhost_connection.specs.declared.pass.PassEnd.{PassEnd}
@@ -168,7 +168,7 @@ reads-fault {event} {old} {mid} {new} {before} {room} {after} {budget} {count} {
   count = h.counted;
   surplus = h.noticed;
   left = h.within;
-  ended = (omega (arith, h.counted, filled h.fills), spent, more h.moved e);
+  ended = (omega (arith, h.counted, filled h.fills), spent, record { before = mid; moved = h.moved; last = e });
 }
 
 -- the room is full
@@ -222,9 +222,7 @@ rest-ends event old mid new cs ds before sub budget left less AtEnd a b k p (len
 rest-ends event old mid new cs ds before sub budget left less (Fault c) a b k p (len, spent, q) = (
   omega (arith, length-append cs ds),
   spent,
-  Moved-as
-      (sym (then_assoc (receives (items cs) (budget - left)) (receives (items ds) (left - less)) (refused c)) ∙ ap (λ (m : Move _). m then refused c) (both cs ds (budget - left) (left - less) (budget - less) (omega arith)))
-      (Moved-then p q),
+  record { before = q.before; moved = Moved-as (both cs ds (budget - left) (left - less) (budget - less) (omega arith)) (Moved-then p q.moved); last = q.last },
 )
 
 first-of : {H : Type 0} (bs : List ℕ) (hs : List H) (ds : List (Cell H)) → 0 < length bs → first_handles (carrying hs bs ++ ds) ≡ hs

@@ -7,9 +7,9 @@ use Rattle.std.proofs.lemmas.List.{append-nil, take_all, take-append-le, length-
 use Rattle.vhost_message.specs.declared.cause.IoCause.{IoCause}
 use Rattle.vhost_message.specs.Cause.{is_retry}
 use Rattle.vhost_protocol.specs.Stream.{Cell, cell, plain, carrying, has_some}
-use Rattle.vhost_link.specs.Law.{Event, Taken, Refused, Move, Moved, ◌then◌, refused, Sends}
+use Rattle.vhost_link.specs.Law.{Event, Taken, Refused, Moved, ◌then◌, refused, Sends}
 use Rattle.vhost_link.specs.Law.Moved.{more}
-use Rattle.vhost_link.proofs.Moves.{Moved-as, Moved-then, then_assoc}
+use Rattle.vhost_link.proofs.Moves.{Moved-as, Moved-then}
 use Rattle.vhost_link.proofs.Cells.{length-carrying, piece-first, piece-later, plain-is, plain-append}
 use Rattle.vhost_connection.specs.declared.pass.SendPass.{SendPass}
 use Rattle.vhost_connection.specs.Pass.{sends, joined, SendsPart, SentAs, SendsWhole}
@@ -56,7 +56,7 @@ pub front : {S H : Type 0} {event : S → Event H → S → Type 0} {old mid new
     → left ≤ budget → count < length text → moved ≡ nat_lt 0 count → (IsTrue (is_retry c) → left ≡ 0)
     → Moved event old (sends (take count text) (budget - left)) mid → event mid (Refused c) new
     → SendsWhole event old text budget (record { moved = moved; left = left; fault = Some c }) new
-front text budget count moved left c most short told spent p e = (most, record { count = count; short = short; told = told; spent = spent; link = more p e })
+front {mid = mid} text budget count moved left c most short told spent p e = (most, record { count = count; short = short; told = told; spent = spent; link = record { before = mid; moved = p; last = e } })
 
 -- ---- the pieces of a message
 
@@ -86,10 +86,11 @@ ends event old mid new cs ds budget left fewer moved also (Some c) a b told p f 
   short = omega (arith, f.short, length-append cs ds);
   told = rw (told, f.told) (has-front cs f.count (length cs + f.count) refl);
   spent = f.spent;
-  link = Moved-as
-      (sym (then_assoc (sends cs (budget - left)) (sends (take f.count ds) (left - fewer)) (refused c))
-      ∙ ap (λ (m : Move _). m then refused c) (both cs (take f.count ds) (budget - left) (left - fewer) (budget - fewer) (omega arith) ∙ ap (λ xs. sends xs (budget - fewer)) (sym (take-append-add cs ds f.count))))
-      (Moved-then p f.link);
+  link = record {
+    before = f.link.before;
+    moved = Moved-as (both cs (take f.count ds) (budget - left) (left - fewer) (budget - fewer) (omega arith) ∙ ap (λ xs. sends xs (budget - fewer)) (sym (take-append-add cs ds f.count))) (Moved-then p f.link.moved);
+    last = f.link.last;
+  };
 }
 
 -- what was sent before, and then a piece
@@ -119,7 +120,11 @@ some-pieces event old new hs pieces i budget moved left c (most, f) =
         short = omega (arith, f.short, ap length is, length-append (carrying hs front) rest);
         told = f.told;
         spent = f.spent;
-        link = Moved-as (ap (λ cs. sends cs (budget - left) then refused c) (sym (ap (take f.count) is ∙ take-append-le f.count (carrying hs front) rest (omega (arith, f.short))))) f.link;
+        link = record {
+          before = f.link.before;
+          moved = Moved-as (ap (λ cs. sends cs (budget - left)) (sym (ap (take f.count) is ∙ take-append-le f.count (carrying hs front) rest (omega (arith, f.short))))) f.link.moved;
+          last = f.link.last;
+        };
       },
     )
 

@@ -2,19 +2,21 @@
 use Rattle.std.proofs.Common.{◌≡◌, ℕ, zero, suc, ◌+◌, ◌-◌, ◌<◌, ◌≤◌, List, [], ◌∷◌, ◌++◌, length, take, drop, min, append_assoc, refl, sym, ap, subst, ◌∙◌, arith, Bool, true, false, ◌||◌, IsTrue, Option, Some, None, nat_lt, Err, Ok, Result}
 use Rattle.std.proofs.lemmas.Bool.{lt-ltb}
 use Rattle.std.specs.Prelude.{if◌then◌else◌}
-use Rattle.std.proofs.lemmas.List.{nil_from_length, append-nil, take_all, take-append-le, take-append-drop, length-take-le}
+use Rattle.std.proofs.lemmas.List.{nil_from_length, take_all, take-append-le, take-append-drop, length-take-le}
 use Rattle.vhost_message.specs.declared.cause.IoCause.{IoCause}
 use Rattle.vhost_message.specs.declared.error.Error.{Error}
 use Rattle.vhost_message.specs.Cause.{is_retry, error_of}
-use Rattle.vhost_protocol.specs.Stream.{Cell, carrying, has_some, items}
-use Rattle.vhost_link.specs.Law.{Event, Taken, Refused, Move, Moved, nothing, ◌then◌, refused}
-use Rattle.vhost_link.specs.Law.Moved.{still, more}
+use Rattle.vhost_protocol.specs.Stream.{Cell, carrying, has_some, items, plain}
+use Rattle.vhost_link.specs.Law.{Event, Taken, Refused, Move, Moved, nothing, ◌then◌}
+use Rattle.vhost_link.specs.Law.Moved.{still}
 use Rattle.vhost_link.proofs.Moves.{Moved-then, Moved-once, Moved-as}
 use Rattle.vhost_connection.specs.declared.pass.SendPass.{SendPass}
-use Rattle.vhost_connection.specs.Pass.{sends, SendsSome, SendsWhole}
+use Rattle.vhost_connection.specs.Pass.{sends, Failed, SendsSome, SendsWhole}
 use Rattle.vhost_connection.specs.Talk.{State, Talks, Serves, Trouble, has_moved, IsBroken}
 use Rattle.vhost_connection.specs.Talk.Trouble.{was_broken, fault}
 use Rattle.vhost_connection.specs.Calls.{Sends, SendsOnce}
+use Rattle.vhost_connection.specs.Ahead.{Way, reads_ahead}
+use Rattle.vhost_connection.proofs.Adding.{Went, went, went-silent, WentDown, went-down, down-silent}
 
 -- Calls compose, whatever is heard ahead.
 pub Talks-then : {L H : Type 0} {event : L → Event H → L → Type 0} {old mid new : State L H} {m n : Move H} → Talks event old m mid → Talks event mid n new → Talks event old (m then n) new
@@ -57,17 +59,28 @@ Serves-on p e q = record {
   faulted = q.faulted;
 }
 
--- without hearing ahead an endpoint does what its link does
-pub talks : {L H : Type 0} {event : L → Event H → L → Type 0} (old new : State L H) (m : Move H) → old.ahead ≡ [] → new.ahead ≡ [] → new.budget ≡ old.budget → Moved event old.link m new.link → Talks event old m new
-talks old new m a b k p = record {
-  below = m;
-  moved = p;
-  handed = rw (a, b) (sym (append-nil m.handed));
-  taken = refl;
-  retries = refl;
-  failures = refl;
+-- an endpoint does what its link does behind what was heard ahead
+pub talks : {L H : Type 0} {event : L → Event H → L → Type 0} (old new : State L H) (m : Move H) → new.budget ≡ old.budget → Went event old.link old.ahead m new.link new.ahead → Talks event old m new
+talks old new m k w = record {
+  below = w.below;
+  moved = w.moved;
+  handed = w.handed;
+  taken = w.taken;
+  retries = w.retries;
+  failures = w.failures;
   budget = k;
 }
+
+-- this is what the endpoint receives from
+abbrev pub At : {L H : Type 0} → State L H → Way L → Type 0
+At s w = (s.link ≡ w.link) × (s.ahead ≡ plain w.ahead)
+
+pub went-from : {L H : Type 0} {event : L → Event H → L → Type 0} (old : State L H) (from to : Way L) (m : Move H) → At old from → Moved (reads_ahead event) from m to → Went event old.link old.ahead m to.link (plain to.ahead)
+went-from {event = event} old from to m (l, a) p = rw (l, a) (went from m to p)
+
+pub down-from : {L H : Type 0} {event : L → Event H → L → Type 0} (old : State L H) (from to : Way L) (m : Move H) (c : IoCause) → At old from → Failed (reads_ahead event) from m c to
+    → WentDown event old.link old.ahead m c to.link (plain to.ahead)
+down-from {event = event} old from to m c (l, a) p = rw (l, a) (went-down from m c to p)
 
 some-take : {A : Type 0} (n : ℕ) (xs : List A) → n < length xs → has_some (take n xs) ≡ nat_lt 0 n
 some-take zero xs h = refl
@@ -75,13 +88,13 @@ some-take (suc n) [] h = absurd (omega arith)
 some-take (suc n) (x ∷ xs) h = sym (lt-ltb 0 (suc n) (omega arith))
 
 -- what a call that was served leaves
-abbrev pub served : {L H : Type 0} → State L H → L → Bool → ℕ → State L H
-served old link list left = record old { link = link; list = list; left = left; faulted = false }
+abbrev pub served : {L H : Type 0} → State L H → L → List (Cell H) → Bool → ℕ → State L H
+served old link ahead list left = record old { link = link; ahead = ahead; list = list; left = left; faulted = false }
 
-pub serves : {L H : Type 0} {event : L → Event H → L → Type 0} (old new : State L H) (link : L) (list : Bool) (left limit : ℕ) (m : Move H)
-    → old.ahead ≡ [] → new ≡ served old link list left → old.broken ≡ None → m.failures ≡ 0 → m.retries ≤ limit → Moved event old.link m link → Serves event old limit m new
-serves {event} old new link list left limit m a s before none most p = subst (λ x. Serves event old limit m x) (sym s) (record {
-  talks = talks old (served old link list left) m a a refl p;
+pub serves : {L H : Type 0} {event : L → Event H → L → Type 0} (old new : State L H) (link : L) (ahead : List (Cell H)) (list : Bool) (left limit : ℕ) (m : Move H)
+    → new ≡ served old link ahead list left → old.broken ≡ None → m.failures ≡ 0 → m.retries ≤ limit → Went event old.link old.ahead m link ahead → Serves event old limit m new
+serves {event} old new link ahead list left limit m s before none most w = subst (λ x. Serves event old limit m x) (sym s) (record {
+  talks = talks old (served old link ahead list left) m refl w;
   retries = most;
   failures = none;
   before = before;
@@ -90,44 +103,44 @@ serves {event} old new link list left limit m a s before none most p = subst (λ
 })
 
 -- what a fault leaves
-abbrev pub failed : {L H : Type 0} → State L H → L → Bool → ℕ → Option IoCause → State L H
-failed old link list left broken = record old { link = link; list = list; left = left; broken = broken; faulted = true }
+abbrev pub failed : {L H : Type 0} → State L H → L → List (Cell H) → Bool → ℕ → Option IoCause → State L H
+failed old link ahead list left broken = record old { link = link; ahead = ahead; list = list; left = left; broken = broken; faulted = true }
 
 -- the link failed
-pub gave-up : {L H : Type 0} (event : L → Event H → L → Type 0) (old new : State L H) (link : L) (list : Bool) (left : ℕ) (broken : Option IoCause) (limit : ℕ) (grows breaks : Bool) (m : Move H) (c : IoCause) (e : Error)
-    → old.ahead ≡ [] → new ≡ failed old link list left broken → old.broken ≡ None → e ≡ error_of c
-    → broken ≡ (if breaks || has_moved m then Some c else None) → (old.list ≡ true → list ≡ true)
+pub gave-up : {L H : Type 0} (event : L → Event H → L → Type 0) (old new : State L H) (link : L) (ahead : List (Cell H)) (list : Bool) (left : ℕ) (broken : Option IoCause) (limit : ℕ) (grows breaks : Bool) (m : Move H) (c : IoCause) (e : Error)
+    → new ≡ failed old link ahead list left broken → old.broken ≡ None → e ≡ error_of c
+    → broken ≡ (if breaks || has_moved m then Some c else None) → (old.list ≡ true → list ≡ true) → ((breaks || has_moved m) ≡ false → left ≡ old.left)
     → m.failures ≡ 0 → m.retries ≤ limit → (IsTrue (is_retry c) → m.retries ≡ limit)
-    → Moved event old.link (m then refused c) link → Trouble event old limit grows breaks m e new
-gave-up event old new link list left broken limit grows breaks m c e a s before is b kept none most spent p =
-    let t : Trouble event old limit grows breaks m (error_of c) (failed old link list left broken) =
-    fault c before (talks old (failed old link list left broken) (m then refused c) a a refl p) none most spent b refl kept in
+    → WentDown event old.link old.ahead m c link ahead → Trouble event old limit grows breaks m e new
+gave-up event old new link ahead list left broken limit grows breaks m c e s before is b kept same none most spent w =
+    let t : Trouble event old limit grows breaks m (error_of c) (failed old link ahead list left broken) =
+    fault c before (record { before = w.link; talks = talks old (record (failed old link ahead list left broken) { link = w.link }) m refl w.went; last = w.last }) none most spent b refl (kept, same) in
     subst (λ x. Trouble event old limit grows breaks m x new) (sym is) (subst (λ x. Trouble event old limit grows breaks m (error_of c) x) (sym s) t)
 
 -- a text that went out
 pub sent-all : {L H : Type 0} (event : L → Event H → L → Type 0) (old new : State L H) (link : L) (text : List (Cell H)) (sent : SendPass)
-    → old.ahead ≡ [] → new ≡ served old link old.list old.left → old.broken ≡ None
+    → new ≡ served old link old.ahead old.list old.left → old.broken ≡ None
     → sent.fault ≡ None → SendsWhole event old.link text old.budget sent link → Sends event old text (Ok tt) new
-sent-all event old new link text sent a s before none p =
+sent-all event old new link text sent s before none p =
     let q = rw none at p.1 in
     let r = old.budget - sent.left in (
       r,
-      serves old new link old.list old.left old.budget (sends text r) a s before refl (omega arith) q.1,
+      serves old new link old.ahead old.list old.left old.budget (sends text r) s before refl (omega arith) (went-silent old.ahead refl q.1),
       ap (λ (x : State _ _). x.list) s,
       ap (λ (x : State _ _). x.left) s,
     )
 
 -- a text that went out in part
 pub sent-some : {L H : Type 0} (event : L → Event H → L → Type 0) (old new : State L H) (link : L) (text : List (Cell H)) (sent : SendPass) (c : IoCause) (e : Error)
-    → old.ahead ≡ [] → new ≡ failed old link old.list old.left (if sent.moved then Some c else old.broken) → old.broken ≡ None → e ≡ error_of c
+    → new ≡ failed old link old.ahead old.list old.left (if sent.moved then Some c else old.broken) → old.broken ≡ None → e ≡ error_of c
     → sent.fault ≡ Some c → SendsWhole event old.link text old.budget sent link → Sends event old text (Err e) new
-sent-some event old new link text sent c e a s before is some p =
+sent-some event old new link text sent c e s before is some p =
     let f = rw some at p.1 in
     let r = old.budget - sent.left in (
       f.count,
       r,
-      gave-up event old new link old.list old.left (if sent.moved then Some c else old.broken) old.budget false false (sends (take f.count text) r) c e a s before is
-          (rw (before, f.told, some-take f.count text f.short) refl) (λ h. h) refl (omega arith) (λ h. let z = f.spent h in omega arith) f.link,
+      gave-up event old new link old.ahead old.list old.left (if sent.moved then Some c else old.broken) old.budget false false (sends (take f.count text) r) c e s before is
+          (rw (before, f.told, some-take f.count text f.short) refl) (λ h. h) (λ h. refl) refl (omega arith) (λ h. let z = f.spent h in omega arith) (down-silent (sends (take f.count text) r) c old.ahead refl f.link),
       λ _. f.short,
     )
 
@@ -153,9 +166,9 @@ moved-once event old new handles [] n (most, some, none) =
 moved-once event old new handles (b ∷ bytes) n (most, some, none) = Moved-once (Taken (carrying handles (take n (b ∷ bytes)))) (some (omega arith)).1
 
 pub sent-once : {L H : Type 0} (event : L → Event H → L → Type 0) (old : State L H) (link : L) (handles : List H) (bytes : List ℕ) (n : ℕ)
-    → old.ahead ≡ [] → old.broken ≡ None → SendsSome event old.link bytes handles (Ok n) link → SendsOnce event old handles bytes (Ok n) (record old { link = link; faulted = false })
-sent-once event old link handles bytes n a before p = (
-  serves old (served old link old.list old.left) link old.list old.left 0 (sends (carrying handles (take n bytes)) 0) a refl before refl (omega arith) (moved-once event old.link link handles bytes n p),
+    → old.broken ≡ None → SendsSome event old.link bytes handles (Ok n) link → SendsOnce event old handles bytes (Ok n) (record old { link = link; faulted = false })
+sent-once event old link handles bytes n before p = (
+  serves old (served old link old.ahead old.list old.left) link old.ahead old.list old.left 0 (sends (carrying handles (take n bytes)) 0) refl before refl (omega arith) (went-silent old.ahead refl (moved-once event old.link link handles bytes n p)),
   p.0,
   refl,
   p.1,
@@ -163,10 +176,10 @@ sent-once event old link handles bytes n a before p = (
 )
 
 pub refused-once : {L H : Type 0} (event : L → Event H → L → Type 0) (old new : State L H) (link : L) (handles : List H) (bytes : List ℕ) (c : IoCause) (e : Error)
-    → old.ahead ≡ [] → new ≡ record old { link = link; broken = old.broken; faulted = true } → old.broken ≡ None → e ≡ error_of c → SendsSome event old.link bytes handles (Err c) link
+    → new ≡ record old { link = link; broken = old.broken; faulted = true } → old.broken ≡ None → e ≡ error_of c → SendsSome event old.link bytes handles (Err c) link
     → SendsOnce event old handles bytes (Err e) new
-refused-once event old new link handles bytes c e a s before is p = (
-  gave-up event old new link old.list old.left old.broken 0 false false nothing c e a s before is before (λ h. h) refl (omega arith) (λ h. refl) (more still p.1),
+refused-once event old new link handles bytes c e s before is p = (
+  gave-up event old new link old.ahead old.list old.left old.broken 0 false false nothing c e s before is before (λ h. h) (λ h. refl) refl (omega arith) (λ h. refl) (down-silent nothing c old.ahead refl (record { before = old.link; moved = still; last = p.1 })),
   (λ h. rw s refl),
   λ h. (p.0, c, is, subst (λ x. event old.link (Refused c) x) (sym (ap (λ (x : State _ _). x.link) s)) p.1),
 )

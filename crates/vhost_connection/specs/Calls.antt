@@ -8,13 +8,18 @@ use Rattle.vhost_message.specs.declared.error.Error.{Error}
 use Rattle.vhost_message.specs.declared.error.Error.TheVariants.{InvalidMessage, PartialMessage, Disconnected}
 use Rattle.vhost_protocol.specs.Stream.{Cell, carrying, bytes, first_handles, has_some, brings_handles, items, heard}
 use Rattle.vhost_link.specs.Law.{Event, Taken, Refused, nothing}
-use Rattle.vhost_connection.specs.Pass.{sends, receives}
+use Rattle.vhost_connection.specs.Pass.{sends, receives, WentAtOnce, WentNot}
 use Rattle.vhost_connection.specs.Talk.{State, Serves, Trouble}
 
 -- A text goes out, all of it; or a front of it, and then trouble.
 abbrev pub Sends : {L H : Type 0} → (L → Event H → L → Type 0) → State L H → List (Cell H) → Result (Unit {0}) Error → State L H → Type 0
 Sends event old text (Ok _) new = (r : ℕ) × Serves event old old.budget (sends text r) new × (new.list ≡ old.list) × (new.left ≡ old.left)
 Sends event old text (Err e) new = (n r : ℕ) × Trouble event old old.budget false false (sends (take n text) r) e new × (old.broken ≡ None → n < length text)
+
+-- A text goes out by one call of the link, or nothing of it.
+abbrev pub ByOneCall : {L H : Type 0} → (L → Event H → L → Type 0) → State L H → List (Cell H) → Result (Unit {0}) Error → State L H → Type 0
+ByOneCall event old text (Ok _) new = WentAtOnce event old.link text new.link
+ByOneCall event old text (Err e) new = WentNot event old.link new.link
 
 -- All the bytes of some pieces go out, and are counted.
 abbrev pub SendsAll : {L H : Type 0} → (L → Event H → L → Type 0) → State L H → List (Cell H) → Result ℕ Error → State L H → Type 0

@@ -1,8 +1,8 @@
 -- What a side hears of its stream, and how a call of a side may fail.
-use Rattle.std.specs.Prelude.{◌≡◌, ℕ, ◌<◌, ◌≤◌, List, length, Some, None, Bool, true, false, ◌||◌, ◌⊎◌, if◌then◌else◌}
+use Rattle.std.specs.Prelude.{◌≡◌, ℕ, ◌<◌, ◌≤◌, List, length, Some, None, Bool, true, false, ◌||◌, ◌⊎◌, IsTrue, if◌then◌else◌}
 use Rattle.vhost_message.specs.declared.limits.TheConstants.{MAX_MSG_TEXT}
 use Rattle.vhost_message.specs.declared.cause.IoCause.{IoCause}
-use Rattle.vhost_message.specs.Cause.{error_of}
+use Rattle.vhost_message.specs.Cause.{is_retry, error_of}
 use Rattle.vhost_message.specs.declared.error.Error.{Error}
 use Rattle.vhost_message.specs.declared.error.Error.TheVariants.{SocketError, SocketConnect, SocketBroken, SocketRetry, OutOfMemory}
 use Rattle.vhost_protocol.specs.Stream.{Cell, heard}
@@ -10,7 +10,7 @@ use Rattle.vhost_protocol.specs.Split.{Splits}
 use Rattle.vhost_link.specs.Law.{Event, Move}
 use Rattle.vhost_connection.specs.Pass.{receives}
 use Rattle.vhost_connection.specs.State.{first_cause}
-use Rattle.vhost_connection.specs.Talk.{State, Talks, Serves, has_moved}
+use Rattle.vhost_connection.specs.Talk.{State, Fell, Serves, has_moved}
 
 -- What the endpoint received, and nothing else of its stream, has this outcome.
 pub record Hears {L H A : Type 0} (event : L → Event H → L → Type 0) (cut : List (Cell H) → A × List (Cell H)) (old : State L H) (outcome : A) (new : State L H) : Type 0 where
@@ -24,16 +24,17 @@ pub record Hears {L H A : Type 0} (event : L → Event H → L → Type 0) (cut 
 abbrev pub Spends : {H : Type 0} → ℕ → Move H → Type 0
 Spends budget m = (0 < m.failures) ⊎ (budget < m.retries)
 
--- A call of a side failed. Between a request and the end of its answer each fault breaks the endpoint.
+-- A call of a side failed: so much of one message had moved, and this is why. Between a request and the end of its answer each fault breaks the endpoint.
 pub data Fails {L H : Type 0} (event : L → Event H → L → Type 0) (old : State L H) (between : Bool) : Error → State L H → Type 0 where
   -- the endpoint was broken before
-  was_broken : {c : IoCause} {new : State L H} → old.broken ≡ Some c → new ≡ record old { list = new.list; faulted = false } → Fails event old between (SocketBroken c) new
+  was_broken : {c : IoCause} {new : State L H} → old.broken ≡ Some c → new ≡ record old { list = new.list; faulted = false } → (old.list ≡ true → new.list ≡ true) → Fails event old between (SocketBroken c) new
   -- there is no memory for another list of handles
   no_memory : {new : State L H} → old.list ≡ false → new ≡ record old { faulted = new.faulted } → Fails event old between OutOfMemory new
-  -- the link failed, or retried once too often; at most one message had gone out
-  fault : (c : IoCause) (m : Move H) {new : State L H} → old.broken ≡ None → Talks event old m new → Spends old.budget m
-      → length m.taken ≤ MAX_MSG_TEXT
-      → new.broken ≡ (if between || has_moved m then Some c else None) → new.faulted ≡ true → Fails event old between (error_of c) new
+  -- the link failed last with this cause, or retried once more than a message may; what had moved is at most one message
+  fault : (c : IoCause) (m : Move H) {new : State L H} → old.broken ≡ None → Fell event old m c new → m.failures ≡ 0 → m.retries ≤ old.budget
+      → (IsTrue (is_retry c) → m.retries ≡ old.budget) → length m.taken ≤ MAX_MSG_TEXT
+      → new.broken ≡ (if between || has_moved m then Some c else None) → new.faulted ≡ true
+      → (old.list ≡ true → new.list ≡ true) × ((between || has_moved m) ≡ false → new.left ≡ old.left) → Fails event old between (error_of c) new
 
 -- the endpoint after a call between a request and the end of its answer: an error of the link breaks it, unless it was broken before
 abbrev pub broken_on : {L H : Type 0} → Error → State L H → State L H

@@ -1,3 +1,4 @@
+pub mod Ahead
 pub mod Pass
 pub mod Talk
 pub mod Calls
@@ -6,3 +7,5 @@ pub mod Front
 pub mod Lending
 pub mod Hearing
 pub mod Bare
+pub mod Requests
+pub mod Asking

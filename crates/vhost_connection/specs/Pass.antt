@@ -6,7 +6,7 @@ use Rattle.vhost_message.specs.declared.limits.TheConstants.{MAX_ATTACHED_FD_ENT
 use Rattle.vhost_message.specs.declared.cause.IoCause.{IoCause}
 use Rattle.vhost_message.specs.Cause.{is_retry}
 use Rattle.vhost_protocol.specs.Stream.{Cell, carrying, has_some, bytes, brings_handles, first_handles, Item, items, heard}
-use Rattle.vhost_link.specs.Law.{Event, Handed, Ended, Taken, Refused, Move, Moved, move, ◌then◌, refused}
+use Rattle.vhost_link.specs.Law.{Event, Handed, Ended, Taken, Refused, Move, Moved, move}
 use Rattle.vhost_connection.specs.declared.pass.SendPass.{SendPass}
 use Rattle.vhost_connection.specs.declared.pass.First.{First}
 use Rattle.vhost_connection.specs.declared.pass.RecvPass.{RecvPass}
@@ -32,13 +32,37 @@ SendsSome event old bytes handles (Err c) new = (0 < length bytes) × event old 
 abbrev pub sends : {H : Type 0} → List (Cell H) → ℕ → Move H
 sends cs retries = move [] cs retries 0
 
+-- A link did so much, and then failed with this cause: that was its last event.
+pub record Failed {S H : Type 0} (event : S → Event H → S → Type 0) (old : S) (m : Move H) (c : IoCause) (new : S) : Type 0 where
+  pub before : S
+  pub moved : Moved event old m before
+  pub last : event before (Refused c) new
+
+-- A text went out whole by one call of the link. Calls that asked for one more may stand before it.
+pub record WentAtOnce {S H : Type 0} (event : S → Event H → S → Type 0) (old : S) (text : List (Cell H)) (new : S) : Type 0 where
+  pub retries : ℕ
+  pub before : S
+  pub waited : Moved event old (sends [] retries) before
+  pub taken : event before (Taken text) new
+
+-- nothing went out
+pub record WentNot {S H : Type 0} (event : S → Event H → S → Type 0) (old new : S) : Type 0 where
+  pub retries : ℕ
+  pub failures : ℕ
+  pub moved : Moved event old (move [] [] retries failures) new
+
+-- by one call, or not at all
+abbrev pub AtOnce : {S H : Type 0} → (S → Event H → S → Type 0) → S → List (Cell H) → Option IoCause → S → Type 0
+AtOnce event old text None new = WentAtOnce event old text new
+AtOnce event old text (Some c) new = WentNot event old new
+
 -- A front of the cells went out, and then came a fault that was no retry, or one retry too many.
 pub record SentFront {S H : Type 0} (event : S → Event H → S → Type 0) (old : S) (text : List (Cell H)) (budget : ℕ) (moved : Bool) (left : ℕ) (c : IoCause) (new : S) : Type 0 where
   pub count : ℕ
   pub short : count < length text
   pub told : moved ≡ nat_lt 0 count
   pub spent : IsTrue (is_retry c) → left ≡ 0
-  pub link : Moved event old (sends (take count text) (budget - left) then refused c) new
+  pub link : Failed event old (sends (take count text) (budget - left)) c new
 
 -- how it ended: all went out, or a front
 abbrev pub SentAs : {S H : Type 0} → (S → Event H → S → Type 0) → S → List (Cell H) → ℕ → Bool → ℕ → Option IoCause → S → Type 0
@@ -77,7 +101,7 @@ abbrev pub GotAs : {S H : Type 0} → (S → Event H → S → Type 0) → S →
 GotAs event old room budget left Whole cs new = (length cs ≡ room) × Moved event old (receives (items cs) (budget - left)) new
 GotAs event old room budget left AtEnd cs new = (length cs < room) × Moved event old (receives (heard cs true) (budget - left)) new
 GotAs event old room budget left (Fault c) cs new = (length cs < room) × (IsTrue (is_retry c) → left ≡ 0)
-    × Moved event old (receives (items cs) (budget - left) then refused c) new
+    × Failed event old (receives (items cs) (budget - left)) c new
 
 pub record GetsRest {S H : Type 0} (event : S → Event H → S → Type 0) (old : S) (before : List ℕ) (budget : ℕ) (got : RecvPass) (after : List ℕ) (new : S) : Type 0 where
   pub cs : List (Cell H)
@@ -101,7 +125,7 @@ pub record FrontCame {S H : Type 0} (event : S → Event H → S → Type 0) (ol
 abbrev pub FirstAs : {S H : Type 0} → (S → Event H → S → Type 0) → S → List ℕ → ℕ → ℕ → ℕ → Option IoCause → List ℕ → List H → S → Type 0
 FirstAs event old before budget n left None after handles new = FrontCame event old before (budget - left) n after handles new
 FirstAs event old before budget n left (Some c) after handles new = (n ≡ 0) × (after ≡ before) × (handles ≡ []) × (IsTrue (is_retry c) → left ≡ 0)
-    × Moved event old (receives [] (budget - left) then refused c) new
+    × Failed event old (receives [] (budget - left)) c new
 
 abbrev pub GetsFirst : {S H : Type 0} → (S → Event H → S → Type 0) → S → List ℕ → ℕ → First → List ℕ → List H → S → Type 0
 GetsFirst event old before budget first after handles new = (first.left ≤ budget) × FirstAs event old before budget first.count first.left first.fault after handles new

@@ -5,7 +5,7 @@ use Rattle.vhost_message.specs.Cause.{is_retry, error_of}
 use Rattle.vhost_message.specs.declared.error.Error.{Error}
 use Rattle.vhost_message.specs.declared.error.Error.TheVariants.{SocketBroken, OutOfMemory}
 use Rattle.vhost_protocol.specs.Stream.{Cell, items, has_some}
-use Rattle.vhost_link.specs.Law.{Event, Move, Moved, nothing, ◌then◌, refused}
+use Rattle.vhost_link.specs.Law.{Event, Refused, Move, Moved, nothing}
 
 -- An endpoint, as contracts see it.
 pub record State (L H : Type 0) : Type 0 where
@@ -33,6 +33,12 @@ pub record Talks {L H : Type 0} (event : L → Event H → L → Type 0) (old : 
   pub failures : below.failures ≡ m.failures
   pub budget : new.budget ≡ old.budget
 
+-- The endpoint did so much, and then its link failed with this cause: that was the link's last event.
+pub record Fell {L H : Type 0} (event : L → Event H → L → Type 0) (old : State L H) (m : Move H) (c : IoCause) (new : State L H) : Type 0 where
+  pub before : L
+  pub talks : Talks event old m (record new { link = before })
+  pub last : event before (Refused c) new.link
+
 -- The call was served, with at most so many retries, and the endpoint is not broken.
 pub record Serves {L H : Type 0} (event : L → Event H → L → Type 0) (old : State L H) (limit : ℕ) (m : Move H) (new : State L H) : Type 0 where
   pub talks : Talks event old m new
@@ -54,10 +60,10 @@ pub data Trouble {L H : Type 0} (event : L → Event H → L → Type 0) (old : 
   -- its list had been given away, there is no memory for another, and nothing changed
   no_memory : {new : State L H} → grows ≡ true → old.broken ≡ None → old.list ≡ false → m ≡ nothing → new ≡ record old { faulted = false }
       → Trouble event old limit grows breaks m OutOfMemory new
-  -- the link failed, or retried once more than the limit allows: the endpoint is broken where something had moved, and else as before
-  fault : (c : IoCause) {new : State L H} → old.broken ≡ None → Talks event old (m then refused c) new → m.failures ≡ 0 → m.retries ≤ limit
+  -- the link failed, or retried once more than the limit allows: the endpoint is broken where something had moved, and else as before; so is what is left for a body
+  fault : (c : IoCause) {new : State L H} → old.broken ≡ None → Fell event old m c new → m.failures ≡ 0 → m.retries ≤ limit
       → (IsTrue (is_retry c) → m.retries ≡ limit) → new.broken ≡ (if breaks || has_moved m then Some c else None) → new.faulted ≡ true
-      → (old.list ≡ true → new.list ≡ true) → Trouble event old limit grows breaks m (error_of c) new
+      → (old.list ≡ true → new.list ≡ true) × ((breaks || has_moved m) ≡ false → new.left ≡ old.left) → Trouble event old limit grows breaks m (error_of c) new
 
 -- it is broken, and this error says so
 abbrev pub IsBroken : {L H : Type 0} → State L H → Error → Type 0

@@ -2,10 +2,13 @@
 
 ghost use Rattle.std.specs.Prelude.{◌≡◌, ◌≢◌, IfOk, IfErr};
 
+mod asks;
 mod bare;
 mod receives;
+mod requests;
 mod sends;
 
+use crate::buffer::{ReadAhead, Source};
 use crate::list::HandleList;
 use std::alloc::Global;
 use std::marker::PhantomData;
@@ -19,10 +22,15 @@ use vhost_message::{Error, IoCause, MAX_MSG_TEXT, MsgHeader, Result};
 /// endpoint: from then on each call that sends or receives answers `SocketBroken` with that cause. `send_slice`,
 /// `send_iovec` and `recv_into_buf` call their link once at most, whatever the budget, and break nothing.
 ///
+/// It receives ahead: its link is called only where a message still needs a byte and nothing waits, with room for 8192
+/// bytes. What comes beyond the message waits in the endpoint. Handles belong to the first byte of a receive alone, so
+/// that a byte that waits has none.
+///
 /// Mirrors `vhost::vhost_user::connection::Endpoint`.
 #[derive(Drop)]
 pub struct Endpoint<M, L: Link> {
-    link: L,
+    /// Its link, with what was received ahead.
+    source: Source<L>,
     /// How many retries one message may take, and how many are left for the body of the last header.
     budget: u32,
     left: u32,
@@ -57,11 +65,15 @@ impl<M: MsgHeader, L: Link> Endpoint<M, L> {
         ensures opened { IfOk result (λ e. state e ≡ fresh link budget) }
         ensures memory { IfErr result (λ e. e ≡ OutOfMemory) }
     {
-        let (Ok(list), Ok(spare)) = (HandleList::new(alloc), HandleList::new(alloc)) else {
+        let (Ok(ahead), Ok(list), Ok(spare)) = (
+            ReadAhead::new(alloc),
+            HandleList::new(alloc),
+            HandleList::new(alloc),
+        ) else {
             return Err(Error::OutOfMemory);
         };
         Ok(Endpoint {
-            link,
+            source: Source { link, ahead },
             budget,
             left: budget,
             broken: None,
@@ -100,12 +112,13 @@ impl<M: MsgHeader, L: Link> Endpoint<M, L> {
         cause.into()
     }
 
-    /// The link below, to be called past the endpoint.
+    /// The link below, to be called past the endpoint: it doesn't see what was received ahead.
     pub fn link(&mut self) -> &mut L
         ensures* lender { sem 𝓛 (Lends (the_row M.row L.row L.Handle.row) L.row self.entry result (λ w. with_link self.old w)) }
         ensures value { result.now ≡ (state self.old).link }
     {
-        &mut self.link
+        let source = &mut self.source;
+        &mut source.link
     }
 
     /// Makes the list for the next message's handles, where the last one was given away.

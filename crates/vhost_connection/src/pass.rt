@@ -3,8 +3,12 @@
 ghost use Rattle.std.specs.Prelude.{◌≡◌, ◌<◌, ◌≤◌, [], length, take, vec_capacity, map, if◌then◌else◌};
 ghost use Rattle.vhost_message.specs.declared.limits.TheConstants.{MAX_ATTACHED_FD_ENTRIES};
 ghost use Rattle.vhost_protocol.specs.Stream.{carrying};
-ghost use Rattle.vhost_connection.specs.Pass.{SendsPart, SendsSome, SendsWhole, joined, GetsPiece, GetsFirst, GetsRest, GetsWhole, GetsParts};
+ghost use Rattle.vhost_connection.specs.Ahead.{way, reads_ahead};
+ghost use Rattle.vhost_link.specs.Law.{TakesAll};
+ghost use Rattle.vhost_connection.specs.Pass.{SendsPart, SendsSome, SendsWhole, AtOnce, joined, GetsPiece, GetsFirst, GetsRest, GetsWhole, GetsParts};
 
+use crate::ahead::recv_some;
+use crate::buffer::Source;
 use vhost_link::Link;
 use vhost_message::IoCause;
 
@@ -25,7 +29,8 @@ fn send_part<L: Link>(
 ) -> Result<usize, IoCause>
     requires handles { length handles.now ≤ MAX_ATTACHED_FD_ENTRIES }
     requires count { count < length bytes.now }
-    ensures { SendsPart L.event link.old (carrying (map (λ h. h.now) handles.now) bytes.now) count result link.new }
+    ensures part { SendsPart L.event link.old (carrying (map (λ h. h.now) handles.now) bytes.now) count result link.new }
+    ensures whole { count ≡ 0 → L.takes_all link.old → TakesAll L.takes_all (length bytes.now) result link.new }
 {
     if count == 0 {
         link.send(bytes, handles)
@@ -50,9 +55,15 @@ pub fn send_once<L: Link>(
 }
 
 /// Sends all of the bytes, with the handles on the first of them.
-fn send_whole<L: Link>(link: &mut L, bytes: &[u8], handles: &[&L::Handle], budget: u32) -> SendPass
+pub fn send_whole<L: Link>(
+    link: &mut L,
+    bytes: &[u8],
+    handles: &[&L::Handle],
+    budget: u32,
+) -> SendPass
     requires { length handles.now ≤ MAX_ATTACHED_FD_ENTRIES }
-    ensures { SendsWhole L.event link.old (carrying (map (λ h. h.now) handles.now) bytes.now) budget result link.new }
+    ensures sent { SendsWhole L.event link.old (carrying (map (λ h. h.now) handles.now) bytes.now) budget result link.new }
+    ensures once { L.takes_all link.old → 0 < length bytes.now → AtOnce L.event link.old (carrying (map (λ h. h.now) handles.now) bytes.now) result.fault link.new }
 {
     let mut count = 0;
     let mut left = budget;
@@ -149,7 +160,7 @@ pub struct RecvPass {
 
 /// Receives some bytes into the room, from this count on.
 fn recv_piece<L: Link>(
-    link: &mut L,
+    source: &mut Source<L>,
     room: &mut [u8],
     count: usize,
     list: &mut Vec<L::Handle>,
@@ -157,10 +168,10 @@ fn recv_piece<L: Link>(
     requires count { count < length room.old }
     requires list { list.old.items ≡ [] }
     requires places { MAX_ATTACHED_FD_ENTRIES ≤ vec_capacity list.old }
-    ensures got { GetsPiece L.event link.old room.old count result room.new list.new.items link.new }
+    ensures got { GetsPiece (reads_ahead L.event) (way source.old) room.old count result room.new list.new.items (way source.new) }
     ensures places { vec_capacity list.old ≤ vec_capacity list.new }
 {
-    link.recv(&mut room[count..], list)
+    recv_some(source, &mut room[count..], list)
 }
 
 /// What came first: how many bytes, how many retries are left, and the fault, if any. No bytes and no fault is the
@@ -174,7 +185,7 @@ pub struct First {
 
 /// Receives the first bytes, and their handles.
 fn recv_first<L: Link>(
-    link: &mut L,
+    source: &mut Source<L>,
     room: &mut [u8],
     list: &mut Vec<L::Handle>,
     budget: u32,
@@ -182,12 +193,12 @@ fn recv_first<L: Link>(
     requires room { 0 < length room.old }
     requires list { list.old.items ≡ [] }
     requires places { MAX_ATTACHED_FD_ENTRIES ≤ vec_capacity list.old }
-    ensures got { GetsFirst L.event link.old room.old budget result room.new list.new.items link.new }
+    ensures got { GetsFirst (reads_ahead L.event) (way source.old) room.old budget result room.new list.new.items (way source.new) }
     ensures places { vec_capacity list.old ≤ vec_capacity list.new }
 {
     let mut left = budget;
     loop {
-        match recv_piece(link, room, 0, list) {
+        match recv_piece(source, room, 0, list) {
             Ok(count) => {
                 return First {
                     count,
@@ -211,14 +222,14 @@ fn recv_first<L: Link>(
 
 /// Receives until the room is full. The handles of what comes are dropped.
 pub fn recv_rest<L: Link>(
-    link: &mut L,
+    source: &mut Source<L>,
     room: &mut [u8],
     spare: &mut Vec<L::Handle>,
     budget: u32,
 ) -> RecvPass
     requires list { spare.old.items ≡ [] }
     requires places { MAX_ATTACHED_FD_ENTRIES ≤ vec_capacity spare.old }
-    ensures got { GetsRest L.event link.old room.old budget result room.new link.new }
+    ensures got { GetsRest (reads_ahead L.event) (way source.old) room.old budget result room.new (way source.new) }
     ensures list { spare.new.items ≡ [] }
     ensures places { vec_capacity spare.old ≤ vec_capacity spare.new }
 {
@@ -226,7 +237,7 @@ pub fn recv_rest<L: Link>(
     let mut left = budget;
     let mut surplus = false;
     while count < room.len() {
-        match recv_piece(link, room, count, spare) {
+        match recv_piece(source, room, count, spare) {
             Ok(0) => {
                 return RecvPass {
                     count,
@@ -265,7 +276,7 @@ pub fn recv_rest<L: Link>(
 
 /// Receives until the room is full, and keeps the handles of the first byte.
 fn recv_whole<L: Link>(
-    link: &mut L,
+    source: &mut Source<L>,
     room: &mut [u8],
     list: &mut Vec<L::Handle>,
     spare: &mut Vec<L::Handle>,
@@ -276,12 +287,12 @@ fn recv_whole<L: Link>(
     requires places { MAX_ATTACHED_FD_ENTRIES ≤ vec_capacity list.old }
     requires spare { spare.old.items ≡ [] }
     requires spare_places { MAX_ATTACHED_FD_ENTRIES ≤ vec_capacity spare.old }
-    ensures got { GetsWhole L.event link.old room.old budget result room.new list.new.items link.new }
+    ensures got { GetsWhole (reads_ahead L.event) (way source.old) room.old budget result room.new list.new.items (way source.new) }
     ensures places { vec_capacity list.old ≤ vec_capacity list.new }
     ensures spare { spare.new.items ≡ [] }
     ensures spare_places { vec_capacity spare.old ≤ vec_capacity spare.new }
 {
-    let first = recv_first(link, room, list, budget);
+    let first = recv_first(source, room, list, budget);
     if let Some(cause) = first.fault {
         return RecvPass {
             count: 0,
@@ -298,7 +309,7 @@ fn recv_whole<L: Link>(
             stop: PassEnd::AtEnd,
         };
     }
-    let rest = recv_rest(link, &mut room[first.count..], spare, first.left);
+    let rest = recv_rest(source, &mut room[first.count..], spare, first.left);
     RecvPass {
         count: first.count + rest.count,
         surplus: rest.surplus,
@@ -309,7 +320,7 @@ fn recv_whole<L: Link>(
 
 /// Receives so many bytes to the front of the text, and keeps the handles of the first.
 fn recv_message<L: Link>(
-    link: &mut L,
+    source: &mut Source<L>,
     text: &mut [u8],
     len: usize,
     list: &mut Vec<L::Handle>,
@@ -322,12 +333,12 @@ fn recv_message<L: Link>(
     requires places { MAX_ATTACHED_FD_ENTRIES ≤ vec_capacity list.old }
     requires spare { spare.old.items ≡ [] }
     requires spare_places { MAX_ATTACHED_FD_ENTRIES ≤ vec_capacity spare.old }
-    ensures got { GetsWhole L.event link.old (take len text.old) budget result (take len text.new) list.new.items link.new }
+    ensures got { GetsWhole (reads_ahead L.event) (way source.old) (take len text.old) budget result (take len text.new) list.new.items (way source.new) }
     ensures places { vec_capacity list.old ≤ vec_capacity list.new }
     ensures spare { spare.new.items ≡ [] }
     ensures spare_places { vec_capacity spare.old ≤ vec_capacity spare.new }
 {
-    recv_whole(link, &mut text[..len], list, spare, budget)
+    recv_whole(source, &mut text[..len], list, spare, budget)
 }
 
 /// What came in two parts: how many bytes of each, how many retries are left, and why it stopped.
@@ -342,7 +353,7 @@ pub struct Parts {
 /// Receives so many bytes to the front of the text, and then into the room until it is full; keeps the handles of the
 /// first byte.
 pub fn recv_parts<L: Link>(
-    link: &mut L,
+    source: &mut Source<L>,
     text: &mut [u8],
     len: usize,
     room: &mut [u8],
@@ -356,12 +367,12 @@ pub fn recv_parts<L: Link>(
     requires places { MAX_ATTACHED_FD_ENTRIES ≤ vec_capacity list.old }
     requires spare { spare.old.items ≡ [] }
     requires spare_places { MAX_ATTACHED_FD_ENTRIES ≤ vec_capacity spare.old }
-    ensures got { GetsParts L.event link.old len room.old budget result text.new room.new list.new.items link.new }
+    ensures got { GetsParts (reads_ahead L.event) (way source.old) len room.old budget result text.new room.new list.new.items (way source.new) }
     ensures places { vec_capacity list.old ≤ vec_capacity list.new }
     ensures spare { spare.new.items ≡ [] }
     ensures spare_places { vec_capacity spare.old ≤ vec_capacity spare.new }
 {
-    let front = recv_message(link, text, len, list, spare, budget);
+    let front = recv_message(source, text, len, list, spare, budget);
     if front.count < len {
         return Parts {
             count: front.count,
@@ -370,7 +381,7 @@ pub fn recv_parts<L: Link>(
             stop: front.stop,
         };
     }
-    let rest = recv_rest(link, room, spare, front.left);
+    let rest = recv_rest(source, room, spare, front.left);
     Parts {
         count: front.count,
         more: rest.count,
@@ -381,7 +392,7 @@ pub fn recv_parts<L: Link>(
 
 /// Receives at most so many bytes to the front of the text by one call of the link, and their handles.
 pub fn recv_once<L: Link>(
-    link: &mut L,
+    source: &mut Source<L>,
     text: &mut [u8],
     len: usize,
     list: &mut Vec<L::Handle>,
@@ -390,15 +401,15 @@ pub fn recv_once<L: Link>(
     requires len { len ≤ length text.old }
     requires list { list.old.items ≡ [] }
     requires places { MAX_ATTACHED_FD_ENTRIES ≤ vec_capacity list.old }
-    ensures got { GetsPiece L.event link.old (take len text.old) 0 result (take len text.new) list.new.items link.new }
+    ensures got { GetsPiece (reads_ahead L.event) (way source.old) (take len text.old) 0 result (take len text.new) list.new.items (way source.new) }
     ensures places { vec_capacity list.old ≤ vec_capacity list.new }
 {
-    recv_piece(link, &mut text[..len], 0, list)
+    recv_piece(source, &mut text[..len], 0, list)
 }
 
 /// Receives so many bytes to the front of the text, and drops all handles.
 pub fn recv_bytes<L: Link>(
-    link: &mut L,
+    source: &mut Source<L>,
     text: &mut [u8],
     len: usize,
     spare: &mut Vec<L::Handle>,
@@ -407,9 +418,9 @@ pub fn recv_bytes<L: Link>(
     requires len { len ≤ length text.old }
     requires list { spare.old.items ≡ [] }
     requires places { MAX_ATTACHED_FD_ENTRIES ≤ vec_capacity spare.old }
-    ensures got { GetsRest L.event link.old (take len text.old) budget result (take len text.new) link.new }
+    ensures got { GetsRest (reads_ahead L.event) (way source.old) (take len text.old) budget result (take len text.new) (way source.new) }
     ensures list { spare.new.items ≡ [] }
     ensures places { vec_capacity spare.old ≤ vec_capacity spare.new }
 {
-    recv_rest(link, &mut text[..len], spare, budget)
+    recv_rest(source, &mut text[..len], spare, budget)
 }

@@ -18,6 +18,7 @@ impl<M: MsgHeader, L: Link> Endpoint<M, L> {
     ghost use Rattle.vhost_connection.specs.Talk.{Refuses};
     ghost use Rattle.vhost_connection.specs.Calls.{ReadsHeader, ReadsData, ReadsBody, ReadsInto, ReadsPayload, ReadsOnce, HandsOver};
     ghost use Rattle.vhost_connection.specs.Front.{ReadsFront, ReadsParts, ReadsCount, ReadsCountOnce, ReadsMore, gives};
+    ghost use Rattle.vhost_connection.specs.Requests.{ReadsHead};
     ghost use Rattle.vhost_connection.specs.State.{state};
 
     /// Receives a header, with the handles of its first byte.
@@ -28,21 +29,29 @@ impl<M: MsgHeader, L: Link> Endpoint<M, L> {
     pub fn recv_header(&mut self) -> Result<(M, Option<Vec<L::Handle>>)>
         ensures { ReadsHeader L.event M.read M.valid (state self.old) result (state self.new) }
     {
+        let (header, front) = self.recv_head()?;
+        Ok((header, self.give(front.list)))
+    }
+
+    /// Receives a header, with the handles of its first byte in a list that is not given away yet.
+    pub(super) fn recv_head(&mut self) -> Result<(M, Front<L::Handle>)>
+        ensures { ReadsHead L.event M.read M.valid (state self.old) result (state self.new) }
+    {
         let len = M::SIZE;
-        let Front { count, list, .. } = self.recv_front(len)?;
-        if count < len {
-            self.put_back(list);
-            if count == 0 {
+        let front = self.recv_front(len)?;
+        if front.count < len {
+            self.put_back(front.list);
+            if front.count == 0 {
                 return Err(Error::Disconnected);
             }
             return Err(Error::PartialMessage);
         }
         let header = M::decode(&self.text[..len]);
         if !header.is_valid() {
-            self.put_back(list);
+            self.put_back(front.list);
             return Err(Error::InvalidMessage);
         }
-        Ok((header, self.give(list)))
+        Ok((header, front))
     }
 
     /// Receives the next bytes of a message, up to so many, and lends them from the endpoint's buffer: fewer than
@@ -71,7 +80,7 @@ impl<M: MsgHeader, L: Link> Endpoint<M, L> {
             return Err(Error::SocketBroken(cause));
         }
         let got = recv_bytes(
-            &mut self.link,
+            &mut self.source,
             &mut self.text[..],
             len,
             &mut self.spare.list,
@@ -206,7 +215,7 @@ impl<M: MsgHeader, L: Link> Endpoint<M, L> {
         let Ok(mut list) = take_list(&mut self.list, self.alloc) else {
             return Err(Error::OutOfMemory);
         };
-        match recv_once(&mut self.link, &mut self.text[..], len, &mut list) {
+        match recv_once(&mut self.source, &mut self.text[..], len, &mut list) {
             Ok(count) => Ok((count, self.give(list))),
             Err(cause) => {
                 self.put_back(list);
@@ -237,7 +246,7 @@ impl<M: MsgHeader, L: Link> Endpoint<M, L> {
             return Err(Error::OutOfMemory);
         };
         let got = recv_parts(
-            &mut self.link,
+            &mut self.source,
             &mut self.text[..],
             len,
             room,
@@ -245,11 +254,12 @@ impl<M: MsgHeader, L: Link> Endpoint<M, L> {
             &mut self.spare.list,
             self.budget,
         );
-        self.left = got.left;
         if let PassEnd::Fault(cause) = got.stop {
             self.put_back(list);
+            self.left = if got.count > 0 { got.left } else { self.left };
             return Err(self.fail(cause, got.count > 0));
         }
+        self.left = got.left;
         Ok(Front {
             count: got.count,
             more: got.more,
@@ -263,10 +273,31 @@ impl<M: MsgHeader, L: Link> Endpoint<M, L> {
         ensures { ReadsMore L.event (state self.old) room.old result room.new (state self.new) }
     {
         self.faulted = false;
-        let got = recv_rest(&mut self.link, room, &mut self.spare.list, self.left);
+        let got = recv_rest(&mut self.source, room, &mut self.spare.list, self.left);
         self.left = got.left;
         if let PassEnd::Fault(cause) = got.stop {
             return Err(self.fail(cause, true));
+        }
+        Ok(got.count)
+    }
+
+    /// Receives the bytes behind a header until the room is full, or the stream ends; the answer is how many.
+    ///
+    /// InvalidMessage: all of them were received, and one brought handles.
+    pub(super) fn recv_rest_of_message(&mut self, room: &mut [u8]) -> Result<usize>
+        ensures { ReadsCount L.event (state self.old) (length room.old) result room.new (state self.new) }
+    {
+        self.faulted = false;
+        if let Some(cause) = self.broken {
+            return Err(Error::SocketBroken(cause));
+        }
+        let got = recv_rest(&mut self.source, room, &mut self.spare.list, self.left);
+        self.left = got.left;
+        if let PassEnd::Fault(cause) = got.stop {
+            return Err(self.fail(cause, true));
+        }
+        if got.surplus {
+            return Err(Error::InvalidMessage);
         }
         Ok(got.count)
     }

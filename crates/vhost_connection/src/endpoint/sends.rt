@@ -6,10 +6,12 @@ ghost use Rattle.vhost_protocol.specs.Stream.{carrying};
 ghost use Rattle.vhost_connection.specs.Pass.{joined};
 
 use crate::endpoint::Endpoint;
-use crate::pass::{send_once, send_pieces};
+use crate::pass::{send_once, send_pieces, send_whole};
 use crate::pieces::{gather, total_len};
 use vhost_link::Link;
-use vhost_message::{ByteValued, Error, MAX_ATTACHED_FD_ENTRIES, MAX_MSG_SIZE, MsgHeader, Result};
+use vhost_message::{
+    ByteValued, Error, MAX_ATTACHED_FD_ENTRIES, MAX_MSG_SIZE, MAX_MSG_TEXT, MsgHeader, Result,
+};
 
 /// Writes a header and the body behind it.
 fn put<M: ByteValued, T: ByteValued>(out: &mut [u8], header: &M, body: &T)
@@ -22,33 +24,45 @@ fn put<M: ByteValued, T: ByteValued>(out: &mut [u8], header: &M, body: &T)
     body.encode_into(rest);
 }
 
+/// Writes a header, the body behind it and a payload behind both.
+fn put_all<M: ByteValued, T: ByteValued>(out: &mut [u8], header: &M, body: &T, payload: &[u8])
+    requires { length out.old ≡ M.SIZE + T.SIZE + length payload.now }
+    ensures text { out.new ≡ M.text header.now ++ T.text body.now ++ payload.now }
+    ensures fits { T.fits body.now }
+{
+    let (front, rest) = out.split_at_mut(M::SIZE + T::SIZE);
+    put(front, header, body);
+    rest.copy_from_slice(payload);
+}
+
 impl<M: MsgHeader, L: Link> Endpoint<M, L> {
     ghost use Rattle.vhost_message.specs.declared.error.Error.TheVariants.{OversizedMsg, IncorrectFds, OutOfMemory};
     ghost use Rattle.vhost_connection.specs.Talk.{Refuses};
-    ghost use Rattle.vhost_connection.specs.Calls.{Sends, SendsAll, SendsOnce};
+    ghost use Rattle.vhost_connection.specs.Calls.{Sends, ByOneCall, SendsAll, SendsOnce};
     ghost use Rattle.vhost_connection.specs.State.{state};
 
     /// Sends a header, with the handles on its first byte.
     ///
     /// IncorrectFds: there are more than `MAX_ATTACHED_FD_ENTRIES` handles; nothing was written, and nothing changed.
-    #[tactic(auto, unfolding(crate::specs::State::ahead_of))]
+    #[tactic(auto, using(crate::proofs::AtOnce::unasked), unfolding(crate::specs::State::ahead_of))]
     pub fn send_header(&mut self, header: &M, handles: &[&L::Handle]) -> Result<()>
         ensures many { MAX_ATTACHED_FD_ENTRIES < length handles.now → Refuses (state self.old) IncorrectFds result (state self.new) }
         ensures sent { length handles.now ≤ MAX_ATTACHED_FD_ENTRIES → Sends L.event (state self.old) (carrying (map (λ h. h.now) handles.now) (M.text header.now)) result (state self.new) }
+        ensures once { L.takes_all (state self.old).link → ByOneCall L.event (state self.old) (carrying (map (λ h. h.now) handles.now) (M.text header.now)) result (state self.new) }
         ensures memory { IfErr result (λ e. e ≢ OutOfMemory) }
     {
         if handles.len() > MAX_ATTACHED_FD_ENTRIES {
             return Err(Error::IncorrectFds);
         }
         header.encode_into(&mut self.text[..M::SIZE]);
-        self.send_text(M::SIZE, &[], handles)
+        self.send_text(M::SIZE, handles)
     }
 
     /// Sends a header and a body, with the handles on the first byte.
     ///
     /// OversizedMsg: the body is longer than `MAX_MSG_SIZE`, or than a header of this type may say. IncorrectFds: there
     /// are more than `MAX_ATTACHED_FD_ENTRIES` handles. In both cases nothing was written, and nothing changed.
-    #[tactic(auto, unfolding(crate::specs::State::ahead_of))]
+    #[tactic(auto, using(crate::proofs::AtOnce::unasked), unfolding(crate::specs::State::ahead_of))]
     pub fn send_message<T: ByteValued>(
         &mut self,
         header: &M,
@@ -60,6 +74,7 @@ impl<M: MsgHeader, L: Link> Endpoint<M, L> {
         ensures sent { T.SIZE ≤ min MAX_MSG_SIZE M.MAX_MSG_SIZE → length handles.now ≤ MAX_ATTACHED_FD_ENTRIES →
             Sends L.event (state self.old) (carrying (map (λ h. h.now) handles.now) (M.text header.now ++ T.text body.now)) result (state self.new) }
         ensures fits { T.SIZE ≤ min MAX_MSG_SIZE M.MAX_MSG_SIZE → length handles.now ≤ MAX_ATTACHED_FD_ENTRIES → T.fits body.now }
+        ensures once { L.takes_all (state self.old).link → ByOneCall L.event (state self.old) (carrying (map (λ h. h.now) handles.now) (M.text header.now ++ T.text body.now)) result (state self.new) }
         ensures memory { IfErr result (λ e. e ≢ OutOfMemory) }
     {
         if T::SIZE > MAX_MSG_SIZE || T::SIZE > M::MAX_MSG_SIZE {
@@ -70,15 +85,15 @@ impl<M: MsgHeader, L: Link> Endpoint<M, L> {
         }
         let len = M::SIZE + T::SIZE;
         put(&mut self.text[..len], header, body);
-        self.send_text(len, &[], handles)
+        self.send_text(len, handles)
     }
 
-    /// Sends a header, a body and a payload, with the handles on the first byte. The payload goes out from where it
-    /// lies.
+    /// Sends a header, a body and a payload, with the handles on the first byte: as one piece where they have at most
+    /// `MAX_MSG_TEXT` bytes together, and else the payload goes out from where it lies.
     ///
     /// OversizedMsg: the body is longer than `MAX_MSG_SIZE`, or body and payload together than a header of this type may
     /// say. IncorrectFds: there are more than `MAX_ATTACHED_FD_ENTRIES` handles. In both cases nothing was written, and nothing changed.
-    #[tactic(auto, unfolding(crate::specs::State::ahead_of))]
+    #[tactic(auto, using(crate::proofs::AtOnce::unasked), unfolding(crate::specs::State::ahead_of))]
     pub fn send_message_with_payload<T: ByteValued>(
         &mut self,
         header: &M,
@@ -93,6 +108,8 @@ impl<M: MsgHeader, L: Link> Endpoint<M, L> {
         ensures sent { T.SIZE ≤ MAX_MSG_SIZE → T.SIZE + length payload.now ≤ M.MAX_MSG_SIZE → length handles.now ≤ MAX_ATTACHED_FD_ENTRIES →
             Sends L.event (state self.old) (carrying (map (λ h. h.now) handles.now) (M.text header.now ++ T.text body.now ++ payload.now)) result (state self.new) }
         ensures fits { T.SIZE ≤ MAX_MSG_SIZE → T.SIZE + length payload.now ≤ M.MAX_MSG_SIZE → length handles.now ≤ MAX_ATTACHED_FD_ENTRIES → T.fits body.now }
+        ensures once { M.SIZE + T.SIZE + length payload.now ≤ MAX_MSG_TEXT → L.takes_all (state self.old).link →
+            ByOneCall L.event (state self.old) (carrying (map (λ h. h.now) handles.now) (M.text header.now ++ T.text body.now ++ payload.now)) result (state self.new) }
         ensures memory { IfErr result (λ e. e ≢ OutOfMemory) }
     {
         if T::SIZE > MAX_MSG_SIZE || T::SIZE > M::MAX_MSG_SIZE {
@@ -105,12 +122,39 @@ impl<M: MsgHeader, L: Link> Endpoint<M, L> {
             return Err(Error::IncorrectFds);
         }
         let len = M::SIZE + T::SIZE;
-        put(&mut self.text[..len], header, body);
-        self.send_text(len, payload, handles)
+        if payload.len() > MAX_MSG_TEXT - len {
+            put(&mut self.text[..len], header, body);
+            return self.send_with_behind(len, payload, handles);
+        }
+        let whole = len + payload.len();
+        put_all(&mut self.text[..whole], header, body, payload);
+        self.send_text(whole, handles)
+    }
+
+    /// Sends the first bytes of the text: by one call, where the link takes in all that it is given.
+    fn send_text(&mut self, len: usize, handles: &[&L::Handle]) -> Result<()>
+        requires len { len ≤ MAX_MSG_TEXT }
+        requires handles { length handles.now ≤ MAX_ATTACHED_FD_ENTRIES }
+        ensures sent { Sends L.event (state self.old) (carrying (map (λ h. h.now) handles.now) (take len self.old.text)) result (state self.new) }
+        ensures once { 0 < len → L.takes_all (state self.old).link → ByOneCall L.event (state self.old) (carrying (map (λ h. h.now) handles.now) (take len self.old.text)) result (state self.new) }
+        ensures memory { IfErr result (λ e. e ≢ OutOfMemory) }
+    {
+        self.faulted = false;
+        self.expect_sound()?;
+        let sent = send_whole(
+            &mut self.source.link,
+            &self.text[..len],
+            handles,
+            self.budget,
+        );
+        match sent.fault {
+            None => Ok(()),
+            Some(cause) => Err(self.fail(cause, sent.moved)),
+        }
     }
 
     /// Sends the first bytes of the text, and a payload behind them.
-    fn send_text(&mut self, len: usize, payload: &[u8], handles: &[&L::Handle]) -> Result<()>
+    fn send_with_behind(&mut self, len: usize, payload: &[u8], handles: &[&L::Handle]) -> Result<()>
         requires len { len ≤ MAX_MSG_TEXT }
         requires handles { length handles.now ≤ MAX_ATTACHED_FD_ENTRIES }
         ensures sent { Sends L.event (state self.old) (carrying (map (λ h. h.now) handles.now) (take len self.old.text ++ payload.now)) result (state self.new) }
@@ -119,7 +163,7 @@ impl<M: MsgHeader, L: Link> Endpoint<M, L> {
         self.faulted = false;
         self.expect_sound()?;
         let pieces = [&self.text[..len], payload];
-        let sent = send_pieces(&mut self.link, &pieces, handles, self.budget);
+        let sent = send_pieces(&mut self.source.link, &pieces, handles, self.budget);
         match sent.fault {
             None => Ok(()),
             Some(cause) => Err(self.fail(cause, sent.moved)),
@@ -147,7 +191,7 @@ impl<M: MsgHeader, L: Link> Endpoint<M, L> {
         }
         self.faulted = false;
         self.expect_sound()?;
-        let sent = send_pieces(&mut self.link, iovs, handles, self.budget);
+        let sent = send_pieces(&mut self.source.link, iovs, handles, self.budget);
         match sent.fault {
             None => Ok(len),
             Some(cause) => Err(self.fail(cause, sent.moved)),
@@ -171,7 +215,7 @@ impl<M: MsgHeader, L: Link> Endpoint<M, L> {
         }
         self.faulted = false;
         self.expect_sound()?;
-        match send_once(&mut self.link, bytes, handles) {
+        match send_once(&mut self.source.link, bytes, handles) {
             Ok(count) => Ok(count),
             Err(cause) => Err(self.fail(cause, false)),
         }
@@ -196,7 +240,7 @@ impl<M: MsgHeader, L: Link> Endpoint<M, L> {
         }
         self.faulted = false;
         self.expect_sound()?;
-        match send_once(&mut self.link, &self.text[..len], handles) {
+        match send_once(&mut self.source.link, &self.text[..len], handles) {
             Ok(count) => Ok(count),
             Err(cause) => Err(self.fail(cause, false)),
         }

@@ -1,5 +1,6 @@
 use Rattle.std.proofs.Common.{refl, [], rules}
 use Rattle.std.proofs.lemmas.List.{length-take-le}
+use Rattle.vhost_connection.specs.Ahead.{way}
 use Rattle.vhost_connection.specs.State.{ahead_of, state}
 use Rattle.vhost_connection.specs.Talk.Trouble.{was_broken}
 use Rattle.vhost_connection.proofs.Data.{data-plain, data-surplus, data-fault}
@@ -12,17 +13,17 @@ returns-in-Some-clause-read g c = ([], 0, (λ h. absurd (cc (c.in-Some.is, h))),
 pub returns-in-Fault-clause-read : goal.returns-in-Fault-clause-read
 unfolding ahead_of
 returns-in-Fault-clause-read g c =
-    data-fault g.L.Link.event (state c.args.self.now) _ c.recv_bytes-got.new.link _ _ _ c.recv_bytes-got.result c.args.len c.in-Fault.cause c.fail.result refl c.fail.ensures.state
+    data-fault g.L.Link.event (state c.args.self.now) _ (way c.args.self.now.source) (way c.recv_bytes-got.new.source) _ _ _ c.recv_bytes-got.result c.args.len c.in-Fault.cause c.fail.result (refl, refl) c.fail.ensures.state
     c.in_default.is c.fail.ensures.error c.recv_bytes-got.ensures.got c.in-Fault.is (length-take-le _ c.args.self.now.text (search rules))
 
 pub returns-then-got-clause-read : goal.returns-then-got-clause-read
 unfolding ahead_of
 returns-then-got-clause-read g c =
-    data-surplus g.L.Link.event (state c.args.self.now) _ c.recv_bytes-got.new.link _ _ c.recv_bytes-got.result c.args.len refl refl
+    data-surplus g.L.Link.event (state c.args.self.now) _ (way c.args.self.now.source) (way c.recv_bytes-got.new.source) _ _ c.recv_bytes-got.result c.args.len (refl, refl) refl
     c.in_default.is c.recv_bytes-got.ensures.got c.in_default-stop.not-Fault (length-take-le _ c.args.self.now.text (search rules)) c.if-got.true
 
 pub returns-clause-read : goal.returns-clause-read
 unfolding ahead_of
 returns-clause-read g c =
-    data-plain g.L.Link.event (state c.args.self.now) _ c.recv_bytes-got.new.link _ _ _ c.recv_bytes-got.result c.args.len refl refl
+    data-plain g.L.Link.event (state c.args.self.now) _ (way c.args.self.now.source) (way c.recv_bytes-got.new.source) _ _ _ c.recv_bytes-got.result c.args.len (refl, refl) refl
     c.in_default.is c.recv_bytes-got.ensures.got c.in_default-stop.not-Fault (length-take-le _ c.args.self.now.text (search rules)) (search rules) c.if-got.false

@@ -1,6 +1,8 @@
 use Rattle.std.proofs.Common.{refl, ap, sym, ◌∙◌, ◌≡◌, false, true, rules, arith, take}
 use Rattle.std.specs.Prelude.{is_some, Bool}
 use Rattle.std.proofs.lemmas.List.{length-take-le}
+use Rattle.vhost_protocol.specs.Stream.{plain}
+use Rattle.vhost_connection.specs.Ahead.{way, waiting}
 use Rattle.vhost_connection.specs.State.{ahead_of, state}
 use Rattle.vhost_connection.specs.Talk.{State}
 use Rattle.vhost_connection.specs.Talk.Trouble.{no_memory}
@@ -16,7 +18,7 @@ returns-in_err-expect_sound g c =
 
 pub returns-then-len-eq0 : goal.returns-then-len-eq0
 unfolding ahead_of
-returns-then-len-eq0 g c = unasked g.L.Link.event (state c.args.self.now) c.args.len c.args.self.now.text c.if-len-eq0.true refl c.in_ok-expect_sound.ensures.sound
+returns-then-len-eq0 g c = unasked g.L.Link.event (state c.args.self.now) c.args.len c.args.self.now.text c.if-len-eq0.true c.in_ok-expect_sound.ensures.sound
 
 pub returns-in_default : goal.returns-in_default
 unfolding ahead_of
@@ -28,14 +30,14 @@ returns-in_default g c =
 pub returns-in-Ok-recv_once : goal.returns-in-Ok-recv_once
 unfolding ahead_of
 returns-in-Ok-recv_once g c =
-    once-came g.L.Link.event (state c.args.self.now) _ (state c.give.new.self) c.recv_once.new.link _ _ c.give.new.self.text c.args.len c.in-Ok-recv_once.count _ c.give.result (omega arith)
-    (length-take-le c.args.len c.args.self.now.text (search rules)) refl
-    (ap (λ (b : Bool). record (state c.args.self.now) { link = c.recv_once.new.link; list = b; faulted = false }) c.take_list.ensures.left)
+    once-came g.L.Link.event (state c.args.self.now) _ (state c.give.new.self) (way c.args.self.now.source) (way c.recv_once.new.source) _ _ c.give.new.self.text c.args.len c.in-Ok-recv_once.count _ c.give.result (omega arith)
+    (length-take-le c.args.len c.args.self.now.text (search rules)) (refl, refl)
+    (ap (λ (b : Bool). record (state c.args.self.now) { link = c.recv_once.new.source.link; ahead = plain (waiting c.recv_once.new.source.ahead); list = b; faulted = false }) c.take_list.ensures.left)
     c.in_ok-expect_sound.ensures.sound c.in-Ok-recv_once.ensures.got (ap (take c.args.len) c.give.ensures.text) c.give.ensures.given c.give.ensures.state
 
 pub returns-in-Err : goal.returns-in-Err
 unfolding ahead_of
 returns-in-Err g c =
-    once-refused g.L.Link.event (state c.args.self.now) (state c.fail.new.self) c.recv_once.new.link c.in-Err.cause c.fail.result refl
+    once-refused g.L.Link.event (state c.args.self.now) (state c.fail.new.self) (way c.args.self.now.source) (way c.recv_once.new.source) c.in-Err.cause c.fail.result (refl, refl)
     (c.fail.ensures.state ∙ ap (λ (x : State _ _). record x { faulted = true }) c.put_back.ensures.state)
     c.in_ok-expect_sound.ensures.sound c.fail.ensures.error c.in-Err.ensures.got.0

@@ -17,11 +17,11 @@ unfolding ahead_of
 returns-in-None-clause-sent g c =
     λ small few some. (
       c.in-Some.ensures.1 ∙ sym (length-carrying (map (λ h. h.now) c.args.handles.now) (joined c.args.iovs.now)),
-      sent-all g.L.Link.event (state c.args.self.now) _ c.send_pieces-sent.new.link (carrying (map (λ h. h.now) c.args.handles.now) (joined c.args.iovs.now)) c.send_pieces-sent.result refl refl c.in_ok-expect_sound.ensures.sound c.in-None.is c.send_pieces-sent.ensures,
+      sent-all g.L.Link.event (state c.args.self.now) _ c.send_pieces-sent.new.link (carrying (map (λ h. h.now) c.args.handles.now) (joined c.args.iovs.now)) c.send_pieces-sent.result refl c.in_ok-expect_sound.ensures.sound c.in-None.is c.send_pieces-sent.ensures,
     )
 
 pub returns-in-Some-fault-clause-sent : goal.returns-in-Some-fault-clause-sent
 unfolding ahead_of
 returns-in-Some-fault-clause-sent g c =
-    λ small few some. sent-some g.L.Link.event (state c.args.self.now) (state c.fail.new.self) c.send_pieces-sent.new.link (carrying (map (λ h. h.now) c.args.handles.now) (joined c.args.iovs.now)) c.send_pieces-sent.result c.in-Some-fault.cause c.fail.result refl
+    λ small few some. sent-some g.L.Link.event (state c.args.self.now) (state c.fail.new.self) c.send_pieces-sent.new.link (carrying (map (λ h. h.now) c.args.handles.now) (joined c.args.iovs.now)) c.send_pieces-sent.result c.in-Some-fault.cause c.fail.result
     c.fail.ensures.state c.in_ok-expect_sound.ensures.sound c.fail.ensures.error c.in-Some-fault.is c.send_pieces-sent.ensures

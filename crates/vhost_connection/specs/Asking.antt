@@ -1,0 +1,57 @@
+-- The side that asks: a request goes out, and the reply for it comes in.
+use Rattle.std.specs.Prelude.{◌≡◌, ℕ, ◌+◌, List, length, drop, Option, Bool, true, false, ◌++◌, ◌&&◌, Result, Ok, Err, is_some, Vec}
+use Rattle.std.specs.Global.{Global}
+use Rattle.vhost_message.specs.declared.error.Error.{Error}
+use Rattle.vhost_message.specs.declared.error.Error.TheVariants as code
+use Rattle.vhost_message.specs.declared.header.VhostUserMsgHeader.{VhostUserMsgHeader}
+use Rattle.vhost_message.specs.Bits.{has_bit}
+use Rattle.vhost_message.specs.Header.{Header, is_reply_for}
+use Rattle.vhost_message.specs.MsgHeader.{fields_of}
+use Rattle.vhost_protocol.specs.Error.{seen}
+use Rattle.vhost_protocol.specs.ReplySplit.{Received, reply_split}
+use Rattle.vhost_protocol.specs.Split.{announced}
+use Rattle.vhost_protocol.specs.Written.{Payload, Written, written_cells, head_of}
+use Rattle.vhost_link.specs.Law.{Event}
+use Rattle.vhost_connection.specs.Pass.{sends}
+use Rattle.vhost_connection.specs.Talk.{State, Serves}
+use Rattle.vhost_connection.specs.Calls.{HandsOver}
+use Rattle.vhost_connection.specs.Hearing.{Hears, Fails}
+
+-- a request with these flags
+abbrev pub request_with : {R H : Type 0} → (flags : ℕ) → R → Payload → List H → Written R H
+request_with flags r payload handles = record { request = r; reply = has_bit flags 2; need_reply = has_bit flags 3; payload = payload; handles = handles }
+
+-- a header is known where it is valid and names a request
+abbrev pub is_known_by : {R : Type 0} → (ℕ → Option R) → Header → Bool
+is_known_by code h = is_some (announced code h)
+
+-- A request went out whole, and the endpoint has its list of handles.
+pub record GoesOut {R L H : Type 0} (event : L → Event H → L → Type 0) (number : R → ℕ) (w : Written R H) (old : State L H) (sent : VhostUserMsgHeader R) (new : State L H) : Type 0 where
+  pub retries : ℕ
+  pub serves : Serves event old old.budget (sends (written_cells number w) retries) new
+  pub header : fields_of sent ≡ head_of number w
+  pub list : new.list ≡ true
+
+-- The same, or the link failed.
+abbrev pub SendsRequest : {R L H : Type 0} → (L → Event H → L → Type 0) → (R → ℕ) → Written R H → State L H → Result (VhostUserMsgHeader R) Error → State L H → Type 0
+SendsRequest event number w old (Ok header) new = GoesOut event number w old header new
+SendsRequest event number w old (Err e) new = Fails event old false e new
+
+module _ {R L H : Type 0} (event : L → Event H → L → Type 0) (is_known : Header → Bool) (request_of : ℕ → Option R) where
+  -- The reply for a request came, with a record of so many bytes and room for so much payload.
+  pub record Comes (size : ℕ) (valid : List ℕ → Bool) (room : ℕ) (old : State L H) (sent : Header) (reply : Received H) (new : State L H) : Type 0 where
+    pub hears : Hears event (reply_split is_known size valid room) old (Ok reply) new
+    pub answers : is_reply_for request_of reply.header sent ≡ true
+
+  -- None came: what came is no reply for the request; or there is no valid reply; or the link failed.
+  pub data Missing (size : ℕ) (valid : List ℕ → Bool) (room : ℕ) (old : State L H) (sent : Header) : Error → State L H → Type 0 where
+    unfit : (r : Received H) {new : State L H} → Hears event (reply_split is_known size valid room) old (Ok r) new → is_reply_for request_of r.header sent ≡ false → Missing size valid room old sent code.InvalidMessage new
+    none : {e : Error} {new : State L H} → Hears event (reply_split is_known size valid room) old (Err (seen e)) new → Missing size valid room old sent e new
+    failed : {e : Error} {new : State L H} → Fails event old true e new → Missing size valid room old sent e new
+
+  -- A reply is received: the size that its header says, its record, how many bytes of payload lie in the room, and its handles.
+  abbrev pub RecvsReply : {T : Type 0} → ℕ → (List ℕ → T) → (T → Bool) → State L H → Header → List ℕ → Result (ℕ × T × ℕ × Option (Vec H Global)) Error → List ℕ → State L H → Type 0
+  RecvsReply size read valid old sent before (Ok x) after new =
+      (reply : Received H) × Comes size (λ bs. valid (read bs)) (length before) old sent reply new × (x.0 ≡ reply.header.size) × (x.1 ≡ read reply.body) × (valid x.1 ≡ true)
+      × (x.2 ≡ length reply.payload) × (after ≡ reply.payload ++ drop x.2 before) × HandsOver x.3 reply.handles
+  RecvsReply size read valid old sent before (Err e) after new = Missing size (λ bs. valid (read bs)) (length before) old sent e new

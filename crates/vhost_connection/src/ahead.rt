@@ -1,0 +1,87 @@
+//! Receiving ahead: a link is asked for more than a message needs, and only where nothing waits.
+
+ghost use Rattle.std.specs.Prelude.{◌≡◌, ◌==◌, ◌<◌, ◌≤◌, ◌++◌, [], length, take, drop, min, vec_capacity, IfOk};
+ghost use Rattle.vhost_message.specs.declared.limits.TheConstants.{MAX_ATTACHED_FD_ENTRIES};
+ghost use Rattle.vhost_link.specs.Law.{Receives};
+ghost use Rattle.vhost_connection.specs.Ahead.{waiting, way, Asks, reads_ahead};
+
+use crate::buffer::{ReadAhead, Source};
+use std::alloc::{AllocError, Global};
+use vhost_link::Link;
+use vhost_message::IoCause;
+
+/// How many bytes a link is asked for at once.
+const READ_AHEAD: usize = 8192;
+
+impl ReadAhead {
+    /// With nothing in it.
+    pub fn new(alloc: Global) -> Result<ReadAhead, AllocError>
+        ensures { IfOk result (λ a. waiting a ≡ []) }
+    {
+        Ok(ReadAhead {
+            buffer: vec![in alloc; 0; READ_AHEAD]?,
+            start: 0,
+            end: 0,
+        })
+    }
+
+    /// Whether nothing waits.
+    fn is_empty(&self) -> bool
+        ensures { result ≡ (length (waiting self.now) == 0) }
+    {
+        self.start == self.end
+    }
+
+    /// Hands on what waits, as much as fits into the room.
+    fn take_out(&mut self, room: &mut [u8]) -> usize
+        ensures count { result ≡ min (length (waiting self.old)) (length room.old) }
+        ensures room { room.new ≡ take result (waiting self.old) ++ drop result room.old }
+        ensures left { waiting self.new ≡ drop result (waiting self.old) }
+    {
+        let waiting = self.end - self.start;
+        let count = if waiting < room.len() {
+            waiting
+        } else {
+            room.len()
+        };
+        room[..count].copy_from_slice(&self.buffer[self.start..self.start + count]);
+        self.start += count;
+        count
+    }
+}
+
+/// Asks the link, with room for as much as can wait. All that it brings waits.
+fn ask<L: Link>(
+    link: &mut L,
+    ahead: &mut ReadAhead,
+    list: &mut Vec<L::Handle>,
+) -> Result<(), IoCause>
+    requires none { waiting ahead.old ≡ [] }
+    requires list { list.old.items ≡ [] }
+    requires places { MAX_ATTACHED_FD_ENTRIES ≤ vec_capacity list.old }
+    ensures asked { Asks L.event link.old result (waiting ahead.new) list.new.items link.new }
+    ensures places { vec_capacity list.old ≤ vec_capacity list.new }
+{
+    let count = link.recv(&mut ahead.buffer[..], list)?;
+    ahead.start = 0;
+    ahead.end = count;
+    Ok(())
+}
+
+/// Receives what fits into the room: of what waits, or where nothing waits, of what one receive of the link brings.
+pub fn recv_some<L: Link>(
+    source: &mut Source<L>,
+    room: &mut [u8],
+    list: &mut Vec<L::Handle>,
+) -> Result<usize, IoCause>
+    requires room { 0 < length room.old }
+    requires list { list.old.items ≡ [] }
+    requires places { MAX_ATTACHED_FD_ENTRIES ≤ vec_capacity list.old }
+    ensures got { Receives (reads_ahead L.event) (way source.old) room.old result room.new list.new.items (way source.new) }
+    ensures places { vec_capacity list.old ≤ vec_capacity list.new }
+{
+    if source.ahead.is_empty() {
+        ask(&mut source.link, &mut source.ahead, list)?;
+    }
+    Ok(source.ahead.take_out(room))
+}

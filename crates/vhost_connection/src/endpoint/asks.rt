@@ -1,0 +1,71 @@
+//! Asking: a request goes out, and the reply for it comes in.
+
+ghost use Rattle.std.specs.Prelude.{◌≡◌, ◌≤◌, ◌+◌, ◌++◌, length, map};
+ghost use Rattle.vhost_message.specs.MsgHeader.{fields_of};
+ghost use Rattle.vhost_message.specs.declared.limits.TheConstants.{MAX_ATTACHED_FD_ENTRIES, MAX_MSG_SIZE};
+ghost use Rattle.vhost_protocol.specs.Written.{Payload, payload_text};
+
+use crate::endpoint::Endpoint;
+use crate::fault::break_on_fault;
+use vhost_link::Link;
+use vhost_message::{ByteValued, Error, Req, Result, VhostUserMsgHeader, VhostUserMsgValidator};
+
+impl<R: Req, L: Link> Endpoint<VhostUserMsgHeader<R>, L> {
+    ghost use Rattle.vhost_connection.specs.State.{state};
+    ghost use Rattle.vhost_connection.specs.Asking.{SendsRequest, RecvsReply, request_with, is_known_by};
+
+    /// Sends a request of this code and with these flags: a record, the bytes behind it, and the handles on the first byte.
+    /// Its header is what the reply is compared with. The list of handles for the reply is made first.
+    ///
+    /// OutOfMemory: the endpoint had given its list of handles away, and no memory for another was found; nothing was
+    /// written, and nothing changed.
+    pub fn send_request<T: ByteValued>(
+        &mut self,
+        code: R,
+        flags: u32,
+        body: &T,
+        payload: &[u8],
+        handles: &[&L::Handle],
+    ) -> Result<VhostUserMsgHeader<R>>
+        requires size { T.SIZE + length payload.now ≤ MAX_MSG_SIZE }
+        requires handles { length handles.now ≤ MAX_ATTACHED_FD_ENTRIES }
+        ensures { (p : Payload) → payload_text p ≡ T.text body.now ++ payload.now
+            → SendsRequest L.event R.number (request_with flags code p (map (λ h. h.now) handles.now)) (state self.old) result (state self.new) }
+    {
+        if self.make_list().is_err() {
+            return Err(Error::OutOfMemory);
+        }
+        let header = VhostUserMsgHeader::new(code, flags, (T::SIZE + payload.len()) as u32);
+        match self.send_message_with_payload(&header, body, payload, handles) {
+            Ok(()) => Ok(header),
+            Err(error) => Err(error),
+        }
+    }
+
+    /// Receives the reply for a request: the size that its header says, a record, how many bytes of payload lie in the room
+    /// now, and the handles. It stands between a request and the end of its answer: a fault breaks the endpoint.
+    ///
+    /// InvalidMessage: header or record are not valid, or what came is no reply for the request. PartialMessage: the
+    /// stream ended before the record did.
+    pub fn recv_reply<T: VhostUserMsgValidator + Drop>(
+        &mut self,
+        request: &VhostUserMsgHeader<R>,
+        room: &mut [u8],
+    ) -> Result<(u32, T, usize, Option<Vec<L::Handle>>)>
+        requires { T.SIZE ≤ MAX_MSG_SIZE }
+        ensures { RecvsReply L.event (is_known_by R.code) R.code T.SIZE T.read T.valid (state self.old) (fields_of request.now) room.old result room.new (state self.new) }
+    {
+        match self.recv_payload_into_buf::<T>(room) {
+            Ok((header, body, count, handles)) => {
+                if !header.is_reply_for(request) {
+                    return Err(Error::InvalidMessage);
+                }
+                Ok((header.get_size(), body, count, handles))
+            }
+            Err(error) => {
+                break_on_fault(self, &error);
+                Err(error)
+            }
+        }
+    }
+}

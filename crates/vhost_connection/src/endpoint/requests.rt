@@ -1,0 +1,101 @@
+//! Serving: a request comes in, and its reply goes out.
+
+ghost use Rattle.std.specs.Prelude.{◌≡◌, ◌≤◌, ◌+◌, ◌++◌, List, length, map, Ok, Some, true, false, is_some, ◌&&◌};
+ghost use Rattle.vhost_message.specs.declared.cause.IoCause.{IoCause};
+ghost use Rattle.vhost_message.specs.Header.{is_valid_header};
+ghost use Rattle.vhost_message.specs.MsgHeader.{fields_of};
+ghost use Rattle.vhost_message.specs.declared.limits.TheConstants.{MAX_ATTACHED_FD_ENTRIES, MAX_MSG_SIZE};
+
+use crate::endpoint::Endpoint;
+use crate::fault::break_on_fault;
+use crate::request::{Request, RequestCode};
+use vhost_link::Link;
+use vhost_message::{ByteValued, Error, Result, VhostUserMsgHeader, header_bit};
+
+/// The flag of a reply.
+const REPLY: u32 = 1 << header_bit::REPLY;
+
+impl<R: RequestCode, L: Link> Endpoint<VhostUserMsgHeader<R>, L> {
+    ghost use Rattle.std.specs.Prelude.{None, Err};
+    ghost use Rattle.vhost_message.specs.declared.error.Error.TheVariants.{SocketBroken};
+    ghost use Rattle.vhost_connection.specs.State.{state};
+    ghost use Rattle.vhost_connection.specs.Talk.{State};
+    ghost use Rattle.vhost_connection.specs.Calls.{ByOneCall};
+    ghost use Rattle.vhost_connection.specs.Requests.{ReadsRequest, RequestHead, ReadsBehind, Tells, reply_text};
+
+    /// Reads one request: its header and handles, and its body whole, however it is cut, to the front of `body`.
+    ///
+    /// Disconnected: the stream ended before the first byte. PartialMessage: it ended within the header. InvalidMessage:
+    /// the header is not valid, or its request may not come with these handles, and the body is unread; or the stream
+    /// ended within the body, or a byte of it brought handles. OutOfMemory: the endpoint had given its list of handles
+    /// away, and no memory for another was found; nothing was received.
+    pub fn recv_request(&mut self, body: &mut [u8]) -> Result<(Request<R>, Option<Vec<L::Handle>>)>
+        requires { MAX_MSG_SIZE ≤ length body.old }
+        ensures { ReadsRequest L.event R.code R.allowed (state self.old) result body.new (state self.new) }
+    {
+        let (header, front) = self.recv_head()?;
+        match self.recv_request_body(&header, front.list.as_slice().len(), body) {
+            Ok(request) => Ok((request, self.give(front.list))),
+            Err(error) => {
+                self.put_back(front.list);
+                Err(error)
+            }
+        }
+    }
+
+    /// Reads the body of a request, whose header came with so many handles.
+    fn recv_request_body(
+        &mut self,
+        header: &VhostUserMsgHeader<R>,
+        handles: usize,
+        body: &mut [u8],
+    ) -> Result<Request<R>>
+        requires room { MAX_MSG_SIZE ≤ length body.old }
+        requires valid { (is_some (R.code (fields_of header.now).code) && is_valid_header (fields_of header.now)) ≡ true }
+        ensures { (before : State L L.Handle) (hs : List L.Handle) → RequestHead L.event R.code before header.now hs (state self.old) → handles ≡ length hs
+            → ReadsBehind L.event R.code R.allowed before hs result body.new (state self.new) }
+    {
+        let code = header.get_code()?;
+        if !code.allows_handles(handles) {
+            return Err(Error::InvalidMessage);
+        }
+        let len = header.get_size() as usize;
+        if self.recv_rest_of_message(&mut body[..len])? < len {
+            return Err(Error::InvalidMessage);
+        }
+        Ok(Request {
+            code,
+            reply: header.is_reply(),
+            need_reply: header.is_need_reply(),
+            len,
+        })
+    }
+
+    /// Replies to a request of this code with a record and the bytes behind it, and with the handles on the first byte. It
+    /// stands between a request and the end of its answer: a fault, or one retry more than the budget, breaks the endpoint.
+    ///
+    /// SocketBroken: the endpoint was broken before; nothing was written.
+    pub fn reply<T: ByteValued>(
+        &mut self,
+        code: R,
+        body: &T,
+        payload: &[u8],
+        handles: &[&L::Handle],
+    ) -> Result<()>
+        requires size { T.SIZE + length payload.now ≤ MAX_MSG_SIZE }
+        requires handles { length handles.now ≤ MAX_ATTACHED_FD_ENTRIES }
+        ensures sends { (state self.old).broken ≡ None → Tells L.event (state self.old) (reply_text R.number code (map (λ h. h.now) handles.now) (T.text body.now ++ payload.now)) (Ok tt) result (state self.new) }
+        ensures once { L.takes_all (state self.old).link → ByOneCall L.event (state self.old) (reply_text R.number code (map (λ h. h.now) handles.now) (T.text body.now ++ payload.now)) result (state self.new) }
+        ensures broken { (c : IoCause) → (state self.old).broken ≡ Some c → (result ≡ Err (SocketBroken c)) × (state self.new ≡ record (state self.old) { faulted = false }) }
+        ensures fits { T.fits body.now }
+    {
+        let header = VhostUserMsgHeader::new(code, REPLY, (T::SIZE + payload.len()) as u32);
+        match self.send_message_with_payload(&header, body, payload, handles) {
+            Ok(()) => Ok(()),
+            Err(error) => {
+                break_on_fault(self, &error);
+                Err(error)
+            }
+        }
+    }
+}
