@@ -7,7 +7,7 @@ use crate::internal::BackendInternal;
 use std::alloc::{AllocError, Global};
 use std::sync::{Arc, Mutex, Wait};
 use vhost_link::Link;
-use vhost_message::{Error, Result};
+use vhost_message::{Error, HandlerResult, Result, VhostUserMMap, VhostUserSharedMsg};
 
 /// The channel from a device to its frontend, which the device is given by VHOST_USER_SET_BACKEND_REQ_FD. It can be
 /// shared: clones are the same channel.
@@ -30,6 +30,74 @@ impl<L: Link> Backend<L> {
             Ok(inner) => Ok(Backend { inner }),
             Err(_) => Err(Error::OutOfMemory),
         }
+    }
+
+    /// Whether requests are answered by a number.
+    pub fn set_reply_ack_flag(&self, rt: &impl Wait, on: bool) {
+        self.inner.lock(rt).set_reply_ack_flag(on);
+    }
+
+    /// Whether calls about shared objects are sent.
+    pub fn set_shared_object_flag(&self, rt: &impl Wait, on: bool) {
+        self.inner.lock(rt).set_shared_object_flag(on);
+    }
+
+    /// Whether calls about shared memory are sent.
+    pub fn set_shmem_flag(&self, rt: &impl Wait, on: bool) {
+        self.inner.lock(rt).set_shmem_flag(on);
+    }
+
+    /// Whether a change of the configuration is told.
+    pub fn set_config_change_flag(&self, rt: &impl Wait, on: bool) {
+        self.inner.lock(rt).set_config_change_flag(on);
+    }
+
+    /// `BackendInternal::handle_config_change` under the lock.
+    pub fn handle_config_change(&self, rt: &impl Wait) -> HandlerResult<u64> {
+        self.inner.lock(rt).handle_config_change()
+    }
+
+    /// `BackendInternal::shared_object_add` under the lock.
+    pub fn shared_object_add(
+        &self,
+        rt: &impl Wait,
+        name: &VhostUserSharedMsg,
+    ) -> HandlerResult<u64> {
+        self.inner.lock(rt).shared_object_add(name)
+    }
+
+    /// `BackendInternal::shared_object_remove` under the lock.
+    pub fn shared_object_remove(
+        &self,
+        rt: &impl Wait,
+        name: &VhostUserSharedMsg,
+    ) -> HandlerResult<u64> {
+        self.inner.lock(rt).shared_object_remove(name)
+    }
+
+    /// `BackendInternal::shared_object_lookup` under the lock.
+    pub fn shared_object_lookup(
+        &self,
+        rt: &impl Wait,
+        name: &VhostUserSharedMsg,
+        handle: &L::Handle,
+    ) -> HandlerResult<u64> {
+        self.inner.lock(rt).shared_object_lookup(name, handle)
+    }
+
+    /// `BackendInternal::shmem_map` under the lock.
+    pub fn shmem_map(
+        &self,
+        rt: &impl Wait,
+        mapping: &VhostUserMMap,
+        handle: &L::Handle,
+    ) -> HandlerResult<u64> {
+        self.inner.lock(rt).shmem_map(mapping, handle)
+    }
+
+    /// `BackendInternal::shmem_unmap` under the lock.
+    pub fn shmem_unmap(&self, rt: &impl Wait, mapping: &VhostUserMMap) -> HandlerResult<u64> {
+        self.inner.lock(rt).shmem_unmap(mapping)
     }
 
     /// Marks the channel as failed with the number of a system's error, also with 0: from now on each call answers it.

@@ -8,7 +8,7 @@ use vhost_connection::Endpoint;
 use vhost_link::Link;
 use vhost_message::{BackendReq, Result, VhostUserMsgHeader};
 
-type Header = VhostUserMsgHeader<BackendReq>;
+pub(crate) type Header = VhostUserMsgHeader<BackendReq>;
 
 /// One end of the channel from a device to its frontend: what both sides agreed on, and whether it was marked as
 /// failed. `Backend` holds it behind a lock.
@@ -16,11 +16,12 @@ type Header = VhostUserMsgHeader<BackendReq>;
 /// Mirrors `BackendInternal` of `vhost::vhost_user::backend_req`.
 #[derive(Drop)]
 pub struct BackendInternal<L: Link> {
-    endpoint: Endpoint<Header, L>,
-    reply_ack: bool,
-    shared_object: bool,
-    shmem: bool,
-    failed: Option<i32>,
+    pub(crate) endpoint: Endpoint<Header, L>,
+    pub(crate) reply_ack: bool,
+    pub(crate) shared_object: bool,
+    pub(crate) shmem: bool,
+    pub(crate) config_change: bool,
+    pub(crate) failed: Option<i32>,
 }
 
 impl<L: Link> BackendInternal<L> {
@@ -44,6 +45,7 @@ impl<L: Link> BackendInternal<L> {
             reply_ack: false,
             shared_object: false,
             shmem: false,
+            config_change: false,
             failed: None,
         })
     }
@@ -53,6 +55,34 @@ impl<L: Link> BackendInternal<L> {
         ensures { channel self.new ≡ record (channel self.old) { failed = Some error } }
     {
         self.failed = Some(error);
+    }
+
+    /// Whether requests are answered by a number.
+    pub fn set_reply_ack_flag(&mut self, on: bool)
+        ensures { channel self.new ≡ record (channel self.old) { reply_ack = on } }
+    {
+        self.reply_ack = on;
+    }
+
+    /// Whether calls about shared objects are sent.
+    pub fn set_shared_object_flag(&mut self, on: bool)
+        ensures { channel self.new ≡ record (channel self.old) { shared_object = on } }
+    {
+        self.shared_object = on;
+    }
+
+    /// Whether calls about shared memory are sent.
+    pub fn set_shmem_flag(&mut self, on: bool)
+        ensures { channel self.new ≡ record (channel self.old) { shmem = on } }
+    {
+        self.shmem = on;
+    }
+
+    /// Whether a change of the configuration is told.
+    pub fn set_config_change_flag(&mut self, on: bool)
+        ensures { channel self.new ≡ record (channel self.old) { config_change = on } }
+    {
+        self.config_change = on;
     }
 
     /// Lends its endpoint.

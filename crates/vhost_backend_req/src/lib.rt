@@ -1,6 +1,7 @@
 //! The channel from a device to its frontend.
 #![tactic(auto)]
 
+mod asking;
 mod backend;
 mod internal;
 

@@ -1,0 +1,74 @@
+-- What a call of the channel does, step by step.
+use Rattle.std.proofs.Common.{◌≡◌, ℕ, Bool, true, false, List, [], Option, Some, None, Result, Ok, Err, refl, sym, subst}
+use Rattle.vhost_message.specs.declared.cause.IoCause.TheVariants.{Raw}
+use Rattle.std.specs.Prelude.{ℤ, if◌then◌else◌, ◌==◌}
+use Rattle.vhost_message.specs.BackendReq.{backend_request_of}
+use Rattle.vhost_message.specs.declared.backend_req.BackendReq.{BackendReq}
+use Rattle.vhost_message.specs.declared.error.Error as declared
+use Rattle.vhost_message.specs.declared.error.Error.TheVariants as code
+use Rattle.vhost_message.specs.declared.io_error.IoError.{IoError}
+use Rattle.vhost_message.specs.declared.io_error.IoError.TheVariants.{Of}
+use Rattle.vhost_message.specs.Bits.{has_bit}
+use Rattle.vhost_message.specs.Header.{Header}
+use Rattle.vhost_message.specs.Records.{u64_at}
+use Rattle.vhost_protocol.specs.Stream.{Cell, has_some}
+use Rattle.vhost_protocol.specs.Error.{Error, seen}
+use Rattle.vhost_protocol.specs.IoError.{seen_io, seen_io_result}
+use Rattle.vhost_protocol.specs.ReplySplit.{Received, reply_split}
+use Rattle.vhost_protocol.specs.Reverse.{ReverseAsked, Backend, Refuses, Sends, sends_unless, reverse_understood, reverse_take}
+use Rattle.vhost_protocol.specs.Written.{Payload}
+use Rattle.vhost_link.specs.Law.{Event}
+use Rattle.vhost_connection.specs.Talk.{State}
+use Rattle.vhost_connection.specs.Asking.{request_with, is_known_by, Comes, Missing}
+use Rattle.vhost_connection.specs.Asking.Missing.{unfit, none, failed}
+use Rattle.vhost_connection.specs.Hearing.{Hears}
+use Rattle.vhost_connection.proofs.Replies.{hears-by}
+use Rattle.vhost_backend_req.specs.Asking as asking
+use Rattle.vhost_backend_req.specs.Asking.{RecvsNumber, AsksFor}
+use Rattle.vhost_backend_req.specs.Channel.{Channel}
+
+-- a number on the stream, with the header before it
+abbrev numbers : {H : Type 0} → List (Cell H) → Result (Received H) Error × List (Cell H)
+numbers cells = reply_split (is_known_by backend_request_of) 8 (λ bs. true) 0 cells
+
+-- what a call becomes, by the flags of its request
+pub sends-is : {H : Type 0} (b : Backend) (r : BackendReq) (p : Payload) (hs : List H) (flags : ℕ) (awaited : Bool) → has_bit flags 2 ≡ false → has_bit flags 3 ≡ b.reply_ack → b.reply_ack ≡ awaited
+    → sends_unless None b r p hs ≡ Sends (request_with flags r p hs) awaited
+sends-is b r p hs flags awaited no_reply need same = rw (no_reply, need, same) refl
+
+module _ {L H : Type 0} {event : L → Event H → L → Type 0} {old new : Channel L H} {result : Result ℕ IoError} where
+  -- what was agreed on is sent
+  pub agreed : {on : Bool} (asked not_agreed : ReverseAsked H) → on ≡ true → AsksFor event asked old result new → AsksFor event (if on then asked else not_agreed) old result new
+  agreed asked not_agreed is p = subst (λ (b : Bool). AsksFor event (if b then asked else not_agreed) old result new) (sym is) p
+
+  -- unless the channel was marked as failed
+  pub asks-unless : (mark : Option ℤ) (b : Backend) (r : BackendReq) (p : Payload) (hs : List H) → ((n : ℤ) → mark ≡ Some n → (result ≡ Err (Of (code.SocketBroken (Raw n)))) × (new ≡ old))
+      → (mark ≡ None → AsksFor event (sends_unless None b r p hs) old result new) → AsksFor event (sends_unless mark b r p hs) old result new
+  asks-unless (Some n) b r p hs stays sends =
+      let s = stays n refl in
+      subst (λ (x : Channel L H). AsksFor event (Refuses (seen_io (Of (code.SocketBroken (Raw n))))) old result x) (sym s.1)
+      (subst (λ (x : Result ℕ IoError). AsksFor event (Refuses (seen_io (Of (code.SocketBroken (Raw n))))) old x old) (sym s.0) (asking.refused refl, refl))
+  asks-unless None b r p hs stays sends = sends refl
+
+module _ {L H : Type 0} (event : L → Event H → L → Type 0) (sent : Header) (old new : State L H) where
+  number-heard : (o : Result (Received H) Error) {result : Result ℕ IoError} → Hears event numbers old o new → reverse_understood sent o ≡ seen_io_result result → RecvsNumber event sent old result new
+  number-heard o h e = asking.heard (subst (λ x. Hears event (reverse_take true sent) old x new) e (hears-by (λ r. reverse_understood sent r) o (λ cells. refl) h))
+
+  module _ (r : Received H) (x : Comes event (is_known_by backend_request_of) backend_request_of 8 (λ bs. true) 0 old sent r new) where
+    -- 0 came
+    pub number-zero : u64_at 0 r.body ≡ 0 → r.handles ≡ [] → RecvsNumber event sent old (Ok 0) new
+    number-zero zero none_came = number-heard (Ok r) x.hears (rw (x.answers, none_came, zero) refl)
+
+    -- another number came
+    pub number-other : (u64_at 0 r.body == 0) ≡ false → r.handles ≡ [] → RecvsNumber event sent old (Err (Of code.FrontendInternalError)) new
+    number-other some none_came = number-heard (Ok r) x.hears (rw (x.answers, none_came, some) refl)
+
+    -- it came with handles
+    pub number-crowded : has_some r.handles ≡ true → RecvsNumber event sent old (Err (Of code.InvalidMessage)) new
+    number-crowded many = number-heard (Ok r) x.hears (rw (x.answers, many) refl)
+
+  -- none came
+  pub number-missing : {e : declared.Error} → Missing event (is_known_by backend_request_of) backend_request_of 8 (λ bs. true) 0 old sent e new → RecvsNumber event sent old (Err (Of e)) new
+  number-missing (unfit r h bad) = number-heard (Ok r) h (rw bad refl)
+  number-missing {e} (none h) = number-heard (Err (seen e)) h refl
+  number-missing (failed f) = asking.stopped f

@@ -1,0 +1,173 @@
+//! What a device asks its frontend, and the frontend's answer.
+
+ghost use Rattle.std.specs.Prelude.{◌≡◌, ◌≤◌, [], ◌∷◌, length, map, false, ℤ};
+ghost use Rattle.vhost_message.specs.Bits.{has_bit};
+ghost use Rattle.vhost_message.specs.declared.header_bit.TheConstants.{NEED_REPLY, REPLY};
+ghost use Rattle.vhost_message.specs.MsgHeader.{fields_of};
+ghost use Rattle.vhost_message.specs.declared.limits.TheConstants.{MAX_ATTACHED_FD_ENTRIES, MAX_MSG_SIZE};
+ghost use Rattle.vhost_protocol.specs.Reverse.{HandleConfigChange, SharedObjectAdd, SharedObjectRemove, SharedObjectLookup, ShmemMap, ShmemUnmap, sends_unless, sends_object, sends_mapping};
+ghost use Rattle.vhost_protocol.specs.Written.{Payload, payload_text};
+
+use crate::internal::{BackendInternal, Header};
+use vhost_link::Link;
+use vhost_message::{
+    BackendReq, ByteValued, Error, HandlerResult, IoCause, IoError, VhostUserEmpty, VhostUserMMap,
+    VhostUserSharedMsg, VhostUserU64, header_bit,
+};
+
+impl<L: Link> BackendInternal<L> {
+    ghost use Rattle.vhost_backend_req.specs.Channel.{channel, backend_of};
+    ghost use Rattle.vhost_backend_req.specs.Asking.{AsksCall, AsksFor, RecvsNumber};
+    ghost use Rattle.vhost_connection.specs.State.{state};
+    ghost use Rattle.std.specs.Prelude.{None, Some, Err};
+    ghost use Rattle.vhost_message.specs.declared.io_error.IoError.TheVariants.{Of};
+    ghost use Rattle.vhost_message.specs.declared.error.Error.TheVariants.{SocketBroken};
+    ghost use Rattle.vhost_message.specs.declared.cause.IoCause.TheVariants.{Raw};
+
+    /// Tells the frontend that the configuration space has changed. The answer is that of the other calls.
+    ///
+    /// Raw(38): it was not agreed on; nothing was sent.
+    pub fn handle_config_change(&mut self) -> HandlerResult<u64>
+        ensures { AsksCall L.event HandleConfigChange (channel self.old) result (channel self.new) }
+    {
+        if !self.config_change {
+            return Err(IoError::Raw(38));
+        }
+        self.ask(BackendReq::CONFIG_CHANGE_MSG, &VhostUserEmpty, &[])
+    }
+
+    /// Adds a shared object by its name. The answer is 0; where none is awaited, it is given at once.
+    ///
+    /// Named: shared objects were not agreed on. Of(SocketBroken): the channel was marked as failed. Of(InvalidMessage): what came
+    /// is no answer. Of(FrontendInternalError): the frontend answered another number than 0. Of(OutOfMemory): the endpoint lacks
+    /// memory for a list of handles, and nothing was sent. Of: the link failed, or the stream ended.
+    pub fn shared_object_add(&mut self, name: &VhostUserSharedMsg) -> HandlerResult<u64>
+        ensures { AsksCall L.event (SharedObjectAdd name.now) (channel self.old) result (channel self.new) }
+    {
+        self.ask_object(BackendReq::SHARED_OBJECT_ADD, name, &[])
+    }
+
+    /// Removes a shared object. Answers and errors are those of `shared_object_add`.
+    pub fn shared_object_remove(&mut self, name: &VhostUserSharedMsg) -> HandlerResult<u64>
+        ensures { AsksCall L.event (SharedObjectRemove name.now) (channel self.old) result (channel self.new) }
+    {
+        self.ask_object(BackendReq::SHARED_OBJECT_REMOVE, name, &[])
+    }
+
+    /// Looks a shared object up by its name, and hands a handle over for it. Answers and errors are those of `shared_object_add`.
+    pub fn shared_object_lookup(
+        &mut self,
+        name: &VhostUserSharedMsg,
+        handle: &L::Handle,
+    ) -> HandlerResult<u64>
+        ensures { AsksCall L.event (SharedObjectLookup name.now handle.now) (channel self.old) result (channel self.new) }
+    {
+        self.ask_object(BackendReq::SHARED_OBJECT_LOOKUP, name, &[handle])
+    }
+
+    /// Maps memory of a file into a region of shared memory. Answers and errors are those of `shared_object_add`; Named where
+    /// shared memory was not agreed on.
+    pub fn shmem_map(&mut self, mapping: &VhostUserMMap, handle: &L::Handle) -> HandlerResult<u64>
+        ensures { AsksCall L.event (ShmemMap mapping.now handle.now) (channel self.old) result (channel self.new) }
+    {
+        self.ask_mapping(BackendReq::SHMEM_MAP, mapping, &[handle])
+    }
+
+    /// Takes a mapping back. Answers and errors are those of `shmem_map`.
+    pub fn shmem_unmap(&mut self, mapping: &VhostUserMMap) -> HandlerResult<u64>
+        ensures { AsksCall L.event (ShmemUnmap mapping.now) (channel self.old) result (channel self.new) }
+    {
+        self.ask_mapping(BackendReq::SHMEM_UNMAP, mapping, &[])
+    }
+
+    /// Asks about a shared object.
+    fn ask_object(
+        &mut self,
+        code: BackendReq,
+        name: &VhostUserSharedMsg,
+        handles: &[&L::Handle],
+    ) -> HandlerResult<u64>
+        requires { length handles.now ≤ MAX_ATTACHED_FD_ENTRIES }
+        ensures { AsksFor L.event (sends_object (backend_of (channel self.old)) code name.now (map (λ h. h.now) handles.now)) (channel self.old) result (channel self.new) }
+    {
+        if !self.shared_object {
+            return Err(IoError::Named("Shared Object feature not negotiated"));
+        }
+        self.ask(code, name, handles)
+    }
+
+    /// Asks about a mapping.
+    fn ask_mapping(
+        &mut self,
+        code: BackendReq,
+        mapping: &VhostUserMMap,
+        handles: &[&L::Handle],
+    ) -> HandlerResult<u64>
+        requires { length handles.now ≤ MAX_ATTACHED_FD_ENTRIES }
+        ensures { AsksFor L.event (sends_mapping (backend_of (channel self.old)) code mapping.now (map (λ h. h.now) handles.now)) (channel self.old) result (channel self.new) }
+    {
+        if !self.shmem {
+            return Err(IoError::Named("SHMEM feature not negotiated"));
+        }
+        self.ask(code, mapping, handles)
+    }
+
+    /// Asks, unless the channel was marked as failed, and takes the answer where one is awaited.
+    fn ask<T: ByteValued>(
+        &mut self,
+        code: BackendReq,
+        body: &T,
+        handles: &[&L::Handle],
+    ) -> HandlerResult<u64>
+        requires size { T.SIZE ≤ MAX_MSG_SIZE }
+        requires handles { length handles.now ≤ MAX_ATTACHED_FD_ENTRIES }
+        ensures marked { (n : ℤ) → (channel self.old).failed ≡ Some n → (result ≡ Err (Of (SocketBroken (Raw n)))) × (channel self.new ≡ channel self.old) }
+        ensures asked { (channel self.old).failed ≡ None → (p : Payload) → payload_text p ≡ T.text body.now
+            → AsksFor L.event (sends_unless None (backend_of (channel self.old)) code p (map (λ h. h.now) handles.now)) (channel self.old) result (channel self.new) }
+    {
+        if let Some(number) = self.failed {
+            return Err(IoError::Of(Error::SocketBroken(IoCause::Raw(number))));
+        }
+        let flags = flags_of(self.reply_ack);
+        match self.endpoint.send_request(code, flags, body, &[], handles) {
+            Ok(header) => {
+                if !self.reply_ack {
+                    return Ok(0);
+                }
+                self.recv_number(&header)
+            }
+            Err(error) => Err(IoError::Of(error)),
+        }
+    }
+
+    /// Receives the number that answers a request: 0 is success.
+    fn recv_number(&mut self, request: &Header) -> HandlerResult<u64>
+        ensures same { self.new ≡ record self.old { endpoint = self.new.endpoint } }
+        ensures received { RecvsNumber L.event (fields_of request.now) (state self.old.endpoint) result (state self.new.endpoint) }
+    {
+        match self.endpoint.recv_reply::<VhostUserU64>(request, &mut []) {
+            Ok((_, number, _, handles)) => {
+                if handles.is_some() {
+                    return Err(IoError::Of(Error::InvalidMessage));
+                }
+                if number.value != 0 {
+                    return Err(IoError::Of(Error::FrontendInternalError));
+                }
+                Ok(0)
+            }
+            Err(error) => Err(IoError::Of(error)),
+        }
+    }
+}
+
+/// The flags of a request that wants an answer, or wants none.
+fn flags_of(need_reply: bool) -> u32
+    ensures no_reply { has_bit result REPLY ≡ false }
+    ensures need_reply { has_bit result NEED_REPLY ≡ need_reply }
+{
+    if need_reply {
+        1 << header_bit::NEED_REPLY
+    } else {
+        0
+    }
+}
