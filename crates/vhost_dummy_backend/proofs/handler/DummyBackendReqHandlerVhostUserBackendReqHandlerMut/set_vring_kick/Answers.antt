@@ -1,0 +1,12 @@
+use Rattle.std.proofs.Common.{arith}
+use Rattle.vhost_dummy_backend.proofs.Rings.{within}
+use Rattle.vhost_dummy_backend.proofs.handler.DummyBackendReqHandlerVhostUserBackendReqHandlerMut.set_vring_kick.Goals as goal
+
+pub bounds-self-ring : goal.bounds-self-ring
+bounds-self-ring g c = let found = c.in_ok-ring.ensures.found in within _ _ _ found.0 found.1
+
+pub offset_bounds-self-ring : goal.offset_bounds-self-ring
+offset_bounds-self-ring g c = let found = c.in_ok-ring.ensures.found in omega (arith, within _ _ _ found.0 found.1)
+
+pub listed : goal.listed
+listed g c = let found = c.in_ok-ring.ensures.found in omega (arith, within _ _ _ found.0 found.1)
