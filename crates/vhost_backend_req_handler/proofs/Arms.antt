@@ -14,7 +14,9 @@ use Rattle.vhost_protocol.specs.Step.{Outcome, Refusal, Step, Refused, Calls, Op
 use Rattle.vhost_link.specs.Law.{Event}
 use Rattle.vhost_connection.specs.Talk.{State}
 use Rattle.vhost_backend_req_handler.specs.Serving as serving
-use Rattle.vhost_backend_req_handler.specs.Serving.{IsReady, Tells, Answers, tested, reply_cells, kept_unsent}
+use Rattle.vhost_connection.specs.Requests as requests
+use Rattle.vhost_backend_req_handler.specs.Serving.{Answers, tested, reply_cells, kept_unsent}
+use Rattle.vhost_connection.specs.Requests.{IsReady, Tells}
 use Rattle.vhost_backend_req_handler.proofs.Telling.{none-sent}
 
 -- a test by another name
@@ -61,14 +63,14 @@ module _ {L H B G Dev : Type 0} {event : L → Event H → L → Type 0} {gives 
   -- nothing is left but a refusal that is acknowledged
   pub refused_aloud : {old new : State L H} {s s' : Session} {d : Dev} (m : Message FrontendReq H) {result : Result ⊤ declared.Error} (e : Error)
       → Tells event old (reply_cells r (ack_back s m false)) (Err e) result new → s' ≡ s → s' ≡ kept_unsent r s s → Answers event gives opens_backend opens_gpu r (Refused (acknowledged s m e)) old s d result new s' d
-  refused_aloud {s = s} m e (serving.whole is p) same kept = serving.answered (record {
+  refused_aloud {s = s} m e (requests.whole is p) same kept = serving.answered (record {
     outcome = record { answer = Err e; served = ack_back s m false; session = s };
     follows = (refl, refl);
     is_answer = sym is;
     replies = p;
     session = same;
   })
-  refused_aloud {s = s} m e (serving.stopped p) same kept = serving.interrupted (record {
+  refused_aloud {s = s} m e (requests.stopped p) same kept = serving.interrupted (record {
     outcome = record { answer = Err e; served = ack_back s m false; session = s };
     follows = (refl, refl);
     stops = p;
@@ -102,8 +104,8 @@ module _ {L H B G Dev : Type 0} {event : L → Event H → L → Type 0} {gives 
   pub called : {c : Call H B G} {next : Answer c → Outcome H} {old new : State L H} {s s' : Session} {d d' : Dev} {result : Result ⊤ declared.Error} (a : Answer c) → gives d c a d' → AnswerFits c a
       → Tells event old (reply_cells r (next a).served) (next a).answer result new → s' ≡ (next a).session → s' ≡ kept_unsent r s (next a).session
       → Answers event gives opens_backend opens_gpu r (Calls c next) old s d result new s' d'
-  called {next = next} a gave fits (serving.whole is p) after kept = serving.answered (record { outcome = next a; follows = (a, (gave, fits), refl); is_answer = sym is; replies = p; session = after })
-  called {next = next} a gave fits (serving.stopped p) after kept = serving.interrupted (record { outcome = next a; follows = (a, (gave, fits), refl); stops = p; session = kept })
+  called {next = next} a gave fits (requests.whole is p) after kept = serving.answered (record { outcome = next a; follows = (a, (gave, fits), refl); is_answer = sym is; replies = p; session = after })
+  called {next = next} a gave fits (requests.stopped p) after kept = serving.interrupted (record { outcome = next a; follows = (a, (gave, fits), refl); stops = p; session = kept })
 
   -- the device refused, and its peer is told nothing
   pub unanswered : {c : Call H B G} {next : Answer c → Outcome H} {old : State L H} {s : Session} {d d' : Dev} (a : Answer c) (e : declared.Error) → gives d c a d' → AnswerFits c a
@@ -121,13 +123,13 @@ module _ {L H B G Dev : Type 0} {event : L → Event H → L → Type 0} {gives 
   pub stops : {c : Call H B G} {next : Answer c → Outcome H} {old new : State L H} {s s' : Session} {d d' : Dev} {e : declared.Error} (a : Answer c) → gives d c a d' → AnswerFits c a
       → Tells event old (reply_cells r (next a).served) (Ok tt) (Err e) new → s' ≡ kept_unsent r s (next a).session
       → Answers event gives opens_backend opens_gpu r (Calls c next) old s d (Err e) new s' d'
-  stops a gave fits (serving.whole is p) kept = absurd (cc is)
-  stops {next = next} a gave fits (serving.stopped p) kept = serving.interrupted (record { outcome = next a; follows = (a, (gave, fits), refl); stops = p; session = kept })
+  stops a gave fits (requests.whole is p) kept = absurd (cc is)
+  stops {next = next} a gave fits (requests.stopped p) kept = serving.interrupted (record { outcome = next a; follows = (a, (gave, fits), refl); stops = p; session = kept })
 
   pub goes : {c : Call H B G} {next : Answer c → Outcome H} {old new : State L H} {s s' : Session} {d d' : Dev} (a : Answer c) → gives d c a d' → AnswerFits c a
       → Tells event old (reply_cells r (next a).served) (next a).answer (Ok tt) new → s' ≡ (next a).session
       → Answers event gives opens_backend opens_gpu r (Calls c next) old s d (Ok tt) new s' d'
-  goes {next = next} a gave fits (serving.whole is p) after = serving.answered (record { outcome = next a; follows = (a, (gave, fits), refl); is_answer = sym is; replies = p; session = after })
+  goes {next = next} a gave fits (requests.whole is p) after = serving.answered (record { outcome = next a; follows = (a, (gave, fits), refl); is_answer = sym is; replies = p; session = after })
 
   -- the device answered, and its answer stays unwritten
   pub answered_plainly : {c : Call H B G} {next : Answer c → Outcome H} {old : State L H} {s : Session} {d d' : Dev} (a : Answer c) {result : Result ⊤ declared.Error} → gives d c a d' → AnswerFits c a

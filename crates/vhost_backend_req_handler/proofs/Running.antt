@@ -18,6 +18,7 @@ use Rattle.vhost_link.specs.Law.Moved.{still}
 use Rattle.vhost_connection.specs.Talk.{State, Talks}
 use Rattle.vhost_connection.proofs.Talking.{Talks-then}
 use Rattle.vhost_backend_req_handler.specs.Serving.{fitting, HandlesOne, Handled, Breaks}
+use Rattle.vhost_backend_req_handler.proofs.Handling.{as-entry}
 use Rattle.vhost_backend_req_handler.specs.Running.{CallsUnless, CallsOnce, CallsMany, WholeRun, BrokenRun, RunsMany, Runs}
 
 module _ {L H B G Dev : Type 0} (event : L → Event H → L → Type 0) (gives : Dev → (c : Call H B G) → Answer c → Dev → Type 0)
@@ -38,15 +39,17 @@ module _ {L H B G Dev : Type 0} (event : L → Event H → L → Type 0) (gives 
   calls-more old mid new s t s' d between d' (x ∷ answers) answer (m, u, e, first, rest) p =
       (m, u, e, first, calls-more m mid new u t s' e between d' answers answer rest p)
 
-  -- what one call is, if it is an entry of a run
+  -- what one call is, if it is an entry of a run: also that of a session which is marked as failed
   record Entry (old : State L H) (s : Session) (d : Dev) (answer : Result ⊤ declared.Error) (new : State L H) (s' : Session) (d' : Dev) : Type 0 where
     move : Move H
     talks : Talks event old move new
     failures : move.failures ≡ 0
     handles : HandlesRequest (fitting gives) opens_backend opens_gpu s d move.handed (seen_result answer) move.taken s' d'
 
-  of-handled : (old new : State L H) (s s' : Session) (d d' : Dev) (answer : Result ⊤ declared.Error) → Handled event gives opens_backend opens_gpu old s d (seen_result answer) new s' d' → Entry old s d answer new s' d'
-  of-handled old new s s' d d' answer h = record { move = h.move; talks = h.talks; failures = h.failures; handles = h.handles }
+  of-handled : (old new : State L H) (s s' : Session) (d d' : Dev) (answer : Result ⊤ declared.Error) → s.failed ≡ None → Handled event gives opens_backend opens_gpu old s d (seen_result answer) new s' d' → Entry old s d answer new s' d'
+  of-handled old new s s' d d' answer alive h =
+      let e = as-entry event gives opens_backend opens_gpu alive h in
+      record { move = e.move; talks = e.talks; failures = e.failures; handles = e.handles }
 
   quiet : (old : State L H) → Talks event old nothing old
   quiet old = record { below = nothing; moved = still; handed = append-nil (items old.ahead); taken = refl; retries = refl; failures = refl; budget = refl }
@@ -96,8 +99,8 @@ module _ {L H B G Dev : Type 0} (event : L → Event H → L → Type 0) (gives 
       } in
       inl (subst (λ (x : Dev). Entry old s d answer new s' x) (sym kept) (subst (λ (x : Session). Entry old s d answer new x d) (sym same)
       (subst (λ (x : State L H). Entry old s d answer x s d) (sym at) (subst (λ (x : Result ⊤ declared.Error). Entry old s d x old s d) (sym is) entry))))
-  judged old new s s' d d' (Ok u) None marked p = inl (of-handled old new s s' d d' (Ok u) p)
-  judged old new s s' d d' (Err e) None marked (inl p) = inl (of-handled old new s s' d d' (Err e) p)
+  judged old new s s' d d' (Ok u) None marked p = inl (of-handled old new s s' d d' (Ok u) marked p)
+  judged old new s s' d d' (Err e) None marked (inl p) = inl (of-handled old new s s' d d' (Err e) marked p)
   judged old new s s' d d' (Err e) None marked (inr p) = inr (e, refl, p)
 
   -- many calls are a whole run, unless one failed
@@ -150,7 +153,7 @@ module _ {L H B G Dev : Type 0} (event : L → Event H → L → Type 0) (gives 
 
   pub ran-all : (old new : State L H) (s s' : Session) (d d' : Dev) (n : ℕ) (before after : List (Result ⊤ declared.Error)) → Ran old s d n before after new s' d'
       → Runs event gives opens_backend opens_gpu old s d n before after new s' d'
-  ran-all old new s s' d d' n before after r = record { answers = r.answers; count = r.count; appended = r.grown; runs = calls-run old new s s' d d' r.answers r.calls }
+  ran-all old new s s' d d' n before after r = record { answers = r.answers; count = r.count; appended = r.grown; calls = r.calls; runs = calls-run old new s s' d d' r.answers r.calls }
 
   -- one call, by what it does to a marked session and to another
   pub calls-once : (old new : State L H) (s s' : Session) (d d' : Dev) (answer : Result ⊤ declared.Error)

@@ -12,11 +12,11 @@ use Rattle.vhost_protocol.specs.Run as run
 use Rattle.vhost_protocol.specs.Session.{Session}
 use Rattle.vhost_protocol.specs.Split.{Message}
 use Rattle.vhost_protocol.specs.Step.{Outcome, Step, Refused, Calls, OpensBackend, OpensGpu}
-use Rattle.vhost_protocol.specs.Stream.{Cell, Item}
+use Rattle.vhost_protocol.specs.Stream.{Cell}
 use Rattle.vhost_link.specs.Law.{Event}
 use Rattle.vhost_connection.specs.Talk.{State}
 use Rattle.vhost_backend_req_handler.specs.Serving as serving
-use Rattle.vhost_backend_req_handler.specs.Serving.{fitting, Interrupted, Handled, Remains, Breaks, HandlesOne}
+use Rattle.vhost_backend_req_handler.specs.Serving.{fitting, Interrupted, Handled, Breaks, HandlesOne}
 use Rattle.vhost_backend_req_handler.specs.Running.{CallsUnless, CallsOnce}
 use Rattle.vhost_backend_req_handler.specs.Sharing.{any_answer}
 
@@ -36,35 +36,23 @@ module _ {L H B G Dev : Type 0} (event : L → Event H → L → Type 0) (gives 
   handles-any s s' d d' (Err e) answer written p = (p.0, p.1, p.2, refl)
   handles-any s s' d d' (Ok m) answer written p = (p.0, follows-any s d d' p.0 _ p.1, p.2, p.3, p.4)
 
-  serves-any : (s s' : Session) (d d' : Dev) (mark : Option ℤ) (input : List (Item H)) (answer : Result ⊤ Error) (written : List (Cell H))
-      → run.ServesUnless request_of allows_handles (λ (t : Session). t.failed) (MeetsRow (fitting gives) opens_backend opens_gpu) mark s d input answer written s' d'
-      → run.ServesUnless request_of allows_handles (λ (t : Session). t.failed) (MeetsRow (fitting any_answer) opens_backend opens_gpu) mark s tt input answer written s' tt
-  serves-any s s' d d' (Some n) input answer written (none, p) = (none, (p.0, p.1, p.2, refl))
-  serves-any s s' d d' None input answer written (outcome, hears, p) = (outcome, hears, handles-any s s' d d' outcome answer written p)
-
   handled-any : (old new : State L H) (s s' : Session) (d d' : Dev) (answer : Result ⊤ Error) → Handled event gives opens_backend opens_gpu old s d answer new s' d'
       → Handled event any_answer opens_backend opens_gpu old s tt answer new s' tt
-  handled-any old new s s' d d' answer h = record {
-    move = h.move;
-    talks = h.talks;
-    failures = h.failures;
-    after = h.after;
-    faulted = h.faulted;
-    handles = serves-any s s' d d' s.failed h.move.handed answer h.move.taken h.handles;
-  }
+  handled-any old new s s' d d' answer h =
+      record { heard = h.heard; mid = h.mid; hears = h.hears; written = h.written; replies = h.replies; handles = handles-any s s' d d' h.heard answer h.written h.handles; list = h.list }
 
   -- a call that failed
-  remains-any : (old new : State L H) (s s' : Session) (d d' : Dev) (e : declared.Error) → Remains event gives opens_backend opens_gpu old s d e new s' d'
-      → Remains event any_answer opens_backend opens_gpu old s tt e new s' tt
-  remains-any old new s s' d d' e (serving.unread same kept) = serving.unread same refl
-  remains-any old new s s' d d' e (serving.unanswered m mid heard p) =
+  breaks-any : (old new : State L H) (s s' : Session) (d d' : Dev) (e : declared.Error) → Breaks event gives opens_backend opens_gpu old s d e new s' d'
+      → Breaks event any_answer opens_backend opens_gpu old s tt e new s' tt
+  breaks-any old new s s' d d' e (serving.unread p same kept) = serving.unread p same refl
+  breaks-any old new s s' d d' e (serving.unanswered m mid heard p) =
       serving.unanswered m mid heard (record { outcome = p.outcome; follows = follows-any s d d' p.outcome _ p.follows; stops = p.stops; session = p.session })
 
   one-any : (old new : State L H) (s s' : Session) (d d' : Dev) (result : Result ⊤ declared.Error) → HandlesOne event gives opens_backend opens_gpu old s d result new s' d'
       → HandlesOne event any_answer opens_backend opens_gpu old s tt result new s' tt
   one-any old new s s' d d' (Ok u) h = handled-any old new s s' d d' (Ok tt) h
   one-any old new s s' d d' (Err e) (inl h) = inl (handled-any old new s s' d d' (Err (seen e)) h)
-  one-any old new s s' d d' (Err e) (inr b) = inr (record { fails = b.fails; remains = remains-any old new s s' d d' e b.remains })
+  one-any old new s s' d d' (Err e) (inr b) = inr (breaks-any old new s s' d d' e b)
 
   unless-any : (old new : State L H) (s s' : Session) (d d' : Dev) (mark : Option ℤ) (result : Result ⊤ declared.Error) → CallsUnless event gives opens_backend opens_gpu mark old s d result new s' d'
       → CallsUnless event any_answer opens_backend opens_gpu mark old s tt result new s' tt

@@ -16,10 +16,11 @@ use Rattle.vhost_connection.specs.declared.endpoint.Endpoint.{Endpoint}
 use Rattle.vhost_connection.specs.State.{state}
 use Rattle.vhost_connection.specs.Talk.{State}
 use Rattle.vhost_connection.specs.Calls.{HandsOver}
-use Rattle.vhost_backend_req_handler.specs.declared.request.Request.{Request}
+use Rattle.vhost_connection.specs.declared.request.Request.{Request}
 use Rattle.vhost_backend_req_handler.specs.declared.session_core.SessionCore.{SessionCore}
 use Rattle.vhost_backend_req_handler.specs.Opening.{OpensAs}
-use Rattle.vhost_backend_req_handler.specs.Serving.{Reads, IsReady, Answers}
+use Rattle.vhost_backend_req_handler.specs.Serving.{Answers}
+use Rattle.vhost_connection.specs.Requests.{Reads, IsReady}
 use Rattle.vhost_backend_req_handler.specs.Session.{session_of}
 
 -- its endpoint
@@ -37,19 +38,19 @@ with_endpoint c endpoint = record c { endpoint = endpoint }
 module _ {L H B G Dev : Type 0} (event : L → Event H → L → Type 0) (opens : L → H → Result L IoCause → Type 0) (kinds : H → Result Kind IoCause → Type 0)
     (gives : Dev → (c : Call H B G) → Answer c → Dev → Type 0) where
   -- An arm meets the rest of a row: of the message that the request is, over an endpoint that can reply.
-  abbrev pub MeetsStep : (Session → Message FrontendReq H → Step H B G) → FrontendReq → SessionCore L H → Dev → Request → Result ⊤ declared.Error → SessionCore L H → Dev → Type 0
+  abbrev pub MeetsStep : (Session → Message FrontendReq H → Step H B G) → FrontendReq → SessionCore L H → Dev → Request FrontendReq → Result ⊤ declared.Error → SessionCore L H → Dev → Type 0
   MeetsStep step r old d request result new d' = (m : Message FrontendReq H) → Reads old.body request m → request.code ≡ r → IsReady (endpoint_of old)
       → Answers event gives (λ h o. OpensAs opens kinds h o) (λ h o. OpensAs opens kinds h o) r (step (session_in old) m) (endpoint_of old) (session_in old) d result (endpoint_of new) (session_in new) d'
 
   -- The same where it is given the handles of the message.
-  abbrev pub MeetsStepWith : (Session → Message FrontendReq H → Step H B G) → FrontendReq → SessionCore L H → Dev → Request → Option (Vec H Global) → Result ⊤ declared.Error → SessionCore L H → Dev → Type 0
+  abbrev pub MeetsStepWith : (Session → Message FrontendReq H → Step H B G) → FrontendReq → SessionCore L H → Dev → Request FrontendReq → Option (Vec H Global) → Result ⊤ declared.Error → SessionCore L H → Dev → Type 0
   MeetsStepWith step r old d request handles result new d' = (m : Message FrontendReq H) → Reads old.body request m → HandsOver handles m.handles → request.code ≡ r → IsReady (endpoint_of old)
       → Answers event gives (λ h o. OpensAs opens kinds h o) (λ h o. OpensAs opens kinds h o) r (step (session_in old) m) (endpoint_of old) (session_in old) d result (endpoint_of new) (session_in new) d'
 
   -- An arm meets the row of its code.
-  abbrev pub MeetsRow : FrontendReq → SessionCore L H → Dev → Request → Result ⊤ declared.Error → SessionCore L H → Dev → Type 0
+  abbrev pub MeetsRow : FrontendReq → SessionCore L H → Dev → Request FrontendReq → Result ⊤ declared.Error → SessionCore L H → Dev → Type 0
   MeetsRow r = MeetsStep (row_of r) r
 
   -- The same where it is given the handles of the message.
-  abbrev pub MeetsRowWith : FrontendReq → SessionCore L H → Dev → Request → Option (Vec H Global) → Result ⊤ declared.Error → SessionCore L H → Dev → Type 0
+  abbrev pub MeetsRowWith : FrontendReq → SessionCore L H → Dev → Request FrontendReq → Option (Vec H Global) → Result ⊤ declared.Error → SessionCore L H → Dev → Type 0
   MeetsRowWith r = MeetsStepWith (row_of r) r

@@ -55,9 +55,10 @@ module _ {L H B G Dev : Type 0} (event : L → Event H → L → Type 0) (gives 
   abbrev pub RunsMany : State L H → Session → Dev → List (Result ⊤ declared.Error) → State L H → Session → Dev → Type 0
   RunsMany old s d answers new s' d' = WholeRun old s d answers new s' d' ⊎ BrokenRun old s d answers new s' d'
 
-  -- So many calls, and their answers behind others.
+  -- So many calls, each by what it does, and their answers behind others: a run.
   pub record Runs (old : State L H) (s : Session) (d : Dev) (n : ℕ) (before after : List (Result ⊤ declared.Error)) (new : State L H) (s' : Session) (d' : Dev) : Type 0 where
     pub answers : List (Result ⊤ declared.Error)
     pub count : length answers ≡ n
     pub appended : after ≡ before ++ answers
+    pub calls : CallsMany old s d answers new s' d'
     pub runs : RunsMany old s d answers new s' d'

@@ -1,44 +1,25 @@
 -- What a handler does with a request.
-use Rattle.std.specs.Prelude.{◌≡◌, ℕ, ◌≤◌, List, take, length, Some, None, Option, true, false, ◌⊎◌, IsTrue, Result, Ok, Err, Vec, ⊤}
-use Rattle.std.specs.Global.{Global}
-use Rattle.vhost_message.specs.declared.cause.IoCause.{IoCause}
-use Rattle.vhost_message.specs.Cause.{is_retry, error_of}
+use Rattle.std.specs.Prelude.{◌≡◌, List, Bool, true, not, ◌⊎◌, Result, Ok, Err, ⊤}
 use Rattle.vhost_message.specs.declared.error.Error as declared
 use Rattle.vhost_message.specs.declared.frontend_req.FrontendReq.{FrontendReq}
 use Rattle.vhost_message.specs.declared.frontend_req.FrontendReq.TheVariants.{GET_FEATURES}
 use Rattle.vhost_message.specs.FrontendReq.{request_of, request_number}
-use Rattle.vhost_message.specs.declared.limits.TheConstants.{MAX_MSG_TEXT}
-use Rattle.vhost_protocol.specs.Stream.{Cell}
+use Rattle.vhost_protocol.specs.Stream.{Cell, has_some}
 use Rattle.vhost_protocol.specs.Error.{Error, seen, seen_result}
 use Rattle.vhost_protocol.specs.Codes.{allows_handles}
 use Rattle.vhost_protocol.specs.Split.{Message, split}
 use Rattle.vhost_protocol.specs.Session.{Session}
 use Rattle.vhost_protocol.specs.DeviceCall.{Call, Answer}
-use Rattle.vhost_protocol.specs.Handler.{Follows, HandlesRequest}
+use Rattle.vhost_protocol.specs.Handler.{Follows, MeetsRow}
 use Rattle.vhost_protocol.specs.Heard.{AnswerFits}
 use Rattle.vhost_protocol.specs.Row.{row_of}
+use Rattle.vhost_protocol.specs.Run as run
 use Rattle.vhost_protocol.specs.Served.{Served, reply, cells_of}
 use Rattle.vhost_protocol.specs.Step.{Outcome, Refusal, Step, ◌>>=◌, silently}
-use Rattle.vhost_link.specs.Law.{Event, Move, ◌then◌, refused}
-use Rattle.vhost_connection.specs.Pass.{sends}
-use Rattle.vhost_connection.specs.Talk as endpoint
-use Rattle.vhost_connection.specs.Talk.{State, Talks}
-use Rattle.vhost_connection.specs.Calls.{HandsOver}
-use Rattle.vhost_connection.specs.Hearing.{Hears, Fails}
-use Rattle.vhost_backend_req_handler.specs.declared.request.Request.{Request}
-
--- The request in the code's form, with its body at the front of these bytes, is this message.
-pub record Reads {H : Type 0} (bytes : List ℕ) (request : Request) (m : Message FrontendReq H) : Type 0 where
-  pub code : request.code ≡ m.request
-  pub reply : request.reply ≡ m.reply
-  pub need_reply : request.need_reply ≡ m.need_reply
-  pub len : request.len ≡ length m.body
-  pub body : take request.len bytes ≡ m.body
-
--- one request is read, with its handles, or why not
-abbrev pub ReadsRequest : {L H : Type 0} → (L → Event H → L → Type 0) → State L H → Result (Request × Option (Vec H Global)) declared.Error → List ℕ → State L H → Type 0
-ReadsRequest {H} event old (Ok x) bytes new = (m : Message FrontendReq H) × Reads bytes x.0 m × HandsOver x.1 m.handles × Hears event (split request_of allows_handles) old (Ok m) new
-ReadsRequest event old (Err e) bytes new = Hears event (split request_of allows_handles) old (Err (seen e)) new ⊎ Fails event old false e new
+use Rattle.vhost_link.specs.Law.{Event}
+use Rattle.vhost_connection.specs.Talk.{State}
+use Rattle.vhost_connection.specs.Hearing.{Hears}
+use Rattle.vhost_connection.specs.Requests.{ReadsInPart, Replies, Stops}
 
 -- ---- tests
 
@@ -57,34 +38,6 @@ goes_on result next = tested result >>= next
 abbrev pub reply_cells : {H : Type 0} → FrontendReq → Served H → List (Cell H)
 reply_cells r served = cells_of request_number (reply r served)
 
--- the endpoint has read a message, and can reply to it
-pub record IsReady {L H : Type 0} (endpoint : State L H) : Type 0 where
-  pub broken : endpoint.broken ≡ None
-  pub faulted : endpoint.faulted ≡ false
-
--- the cells went out, all of them
-pub record Replies {L H : Type 0} (event : L → Event H → L → Type 0) (old : State L H) (cells : List (Cell H)) (new : State L H) : Type 0 where
-  pub retries : ℕ
-  pub serves : endpoint.Serves event old old.budget (sends cells retries) new
-
--- A fault stopped them, and this broke the endpoint.
-pub record Stops {L H : Type 0} (event : L → Event H → L → Type 0) (old : State L H) (cells : List (Cell H)) (e : declared.Error) (new : State L H) : Type 0 where
-  pub cause : IoCause
-  pub error : e ≡ error_of cause
-  -- so many had gone out, after so many retries
-  pub count : ℕ
-  pub retries : ℕ
-  pub talks : Talks event old (sends (take count cells) retries then refused cause) new
-  pub spent : IsTrue (is_retry cause) → retries ≡ old.budget
-  pub few : length cells ≤ MAX_MSG_TEXT
-  pub broken : new.broken ≡ Some cause
-  pub faulted : new.faulted ≡ true
-
--- A handler lets its peer know of its answer, and gives that as the result; or a fault stops it.
-pub data Tells {L H : Type 0} (event : L → Event H → L → Type 0) (old : State L H) (cells : List (Cell H)) (answer : Result ⊤ Error) : Result ⊤ declared.Error → State L H → Type 0 where
-  whole : {result : Result ⊤ declared.Error} {new : State L H} → answer ≡ seen_result result → Replies event old cells new → Tells event old cells answer result new
-  stopped : {e : declared.Error} {new : State L H} → Stops event old cells e new → Tells event old cells answer (Err e) new
-
 -- ---- the device
 
 -- a device's relation, over answers that their types can hold
@@ -92,6 +45,11 @@ abbrev pub fitting : {H B G Dev : Type 0} → (Dev → (c : Call H B G) → Answ
 fitting gives d c a d' = gives d c a d' × AnswerFits c a
 
 -- ---- rows
+
+-- whether the endpoint has its list of handles after what was heard
+abbrev pub keeps_list : {H : Type 0} → Result (Message FrontendReq H) Error → Bool
+keeps_list (Ok m) = not (has_some m.handles)
+keeps_list (Err e) = true
 
 -- what stays of a session where the reply was stopped: the offered features are remembered once they are sent
 abbrev pub kept_unsent : FrontendReq → Session → Session → Session
@@ -122,25 +80,21 @@ module _ {L H B G Dev : Type 0} (event : L → Event H → L → Type 0) (gives 
 
   -- ---- a whole call
 
-  -- One request was read and served: what was received and written is one entry of a run.
+  -- One request was read, or the stream has none there, and then what its row says went out: one entry of a run. The endpoint has given its list of handles away only where there were some.
   pub record Handled (old : State L H) (s : Session) (d : Dev) (answer : Result ⊤ Error) (new : State L H) (s' : Session) (d' : Dev) : Type 0 where
-    pub move : Move H
-    pub talks : Talks event old move new
-    pub failures : move.failures ≡ 0
-    pub after : new.broken ≡ None
-    pub faulted : new.faulted ≡ false
-    pub handles : HandlesRequest (fitting gives) opens_backend opens_gpu s d move.handed answer move.taken s' d'
+    pub heard : Result (Message FrontendReq H) Error
+    pub mid : State L H
+    pub hears : Hears event (split request_of allows_handles) old heard mid
+    pub written : List (Cell H)
+    pub replies : Replies event mid written new
+    pub handles : run.Handles request_of allows_handles (λ (t : Session). t.failed) (MeetsRow (fitting gives) opens_backend opens_gpu) s d heard answer written s' d'
+    pub list : new.list ≡ keeps_list heard
 
-  -- What remains after a call that failed: a fault while the request was read changed nothing, and one in the reply left what its row says of session and device.
-  pub data Remains (old : State L H) (s : Session) (d : Dev) (e : declared.Error) (new : State L H) (s' : Session) (d' : Dev) : Type 0 where
-    unread : s' ≡ s → d' ≡ d → Remains old s d e new s' d'
+  -- One request was not served. There was trouble before a whole message was read, and session and device are as they were; or a fault stopped its reply, and they are as its row says.
+  pub data Breaks (old : State L H) (s : Session) (d : Dev) (e : declared.Error) (new : State L H) (s' : Session) (d' : Dev) : Type 0 where
+    unread : ReadsInPart event request_of allows_handles old e new → s' ≡ s → d' ≡ d → Breaks old s d e new s' d'
     unanswered : (m : Message FrontendReq H) (mid : State L H) → Hears event (split request_of allows_handles) old (Ok m) mid
-        → Interrupted m.request (row_of m.request s m) mid s d e new s' d' → Remains old s d e new s' d'
-
-  -- One request was not served.
-  pub record Breaks (old : State L H) (s : Session) (d : Dev) (e : declared.Error) (new : State L H) (s' : Session) (d' : Dev) : Type 0 where
-    pub fails : Fails event old false e new
-    pub remains : Remains old s d e new s' d'
+        → Interrupted m.request (row_of m.request s m) mid s d e new s' d' → Breaks old s d e new s' d'
 
   -- one call of the handler
   abbrev pub HandlesOne : State L H → Session → Dev → Result ⊤ declared.Error → State L H → Session → Dev → Type 0

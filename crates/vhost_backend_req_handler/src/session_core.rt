@@ -1,11 +1,11 @@
 //! The session of a handler over any link.
 
-ghost use Rattle.std.specs.Prelude.{◌≡◌, Some, None, Err, ℤ, IfOk, IfErr};
+ghost use Rattle.std.specs.Prelude.{◌≡◌, ◌+◌, ◌<◌, Some, None, Err, ℤ, IfOk, IfErr, vec_len, vec_capacity};
 ghost use Rattle.vhost_message.specs.declared.cause.IoCause.TheVariants.{Raw};
 ghost use Rattle.vhost_message.specs.declared.error.Error.TheVariants.{SocketBroken, OutOfMemory};
 ghost use Rattle.vhost_protocol.specs.Session.{fresh as new_session};
 
-use crate::request::{Request, are_wanted, keep};
+use crate::request::Request;
 use crate::session::Session;
 use std::alloc::Global;
 use vhost_connection::Endpoint;
@@ -55,7 +55,7 @@ impl<L: Link> SessionCore<L> {
     ghost use Rattle.vhost_message.specs.contracts.frontend_req.FrontendReq.{the_row as code_row};
     ghost use Rattle.vhost_backend_req_handler.specs.Opening.{OpensAs};
     ghost use Rattle.vhost_backend_req_handler.specs.Running.{Runs};
-    ghost use Rattle.vhost_backend_req_handler.specs.Serving.{HandlesOne, ReadsRequest};
+    ghost use Rattle.vhost_backend_req_handler.specs.Serving.{HandlesOne};
 
     /// A new session over a link. A message may take so many retries.
     ///
@@ -110,8 +110,7 @@ impl<L: Link> SessionCore<L> {
         if let Some(number) = self.session.failed {
             return Err(Error::SocketBroken(IoCause::Raw(number)));
         }
-        self.endpoint.make_list()?;
-        let (request, handles) = self.read_request()?;
+        let (request, handles) = self.endpoint.recv_request(&mut self.body[..])?;
         self.answer(device, request, handles)
     }
 
@@ -127,6 +126,7 @@ impl<L: Link> SessionCore<L> {
     ) -> Result<()>
         ensures run { IfOk result (λ _. Runs L.event D.gives (λ h o. OpensAs L.opens L.Handle.kinds h o) (λ h o. OpensAs L.opens L.Handle.kinds h o) (endpoint_of self.old) (session_in self.old) device.old count out.old.items out.new.items (endpoint_of self.new) (session_in self.new) device.new) }
         ensures memory { IfErr result (λ e. (e ≡ OutOfMemory) × (endpoint_of self.new ≡ endpoint_of self.old) × (session_in self.new ≡ session_in self.old) × (device.new ≡ device.old) × (out.new.items ≡ out.old.items)) }
+        ensures room { IfErr result (λ _. vec_capacity out.old < vec_len out.old + count) }
     {
         if out.reserve(count).is_err() {
             return Err(Error::OutOfMemory);
@@ -144,31 +144,6 @@ impl<L: Link> SessionCore<L> {
         ensures value { state result.now ≡ endpoint_of self.old }
     {
         &mut self.endpoint
-    }
-
-    /// Reads one request: its header and handles, and its body whole, however it is cut.
-    fn read_request(&mut self) -> Result<(Request, Option<Vec<L::Handle>>)>
-        ensures request { ReadsRequest L.event (endpoint_of self.old) result self.new.body (endpoint_of self.new) }
-        ensures session { session_in self.new ≡ session_in self.old }
-    {
-        let (header, handles) = self.endpoint.recv_header()?;
-        let code = header.get_code()?;
-        if !are_wanted(code, &handles) {
-            return Err(Error::InvalidMessage);
-        }
-        let size = header.get_size() as usize;
-        let (len, bytes) = self.endpoint.recv_data(size)?;
-        if len < size {
-            return Err(Error::InvalidMessage);
-        }
-        keep(&mut self.body[..], bytes);
-        let request = Request {
-            code,
-            reply: header.is_reply(),
-            need_reply: header.is_need_reply(),
-            len,
-        };
-        Ok((request, handles))
     }
 
     /// Answers a request that was read: the row of its code.

@@ -21,7 +21,8 @@ use vhost_message::{
 
 impl<L: Link> SessionCore<L> {
     ghost use Rattle.vhost_backend_req_handler.specs.Core.{session_in};
-    ghost use Rattle.vhost_backend_req_handler.specs.Serving.{Reads, tested};
+    ghost use Rattle.vhost_connection.specs.Requests.{Reads};
+    ghost use Rattle.vhost_backend_req_handler.specs.Serving.{tested};
 
     /// InvalidMessage: the body has another size, or the message is a reply.
     pub(crate) fn bare(&self, request: Request, size: usize) -> Result<()>

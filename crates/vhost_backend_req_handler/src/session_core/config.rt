@@ -29,7 +29,8 @@ const RECORD: usize = VhostUserConfig::SIZE;
 
 impl<L: Link> SessionCore<L> {
     ghost use Rattle.vhost_backend_req_handler.specs.Core.{MeetsRow, endpoint_of, session_in};
-    ghost use Rattle.vhost_backend_req_handler.specs.Serving.{Reads, IsReady, Tells, goes_on, reply_cells};
+    ghost use Rattle.vhost_connection.specs.Requests.{Reads, IsReady, Tells};
+    ghost use Rattle.vhost_backend_req_handler.specs.Serving.{goes_on, reply_cells};
 
     /// GET_CONFIG: the reply is the same record with its bytes, or with size 0 and none where the device has not
     /// that many.

@@ -39,7 +39,8 @@ fn agreed(answer: Result<Option<Vec<u64>>>) -> Result<()>
 
 impl<L: Link> SessionCore<L> {
     ghost use Rattle.vhost_backend_req_handler.specs.Core.{MeetsRow, MeetsRowWith, MeetsStep, MeetsStepWith, endpoint_of, session_in};
-    ghost use Rattle.vhost_backend_req_handler.specs.Serving.{IsReady, Reads, Tells, reply_cells};
+    ghost use Rattle.vhost_connection.specs.Requests.{IsReady, Reads, Tells};
+    ghost use Rattle.vhost_backend_req_handler.specs.Serving.{reply_cells};
 
     /// REM_MEM_REG: one region goes away; while postcopy listens, a body of eight bytes says that the regions are
     /// mapped.

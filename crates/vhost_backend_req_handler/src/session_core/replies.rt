@@ -10,13 +10,9 @@ ghost use Rattle.vhost_protocol.specs.Step.{with_ack};
 ghost use Rattle.vhost_protocol.specs.Written.{Payload, payload_text};
 
 use crate::request::Request;
-use crate::session_core::{Header, SessionCore};
-use vhost_connection::break_on_fault;
+use crate::session_core::SessionCore;
 use vhost_link::Link;
-use vhost_message::{ByteValued, Result, VhostUserU64, header_bit};
-
-/// The flag of a reply.
-const REPLY: u32 = 1 << header_bit::REPLY;
+use vhost_message::{ByteValued, Result, VhostUserU64};
 
 /// The body of an acknowledgement: 0 for success, else 1.
 fn ack_body(answer: &Result<()>) -> VhostUserU64
@@ -30,7 +26,8 @@ fn ack_body(answer: &Result<()>) -> VhostUserU64
 
 impl<L: Link> SessionCore<L> {
     ghost use Rattle.vhost_backend_req_handler.specs.Core.{endpoint_of, session_in};
-    ghost use Rattle.vhost_backend_req_handler.specs.Serving.{Reads, IsReady, Tells, reply_cells};
+    ghost use Rattle.vhost_connection.specs.Requests.{Reads, IsReady, Tells};
+    ghost use Rattle.vhost_backend_req_handler.specs.Serving.{reply_cells};
 
     /// Acknowledges a request that asks for it where acknowledgements are on, and answers the device's result.
     pub(crate) fn send_ack(&mut self, request: Request, answer: Result<()>) -> Result<()>
@@ -57,19 +54,12 @@ impl<L: Link> SessionCore<L> {
     ) -> Result<()>
         requires size { T.SIZE ≤ MAX_MSG_SIZE }
         requires handles { length handles.now ≤ MAX_ATTACHED_FD_ENTRIES }
-        ensures sends { (r : FrontendReq) (payload : Payload) → request.code ≡ r → IsReady (endpoint_of self.old) → T.text body.now ≡ payload_text payload → length (payload_text payload) ≡ T.SIZE
+        ensures sends { (r : FrontendReq) (payload : Payload) → request.code ≡ r → IsReady (endpoint_of self.old) → T.text body.now ≡ payload_text payload
             → Tells L.event (endpoint_of self.old) (reply_cells r (Replied payload (map (λ h. h.now) handles.now))) (Ok tt) result (endpoint_of self.new) }
         ensures session { session_in self.new ≡ session_in self.old }
         ensures fits { T.fits body.now }
     {
-        let header = Header::new(request.code, REPLY, T::SIZE as u32);
-        match self.endpoint.send_message(&header, body, handles) {
-            Ok(()) => Ok(()),
-            Err(error) => {
-                break_on_fault(&mut self.endpoint, &error);
-                Err(error)
-            }
-        }
+        self.endpoint.reply(request.code, body, &[], handles)
     }
 
     /// Replies with a record and the bytes behind it.
@@ -80,21 +70,11 @@ impl<L: Link> SessionCore<L> {
         payload: &[u8],
     ) -> Result<()>
         requires size { T.SIZE + length payload.now ≤ MAX_MSG_SIZE }
-        ensures sends { (r : FrontendReq) (whole : Payload) → request.code ≡ r → IsReady (endpoint_of self.old) → T.text body.now ++ payload.now ≡ payload_text whole → length (payload_text whole) ≡ T.SIZE + length payload.now
+        ensures sends { (r : FrontendReq) (whole : Payload) → request.code ≡ r → IsReady (endpoint_of self.old) → T.text body.now ++ payload.now ≡ payload_text whole
             → Tells L.event (endpoint_of self.old) (reply_cells r (Replied whole [])) (Ok tt) result (endpoint_of self.new) }
         ensures session { session_in self.new ≡ session_in self.old }
         ensures fits { T.fits body.now }
     {
-        let header = Header::new(request.code, REPLY, (T::SIZE + payload.len()) as u32);
-        let sent = self
-            .endpoint
-            .send_message_with_payload(&header, body, payload, &[]);
-        match sent {
-            Ok(()) => Ok(()),
-            Err(error) => {
-                break_on_fault(&mut self.endpoint, &error);
-                Err(error)
-            }
-        }
+        self.endpoint.reply(request.code, body, payload, &[])
     }
 }

@@ -31,7 +31,8 @@ fn is_one<H: Drop>(handles: &Option<Vec<H>>) -> bool
 
 impl<L: Link> SessionCore<L> {
     ghost use Rattle.vhost_backend_req_handler.specs.Core.{MeetsRowWith};
-    ghost use Rattle.vhost_backend_req_handler.specs.Serving.{Reads, goes_on};
+    ghost use Rattle.vhost_connection.specs.Requests.{Reads};
+    ghost use Rattle.vhost_backend_req_handler.specs.Serving.{goes_on};
 
     /// SET_VRING_KICK: the handle that tells of available buffers.
     pub(crate) fn set_vring_kick<D: VhostUserBackendReqHandlerMut<Link = L>>(

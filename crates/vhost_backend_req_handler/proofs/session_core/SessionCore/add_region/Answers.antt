@@ -35,7 +35,7 @@ returns-in-Ok-Some g c m reads over is ready =
     let kept = c.send_reply.ensures.session in
     let gave = subst (λ (x : Option _). g.D.VhostUserBackendReqHandlerMut.gives c.args.device.now (AddMemRegion c.in_ok-region.region c.in_ok-file.file (Some true)) (Ok x) c.add_mem_region-2.new.self) c.in-Ok-Some.field-0-is c.in-Ok-Some.ensures in
     let same : c.new-mapped.result ≡ rebased_region c.in_ok-region.region c.in-Ok-Some.base = c.new-mapped.ensures ∙ ap (λ (x : VhostUserMemoryRegion). record { padding = 0; region = record x { user_addr = c.in-Ok-Some.base } }) c.region.ensures in
-    passes _ _ (c.in_ok-file.ensures m.handles over) (passes _ _ (c.in_ok-region.ensures.row m reads) (by_row (then_as _ _ _ (sym c.is_listening.ensures ∙ c.if-not-is_listening.false)) (called (Ok (Some c.in-Ok-Some.base)) gave ((subst (λ (x : VhostUserSingleMemoryRegion). SingleRegionFits x) same c.send_reply.ensures.fits).1.2) (c.send_reply.ensures.sends ADD_MEM_REG (OneRegion (rebased_region c.in_ok-region.region c.in-Ok-Some.base)) is ready (ap (λ (x : VhostUserSingleMemoryRegion). single_region_text x) same) refl) kept kept)))
+    passes _ _ (c.in_ok-file.ensures m.handles over) (passes _ _ (c.in_ok-region.ensures.row m reads) (by_row (then_as _ _ _ (sym c.is_listening.ensures ∙ c.if-not-is_listening.false)) (called (Ok (Some c.in-Ok-Some.base)) gave ((subst (λ (x : VhostUserSingleMemoryRegion). SingleRegionFits x) same c.send_reply.ensures.fits).1.2) (c.send_reply.ensures.sends ADD_MEM_REG (OneRegion (rebased_region c.in_ok-region.region c.in-Ok-Some.base)) is ready (ap (λ (x : VhostUserSingleMemoryRegion). single_region_text x) same)) kept kept)))
 
 pub returns-in-Ok-None : goal.returns-in-Ok-None
 returns-in-Ok-None g c m reads over is ready =

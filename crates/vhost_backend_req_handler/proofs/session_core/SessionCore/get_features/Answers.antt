@@ -20,9 +20,9 @@ returns-in_err-features g c m reads is ready =
 pub returns-in_err-send_reply : goal.returns-in_err-send_reply
 returns-in_err-send_reply g c m reads is ready =
     let same = c.send_reply.ensures.session in
-    ends c.from_residual-in_err-send_reply.ensures.1 (passes_plain _ (c.in_ok-bare.ensures m reads) (stops (Ok c.in_ok-features.features) c.in_ok-features.ensures (subst (λ (x : VhostUserU64). x.value < 2 ^ 64) c.new.ensures c.send_reply.ensures.fits) (c.in_err-send_reply.ensures.sends GET_FEATURES (U64 c.in_ok-features.features) is ready (ap (λ (x : VhostUserU64). digits 8 x.value) c.new.ensures) refl) same))
+    ends c.from_residual-in_err-send_reply.ensures.1 (passes_plain _ (c.in_ok-bare.ensures m reads) (stops (Ok c.in_ok-features.features) c.in_ok-features.ensures (subst (λ (x : VhostUserU64). x.value < 2 ^ 64) c.new.ensures c.send_reply.ensures.fits) (c.in_err-send_reply.ensures.sends GET_FEATURES (U64 c.in_ok-features.features) is ready (ap (λ (x : VhostUserU64). digits 8 x.value) c.new.ensures)) same))
 
 pub returns : goal.returns
 returns g c m reads is ready =
     let same = ap (λ (x : Session). record x { offered = c.in_ok-features.features }) c.send_reply.ensures.session in
-    passes_plain _ (c.in_ok-bare.ensures m reads) (goes (Ok c.in_ok-features.features) c.in_ok-features.ensures (subst (λ (x : VhostUserU64). x.value < 2 ^ 64) c.new.ensures c.send_reply.ensures.fits) (c.in_ok-send_reply.ensures.sends GET_FEATURES (U64 c.in_ok-features.features) is ready (ap (λ (x : VhostUserU64). digits 8 x.value) c.new.ensures) refl) same)
+    passes_plain _ (c.in_ok-bare.ensures m reads) (goes (Ok c.in_ok-features.features) c.in_ok-features.ensures (subst (λ (x : VhostUserU64). x.value < 2 ^ 64) c.new.ensures c.send_reply.ensures.fits) (c.in_ok-send_reply.ensures.sends GET_FEATURES (U64 c.in_ok-features.features) is ready (ap (λ (x : VhostUserU64). digits 8 x.value) c.new.ensures)) same)

@@ -21,4 +21,4 @@ returns-in_err-inflight g c m reads is ready =
 pub returns : goal.returns
 returns g c m reads is ready =
     let kept = c.send_reply.ensures.session in
-    passes_plain _ c.in_ok-operation.ensures (passes _ _ (c.in_ok-asked.ensures.row m reads) (called (Ok (c.in_ok-inflight.inflight, c.in_ok-inflight.file)) c.in_ok-inflight.ensures c.send_reply.ensures.fits (c.send_reply.ensures.sends GET_INFLIGHT_FD (InflightArea c.in_ok-inflight.inflight) is ready refl refl) kept kept))
+    passes_plain _ c.in_ok-operation.ensures (passes _ _ (c.in_ok-asked.ensures.row m reads) (called (Ok (c.in_ok-inflight.inflight, c.in_ok-inflight.file)) c.in_ok-inflight.ensures c.send_reply.ensures.fits (c.send_reply.ensures.sends GET_INFLIGHT_FD (InflightArea c.in_ok-inflight.inflight) is ready refl) kept kept))

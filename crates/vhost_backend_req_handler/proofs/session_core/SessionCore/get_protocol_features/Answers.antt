@@ -21,4 +21,4 @@ pub returns : goal.returns
 returns g c m reads is ready =
     let kept = c.send_reply.ensures.session in
     let same : bit_or c.bits.result c.bits-2.result ≡ bit_or c.in_ok-features.features.bits 8 = rw (c.bits.ensures tt, c.bits-2.ensures tt) refl in
-    passes_plain _ (c.in_ok-bare.ensures m reads) (called (Ok c.in_ok-features.features.bits) c.in_ok-features.ensures (omega (arith, c.bits.type_inv, c.bits.ensures tt)) (c.send_reply.ensures.sends GET_PROTOCOL_FEATURES (U64 (bit_or c.in_ok-features.features.bits 8)) is ready (ap (λ (x : VhostUserU64). digits 8 x.value) c.new.ensures ∙ ap (λ n. digits 8 n) same) refl) kept kept)
+    passes_plain _ (c.in_ok-bare.ensures m reads) (called (Ok c.in_ok-features.features.bits) c.in_ok-features.ensures (omega (arith, c.bits.type_inv, c.bits.ensures tt)) (c.send_reply.ensures.sends GET_PROTOCOL_FEATURES (U64 (bit_or c.in_ok-features.features.bits 8)) is ready (ap (λ (x : VhostUserU64). digits 8 x.value) c.new.ensures ∙ ap (λ n. digits 8 n) same)) kept kept)

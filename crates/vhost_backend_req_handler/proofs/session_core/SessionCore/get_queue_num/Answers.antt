@@ -23,4 +23,4 @@ returns-in_err-number g c m reads is ready =
 pub returns : goal.returns
 returns g c m reads is ready =
     let kept = c.send_reply.ensures.session in
-    passes_plain _ c.in_ok-operation.ensures (passes_plain _ (c.in_ok-bare.ensures m reads) (called (Ok c.in_ok-number.number) c.in_ok-number.ensures (subst (λ (x : VhostUserU64). x.value < 2 ^ 64) c.new.ensures c.send_reply.ensures.fits) (c.send_reply.ensures.sends GET_QUEUE_NUM (U64 c.in_ok-number.number) is ready (ap (λ (x : VhostUserU64). digits 8 x.value) c.new.ensures) refl) kept kept))
+    passes_plain _ c.in_ok-operation.ensures (passes_plain _ (c.in_ok-bare.ensures m reads) (called (Ok c.in_ok-number.number) c.in_ok-number.ensures (subst (λ (x : VhostUserU64). x.value < 2 ^ 64) c.new.ensures c.send_reply.ensures.fits) (c.send_reply.ensures.sends GET_QUEUE_NUM (U64 c.in_ok-number.number) is ready (ap (λ (x : VhostUserU64). digits 8 x.value) c.new.ensures)) kept kept))

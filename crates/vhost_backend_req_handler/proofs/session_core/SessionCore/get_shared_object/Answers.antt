@@ -16,9 +16,9 @@ returns-in-Err g c m reads is ready =
 pub returns-in-Ok-get_shared_object : goal.returns-in-Ok-get_shared_object
 returns-in-Ok-get_shared_object g c m reads is ready =
     let kept = c.send_reply.ensures.session in
-    passes_plain _ c.in_ok-operation.ensures (passes _ _ (c.in-Ok.ensures.row m reads) (called (Ok c.in-Ok-get_shared_object.file) c.in-Ok-get_shared_object.ensures tt (c.send_reply.ensures.sends GET_SHARED_OBJECT Empty is ready refl refl) kept kept))
+    passes_plain _ c.in_ok-operation.ensures (passes _ _ (c.in-Ok.ensures.row m reads) (called (Ok c.in-Ok-get_shared_object.file) c.in-Ok-get_shared_object.ensures tt (c.send_reply.ensures.sends GET_SHARED_OBJECT Empty is ready refl) kept kept))
 
 pub returns-in-Err-get_shared_object : goal.returns-in-Err-get_shared_object
 returns-in-Err-get_shared_object g c m reads is ready =
     let kept = c.send_reply-in-Err-get_shared_object.ensures.session in
-    passes_plain _ c.in_ok-operation.ensures (passes _ _ (c.in-Ok.ensures.row m reads) (called (Err _) c.in-Err-get_shared_object.ensures tt (c.send_reply-in-Err-get_shared_object.ensures.sends GET_SHARED_OBJECT Empty is ready refl refl) kept kept))
+    passes_plain _ c.in_ok-operation.ensures (passes _ _ (c.in-Ok.ensures.row m reads) (called (Err _) c.in-Err-get_shared_object.ensures tt (c.send_reply-in-Err-get_shared_object.ensures.sends GET_SHARED_OBJECT Empty is ready refl) kept kept))

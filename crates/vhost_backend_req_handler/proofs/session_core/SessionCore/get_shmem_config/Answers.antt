@@ -18,4 +18,4 @@ returns-in_err-config g c m reads is ready =
 pub returns : goal.returns
 returns g c m reads is ready =
     let kept = c.send_reply.ensures.session in
-    passes_plain _ c.in_ok-operation.ensures (called (Ok c.in_ok-config.config) c.in_ok-config.ensures c.send_reply.ensures.fits (c.send_reply.ensures.sends GET_SHMEM_CONFIG (Shmem c.in_ok-config.config) is ready refl (shmem_config-length c.in_ok-config.config c.send_reply.ensures.fits)) kept kept)
+    passes_plain _ c.in_ok-operation.ensures (called (Ok c.in_ok-config.config) c.in_ok-config.ensures c.send_reply.ensures.fits (c.send_reply.ensures.sends GET_SHMEM_CONFIG (Shmem c.in_ok-config.config) is ready refl) kept kept)

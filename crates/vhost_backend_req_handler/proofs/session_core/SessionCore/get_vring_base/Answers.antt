@@ -17,4 +17,4 @@ returns-in_err-base g c m reads is ready =
 pub returns : goal.returns
 returns g c m reads is ready =
     let kept = c.send_reply.ensures.session in
-    passes _ _ (c.in_ok-ring.ensures.row m reads) (called (Ok c.in_ok-base.base) c.in_ok-base.ensures c.send_reply.ensures.fits (c.send_reply.ensures.sends GET_VRING_BASE (RingState c.in_ok-base.base) is ready refl refl) kept kept)
+    passes _ _ (c.in_ok-ring.ensures.row m reads) (called (Ok c.in_ok-base.base) c.in_ok-base.ensures c.send_reply.ensures.fits (c.send_reply.ensures.sends GET_VRING_BASE (RingState c.in_ok-base.base) is ready refl) kept kept)

@@ -6,7 +6,8 @@ use Rattle.vhost_backend_req_handler.specs.Core.{session_in, endpoint_of}
 use Rattle.vhost_backend_req_handler.proofs.Arms.{called, opens_display, fails_aloud, refused_aloud, passes}
 use Rattle.std.specs.Prelude.{⊤}
 use Rattle.vhost_protocol.specs.Step.{acknowledged, with_ack}
-use Rattle.vhost_backend_req_handler.specs.Serving.{IsReady, Reads, Tells, reply_cells}
+use Rattle.vhost_backend_req_handler.specs.Serving.{reply_cells}
+use Rattle.vhost_connection.specs.Requests.{IsReady, Reads, Tells}
 use Rattle.vhost_backend_req_handler.specs.declared.session_core.SessionCore.{SessionCore}
 use Rattle.vhost_backend_req_handler.proofs.session_core.SessionCore.gpu_set_socket.Goals as goal
 

@@ -16,9 +16,9 @@ returns-in_err-allowed g c m reads is ready =
 pub returns-in-Ok : goal.returns-in-Ok
 returns-in-Ok g c m reads is ready =
     let kept = c.send_reply.ensures.session in
-    passes_plain _ c.in_ok-operation.ensures (passes_plain _ (as_tested _ c.is_inactive.ensures c.in_ok-allowed.ensures) (called (Ok c.in-Ok.file) c.in-Ok.ensures tt (c.send_reply.ensures.sends POSTCOPY_ADVISE Empty is ready refl refl) kept kept))
+    passes_plain _ c.in_ok-operation.ensures (passes_plain _ (as_tested _ c.is_inactive.ensures c.in_ok-allowed.ensures) (called (Ok c.in-Ok.file) c.in-Ok.ensures tt (c.send_reply.ensures.sends POSTCOPY_ADVISE Empty is ready refl) kept kept))
 
 pub returns-in-Err : goal.returns-in-Err
 returns-in-Err g c m reads is ready =
     let kept = c.send_reply-in-Err.ensures.session in
-    passes_plain _ c.in_ok-operation.ensures (passes_plain _ (as_tested _ c.is_inactive.ensures c.in_ok-allowed.ensures) (called (Err _) c.in-Err.ensures tt (c.send_reply-in-Err.ensures.sends POSTCOPY_ADVISE Empty is ready refl refl) kept kept))
+    passes_plain _ c.in_ok-operation.ensures (passes_plain _ (as_tested _ c.is_inactive.ensures c.in_ok-allowed.ensures) (called (Err _) c.in-Err.ensures tt (c.send_reply-in-Err.ensures.sends POSTCOPY_ADVISE Empty is ready refl) kept kept))

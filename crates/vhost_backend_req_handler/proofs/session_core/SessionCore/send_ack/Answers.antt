@@ -15,10 +15,10 @@ pub returns-in-Ok-clause-sends : goal.returns-in-Ok-clause-sends
 returns-in-Ok-clause-sends g c r m reads is ready =
     let s = session_in c.args.self.now in
     let on : (ack_on s && m.need_reply) ≡ true = ack-tested s c.acknowledges.result true reads c.acknowledges.ensures c.if-not-acknowledges.false in
-    ack-sent g.L.Link.event _ (endpoint_of c.send_reply.new.self) r s m c.args.answer on (c.in-Ok.ensures.sends r (U64 _) is ready (rw c.ack_body.ensures refl) refl)
+    ack-sent g.L.Link.event _ (endpoint_of c.send_reply.new.self) r s m c.args.answer on (c.in-Ok.ensures.sends r (U64 _) is ready (rw c.ack_body.ensures refl))
 
 pub returns-in-Err-clause-sends : goal.returns-in-Err-clause-sends
 returns-in-Err-clause-sends g c r m reads is ready =
     let s = session_in c.args.self.now in
     let on : (ack_on s && m.need_reply) ≡ true = ack-tested s c.acknowledges.result true reads c.acknowledges.ensures c.if-not-acknowledges.false in
-    ack-stopped g.L.Link.event _ (endpoint_of c.send_reply.new.self) r s m c.args.answer _ on (c.in-Err.ensures.sends r (U64 _) is ready (rw c.ack_body.ensures refl) refl)
+    ack-stopped g.L.Link.event _ (endpoint_of c.send_reply.new.self) r s m c.args.answer _ on (c.in-Err.ensures.sends r (U64 _) is ready (rw c.ack_body.ensures refl))

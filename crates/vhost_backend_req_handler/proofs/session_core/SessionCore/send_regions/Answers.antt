@@ -10,4 +10,4 @@ pub returns-clause-sends : goal.returns-clause-sends
 returns-clause-sends g c is ready =
     let text : memory_text c.new-head.result ++ c.put_regions.new.out ≡ payload_text (Regions c.args.regions.now) =
     ap (λ (h : VhostUserMemory). memory_text h ++ c.put_regions.new.out) c.new-head.ensures ∙ ap (λ bs. memory_text (table_head (length c.args.regions.now)) ++ bs) c.put_regions.ensures.text in
-    c.send_reply_with.ensures.sends SET_MEM_TABLE (Regions c.args.regions.now) is ready text (rw c.put_regions.ensures.text (omega arith))
+    c.send_reply_with.ensures.sends SET_MEM_TABLE (Regions c.args.regions.now) is ready text

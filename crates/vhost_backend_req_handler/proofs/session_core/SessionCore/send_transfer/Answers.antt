@@ -7,10 +7,10 @@ use Rattle.vhost_protocol.specs.Written.{U64}
 use Rattle.vhost_backend_req_handler.proofs.session_core.SessionCore.send_transfer.Goals as goal
 
 pub returns-in-Some-clause-sends : goal.returns-in-Some-clause-sends
-returns-in-Some-clause-sends g c is ready = rw c.in-Some.is (c.send_reply.ensures.sends SET_DEVICE_STATE_FD (U64 0) is ready (ap (λ (x : VhostUserU64). digits 8 x.value) c.new.ensures) refl)
+returns-in-Some-clause-sends g c is ready = rw c.in-Some.is (c.send_reply.ensures.sends SET_DEVICE_STATE_FD (U64 0) is ready (ap (λ (x : VhostUserU64). digits 8 x.value) c.new.ensures))
 
 pub returns-in-None-clause-sends : goal.returns-in-None-clause-sends
-returns-in-None-clause-sends g c is ready = rw c.in-None.is (c.send_reply-in-None.ensures.sends SET_DEVICE_STATE_FD (U64 0x100) is ready (ap (λ (x : VhostUserU64). digits 8 x.value) c.new-in-None.ensures) refl)
+returns-in-None-clause-sends g c is ready = rw c.in-None.is (c.send_reply-in-None.ensures.sends SET_DEVICE_STATE_FD (U64 0x100) is ready (ap (λ (x : VhostUserU64). digits 8 x.value) c.new-in-None.ensures))
 
 pub returns-in-Some-clause-session : goal.returns-in-Some-clause-session
 returns-in-Some-clause-session g c = rw c.in-Some.is c.send_reply.ensures.session

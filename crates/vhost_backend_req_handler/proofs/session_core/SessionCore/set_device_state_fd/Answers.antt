@@ -31,4 +31,4 @@ returns-in-Err g c m reads over is ready =
     let kept = c.send_reply.ensures.session in
     let same : record { direction = direction_number c.in-Some.direction; phase = phase_number c.in-Some.phase } ≡ c.in_ok-transfer.transfer = rw (c.in-Some.ensures.known.0, c.in-Some.ensures.known.1) refl in
     let gave = subst (λ (t : VhostUserTransferDeviceState). g.D.VhostUserBackendReqHandlerMut.gives c.args.device.now (SetDeviceStateFd t c.in_ok-file.file) (Err (seen c.in-Err.field-0)) c.set_device_state_fd.new.self) same c.in-Err.ensures in
-    passes _ _ (c.in_ok-file.ensures m.handles over) (passes _ _ (c.in_ok-transfer.ensures.row m reads) (called (Err (seen c.in-Err.field-0)) gave tt (c.send_reply.ensures.sends SET_DEVICE_STATE_FD (U64 0x101) is ready (ap (λ (x : VhostUserU64). digits 8 x.value) c.new.ensures) refl) kept kept))
+    passes _ _ (c.in_ok-file.ensures m.handles over) (passes _ _ (c.in_ok-transfer.ensures.row m reads) (called (Err (seen c.in-Err.field-0)) gave tt (c.send_reply.ensures.sends SET_DEVICE_STATE_FD (U64 0x101) is ready (ap (λ (x : VhostUserU64). digits 8 x.value) c.new.ensures)) kept kept))

@@ -25,4 +25,4 @@ returns-in_err-set_log_base g c m reads over is ready =
 pub returns : goal.returns
 returns g c m reads over is ready =
     let kept = c.send_reply.ensures.session in
-    passes_plain _ c.in_ok-operation.ensures (passes _ _ (c.in_ok-file.ensures m.handles over) (passes _ _ (c.in_ok-log.ensures.row m reads) (called (Ok tt) c.in_ok-set_log_base.ensures tt (c.send_reply.ensures.sends SET_LOG_BASE (LogArea c.in_ok-log.log) is ready refl refl) kept kept)))
+    passes_plain _ c.in_ok-operation.ensures (passes _ _ (c.in_ok-file.ensures m.handles over) (passes _ _ (c.in_ok-log.ensures.row m reads) (called (Ok tt) c.in_ok-set_log_base.ensures tt (c.send_reply.ensures.sends SET_LOG_BASE (LogArea c.in_ok-log.log) is ready refl) kept kept)))

@@ -10,7 +10,8 @@ use Rattle.vhost_gpu_backend_req.specs.declared.backend.GpuBackend.{GpuBackend}
 use Rattle.vhost_protocol.specs.DeviceCall.{SetMemTable}
 use Rattle.vhost_protocol.specs.Row.{is_valid_table, table}
 use Rattle.vhost_protocol.specs.Step.{Outcome, acknowledged}
-use Rattle.vhost_backend_req_handler.specs.Serving.{Tells, reply_cells}
+use Rattle.vhost_backend_req_handler.specs.Serving.{reply_cells}
+use Rattle.vhost_connection.specs.Requests.{Tells}
 use Rattle.vhost_backend_req_handler.proofs.Rebasing.{bases-fit}
 use Rattle.vhost_backend_req_handler.proofs.Telling.{acked-done}
 use Rattle.vhost_backend_req_handler.proofs.session_core.SessionCore.set_table.Goals as goal
