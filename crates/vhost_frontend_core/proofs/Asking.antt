@@ -13,7 +13,8 @@ use Rattle.vhost_protocol.specs.Written.{Payload, Written}
 use Rattle.vhost_link.specs.Law.{Event}
 use Rattle.vhost_connection.specs.Talk.{State}
 use Rattle.vhost_frontend_core.specs.Asking as asking
-use Rattle.vhost_frontend_core.specs.Asking.{Asks, AsksWithRoom, Tries, request_with}
+use Rattle.vhost_connection.specs.Asking.{request_with}
+use Rattle.vhost_frontend_core.specs.Asking.{Asks, AsksWithRoom, Tries}
 use Rattle.vhost_frontend_core.specs.declared.asked.Kept.{Kept}
 use Rattle.vhost_frontend_core.specs.declared.asked.Sent.{Sent}
 

@@ -1,7 +1,4 @@
 pub mod Exits
-pub mod Handed
-pub mod Replying
-pub mod Sending
 pub mod Taking
 pub mod Asking
 pub mod Awaiting

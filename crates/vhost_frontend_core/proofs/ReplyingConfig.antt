@@ -9,7 +9,7 @@ use Rattle.vhost_message.specs.declared.frontend_req.FrontendReq.{FrontendReq}
 use Rattle.vhost_message.specs.declared.header.VhostUserMsgHeader.{VhostUserMsgHeader}
 use Rattle.vhost_message.specs.declared.records.config.VhostUserConfig.{VhostUserConfig}
 use Rattle.vhost_message.specs.FrontendReq.{request_of}
-use Rattle.vhost_message.specs.Header.{Header, header_of, is_reply_for}
+use Rattle.vhost_message.specs.Header.{Header, header_of, is_valid_header, is_reply_for}
 use Rattle.vhost_message.specs.MsgHeader.{fields_of}
 use Rattle.vhost_message.specs.Records.{config_of}
 use Rattle.vhost_message.specs.Text.{number_at}
@@ -34,8 +34,8 @@ use Rattle.vhost_connection.proofs.Failing.{trouble-breaks}
 use Rattle.vhost_frontend_core.specs.Taking.{reply_cut}
 use Rattle.vhost_frontend_core.specs.TakingConfig.{config_cut, is_reply_of, RecvsConfig}
 use Rattle.vhost_frontend_core.specs.TakingConfig.RecvsConfig.{came, unfit, crowded, bare, none, failed}
-use Rattle.vhost_frontend_core.proofs.Handed.{hands-none, hands-some}
-use Rattle.vhost_frontend_core.proofs.Replying.{known-is, reply_in, outcome, splits, is-invalid, head-is, whole-when}
+use Rattle.vhost_connection.proofs.Handed.{hands-none, hands-some}
+use Rattle.vhost_connection.proofs.Replies.{known-is, reply_in, outcome, splits, is-whole, is-invalid}
 
 abbrev valid : List ℕ → Bool
 valid bs = is_valid_config (config_of bs)
@@ -54,7 +54,7 @@ module _ {H : Type 0} (sent : Header) (room : ℕ) where
   bare-as : (cs : List (Cell H)) → is_bare_reply is_known (answers sent) cs ≡ is_bare request_of sent cs
   bare-as cs =
       let h = header_of (bytes (take 12 cs)) in
-      ap (λ (b : Bool). b && answers sent h && h.size == 12 && not (has_some (first_handles cs)) && number_at 4 4 (bytes (take 12 (drop 12 cs))) == 0) (known-is h)
+      ap (λ (b : Bool). b && answers sent h && h.size == 12 && not (has_some (first_handles cs)) && number_at 4 4 (bytes (take 12 (drop 12 cs))) == 0) (known-is request_of h)
 
   long : (cs rest : List (Cell H)) → 24 ≤ length cs → 24 ≤ length (cs ++ rest)
   long cs rest le = omega (arith, length-append cs rest)
@@ -90,14 +90,14 @@ module _ {H : Type 0} (sent : Header) (room : ℕ) where
   config-splits cs false o le no_bare s = λ rest. config-whole cs rest rest o le no_bare (s rest)
 
 module _ {L H : Type 0} (event : L → Event H → L → Type 0) (sent : Header) (old : State L H) (before : List ℕ) where
-  config-came : (new : State L H) (after : List ℕ) (cs : List (Cell H)) (o : Result (Received H) Error) → MessageCame event old 24 before after cs new → outcome 12 (length before) valid cs ≡ o → is_bare request_of sent cs ≡ false
+  config-came : (new : State L H) (after : List ℕ) (cs : List (Cell H)) (o : Result (Received H) Error) → MessageCame event old 24 before after cs new → outcome is_known 12 (length before) valid cs ≡ o → is_bare request_of sent cs ≡ false
       → Hears event (config_cut sent (length before)) old (some_reply o) new
   config-came new after cs o m is no_bare = record {
     cells = cs;
     ended = nat_lt (length cs) (24 + length before);
     retries = m.retries;
     serves = m.serves;
-    splits = config-splits sent (length before) cs (nat_lt (length cs) (24 + length before)) o m.whole no_bare (splits 12 (length before) valid cs o m.whole m.within is);
+    splits = config-splits sent (length before) cs (nat_lt (length cs) (24 + length before)) o m.whole no_bare (splits is_known 12 (length before) valid cs o m.whole m.within is);
   }
 
   -- it is bare
@@ -108,7 +108,7 @@ module _ {L H : Type 0} (event : L → Event H → L → Type 0) (sent : Header)
   -- there is none
   pub config-fails : (new : State L H) (after : List ℕ) (e : declared.Error) → ReadsOrBare event request_of sent old before (Err e) after new → RecvsConfig event (length before) old sent (Err e) after (broken_on e new)
   config-fails new after e (ends m) = none (record { cells = m.cs; ended = true; retries = m.retries; serves = m.serves; splits = config-short sent (length before) m.cs m.short })
-  config-fails new after e (invalid p no_bare) = none (config-came new after p.0 (Err InvalidMessage) p.1 (is-invalid 12 (length before) valid p.0 p.2) no_bare)
+  config-fails new after e (invalid p no_bare) = none (config-came new after p.0 (Err InvalidMessage) p.1 (is-invalid is_known 12 (length before) valid p.0 (ap (λ b. b && valid (take 12 (drop 12 (bytes p.0)))) (known-is request_of (header_of (take 12 (bytes p.0)))) ∙ p.2)) no_bare)
   config-fails new after e (fails p no_bare) = failed (trouble-breaks event old true false (receives (items p.cs) p.retries) e new p.trouble (lit≤ tt))
 
   -- the test of a reply, as the code makes it
@@ -121,10 +121,10 @@ module _ {L H : Type 0} (event : L → Event H → L → Type 0) (sent : Header)
         × (n ≡ length reply.payload) × (after ≡ reply.payload ++ drop n before) × HandsOver hs reply.handles
     unfolding reply_in
     config-reply (was_whole (cs, m, is_h, ok, is_part, ok_part, count, over, list) no_bare) =
-        let head = head-is event 12 config_of is_valid_config cs h is_h in
+        let head = ap (λ (x : VhostUserMsgHeader FrontendReq). fields_of x) is_h in
         let len : length (drop 24 (bytes cs)) ≡ n = length-drop 24 (bytes cs) ∙ omega (arith, length-bytes cs, count) in (
-          reply_in 12 (length before) valid cs,
-          config-came new after cs (Ok (reply_in 12 (length before) valid cs)) m (whole-when event 12 config_of is_valid_config cs (length before) h part head ok is_part ok_part) no_bare,
+          reply_in is_known 12 (length before) valid cs,
+          config-came new after cs (Ok (reply_in is_known 12 (length before) valid cs)) m (is-whole is_known 12 (length before) valid cs (known-is request_of (header_of (take 12 (bytes cs))) ∙ ap (λ (x : Header). is_some (request_of x.code) && is_valid_header x) (sym head) ∙ ok) (ap is_valid_config (sym is_part) ∙ ok_part)) no_bare,
           (λ j. is_reply_for request_of (sym head j) sent && ((sym head j).size == 12 + length before && len j == length before)),
           is_part,
           sym len,

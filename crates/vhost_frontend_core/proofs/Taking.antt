@@ -23,7 +23,7 @@ use Rattle.vhost_connection.specs.Talk.{State}
 use Rattle.vhost_connection.specs.Calls.{HandsOver}
 use Rattle.vhost_connection.specs.Hearing.{Hears}
 use Rattle.vhost_frontend_core.specs.Taking.{reply_cut, valued, Comes, Missing, Awaits, AwaitsAlone, AwaitsOne, Acks, IsAck, Reads, Takes}
-use Rattle.vhost_frontend_core.specs.Taking.Missing.{unfit, none, failed}
+use Rattle.vhost_connection.specs.Asking.Missing.{unfit, none, failed}
 use Rattle.vhost_frontend_core.specs.Taking.Awaits.{is_reply, is_request}
 use Rattle.vhost_frontend_core.specs.Taking.AwaitsAlone.{alone, crowded, absent}
 use Rattle.vhost_frontend_core.specs.Taking.AwaitsOne.{one, not_one, no_reply}
@@ -31,7 +31,8 @@ use Rattle.vhost_frontend_core.specs.Taking.RecvsAck.{agreed, refused, crowded_a
 use Rattle.vhost_frontend_core.specs.Taking.Acks.{unasked, asked_for}
 use Rattle.vhost_frontend_core.specs.Taking.Reads.{unread, read}
 use Rattle.vhost_frontend_core.specs.Taking.Takes.{taken, stopped}
-use Rattle.vhost_frontend_core.proofs.Handed.{hands-none, hands-some, nonzero}
+use Rattle.vhost_connection.proofs.Replies.{hears-by}
+use Rattle.vhost_connection.proofs.Handed.{hands-none, hands-some, nonzero}
 
 module _ {T L H : Type 0} {event : L → Event H → L → Type 0} {size : ℕ} {decode : List ℕ → T} {valid : T → Bool} where
   -- a reply that was received has no handle, or some
@@ -57,15 +58,6 @@ module _ {T L H : Type 0} {event : L → Event H → L → Type 0} {size : ℕ} 
   one-missing hs (is_request plain x) e = not_one x.0 plain x.1 x.2 x.3 (e x.0.handles x.4)
 
 module _ {L H : Type 0} {event : L → Event H → L → Type 0} where
-  -- the same cells, read as more
-  pub hears-by : {A B : Type 0} {cut : List (Cell H) → A × List (Cell H)} {of : List (Cell H) → B × List (Cell H)} (read_as : A → B) {old new : State L H} (o : A)
-      → ((cells : List (Cell H)) → of cells ≡ (read_as (cut cells).0, (cut cells).1)) → Hears event cut old o new → Hears event of old (read_as o) new
-  hears-by {cut = cut} {of} read_as o by h = record { cells = h.cells; ended = h.ended; retries = h.retries; serves = h.serves; splits = go h.ended h.splits }
-    where
-      go : (ended : Bool) → Splits cut h.cells ended o → Splits of h.cells ended (read_as o)
-      go true e = (by h.cells ∙ ap (λ x. (read_as x.0, x.1)) e.0, λ next. ap (λ x. x.1) (by (h.cells ++ next ∷ [])) ∙ e.1 next)
-      go false e = λ rest. by (h.cells ++ rest) ∙ ap (λ x. (read_as x.0, x.1)) (e rest)
-
   -- ---- acknowledgements
 
   -- what is awaited, by another name

@@ -25,8 +25,8 @@ use Rattle.vhost_frontend_core.specs.Taking.Reads.{unread, read}
 use Rattle.vhost_frontend_core.specs.Taking.Takes.{taken, stopped}
 use Rattle.vhost_frontend_core.specs.TakingConfig.{config_cut, is_part, is_reply_of, is_asked, RecvsConfig}
 use Rattle.vhost_frontend_core.specs.TakingConfig.RecvsConfig.{came, unfit, crowded, bare, none, failed}
-use Rattle.vhost_frontend_core.proofs.Handed.{nonzero}
-use Rattle.vhost_frontend_core.proofs.Taking.{hears-by}
+use Rattle.vhost_connection.proofs.Handed.{nonzero}
+use Rattle.vhost_connection.proofs.Replies.{hears-by}
 
 -- what the call answers
 abbrev pub shown : {H : Type 0} → VhostUserConfig × Vec ℕ Global → Value H

@@ -13,6 +13,7 @@ use Rattle.vhost_message.specs.Bits.{has_bit}
 use Rattle.vhost_message.specs.Header.{Header}
 use Rattle.vhost_message.specs.Records.{memory_of, regions_of}
 use Rattle.vhost_message.specs.Valid.{is_valid_memory}
+use Rattle.vhost_message.specs.FrontendReq.{request_of}
 use Rattle.vhost_protocol.specs.AnswerTable.{answered, answer, alone, only_if, are_same_ranges, bases_in}
 use Rattle.vhost_protocol.specs.Ask.{regions_in}
 use Rattle.vhost_protocol.specs.declared.asked.Awaited.TheVariants.{Reply}
@@ -22,14 +23,15 @@ use Rattle.vhost_protocol.specs.FrontendCall.{Info, SetMemTable, Frontend, Bases
 use Rattle.vhost_protocol.specs.ReplySplit.{Received}
 use Rattle.vhost_protocol.specs.Served.{Replied}
 use Rattle.vhost_protocol.specs.Stream.{Cell, has_some}
-use Rattle.vhost_protocol.specs.Take.{understood, payload_of, take_reply}
+use Rattle.vhost_protocol.specs.Take.{is_known, understood, payload_of, take_reply}
 use Rattle.vhost_link.specs.Law.{Event}
 use Rattle.vhost_connection.specs.Talk.{State}
 use Rattle.vhost_frontend_core.specs.Regions.{bases_seen}
-use Rattle.vhost_frontend_core.specs.Taking.{reply_cut, is_table, Comes, Missing, RecvsPayload, RecvsTable, Takes}
+use Rattle.vhost_connection.specs.Asking.{RecvsReply}
+use Rattle.vhost_frontend_core.specs.Taking.{reply_cut, is_table, Comes, Missing, RecvsTable, Takes}
 use Rattle.vhost_frontend_core.specs.Taking.RecvsTable.{table, no_table, crowded_table, missing}
 use Rattle.vhost_frontend_core.specs.Taking.Takes.{taken}
-use Rattle.vhost_frontend_core.proofs.Handed.{hands-none, hands-some}
+use Rattle.vhost_connection.proofs.Handed.{hands-none, hands-some}
 use Rattle.vhost_frontend_core.proofs.Taking.{reads-reply, replied, reads-missing}
 
 -- ---- three tests
@@ -70,7 +72,7 @@ module _ {L H : Type 0} {event : L → Event H → L → Type 0} (count : ℕ) {
   pub table-missing : {e : declared.Error} → Missing event MEMORY_HEAD_SIZE (λ bs. is_valid_memory (memory_of bs)) (length before) old sent e new → RecvsTable event count old sent (Err e) after new
   table-missing {e} m = missing (subst (λ n. Missing event MEMORY_HEAD_SIZE (λ bs. is_valid_memory (memory_of bs)) n old sent e new) room m)
 
-  module _ (size len : ℕ) (head : VhostUserMemory) (hs : Option (Vec H Global)) (x : RecvsPayload event MEMORY_HEAD_SIZE memory_of is_valid_memory old sent before (Ok (size, head, len, hs)) after new) where
+  module _ (size len : ℕ) (head : VhostUserMemory) (hs : Option (Vec H Global)) (x : RecvsReply event is_known request_of MEMORY_HEAD_SIZE memory_of is_valid_memory old sent before (Ok (size, head, len, hs)) after new) where
     -- it has another number of regions
     pub size-other : (size ≡ MEMORY_HEAD_SIZE + MEMORY_REGION_SIZE * count → ⊥) → RecvsTable event count old sent (Err code.InvalidMessage) after new
     size-other differs = no_table x.0 (in-room x.1) (not_first _ _ _ (ap (λ n. n == MEMORY_HEAD_SIZE + MEMORY_REGION_SIZE * count) (sym x.2) ∙ ne_eqb size (MEMORY_HEAD_SIZE + MEMORY_REGION_SIZE * count) differs))

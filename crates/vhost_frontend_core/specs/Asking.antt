@@ -4,7 +4,6 @@ use Rattle.vhost_message.specs.declared.error.Error as declared
 use Rattle.vhost_message.specs.declared.error.Error.TheVariants.{OutOfMemory}
 use Rattle.vhost_message.specs.declared.frontend_req.FrontendReq.{FrontendReq}
 use Rattle.vhost_message.specs.FrontendReq.{request_number}
-use Rattle.vhost_message.specs.Bits.{has_bit}
 use Rattle.vhost_message.specs.MsgHeader.{fields_of}
 use Rattle.vhost_protocol.specs.Error.{Error, seen}
 use Rattle.vhost_protocol.specs.Written.{Payload, Written, written_cells, head_of}
@@ -24,10 +23,6 @@ use Rattle.vhost_frontend_core.specs.declared.asked.Sent.{Sent}
 abbrev pub tested : {A : Type 0} → Result A declared.Error → Result ⊤ Error
 tested (Ok a) = Ok tt
 tested (Err e) = Err (seen e)
-
--- a request with these flags
-abbrev pub request_with : {H : Type 0} → (flags : ℕ) → FrontendReq → Payload → List H → Written FrontendReq H
-request_with flags r payload handles = record { request = r; reply = has_bit flags 2; need_reply = has_bit flags 3; payload = payload; handles = handles }
 
 module _ {L H : Type 0} (event : L → Event H → L → Type 0) where
   -- A request went out whole, and this is awaited of it.

@@ -5,6 +5,7 @@ use Rattle.vhost_message.specs.declared.error.Error as declared
 use Rattle.vhost_message.specs.declared.error.Error.TheVariants as code
 use Rattle.vhost_message.specs.declared.limits.TheConstants.{MEMORY_HEAD_SIZE, MEMORY_REGION_SIZE}
 use Rattle.vhost_message.specs.Bits.{has_bit}
+use Rattle.vhost_message.specs.FrontendReq.{request_of}
 use Rattle.vhost_message.specs.Header.{Header}
 use Rattle.vhost_message.specs.Records.{u64_at, memory_of}
 use Rattle.vhost_message.specs.Valid.{is_valid_memory}
@@ -18,6 +19,7 @@ use Rattle.vhost_protocol.specs.ReplySplit.{Received, reply_split}
 use Rattle.vhost_protocol.specs.Take.{is_known, answers, take}
 use Rattle.vhost_link.specs.Law.{Event}
 use Rattle.vhost_connection.specs.Talk.{State}
+use Rattle.vhost_connection.specs.Asking as asking
 use Rattle.vhost_connection.specs.Calls.{HandsOver}
 use Rattle.vhost_connection.specs.Hearing.{Hears, Fails}
 
@@ -36,24 +38,14 @@ is_table count r = r.header.size == MEMORY_HEAD_SIZE + MEMORY_REGION_SIZE * coun
 
 module _ {L H : Type 0} (event : L → Event H → L → Type 0) where
   -- The reply for a request came.
-  pub record Comes (size : ℕ) (valid : List ℕ → Bool) (room : ℕ) (old : State L H) (sent : Header) (reply : Received H) (new : State L H) : Type 0 where
-    pub hears : Hears event (reply_cut size valid room) old (Ok reply) new
-    pub answers : answers sent reply.header ≡ true
+  abbrev pub Comes : (size : ℕ) → (List ℕ → Bool) → (room : ℕ) → State L H → Header → Received H → State L H → Type 0
+  Comes = asking.Comes event is_known request_of
 
-  -- None came: what came is no reply for the request; or there is no valid reply; or the link failed.
-  pub data Missing (size : ℕ) (valid : List ℕ → Bool) (room : ℕ) (old : State L H) (sent : Header) : declared.Error → State L H → Type 0 where
-    unfit : (r : Received H) {new : State L H} → Hears event (reply_cut size valid room) old (Ok r) new → answers sent r.header ≡ false → Missing size valid room old sent code.InvalidMessage new
-    none : {e : declared.Error} {new : State L H} → Hears event (reply_cut size valid room) old (Err (seen e)) new → Missing size valid room old sent e new
-    failed : {e : declared.Error} {new : State L H} → Fails event old true e new → Missing size valid room old sent e new
+  -- None came.
+  abbrev pub Missing : (size : ℕ) → (List ℕ → Bool) → (room : ℕ) → State L H → Header → declared.Error → State L H → Type 0
+  Missing = asking.Missing event is_known request_of
 
-  -- A reply is received: the size that its header says, its record, how many bytes of payload lie in the room, and its handles.
-  abbrev pub RecvsPayload : {T : Type 0} → ℕ → (List ℕ → T) → (T → Bool) → State L H → Header → List ℕ → Result (ℕ × T × ℕ × Option (Vec H Global)) declared.Error → List ℕ → State L H → Type 0
-  RecvsPayload size read valid old sent before (Ok x) after new =
-      (reply : Received H) × Comes size (λ bs. valid (read bs)) (length before) old sent reply new × (x.0 ≡ reply.header.size) × (x.1 ≡ read reply.body) × (valid x.1 ≡ true)
-      × (x.2 ≡ length reply.payload) × (after ≡ reply.payload ++ drop x.2 before) × HandsOver x.3 reply.handles
-  RecvsPayload size read valid old sent before (Err e) after new = Missing size (λ bs. valid (read bs)) (length before) old sent e new
-
-  -- The same without a payload.
+  -- A reply is received: its record, and its handles.
   abbrev pub Recvs : {T : Type 0} → ℕ → (List ℕ → T) → (T → Bool) → State L H → Header → Result (T × Option (Vec H Global)) declared.Error → State L H → Type 0
   Recvs size read valid old sent (Ok x) new = (reply : Received H) × Comes size (λ bs. valid (read bs)) 0 old sent reply new × (x.0 ≡ read reply.body) × (valid x.0 ≡ true) × HandsOver x.1 reply.handles
   Recvs size read valid old sent (Err e) new = Missing size (λ bs. valid (read bs)) 0 old sent e new

@@ -10,39 +10,13 @@ ghost use Rattle.vhost_connection.specs.Calls.{HandsOver};
 
 use crate::asked::Sent;
 use crate::internal::{FrontendInternal, Header};
-use vhost_connection::break_on_fault;
 use vhost_link::Link;
 use vhost_message::{Error, Result, VhostUserMsgValidator, VhostUserU64};
 use vhost_protocol::Awaited;
 
 impl<L: Link> FrontendInternal<L> {
     ghost use Rattle.vhost_frontend_core.specs.Frontend.{endpoint_of, session_of, awaits};
-    ghost use Rattle.vhost_frontend_core.specs.Taking.{RecvsPayload, Recvs, Awaits, AwaitsAlone, AwaitsOne, RecvsAck, Acks};
-
-    /// Receives the reply for a request: the size that its header says, a record, how many bytes of payload lie in the room
-    /// now, and the handles.
-    pub(crate) fn recv_payload<T: VhostUserMsgValidator + Drop>(
-        &mut self,
-        request: &Header,
-        room: &mut [u8],
-    ) -> Result<(u32, T, usize, Option<Vec<L::Handle>>)>
-        requires { T.SIZE ≤ MAX_MSG_SIZE }
-        ensures same { self.new ≡ record self.old { endpoint = self.new.endpoint } }
-        ensures received { RecvsPayload L.event T.SIZE T.read T.valid (endpoint_of self.old) (fields_of request.now) room.old result room.new (endpoint_of self.new) }
-    {
-        match self.endpoint.recv_payload_into_buf::<T>(room) {
-            Ok((header, body, count, handles)) => {
-                if !header.is_reply_for(request) {
-                    return Err(Error::InvalidMessage);
-                }
-                Ok((header.get_size(), body, count, handles))
-            }
-            Err(error) => {
-                break_on_fault(&mut self.endpoint, &error);
-                Err(error)
-            }
-        }
-    }
+    ghost use Rattle.vhost_frontend_core.specs.Taking.{Recvs, Awaits, AwaitsAlone, AwaitsOne, RecvsAck, Acks};
 
     /// Receives the reply for a request: a record, and the handles.
     fn recv_record<T: VhostUserMsgValidator + Drop>(
@@ -53,8 +27,10 @@ impl<L: Link> FrontendInternal<L> {
         ensures same { self.new ≡ record self.old { endpoint = self.new.endpoint } }
         ensures received { Recvs L.event T.SIZE T.read T.valid (endpoint_of self.old) (fields_of request.now) result (endpoint_of self.new) }
     {
-        let (_, body, _, handles) = self.recv_payload(request, &mut [])?;
-        Ok((body, handles))
+        match self.endpoint.recv_reply(request, &mut []) {
+            Ok((_, body, _, handles)) => Ok((body, handles)),
+            Err(error) => Err(error),
+        }
     }
 
     /// Takes an acknowledgement where one is awaited: 0 is success.

@@ -9,11 +9,12 @@ use crate::asked::Sent;
 use crate::internal::FrontendInternal;
 use crate::session::FrontendSession;
 use vhost_link::Link;
-use vhost_message::{ByteValued, Error, FrontendReq, Result, VhostUserMsgHeader};
+use vhost_message::{ByteValued, FrontendReq, Result};
 use vhost_protocol::{Awaited, Shape};
 
 impl<L: Link> FrontendInternal<L> {
-    ghost use Rattle.vhost_frontend_core.specs.Asking.{Asks, Tries, request_with};
+    ghost use Rattle.vhost_connection.specs.Asking.{request_with};
+    ghost use Rattle.vhost_frontend_core.specs.Asking.{Asks, Tries};
     ghost use Rattle.vhost_frontend_core.specs.Frontend.{endpoint_of, session_of, awaits};
     ghost use Rattle.vhost_frontend_core.specs.Session.{frontend_of};
 
@@ -32,16 +33,11 @@ impl<L: Link> FrontendInternal<L> {
             → Tries L.event (request_with request.1 request.0 p (map (λ h. h.now) handles.now)) request.2 (endpoint_of self.old) (awaits self.old) result (endpoint_of self.new) (awaits self.new) }
     {
         let (code, flags, awaited) = request;
-        if self.endpoint.make_list().is_err() {
-            return Err(Error::OutOfMemory);
-        }
-        let size = (T::SIZE + payload.len()) as u32;
-        let header = VhostUserMsgHeader::new(code, flags, size);
         match self
             .endpoint
-            .send_message_with_payload(&header, body, payload, handles)
+            .send_request(code, flags, body, payload, handles)
         {
-            Ok(()) => {
+            Ok(header) => {
                 self.awaited = awaited;
                 Ok(Sent::new(header, awaited))
             }

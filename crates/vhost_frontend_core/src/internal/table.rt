@@ -24,7 +24,8 @@ use vhost_message::{
 use vhost_protocol::{Awaited, Shape};
 
 impl<L: Link> FrontendInternal<L> {
-    ghost use Rattle.vhost_frontend_core.specs.Asking.{AsksWithRoom, Tries, request_with};
+    ghost use Rattle.vhost_connection.specs.Asking.{request_with};
+    ghost use Rattle.vhost_frontend_core.specs.Asking.{AsksWithRoom, Tries};
     ghost use Rattle.vhost_frontend_core.specs.Frontend.{endpoint_of, session_of, awaits};
     ghost use Rattle.vhost_frontend_core.specs.Taking.{IsAck, RecvsTable};
     ghost use Rattle.vhost_frontend_core.specs.Halves.{AsksHalfWithRoom, TakesHalf};
@@ -159,7 +160,7 @@ impl<L: Link> FrontendInternal<L> {
         ensures same { self.new ≡ record self.old { endpoint = self.new.endpoint } }
         ensures received { RecvsTable L.event count (endpoint_of self.old) (fields_of request.now) result room.new (endpoint_of self.new) }
     {
-        match self.recv_payload::<VhostUserMemory>(request, room) {
+        match self.endpoint.recv_reply::<VhostUserMemory>(request, room) {
             Ok((size, head, len, handles)) => {
                 if size as usize != MEMORY_HEAD_SIZE + MEMORY_REGION_SIZE * count {
                     return Err(Error::InvalidMessage);

@@ -2,7 +2,7 @@
 use Rattle.std.proofs.Common.{sym, ◌∙◌}
 use Rattle.vhost_message.specs.declared.frontend_req.FrontendReq.TheVariants.{SET_MEM_TABLE}
 use Rattle.vhost_protocol.specs.Written.{Regions}
-use Rattle.vhost_frontend_core.specs.Asking.{request_with}
+use Rattle.vhost_connection.specs.Asking.{request_with}
 use Rattle.vhost_frontend_core.specs.Asking.AsksWithRoom.{roomy}
 use Rattle.vhost_frontend_core.proofs.Asking.{stops, passes, else_as, tried-as, tries_as}
 use Rattle.vhost_frontend_core.proofs.internal.FrontendInternal.ask_set_mem_table.Goals as goal

@@ -9,7 +9,7 @@ use Rattle.vhost_protocol.specs.declared.asked.Shape.TheVariants as shape
 use Rattle.vhost_protocol.specs.Error.{BackendInternalError}
 use Rattle.vhost_protocol.specs.FrontendCall.{Frontend, CheckDeviceState, Nothing}
 use Rattle.vhost_frontend_core.specs.Frontend.{session_of}
-use Rattle.vhost_frontend_core.proofs.Handed.{nonzero}
+use Rattle.vhost_connection.proofs.Handed.{nonzero}
 use Rattle.vhost_frontend_core.proofs.Taking.{alone-replied, alone-fails}
 use Rattle.vhost_frontend_core.proofs.internal.FrontendInternal.take_check_device_state.Goals as goal
 
