@@ -89,7 +89,7 @@ module _ {Dev : Type 0} (gives : Gives Dev) (call : FrontendCall PlainHandle) (b
       IsServed1 = IsServed gives he1 he2 old.session new.session old.device new.device w (seen_result v.result)
 
       served-or-not : IsServed1 ⊎ Faults he1 he2
-      served-or-not = by-cases (split-handled gives he1 he2 old.session new.session old.device new.device v.result (v.handled sound.failed) (ap {A = End} (λ e. e.broken) v.there.receiver ∙ sound.serves) (ap {A = End} (λ e. e.list) v.there.receiver ∙ lists.1))
+      served-or-not = by-cases (split-handled gives he1 he2 old.session new.session old.device new.device sound.failed v.result (v.handled sound.failed) (ap {A = End} (λ e. e.broken) v.there.receiver ∙ sound.serves) (ap {A = End} (λ e. e.list) v.there.receiver ∙ lists.1))
         where
           by-cases : IsHandled gives he1 he2 old.session new.session old.device new.device (seen_result v.result) ⊎ Faults he1 he2 → IsServed1 ⊎ Faults he1 he2
           by-cases (inl h) = inl (is-served gives he1 he2 old.session new.session old.device new.device w (seen_result v.result) (sendable call good old.frontend w aw1 f1 ask1.asked) h came clear sound.failed)

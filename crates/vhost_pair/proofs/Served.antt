@@ -1,7 +1,8 @@
 -- A request that was served.
-use Rattle.std.proofs.Common.{◌≡◌, ◌⊎◌, inl, inr, Bool, true, false, cond, List, [], ◌++◌, Option, Some, None, Result, Ok, Err, refl, sym, ◌∙◌, ap, subst}
+use Rattle.std.proofs.Common.{◌≡◌, ◌⊎◌, inl, inr, Bool, true, false, cond, List, [], ◌++◌, ℕ, take, Option, Some, None, Result, Ok, Err, arith, refl, sym, ◌∙◌, ap, subst}
 use Rattle.std.specs.Prelude.{⊤}
-use Rattle.std.proofs.lemmas.List.{append-nil}
+use Rattle.std.proofs.lemmas.List.{append-nil, length-take}
+use Rattle.vhost_message.specs.Cause.{is_retry}
 use Rattle.vhost_message.specs.declared.error.Error as declared
 use Rattle.vhost_message.specs.declared.error.Error.TheVariants as error
 use Rattle.vhost_message.specs.declared.frontend_req.FrontendReq.{FrontendReq}
@@ -16,14 +17,21 @@ use Rattle.vhost_protocol.specs.Session.{Session}
 use Rattle.vhost_protocol.specs.Row.{row}
 use Rattle.vhost_protocol.specs.Split.{split, Message}
 use Rattle.vhost_protocol.specs.Step.{Outcome}
-use Rattle.vhost_protocol.specs.Stream.{Cell, bytes}
+use Rattle.vhost_protocol.specs.Stream.{Cell, bytes, heard, items}
 use Rattle.vhost_protocol.specs.Written.{Written, written_cells}
 use Rattle.vhost_protocol.proofs.FollowLaws.{followed-mark}
 use Rattle.vhost_protocol.proofs.RowLaws.{rows-keep}
 use Rattle.vhost_protocol.proofs.TextLaws.{IsSendable, written-split}
 use Rattle.vhost_link.specs.declared.plain.PlainHandle.{PlainHandle}
 use Rattle.vhost_link.specs.Mem.{event}
-use Rattle.vhost_backend_req_handler.specs.Serving.{Handled, HandlesOne, fitting}
+use Rattle.vhost_link.specs.Law.{Move, ◌then◌, refused}
+use Rattle.vhost_connection.specs.Pass.{receives, sends}
+use Rattle.vhost_connection.specs.Hearing.{Hears, Spends}
+use Rattle.vhost_connection.specs.Requests.{Stops}
+use Rattle.vhost_connection.proofs.Talking.{Talks-then}
+use Rattle.vhost_connection.proofs.Failing.{fell-talks, spends, refused-taken, trouble-fails}
+use Rattle.vhost_backend_req_handler.specs.Serving.{HandlesOne, Breaks, unread, unanswered, fitting, reply_cells}
+use Rattle.vhost_backend_req_handler.proofs.Handling.{Entry, as-entry}
 use Rattle.vhost_pair.specs.declared.halt.Stop.{Stop}
 use Rattle.vhost_pair.specs.declared.halt.Stop.TheVariants.{Table, Premise}
 use Rattle.vhost_pair.specs.Device.{Gives, opens_backend, opens_gpu}
@@ -40,14 +48,37 @@ pair-first {A = A} {B = B} e = ap {A = A × B} (λ x. x.0) e
 pub pair-second : {A B : Type 0} {p q : A × B} → p ≡ q → p.1 ≡ q.1
 pair-second {A = A} {B = B} e = ap {A = A × B} (λ x. x.1) e
 
+-- what is more than a message may take in the later of two moves
+spends-later : {H : Type 0} (m n : Move H) (limit budget : ℕ) → limit ≡ budget → Spends limit n → Spends budget (m then n)
+spends-later m n limit budget same (inl failed) = inl (omega arith)
+spends-later m n limit budget same (inr more) = inr (omega arith)
+
 module _ {Dev : Type 0} (gives : Gives Dev) (he he' : End) (s s' : Session) (d d' : Dev) where
   abbrev pub IsHandled : Result ⊤ Error → Type 0
-  IsHandled r = Handled event gives opens_backend opens_gpu he s d r he' s' d'
+  IsHandled r = Entry event gives opens_backend opens_gpu he s d r he' s' d'
 
-  pub split-handled : (r : Result ⊤ declared.Error) → HandlesOne event gives opens_backend opens_gpu he s d r he' s' d' → he.broken ≡ None → he.list ≡ true → IsHandled (seen_result r) ⊎ Faults he he'
-  split-handled (Ok u) h whole list = inl h
-  split-handled (Err e) (inl h) whole list = inl h
-  split-handled (Err e) (inr k) whole list = inr (faults he he' false e k.fails whole list)
+  -- what had moved when a fault stopped a reply
+  stopped-faults : (m : Message FrontendReq PlainHandle) (mid : End) (cells : List (Cell PlainHandle)) (e : declared.Error) → Hears event (split request_of allows_handles) he (Ok m) mid → Stops event mid cells e he' → Faults he he'
+  stopped-faults m mid cells e h p =
+      let first : Move PlainHandle = receives (heard h.cells h.ended) h.retries in
+      let part : Move PlainHandle = sends (take p.count cells) p.retries in
+      let taken : (part then refused p.cause).taken ≡ take p.count cells = refused-taken part p.cause (is_retry p.cause) in
+      record {
+        move = first then (part then refused p.cause);
+        talks = Talks-then h.serves.talks (fell-talks p.cause p.fell);
+        spends = spends-later first (part then refused p.cause) mid.budget he.budget h.serves.talks.budget (spends mid.budget part (is_retry p.cause) refl p.spent);
+        few = rw (taken, length-take p.count cells) (omega (arith, p.few));
+        faulted = p.faulted;
+      }
+
+  broke-faults : (e : declared.Error) → Breaks event gives opens_backend opens_gpu he s d e he' s' d' → he.broken ≡ None → he.list ≡ true → Faults he he'
+  broke-faults e (unread p same kept) whole list = faults he he' false e (trouble-fails event he true false (receives (items p.cells) p.retries) e he' p.trouble refl (omega arith)) whole list
+  broke-faults e (unanswered m mid h p) whole list = stopped-faults m mid (reply_cells m.request p.outcome.served) e h p.stops
+
+  pub split-handled : s.failed ≡ None → (r : Result ⊤ declared.Error) → HandlesOne event gives opens_backend opens_gpu he s d r he' s' d' → he.broken ≡ None → he.list ≡ true → IsHandled (seen_result r) ⊎ Faults he he'
+  split-handled alive (Ok u) h whole list = inl (as-entry event gives opens_backend opens_gpu alive h)
+  split-handled alive (Err e) (inl h) whole list = inl (as-entry event gives opens_backend opens_gpu alive h)
+  split-handled alive (Err e) (inr k) whole list = inr (broke-faults e k whole list)
 
   -- The request was served.
   pub record IsServed (w : Written FrontendReq PlainHandle) (r : Result ⊤ Error) : Type 0 where
@@ -91,7 +122,7 @@ module _ {Dev : Type 0} (gives : Gives Dev) (he he' : End) (s s' : Session) (d d
   handles-mark (Err e) r written h = ap {A = Session} (λ t. t.failed) h.2
   handles-mark (Ok m) r written h = ap {A = Session} (λ t. t.failed) h.4 ∙ followed-mark (fitting gives) opens_backend opens_gpu s d (row s m) h.0 d' (rows-keep PlainHandle _ _ m.request s m) h.1
 
-  pub handled-mark : (r : Result ⊤ Error) → Handled event gives opens_backend opens_gpu he s d r he' s' d' → s.failed ≡ None → s'.failed ≡ None
+  pub handled-mark : (r : Result ⊤ Error) → Entry event gives opens_backend opens_gpu he s d r he' s' d' → s.failed ≡ None → s'.failed ≡ None
   handled-mark r h failed =
       let sv : run.ServesUnless request_of allows_handles (λ (t : Session). t.failed) (MeetsRow (fitting gives) opens_backend opens_gpu) None s d h.move.handed r h.move.taken s' d' =
       subst (λ x. run.ServesUnless request_of allows_handles (λ (t : Session). t.failed) (MeetsRow (fitting gives) opens_backend opens_gpu) x s d h.move.handed r h.move.taken s' d') failed h.handles in

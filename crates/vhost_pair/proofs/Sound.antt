@@ -37,7 +37,7 @@ module _ {Dev : Type 0} (gives : Gives Dev) (call : FrontendCall PlainHandle) (o
     faulted-stops faulted = let why = v.stops ∙ ap (λ b. stop_of (ends call) b v.result new.reply.bytes) faulted in absurd (cc (sym why ∙ on))
 
     handled : IsHandled1
-    handled = by-cases (split-handled gives v.serving_then v.serving_after old.session new.session old.device new.device v.result (v.handled sound.failed) (ap {A = End} (λ e. e.broken) v.there.receiver ∙ sound.serves) (ap {A = End} (λ e. e.list) v.there.receiver ∙ lists.1))
+    handled = by-cases (split-handled gives v.serving_then v.serving_after old.session new.session old.device new.device sound.failed v.result (v.handled sound.failed) (ap {A = End} (λ e. e.broken) v.there.receiver ∙ sound.serves) (ap {A = End} (λ e. e.list) v.there.receiver ∙ lists.1))
       where
         by-cases : IsHandled1 ⊎ Faults v.serving_then v.serving_after → IsHandled1
         by-cases (inl h) = h

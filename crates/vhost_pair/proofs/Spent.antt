@@ -5,17 +5,19 @@ use Rattle.std.proofs.lemmas.List.{drop-drop}
 use Rattle.std.proofs.lemmas.List.Sums.{sum_by-append}
 use Rattle.std.proofs.Math.Seq.{take-add}
 use Rattle.vhost_message.specs.declared.limits.TheConstants.{MAX_MSG_TEXT}
+use Rattle.vhost_message.specs.Cause.{is_retry}
 use Rattle.vhost_message.specs.declared.error.Error as declared
 use Rattle.vhost_message.specs.declared.error.Error.TheVariants as error
 use Rattle.vhost_link.specs.declared.plain.PlainHandle.{PlainHandle}
 use Rattle.vhost_link.specs.declared.cut.Cut.{Cut}
 use Rattle.vhost_link.specs.Cuts.{retry, failure}
 use Rattle.vhost_link.specs.Ends.{Ends}
-use Rattle.vhost_link.specs.Law.{Move}
+use Rattle.vhost_link.specs.Law.{Move, ◌then◌, refused}
 use Rattle.vhost_link.specs.Mem.{event, Runs}
 use Rattle.vhost_link.proofs.MemStream.{mem-stream}
 use Rattle.vhost_connection.specs.Talk.{State, Talks}
 use Rattle.vhost_connection.proofs.Errors.{no_memory_error}
+use Rattle.vhost_connection.proofs.Failing.{fell-talks, spends, refused-taken}
 use Rattle.vhost_connection.specs.Hearing.{Fails, Spends, was_broken, no_memory, fault}
 use Rattle.vhost_pair.specs.Joined.{Cuts, IsSpent, IsUsed}
 use Rattle.vhost_pair.specs.Sides.{cuts_of}
@@ -54,15 +56,16 @@ pub record Faults (old new : State Ends PlainHandle) : Type 0 where
   pub faulted : new.faulted ≡ true
 
 pub faults : (old new : State Ends PlainHandle) (between : Bool) (e : declared.Error) → Fails event old between e new → old.broken ≡ None → old.list ≡ true → Faults old new
-faults old new between _ (was_broken b same) whole list = let h = sym b ∙ whole in absurd (cc h)
+faults old new between _ (was_broken b same kept) whole list = let h = sym b ∙ whole in absurd (cc h)
 faults old new between _ (no_memory b same) whole list = let h = sym b ∙ list in absurd (cc h)
-faults old new between _ (fault c m b talks spends few broken faulted) whole list = record { move = m; talks = talks; spends = spends; few = few; faulted = faulted }
+faults old new between _ (fault c m b fell none most spent few broken faulted kept) whole list =
+    record { move = m then refused c; talks = fell-talks c fell; spends = spends old.budget m (is_retry c) none spent; few = rw (refused-taken m c (is_retry c)) few; faulted = faulted }
 
 -- an endpoint that has its list of handles lacks no memory
 pub no-memory : (old new : State Ends PlainHandle) (between : Bool) (e : declared.Error) → Fails event old between e new → old.list ≡ true → e ≡ error.OutOfMemory → ⊥
-no-memory old new between _ (was_broken b same) list is = absurd (cc is)
+no-memory old new between _ (was_broken b same kept) list is = absurd (cc is)
 no-memory old new between _ (no_memory b same) list is = let h = sym b ∙ list in absurd (cc h)
-no-memory old new between _ (fault c m b talks spends few broken faulted) list is = no_memory_error _ c refl is
+no-memory old new between _ (fault c m b talks none most spent few broken faulted kept) list is = no_memory_error _ c refl is
 
 -- its script tells
 pub fault-spent : (old new : State Ends PlainHandle) → Faults old new → IsSpent old.budget (cuts_of old.link) (cuts_of new.link)

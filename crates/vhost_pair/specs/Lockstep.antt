@@ -2,19 +2,17 @@
 use Rattle.std.specs.Prelude.{◌≡◌, ℕ, List, [], ◌∷◌, Bool, Some, None, false, Result, ⊤}
 use Rattle.vhost_message.specs.Bits.{has_bit}
 use Rattle.vhost_protocol.specs.Error.{Error}
-use Rattle.vhost_protocol.specs.FrontendCall.{FrontendCall, SetHdrFlags, Frontend, Value}
+use Rattle.vhost_protocol.specs.FrontendCall.{FrontendCall, SetHdrFlags, Value}
 use Rattle.vhost_protocol.specs.Joined.{JoinedRun}
-use Rattle.vhost_protocol.specs.Session.{Session}
 use Rattle.vhost_link.specs.declared.cut.Cut.{Cut}
 use Rattle.vhost_link.specs.declared.plain.PlainHandle.{PlainHandle}
-use Rattle.vhost_link.specs.Mem.{AreGives}
 use Rattle.vhost_frontend_calls.specs.declared.call.FrontendCall as code
 use Rattle.vhost_frontend_calls.specs.declared.answer.FrontendAnswer.{FrontendAnswer}
 use Rattle.vhost_pair.specs.declared.halt.Halt.{Halt}
 use Rattle.vhost_pair.specs.declared.halt.Stop.TheVariants.{Premise}
 use Rattle.vhost_frontend_calls.specs.Calls.{call_of, answer_of}
 use Rattle.vhost_pair.specs.Device.{Gives, opens_backend, opens_gpu}
-use Rattle.vhost_pair.specs.Joined.{View, IsReady, Offers, Starves, StepsAll}
+use Rattle.vhost_pair.specs.Joined.{View, IsReady, Offers, StepsAll}
 use Rattle.vhost_pair.specs.Sides.{as_view, fresh_parts}
 
 -- the calls that were answered, with their answers
@@ -33,24 +31,18 @@ ArePlain [] = ⊤
 ArePlain (c ∷ cs) = IsPlain (call_of c) × ArePlain cs
 
 module _ {Dev : Type 0} (gives : Gives Dev) where
-  -- Each cut of both scripts moves bytes, no link wanted memory, and no request is answered by want of memory.
-  pub record IsClean (old new : View Dev) : Type 0 where
-    pub asking : AreGives old.asking.script
-    pub serving : AreGives old.serving.script
-    pub asking_fed : new.asking.starved ≡ false
-    pub serving_fed : new.serving.starved ≡ false
-    pub fed : (f : Frontend) (s : Session) (d : Dev) (call : FrontendCall PlainHandle) (d' : Dev) → Starves gives f s d call d' → ⊥
-
-  -- The answered calls are a joined run of the protocol. Unless it stops both sides stay in step, and it never stops but at its last step.
+  -- The answered calls are a joined run of the protocol. Nothing is left on the way, and unless the run stopped both sides are in step.
   pub record IsLockstep (bit : Bool) (old new : View Dev) (calls : List code.FrontendCall) (answers : List FrontendAnswer) : Type 0 where
     pub run : JoinedRun gives opens_backend opens_gpu old.frontend old.session old.device (entries calls answers) new.frontend new.session new.device
     pub in_step : new.stopped ≡ None → IsReady bit new
-    pub no_premise : new.stopped ≡ Some Premise → ⊥
+    pub no_request : new.to_handler ≡ []
+    pub no_reply : new.to_frontend ≡ []
 
-  -- where no premise fails, the steps of a run that has not stopped keep the lockstep
+  -- The steps of a run that was in step keep the lockstep, unless it stopped because a premise failed: that step has the evidence.
   abbrev pub LockstepLaw : Type 0
   LockstepLaw = (bit : Bool) (old new : View Dev) (calls : List code.FrontendCall) (answers : List FrontendAnswer) (end : Result ⊤ Halt)
-      → Offers gives bit → IsReady bit old → old.stopped ≡ None → ArePlain calls → StepsAll gives old calls answers end new → IsClean old new → IsLockstep bit old new calls answers
+      → Offers gives bit → IsReady bit old → old.stopped ≡ None → ArePlain calls → StepsAll gives old calls answers end new → (new.stopped ≡ Some Premise → ⊥)
+      → IsLockstep bit old new calls answers
 
 -- a run that begins is in step
 abbrev pub BeginsInStep : Type 0 → Type 0
