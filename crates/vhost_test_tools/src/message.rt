@@ -82,3 +82,27 @@ pub(crate) fn push_held(
     push_handles(alloc, text, handles)?;
     text.push_str(format!(in alloc; "{byte:02x}")?.as_str())
 }
+
+/// Puts a message behind a text.
+pub(crate) fn push_message(
+    alloc: Global,
+    text: &mut String,
+    message: &Message,
+) -> Result<(), AllocError> {
+    push_some(alloc, text, &message.bytes, &message.handles)
+}
+
+/// Puts bytes behind a text, the first one after its handles.
+pub(crate) fn push_some(
+    alloc: Global,
+    text: &mut String,
+    bytes: &[u8],
+    handles: &[PlainHandle],
+) -> Result<(), AllocError> {
+    let mut first = handles;
+    for byte in bytes {
+        push_held(alloc, text, *byte, first)?;
+        first = &[];
+    }
+    Ok(())
+}

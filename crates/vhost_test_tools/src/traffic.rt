@@ -1,15 +1,9 @@
 //! What goes over a link, against what a script says of it.
 
-use crate::message::{Message, message_of, push_held};
+use crate::message::{message_of, push_held, push_message, push_some};
 use crate::miss::{Miss, differs, expect, unreadable};
-use std::alloc::{AllocError, Global};
-use vhost_link::{Link, MemLink, PlainHandle};
-
-/// How many bytes are looked at, at once, of what is left on a link.
-const ROOM: usize = 64;
-
-/// How many calls of a link at most show what is left on it.
-const CALLS: usize = 10_000;
+use std::alloc::Global;
+use vhost_link::{MemLink, PlainHandle};
 
 /// What the side under test is to write next, and how much it wrote before.
 #[derive(Drop)]
@@ -55,8 +49,9 @@ impl Traffic {
     pub fn check(&mut self, mem: &MemLink) -> Result<(), Miss> {
         let mut met = String::new(self.alloc);
         let taken = mem.taken();
-        for held in taken.iter().skip(self.seen) {
-            push_held(self.alloc, &mut met, held.byte(), held.handles())?;
+        let bytes = taken.bytes();
+        for i in self.seen..bytes.len() {
+            push_held(self.alloc, &mut met, bytes[i], taken.handles(i))?;
         }
         self.seen = taken.len();
         self.compare(met.as_str())
@@ -81,22 +76,21 @@ impl Traffic {
         self.seen = mem.taken().len();
     }
 
-    /// Compares what is left on the way to the side with a message, and takes it away.
-    pub fn check_left(&mut self, mem: &mut MemLink, text: &str) -> Result<(), Miss> {
+    /// Compares what was left on the way to the side with a message.
+    pub fn check_left(&self, left: &str, text: &str) -> Result<(), Miss> {
         let message = message_of(self.alloc, self.n, text)?;
         let mut wanted = String::new(self.alloc);
         push_message(self.alloc, &mut wanted, &message)?;
-        expect(self.alloc, wanted.as_str(), left(self.alloc, mem)?.as_str())
+        expect(self.alloc, wanted.as_str(), left)
     }
 
-    /// Tests that nothing is wanted, and nothing is left on the way to the side.
-    pub fn end(&mut self, mem: &mut MemLink) -> Result<(), Miss> {
+    /// Tests that nothing is wanted, and nothing was left on the way to the side.
+    pub fn end(&self, left: &str) -> Result<(), Miss> {
         self.expect_none()?;
-        let rest = left(self.alloc, mem)?;
-        if rest.is_empty() {
+        if left.is_empty() {
             return Ok(());
         }
-        Err(differs(self.alloc, "nothing left", rest.as_str()))
+        Err(differs(self.alloc, "nothing left", left))
     }
 
     /// Tests that nothing is wanted.
@@ -106,39 +100,4 @@ impl Traffic {
         }
         Err(unreadable(self.alloc, "an answer", "none"))
     }
-}
-
-/// Puts a message behind a text.
-fn push_message(alloc: Global, text: &mut String, message: &Message) -> Result<(), AllocError> {
-    push_some(alloc, text, &message.bytes, &message.handles)
-}
-
-/// Puts bytes behind a text, the first one after its handles.
-fn push_some(
-    alloc: Global,
-    text: &mut String,
-    bytes: &[u8],
-    handles: &[PlainHandle],
-) -> Result<(), AllocError> {
-    let mut first = handles;
-    for byte in bytes {
-        push_held(alloc, text, *byte, first)?;
-        first = &[];
-    }
-    Ok(())
-}
-
-/// Takes what is left on the way, each byte after the handles that it brings.
-fn left(alloc: Global, mem: &mut MemLink) -> Result<String, Miss> {
-    let mut text = String::new(alloc);
-    for _ in 0..CALLS {
-        let mut room = [0u8; ROOM];
-        let mut handles = Vec::with_capacity(alloc, 32)?;
-        match mem.recv(&mut room, &mut handles) {
-            Ok(0) => break,
-            Ok(count) => push_some(alloc, &mut text, &room[..count], &handles)?,
-            Err(_) => {}
-        }
-    }
-    Ok(text)
 }

@@ -51,10 +51,10 @@ impl Actor {
     }
 
     /// Tests that nothing is wanted any more, and nothing is left.
-    pub(crate) fn end(&mut self) -> Result<(), Miss> {
+    pub(crate) fn end(&mut self, rt: &impl Wait) -> Result<(), Miss> {
         match self {
-            Actor::Served(player) => player.end(),
-            Actor::Asking(player) => player.end(),
+            Actor::Served(player) => player.end(rt),
+            Actor::Asking(player) => player.end(rt),
             Actor::Joined(player) => player.end(),
             Actor::Lines(player) => player.end(),
             Actor::Endpoint(player) => player.end(),

@@ -55,7 +55,10 @@ impl Asking {
             "answer" => self.answer(rt, rest),
             "agreed" => self.agree(rt, rest),
             "link" => self.expect_link(rest),
-            "left" => self.side.check_left(self.alloc, &mut self.traffic, rest),
+            "left" => {
+                let left = self.side.left(self.alloc)?;
+                self.traffic.check_left(left.as_str(), rest)
+            }
             _ => Err(unreadable(self.alloc, "a step", word)),
         }
     }
@@ -102,10 +105,12 @@ impl Asking {
     }
 
     /// Tests that each call was made, and all was received.
-    pub(crate) fn end(&mut self) -> Result<(), Miss> {
+    pub(crate) fn end(&mut self, rt: &impl Wait) -> Result<(), Miss> {
         if self.call.is_some() {
             return Err(unreadable(self.alloc, "an answer", "none"));
         }
-        self.side.end(self.alloc, &mut self.traffic)
+        let left = self.side.left(self.alloc)?;
+        self.traffic.end(left.as_str())?;
+        self.side.end(self.alloc, rt)
     }
 }

@@ -14,8 +14,8 @@ use vhost_gpu_message::{GpuBackendReq, VhostUserGpuMsgHeader};
 use vhost_link::MemLink;
 use vhost_message::{FrontendReq, IoCause, MsgHeader, VhostUserMsgHeader};
 use vhost_test_tools::{
-    Miss, Settings, Traffic, bytes_text, counted, cuts_of, expect, message_of, narrow,
-    outcome_text, unreadable,
+    Miss, Settings, Traffic, bytes_text, counted, cuts_of, expect, left_of_endpoint, message_of,
+    narrow, outcome_text, unreadable,
 };
 
 /// An endpoint of frontend requests, or of the display's channel.
@@ -78,7 +78,10 @@ impl EndpointPlayer {
                 };
                 expect(self.alloc, rest, met)
             }
-            "left" => self.traffic.check_left(self.end.link(), rest),
+            "left" => {
+                let left = self.end.left(self.alloc)?;
+                self.traffic.check_left(left.as_str(), rest)
+            }
             _ => Err(unreadable(self.alloc, "a step", word)),
         }
     }
@@ -110,7 +113,8 @@ impl EndpointPlayer {
         if self.call.is_some() {
             return Err(unreadable(self.alloc, "an answer", "none"));
         }
-        self.traffic.end(self.end.link())
+        let left = self.end.left(self.alloc)?;
+        self.traffic.end(left.as_str())
     }
 }
 
@@ -120,6 +124,14 @@ impl End {
         match self {
             End::Requests(end) => end.link(),
             End::Display(end) => end.link(),
+        }
+    }
+
+    /// Takes what was not received.
+    fn left(&mut self, alloc: Global) -> Result<String, Miss> {
+        match self {
+            End::Requests(end) => left_of_endpoint(alloc, end),
+            End::Display(end) => left_of_endpoint(alloc, end),
         }
     }
 

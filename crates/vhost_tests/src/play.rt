@@ -53,23 +53,48 @@ fn play_once(
     (n, is_whole): (usize, bool),
     tally: &mut Tally,
 ) -> Result<(), Refusal> {
-    let mut number = session.number;
     tally.sessions = tally.sessions.wrapping_add(1);
-    let mut actor = match Actor::new(alloc, session, n, is_whole) {
-        Ok(actor) => actor,
-        Err(miss) => return Err(Refusal { number, miss }),
-    };
-    for line in &session.steps {
-        number = line.number;
-        tally.steps = tally.steps.wrapping_add(1);
-        if let Err(miss) = play_line(rt, alloc, &mut actor, *line) {
-            return Err(Refusal { number, miss });
-        }
+    match Actor::new(alloc, session, n, is_whole) {
+        Ok(mut actor) => play_whole(rt, alloc, &mut actor, session, tally),
+        Err(miss) => Err(Refusal {
+            number: session.number,
+            miss,
+        }),
     }
-    match actor.end() {
+}
+
+/// Plays the steps of a session, and its end.
+fn play_whole(
+    rt: &impl Wait,
+    alloc: Global,
+    actor: &mut Actor,
+    session: &Session<'_>,
+    tally: &mut Tally,
+) -> Result<(), Refusal> {
+    let number = play_steps(rt, alloc, actor, session, tally)?;
+    match actor.end(rt) {
         Ok(()) => Ok(()),
         Err(miss) => Err(Refusal { number, miss }),
     }
+}
+
+/// Plays the steps of a session; the answer is the number of the last line.
+fn play_steps(
+    rt: &impl Wait,
+    alloc: Global,
+    actor: &mut Actor,
+    session: &Session<'_>,
+    tally: &mut Tally,
+) -> Result<u64, Refusal> {
+    let mut number = session.number;
+    for line in &session.steps {
+        number = line.number;
+        tally.steps = tally.steps.wrapping_add(1);
+        if let Err(miss) = play_line(rt, alloc, actor, *line) {
+            return Err(Refusal { number, miss });
+        }
+    }
+    Ok(number)
 }
 
 /// Plays a line. One after `not` must find a difference, one after `bad` can't be read.

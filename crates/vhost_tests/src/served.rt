@@ -9,10 +9,10 @@ use std::alloc::{AllocError, Global};
 use std::cell::RefCell;
 use std::rc::Rc;
 use std::sync::Wait;
-use vhost_message::Result as Outcome;
+use vhost_message::{Error, Result as Outcome};
 use vhost_test_tools::{
-    Miss, Settings, Sheet, Traffic, Wire, count_of, expect, lend, narrow, number_of, outcome_text,
-    unreadable,
+    Miss, Settings, Sheet, Traffic, Wire, count_of, differs, expect, left_of_link, lend, narrow,
+    number_of, outcome_text, unreadable,
 };
 
 /// A handler, and what is to happen until its next answer.
@@ -70,9 +70,10 @@ impl Served {
     fn aside(&mut self, word: &str, rest: &str) -> Result<(), Miss> {
         match word {
             "link" => self.expect_link(rest),
-            "left" => self
-                .traffic
-                .check_left(&mut lend(self.alloc, &self.wire)?.mem, rest),
+            "left" => match self.handler.left(self.alloc)? {
+                Some(left) => self.traffic.check_left(left.as_str(), rest),
+                None => Err(unreadable(self.alloc, "a device without a lock", word)),
+            },
             "set_failed" => self.fail(rest),
             "opens" => self.set_opening(rest),
             "state" => self.expect_state(rest),
@@ -196,12 +197,29 @@ impl Served {
     }
 
     /// Tests that nothing is wanted any more, and nothing is left.
-    pub(crate) fn end(&mut self) -> Result<(), Miss> {
+    pub(crate) fn end(&mut self, rt: &impl Wait) -> Result<(), Miss> {
         if self.to_come > 0 {
             return Err(unreadable(self.alloc, "an answer", "none"));
         }
         lend(self.alloc, &self.sheet)?.check()?;
-        self.traffic.end(&mut lend(self.alloc, &self.wire)?.mem)
+        match self.handler.left(self.alloc)? {
+            Some(left) => self.traffic.end(left.as_str()),
+            None => self.end_locked(rt),
+        }
+    }
+
+    /// Tests that nothing is left for a handler behind a lock: on its link there is no byte, and one request more meets
+    /// the end, unless the session has failed.
+    fn end_locked(&mut self, rt: &impl Wait) -> Result<(), Miss> {
+        let left = left_of_link(self.alloc, &mut lend(self.alloc, &self.wire)?.mem)?;
+        self.traffic.end(left.as_str())?;
+        match self.handler.serve(rt) {
+            Err(Error::Disconnected | Error::SocketBroken(_)) => Ok(()),
+            outcome => {
+                let met = text_of(self.alloc, outcome)?;
+                Err(differs(self.alloc, "nothing left", met.as_str()))
+            }
+        }
     }
 }
 

@@ -3,6 +3,7 @@
 ghost use Rattle.std.specs.Prelude.{◌≡◌};
 ghost use Rattle.vhost_connection.specs.State.{state};
 
+mod asks;
 mod display;
 mod frontend;
 

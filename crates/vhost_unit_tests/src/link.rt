@@ -27,15 +27,14 @@ fn raw(answer: Result<usize, IoCause>) -> Result<usize, i32> {
 
 /// The bytes that a link took in, and the numbers of their handles with the place of their byte.
 fn taken(alloc: Global, link: &MemLink) -> Result<(Vec<u8>, Vec<(usize, u32)>), Fail> {
-    let mut bytes = Vec::new(alloc);
+    let taken = link.taken();
     let mut handles = Vec::new(alloc);
-    for held in link.taken() {
-        for handle in held.handles() {
-            handles.push((bytes.len(), handle.id))?;
+    for i in 0..taken.len() {
+        for handle in taken.handles(i) {
+            handles.push((i, handle.id))?;
         }
-        bytes.push(held.byte())?;
     }
-    Ok((bytes, handles))
+    Ok((Vec::from_slice(alloc, taken.bytes())?, handles))
 }
 
 /// What one receive gives: the answer, the room, and how many handles.

@@ -13,7 +13,10 @@ use vhost_frontend_calls::{FrontendAnswer, FrontendCall, ask, take};
 use vhost_frontend_core::FrontendInternal;
 use vhost_link::{Cut, MemLink};
 use vhost_message::VhostUserHeaderFlag;
-use vhost_test_tools::{Miss, PlainLink, Settings, Traffic, Wire, differs, lend};
+use vhost_test_tools::{
+    Miss, PlainLink, Settings, Traffic, Wire, answer_text, differs, left_of_endpoint, left_of_link,
+    lend,
+};
 
 /// A frontend of one of the two kinds.
 #[derive(Drop)]
@@ -106,26 +109,19 @@ impl Side {
         Ok(())
     }
 
-    /// Compares what the frontend has not received, and takes it away.
-    pub(crate) fn check_left(
-        &mut self,
-        alloc: Global,
-        traffic: &mut Traffic,
-        message: &str,
-    ) -> Result<(), Miss> {
+    /// Takes what the frontend has not received; by whole calls, what is on the link.
+    pub(crate) fn left(&mut self, alloc: Global) -> Result<String, Miss> {
         match self {
-            Side::Halves(frontend) => traffic.check_left(frontend.endpoint_mut().link(), message),
-            Side::Whole(shared) => {
-                traffic.check_left(&mut lend(alloc, &shared.wire)?.mem, message)
-            }
+            Side::Halves(frontend) => left_of_endpoint(alloc, frontend.endpoint_mut()),
+            Side::Whole(shared) => left_of_link(alloc, &mut lend(alloc, &shared.wire)?.mem),
         }
     }
 
-    /// Tests that nothing is wanted any more, and nothing is left.
-    pub(crate) fn end(&mut self, alloc: Global, traffic: &mut Traffic) -> Result<(), Miss> {
+    /// Tests that nothing was received ahead, once nothing is on the link.
+    pub(crate) fn end(&mut self, alloc: Global, rt: &impl Wait) -> Result<(), Miss> {
         match self {
-            Side::Halves(frontend) => traffic.end(frontend.endpoint_mut().link()),
-            Side::Whole(shared) => traffic.end(&mut lend(alloc, &shared.wire)?.mem),
+            Side::Halves(_) => Ok(()),
+            Side::Whole(shared) => shared.end(alloc, rt),
         }
     }
 
@@ -156,6 +152,23 @@ impl Shared {
             Ok(answer) => Ok(answer),
             Err(Error::VhostUserProtocol(error)) => Ok(FrontendAnswer::Failed(error)),
             Err(_) => Err(differs(alloc, "an error of the protocol", "another")),
+        }
+    }
+
+    /// Tests that nothing was received ahead: the next reply is received from its first byte, unless the session is
+    /// broken.
+    fn end(&mut self, alloc: Global, rt: &impl Wait) -> Result<(), Miss> {
+        let reply = "01000000 05000000 08000000 8877665544332211";
+        Traffic::new(alloc, 0).push(&mut lend(alloc, &self.wire)?.mem, reply)?;
+        self.frontend
+            .set_hdr_flags(rt, VhostUserHeaderFlag::empty());
+        match self.call(alloc, rt, &FrontendCall::GetFeatures)? {
+            FrontendAnswer::Number(0x1122_3344_5566_7788)
+            | FrontendAnswer::Failed(vhost_message::Error::SocketBroken(_)) => Ok(()),
+            answer => {
+                let met = answer_text(alloc, &answer)?;
+                Err(differs(alloc, "nothing left", met.as_str()))
+            }
         }
     }
 }

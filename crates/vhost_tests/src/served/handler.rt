@@ -9,7 +9,8 @@ use vhost_backend_req_handler::{BackendReqHandler, SessionCore};
 use vhost_device::VhostUserBackendReqHandlerMut;
 use vhost_message::Result as Outcome;
 use vhost_test_tools::{
-    Miss, Over, Scripted, Settings, Sheet, TestLink, Wire, cuts_of, handles_in, unreadable,
+    Miss, Over, Scripted, Settings, Sheet, TestLink, Wire, cuts_of, handles_in, left_of_endpoint,
+    unreadable,
 };
 
 /// A session, and its device.
@@ -110,6 +111,17 @@ impl Handler {
             Handler::Dummy(serving) => Some(serving.core.faulted()),
             Handler::Locked(_) => None,
         }
+    }
+
+    /// Takes what was not received. None: behind a lock this is not seen.
+    pub(crate) fn left(&mut self, alloc: Global) -> Result<Option<String>, Miss> {
+        Ok(match self {
+            Handler::Scripted(serving) => {
+                Some(left_of_endpoint(alloc, serving.core.endpoint_mut())?)
+            }
+            Handler::Dummy(serving) => Some(left_of_endpoint(alloc, serving.core.endpoint_mut())?),
+            Handler::Locked(_) => None,
+        })
     }
 
     /// Marks the session as failed.

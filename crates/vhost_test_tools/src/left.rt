@@ -1,0 +1,70 @@
+//! What is left on the way to a side: what waits in its endpoint, and then what is on its link.
+
+use crate::link::ScriptHandle;
+use crate::message::push_some;
+use crate::miss::Miss;
+use std::alloc::{AllocError, Global};
+use vhost_connection::Endpoint;
+use vhost_link::{Link, PlainHandle};
+use vhost_message::{Error, MsgHeader};
+
+/// How many bytes are taken at once.
+const ROOM: usize = 64;
+
+/// How many calls at most show what is left.
+const CALLS: usize = 10_000;
+
+/// Takes what was not received of an endpoint: what waits in it, and what is on its link, each byte after the handles that
+/// it brings. What waits in a broken endpoint is handed out no more, so that only its link is looked at.
+pub fn left_of_endpoint<M: MsgHeader, L: Link<Handle: ScriptHandle>>(
+    alloc: Global,
+    end: &mut Endpoint<M, L>,
+) -> Result<String, Miss> {
+    let mut text = String::new(alloc);
+    for _ in 0..CALLS {
+        let mut handles = None;
+        match end.recv_into_buf(ROOM, &mut handles) {
+            Ok((0, _)) => break,
+            Ok((_, bytes)) => {
+                let handles = plain(alloc, handles.as_deref().unwrap_or(&[]))?;
+                push_some(alloc, &mut text, bytes, &handles)?;
+            }
+            Err(Error::SocketBroken(_)) => {
+                text.push_str(left_of_link(alloc, end.link())?.as_str())?;
+                break;
+            }
+            Err(_) => {}
+        }
+    }
+    Ok(text)
+}
+
+/// Takes what is on a link, each byte after the handles that it brings.
+pub fn left_of_link<L: Link<Handle: ScriptHandle>>(
+    alloc: Global,
+    link: &mut L,
+) -> Result<String, Miss> {
+    let mut text = String::new(alloc);
+    for _ in 0..CALLS {
+        let mut room = [0u8; ROOM];
+        let mut handles = Vec::with_capacity(alloc, 32)?;
+        match link.recv(&mut room, &mut handles) {
+            Ok(0) => break,
+            Ok(count) => {
+                let handles = plain(alloc, &handles)?;
+                push_some(alloc, &mut text, &room[..count], &handles)?;
+            }
+            Err(_) => {}
+        }
+    }
+    Ok(text)
+}
+
+/// The numbers and kinds of handles.
+fn plain<H: ScriptHandle>(alloc: Global, handles: &[H]) -> Result<Vec<PlainHandle>, AllocError> {
+    let mut list = Vec::new(alloc);
+    for handle in handles {
+        list.push(handle.plain())?;
+    }
+    Ok(list)
+}
