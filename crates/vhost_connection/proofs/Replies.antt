@@ -152,6 +152,7 @@ module _ {M R T L H : Type 0} (event : L → Event H → L → Type 0) (is_known
         record {
           hears = hears-came old new before after cs (Ok (reply_in is_known size (length before) (λ bs. valid (read bs)) cs)) m (whole-when cs (length before) h t head ok is_t ok_t);
           answers = ap (λ x. is_reply_for request_of x sent) (sym head) ∙ answered;
+          list = list;
         },
         said ∙ ap (λ (x : Header). x.size) head,
         is_t,

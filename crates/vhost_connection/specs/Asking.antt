@@ -1,5 +1,5 @@
 -- The side that asks: a request goes out, and the reply for it comes in.
-use Rattle.std.specs.Prelude.{◌≡◌, ℕ, ◌+◌, List, length, drop, Option, Bool, true, false, ◌++◌, ◌&&◌, Result, Ok, Err, is_some, Vec}
+use Rattle.std.specs.Prelude.{◌≡◌, ℕ, ◌+◌, List, length, drop, Option, Bool, true, false, not, ◌++◌, ◌&&◌, Result, Ok, Err, is_some, Vec}
 use Rattle.std.specs.Global.{Global}
 use Rattle.vhost_message.specs.declared.error.Error.{Error}
 use Rattle.vhost_message.specs.declared.error.Error.TheVariants as code
@@ -10,6 +10,7 @@ use Rattle.vhost_message.specs.MsgHeader.{fields_of}
 use Rattle.vhost_protocol.specs.Error.{seen}
 use Rattle.vhost_protocol.specs.ReplySplit.{Received, reply_split}
 use Rattle.vhost_protocol.specs.Split.{announced}
+use Rattle.vhost_protocol.specs.Stream.{has_some}
 use Rattle.vhost_protocol.specs.Written.{Payload, Written, written_cells, head_of}
 use Rattle.vhost_link.specs.Law.{Event}
 use Rattle.vhost_connection.specs.Pass.{sends}
@@ -42,6 +43,8 @@ module _ {R L H : Type 0} (event : L → Event H → L → Type 0) (is_known : H
   pub record Comes (size : ℕ) (valid : List ℕ → Bool) (room : ℕ) (old : State L H) (sent : Header) (reply : Received H) (new : State L H) : Type 0 where
     pub hears : Hears event (reply_split is_known size valid room) old (Ok reply) new
     pub answers : is_reply_for request_of reply.header sent ≡ true
+    -- the endpoint has given its list of handles away only where there were some
+    pub list : new.list ≡ not (has_some reply.handles)
 
   -- None came: what came is no reply for the request; or there is no valid reply; or the link failed.
   pub data Missing (size : ℕ) (valid : List ℕ → Bool) (room : ℕ) (old : State L H) (sent : Header) : Error → State L H → Type 0 where
