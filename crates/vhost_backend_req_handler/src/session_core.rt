@@ -20,6 +20,7 @@ mod features;
 mod inflight;
 mod log;
 mod memory;
+mod network;
 mod ownership;
 mod postcopy;
 mod replies;
@@ -39,8 +40,6 @@ pub struct SessionCore<L: Link> {
     session: Session,
     /// The body of the request that is served lies at its front.
     body: [u8; MAX_MSG_SIZE],
-    /// For the channels that a frontend opens.
-    budget: u32,
     alloc: Global,
 }
 
@@ -69,7 +68,6 @@ impl<L: Link> SessionCore<L> {
             endpoint: Endpoint::from_stream(alloc, link, budget)?,
             session: Session::new(),
             body: [0; MAX_MSG_SIZE],
-            budget,
             alloc,
         })
     }
@@ -174,6 +172,7 @@ impl<L: Link> SessionCore<L> {
             FrontendReq::SET_PROTOCOL_FEATURES => self.set_protocol_features(device, request),
             FrontendReq::GET_QUEUE_NUM => self.get_queue_num(device, request),
             FrontendReq::SET_VRING_ENABLE => self.set_vring_enable(device, request),
+            FrontendReq::NET_SET_MTU => self.net_set_mtu(device, request),
             FrontendReq::GET_CONFIG => self.get_config(device, request),
             FrontendReq::SET_CONFIG => self.set_config(device, request),
             FrontendReq::POSTCOPY_ADVISE => self.postcopy_advise(device, request),
@@ -193,7 +192,6 @@ impl<L: Link> SessionCore<L> {
             FrontendReq::GET_SHMEM_CONFIG => self.get_shmem_config(device, request),
             FrontendReq::SET_LOG_FD
             | FrontendReq::SEND_RARP
-            | FrontendReq::NET_SET_MTU
             | FrontendReq::IOTLB_MSG
             | FrontendReq::SET_VRING_ENDIAN
             | FrontendReq::CREATE_CRYPTO_SESSION

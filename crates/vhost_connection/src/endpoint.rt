@@ -148,6 +148,13 @@ impl<M: MsgHeader, L: Link> Endpoint<M, L> {
         }
     }
 
+    /// How many retries a message may take.
+    pub fn budget(&self) -> u32
+        ensures { result ≡ (state self.now).budget }
+    {
+        self.budget
+    }
+
     /// Whether the last call that sent or received met a fault: the link failed, or retried once too often.
     pub fn faulted(&self) -> bool
         ensures { result ≡ (state self.now).faulted }

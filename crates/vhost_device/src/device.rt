@@ -5,7 +5,7 @@ ghost use Rattle.vhost_gpu_backend_req.specs.declared.backend.GpuBackend.{GpuBac
 ghost use Rattle.vhost_device.specs.Answers.{seen_bases, seen_bits, seen_bytes};
 ghost use Rattle.vhost_message.specs.FlagBits.{config_bits, vring_addr_bits};
 ghost use Rattle.vhost_message.specs.Transfer.{direction_number, phase_number};
-ghost use Rattle.vhost_protocol.specs.DeviceCall.{Call, Answer, SetOwner, ResetOwner, ResetDevice, GetFeatures, SetFeatures, SetMemTable, SetVringNum, SetVringAddr, SetVringBase, GetVringBase, SetVringKick, SetVringCall, SetVringErr, GetProtocolFeatures, SetProtocolFeatures, GetQueueNum, SetVringEnable, GetConfig, SetConfig, SetBackendReqFd, SetGpuSocket, GetSharedObject, GetInflightFd, SetInflightFd, GetMaxMemSlots, AddMemRegion, RemoveMemRegion, SetDeviceStateFd, CheckDeviceState, GetShmemConfig, PostcopyAdvice, PostcopyListen, PostcopyEnd, PostcopyAckMemRegions, SetLogBase};
+ghost use Rattle.vhost_protocol.specs.DeviceCall.{Call, Answer, SetOwner, ResetOwner, ResetDevice, GetFeatures, SetFeatures, SetMemTable, SetVringNum, SetVringAddr, SetVringBase, GetVringBase, SetVringKick, SetVringCall, SetVringErr, GetProtocolFeatures, SetProtocolFeatures, GetQueueNum, SetVringEnable, GetConfig, SetConfig, SetBackendReqFd, SetGpuSocket, GetSharedObject, GetInflightFd, SetInflightFd, GetMaxMemSlots, AddMemRegion, RemoveMemRegion, SetDeviceStateFd, CheckDeviceState, GetShmemConfig, PostcopyAdvice, PostcopyListen, PostcopyEnd, PostcopyAckMemRegions, SetLogBase, SetMtu};
 ghost use Rattle.vhost_protocol.specs.Error.{seen_result};
 
 use vhost_backend_req::Backend;
@@ -119,6 +119,10 @@ pub trait VhostUserBackendReqHandlerMut: Drop {
     /// Turns a ring on or off (VHOST_USER_SET_VRING_ENABLE).
     fn set_vring_enable(&mut self, index: u32, enable: bool) -> Result<()>
         ensures { gives self.old (SetVringEnable index enable) (seen_result result) self.new };
+
+    /// The greatest size of a packet, in bytes (VHOST_USER_NET_SET_MTU).
+    fn set_mtu(&mut self, mtu: u16) -> Result<()>
+        ensures { gives self.old (SetMtu mtu) (seen_result result) self.new };
 
     /// So many bytes of the device's configuration from an offset on, in bytes (VHOST_USER_GET_CONFIG).
     fn get_config(&mut self, offset: u32, size: u32, flags: VhostUserConfigFlags) -> Result<Vec<u8>>

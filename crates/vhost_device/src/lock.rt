@@ -116,6 +116,10 @@ impl<T: VhostUserBackendReqHandlerMut> VhostUserBackendReqHandler for Mutex<T> {
         self.lock(rt).set_vring_enable(index, enable)
     }
 
+    fn set_mtu(&self, rt: &impl Wait, mtu: u16) -> Result<()> {
+        self.lock(rt).set_mtu(mtu)
+    }
+
     fn get_config(
         &self,
         rt: &impl Wait,

@@ -123,6 +123,10 @@ impl<'a, S: VhostUserBackendReqHandler, R: Wait> VhostUserBackendReqHandlerMut
         self.device.set_vring_enable(self.rt, index, enable)
     }
 
+    fn set_mtu(&mut self, mtu: u16) -> Result<()> {
+        self.device.set_mtu(self.rt, mtu)
+    }
+
     fn get_config(
         &mut self,
         offset: u32,

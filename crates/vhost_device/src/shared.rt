@@ -109,6 +109,9 @@ pub trait VhostUserBackendReqHandler: Drop {
     /// Turns a ring on or off (VHOST_USER_SET_VRING_ENABLE).
     fn set_vring_enable(&self, rt: &impl Wait, index: u32, enable: bool) -> Result<()>;
 
+    /// The greatest size of a packet, in bytes (VHOST_USER_NET_SET_MTU).
+    fn set_mtu(&self, rt: &impl Wait, mtu: u16) -> Result<()>;
+
     /// So many bytes of the device's configuration from an offset on, in bytes (VHOST_USER_GET_CONFIG).
     fn get_config(
         &self,

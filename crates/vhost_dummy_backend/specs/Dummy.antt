@@ -8,7 +8,7 @@ use Rattle.vhost_message.specs.declared.cause.IoCause.{IoCause}
 use Rattle.vhost_message.specs.declared.limits.TheConstants.{VHOST_USER_CONFIG_OFFSET}
 use Rattle.vhost_message.specs.declared.protocol_bit.TheConstants.{SHMEM}
 use Rattle.vhost_message.specs.declared.records.inflight.VhostUserInflight.{VhostUserInflight}
-use Rattle.vhost_protocol.specs.DeviceCall.{Call, Answer, SetOwner, ResetOwner, ResetDevice, GetFeatures, SetFeatures, SetMemTable, SetVringNum, SetVringAddr, SetVringBase, GetVringBase, SetVringKick, SetVringCall, SetVringErr, GetProtocolFeatures, SetProtocolFeatures, GetQueueNum, SetVringEnable, GetConfig, SetConfig, SetBackendReqFd, SetGpuSocket, GetSharedObject, GetInflightFd, SetInflightFd, GetMaxMemSlots, AddMemRegion, RemoveMemRegion, SetDeviceStateFd, CheckDeviceState, GetShmemConfig, PostcopyAdvice, PostcopyListen, PostcopyEnd, PostcopyAckMemRegions, SetLogBase}
+use Rattle.vhost_protocol.specs.DeviceCall.{Call, Answer, SetOwner, ResetOwner, ResetDevice, GetFeatures, SetFeatures, SetMemTable, SetVringNum, SetVringAddr, SetVringBase, GetVringBase, SetVringKick, SetVringCall, SetVringErr, GetProtocolFeatures, SetProtocolFeatures, GetQueueNum, SetVringEnable, GetConfig, SetConfig, SetBackendReqFd, SetGpuSocket, GetSharedObject, GetInflightFd, SetInflightFd, GetMaxMemSlots, AddMemRegion, RemoveMemRegion, SetDeviceStateFd, CheckDeviceState, GetShmemConfig, PostcopyAdvice, PostcopyListen, PostcopyEnd, PostcopyAckMemRegions, SetLogBase, SetMtu}
 use Rattle.vhost_protocol.specs.Error.{Error, Named, InvalidParam, InvalidOperation, InactiveFeature, InactiveOperation, ReqHandlerError, OutOfMemory}
 use Rattle.vhost_protocol.specs.Features.{PROTOCOL_FEATURES, CONFIG}
 use Rattle.vhost_dummy_backend.specs.Spares.{but_last, left, IsLast, IsLastCopied}
@@ -69,6 +69,7 @@ fresh alloc spare = record {
   features_acked = false;
   acked_features = 0;
   acked_protocol_features = 0;
+  mtu = 0;
   queue_num = MAX_QUEUE_NUM;
   vring_num = replicate MAX_QUEUE_NUM 0;
   vring_base = replicate MAX_QUEUE_NUM 0;
@@ -129,6 +130,7 @@ DummyGives copies old (SetVringCall index fd) = Does old (no_ring old index) tt 
 DummyGives copies old (SetVringErr index fd) = Does old (no_ring old index) tt (record old { err_fd = slice_set old.err_fd index fd })
 DummyGives copies old (SetVringEnable index enable) = Does old (refusal ((has_bit old.acked_features PROTOCOL_FEATURES, InactiveFeature (2 ^ PROTOCOL_FEATURES)) ∷ (has_ring old index, InvalidParam) ∷ []))
     tt (record old { vring_enabled = slice_set old.vring_enabled index enable })
+DummyGives copies old (SetMtu mtu) = Does old (refusal ((nat_le 1 mtu, InvalidParam) ∷ [])) tt (record old { mtu = mtu })
 -- configuration space: four bytes at its beginning
 DummyGives copies old (GetConfig offset size flags) = Makes old
     (refusal ((has_bit old.acked_protocol_features CONFIG, InactiveOperation (2 ^ CONFIG)) ∷ (offset == VHOST_USER_CONFIG_OFFSET && size == 4, InvalidParam) ∷ [])) config_bytes

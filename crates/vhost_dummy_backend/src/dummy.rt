@@ -36,6 +36,8 @@ pub struct DummyBackendReqHandler<L: Link> {
     pub acked_features: u64,
     /// The features of the protocol that were chosen, and SHMEM where a configuration was set.
     pub acked_protocol_features: u64,
+    /// The greatest size of a packet that was set, in bytes; 0 before.
+    pub mtu: u16,
     /// How many rings may be named.
     pub queue_num: usize,
     /// The size of each ring, in descriptors.
@@ -74,6 +76,7 @@ impl<L: Link> DummyBackendReqHandler<L> {
             features_acked: false,
             acked_features: 0,
             acked_protocol_features: 0,
+            mtu: 0,
             queue_num: MAX_QUEUE_NUM,
             vring_num: [0; MAX_QUEUE_NUM],
             vring_base: [0; MAX_QUEUE_NUM],

@@ -209,6 +209,14 @@ impl<L: Link> VhostUserBackendReqHandlerMut for DummyBackendReqHandler<L> {
         Ok(())
     }
 
+    fn set_mtu(&mut self, mtu: u16) -> Result<()> {
+        if mtu == 0 {
+            return Err(Error::InvalidParam);
+        }
+        self.mtu = mtu;
+        Ok(())
+    }
+
     fn get_config(
         &mut self,
         offset: u32,

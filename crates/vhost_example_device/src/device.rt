@@ -131,6 +131,10 @@ impl VhostUserBackendReqHandlerMut for Device {
         Ok(())
     }
 
+    fn set_mtu(&mut self, _mtu: u16) -> Result<()> {
+        Err(UNUSED)
+    }
+
     fn reset_device(&mut self) -> Result<()> {
         Err(UNUSED)
     }

@@ -5,9 +5,9 @@ use Rattle.vhost_message.specs.FrontendReq.{request_number}
 use Rattle.vhost_message.specs.Records.{region_text, memory_text}
 use Rattle.vhost_message.specs.Text.{digits}
 use Rattle.vhost_message.specs.declared.frontend_req.FrontendReq.{FrontendReq}
-use Rattle.vhost_message.specs.declared.frontend_req.FrontendReq.TheVariants.{GET_FEATURES, SET_FEATURES, SET_OWNER, SET_MEM_TABLE, SET_LOG_FD, SET_VRING_NUM, SET_VRING_KICK, GET_PROTOCOL_FEATURES, SET_CONFIG, GET_CONFIG, GPU_SET_SOCKET, SET_DEVICE_STATE_FD, GET_SHMEM_CONFIG, POSTCOPY_END, SET_BACKEND_REQ_FD}
+use Rattle.vhost_message.specs.declared.frontend_req.FrontendReq.TheVariants.{GET_FEATURES, SET_FEATURES, SET_OWNER, SET_MEM_TABLE, SET_LOG_FD, SET_VRING_NUM, SET_VRING_KICK, NET_SET_MTU, GET_PROTOCOL_FEATURES, SET_CONFIG, GET_CONFIG, GPU_SET_SOCKET, SET_DEVICE_STATE_FD, GET_SHMEM_CONFIG, POSTCOPY_END, SET_BACKEND_REQ_FD}
 use Rattle.vhost_message.specs.declared.postcopy.PostcopyState.TheVariants.{Listen, End}
-use Rattle.vhost_protocol.specs.DeviceCall.{Call, Answer, SetOwner, GetFeatures, SetFeatures, SetVringNum, SetVringKick, GetProtocolFeatures, SetMemTable, GetConfig, SetGpuSocket, SetDeviceStateFd, SetBackendReqFd, PostcopyEnd, PostcopyAckMemRegions, GetVringBase, GetQueueNum, GetSharedObject, GetInflightFd, GetMaxMemSlots, AddMemRegion, GetShmemConfig, PostcopyAdvice}
+use Rattle.vhost_protocol.specs.DeviceCall.{Call, Answer, SetOwner, GetFeatures, SetFeatures, SetMtu, SetVringNum, SetVringKick, GetProtocolFeatures, SetMemTable, GetConfig, SetGpuSocket, SetDeviceStateFd, SetBackendReqFd, PostcopyEnd, PostcopyAckMemRegions, GetVringBase, GetQueueNum, GetSharedObject, GetInflightFd, GetMaxMemSlots, AddMemRegion, GetShmemConfig, PostcopyAdvice}
 use Rattle.vhost_protocol.specs.Error.{Error, InvalidOperation, InvalidParam, InvalidMessage, InactiveOperation, InvalidSocketFd, Named}
 use Rattle.vhost_protocol.specs.Row.{row}
 use Rattle.vhost_protocol.specs.Served.{Served, reply}
@@ -158,6 +158,28 @@ vring_num : does fresh (message SET_VRING_NUM false (1 ∷ 0 ∷ 0 ∷ 0 ∷ 0 �
     ≡ record { call = Some (SetVringNum 1 256); answer = Ok tt; text = []; handles = []; session = fresh }
 unfolding does done_by opens device message shown
 vring_num = refl
+
+-- the greatest size of a packet: its feature, and no more than 16 bits
+mtu : does (acks 0x18) (message NET_SET_MTU true (0xdc ∷ 5 ∷ 0 ∷ 0 ∷ 0 ∷ 0 ∷ 0 ∷ 0 ∷ []) [])
+    ≡ record {
+      call = Some (SetMtu 1500);
+      answer = Ok tt;
+      text = 0x14 ∷ 0 ∷ 0 ∷ 0 ∷ 5 ∷ 0 ∷ 0 ∷ 0 ∷ 8 ∷ 0 ∷ 0 ∷ 0 ∷ 0 ∷ 0 ∷ 0 ∷ 0 ∷ 0 ∷ 0 ∷ 0 ∷ 0 ∷ [];
+      handles = [];
+      session = acks 0x18;
+    }
+unfolding does done_by opens device message shown acks
+mtu = refl
+
+no_mtu : does (acks 8) (message NET_SET_MTU true (0xdc ∷ 5 ∷ 0 ∷ 0 ∷ 0 ∷ 0 ∷ 0 ∷ 0 ∷ []) [])
+    ≡ record { call = None; answer = Err (InactiveOperation 0x10); text = []; handles = []; session = acks 8 }
+unfolding does done_by opens device message shown acks
+no_mtu = refl
+
+great_mtu : does (acks 0x18) (message NET_SET_MTU true (0 ∷ 0 ∷ 1 ∷ 0 ∷ 0 ∷ 0 ∷ 0 ∷ 0 ∷ []) [])
+    ≡ record { call = None; answer = Err InvalidParam; text = []; handles = []; session = acks 0x18 }
+unfolding does done_by opens device message shown acks
+great_mtu = refl
 
 log_fd : does (acks 8) (message SET_LOG_FD true [] (1 ∷ []))
     ≡ record { call = None; answer = Err InvalidMessage; text = []; handles = []; session = acks 8 }

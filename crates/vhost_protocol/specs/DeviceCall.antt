@@ -48,6 +48,7 @@ pub data Call (H B G : Type 0) : Type 0 where
   PostcopyEnd : Call H B G
   PostcopyAckMemRegions : Call H B G
   SetLogBase : VhostUserLog → H → Call H B G
+  SetMtu : (mtu : ℕ) → Call H B G
 
 -- what a call may be answered
 abbrev pub Answer : {H B G : Type 0} → Call H B G → Type 0

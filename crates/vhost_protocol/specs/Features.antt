@@ -27,6 +27,10 @@ BACKEND_REQ = bit.BACKEND_REQ
 abbrev pub PAGEFAULT : ℕ
 PAGEFAULT = bit.PAGEFAULT
 
+-- the greatest size of a packet (VHOST_USER_NET_SET_MTU)
+abbrev pub MTU : ℕ
+MTU = bit.MTU
+
 -- configuration space (VHOST_USER_GET_CONFIG)
 abbrev pub CONFIG : ℕ
 CONFIG = bit.CONFIG

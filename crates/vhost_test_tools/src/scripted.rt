@@ -202,6 +202,10 @@ impl<L: Link<Handle: ScriptHandle>> VhostUserBackendReqHandlerMut for Scripted<L
         self.done(format!(in self.alloc; "set_vring_enable {index} {enable}"))
     }
 
+    fn set_mtu(&mut self, mtu: u16) -> Result<()> {
+        self.done(format!(in self.alloc; "set_mtu {mtu}"))
+    }
+
     fn get_config(
         &mut self,
         offset: u32,

@@ -59,6 +59,7 @@ pub(crate) fn shape_of(name: &str) -> Option<Shape> {
         "set_vring_num"
         | "set_vring_base"
         | "set_vring_enable"
+        | "set_mtu"
         | "set_vring_addr"
         | "set_vring_kick"
         | "set_vring_call"

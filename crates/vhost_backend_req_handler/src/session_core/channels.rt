@@ -67,7 +67,7 @@ impl<L: Link> SessionCore<L> {
         ensures same { self.new ≡ self.old }
     {
         match self.open(file) {
-            Ok(link) => Backend::from_stream(self.alloc, link, self.budget),
+            Ok(link) => Backend::from_stream(self.alloc, link, self.endpoint.budget()),
             Err(error) => Err(error),
         }
     }
@@ -78,7 +78,7 @@ impl<L: Link> SessionCore<L> {
         ensures same { self.new ≡ self.old }
     {
         match self.open(file) {
-            Ok(link) => GpuBackend::from_stream(self.alloc, link, self.budget),
+            Ok(link) => GpuBackend::from_stream(self.alloc, link, self.endpoint.budget()),
             Err(error) => Err(error),
         }
     }

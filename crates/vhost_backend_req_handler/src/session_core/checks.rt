@@ -1,6 +1,6 @@
 //! The tests that rows have in common.
 
-ghost use Rattle.std.specs.Prelude.{◌≡◌, ◌≤◌, ◌<◌, ◌^◌, ◌==◌, List, IfOk, true, ok_or, nat_le};
+ghost use Rattle.std.specs.Prelude.{◌≡◌, ◌≤◌, ◌<◌, ◌^◌, ◌==◌, List, Ok, Err, IfOk, IfErr, true, ok_or, nat_le};
 ghost use Rattle.vhost_message.specs.declared.frontend_req.FrontendReq.{FrontendReq};
 ghost use Rattle.vhost_protocol.specs.Split.{Message};
 ghost use Rattle.vhost_protocol.specs.Error.{FrontendInternalError, InactiveFeature, InvalidMessage, InvalidOperation, InvalidParam, seen, test};
@@ -92,6 +92,17 @@ impl<L: Link> SessionCore<L> {
             return Err(Error::InvalidParam);
         }
         Ok(())
+    }
+
+    /// The number in 16 bits. InvalidParam: it takes more.
+    pub(crate) fn short(&self, number: u64) -> Result<u16>
+        ensures fits { IfOk result (λ n. (n ≡ number) × (test (nat_le number 65535) (silently {H = L.Handle} InvalidParam) ≡ Ok tt)) }
+        ensures great { IfErr result (λ e. test (nat_le number 65535) (silently {H = L.Handle} InvalidParam) ≡ tested (Err e)) }
+    {
+        if number > 65535 {
+            return Err(Error::InvalidParam);
+        }
+        Ok(number as u16)
     }
 
     /// FrontendInternalError: the number is not 0.
