@@ -8,13 +8,9 @@ mod channels;
 #[cfg(test)]
 mod connection;
 #[cfg(test)]
-mod dummy_backend;
-#[cfg(test)]
 mod frontend;
 #[cfg(test)]
 mod gpu_message;
-#[cfg(test)]
-mod joined;
 #[cfg(test)]
 mod link;
 #[cfg(test)]

@@ -36,6 +36,7 @@ pub(crate) fn state_text(alloc: Global, device: &Dummy, name: &str) -> Result<St
     Ok(match name {
         "owned" => format!(in alloc; "{}", device.owned)?,
         "acked_features" => format!(in alloc; "{}", device.acked_features)?,
+        "acked_protocol_features" => format!(in alloc; "{}", device.acked_protocol_features)?,
         "mtu" => format!(in alloc; "{}", device.mtu)?,
         "vring_num" => format!(in alloc; "{} {}", device.vring_num[0], device.vring_num[1])?,
         "vring_base" => format!(in alloc; "{} {}", device.vring_base[0], device.vring_base[1])?,

@@ -1,153 +1,177 @@
 //! What a device asks its frontend: what is written, and how each answer is taken.
 
+ghost use Rattle.std.specs.Prelude.{◌≤◌, length};
+ghost use Rattle.vhost_message.specs.declared.limits.TheConstants.{MAX_ATTACHED_FD_ENTRIES};
+
 use std::alloc::Global;
 use std::test::Fail;
 use uuid::Uuid;
-use vhost_backend_req::BackendInternal;
+use vhost_backend_req::{Backend, BackendInternal};
 use vhost_link::{Kind, Link, MemLink, PlainHandle};
 use vhost_message::{Error, HandlerResult, IoCause, IoError, VhostUserMMap, VhostUserSharedMsg};
 
-const NAME: [u8; 16] = [1, 2, 3, 4, 5, 6, 7, 8, 9, 10, 11, 12, 13, 14, 15, 16];
+const HANDLE: PlainHandle = PlainHandle {
+    id: 7,
+    kind: Kind::NoSocket,
+};
 
-const ADD: [u8; 12] = [6, 0, 0, 0, 9, 0, 0, 0, 16, 0, 0, 0];
+/// SHARED_OBJECT_ADD of this name, acknowledged.
+const ADD: [u8; 28] = [
+    6, 0, 0, 0, 9, 0, 0, 0, 16, 0, 0, 0, 1, 2, 3, 4, 5, 6, 7, 8, 9, 10, 11, 12, 13, 14, 15, 16,
+];
 
-/// The answer to SHARED_OBJECT_ADD, with this number.
+fn name() -> VhostUserSharedMsg {
+    VhostUserSharedMsg {
+        uuid: Uuid::from_bytes([1, 2, 3, 4, 5, 6, 7, 8, 9, 10, 11, 12, 13, 14, 15, 16]),
+    }
+}
+
+/// The reply to a request of this code, with this size in its header, and this number.
 const fn number(code: u8, size: u8, value: u8) -> [u8; 20] {
     [
         code, 0, 0, 0, 5, 0, 0, 0, size, 0, 0, 0, value, 0, 0, 0, 0, 0, 0, 0,
     ]
 }
 
-fn name() -> VhostUserSharedMsg {
-    VhostUserSharedMsg {
-        uuid: Uuid::from_bytes(NAME),
+/// An answer as its number, or why there is none.
+fn shown(answer: HandlerResult<u64>) -> Result<u64, &'static str> {
+    match answer {
+        Ok(number) => Ok(number),
+        Err(IoError::Raw(38)) => Err("38"),
+        Err(IoError::Named(reason)) => Err(reason),
+        Err(IoError::Of(Error::InvalidMessage)) => Err("invalid"),
+        Err(IoError::Of(Error::PartialMessage)) => Err("partial"),
+        Err(IoError::Of(Error::FrontendInternalError)) => Err("frontend"),
+        Err(IoError::Of(Error::SocketBroken(IoCause::Raw(5)))) => Err("broken"),
+        Err(_) => Err("other"),
     }
 }
 
-/// A channel with all agreed on, to a frontend that has sent these bytes.
-fn agreed(
+/// A channel to a frontend that has sent these bytes, with nothing agreed on.
+fn channel(
     alloc: Global,
-    reply_ack: bool,
     coming: &[u8],
     handles: &[PlainHandle],
-) -> Result<BackendInternal<MemLink>, Fail> {
+) -> Result<BackendInternal<MemLink>, Fail>
+    requires { length handles.now ≤ MAX_ATTACHED_FD_ENTRIES }
+{
     let mut link = MemLink::new(alloc, Vec::new(alloc));
     if !coming.is_empty() {
         link.push(coming, handles)?;
     }
-    let mut channel = BackendInternal::from_stream(alloc, link, 0)?;
+    Ok(BackendInternal::from_stream(alloc, link, 0)?)
+}
+
+/// Agrees on all, and on acknowledgements or not.
+fn agree<L: Link>(channel: &mut BackendInternal<L>, reply_ack: bool) {
     channel.set_reply_ack_flag(reply_ack);
     channel.set_shared_object_flag(true);
     channel.set_shmem_flag(true);
     channel.set_config_change_flag(true);
-    Ok(channel)
 }
 
-/// Whether these bytes were written, and nothing else.
-fn wrote(channel: &mut BackendInternal<MemLink>, front: &[u8], rest: &[u8]) -> bool {
-    let taken = channel.endpoint_mut().link().taken().bytes();
-    taken.strip_prefix(front) == Some(rest)
+/// What was written, and how many handles came with its first byte.
+fn written(channel: &mut BackendInternal<MemLink>) -> (&[u8], usize) {
+    let taken = channel.endpoint_mut().link().taken();
+    (taken.bytes(), taken.handles(0).len())
 }
 
-fn of(answer: HandlerResult<u64>) -> Option<Error> {
-    match answer {
-        Err(IoError::Of(error)) => Some(error),
-        _ => None,
+/// What SHARED_OBJECT_ADD answers where this comes.
+fn added(
+    alloc: Global,
+    coming: &[u8],
+    handles: &[PlainHandle],
+) -> Result<Result<u64, &'static str>, Fail>
+    requires { length handles.now ≤ MAX_ATTACHED_FD_ENTRIES }
+{
+    let mut channel = channel(alloc, coming, handles)?;
+    agree(&mut channel, true);
+    let answer = channel.shared_object_add(&name());
+    if written(&mut channel).0 != ADD.as_slice() {
+        return Err("not written")?;
     }
+    Ok(shown(answer))
 }
 
 #[test]
 fn numbers(rt: HostRuntime) -> Result<(), Fail> {
     let alloc: Global = rt.alloc();
-    let mut channel = agreed(alloc, true, &number(6, 8, 0), &[])?;
-    assert!(rt; matches!(channel.shared_object_add(&name()), Ok(0)));
-    assert!(rt; wrote(&mut channel, &ADD, &NAME));
-    let mut channel = agreed(alloc, true, &number(6, 8, 1), &[])?;
-    assert!(rt;
-        matches!(
-            of(channel.shared_object_add(&name())),
-            Some(Error::FrontendInternalError)
-        )
-    );
-    let mut channel = agreed(alloc, true, &number(6, 16, 0), &[])?;
-    assert!(rt; matches!(channel.shared_object_add(&name()), Ok(0)));
-    let mut channel = agreed(alloc, true, &number(7, 8, 0), &[])?;
-    assert!(rt;
-        matches!(
-            of(channel.shared_object_add(&name())),
-            Some(Error::InvalidMessage)
-        )
-    );
-    let handle = PlainHandle {
-        id: 7,
-        kind: Kind::NoSocket,
-    };
-    let mut channel = agreed(alloc, true, &number(6, 8, 0), &[handle])?;
-    assert!(rt;
-        matches!(
-            of(channel.shared_object_add(&name())),
-            Some(Error::InvalidMessage)
-        )
-    );
-    let mut channel = agreed(alloc, true, &[], &[])?;
-    assert!(rt;
-        matches!(
-            of(channel.shared_object_remove(&name())),
-            Some(Error::PartialMessage)
-        )
-    );
+    assert_eq!(rt; added(alloc, &number(6, 8, 0), &[])?, Ok(0));
+    assert_eq!(rt; added(alloc, &number(6, 8, 1), &[])?, Err("frontend"));
+    assert_eq!(rt; added(alloc, &number(6, 16, 0), &[])?, Ok(0));
+    assert_eq!(rt; added(alloc, &number(7, 8, 0), &[])?, Err("invalid"));
+    assert_eq!(rt; added(alloc, &number(6, 8, 0), &[HANDLE])?, Err("invalid"));
+    assert_eq!(rt; added(alloc, &[], &[])?, Err("partial"));
     Ok(())
+}
+
+/// A call that nothing answers, by its place among these.
+fn asked<L: Link>(
+    channel: &mut BackendInternal<L>,
+    handle: &L::Handle,
+    call: usize,
+) -> Result<u64, &'static str> {
+    let mapping = VhostUserMMap::default();
+    shown(match call {
+        0 => channel.handle_config_change(),
+        1 => channel.shared_object_lookup(&name(), handle),
+        2 => channel.shmem_map(&mapping, handle),
+        3 => channel.shmem_unmap(&mapping),
+        _ => channel.shared_object_remove(&name()),
+    })
 }
 
 #[test]
 fn unanswered(rt: HostRuntime) -> Result<(), Fail> {
     let alloc: Global = rt.alloc();
-    let mut channel = agreed(alloc, false, &[], &[])?;
-    assert!(rt; matches!(channel.handle_config_change(), Ok(0)));
-    assert!(rt; wrote(&mut channel, &[2, 0, 0, 0, 1], &[0; 7]));
-    let handle = PlainHandle {
-        id: 7,
-        kind: Kind::NoSocket,
-    };
-    let mut channel = agreed(alloc, false, &[], &[])?;
-    assert!(rt; matches!(channel.shared_object_lookup(&name(), &handle), Ok(0)));
-    assert!(rt; wrote(&mut channel, &[8, 0, 0, 0, 1, 0, 0, 0, 16, 0, 0, 0], &NAME));
-    assert_eq!(rt; channel.endpoint_mut().link().taken().handles(0).len(), 1);
-    let mut channel = agreed(alloc, false, &[], &[])?;
-    let mapping = VhostUserMMap::default();
-    assert!(rt; matches!(channel.shmem_map(&mapping, &handle), Ok(0)));
-    assert!(rt; matches!(channel.shmem_unmap(&mapping), Ok(0)));
-    assert_eq!(rt; channel.endpoint_mut().link().taken().len(), 104);
+    let heads: [([u8; 12], usize, usize); 5] = [
+        ([2, 0, 0, 0, 1, 0, 0, 0, 0, 0, 0, 0], 12, 0),
+        ([8, 0, 0, 0, 1, 0, 0, 0, 16, 0, 0, 0], 28, 1),
+        ([9, 0, 0, 0, 1, 0, 0, 0, 40, 0, 0, 0], 52, 1),
+        ([10, 0, 0, 0, 1, 0, 0, 0, 40, 0, 0, 0], 52, 0),
+        ([7, 0, 0, 0, 1, 0, 0, 0, 16, 0, 0, 0], 28, 0),
+    ];
+    for (call, (head, count, handles)) in heads.iter().enumerate() {
+        let mut channel = channel(alloc, &[], &[])?;
+        agree(&mut channel, false);
+        assert_eq!(rt; asked(&mut channel, &HANDLE, call), Ok(0));
+        let (bytes, with) = written(&mut channel);
+        assert!(rt; bytes.starts_with(head.as_slice()));
+        assert_eq!(rt; (bytes.len(), with), (*count, *handles));
+    }
     Ok(())
 }
 
 #[test]
 fn refused(rt: HostRuntime) -> Result<(), Fail> {
     let alloc: Global = rt.alloc();
+    let mut bare = channel(alloc, &[], &[])?;
+    let object = Err("Shared Object feature not negotiated");
+    let memory = Err("SHMEM feature not negotiated");
+    for (call, refusal) in [Err("38"), object, memory, memory, object]
+        .iter()
+        .enumerate()
+    {
+        assert_eq!(rt; asked(&mut bare, &HANDLE, call), *refusal);
+    }
+    agree(&mut bare, true);
+    bare.set_failed(5);
+    for call in 0..5 {
+        assert_eq!(rt; asked(&mut bare, &HANDLE, call), Err("broken"));
+    }
+    assert!(rt; written(&mut bare).0.is_empty());
+    Ok(())
+}
+
+#[test]
+fn shared(rt: HostRuntime) -> Result<(), Fail> {
+    let alloc: Global = rt.alloc();
     let link = MemLink::new(alloc, Vec::new(alloc));
-    let mut channel = BackendInternal::from_stream(alloc, link, 0)?;
-    let mapping = VhostUserMMap::default();
-    assert!(rt; matches!(channel.handle_config_change(), Err(IoError::Raw(38))));
-    assert!(rt;
-        matches!(
-            channel.shmem_unmap(&mapping),
-            Err(IoError::Named("SHMEM feature not negotiated"))
-        )
-    );
-    assert!(rt;
-        matches!(
-            channel.shared_object_add(&name()),
-            Err(IoError::Named("Shared Object feature not negotiated"))
-        )
-    );
-    let mut channel = agreed(alloc, true, &[], &[])?;
-    channel.set_failed(5);
-    assert!(rt;
-        matches!(
-            of(channel.shared_object_add(&name())),
-            Some(Error::SocketBroken(IoCause::Raw(5)))
-        )
-    );
-    assert!(rt; channel.endpoint_mut().link().taken().is_empty());
+    let channel = Backend::from_stream(alloc, link, 0)?;
+    let other = channel.clone()?;
+    channel.set_config_change_flag(&rt, true);
+    assert_eq!(rt; shown(other.handle_config_change(&rt)), Ok(0));
+    channel.set_failed(&rt, 5);
+    assert_eq!(rt; shown(other.handle_config_change(&rt)), Err("broken"));
     Ok(())
 }
