@@ -6,8 +6,13 @@ ghost use Rattle.vhost_message.specs.declared.error.Error.TheVariants.{OutOfMemo
 use crate::internal::BackendInternal;
 use std::alloc::{AllocError, Global};
 use std::sync::{Arc, Mutex, Wait};
+use vhost_gpu_message::{
+    VhostUserGpuCursorPos, VhostUserGpuCursorUpdate, VhostUserGpuDMABUFScanout,
+    VhostUserGpuDMABUFScanout2, VhostUserGpuEdidRequest, VhostUserGpuScanout, VhostUserGpuUpdate,
+    VirtioGpuRespDisplayInfo, VirtioGpuRespGetEdid,
+};
 use vhost_link::Link;
-use vhost_message::{Error, Result};
+use vhost_message::{Error, HandlerResult, Result, VhostUserU64};
 
 /// The channel to a display, which a device is given by VHOST_USER_GPU_SET_SOCKET. It can be shared: clones are the same
 /// channel.
@@ -30,6 +35,102 @@ impl<L: Link> GpuBackend<L> {
             Ok(inner) => Ok(GpuBackend { inner }),
             Err(_) => Err(Error::OutOfMemory),
         }
+    }
+
+    /// `BackendInternal::get_protocol_features` under the lock.
+    pub fn get_protocol_features(&self, rt: &impl Wait) -> HandlerResult<VhostUserU64> {
+        self.inner.lock(rt).get_protocol_features()
+    }
+
+    /// `BackendInternal::set_protocol_features` under the lock.
+    pub fn set_protocol_features(
+        &self,
+        rt: &impl Wait,
+        features: &VhostUserU64,
+    ) -> HandlerResult<()> {
+        self.inner.lock(rt).set_protocol_features(features)
+    }
+
+    /// `BackendInternal::get_display_info` under the lock.
+    pub fn get_display_info(&self, rt: &impl Wait) -> HandlerResult<VirtioGpuRespDisplayInfo> {
+        self.inner.lock(rt).get_display_info()
+    }
+
+    /// `BackendInternal::get_edid` under the lock.
+    pub fn get_edid(
+        &self,
+        rt: &impl Wait,
+        request: &VhostUserGpuEdidRequest,
+    ) -> HandlerResult<VirtioGpuRespGetEdid> {
+        self.inner.lock(rt).get_edid(request)
+    }
+
+    /// `BackendInternal::set_scanout` under the lock.
+    pub fn set_scanout(&self, rt: &impl Wait, scanout: &VhostUserGpuScanout) -> HandlerResult<()> {
+        self.inner.lock(rt).set_scanout(scanout)
+    }
+
+    /// `BackendInternal::update_scanout` under the lock.
+    pub fn update_scanout(
+        &self,
+        rt: &impl Wait,
+        update: &VhostUserGpuUpdate,
+        pixels: &[u8],
+    ) -> HandlerResult<()> {
+        self.inner.lock(rt).update_scanout(update, pixels)
+    }
+
+    /// `BackendInternal::set_dmabuf_scanout` under the lock.
+    pub fn set_dmabuf_scanout(
+        &self,
+        rt: &impl Wait,
+        scanout: &VhostUserGpuDMABUFScanout,
+        handle: Option<&L::Handle>,
+    ) -> HandlerResult<()> {
+        self.inner.lock(rt).set_dmabuf_scanout(scanout, handle)
+    }
+
+    /// `BackendInternal::set_dmabuf_scanout2` under the lock.
+    pub fn set_dmabuf_scanout2(
+        &self,
+        rt: &impl Wait,
+        scanout: &VhostUserGpuDMABUFScanout2,
+        handle: Option<&L::Handle>,
+    ) -> HandlerResult<()> {
+        self.inner.lock(rt).set_dmabuf_scanout2(scanout, handle)
+    }
+
+    /// `BackendInternal::update_dmabuf_scanout` under the lock.
+    pub fn update_dmabuf_scanout(
+        &self,
+        rt: &impl Wait,
+        update: &VhostUserGpuUpdate,
+    ) -> HandlerResult<()> {
+        self.inner.lock(rt).update_dmabuf_scanout(update)
+    }
+
+    /// `BackendInternal::cursor_pos` under the lock.
+    pub fn cursor_pos(&self, rt: &impl Wait, cursor: &VhostUserGpuCursorPos) -> HandlerResult<()> {
+        self.inner.lock(rt).cursor_pos(cursor)
+    }
+
+    /// `BackendInternal::cursor_pos_hide` under the lock.
+    pub fn cursor_pos_hide(
+        &self,
+        rt: &impl Wait,
+        cursor: &VhostUserGpuCursorPos,
+    ) -> HandlerResult<()> {
+        self.inner.lock(rt).cursor_pos_hide(cursor)
+    }
+
+    /// `BackendInternal::cursor_update` under the lock.
+    pub fn cursor_update(
+        &self,
+        rt: &impl Wait,
+        update: &VhostUserGpuCursorUpdate,
+        image: &[u8; 16384],
+    ) -> HandlerResult<()> {
+        self.inner.lock(rt).cursor_update(update, image)
     }
 
     /// Marks the channel as failed with the number of a system's error, also with 0: from now on each call answers it.

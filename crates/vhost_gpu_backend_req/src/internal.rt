@@ -9,15 +9,15 @@ use vhost_gpu_message::{GpuBackendReq, VhostUserGpuMsgHeader};
 use vhost_link::Link;
 use vhost_message::Result;
 
-type Header = VhostUserGpuMsgHeader<GpuBackendReq>;
+pub(crate) type Header = VhostUserGpuMsgHeader<GpuBackendReq>;
 
 /// One end of the channel to a display, and whether it was marked as failed. `GpuBackend` holds it behind a lock.
 ///
 /// Mirrors `BackendInternal` of `vhost::vhost_user::gpu_backend_req`.
 #[derive(Drop)]
 pub struct BackendInternal<L: Link> {
-    endpoint: Endpoint<Header, L>,
-    failed: Option<i32>,
+    pub(crate) endpoint: Endpoint<Header, L>,
+    pub(crate) failed: Option<i32>,
 }
 
 impl<L: Link> BackendInternal<L> {

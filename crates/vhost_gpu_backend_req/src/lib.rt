@@ -1,8 +1,11 @@
 //! The channel from a device to a display.
 #![tactic(auto)]
 
+mod asking;
 mod backend;
+mod exchange;
 mod internal;
 
 pub use backend::GpuBackend;
+pub use exchange::io_err_convert;
 pub use internal::BackendInternal;
