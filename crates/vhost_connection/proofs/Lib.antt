@@ -21,3 +21,5 @@ pub mod Bare
 pub mod Asking
 pub mod Handed
 pub mod Replies
+pub mod Serving
+pub mod Running

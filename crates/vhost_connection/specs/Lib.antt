@@ -9,3 +9,4 @@ pub mod Hearing
 pub mod Bare
 pub mod Requests
 pub mod Asking
+pub mod Serving

@@ -1,0 +1,72 @@
+-- A frontend's side of the reverse channel, as contracts see it.
+use Rattle.std.specs.Prelude.{◌≡◌, ℕ, List, [], ◌∷◌, Option, Some, None, Result, Ok, Err, Vec, ⊤}
+use Rattle.std.specs.Global.{Global}
+use Rattle.vhost_message.specs.BackendReq.{backend_request_number}
+use Rattle.vhost_message.specs.declared.backend_req.BackendReq.{BackendReq}
+use Rattle.vhost_message.specs.declared.error.Error as declared
+use Rattle.vhost_message.specs.declared.io_error.IoError as io
+use Rattle.vhost_message.specs.declared.header.VhostUserMsgHeader.{VhostUserMsgHeader}
+use Rattle.vhost_protocol.specs.Error.{InvalidMessage}
+use Rattle.vhost_protocol.specs.IoError.{IoError, Of, seen_io_result}
+use Rattle.vhost_protocol.specs.Reverse.{ReverseCall, ReverseStep, Refused, Calls, ReverseMeets, Server, bad_body, number_back, result_number, reverse_row_of, with_number}
+use Rattle.vhost_protocol.specs.Served.{reply, cells_of}
+use Rattle.vhost_protocol.specs.Split.{Message}
+use Rattle.vhost_link.specs.Law.{Event}
+use Rattle.vhost_connection.specs.declared.endpoint.Endpoint.{Endpoint}
+use Rattle.vhost_connection.specs.declared.request.Request.{Request}
+use Rattle.vhost_connection.specs.State.{state}
+use Rattle.vhost_connection.specs.Talk.{State}
+use Rattle.vhost_connection.specs.Calls.{HandsOver}
+use Rattle.vhost_connection.specs.Requests.{Reads, IsReady, Tells}
+use Rattle.vhost_frontend_req_handler.specs.declared.asked.Asked.{Asked}
+use Rattle.vhost_frontend_req_handler.specs.declared.asked.Asked.TheVariants.{Answered, BadBody, Unserved}
+use Rattle.vhost_frontend_req_handler.specs.declared.req_core.FrontendReqCore.{FrontendReqCore}
+use Rattle.vhost_frontend_req_handler.specs.Handling.{fitting}
+use Rattle.vhost_connection.specs.Serving.{Answers}
+
+-- its endpoint
+abbrev pub endpoint_of : {L H : Type 0} → FrontendReqCore L H → State L H
+endpoint_of c = state c.endpoint
+
+-- what it remembers
+abbrev pub server_in : {L H : Type 0} → FrontendReqCore L H → Server
+server_in c = record { reply_ack = c.reply_ack; failed = c.failed }
+
+-- it, over another endpoint
+abbrev pub with_endpoint : {L H : Type 0} → FrontendReqCore L H → Endpoint (VhostUserMsgHeader BackendReq) L H → FrontendReqCore L H
+with_endpoint c endpoint = record c { endpoint = endpoint }
+
+-- the first of some handles
+abbrev pub first_of : {H : Type 0} → List H → Option H
+first_of [] = None
+first_of (h ∷ hs) = Some h
+
+-- a known request that is not served: a refusal that is acknowledged
+abbrev pub unserved : {H : Type 0} → Server → Message BackendReq H → ReverseStep H
+unserved s m = Refused (record { answer = Err InvalidMessage; served = number_back s m (Err (Of InvalidMessage)) })
+
+-- A row up to the answer of the device: its one call, or why there is none.
+pub data Asks {H Dev : Type 0} (gives : Dev → ReverseCall H → Result ℕ IoError → Dev → Type 0) (s : Server) (m : Message BackendReq H) (step : ReverseStep H) (d : Dev) : Asked → Dev → Type 0 where
+  calls : {a : Result ℕ io.IoError} {d' : Dev} (c : ReverseCall H) → step ≡ Calls c (with_number s m) → gives d c (seen_io_result a) d' → Asks gives s m step d (Answered a) d'
+  is_bad : step ≡ bad_body → Asks gives s m step d BadBody d
+  is_unserved : step ≡ unserved s m → Asks gives s m step d Unserved d
+
+module _ {L H Dev : Type 0} (gives : Dev → ReverseCall H → Result ℕ IoError → Dev → Type 0) where
+  -- An arm follows the row of its code so far: of the message that the request is.
+  abbrev pub AsksRow : BackendReq → FrontendReqCore L H → Dev → Request BackendReq → Asked → Dev → Type 0
+  AsksRow r c d request asked d' = (m : Message BackendReq H) → Reads c.body request m → Asks gives (server_in c) m (reverse_row_of r (server_in c) m) d asked d'
+
+  -- The same where it is given the handles of the message.
+  abbrev pub AsksRowWith : BackendReq → FrontendReqCore L H → Dev → Request BackendReq → Option (Vec H Global) → Asked → Dev → Type 0
+  AsksRowWith r c d request handles asked d' = (m : Message BackendReq H) → Reads c.body request m → HandsOver handles m.handles → Asks gives (server_in c) m (reverse_row_of r (server_in c) m) d asked d'
+
+-- The number that stands for an answer goes back, where the message wants it.
+abbrev pub Acknowledges : {L H : Type 0} → (L → Event H → L → Type 0) → FrontendReqCore L H → Request BackendReq → ℕ → Result ⊤ declared.Error → FrontendReqCore L H → Type 0
+Acknowledges {H = H} event old request number result new = (m : Message BackendReq H) (answer : Result ℕ IoError) → Reads old.body request m → IsReady (endpoint_of old) → number ≡ result_number answer
+    → Tells event (endpoint_of old) (cells_of backend_request_number (reply m.request (number_back (server_in old) m answer))) (Ok tt) result (endpoint_of new)
+
+-- A request meets its row: the message that it is, over an endpoint that can reply.
+abbrev pub MeetsRow : {L H Dev : Type 0} → (L → Event H → L → Type 0) → (Dev → ReverseCall H → Result ℕ IoError → Dev → Type 0)
+    → FrontendReqCore L H → Dev → Request BackendReq → Option (Vec H Global) → Result ℕ declared.Error → FrontendReqCore L H → Dev → Type 0
+MeetsRow {H = H} event gives old d request handles result new d' = (m : Message BackendReq H) → Reads old.body request m → HandsOver handles m.handles → IsReady (endpoint_of old)
+    → Answers event (ReverseMeets (fitting gives) (server_in old) d m) (λ s. s) (endpoint_of old) result (endpoint_of new) (server_in new) d'

@@ -1,0 +1,17 @@
+//! Serving the reverse channel: each request of a device is read whole, tested, and answered by its row of the protocol
+//! table.
+#![tactic(auto)]
+
+mod asked;
+mod device;
+mod handler;
+mod lock;
+mod numbers;
+mod req_core;
+mod shared;
+mod shared_frontend;
+
+pub use device::VhostUserFrontendReqHandlerMut;
+pub use handler::FrontendReqHandler;
+pub use req_core::FrontendReqCore;
+pub use shared::VhostUserFrontendReqHandler;
