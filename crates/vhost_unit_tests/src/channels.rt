@@ -1,3 +1,4 @@
 //! The channels of a device.
 
 mod asks;
+mod serves;
