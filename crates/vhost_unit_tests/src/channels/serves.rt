@@ -1,6 +1,7 @@
 //! What a device asks, as its frontend serves it: the answer, and what goes back.
 
-ghost use Rattle.std.specs.Prelude.{⊤};
+ghost use Rattle.std.specs.Prelude.{⊤, ◌≤◌, length};
+ghost use Rattle.vhost_message.specs.declared.limits.TheConstants.{MAX_ATTACHED_FD_ENTRIES};
 
 use std::alloc::Global;
 use std::sync::{Arc, Mutex};
@@ -10,8 +11,10 @@ use vhost_frontend_req_handler::{
     FrontendReqCore, FrontendReqHandler, VhostUserFrontendReqHandler,
     VhostUserFrontendReqHandlerMut,
 };
-use vhost_link::{Kind, MemLink, PlainHandle};
-use vhost_message::{Error, HandlerResult, IoCause, IoError, VhostUserMMap, VhostUserSharedMsg};
+use vhost_link::{Kind, Link, MemLink, PlainHandle};
+use vhost_message::{
+    Error, HandlerResult, IoCause, IoError, Result, VhostUserMMap, VhostUserSharedMsg,
+};
 
 const HANDLE: PlainHandle = PlainHandle {
     id: 7,
@@ -77,82 +80,101 @@ impl VhostUserFrontendReqHandler for Nothing {
     type Handle = PlainHandle;
 }
 
-/// A frontend's side that acknowledges, after these bytes came, the first with these handles.
-fn coming(
-    alloc: Global,
-    bytes: &[u8],
-    handles: &[PlainHandle],
-) -> Result<FrontendReqCore<MemLink>, Fail> {
+type Outcome<T> = std::result::Result<T, Fail>;
+
+/// A link on which these bytes came, the first with these handles.
+fn coming(alloc: Global, bytes: &[u8], handles: &[PlainHandle]) -> Outcome<MemLink>
+    requires { length handles.now ≤ MAX_ATTACHED_FD_ENTRIES }
+{
     let mut link = MemLink::new(alloc, Vec::new(alloc));
     link.push(bytes, handles)?;
-    let mut core = FrontendReqCore::new(alloc, link, 0)?;
-    core.set_reply_ack_flag(true);
-    Ok(core)
+    Ok(link)
 }
 
-/// Whether this number went back to a request of this code, and nothing else.
-fn wrote(core: &mut FrontendReqCore<MemLink>, code: u8, number: &[u8]) -> bool {
+/// An answer, with the number of an error of the system; -1 is InvalidMessage.
+fn shown(answer: Result<u64>) -> std::result::Result<u64, i32> {
+    match answer {
+        Ok(number) => Ok(number),
+        Err(Error::ReqHandlerError(IoCause::Raw(number))) => Err(number),
+        Err(Error::SocketBroken(IoCause::Raw(number))) => Err(number),
+        Err(Error::InvalidMessage) => Err(-1),
+        Err(_) => Err(-2),
+    }
+}
+
+/// What a request is answered where it is acknowledged by this number, and nothing else goes back.
+fn served(
+    alloc: Global,
+    device: &mut OneName,
+    request: &[u8],
+    code: u8,
+    number: i64,
+) -> Outcome<std::result::Result<u64, i32>> {
+    let mut core = FrontendReqCore::new(alloc, coming(alloc, request, &[])?, 0)?;
+    core.set_reply_ack_flag(true);
+    let answer = shown(core.handle_request(device));
+    let bytes = core.endpoint_mut().link().taken().bytes();
     let head = [code, 0, 0, 0, 5, 0, 0, 0, 8, 0, 0, 0];
-    core.endpoint_mut()
-        .link()
-        .taken()
-        .bytes()
-        .strip_prefix(&head[..])
-        == Some(number)
+    if bytes.strip_prefix(&head[..]) != Some(number.to_le_bytes().as_slice()) {
+        return Err("not acknowledged so")?;
+    }
+    Ok(answer)
 }
 
 #[test]
-fn numbers(rt: HostRuntime) -> Result<(), Fail> {
+fn numbers(rt: HostRuntime) -> Outcome<()> {
     let alloc: Global = rt.alloc();
     let mut device = OneName::default();
-    for number in 0..2 {
-        let mut core = coming(alloc, &ADD, &[])?;
-        assert!(rt; matches!(core.handle_request(&mut device), Ok(n) if n == number));
-        assert!(rt; wrote(&mut core, 6, &number.to_le_bytes()));
-    }
-    for (error, number) in [(38, -38i64), (i32::MIN, -22), (0, 0)] {
+    assert_eq!(rt; served(alloc, &mut device, &ADD, 6, 0)?, Ok(0));
+    assert_eq!(rt; served(alloc, &mut device, &ADD, 6, 1)?, Ok(1));
+    for (error, number) in [(38, -38), (i32::MIN, -22), (0, 0)] {
         device.error = error;
-        let mut core = coming(alloc, &CHANGE, &[])?;
-        let answer = core.handle_request(&mut device);
-        assert!(rt; matches!(answer, Err(Error::ReqHandlerError(IoCause::Raw(n))) if n == error));
-        assert!(rt; wrote(&mut core, 2, &number.to_le_bytes()));
+        assert_eq!(rt; served(alloc, &mut device, &CHANGE, 2, number)?, Err(error));
     }
-    let mut call = CHANGE;
-    call[0] = 4;
-    let mut core = coming(alloc, &call, &[])?;
-    assert!(rt; matches!(core.handle_request(&mut device), Err(Error::InvalidMessage)));
-    assert!(rt; wrote(&mut core, 4, &(-22i64).to_le_bytes()));
-    // Without its one handle the body of SHMEM_MAP stays unread: it is the next request.
-    let mut map = [0; 40];
-    map[..12].copy_from_slice(&[9, 0, 0, 0, 9, 0, 0, 0, 28, 0, 0, 0]);
-    map[12..].copy_from_slice(&ADD);
-    for count in [0, 2] {
-        let mut core = coming(alloc, &map, &[HANDLE; 2][..count])?;
-        let mut answers = Vec::new(alloc);
-        core.run(2, &mut device, &mut answers)?;
-        assert!(rt; matches!(answers.as_slice(), [Err(Error::InvalidMessage), Ok(1)]));
-    }
+    let kick = [4, 0, 0, 0, 9, 0, 0, 0, 0, 0, 0, 0];
+    assert_eq!(rt; served(alloc, &mut device, &kick, 4, -22)?, Err(-1));
+    Ok(())
+}
+
+/// Whether SHMEM_MAP with these handles is refused with its body unread, so that the body is the next request.
+fn stays_unread(alloc: Global, handles: &[PlainHandle]) -> Outcome<bool>
+    requires { length handles.now ≤ MAX_ATTACHED_FD_ENTRIES }
+{
+    let mut link = coming(alloc, &[9, 0, 0, 0, 9, 0, 0, 0, 28, 0, 0, 0], handles)?;
+    link.push(&ADD, &[])?;
+    let mut core = FrontendReqCore::new(alloc, link, 0)?;
+    let mut answers = Vec::new(alloc);
+    core.run(2, &mut OneName::default(), &mut answers)?;
+    Ok(matches!(answers.as_slice(), [Err(Error::InvalidMessage), Ok(0)]))
+}
+
+#[test]
+fn handles(rt: HostRuntime) -> Outcome<()> {
+    assert!(rt; stays_unread(rt.alloc(), &[])?);
+    assert!(rt; stays_unread(rt.alloc(), &[HANDLE, HANDLE])?);
     Ok(())
 }
 
 #[test]
-fn shared(rt: HostRuntime) -> Result<(), Fail> {
+fn shared(rt: HostRuntime) -> Outcome<()> {
     let alloc: Global = rt.alloc();
-    let mut link = MemLink::new(alloc, Vec::new(alloc));
-    link.push(&CHANGE, &[])?;
+    let link = coming(alloc, &CHANGE, &[])?;
     let mut handler = FrontendReqHandler::new(alloc, HANDLE, link, 0, Arc::new(alloc, Nothing)?)?;
     assert_eq!(rt; handler.get_tx_raw_fd().id, 7);
     handler.set_failed(5);
-    let answer = handler.handle_request(&rt);
-    assert!(rt; matches!(answer, Err(Error::SocketBroken(IoCause::Raw(5)))));
+    assert_eq!(rt; shown(handler.handle_request(&rt)), Err(5));
     handler.set_failed(0);
-    let answer = handler.handle_request(&rt);
-    assert!(rt; matches!(answer, Err(Error::ReqHandlerError(IoCause::Raw(38)))));
-    let mut link = MemLink::new(alloc, Vec::new(alloc));
-    link.push(&ADD, &[])?;
+    assert_eq!(rt; shown(handler.handle_request(&rt)), Err(38));
+    Ok(())
+}
+
+#[test]
+fn behind_a_lock(rt: HostRuntime) -> Outcome<()> {
+    let alloc: Global = rt.alloc();
+    let link = coming(alloc, &ADD, &[])?;
     let device = Arc::new(alloc, Mutex::new(OneName::default()))?;
     let mut handler = FrontendReqHandler::new(alloc, HANDLE, link, 0, device)?;
     handler.set_reply_ack_flag(true);
-    assert!(rt; matches!(handler.handle_request(&rt), Ok(0)));
+    assert_eq!(rt; shown(handler.handle_request(&rt)), Ok(0));
     Ok(())
 }
