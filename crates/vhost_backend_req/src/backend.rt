@@ -6,11 +6,14 @@ ghost use Rattle.vhost_message.specs.declared.error.Error.TheVariants.{OutOfMemo
 use crate::internal::BackendInternal;
 use std::alloc::{AllocError, Global};
 use std::sync::{Arc, Mutex, Wait};
+use vhost_frontend_req_handler::VhostUserFrontendReqHandler;
 use vhost_link::Link;
 use vhost_message::{Error, HandlerResult, Result, VhostUserMMap, VhostUserSharedMsg};
 
 /// The channel from a device to its frontend, which the device is given by VHOST_USER_SET_BACKEND_REQ_FD. It can be
 /// shared: clones are the same channel.
+///
+/// Its calls are those of `VhostUserFrontendReqHandler`, since it stands for its frontend.
 ///
 /// Mirrors `vhost::vhost_user::Backend`.
 #[derive(Drop)]
@@ -52,57 +55,47 @@ impl<L: Link> Backend<L> {
         self.inner.lock(rt).set_config_change_flag(on);
     }
 
-    /// `BackendInternal::handle_config_change` under the lock.
-    pub fn handle_config_change(&self, rt: &impl Wait) -> HandlerResult<u64> {
-        self.inner.lock(rt).handle_config_change()
-    }
-
-    /// `BackendInternal::shared_object_add` under the lock.
-    pub fn shared_object_add(
-        &self,
-        rt: &impl Wait,
-        name: &VhostUserSharedMsg,
-    ) -> HandlerResult<u64> {
-        self.inner.lock(rt).shared_object_add(name)
-    }
-
-    /// `BackendInternal::shared_object_remove` under the lock.
-    pub fn shared_object_remove(
-        &self,
-        rt: &impl Wait,
-        name: &VhostUserSharedMsg,
-    ) -> HandlerResult<u64> {
-        self.inner.lock(rt).shared_object_remove(name)
-    }
-
-    /// `BackendInternal::shared_object_lookup` under the lock.
-    pub fn shared_object_lookup(
-        &self,
-        rt: &impl Wait,
-        name: &VhostUserSharedMsg,
-        handle: &L::Handle,
-    ) -> HandlerResult<u64> {
-        self.inner.lock(rt).shared_object_lookup(name, handle)
-    }
-
-    /// `BackendInternal::shmem_map` under the lock.
-    pub fn shmem_map(
-        &self,
-        rt: &impl Wait,
-        mapping: &VhostUserMMap,
-        handle: &L::Handle,
-    ) -> HandlerResult<u64> {
-        self.inner.lock(rt).shmem_map(mapping, handle)
-    }
-
-    /// `BackendInternal::shmem_unmap` under the lock.
-    pub fn shmem_unmap(&self, rt: &impl Wait, mapping: &VhostUserMMap) -> HandlerResult<u64> {
-        self.inner.lock(rt).shmem_unmap(mapping)
-    }
-
     /// Marks the channel as failed with the number of a system's error, also with 0: from now on each call answers it.
     pub fn set_failed(&self, rt: &impl Wait, error: i32) {
         self.inner.lock(rt).set_failed(error);
+    }
+}
+
+/// Each call is that of `BackendInternal`, under the lock.
+impl<L: Link> VhostUserFrontendReqHandler for Backend<L> {
+    type Handle = L::Handle;
+
+    fn handle_config_change(&self, rt: &impl Wait) -> HandlerResult<u64> {
+        self.inner.lock(rt).handle_config_change()
+    }
+
+    fn shared_object_add(&self, rt: &impl Wait, uuid: &VhostUserSharedMsg) -> HandlerResult<u64> {
+        self.inner.lock(rt).shared_object_add(uuid)
+    }
+
+    fn shared_object_remove(
+        &self,
+        rt: &impl Wait,
+        uuid: &VhostUserSharedMsg,
+    ) -> HandlerResult<u64> {
+        self.inner.lock(rt).shared_object_remove(uuid)
+    }
+
+    fn shared_object_lookup(
+        &self,
+        rt: &impl Wait,
+        uuid: &VhostUserSharedMsg,
+        fd: &L::Handle,
+    ) -> HandlerResult<u64> {
+        self.inner.lock(rt).shared_object_lookup(uuid, fd)
+    }
+
+    fn shmem_map(&self, rt: &impl Wait, req: &VhostUserMMap, fd: &L::Handle) -> HandlerResult<u64> {
+        self.inner.lock(rt).shmem_map(req, fd)
+    }
+
+    fn shmem_unmap(&self, rt: &impl Wait, req: &VhostUserMMap) -> HandlerResult<u64> {
+        self.inner.lock(rt).shmem_unmap(req)
     }
 }
 

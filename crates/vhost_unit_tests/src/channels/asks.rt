@@ -7,6 +7,7 @@ use std::alloc::Global;
 use std::test::Fail;
 use uuid::Uuid;
 use vhost_backend_req::{Backend, BackendInternal};
+use vhost_frontend_req_handler::VhostUserFrontendReqHandler;
 use vhost_link::{Kind, Link, MemLink, PlainHandle};
 use vhost_message::{Error, HandlerResult, IoCause, IoError, VhostUserMMap, VhostUserSharedMsg};
 
