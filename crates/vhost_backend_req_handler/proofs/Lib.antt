@@ -5,5 +5,4 @@ pub mod Channels
 pub mod Telling
 pub mod Arms
 pub mod Handling
-pub mod Running
 pub mod Sharing

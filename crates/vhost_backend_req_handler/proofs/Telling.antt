@@ -1,50 +1,24 @@
 -- A handler lets its peer know of its answer, or a fault stops it.
-use Rattle.std.proofs.Common.{◌≡◌, ℕ, Bool, true, false, List, [], ◌&&◌, Result, Ok, Err, refl, sym, ◌∙◌, ap, subst, arith}
+use Rattle.std.proofs.Common.{◌≡◌, ℕ, Bool, true, false, List, [], ◌&&◌, Result, Ok, Err, refl, sym, ◌∙◌, ap}
 use Rattle.std.specs.Prelude.{if◌then◌else◌, is_ok, ⊤}
-use Rattle.std.proofs.lemmas.List.{append-nil}
 use Rattle.vhost_message.specs.declared.error.Error.{Error}
 use Rattle.vhost_message.specs.declared.frontend_req.FrontendReq.{FrontendReq}
-use Rattle.vhost_message.specs.FrontendReq.{request_number}
 use Rattle.vhost_protocol.specs.Error as protocol
 use Rattle.vhost_protocol.specs.Error.{seen_result}
 use Rattle.vhost_protocol.specs.Served.{Replied}
 use Rattle.vhost_protocol.specs.Session.{Session, ack_on}
 use Rattle.vhost_protocol.specs.Split.{Message}
 use Rattle.vhost_protocol.specs.Step.{with_ack, done}
-use Rattle.vhost_protocol.specs.Stream.{items}
-use Rattle.vhost_protocol.specs.Written.{Payload, U64, payload_text}
-use Rattle.vhost_link.specs.Law.{Event, nothing}
-use Rattle.vhost_link.specs.Law.Moved.{still}
+use Rattle.vhost_protocol.specs.Written.{U64}
+use Rattle.vhost_link.specs.Law.{Event}
 use Rattle.vhost_connection.specs.Talk.{State}
 use Rattle.vhost_connection.specs.declared.request.Request.{Request}
 use Rattle.vhost_connection.specs.Requests as requests
-use Rattle.vhost_connection.specs.Requests.{Reads, IsReady, Replies, Tells, reply_text}
+use Rattle.vhost_connection.specs.Requests.{Reads, IsReady, Tells}
+use Rattle.vhost_connection.proofs.Serving.{none-sent}
 use Rattle.vhost_backend_req_handler.specs.Serving.{reply_cells}
 
 module _ {L H : Type 0} (event : L → Event H → L → Type 0) where
-  -- the reply that went out is that of the row, or a fault stopped it
-  pub reply-as : (old new : State L H) (r code : FrontendReq) (hs : List H) (text : List ℕ) (payload : Payload) (answer : Result ⊤ protocol.Error) (result : Result ⊤ Error) → code ≡ r → text ≡ payload_text payload
-      → Tells event old (reply_text request_number code hs text) answer result new → Tells event old (reply_cells r (Replied payload hs)) answer result new
-  reply-as old new r code hs text payload answer result is same p =
-      subst (λ x. Tells event old (reply_text request_number r hs x) answer result new) same (subst (λ x. Tells event old (reply_text request_number x hs text) answer result new) is p)
-
-  -- ---- answers
-
-  -- nothing is to be sent
-  pub none-sent : (old : State L H) → IsReady old → Replies event old [] old
-  none-sent old ready = record {
-    retries = 0;
-    list = refl;
-    serves = record {
-      talks = record { below = nothing; moved = still; handed = append-nil (items old.ahead); taken = refl; retries = refl; failures = refl; budget = refl };
-      retries = omega arith;
-      failures = refl;
-      before = ready.broken;
-      after = ready.broken;
-      faulted = ready.faulted;
-    };
-  }
-
   -- a reply of one number as an acknowledgement of the answer
   replied-number : Result ⊤ protocol.Error → ℕ
   replied-number a = if is_ok a then 0 else 1
@@ -56,7 +30,7 @@ module _ {L H : Type 0} (event : L → Event H → L → Type 0) where
   -- no acknowledgement is wanted
   pub unacked : (old : State L H) (r : FrontendReq) (s : Session) (m : Message FrontendReq H) (answer : Result ⊤ Error) → IsReady old → (ack_on s && m.need_reply) ≡ false
       → let o = with_ack s m (seen_result answer) in Tells event old (reply_cells r o.served) o.answer answer old
-  unacked old r s m answer ready off = rw (off, done-same (seen_result answer)) (requests.whole refl (none-sent old ready))
+  unacked old r s m answer ready off = rw (off, done-same (seen_result answer)) (requests.whole refl (none-sent event old ready))
 
   -- it went out
   pub ack-sent : (old new : State L H) (r : FrontendReq) (s : Session) (m : Message FrontendReq H) (answer : Result ⊤ Error) → (ack_on s && m.need_reply) ≡ true

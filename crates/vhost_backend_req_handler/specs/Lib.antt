@@ -2,5 +2,4 @@ pub mod Session
 pub mod Core
 pub mod Opening
 pub mod Serving
-pub mod Running
 pub mod Sharing

@@ -10,7 +10,7 @@ use Rattle.vhost_gpu_backend_req.specs.declared.backend.GpuBackend.{GpuBackend}
 use Rattle.vhost_backend_req_handler.specs.declared.session_core.SessionCore.{SessionCore}
 use Rattle.vhost_backend_req_handler.specs.Core.{endpoint_of, session_in}
 use Rattle.vhost_backend_req_handler.specs.Opening.{OpensAs}
-use Rattle.vhost_backend_req_handler.specs.Running.{CallsOnce}
+use Rattle.vhost_backend_req_handler.specs.Serving.{CallsOnce}
 
 -- any answer: of such a device only its type is known
 abbrev pub any_answer : {H B G : Type 0} → ⊤ → (c : Call H B G) → Answer c → ⊤ → Type 0

@@ -53,8 +53,7 @@ impl<L: Link> SessionCore<L> {
     ghost use Rattle.vhost_message.specs.contracts.header.VhostUserMsgHeader.{the_row as header_row};
     ghost use Rattle.vhost_message.specs.contracts.frontend_req.FrontendReq.{the_row as code_row};
     ghost use Rattle.vhost_backend_req_handler.specs.Opening.{OpensAs};
-    ghost use Rattle.vhost_backend_req_handler.specs.Running.{Runs};
-    ghost use Rattle.vhost_backend_req_handler.specs.Serving.{HandlesOne};
+    ghost use Rattle.vhost_backend_req_handler.specs.Serving.{HandlesOne, Runs};
 
     /// A new session over a link. A message may take so many retries.
     ///

@@ -9,13 +9,13 @@ use Rattle.vhost_protocol.specs.Error.{Error, seen, seen_result}
 use Rattle.vhost_protocol.specs.Run as run
 use Rattle.vhost_protocol.specs.Split.{Message}
 use Rattle.vhost_protocol.specs.Stream.{Cell, items}
-use Rattle.vhost_link.specs.Law.{Event, nothing, ◌then◌}
+use Rattle.vhost_link.specs.Law.{Event, Move, nothing, ◌then◌}
 use Rattle.vhost_link.specs.Law.Moved.{still}
 use Rattle.vhost_connection.specs.Talk.{State, Talks}
 use Rattle.vhost_connection.proofs.Talking.{Talks-then}
 use Rattle.vhost_connection.specs.Serving as serving
 use Rattle.vhost_connection.specs.Serving.{Handled, Breaks, HandlesOne, CallsUnless, CallsOnce, CallsMany, WholeRun, BrokenRun, RunsMany, Runs}
-use Rattle.vhost_connection.proofs.Serving.{Entry, as-entry}
+use Rattle.vhost_connection.proofs.Serving.{as-entry}
 
 module _ {L R H S A Dev : Type 0} (event : L → Event H → L → Type 0) (request_of : ℕ → Option R) (allows_handles : R → ℕ → Bool) (failed : S → Option ℤ)
     (kept : R → S → S → S) (Meets : S → Dev → Message R H → Result A Error → List (Cell H) → S → Dev → Type 0) where
@@ -35,6 +35,18 @@ module _ {L R H S A Dev : Type 0} (event : L → Event H → L → Type 0) (requ
   calls-more old mid new s t s' d between d' (x ∷ answers) answer (m, u, e, first, rest) p =
       (m, u, e, first, calls-more m mid new u t s' e between d' answers answer rest p)
 
+  -- what one call is, if it is an entry of a run: also that of a session which is marked as failed
+  record Counts (old : State L H) (s : S) (d : Dev) (answer : Result A declared.Error) (new : State L H) (s' : S) (d' : Dev) : Type 0 where
+    move : Move H
+    talks : Talks event old move new
+    failures : move.failures ≡ 0
+    handles : run.Serves request_of allows_handles failed Meets s d move.handed (seen_result answer) move.taken s' d'
+
+  counts : (old new : State L H) (s s' : S) (d d' : Dev) (answer : Result A declared.Error) → failed s ≡ None → Handled event request_of allows_handles failed kept Meets old s d (seen_result answer) new s' d' → Counts old s d answer new s' d'
+  counts old new s s' d d' answer alive h =
+      let e = as-entry event request_of allows_handles failed kept Meets old new s s' d d' (seen_result answer) alive h in
+      record { move = e.move; talks = e.talks; failures = e.failures; handles = e.handles }
+
   quiet : (old : State L H) → Talks event old nothing old
   quiet old = record { below = nothing; moved = still; handed = append-nil (items old.ahead); taken = refl; retries = refl; failures = refl; budget = refl }
 
@@ -43,7 +55,7 @@ module _ {L R H S A Dev : Type 0} (event : L → Event H → L → Type 0) (requ
 
   -- an entry, and then a run
   entry-then : (old mid new : State L H) (s t s' : S) (d between d' : Dev) (answer : Result A declared.Error) (answers : List (Result A declared.Error))
-      → Entry event request_of allows_handles failed kept Meets old s d (seen_result answer) mid t between → WholeRun event request_of allows_handles failed kept Meets mid t between answers new s' d'
+      → Counts old s d answer mid t between → WholeRun event request_of allows_handles failed kept Meets mid t between answers new s' d'
       → WholeRun event request_of allows_handles failed kept Meets old s d (answer ∷ answers) new s' d'
   entry-then old mid new s t s' d between d' answer answers e r = record {
     move = e.move then r.move;
@@ -54,7 +66,7 @@ module _ {L R H S A Dev : Type 0} (event : L → Event H → L → Type 0) (requ
 
   -- an entry before a run that broke
   entry-before : (old mid new : State L H) (s t s' : S) (d between d' : Dev) (answer : Result A declared.Error) (answers : List (Result A declared.Error))
-      → Entry event request_of allows_handles failed kept Meets old s d (seen_result answer) mid t between → BrokenRun event request_of allows_handles failed kept Meets mid t between answers new s' d'
+      → Counts old s d answer mid t between → BrokenRun event request_of allows_handles failed kept Meets mid t between answers new s' d'
       → BrokenRun event request_of allows_handles failed kept Meets old s d (answer ∷ answers) new s' d'
   entry-before old mid new s t s' d between d' answer answers e r = record {
     served = answer ∷ r.served;
@@ -74,21 +86,21 @@ module _ {L R H S A Dev : Type 0} (event : L → Event H → L → Type 0) (requ
 
   -- one call is an entry, or it broke; a session that is marked as failed is an entry, too
   judged : (old new : State L H) (s s' : S) (d d' : Dev) (answer : Result A declared.Error) (mark : Option ℤ) → failed s ≡ mark → CallsUnless event request_of allows_handles failed kept Meets mark old s d answer new s' d'
-      → Entry event request_of allows_handles failed kept Meets old s d (seen_result answer) new s' d' ⊎ ((e : declared.Error) × (answer ≡ Err e) × Breaks event request_of allows_handles failed kept Meets old s d e new s' d')
+      → Counts old s d answer new s' d' ⊎ ((e : declared.Error) × (answer ≡ Err e) × Breaks event request_of allows_handles failed kept Meets old s d e new s' d')
   judged old new s s' d d' answer (Some n) marked (is, at, same, stays) =
       let broken : Result A declared.Error = Err (code.SocketBroken (cause.Raw n)) in
-      let entry : Entry event request_of allows_handles failed kept Meets old s d (seen_result broken) old s d = record {
+      let entry : Counts old s d broken old s d = record {
         move = nothing;
         talks = quiet old;
         failures = refl;
         handles = subst (λ f. run.ServesUnless request_of allows_handles failed Meets f s d [] (seen_result broken) [] s d) (sym marked) (refl, (refl, refl, refl, refl));
       } in
-      inl (subst (λ (x : Dev). Entry event request_of allows_handles failed kept Meets old s d (seen_result answer) new s' x) (sym stays)
-      (subst (λ (x : S). Entry event request_of allows_handles failed kept Meets old s d (seen_result answer) new x d) (sym same)
-      (subst (λ (x : State L H). Entry event request_of allows_handles failed kept Meets old s d (seen_result answer) x s d) (sym at)
-      (subst (λ (x : Result A declared.Error). Entry event request_of allows_handles failed kept Meets old s d (seen_result x) old s d) (sym is) entry))))
-  judged old new s s' d d' (Ok a) None marked p = inl (as-entry event request_of allows_handles failed kept Meets old new s s' d d' (Ok a) marked p)
-  judged old new s s' d d' (Err e) None marked (inl p) = inl (as-entry event request_of allows_handles failed kept Meets old new s s' d d' (Err (seen e)) marked p)
+      inl (subst (λ (x : Dev). Counts old s d answer new s' x) (sym stays)
+      (subst (λ (x : S). Counts old s d answer new x d) (sym same)
+      (subst (λ (x : State L H). Counts old s d answer x s d) (sym at)
+      (subst (λ (x : Result A declared.Error). Counts old s d x old s d) (sym is) entry))))
+  judged old new s s' d d' (Ok a) None marked p = inl (counts old new s s' d d' (Ok a) marked p)
+  judged old new s s' d d' (Err e) None marked (inl p) = inl (counts old new s s' d d' (Err e) marked p)
   judged old new s s' d d' (Err e) None marked (inr p) = inr (e, refl, p)
 
   -- many calls are a whole run, unless one failed
@@ -101,7 +113,7 @@ module _ {L R H S A Dev : Type 0} (event : L → Event H → L → Type 0) (requ
   calls-run old new s s' d d' (answer ∷ answers) (mid, t, between, first, rest) =
       go (judged old mid s t d between answer (failed s) refl first) (calls-run mid new t s' between d' answers rest)
     where
-      go : Entry event request_of allows_handles failed kept Meets old s d (seen_result answer) mid t between ⊎ ((e : declared.Error) × (answer ≡ Err e) × Breaks event request_of allows_handles failed kept Meets old s d e mid t between)
+      go : Counts old s d answer mid t between ⊎ ((e : declared.Error) × (answer ≡ Err e) × Breaks event request_of allows_handles failed kept Meets old s d e mid t between)
           → RunsMany event request_of allows_handles failed kept Meets mid t between answers new s' d' → RunsMany event request_of allows_handles failed kept Meets old s d (answer ∷ answers) new s' d'
       go (inl e) (inl r) = inl (entry-then old mid new s t s' d between d' answer answers e r)
       go (inl e) (inr r) = inr (entry-before old mid new s t s' d between d' answer answers e r)

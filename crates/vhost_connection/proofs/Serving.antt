@@ -1,5 +1,5 @@
 -- A message was read, and then it was answered, whichever side is served.
-use Rattle.std.proofs.Common.{◌≡◌, ℕ, ◌+◌, Bool, List, [], Option, None, Result, Ok, Err, inl, inr, ◌⊎◌, refl, sym, ap, subst, ◌∙◌, arith}
+use Rattle.std.proofs.Common.{◌≡◌, ℕ, ◌+◌, Bool, false, List, [], Option, None, Result, Ok, Err, inl, inr, ◌⊎◌, refl, sym, ap, subst, ◌∙◌, arith}
 use Rattle.std.specs.Prelude.{⊤, ℤ, Vec, IsErrAnd, not}
 use Rattle.std.specs.Global.{Global}
 use Rattle.std.proofs.lemmas.List.{append-nil}
@@ -65,6 +65,14 @@ is-ready h = record { broken = h.serves.after; faulted = h.serves.faulted }
 heard-then-sent : {H : Type 0} (xs : List (Item H)) (cells : List (Cell H)) (r q : ℕ) → receives xs r then sends cells q ≡ move xs cells (r + q) 0
 heard-then-sent xs cells r q = ap (λ ys. move ys cells (r + q) 0) (append-nil xs)
 
+-- what is met in one sense is met in another
+pub answers-as : {L H S A Dev : Type 0} (event : L → Event H → L → Type 0) (Met Other : Result A Error → List (Cell H) → S → Dev → Type 0) (kept : S → S)
+    → ((answer : Result A Error) (written : List (Cell H)) (s' : S) (d' : Dev) → Met answer written s' d' → Other answer written s' d')
+    → (old new : State L H) (s' : S) (d' : Dev) (result : Result A declared.Error) → Answers event Met kept old result new s' d' → Answers event Other kept old result new s' d'
+answers-as event Met Other kept turns old new s' d' result (serving.answered p) = serving.answered (record { written = p.written; meets = turns _ p.written s' d' p.meets; replies = p.replies })
+answers-as event Met Other kept turns old new s' d' _ (serving.interrupted p) =
+    serving.interrupted (record { answer = p.answer; written = p.written; after = p.after; meets = turns p.answer p.written p.after d' p.meets; stops = p.stops; session = p.session })
+
 -- ---- a call
 
 module _ {L R H S A Dev : Type 0} (event : L → Event H → L → Type 0) (request_of : ℕ → Option R) (allows_handles : R → ℕ → Bool) (failed : S → Option ℤ)
@@ -111,6 +119,8 @@ module _ {L R H S A Dev : Type 0} (event : L → Event H → L → Type 0) (requ
     pub move : Move H
     pub talks : Talks event old move new
     pub failures : move.failures ≡ 0
+    pub after : new.broken ≡ None
+    pub faulted : new.faulted ≡ false
     pub handles : run.Serves request_of allows_handles failed Meets s d move.handed answer move.taken s' d'
 
   -- it is, where the session has not failed
@@ -121,6 +131,8 @@ module _ {L R H S A Dev : Type 0} (event : L → Event H → L → Type 0) (requ
         move = move input h.written (h.hears.retries + h.replies.retries) 0;
         talks = Talks-as (heard-then-sent input h.written h.hears.retries h.replies.retries) (Talks-then h.hears.serves.talks h.replies.serves.talks);
         failures = refl;
+        after = h.replies.serves.after;
+        faulted = h.replies.serves.faulted;
         handles = subst (λ f. run.ServesUnless request_of allows_handles failed Meets f s d input answer h.written s' d') (sym alive)
             (h.heard, (h.hears.cells, h.hears.ended, refl, h.hears.splits), h.handles);
       }

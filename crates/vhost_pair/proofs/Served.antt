@@ -30,8 +30,9 @@ use Rattle.vhost_connection.specs.Hearing.{Hears, Spends}
 use Rattle.vhost_connection.specs.Requests.{Stops}
 use Rattle.vhost_connection.proofs.Talking.{Talks-then}
 use Rattle.vhost_connection.proofs.Failing.{fell-talks, spends, refused-taken, trouble-fails}
-use Rattle.vhost_backend_req_handler.specs.Serving.{HandlesOne, Breaks, unread, unanswered, fitting, reply_cells}
-use Rattle.vhost_backend_req_handler.proofs.Handling.{Entry, as-entry}
+use Rattle.vhost_connection.specs.Serving.{unread, unanswered}
+use Rattle.vhost_connection.proofs.Serving.{Entry, as-entry}
+use Rattle.vhost_backend_req_handler.specs.Serving.{HandlesOne, Breaks, fitting, kept_unsent}
 use Rattle.vhost_pair.specs.declared.halt.Stop.{Stop}
 use Rattle.vhost_pair.specs.declared.halt.Stop.TheVariants.{Table, Premise}
 use Rattle.vhost_pair.specs.Device.{Gives, opens_backend, opens_gpu}
@@ -55,7 +56,7 @@ spends-later m n limit budget same (inr more) = inr (omega arith)
 
 module _ {Dev : Type 0} (gives : Gives Dev) (he he' : End) (s s' : Session) (d d' : Dev) where
   abbrev pub IsHandled : Result ⊤ Error → Type 0
-  IsHandled r = Entry event gives opens_backend opens_gpu he s d r he' s' d'
+  IsHandled r = Entry event request_of allows_handles (λ (t : Session). t.failed) kept_unsent (MeetsRow (fitting gives) opens_backend opens_gpu) he s d r he' s' d'
 
   -- what had moved when a fault stopped a reply
   stopped-faults : (m : Message FrontendReq PlainHandle) (mid : End) (cells : List (Cell PlainHandle)) (e : declared.Error) → Hears event (split request_of allows_handles) he (Ok m) mid → Stops event mid cells e he' → Faults he he'
@@ -73,11 +74,11 @@ module _ {Dev : Type 0} (gives : Gives Dev) (he he' : End) (s s' : Session) (d d
 
   broke-faults : (e : declared.Error) → Breaks event gives opens_backend opens_gpu he s d e he' s' d' → he.broken ≡ None → he.list ≡ true → Faults he he'
   broke-faults e (unread p same kept) whole list = faults he he' false e (trouble-fails event he true false (receives (items p.cells) p.retries) e he' p.trouble refl (omega arith)) whole list
-  broke-faults e (unanswered m mid h p) whole list = stopped-faults m mid (reply_cells m.request p.outcome.served) e h p.stops
+  broke-faults e (unanswered m mid h p) whole list = stopped-faults m mid p.written e h p.stops
 
   pub split-handled : s.failed ≡ None → (r : Result ⊤ declared.Error) → HandlesOne event gives opens_backend opens_gpu he s d r he' s' d' → he.broken ≡ None → he.list ≡ true → IsHandled (seen_result r) ⊎ Faults he he'
-  split-handled alive (Ok u) h whole list = inl (as-entry event gives opens_backend opens_gpu alive h)
-  split-handled alive (Err e) (inl h) whole list = inl (as-entry event gives opens_backend opens_gpu alive h)
+  split-handled alive (Ok u) h whole list = inl (as-entry event request_of allows_handles (λ (t : Session). t.failed) kept_unsent (MeetsRow (fitting gives) opens_backend opens_gpu) he he' s s' d d' _ alive h)
+  split-handled alive (Err e) (inl h) whole list = inl (as-entry event request_of allows_handles (λ (t : Session). t.failed) kept_unsent (MeetsRow (fitting gives) opens_backend opens_gpu) he he' s s' d d' _ alive h)
   split-handled alive (Err e) (inr k) whole list = inr (broke-faults e k whole list)
 
   -- The request was served.
@@ -122,7 +123,7 @@ module _ {Dev : Type 0} (gives : Gives Dev) (he he' : End) (s s' : Session) (d d
   handles-mark (Err e) r written h = ap {A = Session} (λ t. t.failed) h.2
   handles-mark (Ok m) r written h = ap {A = Session} (λ t. t.failed) h.4 ∙ followed-mark (fitting gives) opens_backend opens_gpu s d (row s m) h.0 d' (rows-keep PlainHandle _ _ m.request s m) h.1
 
-  pub handled-mark : (r : Result ⊤ Error) → Entry event gives opens_backend opens_gpu he s d r he' s' d' → s.failed ≡ None → s'.failed ≡ None
+  pub handled-mark : (r : Result ⊤ Error) → Entry event request_of allows_handles (λ (t : Session). t.failed) kept_unsent (MeetsRow (fitting gives) opens_backend opens_gpu) he s d r he' s' d' → s.failed ≡ None → s'.failed ≡ None
   handled-mark r h failed =
       let sv : run.ServesUnless request_of allows_handles (λ (t : Session). t.failed) (MeetsRow (fitting gives) opens_backend opens_gpu) None s d h.move.handed r h.move.taken s' d' =
       subst (λ x. run.ServesUnless request_of allows_handles (λ (t : Session). t.failed) (MeetsRow (fitting gives) opens_backend opens_gpu) x s d h.move.handed r h.move.taken s' d') failed h.handles in

@@ -1,16 +1,25 @@
 -- One request is read and answered.
 use Rattle.std.proofs.Common.{[], refl}
+use Rattle.vhost_message.specs.FrontendReq.{request_of}
+use Rattle.vhost_protocol.specs.Codes.{allows_handles}
+use Rattle.vhost_protocol.specs.Handler.{MeetsRow}
+use Rattle.vhost_protocol.specs.Session.{Session}
+use Rattle.vhost_connection.proofs.Serving.{handles-unread, handles-request}
 use Rattle.vhost_backend_req_handler.specs.Core.{endpoint_of, session_in}
 use Rattle.vhost_backend_req_handler.specs.Opening.{OpensAs}
-use Rattle.vhost_backend_req_handler.proofs.Handling.{handles-unread, handles-request}
+use Rattle.vhost_backend_req_handler.specs.Serving.{fitting, kept_unsent}
+use Rattle.vhost_backend_req_handler.proofs.Handling.{meets-row}
 use Rattle.vhost_backend_req_handler.proofs.session_core.SessionCore.handle_request.Goals as goal
 
 pub returns-in_err-request-clause-handled : goal.returns-in_err-request-clause-handled
 returns-in_err-request-clause-handled g c alive =
-    handles-unread g.L.Link.event g.D.VhostUserBackendReqHandlerMut.gives (λ h o. OpensAs g.L.Link.opens g.L.Handle.Handle.kinds h o) (λ h o. OpensAs g.L.Link.opens g.L.Handle.Handle.kinds h o)
+    handles-unread g.L.Link.event request_of allows_handles (λ (t : Session). t.failed) kept_unsent
+    (MeetsRow (fitting g.D.VhostUserBackendReqHandlerMut.gives) (λ h o. OpensAs g.L.Link.opens g.L.Handle.Handle.kinds h o) (λ h o. OpensAs g.L.Link.opens g.L.Handle.Handle.kinds h o))
     (endpoint_of c.args.self.now) _ (session_in c.args.self.now) _ [] c.from_residual.result _ c.from_residual.ensures.1 c.in_err-request.ensures
 
 pub returns-clause-handled : goal.returns-clause-handled
 returns-clause-handled g c alive =
-    handles-request g.L.Link.event g.D.VhostUserBackendReqHandlerMut.gives (λ h o. OpensAs g.L.Link.opens g.L.Handle.Handle.kinds h o) (λ h o. OpensAs g.L.Link.opens g.L.Handle.Handle.kinds h o) (endpoint_of c.args.self.now) _ _
-    (session_in c.args.self.now) _ _ _ _ c.in_ok-request.request c.in_ok-request.handles _ c.in_ok-request.ensures (λ m reads over ready. c.answer.ensures m reads over refl ready)
+    handles-request g.L.Link.event request_of allows_handles (λ (t : Session). t.failed) kept_unsent
+    (MeetsRow (fitting g.D.VhostUserBackendReqHandlerMut.gives) (λ h o. OpensAs g.L.Link.opens g.L.Handle.Handle.kinds h o) (λ h o. OpensAs g.L.Link.opens g.L.Handle.Handle.kinds h o))
+    (endpoint_of c.args.self.now) _ _ (session_in c.args.self.now) _ _ _ _ c.in_ok-request.request c.in_ok-request.handles _ c.in_ok-request.ensures
+    (λ m reads over ready. meets-row g.L.Link.event _ _ _ c.in_ok-request.request.code _ _ _ _ _ _ m _ reads.code (c.answer.ensures m reads over refl ready))
