@@ -1,6 +1,6 @@
 -- What a call of the channel does, step by step.
 use Rattle.std.proofs.Common.{◌≡◌, ℕ, ℤ, ◌+◌, ◌++◌, List, [], length, take, drop, Bool, true, false, Option, Some, None, Result, Ok, Err, Vec, refl, sym, ap, subst, ◌∙◌, lit≤}
-use Rattle.std.specs.Prelude.{◌&&◌, is_some, is_ok, not, codes, if◌then◌else◌, nat_lt}
+use Rattle.std.specs.Prelude.{◌≢◌, ◌&&◌, is_some, is_ok, not, codes, if◌then◌else◌, nat_lt}
 use Rattle.std.specs.Global.{Global}
 use Rattle.vhost_message.specs.declared.error.Error as declared
 use Rattle.vhost_message.specs.declared.error.Error.TheVariants as code
@@ -23,7 +23,7 @@ use Rattle.vhost_connection.specs.Calls.{Sends, HandsOver, ReadsPayload, Message
 use Rattle.vhost_connection.specs.Hearing.{Hears, broken_on}
 use Rattle.vhost_connection.proofs.Failing.{trouble-breaks}
 use Rattle.vhost_connection.proofs.Replies.{hears-by, reply_in, outcome, splits, is-whole, is-invalid, reply-short}
-use Rattle.vhost_gpu_backend_req.specs.Asking.{RecvsRecord, Takes, Asks, read_as}
+use Rattle.vhost_gpu_backend_req.specs.Asking.{unexpected, RecvsRecord, Takes, Asks, read_as}
 use Rattle.vhost_gpu_backend_req.specs.Asking.Asks.{unsent, asked_for}
 use Rattle.vhost_gpu_backend_req.specs.Asking.RecvsRecord.{heard, stopped}
 use Rattle.vhost_gpu_backend_req.specs.Channel.{Channel}
@@ -61,10 +61,6 @@ row request body payload handles awaited = record { request = request; body = bo
 abbrev pub valid_head : VhostUserGpuMsgHeader GpuBackendReq → Bool
 valid_head h = is_some (gpu_request_of (gpu_fields_of h).code) && is_valid_gpu_header (gpu_fields_of h)
 
--- a reply for another request, or with handles
-abbrev pub unexpected : IoError
-unexpected = In (codes "Unexpected reply") InvalidMessage
-
 -- handles are given where there are any
 hands-is : {H : Type 0} (hs : Option (Vec H Global)) (handles : List H) → HandsOver hs handles → is_some hs ≡ has_some handles
 hands-is None handles h = ap has_some (sym h)
@@ -95,7 +91,7 @@ module _ {L H T : Type 0} (event : L → Event H → L → Type 0) (size : ℕ) 
     }
 
     heard-as : (o : Result (Received H) Error) {result : Result T IoError} → Hears event (reply_split is_known_gpu size (λ bs. valid (read bs)) 0) old o new → result ≡ read_as read (gpu_understood sent o)
-        → (is_ok result ≡ true → new.list ≡ true) → RecvsRecord event read (gpu_take (Some shape) sent) old result new
+        → (result ≢ Err unexpected → new.list ≡ true) → RecvsRecord event read (gpu_take (Some shape) sent) old result new
     heard-as o h e listed = heard (hears-by (λ x. gpu_understood sent x) o (cut-is sent) h) e listed
 
     -- the tests decide which answer it is
@@ -103,11 +99,11 @@ module _ {L H T : Type 0} (event : L → Event H → L → Type 0) (size : ℕ) 
     by-tests true t body e = ap Ok e
     by-tests false t body e = refl
 
-    -- a record is the answer only where no handles came
-    none-came : (a b : Bool) (t : T) {result : Result T IoError} → result ≡ (if a && not b then Ok t else Err unexpected) → is_ok result ≡ true → not b ≡ true
-    none-came a false t e ok = refl
-    none-came true true t e ok = let k = rw e at ok in absurd cc
-    none-came false true t e ok = let k = rw e at ok in absurd cc
+    -- where handles came, it is unexpected
+    none-came : (a b : Bool) (t : T) {result : Result T IoError} → result ≡ (if a && not b then Ok t else Err unexpected) → result ≢ Err unexpected → not b ≡ true
+    none-came a false t e good = refl
+    none-came true true t e good = absurd (good e)
+    none-came false true t e good = absurd (good e)
 
     -- a reply came: it is the one for the request, without handles, or unexpected
     pub record-comes : (h : VhostUserGpuMsgHeader GpuBackendReq) (t : T) (n : ℕ) (hs : Option (Vec H Global)) {result : Result T IoError} → ReadsGpu event size read valid old (Ok (h, t, n, hs)) after new
@@ -128,10 +124,10 @@ module _ {L H T : Type 0} (event : L → Event H → L → Type 0) (size : ℕ) 
   record-fails old new sent after code.PartialMessage m =
       heard-as old new sent after (Err PartialMessage)
       (record { cells = m.cs; ended = true; retries = m.retries; serves = m.serves; splits = reply-short is_known_gpu size 0 (λ bs. valid (read bs)) m.cs m.short }) refl
-      (λ ok. absurd (cc ok))
+      (λ good. m.list)
   record-fails old new sent after code.InvalidMessage (cs, m, bad, list) =
       heard-as old new sent after (Err InvalidMessage) (came old new sent after cs (Err InvalidMessage) m (is-invalid is_known_gpu size 0 (λ bs. valid (read bs)) cs bad)) refl
-      (λ ok. absurd (cc ok))
+      (λ good. list)
   record-fails old new sent after e m = stopped (trouble-breaks event old true false (receives (items m.cs) m.retries) e new m.trouble (lit≤ tt))
 
 -- another form of the same answer
@@ -143,13 +139,9 @@ another-read : {A B : Type 0} (f : A → B) (read : List ℕ → A) (r : Result 
 another-read f read (Ok bs) = refl
 another-read f read (Err e) = refl
 
-another-ok : {A B : Type 0} (f : A → B) (r : Result A IoError) → is_ok (as_another f r) ≡ is_ok r
-another-ok f (Ok a) = refl
-another-ok f (Err e) = refl
-
 module _ {L H A B : Type 0} {event : L → Event H → L → Type 0} (f : A → B) {read : List ℕ → A} where
   recvs-map : {take : List (Cell H) → Result (List ℕ) IoError × List (Cell H)} {old new : State L H} {r : Result A IoError} → RecvsRecord event read take old r new → RecvsRecord event (λ bs. f (read bs)) take old (as_another f r) new
-  recvs-map {r = r} (heard {answer} h e listed) = heard h (ap (as_another f) e ∙ another-read f read answer) (λ ok. listed (sym (another-ok f r) ∙ ok))
+  recvs-map {r = r} (heard {answer} h e listed) = heard h (ap (as_another f) e ∙ another-read f read answer) (λ good. listed (λ bad. good (ap (as_another f) bad)))
   recvs-map (stopped x) = stopped x
 
   pub asks-map : {place : List ℕ} {sent : GpuSent H} {old new : Channel L H} {r : Result A IoError} → Asks event read place sent old r new → Asks event (λ bs. f (read bs)) place sent old (as_another f r) new

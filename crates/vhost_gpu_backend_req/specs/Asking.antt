@@ -1,5 +1,5 @@
 -- What a call of the channel does.
-use Rattle.std.specs.Prelude.{◌≡◌, ℕ, ◌<◌, ◌≤◌, List, [], Option, Some, None, true, false, Result, Ok, Err, is_ok, codes}
+use Rattle.std.specs.Prelude.{◌≡◌, ◌≢◌, ℕ, ◌<◌, ◌≤◌, List, [], Option, Some, None, true, false, Result, Ok, Err, codes}
 use Rattle.vhost_message.specs.declared.error.Error as declared
 use Rattle.vhost_message.specs.declared.io_error.IoError as declared_io
 use Rattle.vhost_message.specs.Header.{Header}
@@ -7,7 +7,7 @@ use Rattle.vhost_gpu_message.specs.declared.gpu_backend_req.GpuBackendReq.{GpuBa
 use Rattle.vhost_gpu_message.specs.declared.header.VhostUserGpuMsgHeader.{VhostUserGpuMsgHeader}
 use Rattle.vhost_gpu_message.specs.declared.limits.TheConstants.{MAX_GPU_MSG_SIZE}
 use Rattle.vhost_gpu_message.specs.GpuHeader.{gpu_fields_of}
-use Rattle.vhost_protocol.specs.Error.{OversizedMsg, OutOfMemory, seen}
+use Rattle.vhost_protocol.specs.Error.{InvalidMessage, OversizedMsg, OutOfMemory, seen}
 use Rattle.vhost_protocol.specs.Gpu.{GpuCall, GpuReply, GpuSent, gpu_row, gpu_head, gpu_cells, sent_by, gpu_refusal, gpu_take}
 use Rattle.vhost_protocol.specs.IoError.{IoError, In, seen_io, seen_io_result}
 use Rattle.vhost_protocol.specs.Stream.{Cell}
@@ -21,6 +21,10 @@ use Rattle.vhost_gpu_backend_req.specs.Channel.{Channel}
 abbrev pub read_as : {T : Type 0} → (List ℕ → T) → Result (List ℕ) IoError → Result T IoError
 read_as read (Ok bytes) = Ok (read bytes)
 read_as read (Err e) = Err e
+
+-- what came answers another request, or brought handles
+abbrev pub unexpected : IoError
+unexpected = In (codes "Unexpected reply") InvalidMessage
 
 module _ {L H : Type 0} (event : L → Event H → L → Type 0) where
   -- The message went out whole. The list of handles for a reply was there before its first byte.
@@ -48,9 +52,9 @@ module _ {L H : Type 0} (event : L → Event H → L → Type 0) where
   SendsRow place sent old (Err e) new = Unsent place sent old (seen_io e) new
 
   module _ {T : Type 0} (read : List ℕ → T) where
-    -- A reply is received: the answer is that of what came, read as a record, and after a record the list of handles is there again; or the link failed, and the endpoint is broken.
+    -- A reply is received: the answer is that of what came, read as a record, and the list of handles is there again unless that was unexpected; or the link failed, and the endpoint is broken.
     pub data RecvsRecord (take : List (Cell H) → Result (List ℕ) IoError × List (Cell H)) (old : State L H) : Result T IoError → State L H → Type 0 where
-      heard : {answer : Result (List ℕ) IoError} {result : Result T IoError} {new : State L H} → Hears event take old answer new → result ≡ read_as read answer → (is_ok result ≡ true → new.list ≡ true) → RecvsRecord take old result new
+      heard : {answer : Result (List ℕ) IoError} {result : Result T IoError} {new : State L H} → Hears event take old answer new → result ≡ read_as read answer → (result ≢ Err unexpected → new.list ≡ true) → RecvsRecord take old result new
       stopped : {e : declared.Error} {new : State L H} → Fails event old true e new → RecvsRecord take old (Err (In (codes "recv_body") (seen e))) new
 
     -- the answer is taken: where none is awaited nothing is read for it

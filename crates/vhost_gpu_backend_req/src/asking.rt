@@ -22,10 +22,10 @@ impl<L: Link> BackendInternal<L> {
     ///
     /// Each error names the step of the call that met it. In("check_state", SocketBroken): the channel was marked as failed;
     /// In("check_state", OutOfMemory): the endpoint lacks memory for a list of handles; both times nothing was sent.
-    /// In("send_header", error): the link failed while the message was sent. In("recv_body", error): it failed before the
-    /// reply was there, which breaks the endpoint; with PartialMessage the stream ended before, and with InvalidMessage
-    /// the reply's header is not valid. In("Unexpected reply", InvalidMessage): what came answers no such request, or
-    /// brings handles.
+    /// In("send_header", error): the link failed while the message was sent, or had broken the endpoint before.
+    /// In("recv_body", error): it failed before the reply was there, which breaks the endpoint; with PartialMessage the
+    /// stream ended before, and with InvalidMessage the reply's header is not valid. In("Unexpected reply",
+    /// InvalidMessage): what came answers no such request, or brings handles.
     pub fn get_protocol_features(&mut self) -> HandlerResult<VhostUserU64>
         ensures { AsksCall L.event (λ bs. record { value = u64_at 0 bs }) GetProtocolFeatures (channel self.old) result (channel self.new) }
     {
@@ -36,7 +36,7 @@ impl<L: Link> BackendInternal<L> {
     /// Tells which of the features were chosen: SET_PROTOCOL_FEATURES with their bits. Nothing is awaited.
     ///
     /// In("check_state", error): as in `get_protocol_features`. In("send_message", error): the link failed while the
-    /// message was sent.
+    /// message was sent, or had broken the endpoint before.
     pub fn set_protocol_features(&mut self, features: &VhostUserU64) -> HandlerResult<()>
         ensures { AsksCall L.event (λ _. tt) (SetProtocolFeatures features.now.value) (channel self.old) result (channel self.new) }
     {
@@ -53,7 +53,7 @@ impl<L: Link> BackendInternal<L> {
     }
 
     /// Asks for a screen's description of itself: GET_EDID with the screen's number. Errors are those of
-    /// `get_protocol_features`, with In("send_message", error) where the link failed while the message was sent.
+    /// `get_protocol_features`, with In("send_message", error) in the place of In("send_header", error).
     pub fn get_edid(
         &mut self,
         request: &VhostUserGpuEdidRequest,
@@ -76,7 +76,7 @@ impl<L: Link> BackendInternal<L> {
     ///
     /// In("check_state", error): as in `get_protocol_features`. In("send_message_with_payload", OversizedMsg): rectangle and
     /// pixels have more than `MAX_GPU_MSG_SIZE` bytes together, and nothing was sent. In("send_message_with_payload",
-    /// error): the link failed while the message was sent.
+    /// error): the link failed while the message was sent, or had broken the endpoint before.
     pub fn update_scanout(
         &mut self,
         update: &VhostUserGpuUpdate,
@@ -143,7 +143,7 @@ impl<L: Link> BackendInternal<L> {
     /// Nothing is awaited.
     ///
     /// In("check_state", error): as in `get_protocol_features`. In("send_message_with_payload", error): the link failed
-    /// while the message was sent.
+    /// while the message was sent, or had broken the endpoint before.
     pub fn cursor_update(
         &mut self,
         update: &VhostUserGpuCursorUpdate,
