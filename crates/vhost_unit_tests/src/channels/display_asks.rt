@@ -4,6 +4,7 @@ ghost use Rattle.std.specs.Prelude.{◌≤◌, length};
 ghost use Rattle.vhost_message.specs.declared.limits.TheConstants.{MAX_ATTACHED_FD_ENTRIES};
 
 use std::alloc::Global;
+use std::sync::Wait;
 use std::test::Fail;
 use vhost_gpu_backend_req::{BackendInternal, GpuBackend, io_err_convert};
 use vhost_gpu_message::{
@@ -11,7 +12,7 @@ use vhost_gpu_message::{
     VhostUserGpuDMABUFScanout2, VhostUserGpuEdidRequest, VhostUserGpuScanout, VhostUserGpuUpdate,
 };
 use vhost_link::{Kind, Link, MemLink, PlainHandle};
-use vhost_message::{Error, IoCause, IoError, VhostUserU64};
+use vhost_message::{Error, HandlerResult, IoCause, IoError, VhostUserU64};
 
 const EDID: VhostUserGpuEdidRequest = VhostUserGpuEdidRequest { scanout_id: 1 };
 
@@ -20,125 +21,151 @@ const HANDLE: PlainHandle = PlainHandle {
     kind: Kind::NoSocket,
 };
 
-/// A link from a display that has sent a reply of this code with the number 3, and bytes behind it.
-fn link(alloc: Global, code: u8, handles: &[PlainHandle], rest: &[u8]) -> Result<MemLink, Fail>
+/// A channel to a display that has sent these bytes, the first with these handles.
+fn channel(
+    alloc: Global,
+    coming: &[u8],
+    handles: &[PlainHandle],
+) -> Result<BackendInternal<MemLink>, Fail>
     requires { length handles.now ≤ MAX_ATTACHED_FD_ENTRIES }
 {
     let mut link = MemLink::new(alloc, Vec::new(alloc));
-    link.push(&[code, 0, 0, 0, 4, 0, 0, 0, 8, 0, 0, 0], handles)?;
-    link.push(&[3, 0, 0, 0, 0, 0, 0, 0], &[])?;
-    if !rest.is_empty() {
-        link.push(rest, &[])?;
+    if !coming.is_empty() {
+        link.push(coming, handles)?;
     }
-    Ok(link)
+    Ok(BackendInternal::from_stream(alloc, link, 0)?)
 }
 
-/// Whether the bytes that were written begin so, and there are so many.
-fn wrote(channel: &mut BackendInternal<MemLink>, front: &[u8], len: usize) -> bool {
-    let taken = channel.endpoint_mut().link().taken().bytes();
-    taken.starts_with(front) && taken.len() == len
+/// The number 3 as the reply to a request of this code.
+const fn three(code: u8) -> [u8; 20] {
+    [
+        code, 0, 0, 0, 4, 0, 0, 0, 8, 0, 0, 0, 3, 0, 0, 0, 0, 0, 0, 0,
+    ]
 }
 
-#[test]
-fn rows(rt: HostRuntime) -> Result<(), Fail> {
-    let alloc: Global = rt.alloc();
-    let mut channel = BackendInternal::from_stream(alloc, link(alloc, 1, &[], &[])?, 0)?;
-    assert!(rt;
-        matches!(
-            channel.get_protocol_features(),
-            Ok(VhostUserU64 { value: 3 })
-        )
-    );
-    assert!(rt; wrote(&mut channel, &[1, 0, 0, 0, 0, 0, 0, 0, 0, 0, 0, 0], 12));
-    let mut channel = BackendInternal::from_stream(alloc, link(alloc, 11, &[], &[])?, 0)?;
-    let short = channel.get_edid(&EDID);
-    assert!(rt; matches!(short, Err(IoError::In("recv_body", Error::PartialMessage))));
-    assert!(rt;
-        wrote(
-            &mut channel,
-            &[11, 0, 0, 0, 0, 0, 0, 0, 4, 0, 0, 0, 1, 0, 0, 0],
-            16
-        )
-    );
-    let mut channel = BackendInternal::from_stream(alloc, link(alloc, 1, &[], &[])?, 0)?;
+/// An answer, or the place of its error.
+fn shown<T: Drop>(answer: HandlerResult<T>) -> Result<T, &'static str> {
+    match answer {
+        Ok(value) => Ok(value),
+        Err(IoError::In(place, _)) => Err(place),
+        Err(_) => Err("no place"),
+    }
+}
+
+/// What was written, and how many handles came with its first byte.
+fn written(channel: &mut BackendInternal<MemLink>) -> (&[u8], usize) {
+    let taken = channel.endpoint_mut().link().taken();
+    (taken.bytes(), taken.handles(0).len())
+}
+
+/// A call that awaits nothing, by its place among these.
+fn tells<L: Link>(
+    channel: &mut BackendInternal<L>,
+    handle: &L::Handle,
+    pixels: &[u8; 16384],
+    call: usize,
+) -> Result<(), &'static str> {
     let cursor = VhostUserGpuCursorPos {
         scanout_id: 1,
         x: 10,
         y: 20,
     };
-    assert!(rt; channel.cursor_pos(&cursor).is_ok());
-    let row = [
-        4, 0, 0, 0, 0, 0, 0, 0, 12, 0, 0, 0, 1, 0, 0, 0, 10, 0, 0, 0, 20, 0, 0, 0,
-    ];
-    assert!(rt; wrote(&mut channel, &row, 24));
-    let mut channel = BackendInternal::from_stream(alloc, link(alloc, 1, &[], &[])?, 0)?;
-    let cursor = VhostUserGpuCursorUpdate::default();
-    assert!(rt; channel.cursor_update(&cursor, &[1; 16384]).is_ok());
-    assert!(rt; wrote(&mut channel, &[6, 0, 0, 0, 0, 0, 0, 0, 20, 64, 0, 0], 16416));
-    let mut channel = BackendInternal::from_stream(alloc, link(alloc, 1, &[], &[])?, 0)?;
     let update = VhostUserGpuUpdate::default();
-    assert!(rt; channel.update_scanout(&update, &[1; 4096]).is_ok());
-    assert!(rt; wrote(&mut channel, &[8, 0, 0, 0, 0, 0, 0, 0, 20, 16, 0, 0], 4128));
-    Ok(())
+    shown(match call {
+        0 => channel.set_protocol_features(&VhostUserU64::new(1)),
+        1 => channel.set_scanout(&VhostUserGpuScanout::default()),
+        2 => channel.cursor_pos(&cursor),
+        3 => channel.cursor_pos_hide(&cursor),
+        4 => channel.cursor_update(&VhostUserGpuCursorUpdate::default(), pixels),
+        5 => channel.update_scanout(&update, &pixels[..4096]),
+        6 => channel.set_dmabuf_scanout(&VhostUserGpuDMABUFScanout::default(), Some(handle)),
+        _ => channel.set_dmabuf_scanout2(&VhostUserGpuDMABUFScanout2::default(), None),
+    })
 }
 
 #[test]
-fn errors(rt: HostRuntime) -> Result<(), Fail> {
+fn unanswered(rt: HostRuntime) -> Result<(), Fail> {
     let alloc: Global = rt.alloc();
-    let mut channel = BackendInternal::from_stream(alloc, link(alloc, 1, &[HANDLE], &[])?, 0)?;
-    let unexpected = channel.get_protocol_features();
-    assert!(rt;
-        matches!(
-            unexpected,
-            Err(IoError::In("Unexpected reply", Error::InvalidMessage))
-        )
-    );
-    assert!(rt; channel.set_protocol_features(&VhostUserU64::new(1)).is_ok());
-    let mut channel = BackendInternal::from_stream(alloc, link(alloc, 3, &[], &[])?, 0)?;
-    let other = channel.get_protocol_features();
-    assert!(rt;
-        matches!(
-            other,
-            Err(IoError::In("Unexpected reply", Error::InvalidMessage))
-        )
-    );
-    let mut channel = BackendInternal::from_stream(alloc, link(alloc, 1, &[], &[])?, 0)?;
-    channel.set_failed(104);
-    let failed = channel.get_edid(&EDID);
-    let marked = Error::SocketBroken(IoCause::Raw(104));
-    assert!(rt;
-        matches!(
-            failed,
-            Err(IoError::In("check_state", Error::SocketBroken(IoCause::Raw(104))))
-        )
-    );
-    assert!(rt; channel.endpoint_mut().link().taken().is_empty());
-    let named = io_err_convert("check_state", marked);
-    assert!(rt; matches!(named, IoError::In("check_state", Error::SocketBroken(_))));
+    let heads: [([u8; 12], usize, usize); 8] = [
+        ([2, 0, 0, 0, 0, 0, 0, 0, 8, 0, 0, 0], 20, 0),
+        ([7, 0, 0, 0, 0, 0, 0, 0, 12, 0, 0, 0], 24, 0),
+        ([4, 0, 0, 0, 0, 0, 0, 0, 12, 0, 0, 0], 24, 0),
+        ([5, 0, 0, 0, 0, 0, 0, 0, 12, 0, 0, 0], 24, 0),
+        ([6, 0, 0, 0, 0, 0, 0, 0, 20, 64, 0, 0], 16416, 0),
+        ([8, 0, 0, 0, 0, 0, 0, 0, 20, 16, 0, 0], 4128, 0),
+        ([9, 0, 0, 0, 0, 0, 0, 0, 40, 0, 0, 0], 52, 1),
+        ([12, 0, 0, 0, 0, 0, 0, 0, 48, 0, 0, 0], 60, 0),
+    ];
+    let pixels = [1; 16384];
+    for (call, (head, count, handles)) in heads.iter().enumerate() {
+        let mut channel = channel(alloc, &[], &[])?;
+        assert_eq!(rt; tells(&mut channel, &HANDLE, &pixels, call), Ok(()));
+        let (bytes, with) = written(&mut channel);
+        assert!(rt; bytes.starts_with(head.as_slice()));
+        assert_eq!(rt; (bytes.len(), with), (*count, *handles));
+        channel.set_failed(104);
+        assert_eq!(rt;
+            tells(&mut channel, &HANDLE, &pixels, call),
+            Err("check_state")
+        );
+        assert_eq!(rt; written(&mut channel).0.len(), *count);
+    }
     Ok(())
 }
 
-/// One screen, its description of 128 bytes, and that the display has taken a buffer.
+/// What GET_PROTOCOL_FEATURES answers where this comes, and whether it was what went out.
+fn features(
+    alloc: Global,
+    coming: &[u8],
+    handles: &[PlainHandle],
+) -> Result<(Result<u64, &'static str>, bool), Fail>
+    requires { length handles.now ≤ MAX_ATTACHED_FD_ENTRIES }
+{
+    let mut channel = channel(alloc, coming, handles)?;
+    let answer = match shown(channel.get_protocol_features()) {
+        Ok(features) => Ok(features.value),
+        Err(place) => Err(place),
+    };
+    Ok((
+        answer,
+        written(&mut channel).0 == [1, 0, 0, 0, 0, 0, 0, 0, 0, 0, 0, 0].as_slice(),
+    ))
+}
+
+#[test]
+fn replies(rt: HostRuntime) -> Result<(), Fail> {
+    let alloc: Global = rt.alloc();
+    assert_eq!(rt; features(alloc, &three(1), &[])?, (Ok(3), true));
+    let unexpected = (Err("Unexpected reply"), true);
+    assert_eq!(rt; features(alloc, &three(1), &[HANDLE])?, unexpected);
+    assert_eq!(rt; features(alloc, &three(3), &[])?, unexpected);
+    assert_eq!(rt; features(alloc, &[], &[])?, (Err("recv_body"), true));
+    let broken = io_err_convert("send_header", Error::SocketBroken(IoCause::Raw(104)));
+    assert!(rt; matches!(broken, IoError::In("send_header", Error::SocketBroken(_))));
+    Ok(())
+}
+
+/// What GET_EDID, GET_DISPLAY_INFO and DMABUF_UPDATE answer through a shared channel: a size, and whether a screen is on.
+fn asked(display: &GpuBackend<MemLink>, rt: &impl Wait) -> HandlerResult<(u32, bool)> {
+    let info = display.get_display_info(rt)?;
+    let edid = display.get_edid(rt, &EDID)?;
+    display.update_dmabuf_scanout(rt, &VhostUserGpuUpdate::default())?;
+    Ok((edid.size, info.pmodes[0].enabled == 1))
+}
+
 #[test]
 fn behind_a_lock(rt: HostRuntime) -> Result<(), Fail> {
     let alloc: Global = rt.alloc();
-    let mut rest = [0; 1500];
-    (rest[0], rest[4], rest[8], rest[9], rest[52]) = (3, 4, 152, 1, 1);
-    (rest[420], rest[424], rest[428], rest[429], rest[456]) = (11, 4, 32, 4, 128);
-    (rest[1488], rest[1492]) = (10, 4);
-    let display = GpuBackend::from_stream(alloc, link(alloc, 1, &[], &rest)?, 0)?;
-    assert!(rt; display.get_protocol_features(&rt).is_ok());
-    assert!(rt; matches!(display.get_display_info(&rt), Ok(info) if info.pmodes[0].enabled == 1));
-    assert!(rt; matches!(display.get_edid(&rt, &EDID), Ok(edid) if edid.size == 128));
-    let update = VhostUserGpuUpdate::default();
-    display.update_dmabuf_scanout(&rt, &update)?;
-    display.set_protocol_features(&rt, &VhostUserU64::new(1))?;
-    display.set_scanout(&rt, &VhostUserGpuScanout::default())?;
-    display.update_scanout(&rt, &update, &[])?;
-    display.set_dmabuf_scanout(&rt, &VhostUserGpuDMABUFScanout::default(), Some(&HANDLE))?;
-    display.set_dmabuf_scanout2(&rt, &VhostUserGpuDMABUFScanout2::default(), None)?;
-    display.cursor_pos(&rt, &VhostUserGpuCursorPos::default())?;
-    display.cursor_pos_hide(&rt, &VhostUserGpuCursorPos::default())?;
-    display.cursor_update(&rt, &VhostUserGpuCursorUpdate::default(), &[0; 16384])?;
+    let mut coming = [0; 1500];
+    (coming[0], coming[4], coming[8], coming[9], coming[52]) = (3, 4, 152, 1, 1);
+    (coming[420], coming[424], coming[428], coming[429]) = (11, 4, 32, 4);
+    (coming[456], coming[1488], coming[1492]) = (128, 10, 4);
+    let mut link = MemLink::new(alloc, Vec::new(alloc));
+    link.push(&coming, &[])?;
+    let display = GpuBackend::from_stream(alloc, link, 0)?;
+    let other = display.clone()?;
+    assert!(rt; matches!(asked(&other, &rt), Ok((128, true))));
+    display.set_failed(&rt, 5);
+    assert!(rt; matches!(asked(&other, &rt), Err(IoError::In("check_state", _))));
     Ok(())
 }
