@@ -1,5 +1,5 @@
 -- Where no answer tells of a fault, a run is whole.
-use Rattle.std.proofs.Common.{◌≡◌, ℕ, Bool, true, false, List, [], ◌∷◌, ◌++◌, Option, Result, Ok, Err, refl, sym, ap, subst, ◌∙◌, inl, inr}
+use Rattle.std.proofs.Common.{◌≡◌, ℕ, Bool, true, false, List, [], ◌∷◌, ◌++◌, Option, Result, Ok, Err, length, refl, sym, ap, subst, ◌∙◌, inl, inr}
 use Rattle.std.specs.Prelude.{◌||◌, ◌⊎◌, ℤ, if◌then◌else◌}
 use Rattle.std.specs.List.{list_any}
 use Rattle.std.proofs.lemmas.List.Folds.{list_any-append}
@@ -13,7 +13,7 @@ use Rattle.vhost_protocol.specs.Stream.{Cell}
 use Rattle.vhost_link.specs.Law.{Event, Move}
 use Rattle.vhost_connection.specs.Talk.{State, Trouble}
 use Rattle.vhost_connection.specs.Talk.Trouble.{was_broken, no_memory, fault}
-use Rattle.vhost_connection.specs.Serving.{Breaks, WholeRun, RunsMany}
+use Rattle.vhost_connection.specs.Serving.{Breaks, WholeRun, RunsMany, Runs}
 use Rattle.vhost_connection.specs.Serving.Breaks.{unread, unanswered}
 use Rattle.vhost_promises.specs.Runs.{of_link, answer_of_link}
 
@@ -51,9 +51,18 @@ module _ {L R H S A Dev : Type 0} (event : L → Event H → L → Type 0) (requ
   breaks-of-link old s d e new s' d' (unanswered m mid hears i) = ap of_link i.stops.error ∙ cause-of-link i.stops.cause
 
   -- so without such an answer a run is whole
-  pub whole-run : (old : State L H) (s : S) (d : Dev) (answers : List (Result A declared.Error)) (new : State L H) (s' : S) (d' : Dev) → RunsMany event request_of allows_handles failed kept Meets old s d answers new s' d'
+  whole-run : (old : State L H) (s : S) (d : Dev) (answers : List (Result A declared.Error)) (new : State L H) (s' : S) (d' : Dev) → RunsMany event request_of allows_handles failed kept Meets old s d answers new s' d'
       → list_any answer_of_link answers ≡ false → WholeRun event request_of allows_handles failed kept Meets old s d answers new s' d'
   whole-run old s d answers new s' d' (inl w) none = w
   whole-run old s d answers new s' d' (inr b) none =
       let found : true ≡ false = sym (ap (λ xs. list_any answer_of_link xs) b.all ∙ one-of-link b.served b.later b.error (breaks-of-link b.mid b.mid_session b.mid_device b.error b.next b.next_session b.next_device b.breaks)) ∙ none in
       absurd cc
+
+  -- of a run that appended to nothing, all answers are of it
+  pub whole-answers : (old : State L H) (s : S) (d : Dev) (n : ℕ) (before answers : List (Result A declared.Error)) (new : State L H) (s' : S) (d' : Dev) → Runs event request_of allows_handles failed kept Meets old s d n before answers new s' d'
+      → before ≡ [] → list_any answer_of_link answers ≡ false → (length answers ≡ n) × WholeRun event request_of allows_handles failed kept Meets old s d answers new s' d'
+  whole-answers old s d n before answers new s' d' r empty none =
+      let same : r.answers ≡ answers = sym (r.appended ∙ ap (λ xs. xs ++ r.answers) empty) in (
+        ap length (sym same) ∙ r.count,
+        subst (λ xs. WholeRun event request_of allows_handles failed kept Meets old s d xs new s' d') same (whole-run old s d r.answers new s' d' r.runs (ap (λ xs. list_any answer_of_link xs) same ∙ none)),
+      )

@@ -5,4 +5,4 @@
 mod fault;
 mod runs;
 
-pub use runs::serves_whole_back;
+pub use runs::{serves_whole, serves_whole_back};

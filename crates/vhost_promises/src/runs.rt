@@ -1,17 +1,39 @@
 //! Whole runs of a handler.
 
 ghost use Rattle.std.specs.Prelude.{IfOk, IfSome};
-ghost use Rattle.vhost_frontend_req_handler.specs.Core.{endpoint_of, server_in};
-ghost use Rattle.vhost_promises.specs.Runs.{WholeBack};
+ghost use Rattle.vhost_backend_req_handler.specs.Core.{endpoint_of, session_in};
+ghost use Rattle.vhost_backend_req_handler.specs.Opening.{OpensAs};
+ghost use Rattle.vhost_frontend_req_handler.specs.Core.{endpoint_of as endpoint_back, server_in};
+ghost use Rattle.vhost_promises.specs.Runs.{WholeBack, WholeServed};
 
 use crate::fault::met_fault;
 use std::alloc::Global;
+use vhost_backend_req_handler::SessionCore;
+use vhost_device::VhostUserBackendReqHandlerMut;
 use vhost_frontend_req_handler::{FrontendReqCore, VhostUserFrontendReqHandlerMut};
 use vhost_link::Link;
 use vhost_message::Result;
 
-/// Serves so many requests of a device. Where none of them met a fault, the answers, what was received and what was
+/// Serves so many requests of a frontend. Where none of them met a fault, the answers, what was received and what was
 /// written are a run of the protocol table, over every device and every link. None: one met a fault.
+pub fn serves_whole<L: Link, D: VhostUserBackendReqHandlerMut<Link = L>>(
+    alloc: Global,
+    core: &mut SessionCore<L>,
+    device: &mut D,
+    count: usize,
+) -> Result<Option<Vec<Result<()>>>>
+    ensures { IfOk result (λ served. IfSome served (λ answers.
+        WholeServed L.event D.gives (λ h o. OpensAs L.opens L.Handle.kinds h o) (λ h o. OpensAs L.opens L.Handle.kinds h o) (endpoint_of core.old) (session_in core.old) device.old count answers.items (endpoint_of core.new) (session_in core.new) device.new)) }
+{
+    let mut answers = Vec::new(alloc);
+    core.run(count, device, &mut answers)?;
+    if met_fault(&answers) {
+        return Ok(None);
+    }
+    Ok(Some(answers))
+}
+
+/// The same of a device's requests to its frontend.
 pub fn serves_whole_back<L: Link, D: VhostUserFrontendReqHandlerMut<Handle = L::Handle>>(
     alloc: Global,
     core: &mut FrontendReqCore<L>,
@@ -19,7 +41,7 @@ pub fn serves_whole_back<L: Link, D: VhostUserFrontendReqHandlerMut<Handle = L::
     count: usize,
 ) -> Result<Option<Vec<Result<u64>>>>
     ensures { IfOk result (λ served. IfSome served (λ answers.
-        WholeBack L.event D.gives (endpoint_of core.old) (server_in core.old) device.old count answers.items (endpoint_of core.new) (server_in core.new) device.new)) }
+        WholeBack L.event D.gives (endpoint_back core.old) (server_in core.old) device.old count answers.items (endpoint_back core.new) (server_in core.new) device.new)) }
 {
     let mut answers = Vec::new(alloc);
     core.run(count, device, &mut answers)?;

@@ -15,6 +15,7 @@ use vhost_link::{Kind, Link, MemLink, PlainHandle};
 use vhost_message::{
     Error, HandlerResult, IoCause, IoError, Result, VhostUserMMap, VhostUserSharedMsg,
 };
+use vhost_promises::serves_whole_back;
 
 const HANDLE: PlainHandle = PlainHandle {
     id: 7,
@@ -136,16 +137,18 @@ fn numbers(rt: HostRuntime) -> Outcome<()> {
     Ok(())
 }
 
-/// Whether SHMEM_MAP with these handles is refused with its body unread, so that the body is the next request.
+/// Whether SHMEM_MAP with these handles is refused with its body unread, so that the body is the next request; and both are a
+/// whole run.
 fn stays_unread(alloc: Global, handles: &[PlainHandle]) -> Outcome<bool>
     requires { length handles.now ≤ MAX_ATTACHED_FD_ENTRIES }
 {
     let mut link = coming(alloc, &[9, 0, 0, 0, 9, 0, 0, 0, 28, 0, 0, 0], handles)?;
     link.push(&ADD, &[])?;
     let mut core = FrontendReqCore::new(alloc, link, 0)?;
-    let mut answers = Vec::new(alloc);
-    core.run(2, &mut OneName::default(), &mut answers)?;
-    Ok(matches!(answers.as_slice(), [Err(Error::InvalidMessage), Ok(0)]))
+    match serves_whole_back(alloc, &mut core, &mut OneName::default(), 2)? {
+        Some(answers) => Ok(matches!(answers.as_slice(), [Err(Error::InvalidMessage), Ok(0)])),
+        None => Ok(false),
+    }
 }
 
 #[test]
