@@ -59,9 +59,9 @@ fn written(channel: &mut BackendInternal<MemLink>) -> (&[u8], usize) {
 }
 
 /// A call that awaits nothing, by its place among these.
-fn tells<L: Link>(
-    channel: &mut BackendInternal<L>,
-    handle: &L::Handle,
+fn tells(
+    channel: &mut BackendInternal<MemLink>,
+    handle: &PlainHandle,
     pixels: &[u8; 16384],
     call: usize,
 ) -> Result<(), &'static str> {
