@@ -3,6 +3,8 @@
 #![tactic(auto)]
 
 mod fault;
+mod joined;
 mod runs;
 
+pub use joined::{begins_in_step, stays_in_step};
 pub use runs::{serves_whole, serves_whole_back};
