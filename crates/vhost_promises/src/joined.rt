@@ -1,6 +1,6 @@
 //! Both sides joined.
 
-ghost use Rattle.std.specs.Prelude.{◌≡◌, ◌≢◌, None, Some, IfOk, IfSome, Bool, false};
+ghost use Rattle.std.specs.Prelude.{◌≡◌, ◌≢◌, None, Some, IfOk, Bool};
 ghost use Rattle.vhost_pair.specs.declared.halt.Stop.TheVariants.{Premise};
 ghost use Rattle.vhost_pair.specs.Joined.{IsReady, Offers};
 ghost use Rattle.vhost_pair.specs.Lockstep.{ArePlain, IsLockstep};
@@ -9,7 +9,7 @@ use std::alloc::Global;
 use vhost_device::VhostUserBackendReqHandlerMut;
 use vhost_frontend_calls::{FrontendAnswer, FrontendCall};
 use vhost_link::{Cut, MemLink};
-use vhost_pair::{Halt, Joined, Stop, lockstep_law};
+use vhost_pair::{Halt, Joined, lockstep_law};
 
 /// Joins two new sides over a device: they are in step.
 pub fn begins_in_step<D: VhostUserBackendReqHandlerMut<Link = MemLink>>(
@@ -28,29 +28,19 @@ pub fn begins_in_step<D: VhostUserBackendReqHandlerMut<Link = MemLink>>(
 
 /// Does these calls of sides that are in step. Where all of them were done and no premise stopped the run, the calls with their
 /// answers are a joined run of the protocol, nothing is left on the way, and unless the run has stopped both sides are in step
-/// again. None: a premise stopped it.
+/// again.
 ///
 /// This is so where all features that the device offers agree on protocol features (`bit`), and no request is sent as a reply.
 pub fn stays_in_step<D: VhostUserBackendReqHandlerMut<Link = MemLink>>(
     alloc: Global,
     joined: &mut Joined<D>,
     calls: &[FrontendCall],
-) -> Result<Option<Vec<FrontendAnswer>>, Halt>
-    ensures { (bit : Bool) → Offers D.gives bit → IsReady bit joined.old → joined.old.stopped ≡ None → ArePlain calls.now
-        → IfOk result (λ done. IfSome done (λ answers. IsLockstep D.gives bit joined.old joined.new calls.now answers.items)) }
+) -> Result<Vec<FrontendAnswer>, Halt>
+    ensures { (bit : Bool) → Offers D.gives bit → IsReady bit joined.old → joined.old.stopped ≡ None → ArePlain calls.now → joined.new.stopped ≢ Some Premise
+        → IfOk result (λ answers. IsLockstep D.gives bit joined.old joined.new calls.now answers.items) }
 {
     lockstep_law::<D>();
     let mut answers = Vec::new(alloc);
     joined.run(calls, &mut answers)?;
-    if is_premise(joined.stopped()) {
-        return Ok(None);
-    }
-    Ok(Some(answers))
-}
-
-/// Whether a run stopped because a premise failed.
-fn is_premise(stop: Option<Stop>) -> bool
-    ensures { result ≡ false → stop ≢ Some Premise }
-{
-    matches!(stop, Some(Stop::Premise))
+    Ok(answers)
 }

@@ -2,7 +2,6 @@
 //! caller can use it.
 #![tactic(auto)]
 
-mod fault;
 mod joined;
 mod runs;
 

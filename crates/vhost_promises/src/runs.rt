@@ -1,12 +1,12 @@
 //! Whole runs of a handler.
 
-ghost use Rattle.std.specs.Prelude.{IfOk, IfSome};
+ghost use Rattle.std.specs.Prelude.{◌≡◌, false, IfOk};
+ghost use Rattle.std.specs.List.{list_any};
 ghost use Rattle.vhost_backend_req_handler.specs.Core.{endpoint_of, session_in};
 ghost use Rattle.vhost_backend_req_handler.specs.Opening.{OpensAs};
 ghost use Rattle.vhost_frontend_req_handler.specs.Core.{endpoint_of as endpoint_back, server_in};
-ghost use Rattle.vhost_promises.specs.Runs.{WholeBack, WholeServed};
+ghost use Rattle.vhost_promises.specs.Runs.{WholeBack, WholeServed, answer_of_link};
 
-use crate::fault::met_fault;
 use std::alloc::Global;
 use vhost_backend_req_handler::SessionCore;
 use vhost_device::VhostUserBackendReqHandlerMut;
@@ -14,23 +14,20 @@ use vhost_frontend_req_handler::{FrontendReqCore, VhostUserFrontendReqHandlerMut
 use vhost_link::Link;
 use vhost_message::Result;
 
-/// Serves so many requests of a frontend. Where none of them met a fault, the answers, what was received and what was
-/// written are a run of the protocol table, over every device and every link. None: one met a fault.
+/// Serves so many requests of a frontend. Where none of the answers is an error that a link or want of memory may bring, they, what
+/// was received and what was written are a run of the protocol table, over every device and every link.
 pub fn serves_whole<L: Link, D: VhostUserBackendReqHandlerMut<Link = L>>(
     alloc: Global,
     core: &mut SessionCore<L>,
     device: &mut D,
     count: usize,
-) -> Result<Option<Vec<Result<()>>>>
-    ensures { IfOk result (λ served. IfSome served (λ answers.
-        WholeServed L.event D.gives (λ h o. OpensAs L.opens L.Handle.kinds h o) (λ h o. OpensAs L.opens L.Handle.kinds h o) (endpoint_of core.old) (session_in core.old) device.old count answers.items (endpoint_of core.new) (session_in core.new) device.new)) }
+) -> Result<Vec<Result<()>>>
+    ensures { IfOk result (λ answers. list_any answer_of_link answers.items ≡ false →
+        WholeServed L.event D.gives (λ h o. OpensAs L.opens L.Handle.kinds h o) (λ h o. OpensAs L.opens L.Handle.kinds h o) (endpoint_of core.old) (session_in core.old) device.old count answers.items (endpoint_of core.new) (session_in core.new) device.new) }
 {
     let mut answers = Vec::new(alloc);
     core.run(count, device, &mut answers)?;
-    if met_fault(&answers) {
-        return Ok(None);
-    }
-    Ok(Some(answers))
+    Ok(answers)
 }
 
 /// The same of a device's requests to its frontend.
@@ -39,14 +36,11 @@ pub fn serves_whole_back<L: Link, D: VhostUserFrontendReqHandlerMut<Handle = L::
     core: &mut FrontendReqCore<L>,
     device: &mut D,
     count: usize,
-) -> Result<Option<Vec<Result<u64>>>>
-    ensures { IfOk result (λ served. IfSome served (λ answers.
-        WholeBack L.event D.gives (endpoint_back core.old) (server_in core.old) device.old count answers.items (endpoint_back core.new) (server_in core.new) device.new)) }
+) -> Result<Vec<Result<u64>>>
+    ensures { IfOk result (λ answers. list_any answer_of_link answers.items ≡ false →
+        WholeBack L.event D.gives (endpoint_back core.old) (server_in core.old) device.old count answers.items (endpoint_back core.new) (server_in core.new) device.new) }
 {
     let mut answers = Vec::new(alloc);
     core.run(count, device, &mut answers)?;
-    if met_fault(&answers) {
-        return Ok(None);
-    }
-    Ok(Some(answers))
+    Ok(answers)
 }

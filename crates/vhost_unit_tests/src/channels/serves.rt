@@ -145,10 +145,8 @@ fn stays_unread(alloc: Global, handles: &[PlainHandle]) -> Outcome<bool>
     let mut link = coming(alloc, &[9, 0, 0, 0, 9, 0, 0, 0, 28, 0, 0, 0], handles)?;
     link.push(&ADD, &[])?;
     let mut core = FrontendReqCore::new(alloc, link, 0)?;
-    match serves_whole_back(alloc, &mut core, &mut OneName::default(), 2)? {
-        Some(answers) => Ok(matches!(answers.as_slice(), [Err(Error::InvalidMessage), Ok(0)])),
-        None => Ok(false),
-    }
+    let answers = serves_whole_back(alloc, &mut core, &mut OneName::default(), 2)?;
+    Ok(matches!(answers.as_slice(), [Err(Error::InvalidMessage), Ok(0)]))
 }
 
 #[test]

@@ -1,6 +1,4 @@
 -- The answers of a run without a fault.
-use Rattle.std.proofs.Common.{sym, ap, ◌∙◌}
-use Rattle.std.specs.List.{list_any}
 use Rattle.vhost_message.specs.FrontendReq.{request_of}
 use Rattle.vhost_protocol.specs.Codes.{allows_handles}
 use Rattle.vhost_protocol.specs.Handler.{MeetsRow}
@@ -8,13 +6,12 @@ use Rattle.vhost_protocol.specs.Session.{Session}
 use Rattle.vhost_backend_req_handler.specs.Core.{endpoint_of, session_in}
 use Rattle.vhost_backend_req_handler.specs.Opening.{OpensAs}
 use Rattle.vhost_backend_req_handler.specs.Serving.{fitting, kept_unsent}
-use Rattle.vhost_promises.specs.Runs.{answer_of_link}
 use Rattle.vhost_promises.proofs.Whole.{whole-answers}
 use Rattle.vhost_promises.proofs.runs.serves_whole.Goals as goal
 
 pub returns : goal.returns
-returns g c =
+returns g c none =
     whole-answers g.L.Link.event request_of allows_handles (λ (t : Session). t.failed) kept_unsent
     (MeetsRow (fitting g.D.VhostUserBackendReqHandlerMut.gives) (λ h o. OpensAs g.L.Link.opens g.L.Handle.Handle.kinds h o) (λ h o. OpensAs g.L.Link.opens g.L.Handle.Handle.kinds h o))
     (endpoint_of c.args.core.now) (session_in c.args.core.now) c.args.device.now c.args.count _ _ (endpoint_of c.run.new.self) (session_in c.run.new.self) c.run.new.device
-    c.in_ok-run.ensures.run c.new-answers.ensures.items (ap (λ xs. list_any answer_of_link xs) (sym c.deref.ensures.value) ∙ sym c.met_fault.ensures ∙ c.if-met_fault.false)
+    c.in_ok-run.ensures.run c.new-answers.ensures.items none
