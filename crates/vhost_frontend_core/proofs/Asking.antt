@@ -51,6 +51,11 @@ module _ {L H : Type 0} {event : L → Event H → L → Type 0} where
       → asked ≡ other → Tries event w asked old before result new after → Tries event w other old before result new after
   tries_as {w} {old = old} {new} {before} {after} {result} e p = subst (λ (x : Awaited). Tries event w x old before result new after) e p
 
+  -- the message, by another name
+  pub written-as : {w other : Written FrontendReq H} {asked : Awaited} {old new : State L H} {before after : Awaited} {result : Result Sent declared.Error} → w ≡ other
+      → Tries event w asked old before result new after → Tries event other asked old before result new after
+  written-as {asked = asked} {old} {new} {before} {after} {result} e p = subst (λ (x : Written FrontendReq H). Tries event x asked old before result new after) e p
+
   -- the session changes once the message went out
   pub went : {w : Written FrontendReq H} {asked other : Awaited} {old new : State L H} {f f' : Frontend} {before after : Awaited} {sent : Sent}
       → asked ≡ other → Tries event w asked old before (Ok sent) new after → Asks event (Sends w other f') old f before (Ok sent) new f' after

@@ -7,3 +7,4 @@ pub mod Taking
 pub mod Awaiting
 pub mod Kept
 pub mod TakingConfig
+pub mod Plan

@@ -21,6 +21,7 @@ mod log;
 mod memory;
 mod objects;
 mod ownership;
+mod plan;
 mod postcopy;
 mod replies;
 mod ring_handles;

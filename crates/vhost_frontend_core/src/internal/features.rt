@@ -7,6 +7,7 @@ ghost use Rattle.vhost_protocol.specs.declared.asked.Shape.TheVariants as shape;
 
 use crate::asked::Sent;
 use crate::internal::FrontendInternal;
+use crate::internal::plan::RecordCall;
 use crate::session::protocol_in;
 use bitflags::Flags;
 use vhost_link::Link;
@@ -27,7 +28,7 @@ impl<L: Link> FrontendInternal<L> {
     pub fn ask_get_features(&mut self) -> Result<Sent>
         ensures { AsksHalf L.event call.GetFeatures self.old result self.new }
     {
-        self.ask_reply(FrontendReq::GET_FEATURES, Shape::U64, &VhostUserEmpty, &[])
+        self.ask(RecordCall::GetFeatures)
     }
 
     /// Takes the features, and remembers them as offered.
@@ -48,10 +49,7 @@ impl<L: Link> FrontendInternal<L> {
     pub fn ask_set_features(&mut self, features: u64) -> Result<Sent>
         ensures { AsksHalf L.event (call.SetFeatures features) self.old result self.new }
     {
-        let mut next = self.session;
-        next.acked = features & next.offered;
-        let body = VhostUserU64::new(features);
-        self.ask_change(next, FrontendReq::SET_FEATURES, &body, &[])
+        self.ask(RecordCall::SetFeatures(features))
     }
 
     /// Takes the acknowledgement, where there is one.
@@ -68,13 +66,7 @@ impl<L: Link> FrontendInternal<L> {
     pub fn ask_get_protocol_features(&mut self) -> Result<Sent>
         ensures { AsksHalf L.event call.GetProtocolFeatures self.old result self.new }
     {
-        protocol_in(self.session.offered)?;
-        self.ask_reply(
-            FrontendReq::GET_PROTOCOL_FEATURES,
-            Shape::U64,
-            &VhostUserEmpty,
-            &[],
-        )
+        self.ask(RecordCall::GetProtocolFeatures)
     }
 
     /// Takes the features; bits without a meaning are dropped.
@@ -94,11 +86,7 @@ impl<L: Link> FrontendInternal<L> {
     pub fn ask_set_protocol_features(&mut self, features: VhostUserProtocolFeatures) -> Result<Sent>
         ensures { AsksHalf L.event (call.SetProtocolFeatures features.bits) self.old result self.new }
     {
-        protocol_in(self.session.offered)?;
-        let mut next = self.session;
-        next.acked_protocol_features = features.bits();
-        let body = VhostUserU64::new(features.bits());
-        self.ask_change(next, FrontendReq::SET_PROTOCOL_FEATURES, &body, &[])
+        self.ask(RecordCall::SetProtocolFeatures(features))
     }
 
     /// Takes the acknowledgement, where there is one.
@@ -115,8 +103,7 @@ impl<L: Link> FrontendInternal<L> {
     pub fn ask_get_queue_num(&mut self) -> Result<Sent>
         ensures { AsksHalf L.event call.GetQueueNum self.old result self.new }
     {
-        self.session.needs(protocol_bit::MQ)?;
-        self.ask_reply(FrontendReq::GET_QUEUE_NUM, Shape::U64, &VhostUserEmpty, &[])
+        self.ask(RecordCall::GetQueueNum)
     }
 
     /// Takes the number, and remembers it.

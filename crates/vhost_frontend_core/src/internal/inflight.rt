@@ -10,6 +10,7 @@ ghost use Rattle.vhost_protocol.specs.declared.asked.Shape.TheVariants as shape;
 
 use crate::asked::Sent;
 use crate::internal::FrontendInternal;
+use crate::internal::plan::{HandleCall, RecordCall};
 use vhost_link::Link;
 use vhost_message::{Error, FrontendReq, Result, VhostUserInflight, protocol_bit};
 use vhost_protocol::Shape;
@@ -24,8 +25,7 @@ impl<L: Link> FrontendInternal<L> {
     pub fn ask_get_inflight_fd(&mut self, inflight: &VhostUserInflight) -> Result<Sent>
         ensures { AsksHalf L.event (call.GetInflightFd inflight.now) self.old result self.new }
     {
-        self.session.needs(protocol_bit::INFLIGHT_SHMFD)?;
-        self.ask_reply(FrontendReq::GET_INFLIGHT_FD, Shape::Inflight, inflight, &[])
+        self.ask(RecordCall::GetInflightFd(*inflight))
     }
 
     /// Takes the buffer: where it lies, and its handle.
@@ -52,9 +52,7 @@ impl<L: Link> FrontendInternal<L> {
     ) -> Result<Sent>
         ensures { AsksHalf L.event (call.SetInflightFd inflight.now handle.now) self.old result self.new }
     {
-        self.session.needs(protocol_bit::INFLIGHT_SHMFD)?;
-        used(inflight)?;
-        self.ask_ack(FrontendReq::SET_INFLIGHT_FD, inflight, &[handle])
+        self.ask_with(HandleCall::SetInflightFd(*inflight), handle)
     }
 
     /// Takes the acknowledgement, where there is one.
@@ -64,14 +62,4 @@ impl<L: Link> FrontendInternal<L> {
     {
         self.take_ack(sent)
     }
-}
-
-/// InvalidParam: the buffer's size, or one of the numbers of queues and descriptors, is 0.
-fn used(inflight: &VhostUserInflight) -> Result<()>
-    ensures { ask.param (not (inflight.now.mmap_size == 0) && not (inflight.now.num_queues == 0) && not (inflight.now.queue_size == 0)) ≡ tested result }
-{
-    if inflight.mmap_size == 0 || inflight.num_queues == 0 || inflight.queue_size == 0 {
-        return Err(Error::InvalidParam);
-    }
-    Ok(())
 }

@@ -1,27 +1,22 @@
 //! The log of dirty pages.
 
-ghost use Rattle.std.specs.Prelude.{◌≡◌, ℕ, Option, []};
+ghost use Rattle.std.specs.Prelude.{◌≡◌, ℕ, Option};
 ghost use Rattle.vhost_protocol.specs.FrontendCall as call;
 ghost use Rattle.vhost_protocol.specs.FrontendCall.{LogRegion};
-ghost use Rattle.vhost_message.specs.declared.frontend_req.FrontendReq.TheVariants.{SET_LOG_BASE};
-ghost use Rattle.vhost_protocol.specs.Written.{U64};
-ghost use Rattle.vhost_protocol.specs.Ask.{Sends, message};
 ghost use Rattle.vhost_protocol.specs.declared.asked.Awaited.TheVariants.{Nobody, Reply};
 ghost use Rattle.vhost_protocol.specs.declared.asked.Shape.TheVariants as shape;
 ghost use Rattle.vhost_frontend_core.specs.Regions.{log_region_in};
 
 use crate::asked::Sent;
 use crate::internal::FrontendInternal;
+use crate::internal::plan::{HandleCall, Plan, Record, RecordCall};
 use vhost_backend::VhostUserDirtyLogRegion;
 use vhost_link::Link;
-use vhost_message::{
-    Error, FrontendReq, Result, VhostUserEmpty, VhostUserLog, VhostUserU64, has_bit, protocol_bit,
-};
+use vhost_message::{Error, FrontendReq, Result, VhostUserLog, has_bit, protocol_bit};
 use vhost_protocol::{Awaited, Shape};
 
 impl<L: Link> FrontendInternal<L> {
-    ghost use Rattle.vhost_frontend_core.specs.Frontend.{endpoint_of, session_of, awaits};
-    ghost use Rattle.vhost_frontend_core.specs.Asking.{Asks};
+    ghost use Rattle.vhost_frontend_core.specs.Frontend.{awaits};
     ghost use Rattle.vhost_frontend_core.specs.Halves.{AsksHalf, TakesHalf, TakesAck};
 
     /// Says where the log lies: at this base, or in this region where shared memory is agreed on.
@@ -35,31 +30,19 @@ impl<L: Link> FrontendInternal<L> {
         ensures { AsksHalf L.event (call.SetLogBase base (log_region_in region.entry)) self.old result self.new }
     {
         let Some(area) = region else {
-            return self.ask_base(base);
+            return self.ask(RecordCall::SetLogBase(base));
         };
-        if !has_bit(
-            self.session.acked_protocol_features,
-            protocol_bit::LOG_SHMFD,
-        ) {
-            return self.ask_base(base);
+        let acked_protocol_features = self.session.acked_protocol_features;
+        if !has_bit(acked_protocol_features, protocol_bit::LOG_SHMFD) {
+            return self.ask(RecordCall::SetLogBase(base));
         }
         let Some(handle) = area.mmap_handle else {
             return Err(Error::InvalidParam);
         };
         let log = VhostUserLog::new(area.mmap_size, area.mmap_offset);
-        self.ask_reply(FrontendReq::SET_LOG_BASE, Shape::Log, &log, &[handle])
-    }
-
-    /// Says where the log lies, and awaits nothing.
-    fn ask_base(&mut self, base: u64) -> Result<Sent>
-        ensures { Asks L.event (Sends (message (session_of self.old) SET_LOG_BASE (U64 base) []) Nobody (session_of self.old)) (endpoint_of self.old) (session_of self.old) (awaits self.old) result (endpoint_of self.new) (session_of self.new) (awaits self.new) }
-    {
-        let request = (
-            FrontendReq::SET_LOG_BASE,
-            self.session.header_flags,
-            Awaited::Nobody,
-        );
-        self.send(request, &VhostUserU64::new(base), &[], &[])
+        let request = FrontendReq::SET_LOG_BASE;
+        let plan = Plan::asks(self.session, request, Record::LogArea(log), Shape::Log);
+        self.carry_out(plan, &[handle])
     }
 
     /// Takes the reply, where there is one.
@@ -85,7 +68,7 @@ impl<L: Link> FrontendInternal<L> {
     pub fn ask_set_log_fd(&mut self, handle: &L::Handle) -> Result<Sent>
         ensures { AsksHalf L.event (call.SetLogFd handle.now) self.old result self.new }
     {
-        self.ask_ack(FrontendReq::SET_LOG_FD, &VhostUserEmpty, &[handle])
+        self.ask_with(HandleCall::SetLogFd, handle)
     }
 
     /// Takes the acknowledgement, where there is one.

@@ -16,6 +16,7 @@ ghost use Rattle.vhost_frontend_core.specs.declared.asked.Kept.TheVariants.{Regi
 
 use crate::asked::{Kept, Sent};
 use crate::internal::FrontendInternal;
+use crate::internal::plan::{HandleCall, RecordCall};
 use crate::regions::is_same;
 use vhost_backend::VhostUserMemoryRegionInfo;
 use vhost_link::Link;
@@ -36,13 +37,7 @@ impl<L: Link> FrontendInternal<L> {
     pub fn ask_get_max_mem_slots(&mut self) -> Result<Sent>
         ensures { AsksHalf L.event call.GetMaxMemSlots self.old result self.new }
     {
-        self.session.needs(protocol_bit::CONFIGURE_MEM_SLOTS)?;
-        self.ask_reply(
-            FrontendReq::GET_MAX_MEM_SLOTS,
-            Shape::U64,
-            &VhostUserEmpty,
-            &[],
-        )
+        self.ask(RecordCall::GetMaxMemSlots)
     }
 
     /// Takes the number.
@@ -67,7 +62,7 @@ impl<L: Link> FrontendInternal<L> {
         ensures asked { AsksHalf L.event (call.AddMemRegion (info_in region.now)) self.old result self.new }
         ensures kept { IfOk result (λ sent. sent.kept ≡ Region (region_in region.now)) }
     {
-        match self.ask_add_region(region) {
+        match self.ask_region(region) {
             Ok(mut sent) => {
                 sent.kept = Kept::Region(region.to_region());
                 Ok(sent)
@@ -77,25 +72,13 @@ impl<L: Link> FrontendInternal<L> {
     }
 
     /// Gives the device a region, before it is kept.
-    fn ask_add_region(&mut self, region: &VhostUserMemoryRegionInfo<L::Handle>) -> Result<Sent>
+    fn ask_region(&mut self, region: &VhostUserMemoryRegionInfo<L::Handle>) -> Result<Sent>
         ensures { AsksHalf L.event (call.AddMemRegion (info_in region.now)) self.old result self.new }
     {
-        self.session.needs(protocol_bit::CONFIGURE_MEM_SLOTS)?;
-        sized(region)?;
         let Some(handle) = region.mmap_handle else {
-            return Err(Error::InvalidParam);
+            return self.ask(RecordCall::AddMemRegion(region.to_region()));
         };
-        let body = region.to_single_region();
-        if self.session.is_listening() {
-            let awaited = Awaited::Reply(Shape::SingleMemoryRegion);
-            let request = (
-                FrontendReq::ADD_MEM_REG,
-                self.session.quiet_flags(),
-                awaited,
-            );
-            return self.send(request, &body, &[], &[handle]);
-        }
-        self.ask_ack(FrontendReq::ADD_MEM_REG, &body, &[handle])
+        self.ask_with(HandleCall::AddMemRegion(region.to_region()), handle)
     }
 
     /// Takes the acknowledgement, where there is one; or, while postcopy listens, where the region is mapped.
@@ -141,9 +124,7 @@ impl<L: Link> FrontendInternal<L> {
     ) -> Result<Sent>
         ensures { AsksHalf L.event (call.RemoveMemRegion (info_in region.now)) self.old result self.new }
     {
-        self.session.needs(protocol_bit::CONFIGURE_MEM_SLOTS)?;
-        sized(region)?;
-        self.ask_ack(FrontendReq::REM_MEM_REG, &region.to_single_region(), &[])
+        self.ask(RecordCall::RemoveMemRegion(region.to_region()))
     }
 
     /// Takes the acknowledgement, where there is one.
@@ -153,16 +134,6 @@ impl<L: Link> FrontendInternal<L> {
     {
         self.take_ack(sent)
     }
-}
-
-/// InvalidParam: the region's size is 0.
-fn sized<H>(region: &VhostUserMemoryRegionInfo<H>) -> Result<()>
-    ensures { ask.param (not ((region_in region.now).memory_size == 0)) ≡ tested result }
-{
-    if region.memory_size == 0 {
-        return Err(Error::InvalidParam);
-    }
-    Ok(())
 }
 
 /// Where the region is mapped that was kept, as this reply says. InvalidMessage: it is of another region.

@@ -8,6 +8,7 @@ ghost use Rattle.vhost_protocol.specs.declared.asked.Shape.TheVariants as shape;
 
 use crate::asked::Sent;
 use crate::internal::FrontendInternal;
+use crate::internal::plan::{HandleCall, RecordCall};
 use crate::session::valid;
 use vhost_link::Link;
 use vhost_message::{
@@ -25,9 +26,7 @@ impl<L: Link> FrontendInternal<L> {
     pub fn ask_get_shared_object(&mut self, name: &VhostUserSharedMsg) -> Result<Sent>
         ensures { AsksHalf L.event (call.GetSharedObject name.now) self.old result self.new }
     {
-        self.session.needs(protocol_bit::SHARED_OBJECT)?;
-        valid(name)?;
-        self.ask_reply(FrontendReq::GET_SHARED_OBJECT, Shape::Empty, name, &[])
+        self.ask(RecordCall::GetSharedObject(*name))
     }
 
     /// Takes the handle.
@@ -49,13 +48,7 @@ impl<L: Link> FrontendInternal<L> {
     pub fn ask_get_shmem_config(&mut self) -> Result<Sent>
         ensures { AsksHalf L.event call.GetShmemConfig self.old result self.new }
     {
-        self.session.needs(protocol_bit::SHMEM)?;
-        self.ask_reply(
-            FrontendReq::GET_SHMEM_CONFIG,
-            Shape::ShMemConfig,
-            &VhostUserEmpty,
-            &[],
-        )
+        self.ask(RecordCall::GetShmemConfig)
     }
 
     /// Takes the regions.
@@ -75,8 +68,7 @@ impl<L: Link> FrontendInternal<L> {
     pub fn ask_set_backend_request_fd(&mut self, handle: &L::Handle) -> Result<Sent>
         ensures { AsksHalf L.event (call.SetBackendRequestFd handle.now) self.old result self.new }
     {
-        self.session.needs(protocol_bit::BACKEND_REQ)?;
-        self.ask_ack(FrontendReq::SET_BACKEND_REQ_FD, &VhostUserEmpty, &[handle])
+        self.ask_with(HandleCall::SetBackendRequestFd, handle)
     }
 
     /// Takes the acknowledgement, where there is one.

@@ -6,6 +6,7 @@ ghost use Rattle.vhost_protocol.specs.declared.asked.Awaited.TheVariants.{Nobody
 
 use crate::asked::Sent;
 use crate::internal::FrontendInternal;
+use crate::internal::plan::RecordCall;
 use vhost_link::Link;
 use vhost_message::{FrontendReq, Result, VhostUserEmpty, protocol_bit};
 
@@ -17,7 +18,7 @@ impl<L: Link> FrontendInternal<L> {
     pub fn ask_set_owner(&mut self) -> Result<Sent>
         ensures { AsksHalf L.event call.SetOwner self.old result self.new }
     {
-        self.ask_ack(FrontendReq::SET_OWNER, &VhostUserEmpty, &[])
+        self.ask(RecordCall::SetOwner)
     }
 
     /// Takes the acknowledgement, where there is one.
@@ -32,7 +33,7 @@ impl<L: Link> FrontendInternal<L> {
     pub fn ask_reset_owner(&mut self) -> Result<Sent>
         ensures { AsksHalf L.event call.ResetOwner self.old result self.new }
     {
-        self.ask_ack(FrontendReq::RESET_OWNER, &VhostUserEmpty, &[])
+        self.ask(RecordCall::ResetOwner)
     }
 
     /// Takes the acknowledgement, where there is one.
@@ -49,8 +50,7 @@ impl<L: Link> FrontendInternal<L> {
     pub fn ask_reset_device(&mut self) -> Result<Sent>
         ensures { AsksHalf L.event call.ResetDevice self.old result self.new }
     {
-        self.session.needs(protocol_bit::RESET_DEVICE)?;
-        self.ask_ack(FrontendReq::RESET_DEVICE, &VhostUserEmpty, &[])
+        self.ask(RecordCall::ResetDevice)
     }
 
     /// Takes the acknowledgement, where there is one.

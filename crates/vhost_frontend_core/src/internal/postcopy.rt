@@ -10,6 +10,7 @@ ghost use Rattle.vhost_protocol.specs.declared.asked.Shape.TheVariants as shape;
 
 use crate::asked::Sent;
 use crate::internal::FrontendInternal;
+use crate::internal::plan::RecordCall;
 use vhost_link::Link;
 use vhost_message::{
     Error, FrontendReq, PostcopyState, Result, VhostUserEmpty, VhostUserU64, protocol_bit,
@@ -26,13 +27,7 @@ impl<L: Link> FrontendInternal<L> {
     pub fn ask_postcopy_advise(&mut self) -> Result<Sent>
         ensures { AsksHalf L.event call.PostcopyAdvise self.old result self.new }
     {
-        self.session.needs(protocol_bit::PAGEFAULT)?;
-        self.ask_reply(
-            FrontendReq::POSTCOPY_ADVISE,
-            Shape::Empty,
-            &VhostUserEmpty,
-            &[],
-        )
+        self.ask(RecordCall::PostcopyAdvise)
     }
 
     /// Takes the handle; postcopy is advised from now on.
@@ -57,8 +52,7 @@ impl<L: Link> FrontendInternal<L> {
     pub fn ask_postcopy_listen(&mut self) -> Result<Sent>
         ensures { AsksHalf L.event call.PostcopyListen self.old result self.new }
     {
-        self.session.needs(protocol_bit::PAGEFAULT)?;
-        self.ask_ack(FrontendReq::POSTCOPY_LISTEN, &VhostUserEmpty, &[])
+        self.ask(RecordCall::PostcopyListen)
     }
 
     /// Takes the acknowledgement, where there is one. The device listens from now on.
@@ -81,8 +75,7 @@ impl<L: Link> FrontendInternal<L> {
     pub fn ask_postcopy_end(&mut self) -> Result<Sent>
         ensures { AsksHalf L.event call.PostcopyEnd self.old result self.new }
     {
-        self.session.needs(protocol_bit::PAGEFAULT)?;
-        self.ask_ack(FrontendReq::POSTCOPY_END, &VhostUserEmpty, &[])
+        self.ask(RecordCall::PostcopyEnd)
     }
 
     /// Takes the acknowledgement, where there is one. Postcopy has ended from now on.
@@ -106,9 +99,7 @@ impl<L: Link> FrontendInternal<L> {
     pub fn ask_postcopy_ack_mem_regions(&mut self, code: FrontendReq) -> Result<Sent>
         ensures { AsksHalf L.event (call.PostcopyAckMemRegions code) self.old result self.new }
     {
-        mapping(code)?;
-        let request = (code, self.session.quiet_flags(), Awaited::Nobody);
-        self.send(request, &VhostUserU64::new(0), &[], &[])
+        self.ask(RecordCall::PostcopyAckMemRegions(code))
     }
 
     /// Nothing is to be taken.
@@ -117,15 +108,5 @@ impl<L: Link> FrontendInternal<L> {
         ensures quiet { awaits self.new ≡ Nobody }
     {
         self.take_ack(sent)
-    }
-}
-
-/// InvalidParam: the regions that this request brings are not mapped while postcopy listens.
-fn mapping(code: FrontendReq) -> Result<()>
-    ensures { ask.param (ask.is_mapping code) ≡ tested result }
-{
-    match code {
-        FrontendReq::SET_MEM_TABLE | FrontendReq::ADD_MEM_REG => Ok(()),
-        _ => Err(Error::InvalidParam),
     }
 }

@@ -6,6 +6,7 @@ ghost use Rattle.vhost_protocol.specs.declared.asked.Awaited.TheVariants.{Nobody
 
 use crate::asked::Sent;
 use crate::internal::FrontendInternal;
+use crate::internal::plan::HandleCall;
 use vhost_link::Link;
 use vhost_message::{FrontendReq, Result, VhostUserU64};
 
@@ -19,12 +20,7 @@ impl<L: Link> FrontendInternal<L> {
     pub fn ask_set_vring_call(&mut self, index: usize, handle: &L::Handle) -> Result<Sent>
         ensures { AsksHalf L.event (call.SetVringCall index handle.now) self.old result self.new }
     {
-        let index = self.session.small_index(index)?;
-        self.ask_ack(
-            FrontendReq::SET_VRING_CALL,
-            &VhostUserU64::new(index),
-            &[handle],
-        )
+        self.ask_with(HandleCall::SetVringCall(index), handle)
     }
 
     /// Takes the acknowledgement, where there is one.
@@ -41,12 +37,7 @@ impl<L: Link> FrontendInternal<L> {
     pub fn ask_set_vring_kick(&mut self, index: usize, handle: &L::Handle) -> Result<Sent>
         ensures { AsksHalf L.event (call.SetVringKick index handle.now) self.old result self.new }
     {
-        let index = self.session.small_index(index)?;
-        self.ask_ack(
-            FrontendReq::SET_VRING_KICK,
-            &VhostUserU64::new(index),
-            &[handle],
-        )
+        self.ask_with(HandleCall::SetVringKick(index), handle)
     }
 
     /// Takes the acknowledgement, where there is one.
@@ -63,12 +54,7 @@ impl<L: Link> FrontendInternal<L> {
     pub fn ask_set_vring_err(&mut self, index: usize, handle: &L::Handle) -> Result<Sent>
         ensures { AsksHalf L.event (call.SetVringErr index handle.now) self.old result self.new }
     {
-        let index = self.session.small_index(index)?;
-        self.ask_ack(
-            FrontendReq::SET_VRING_ERR,
-            &VhostUserU64::new(index),
-            &[handle],
-        )
+        self.ask_with(HandleCall::SetVringErr(index), handle)
     }
 
     /// Takes the acknowledgement, where there is one.

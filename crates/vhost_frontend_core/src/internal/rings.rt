@@ -8,6 +8,7 @@ ghost use Rattle.vhost_protocol.specs.declared.asked.Shape.TheVariants as shape;
 
 use crate::asked::Sent;
 use crate::internal::FrontendInternal;
+use crate::internal::plan::RecordCall;
 use crate::session::{param, protocol_in};
 use vhost_link::Link;
 use vhost_message::{
@@ -25,9 +26,7 @@ impl<L: Link> FrontendInternal<L> {
     pub fn ask_set_vring_num(&mut self, index: usize, num: u16) -> Result<Sent>
         ensures { AsksHalf L.event (call.SetVringNum index num) self.old result self.new }
     {
-        let index = self.session.index(index)?;
-        let ring = VhostUserVringState::new(index, num.into());
-        self.ask_ack(FrontendReq::SET_VRING_NUM, &ring, &[])
+        self.ask(RecordCall::SetVringNum(index, num))
     }
 
     /// Takes the acknowledgement, where there is one.
@@ -44,9 +43,7 @@ impl<L: Link> FrontendInternal<L> {
     pub fn ask_set_vring_base(&mut self, index: usize, base: u16) -> Result<Sent>
         ensures { AsksHalf L.event (call.SetVringBase index base) self.old result self.new }
     {
-        let index = self.session.index(index)?;
-        let ring = VhostUserVringState::new(index, base.into());
-        self.ask_ack(FrontendReq::SET_VRING_BASE, &ring, &[])
+        self.ask(RecordCall::SetVringBase(index, base))
     }
 
     /// Takes the acknowledgement, where there is one.
@@ -67,10 +64,7 @@ impl<L: Link> FrontendInternal<L> {
     ) -> Result<Sent>
         ensures { AsksHalf L.event (call.SetVringAddr index config_data.now) self.old result self.new }
     {
-        let index = self.session.index(index)?;
-        param(config_data.flags <= 1)?;
-        let ring = VhostUserVringAddr::from_config_data(index, config_data);
-        self.ask_ack(FrontendReq::SET_VRING_ADDR, &ring, &[])
+        self.ask(RecordCall::SetVringAddr(index, *config_data))
     }
 
     /// Takes the acknowledgement, where there is one.
@@ -87,9 +81,7 @@ impl<L: Link> FrontendInternal<L> {
     pub fn ask_get_vring_base(&mut self, index: usize) -> Result<Sent>
         ensures { AsksHalf L.event (call.GetVringBase index) self.old result self.new }
     {
-        let index = self.session.index(index)?;
-        let ring = VhostUserVringState::new(index, 0);
-        self.ask_reply(FrontendReq::GET_VRING_BASE, Shape::VringState, &ring, &[])
+        self.ask(RecordCall::GetVringBase(index))
     }
 
     /// Takes the ring's next descriptor.
@@ -109,10 +101,7 @@ impl<L: Link> FrontendInternal<L> {
     pub fn ask_set_vring_enable(&mut self, index: usize, enable: bool) -> Result<Sent>
         ensures { AsksHalf L.event (call.SetVringEnable index enable) self.old result self.new }
     {
-        protocol_in(self.session.acked)?;
-        let index = self.session.index(index)?;
-        let ring = VhostUserVringState::new(index, enable.into());
-        self.ask_ack(FrontendReq::SET_VRING_ENABLE, &ring, &[])
+        self.ask(RecordCall::SetVringEnable(index, enable))
     }
 
     /// Takes the acknowledgement, where there is one.

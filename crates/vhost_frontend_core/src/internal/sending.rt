@@ -1,24 +1,24 @@
 //! What all halves that ask have in common: a request goes out whole.
 
-ghost use Rattle.std.specs.Prelude.{◌≡◌, ◌+◌, ◌++◌, ◌≤◌, length, map};
+ghost use Rattle.std.specs.Prelude.{◌≡◌, ◌+◌, ◌++◌, ◌≤◌, Ok, length, map};
 ghost use Rattle.vhost_message.specs.declared.limits.TheConstants.{MAX_ATTACHED_FD_ENTRIES, MAX_MSG_SIZE};
 ghost use Rattle.vhost_protocol.specs.Written.{Payload, payload_text};
-ghost use Rattle.vhost_protocol.specs.Ask as ask;
+ghost use Rattle.vhost_frontend_core.specs.Plan.{call_in, call_with, planned as planned_as, record_in};
 
 use crate::asked::Sent;
 use crate::internal::FrontendInternal;
-use crate::session::FrontendSession;
+use crate::internal::plan::{HandleCall, Plan, Record, RecordCall};
 use vhost_link::Link;
-use vhost_message::{ByteValued, FrontendReq, Result};
-use vhost_protocol::{Awaited, Shape};
+use vhost_message::{ByteValued, FrontendReq, Result, VhostUserEmpty, VhostUserU64};
+use vhost_protocol::Awaited;
 
 impl<L: Link> FrontendInternal<L> {
     ghost use Rattle.vhost_connection.specs.Asking.{request_with};
     ghost use Rattle.vhost_frontend_core.specs.Asking.{Asks, Tries};
     ghost use Rattle.vhost_frontend_core.specs.Frontend.{endpoint_of, session_of, awaits};
-    ghost use Rattle.vhost_frontend_core.specs.Session.{frontend_of};
+    ghost use Rattle.vhost_frontend_core.specs.Halves.{AsksHalf};
 
-    /// Sends a request with these flags: a record, and bytes behind it.
+    /// Sends a request with these flags: a body, and bytes behind it.
     pub(crate) fn send<T: ByteValued>(
         &mut self,
         request: (FrontendReq, u32, Awaited),
@@ -45,58 +45,62 @@ impl<L: Link> FrontendInternal<L> {
         }
     }
 
-    /// Asks by a request that is only acknowledged, where both sides agreed on that and its header asks for it.
-    pub(crate) fn ask_ack<T: ByteValued>(
+    /// Sends a request with these flags: a body, if any.
+    fn send_record(
         &mut self,
-        code: FrontendReq,
-        body: &T,
+        request: (FrontendReq, u32, Awaited),
+        body: &Record,
         handles: &[&L::Handle],
     ) -> Result<Sent>
-        requires size { T.SIZE ≤ MAX_MSG_SIZE }
         requires handles { length handles.now ≤ MAX_ATTACHED_FD_ENTRIES }
-        ensures { (p : Payload) → payload_text p ≡ T.text body.now
-            → Asks L.event (ask.sends (session_of self.old) code p (map (λ h. h.now) handles.now)) (endpoint_of self.old) (session_of self.old) (awaits self.old) result (endpoint_of self.new) (session_of self.new) (awaits self.new) }
+        ensures session { session_of self.new ≡ session_of self.old }
+        ensures sent { Tries L.event (request_with request.1 request.0 (record_in body.now) (map (λ h. h.now) handles.now)) request.2 (endpoint_of self.old) (awaits self.old) result (endpoint_of self.new) (awaits self.new) }
     {
-        self.ask_change(self.session, code, body, handles)
+        match body {
+            Record::Empty => self.send(request, &VhostUserEmpty, &[], handles),
+            Record::U64(number) => self.send(request, &VhostUserU64::new(*number), &[], handles),
+            Record::OneRegion(region) => self.send(request, region, &[], handles),
+            Record::RingState(ring) => self.send(request, ring, &[], handles),
+            Record::RingAddr(ring) => self.send(request, ring, &[], handles),
+            Record::InflightArea(area) => self.send(request, area, &[], handles),
+            Record::LogArea(area) => self.send(request, area, &[], handles),
+            Record::ObjectName(name) => self.send(request, name, &[], handles),
+            Record::DeviceState(transfer) => self.send(request, transfer, &[], handles),
+        }
     }
 
-    /// The same, and the session is the next one once the request went out.
-    pub(crate) fn ask_change<T: ByteValued>(
-        &mut self,
-        next: FrontendSession,
-        code: FrontendReq,
-        body: &T,
-        handles: &[&L::Handle],
-    ) -> Result<Sent>
-        requires size { T.SIZE ≤ MAX_MSG_SIZE }
+    /// Sends what was planned, with these handles; the session is the next one once it went out.
+    pub(crate) fn carry_out(&mut self, plan: Plan, handles: &[&L::Handle]) -> Result<Sent>
         requires handles { length handles.now ≤ MAX_ATTACHED_FD_ENTRIES }
-        ensures { (p : Payload) → payload_text p ≡ T.text body.now
-            → Asks L.event (ask.sends (frontend_of next) code p (map (λ h. h.now) handles.now)) (endpoint_of self.old) (session_of self.old) (awaits self.old) result (endpoint_of self.new) (session_of self.new) (awaits self.new) }
+        ensures { Asks L.event (planned_as (map (λ h. h.now) handles.now) (Ok plan)) (endpoint_of self.old) (session_of self.old) (awaits self.old) result (endpoint_of self.new) (session_of self.new) (awaits self.new) }
     {
-        let request = (code, next.header_flags, next.acknowledgement());
-        match self.send(request, body, &[], handles) {
+        let request = (plan.request, plan.flags(handles), plan.awaited);
+        match self.send_record(request, &plan.body, handles) {
             Ok(sent) => {
-                self.session = next;
+                self.session = plan.next;
                 Ok(sent)
             }
             Err(error) => Err(error),
         }
     }
 
-    /// Asks by a request that has a reply.
-    pub(crate) fn ask_reply<T: ByteValued>(
-        &mut self,
-        code: FrontendReq,
-        shape: Shape,
-        body: &T,
-        handles: &[&L::Handle],
-    ) -> Result<Sent>
-        requires size { T.SIZE ≤ MAX_MSG_SIZE }
-        requires handles { length handles.now ≤ MAX_ATTACHED_FD_ENTRIES }
-        ensures { (p : Payload) → payload_text p ≡ T.text body.now
-            → Asks L.event (ask.asks (session_of self.old) code p (map (λ h. h.now) handles.now) shape) (endpoint_of self.old) (session_of self.old) (awaits self.old) result (endpoint_of self.new) (session_of self.new) (awaits self.new) }
+    /// Asks by the table of calls.
+    pub(crate) fn ask(&mut self, call: RecordCall) -> Result<Sent>
+        ensures { AsksHalf L.event (call_in call) self.old result self.new }
     {
-        let flags = self.session.header_flags;
-        self.send((code, flags, Awaited::Reply(shape)), body, &[], handles)
+        match self.planned(call) {
+            Ok(plan) => self.carry_out(plan, &[]),
+            Err(error) => Err(error),
+        }
+    }
+
+    /// The same of a call with a handle.
+    pub(crate) fn ask_with(&mut self, call: HandleCall, handle: &L::Handle) -> Result<Sent>
+        ensures { AsksHalf L.event (call_with call handle.now) self.old result self.new }
+    {
+        match self.planned_with(call) {
+            Ok(plan) => self.carry_out(plan, &[handle]),
+            Err(error) => Err(error),
+        }
     }
 }

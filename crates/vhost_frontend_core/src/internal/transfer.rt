@@ -12,6 +12,7 @@ ghost use Rattle.vhost_message.specs.Transfer.{direction_number, phase_number};
 
 use crate::asked::Sent;
 use crate::internal::FrontendInternal;
+use crate::internal::plan::{HandleCall, RecordCall};
 use crate::internal::replies::one_of;
 use vhost_link::Link;
 use vhost_message::{
@@ -35,14 +36,8 @@ impl<L: Link> FrontendInternal<L> {
     ) -> Result<Sent>
         ensures { AsksHalf L.event (call.SetDeviceStateFd (record { direction = direction_number direction; phase = phase_number phase }) handle.now) self.old result self.new }
     {
-        self.session.needs(protocol_bit::DEVICE_STATE)?;
         let transfer = VhostUserTransferDeviceState::new(direction, phase);
-        self.ask_reply(
-            FrontendReq::SET_DEVICE_STATE_FD,
-            Shape::U64,
-            &transfer,
-            &[handle],
-        )
+        self.ask_with(HandleCall::SetDeviceStateFd(transfer), handle)
     }
 
     /// Takes the handle that the device wants in place of the one it was given, if any.
@@ -64,13 +59,7 @@ impl<L: Link> FrontendInternal<L> {
     pub fn ask_check_device_state(&mut self) -> Result<Sent>
         ensures { AsksHalf L.event call.CheckDeviceState self.old result self.new }
     {
-        self.session.needs(protocol_bit::DEVICE_STATE)?;
-        self.ask_reply(
-            FrontendReq::CHECK_DEVICE_STATE,
-            Shape::U64,
-            &VhostUserEmpty,
-            &[],
-        )
+        self.ask(RecordCall::CheckDeviceState)
     }
 
     /// Takes whether it did.

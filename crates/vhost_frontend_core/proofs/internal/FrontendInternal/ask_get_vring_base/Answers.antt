@@ -1,6 +1,0 @@
--- GET_VRING_BASE: what is asked.
-use Rattle.vhost_frontend_core.proofs.Asking.{stops}
-use Rattle.vhost_frontend_core.proofs.internal.FrontendInternal.ask_get_vring_base.Goals as goal
-
-pub returns-in_err-index : goal.returns-in_err-index
-returns-in_err-index g c = stops _ _ c.from_residual.ensures.1 c.in_err-index.ensures.test
