@@ -1,2 +1,3 @@
 pub mod MemoryContext
 pub mod Whole
+pub mod Turn

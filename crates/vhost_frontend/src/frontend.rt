@@ -1,5 +1,14 @@
 //! A session that many threads may use.
 
+ghost use Rattle.std.specs.Prelude.{◌≡◌, IfErr};
+ghost use Rattle.vhost_message.specs.FlagBits.{config_bits};
+ghost use Rattle.vhost_message.specs.Transfer.{direction_number, phase_number};
+ghost use Rattle.vhost_message.specs.declared.error.Error.TheVariants.{OutOfMemory};
+ghost use Rattle.vhost_protocol.specs.FrontendCall as call;
+ghost use Rattle.vhost_frontend_core.specs.Regions.{bases_seen, info_in, infos_in, log_region_in};
+ghost use Rattle.vhost_frontend.specs.Turn.{Turn, within as answer_within};
+ghost use Rattle.vhost_frontend.specs.Whole.{Whole, WholeWithRoom};
+
 use crate::quiet::Quiet;
 use crate::traits::VhostUserFrontend;
 use std::alloc::{AllocError, Global};
@@ -12,8 +21,9 @@ use vhost_message::{
     VhostUserProtocolFeatures, VhostUserShMemConfig, VhostUserSharedMsg, VringConfigData,
 };
 
-/// A frontend's session, shared: a clone is the same session. Each call waits until it has the session for itself, and leaves no
-/// answer behind. Its errors are those of `Quiet`'s calls, within `VhostUserProtocol`.
+/// A frontend's session, shared: a clone is the same session. Each call waits until it has the session for itself: it finds a
+/// session that awaits nothing, is whole there as `Quiet`'s call of its name, and leaves a session that awaits nothing. Its
+/// errors are those of `Quiet`'s calls, within `VhostUserProtocol`.
 ///
 /// Mirrors `vhost::vhost_user::Frontend`.
 #[derive(Drop)]
@@ -38,7 +48,9 @@ impl<L: Link> Frontend<L> {
         link: L,
         max_queue_num: u64,
         budget: u32,
-    ) -> vhost_message::Result<Self> {
+    ) -> vhost_message::Result<Self>
+        ensures memory { IfErr result (λ e. e ≡ OutOfMemory) }
+    {
         let session = Quiet::new(alloc, link, max_queue_num, budget)?;
         match Arc::new(alloc, Mutex::new(session)) {
             Ok(inner) => Ok(Frontend { inner }),
@@ -55,28 +67,38 @@ impl<L: Link> Frontend<L> {
 impl<L: Link> VhostBackend for Frontend<L> {
     type Handle = L::Handle;
 
-    fn get_features(&self, rt: &impl Wait) -> Result<u64> {
-        Ok(self.inner.lock(rt).get_features()?)
+    fn get_features(&self, rt: &impl Wait) -> Result<u64>
+        ensures { Turn (Whole L.event call.GetFeatures call.Number) result }
+    {
+        within(self.inner.lock(rt).get_features())
     }
 
-    fn set_features(&self, rt: &impl Wait, features: u64) -> Result<()> {
-        Ok(self.inner.lock(rt).set_features(features)?)
+    fn set_features(&self, rt: &impl Wait, features: u64) -> Result<()>
+        ensures { Turn (Whole L.event (call.SetFeatures features) (λ _. call.Nothing)) result }
+    {
+        within(self.inner.lock(rt).set_features(features))
     }
 
-    fn set_owner(&self, rt: &impl Wait) -> Result<()> {
-        Ok(self.inner.lock(rt).set_owner()?)
+    fn set_owner(&self, rt: &impl Wait) -> Result<()>
+        ensures { Turn (Whole L.event call.SetOwner (λ _. call.Nothing)) result }
+    {
+        within(self.inner.lock(rt).set_owner())
     }
 
-    fn reset_owner(&self, rt: &impl Wait) -> Result<()> {
-        Ok(self.inner.lock(rt).reset_owner()?)
+    fn reset_owner(&self, rt: &impl Wait) -> Result<()>
+        ensures { Turn (Whole L.event call.ResetOwner (λ _. call.Nothing)) result }
+    {
+        within(self.inner.lock(rt).reset_owner())
     }
 
     fn set_mem_table(
         &self,
         rt: &impl Wait,
         regions: &[VhostUserMemoryRegionInfo<'_, L::Handle>],
-    ) -> Result<Option<Vec<VhostUserMemoryRegionBase>>> {
-        Ok(self.inner.lock(rt).set_mem_table(regions)?)
+    ) -> Result<Option<Vec<VhostUserMemoryRegionBase>>>
+        ensures { Turn (WholeWithRoom L.event (call.SetMemTable (infos_in regions.now)) (λ bases. call.Bases (bases_seen bases))) result }
+    {
+        within(self.inner.lock(rt).set_mem_table(regions))
     }
 
     fn set_log_base(
@@ -84,16 +106,22 @@ impl<L: Link> VhostBackend for Frontend<L> {
         rt: &impl Wait,
         base: u64,
         region: Option<VhostUserDirtyLogRegion<'_, L::Handle>>,
-    ) -> Result<()> {
-        Ok(self.inner.lock(rt).set_log_base(base, region)?)
+    ) -> Result<()>
+        ensures { Turn (Whole L.event (call.SetLogBase base (log_region_in region.entry)) (λ _. call.Nothing)) result }
+    {
+        within(self.inner.lock(rt).set_log_base(base, region))
     }
 
-    fn set_log_fd(&self, rt: &impl Wait, fd: &L::Handle) -> Result<()> {
-        Ok(self.inner.lock(rt).set_log_fd(fd)?)
+    fn set_log_fd(&self, rt: &impl Wait, fd: &L::Handle) -> Result<()>
+        ensures { Turn (Whole L.event (call.SetLogFd fd.now) (λ _. call.Nothing)) result }
+    {
+        within(self.inner.lock(rt).set_log_fd(fd))
     }
 
-    fn set_vring_num(&self, rt: &impl Wait, queue_index: usize, num: u16) -> Result<()> {
-        Ok(self.inner.lock(rt).set_vring_num(queue_index, num)?)
+    fn set_vring_num(&self, rt: &impl Wait, queue_index: usize, num: u16) -> Result<()>
+        ensures { Turn (Whole L.event (call.SetVringNum queue_index num) (λ _. call.Nothing)) result }
+    {
+        within(self.inner.lock(rt).set_vring_num(queue_index, num))
     }
 
     fn set_vring_addr(
@@ -101,58 +129,76 @@ impl<L: Link> VhostBackend for Frontend<L> {
         rt: &impl Wait,
         queue_index: usize,
         config_data: &VringConfigData,
-    ) -> Result<()> {
-        Ok(
-            self.inner
-                .lock(rt)
-                .set_vring_addr(queue_index, config_data)?,
-        )
+    ) -> Result<()>
+        ensures { Turn (Whole L.event (call.SetVringAddr queue_index config_data.now) (λ _. call.Nothing)) result }
+    {
+        within(self.inner.lock(rt).set_vring_addr(queue_index, config_data))
     }
 
-    fn set_vring_base(&self, rt: &impl Wait, queue_index: usize, base: u16) -> Result<()> {
-        Ok(self.inner.lock(rt).set_vring_base(queue_index, base)?)
+    fn set_vring_base(&self, rt: &impl Wait, queue_index: usize, base: u16) -> Result<()>
+        ensures { Turn (Whole L.event (call.SetVringBase queue_index base) (λ _. call.Nothing)) result }
+    {
+        within(self.inner.lock(rt).set_vring_base(queue_index, base))
     }
 
-    fn get_vring_base(&self, rt: &impl Wait, queue_index: usize) -> Result<u32> {
-        Ok(self.inner.lock(rt).get_vring_base(queue_index)?)
+    fn get_vring_base(&self, rt: &impl Wait, queue_index: usize) -> Result<u32>
+        ensures { Turn (Whole L.event (call.GetVringBase queue_index) call.Number) result }
+    {
+        within(self.inner.lock(rt).get_vring_base(queue_index))
     }
 
-    fn set_vring_call(&self, rt: &impl Wait, queue_index: usize, fd: &L::Handle) -> Result<()> {
-        Ok(self.inner.lock(rt).set_vring_call(queue_index, fd)?)
+    fn set_vring_call(&self, rt: &impl Wait, queue_index: usize, fd: &L::Handle) -> Result<()>
+        ensures { Turn (Whole L.event (call.SetVringCall queue_index fd.now) (λ _. call.Nothing)) result }
+    {
+        within(self.inner.lock(rt).set_vring_call(queue_index, fd))
     }
 
-    fn set_vring_kick(&self, rt: &impl Wait, queue_index: usize, fd: &L::Handle) -> Result<()> {
-        Ok(self.inner.lock(rt).set_vring_kick(queue_index, fd)?)
+    fn set_vring_kick(&self, rt: &impl Wait, queue_index: usize, fd: &L::Handle) -> Result<()>
+        ensures { Turn (Whole L.event (call.SetVringKick queue_index fd.now) (λ _. call.Nothing)) result }
+    {
+        within(self.inner.lock(rt).set_vring_kick(queue_index, fd))
     }
 
-    fn set_vring_err(&self, rt: &impl Wait, queue_index: usize, fd: &L::Handle) -> Result<()> {
-        Ok(self.inner.lock(rt).set_vring_err(queue_index, fd)?)
+    fn set_vring_err(&self, rt: &impl Wait, queue_index: usize, fd: &L::Handle) -> Result<()>
+        ensures { Turn (Whole L.event (call.SetVringErr queue_index fd.now) (λ _. call.Nothing)) result }
+    {
+        within(self.inner.lock(rt).set_vring_err(queue_index, fd))
     }
 }
 
 impl<L: Link> VhostUserFrontend for Frontend<L> {
-    fn get_protocol_features(&mut self, rt: &impl Wait) -> Result<VhostUserProtocolFeatures> {
-        Ok(self.inner.lock(rt).get_protocol_features()?)
+    fn get_protocol_features(&mut self, rt: &impl Wait) -> Result<VhostUserProtocolFeatures>
+        ensures { Turn (Whole L.event call.GetProtocolFeatures (λ features. call.Number features.bits)) result }
+    {
+        within(self.inner.lock(rt).get_protocol_features())
     }
 
     fn set_protocol_features(
         &mut self,
         rt: &impl Wait,
         features: VhostUserProtocolFeatures,
-    ) -> Result<()> {
-        Ok(self.inner.lock(rt).set_protocol_features(features)?)
+    ) -> Result<()>
+        ensures { Turn (Whole L.event (call.SetProtocolFeatures features.bits) (λ _. call.Nothing)) result }
+    {
+        within(self.inner.lock(rt).set_protocol_features(features))
     }
 
-    fn get_queue_num(&mut self, rt: &impl Wait) -> Result<u64> {
-        Ok(self.inner.lock(rt).get_queue_num()?)
+    fn get_queue_num(&mut self, rt: &impl Wait) -> Result<u64>
+        ensures { Turn (Whole L.event call.GetQueueNum call.Number) result }
+    {
+        within(self.inner.lock(rt).get_queue_num())
     }
 
-    fn reset_device(&mut self, rt: &impl Wait) -> Result<()> {
-        Ok(self.inner.lock(rt).reset_device()?)
+    fn reset_device(&mut self, rt: &impl Wait) -> Result<()>
+        ensures { Turn (Whole L.event call.ResetDevice (λ _. call.Nothing)) result }
+    {
+        within(self.inner.lock(rt).reset_device())
     }
 
-    fn set_vring_enable(&mut self, rt: &impl Wait, queue_index: usize, enable: bool) -> Result<()> {
-        Ok(self.inner.lock(rt).set_vring_enable(queue_index, enable)?)
+    fn set_vring_enable(&mut self, rt: &impl Wait, queue_index: usize, enable: bool) -> Result<()>
+        ensures { Turn (Whole L.event (call.SetVringEnable queue_index enable) (λ _. call.Nothing)) result }
+    {
+        within(self.inner.lock(rt).set_vring_enable(queue_index, enable))
     }
 
     fn get_config(
@@ -162,8 +208,10 @@ impl<L: Link> VhostUserFrontend for Frontend<L> {
         size: u32,
         flags: VhostUserConfigFlags,
         buf: &[u8],
-    ) -> Result<(VhostUserConfig, Vec<u8>)> {
-        Ok(self.inner.lock(rt).get_config(offset, size, flags, buf)?)
+    ) -> Result<(VhostUserConfig, Vec<u8>)>
+        ensures { Turn (WholeWithRoom L.event (call.GetConfig offset size (config_bits flags) buf.now) (λ part. call.ConfigOf part.0 part.1.items)) result }
+    {
+        within(self.inner.lock(rt).get_config(offset, size, flags, buf))
     }
 
     fn set_config(
@@ -172,28 +220,36 @@ impl<L: Link> VhostUserFrontend for Frontend<L> {
         offset: u32,
         flags: VhostUserConfigFlags,
         buf: &[u8],
-    ) -> Result<()> {
-        Ok(self.inner.lock(rt).set_config(offset, flags, buf)?)
+    ) -> Result<()>
+        ensures { Turn (Whole L.event (call.SetConfig offset (config_bits flags) buf.now) (λ _. call.Nothing)) result }
+    {
+        within(self.inner.lock(rt).set_config(offset, flags, buf))
     }
 
-    fn set_backend_request_fd(&mut self, rt: &impl Wait, fd: &L::Handle) -> Result<()> {
-        Ok(self.inner.lock(rt).set_backend_request_fd(fd)?)
+    fn set_backend_request_fd(&mut self, rt: &impl Wait, fd: &L::Handle) -> Result<()>
+        ensures { Turn (Whole L.event (call.SetBackendRequestFd fd.now) (λ _. call.Nothing)) result }
+    {
+        within(self.inner.lock(rt).set_backend_request_fd(fd))
     }
 
     fn get_shared_object(
         &mut self,
         rt: &impl Wait,
         shared_msg: &VhostUserSharedMsg,
-    ) -> Result<L::Handle> {
-        Ok(self.inner.lock(rt).get_shared_object(shared_msg)?)
+    ) -> Result<L::Handle>
+        ensures { Turn (Whole L.event (call.GetSharedObject shared_msg.now) call.HandleOf) result }
+    {
+        within(self.inner.lock(rt).get_shared_object(shared_msg))
     }
 
     fn get_inflight_fd(
         &mut self,
         rt: &impl Wait,
         inflight: &VhostUserInflight,
-    ) -> Result<(VhostUserInflight, L::Handle)> {
-        Ok(self.inner.lock(rt).get_inflight_fd(inflight)?)
+    ) -> Result<(VhostUserInflight, L::Handle)>
+        ensures { Turn (Whole L.event (call.GetInflightFd inflight.now) (λ buffer. call.InflightOf buffer.0 buffer.1)) result }
+    {
+        within(self.inner.lock(rt).get_inflight_fd(inflight))
     }
 
     fn set_inflight_fd(
@@ -201,32 +257,42 @@ impl<L: Link> VhostUserFrontend for Frontend<L> {
         rt: &impl Wait,
         inflight: &VhostUserInflight,
         fd: &L::Handle,
-    ) -> Result<()> {
-        Ok(self.inner.lock(rt).set_inflight_fd(inflight, fd)?)
+    ) -> Result<()>
+        ensures { Turn (Whole L.event (call.SetInflightFd inflight.now fd.now) (λ _. call.Nothing)) result }
+    {
+        within(self.inner.lock(rt).set_inflight_fd(inflight, fd))
     }
 
-    fn get_max_mem_slots(&mut self, rt: &impl Wait) -> Result<u64> {
-        Ok(self.inner.lock(rt).get_max_mem_slots()?)
+    fn get_max_mem_slots(&mut self, rt: &impl Wait) -> Result<u64>
+        ensures { Turn (Whole L.event call.GetMaxMemSlots call.Number) result }
+    {
+        within(self.inner.lock(rt).get_max_mem_slots())
     }
 
     fn add_mem_region(
         &mut self,
         rt: &impl Wait,
         region: &VhostUserMemoryRegionInfo<'_, L::Handle>,
-    ) -> Result<Option<u64>> {
-        Ok(self.inner.lock(rt).add_mem_region(region)?)
+    ) -> Result<Option<u64>>
+        ensures { Turn (Whole L.event (call.AddMemRegion (info_in region.now)) call.Base) result }
+    {
+        within(self.inner.lock(rt).add_mem_region(region))
     }
 
     fn remove_mem_region(
         &mut self,
         rt: &impl Wait,
         region: &VhostUserMemoryRegionInfo<'_, L::Handle>,
-    ) -> Result<()> {
-        Ok(self.inner.lock(rt).remove_mem_region(region)?)
+    ) -> Result<()>
+        ensures { Turn (Whole L.event (call.RemoveMemRegion (info_in region.now)) (λ _. call.Nothing)) result }
+    {
+        within(self.inner.lock(rt).remove_mem_region(region))
     }
 
-    fn get_shmem_config(&mut self, rt: &impl Wait) -> Result<VhostUserShMemConfig> {
-        Ok(self.inner.lock(rt).get_shmem_config()?)
+    fn get_shmem_config(&mut self, rt: &impl Wait) -> Result<VhostUserShMemConfig>
+        ensures { Turn (Whole L.event call.GetShmemConfig call.ShmemOf) result }
+    {
+        within(self.inner.lock(rt).get_shmem_config())
     }
 
     fn set_device_state_fd(
@@ -235,31 +301,53 @@ impl<L: Link> VhostUserFrontend for Frontend<L> {
         direction: VhostTransferStateDirection,
         phase: VhostTransferStatePhase,
         fd: L::Handle,
-    ) -> Result<Option<L::Handle>> {
-        Ok(
+    ) -> Result<Option<L::Handle>>
+        ensures { Turn (Whole L.event (call.SetDeviceStateFd (record { direction = direction_number direction; phase = phase_number phase }) fd) call.StateHandle) result }
+    {
+        within(
             self.inner
                 .lock(rt)
-                .set_device_state_fd(direction, phase, &fd)?,
+                .set_device_state_fd(direction, phase, &fd),
         )
     }
 
-    fn check_device_state(&self, rt: &impl Wait) -> Result<()> {
-        Ok(self.inner.lock(rt).check_device_state()?)
+    fn check_device_state(&self, rt: &impl Wait) -> Result<()>
+        ensures { Turn (Whole L.event call.CheckDeviceState (λ _. call.Nothing)) result }
+    {
+        within(self.inner.lock(rt).check_device_state())
     }
 
-    fn postcopy_advise(&mut self, rt: &impl Wait) -> Result<L::Handle> {
-        Ok(self.inner.lock(rt).postcopy_advise()?)
+    fn postcopy_advise(&mut self, rt: &impl Wait) -> Result<L::Handle>
+        ensures { Turn (Whole L.event call.PostcopyAdvise call.HandleOf) result }
+    {
+        within(self.inner.lock(rt).postcopy_advise())
     }
 
-    fn postcopy_listen(&mut self, rt: &impl Wait) -> Result<()> {
-        Ok(self.inner.lock(rt).postcopy_listen()?)
+    fn postcopy_listen(&mut self, rt: &impl Wait) -> Result<()>
+        ensures { Turn (Whole L.event call.PostcopyListen (λ _. call.Nothing)) result }
+    {
+        within(self.inner.lock(rt).postcopy_listen())
     }
 
-    fn postcopy_end(&mut self, rt: &impl Wait) -> Result<()> {
-        Ok(self.inner.lock(rt).postcopy_end()?)
+    fn postcopy_end(&mut self, rt: &impl Wait) -> Result<()>
+        ensures { Turn (Whole L.event call.PostcopyEnd (λ _. call.Nothing)) result }
+    {
+        within(self.inner.lock(rt).postcopy_end())
     }
 
-    fn postcopy_ack_mem_regions(&mut self, rt: &impl Wait, code: FrontendReq) -> Result<()> {
-        Ok(self.inner.lock(rt).postcopy_ack_mem_regions(code)?)
+    fn postcopy_ack_mem_regions(&mut self, rt: &impl Wait, code: FrontendReq) -> Result<()>
+        ensures { Turn (Whole L.event (call.PostcopyAckMemRegions code) (λ _. call.Nothing)) result }
+    {
+        within(self.inner.lock(rt).postcopy_ack_mem_regions(code))
+    }
+}
+
+/// What the protocol answered, as the answer of a vhost device.
+fn within<A: Drop>(answer: vhost_message::Result<A>) -> Result<A>
+    ensures { result ≡ answer_within answer }
+{
+    match answer {
+        Ok(answer) => Ok(answer),
+        Err(error) => Err(error.into()),
     }
 }

@@ -34,8 +34,8 @@ mod transfer;
 #[derive(Drop)]
 pub struct Quiet<L: Link> {
     /// The session.
-    pub inner: FrontendInternal<L>,
-    pub ghost quiet: { awaits inner ≡ Nobody },
+    pub(crate) inner: FrontendInternal<L>,
+    ghost quiet: { awaits inner ≡ Nobody },
 }
 
 impl<L: Link> Quiet<L> {

@@ -44,7 +44,7 @@ pub struct FrontendInternal<L: Link> {
     endpoint: Endpoint<Header, L>,
     session: FrontendSession,
     /// What is awaited of the request that was sent last.
-    pub awaited: Awaited,
+    awaited: Awaited,
     alloc: Global,
 }
 
@@ -82,6 +82,13 @@ impl<L: Link> FrontendInternal<L> {
     {
         let session = &mut self.session;
         session.header_flags = flags.bits();
+    }
+
+    /// What is awaited of the request that was sent last.
+    pub fn awaited(&self) -> Awaited
+        ensures { result ≡ awaits self.now }
+    {
+        self.awaited
     }
 
     /// Whether the last call that sent or received met a fault: the link failed, or retried once too often.

@@ -49,7 +49,7 @@ impl<L: Link> FrontendInternal<L> {
         ensures taken { (offset flags : ℕ) (buffer : List ℕ) → TakesAck L.event (call.SetConfig offset flags buffer) sent self.old result self.new }
         ensures quiet { awaits self.new ≡ Nobody }
     {
-        self.take_ack(sent)
+        self.take_done(sent)
     }
 }
 

@@ -57,7 +57,7 @@ impl<L: Link> FrontendInternal<L> {
         ensures taken { (features : ℕ) → TakesAck L.event (call.SetFeatures features) sent self.old result self.new }
         ensures quiet { awaits self.new ≡ Nobody }
     {
-        self.take_ack(sent)
+        self.take_done(sent)
     }
 
     /// Asks for the protocol features that the device offers.
@@ -94,7 +94,7 @@ impl<L: Link> FrontendInternal<L> {
         ensures taken { (features : ℕ) → TakesAck L.event (call.SetProtocolFeatures features) sent self.old result self.new }
         ensures quiet { awaits self.new ≡ Nobody }
     {
-        self.take_ack(sent)
+        self.take_done(sent)
     }
 
     /// Asks how many queues the device has at most.

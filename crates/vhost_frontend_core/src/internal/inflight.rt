@@ -60,6 +60,6 @@ impl<L: Link> FrontendInternal<L> {
         ensures taken { (inflight : VhostUserInflight) (handle : L.Handle) → TakesAck L.event (call.SetInflightFd inflight handle) sent self.old result self.new }
         ensures quiet { awaits self.new ≡ Nobody }
     {
-        self.take_ack(sent)
+        self.take_done(sent)
     }
 }

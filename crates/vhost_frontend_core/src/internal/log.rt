@@ -76,6 +76,6 @@ impl<L: Link> FrontendInternal<L> {
         ensures taken { (handle : L.Handle) → TakesAck L.event (call.SetLogFd handle) sent self.old result self.new }
         ensures quiet { awaits self.new ≡ Nobody }
     {
-        self.take_ack(sent)
+        self.take_done(sent)
     }
 }

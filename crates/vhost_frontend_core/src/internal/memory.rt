@@ -132,7 +132,7 @@ impl<L: Link> FrontendInternal<L> {
         ensures taken { (info : call.Info L.Handle) → TakesAck L.event (call.RemoveMemRegion info) sent self.old result self.new }
         ensures quiet { awaits self.new ≡ Nobody }
     {
-        self.take_ack(sent)
+        self.take_done(sent)
     }
 }
 

@@ -26,7 +26,7 @@ impl<L: Link> FrontendInternal<L> {
         ensures taken { TakesAck L.event call.SetOwner sent self.old result self.new }
         ensures quiet { awaits self.new ≡ Nobody }
     {
-        self.take_ack(sent)
+        self.take_done(sent)
     }
 
     /// Gives the session up.
@@ -41,7 +41,7 @@ impl<L: Link> FrontendInternal<L> {
         ensures taken { TakesAck L.event call.ResetOwner sent self.old result self.new }
         ensures quiet { awaits self.new ≡ Nobody }
     {
-        self.take_ack(sent)
+        self.take_done(sent)
     }
 
     /// Asks for the device to be reset.
@@ -58,6 +58,6 @@ impl<L: Link> FrontendInternal<L> {
         ensures taken { TakesAck L.event call.ResetDevice sent self.old result self.new }
         ensures quiet { awaits self.new ≡ Nobody }
     {
-        self.take_ack(sent)
+        self.take_done(sent)
     }
 }

@@ -4,7 +4,8 @@ ghost use Rattle.std.specs.Prelude.{◌≡◌, ◌≤◌, List};
 ghost use Rattle.vhost_message.specs.declared.limits.TheConstants.{MAX_MSG_SIZE};
 ghost use Rattle.vhost_message.specs.MsgHeader.{fields_of};
 ghost use Rattle.vhost_protocol.specs.declared.asked.Awaited.TheVariants.{Nobody};
-ghost use Rattle.vhost_protocol.specs.AnswerTable.{with_one};
+ghost use Rattle.vhost_protocol.specs.AnswerTable.{after_success, plain_value, with_one};
+ghost use Rattle.vhost_protocol.specs.FrontendCall.{FrontendCall, Nothing};
 ghost use Rattle.vhost_protocol.specs.Error.{seen_result};
 ghost use Rattle.vhost_connection.specs.Calls.{HandsOver};
 
@@ -16,6 +17,7 @@ use vhost_protocol::Awaited;
 
 impl<L: Link> FrontendInternal<L> {
     ghost use Rattle.vhost_frontend_core.specs.Frontend.{endpoint_of, session_of, awaits};
+    ghost use Rattle.vhost_frontend_core.specs.Halves.{TakesAck};
     ghost use Rattle.vhost_frontend_core.specs.Taking.{Recvs, Awaits, AwaitsAlone, AwaitsOne, RecvsAck, Acks};
 
     /// Receives the reply for a request: a record, and the handles.
@@ -49,6 +51,14 @@ impl<L: Link> FrontendInternal<L> {
             Awaited::Nobody => Ok(()),
             _ => self.recv_ack(&request),
         }
+    }
+
+    /// The same of a call that has nothing else to answer, and leaves the session as it is.
+    pub(crate) fn take_done(&mut self, sent: Sent) -> Result<()>
+        ensures taken { (call : FrontendCall L.Handle) → plain_value call ≡ Nothing → after_success (session_of self.old) call ≡ session_of self.old → TakesAck L.event call sent self.old result self.new }
+        ensures quiet { awaits self.new ≡ Nobody }
+    {
+        self.take_ack(sent)
     }
 
     /// Receives an acknowledgement of a request.

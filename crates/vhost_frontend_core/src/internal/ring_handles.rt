@@ -28,7 +28,7 @@ impl<L: Link> FrontendInternal<L> {
         ensures taken { (index : ℕ) (handle : L.Handle) → TakesAck L.event (call.SetVringCall index handle) sent self.old result self.new }
         ensures quiet { awaits self.new ≡ Nobody }
     {
-        self.take_ack(sent)
+        self.take_done(sent)
     }
 
     /// Gives the handle by which the driver tells that it added descriptors.
@@ -45,7 +45,7 @@ impl<L: Link> FrontendInternal<L> {
         ensures taken { (index : ℕ) (handle : L.Handle) → TakesAck L.event (call.SetVringKick index handle) sent self.old result self.new }
         ensures quiet { awaits self.new ≡ Nobody }
     {
-        self.take_ack(sent)
+        self.take_done(sent)
     }
 
     /// Gives the handle by which the device tells of an error.
@@ -62,6 +62,6 @@ impl<L: Link> FrontendInternal<L> {
         ensures taken { (index : ℕ) (handle : L.Handle) → TakesAck L.event (call.SetVringErr index handle) sent self.old result self.new }
         ensures quiet { awaits self.new ≡ Nobody }
     {
-        self.take_ack(sent)
+        self.take_done(sent)
     }
 }

@@ -34,7 +34,7 @@ impl<L: Link> FrontendInternal<L> {
         ensures taken { (index num : ℕ) → TakesAck L.event (call.SetVringNum index num) sent self.old result self.new }
         ensures quiet { awaits self.new ≡ Nobody }
     {
-        self.take_ack(sent)
+        self.take_done(sent)
     }
 
     /// Sets a ring's next descriptor.
@@ -51,7 +51,7 @@ impl<L: Link> FrontendInternal<L> {
         ensures taken { (index base : ℕ) → TakesAck L.event (call.SetVringBase index base) sent self.old result self.new }
         ensures quiet { awaits self.new ≡ Nobody }
     {
-        self.take_ack(sent)
+        self.take_done(sent)
     }
 
     /// Says where a ring's parts lie.
@@ -72,7 +72,7 @@ impl<L: Link> FrontendInternal<L> {
         ensures taken { (index : ℕ) (config : VringConfigData) → TakesAck L.event (call.SetVringAddr index config) sent self.old result self.new }
         ensures quiet { awaits self.new ≡ Nobody }
     {
-        self.take_ack(sent)
+        self.take_done(sent)
     }
 
     /// Asks for a ring's next descriptor; the ring stops.
@@ -109,6 +109,6 @@ impl<L: Link> FrontendInternal<L> {
         ensures taken { (index : ℕ) (enable : Bool) → TakesAck L.event (call.SetVringEnable index enable) sent self.old result self.new }
         ensures quiet { awaits self.new ≡ Nobody }
     {
-        self.take_ack(sent)
+        self.take_done(sent)
     }
 }

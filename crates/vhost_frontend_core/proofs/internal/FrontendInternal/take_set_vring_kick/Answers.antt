@@ -1,8 +1,0 @@
--- SET_VRING_KICK: its acknowledgement.
-use Rattle.std.proofs.Common.{refl}
-use Rattle.vhost_protocol.specs.FrontendCall.{SetVringKick}
-use Rattle.vhost_frontend_core.proofs.Taking.{acked}
-use Rattle.vhost_frontend_core.proofs.internal.FrontendInternal.take_set_vring_kick.Goals as goal
-
-pub returns-clause-taken : goal.returns-clause-taken
-returns-clause-taken g c index handle is = acked (SetVringKick index handle) refl refl is c.take_ack.ensures.session c.take_ack.ensures.taken
