@@ -1,13 +1,12 @@
 -- The half that asks, test by test.
-use Rattle.std.proofs.Common.{◌≡◌, ℕ, Bool, true, false, List, Option, Some, None, Result, Ok, Err, refl, sym, ap, subst}
+use Rattle.std.proofs.Common.{◌≡◌, ℕ, Bool, false, List, Result, Ok, Err, refl, sym, ap, subst}
 use Rattle.std.specs.Prelude.{⊤, IsErrAnd, if◌then◌else◌}
 use Rattle.vhost_message.specs.declared.error.Error as declared
-use Rattle.vhost_message.specs.declared.error.Error.TheVariants as code
 use Rattle.vhost_message.specs.declared.frontend_req.FrontendReq.{FrontendReq}
 use Rattle.vhost_message.specs.Bits.{has_bit}
 use Rattle.vhost_protocol.specs.Error.{Error, seen}
 use Rattle.vhost_protocol.specs.FrontendCall.{Frontend}
-use Rattle.vhost_protocol.specs.Ask.{Asked, Sends, ◌>>◌, ◌>>=◌, given, quietly}
+use Rattle.vhost_protocol.specs.Ask.{Asked, Sends, ◌>>◌, quietly}
 use Rattle.vhost_protocol.specs.declared.asked.Awaited.{Awaited}
 use Rattle.vhost_protocol.specs.Written.{Payload, Written}
 use Rattle.vhost_link.specs.Law.{Event}
@@ -81,19 +80,7 @@ module _ {L H : Type 0} {event : L → Event H → L → Type 0} where
       → w ≡ other → f' ≡ f → Tries event w asked old before result new after → Asks event (Sends other asked f) old f before result new f' after
   tried-as {asked = asked} {old} {new} {before = before} {after} {result} e same p = tried same (subst (λ (x : Written FrontendReq H). Tries event x asked old before result new after) e p)
 
-  -- an argument is there, or not
-  pub given-one : {A : Type 0} {o : Option A} (next : A → Asked H) {old new : State L H} {f f' : Frontend} {before after : Awaited} {result : Result Sent declared.Error} (a : A) → o ≡ Some a
-      → Asks event (next a) old f before result new f' after → Asks event (given o >>= next) old f before result new f' after
-  given-one next {old} {new} {f} {f'} {before} {after} {result} a is p = subst (λ (x : Asked H). Asks event x old f before result new f' after) (sym (ap (λ x. given x >>= next) is)) p
-
-  pub given-none : {A : Type 0} {o : Option A} (next : A → Asked H) {old : State L H} {f : Frontend} {before : Awaited} → o ≡ None → Asks event (given o >>= next) old f before (Err code.InvalidParam) old f before
-  given-none next is = asking.refuses (rw is refl)
-
-  -- one of two messages
-  pub then_as : {holds : Bool} {yes_asked : Asked H} (no_asked : Asked H) {old new : State L H} {f f' : Frontend} {before after : Awaited} {result : Result Sent declared.Error} → holds ≡ true
-      → Asks event yes_asked old f before result new f' after → Asks event (if holds then yes_asked else no_asked) old f before result new f' after
-  then_as {yes_asked = yes_asked} no_asked {old} {new} {f} {f'} {before} {after} {result} is p = subst (λ (b : Bool). Asks event (if b then yes_asked else no_asked) old f before result new f' after) (sym is) p
-
+  -- the second of two messages
   pub else_as : {holds : Bool} (yes_asked : Asked H) {no_asked : Asked H} {old new : State L H} {f f' : Frontend} {before after : Awaited} {result : Result Sent declared.Error} → holds ≡ false
       → Asks event no_asked old f before result new f' after → Asks event (if holds then yes_asked else no_asked) old f before result new f' after
   else_as yes_asked {no_asked} {old} {new} {f} {f'} {before} {after} {result} is p = subst (λ (b : Bool). Asks event (if b then yes_asked else no_asked) old f before result new f' after) (sym is) p

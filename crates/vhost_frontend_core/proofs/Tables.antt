@@ -1,8 +1,8 @@
 -- The loops over the regions of a table.
-use Rattle.std.proofs.Common.{◌≡◌, ◌≤◌, ◌<◌, ℕ, zero, suc, ◌+◌, ◌*◌, List, [], ◌∷◌, ◌++◌, length, take, drop, set, slice_index, slice_index_or, flat_map, map, Bor, Bool, true, false, Option, Some, None, append-nil, refl, ap, sym, ◌∙◌, arith}
+use Rattle.std.proofs.Common.{◌≡◌, ◌<◌, ℕ, ◌+◌, ◌*◌, List, [], ◌∷◌, ◌++◌, length, take, set, slice_index_or, map, Bor, Bool, true, false, Option, Some, None, refl, ap, sym, ◌∙◌, arith}
 use Rattle.std.specs.Prelude.{◌&&◌, is_some, unwrap_or}
 use Rattle.std.specs.List.{list_all, filter_map}
-use Rattle.std.proofs.lemmas.List.{drop-drop, get_or-take, length-take, map-append, take_more, take_more_set}
+use Rattle.std.proofs.lemmas.List.{length-take, map-append, take_more, take_more_set}
 use Rattle.std.proofs.lemmas.List.Elements.{filter_map-append}
 use Rattle.std.proofs.lemmas.List.Folds.{list_all-map, list_all_at}
 use Rattle.vhost_message.specs.declared.limits.TheConstants.{MEMORY_REGION_SIZE}

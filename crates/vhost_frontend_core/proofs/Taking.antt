@@ -1,5 +1,5 @@
 -- The half that takes, from what was received.
-use Rattle.std.proofs.Common.{◌≡◌, ℕ, List, [], ◌∷◌, ◌++◌, Bool, true, false, Option, Some, Result, Ok, Err, Vec, refl, sym, ap, subst, ◌∙◌}
+use Rattle.std.proofs.Common.{◌≡◌, ℕ, List, [], ◌∷◌, Bool, true, false, Option, Some, Result, Ok, Err, Vec, refl, sym, ap, subst, ◌∙◌}
 use Rattle.std.specs.Prelude.{is_some, if◌then◌else◌, ◌==◌, length, ⊤}
 use Rattle.std.specs.Global.{Global}
 use Rattle.vhost_message.specs.declared.error.Error as declared
@@ -9,7 +9,6 @@ use Rattle.vhost_message.specs.Header.{Header}
 use Rattle.vhost_message.specs.Records.{u64_at}
 use Rattle.vhost_protocol.specs.Stream.{Cell, has_some}
 use Rattle.vhost_protocol.specs.Error.{Error, InvalidParam, InvalidMessage, seen}
-use Rattle.vhost_protocol.specs.Split.{Splits}
 use Rattle.vhost_protocol.specs.FrontendCall.{FrontendCall, Frontend, Value}
 use Rattle.vhost_protocol.specs.declared.asked.Shape.{Shape}
 use Rattle.vhost_protocol.specs.declared.asked.Awaited.{Awaited}

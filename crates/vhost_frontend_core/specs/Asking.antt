@@ -1,12 +1,12 @@
 -- What the half of a frontend's call does that asks.
-use Rattle.std.specs.Prelude.{◌≡◌, ℕ, List, true, false, Result, Ok, Err, ⊤}
+use Rattle.std.specs.Prelude.{◌≡◌, ℕ, true, false, Result, Ok, Err, ⊤}
 use Rattle.vhost_message.specs.declared.error.Error as declared
 use Rattle.vhost_message.specs.declared.error.Error.TheVariants.{OutOfMemory}
 use Rattle.vhost_message.specs.declared.frontend_req.FrontendReq.{FrontendReq}
 use Rattle.vhost_message.specs.FrontendReq.{request_number}
 use Rattle.vhost_message.specs.MsgHeader.{fields_of}
 use Rattle.vhost_protocol.specs.Error.{Error, seen}
-use Rattle.vhost_protocol.specs.Written.{Payload, Written, written_cells, head_of}
+use Rattle.vhost_protocol.specs.Written.{Written, written_cells, head_of}
 use Rattle.vhost_protocol.specs.FrontendCall.{Frontend}
 use Rattle.vhost_protocol.specs.Ask as ask
 use Rattle.vhost_protocol.specs.Ask.{Asked, Sends}

@@ -1,5 +1,5 @@
 -- What the half of a frontend's call does that takes the answer.
-use Rattle.std.specs.Prelude.{◌≡◌, ℕ, ◌+◌, ◌*◌, List, [], ◌∷◌, ◌++◌, length, drop, Option, Some, Bool, true, false, ◌&&◌, ◌==◌, ⊤, Result, Ok, Err, Vec}
+use Rattle.std.specs.Prelude.{◌≡◌, ℕ, ◌+◌, ◌*◌, List, [], ◌∷◌, length, Option, Some, Bool, true, false, ◌&&◌, ◌==◌, ⊤, Result, Ok, Err, Vec}
 use Rattle.std.specs.Global.{Global}
 use Rattle.vhost_message.specs.declared.error.Error as declared
 use Rattle.vhost_message.specs.declared.error.Error.TheVariants as code
@@ -16,7 +16,7 @@ use Rattle.vhost_protocol.specs.declared.asked.Awaited.{Awaited}
 use Rattle.vhost_protocol.specs.declared.asked.Awaited.TheVariants.{Nobody, Ack}
 use Rattle.vhost_protocol.specs.AnswerTable.{Answered, answered, with_one}
 use Rattle.vhost_protocol.specs.ReplySplit.{Received, reply_split}
-use Rattle.vhost_protocol.specs.Take.{is_known, answers, take}
+use Rattle.vhost_protocol.specs.Take.{is_known, take}
 use Rattle.vhost_link.specs.Law.{Event}
 use Rattle.vhost_connection.specs.Talk.{State}
 use Rattle.vhost_connection.specs.Asking as asking
