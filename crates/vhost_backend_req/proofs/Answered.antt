@@ -1,7 +1,7 @@
 -- What a call of the channel does, step by step.
-use Rattle.std.proofs.Common.{◌≡◌, ℕ, Bool, true, false, List, [], Option, Some, None, Result, Ok, Err, refl, sym, subst}
+use Rattle.std.proofs.Common.{◌≡◌, ℕ, Bool, true, false, List, [], Option, Some, None, Result, Ok, Err, refl, sym, ap, subst, ◌∙◌}
 use Rattle.vhost_message.specs.declared.cause.IoCause.TheVariants.{Raw}
-use Rattle.std.specs.Prelude.{ℤ, if◌then◌else◌, ◌==◌}
+use Rattle.std.specs.Prelude.{ℤ, if◌then◌else◌, ◌==◌, not}
 use Rattle.vhost_message.specs.BackendReq.{backend_request_of}
 use Rattle.vhost_message.specs.declared.backend_req.BackendReq.{BackendReq}
 use Rattle.vhost_message.specs.declared.error.Error as declared
@@ -51,24 +51,24 @@ module _ {L H : Type 0} {event : L → Event H → L → Type 0} {old new : Chan
   asks-unless None b r p hs stays sends = sends refl
 
 module _ {L H : Type 0} (event : L → Event H → L → Type 0) (sent : Header) (old new : State L H) where
-  number-heard : (o : Result (Received H) Error) {result : Result ℕ IoError} → Hears event numbers old o new → reverse_understood sent o ≡ seen_io_result result → RecvsNumber event sent old result new
-  number-heard o h e = asking.heard (subst (λ x. Hears event (reverse_take true sent) old x new) e (hears-by (λ r. reverse_understood sent r) o (λ cells. refl) h))
+  number-heard : (o : Result (Received H) Error) {result : Result ℕ IoError} → Hears event numbers old o new → reverse_understood sent o ≡ seen_io_result result → ((n : ℕ) → result ≡ Ok n → new.list ≡ true) → RecvsNumber event sent old result new
+  number-heard o h e listed = asking.heard (subst (λ x. Hears event (reverse_take true sent) old x new) e (hears-by (λ r. reverse_understood sent r) o (λ cells. refl) h)) listed
 
   module _ (r : Received H) (x : Comes event (is_known_by backend_request_of) backend_request_of 8 (λ bs. true) 0 old sent r new) where
     -- 0 came
     pub number-zero : u64_at 0 r.body ≡ 0 → r.handles ≡ [] → RecvsNumber event sent old (Ok 0) new
-    number-zero zero none_came = number-heard (Ok r) x.hears (rw (x.answers, none_came, zero) refl)
+    number-zero zero none_came = number-heard (Ok r) x.hears (rw (x.answers, none_came, zero) refl) (λ n is. x.list ∙ ap (λ hs. not (has_some hs)) none_came)
 
     -- another number came
     pub number-other : (u64_at 0 r.body == 0) ≡ false → r.handles ≡ [] → RecvsNumber event sent old (Err (Of code.FrontendInternalError)) new
-    number-other some none_came = number-heard (Ok r) x.hears (rw (x.answers, none_came, some) refl)
+    number-other some none_came = number-heard (Ok r) x.hears (rw (x.answers, none_came, some) refl) (λ n is. absurd cc)
 
     -- it came with handles
     pub number-crowded : has_some r.handles ≡ true → RecvsNumber event sent old (Err (Of code.InvalidMessage)) new
-    number-crowded many = number-heard (Ok r) x.hears (rw (x.answers, many) refl)
+    number-crowded many = number-heard (Ok r) x.hears (rw (x.answers, many) refl) (λ n is. absurd cc)
 
   -- none came
   pub number-missing : {e : declared.Error} → Missing event (is_known_by backend_request_of) backend_request_of 8 (λ bs. true) 0 old sent e new → RecvsNumber event sent old (Err (Of e)) new
-  number-missing (unfit r h bad) = number-heard (Ok r) h (rw bad refl)
-  number-missing {e} (none h) = number-heard (Err (seen e)) h refl
+  number-missing (unfit r h bad) = number-heard (Ok r) h (rw bad refl) (λ n is. absurd cc)
+  number-missing {e} (none h) = number-heard (Err (seen e)) h refl (λ n is. absurd cc)
   number-missing (failed f) = asking.stopped f

@@ -18,9 +18,9 @@ use Rattle.vhost_connection.specs.Asking.{GoesOut}
 use Rattle.vhost_backend_req.specs.Channel.{Channel, backend_of}
 
 module _ {L H : Type 0} (event : L → Event H → L → Type 0) where
-  -- A number is received: the answer is that of what came; or the link failed, and the endpoint is broken.
+  -- A number is received: the answer is that of what came, and where it is success the list of handles is there again; or the link failed, and the endpoint is broken.
   pub data RecvsNumber (sent : Header) (old : State L H) : Result ℕ IoError → State L H → Type 0 where
-    heard : {result : Result ℕ IoError} {new : State L H} → Hears event (reverse_take true sent) old (seen_io_result result) new → RecvsNumber sent old result new
+    heard : {result : Result ℕ IoError} {new : State L H} → Hears event (reverse_take true sent) old (seen_io_result result) new → ((n : ℕ) → result ≡ Ok n → new.list ≡ true) → RecvsNumber sent old result new
     stopped : {e : Error} {new : State L H} → Fails event old true e new → RecvsNumber sent old (Err (Of e)) new
 
   -- The answer is taken: where none is awaited nothing is read for it.
