@@ -4,6 +4,8 @@
 
 mod joined;
 mod runs;
+mod shared;
 
 pub use joined::{begins_in_step, stays_in_step};
 pub use runs::{serves_whole, serves_whole_back};
+pub use shared::own_features;

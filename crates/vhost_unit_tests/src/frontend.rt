@@ -1,9 +1,10 @@
 //! A session between two calls, and regions of memory beside their handles.
 
 use std::test::Fail;
-use vhost_frontend::{Quiet, VhostUserMemoryContext};
+use vhost_frontend::{Frontend, Quiet, VhostUserMemoryContext};
 use vhost_link::{Cut, Kind, MemLink, PlainHandle};
 use vhost_message::{Error, IoCause, VhostUserHeaderFlag, VhostUserMemoryRegion};
+use vhost_promises::own_features;
 
 #[test]
 fn tells_of_a_fault(rt: HostRuntime) -> Result<(), Fail> {
@@ -15,6 +16,20 @@ fn tells_of_a_fault(rt: HostRuntime) -> Result<(), Fail> {
     assert!(rt; quiet.faulted());
     assert!(rt; quiet.set_owner().is_ok());
     assert!(rt; !quiet.faulted());
+    Ok(())
+}
+
+#[test]
+fn answers_its_own_caller(rt: HostRuntime) -> Result<(), Fail> {
+    let alloc = rt.alloc();
+    let mut link = MemLink::new(alloc, Vec::new(alloc));
+    let features = [
+        1, 0, 0, 0, 5, 0, 0, 0, 8, 0, 0, 0, 1, 0, 0, 0x40, 0, 0, 0, 0,
+    ];
+    link.push(&features, &[])?;
+    let frontend = Frontend::from_stream(alloc, link, 1, 0)?;
+    assert!(rt; matches!(own_features(&frontend, &rt), Ok(0x4000_0001)));
+    assert!(rt; own_features(&frontend, &rt).is_err());
     Ok(())
 }
 
