@@ -2,10 +2,12 @@
 //! caller can use it.
 #![tactic(auto)]
 
+mod endpoints;
 mod joined;
 mod runs;
 mod shared;
 
+pub use endpoints::sends_in_one;
 pub use joined::{begins_in_step, stays_in_step};
 pub use runs::{serves_whole, serves_whole_back};
 pub use shared::own_features;
