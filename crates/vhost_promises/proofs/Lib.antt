@@ -1,3 +1,6 @@
 pub mod Whole
 pub mod Lockstep
 pub mod OwnAnswer
+pub mod Calls
+pub mod FrontendAnswers
+pub mod DisplayAnswers

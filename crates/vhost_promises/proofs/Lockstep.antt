@@ -1,5 +1,5 @@
 -- The lockstep of calls that were all done.
-use Rattle.std.proofs.Common.{◌≡◌, Bool, List, [], Option, Some, None, Result, Ok, Err, inl, inr}
+use Rattle.std.proofs.Common.{◌≡◌, Bool, List, [], Some, None, Result, Ok, Err, inl, inr}
 use Rattle.std.specs.Prelude.{◌⊎◌, ⊤}
 use Rattle.vhost_frontend_calls.specs.declared.answer.FrontendAnswer.{FrontendAnswer}
 use Rattle.vhost_frontend_calls.specs.declared.call.FrontendCall.{FrontendCall}

@@ -1,7 +1,6 @@
 -- Whole runs, as a caller of a handler derives them.
 use Rattle.std.specs.Prelude.{◌≡◌, ℕ, Bool, true, false, List, length, Result, Ok, Err, ⊤}
 use Rattle.vhost_message.specs.BackendReq.{backend_request_of}
-use Rattle.vhost_message.specs.declared.backend_req.BackendReq.{BackendReq}
 use Rattle.vhost_message.specs.declared.error.Error.{Error}
 use Rattle.vhost_message.specs.declared.error.Error.TheVariants.{SocketError, SocketBroken, SocketConnect, SocketRetry, OutOfMemory}
 use Rattle.vhost_message.specs.FrontendReq.{request_of}

@@ -2,11 +2,13 @@
 //! caller can use it.
 #![tactic(auto)]
 
+mod asks;
 mod endpoints;
 mod joined;
 mod runs;
 mod shared;
 
+pub use asks::{adds_object, asks_features, maps_memory, moves_cursor};
 pub use endpoints::sends_in_one;
 pub use joined::{begins_in_step, stays_in_step};
 pub use runs::{serves_whole, serves_whole_back};
