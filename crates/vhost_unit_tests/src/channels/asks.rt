@@ -10,6 +10,7 @@ use vhost_backend_req::{Backend, BackendInternal};
 use vhost_frontend_req_handler::VhostUserFrontendReqHandler;
 use vhost_link::{Kind, Link, MemLink, PlainHandle};
 use vhost_message::{Error, HandlerResult, IoCause, IoError, VhostUserMMap, VhostUserSharedMsg};
+use vhost_promises::{adds_object, maps_memory};
 
 const HANDLE: PlainHandle = PlainHandle {
     id: 7,
@@ -87,7 +88,7 @@ fn added(
 {
     let mut channel = channel(alloc, coming, handles)?;
     agree(&mut channel, true);
-    let answer = channel.shared_object_add(&name());
+    let answer = adds_object(&mut channel, &name());
     if written(&mut channel).0 != ADD.as_slice() {
         return Err("not written")?;
     }
@@ -106,6 +107,27 @@ fn numbers(rt: HostRuntime) -> Result<(), Fail> {
     Ok(())
 }
 
+/// What SHARED_OBJECT_ADD of the name that is none answers where nothing comes back, and whether it went out with these flags.
+fn unnamed(
+    alloc: Global,
+    reply_ack: bool,
+    flags: u8,
+) -> Result<(Result<u64, &'static str>, bool), Fail> {
+    let mut channel = channel(alloc, &[], &[])?;
+    agree(&mut channel, reply_ack);
+    let answer = adds_object(&mut channel, &VhostUserSharedMsg { uuid: Uuid::nil() });
+    let mut request = [0; 28];
+    (request[0], request[4], request[8]) = (6, flags, 16);
+    Ok((shown(answer), written(&mut channel).0 == request.as_slice()))
+}
+
+#[test]
+fn no_name(rt: HostRuntime) -> Result<(), Fail> {
+    assert_eq!(rt; unnamed(rt.alloc(), false, 1)?, (Ok(0), true));
+    assert_eq!(rt; unnamed(rt.alloc(), true, 9)?, (Err("partial"), true));
+    Ok(())
+}
+
 /// A call that nothing answers, by its place among these.
 fn asked<L: Link>(
     channel: &mut BackendInternal<L>,
@@ -116,7 +138,7 @@ fn asked<L: Link>(
     shown(match call {
         0 => channel.handle_config_change(),
         1 => channel.shared_object_lookup(&name(), handle),
-        2 => channel.shmem_map(&mapping, handle),
+        2 => maps_memory(channel, &mapping, handle),
         3 => channel.shmem_unmap(&mapping),
         _ => channel.shared_object_remove(&name()),
     })

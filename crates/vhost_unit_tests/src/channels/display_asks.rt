@@ -13,6 +13,7 @@ use vhost_gpu_message::{
 };
 use vhost_link::{Kind, Link, MemLink, PlainHandle};
 use vhost_message::{Error, HandlerResult, IoCause, IoError, VhostUserU64};
+use vhost_promises::{asks_features, moves_cursor};
 
 const EDID: VhostUserGpuEdidRequest = VhostUserGpuEdidRequest { scanout_id: 1 };
 
@@ -74,7 +75,7 @@ fn tells(
     shown(match call {
         0 => channel.set_protocol_features(&VhostUserU64::new(1)),
         1 => channel.set_scanout(&VhostUserGpuScanout::default()),
-        2 => channel.cursor_pos(&cursor),
+        2 => moves_cursor(channel, &cursor),
         3 => channel.cursor_pos_hide(&cursor),
         4 => channel.cursor_update(&VhostUserGpuCursorUpdate::default(), pixels),
         5 => channel.update_scanout(&update, &pixels[..4096]),
@@ -122,7 +123,7 @@ fn features(
     requires { length handles.now ≤ MAX_ATTACHED_FD_ENTRIES }
 {
     let mut channel = channel(alloc, coming, handles)?;
-    let answer = match shown(channel.get_protocol_features()) {
+    let answer = match shown(asks_features(&mut channel)) {
         Ok(features) => Ok(features.value),
         Err(place) => Err(place),
     };

@@ -156,6 +156,24 @@ fn handles(rt: HostRuntime) -> Outcome<()> {
     Ok(())
 }
 
+/// Whether SHARED_OBJECT_ADD of the name that is none, with these flags, is refused in silence.
+fn unnamed(alloc: Global, flags: u8) -> Outcome<bool> {
+    let mut request = [0; 28];
+    (request[0], request[4], request[8]) = (6, flags, 16);
+    let mut core = FrontendReqCore::new(alloc, coming(alloc, &request, &[])?, 0)?;
+    core.set_reply_ack_flag(true);
+    let answer = shown(core.handle_request(&mut OneName::default()));
+    let silent = core.endpoint_mut().link().taken().bytes().is_empty();
+    Ok(answer == Err(-1) && silent)
+}
+
+#[test]
+fn no_name(rt: HostRuntime) -> Outcome<()> {
+    assert!(rt; unnamed(rt.alloc(), 1)?);
+    assert!(rt; unnamed(rt.alloc(), 9)?);
+    Ok(())
+}
+
 #[test]
 fn shared(rt: HostRuntime) -> Outcome<()> {
     let alloc: Global = rt.alloc();
