@@ -4,3 +4,4 @@ pub mod OwnAnswer
 pub mod Calls
 pub mod FrontendAnswers
 pub mod DisplayAnswers
+pub mod Unserved

@@ -1,11 +1,12 @@
 //! Whole runs of a handler.
 
-ghost use Rattle.std.specs.Prelude.{◌≡◌, false, IfOk};
+ghost use Rattle.std.specs.Prelude.{◌≡◌, None, Some, false, IfOk};
+ghost use Rattle.vhost_message.specs.declared.cause.IoCause.{IoCause};
 ghost use Rattle.std.specs.List.{list_any};
 ghost use Rattle.vhost_backend_req_handler.specs.Core.{endpoint_of, session_in};
 ghost use Rattle.vhost_backend_req_handler.specs.Opening.{OpensAs};
 ghost use Rattle.vhost_frontend_req_handler.specs.Core.{endpoint_of as endpoint_back, server_in};
-ghost use Rattle.vhost_promises.specs.Runs.{WholeBack, WholeServed, answer_of_link};
+ghost use Rattle.vhost_promises.specs.Runs.{Unserved, WholeBack, WholeServed, answer_of_link};
 
 use std::alloc::Global;
 use vhost_backend_req_handler::SessionCore;
@@ -43,4 +44,27 @@ pub fn serves_whole_back<L: Link, D: VhostUserFrontendReqHandlerMut<Handle = L::
     let mut answers = Vec::new(alloc);
     core.run(count, device, &mut answers)?;
     Ok(answers)
+}
+
+/// Serves one request of a frontend, of a session that is not marked as failed. Where its endpoint is broken, the answer says why,
+/// and neither the session nor the device has changed.
+pub fn serves_no_broken<L: Link, D: VhostUserBackendReqHandlerMut<Link = L>>(
+    core: &mut SessionCore<L>,
+    device: &mut D,
+) -> Result<()>
+    ensures { (session_in core.old).failed ≡ None → (c : IoCause) → (endpoint_of core.old).broken ≡ Some c
+        → Unserved (endpoint_of core.old) (session_in core.old) device.old c result (endpoint_of core.new) (session_in core.new) device.new }
+{
+    core.handle_request(device)
+}
+
+/// The same of a device's requests to its frontend.
+pub fn serves_no_broken_back<L: Link, D: VhostUserFrontendReqHandlerMut<Handle = L::Handle>>(
+    core: &mut FrontendReqCore<L>,
+    device: &mut D,
+) -> Result<u64>
+    ensures { (server_in core.old).failed ≡ None → (c : IoCause) → (endpoint_back core.old).broken ≡ Some c
+        → Unserved (endpoint_back core.old) (server_in core.old) device.old c result (endpoint_back core.new) (server_in core.new) device.new }
+{
+    core.handle_request(device)
 }

@@ -15,7 +15,7 @@ use vhost_link::{Kind, Link, MemLink, PlainHandle};
 use vhost_message::{
     Error, HandlerResult, IoCause, IoError, Result, VhostUserMMap, VhostUserSharedMsg,
 };
-use vhost_promises::serves_whole_back;
+use vhost_promises::{serves_no_broken_back, serves_whole_back};
 
 const HANDLE: PlainHandle = PlainHandle {
     id: 7,
@@ -153,6 +153,19 @@ fn stays_unread(alloc: Global, handles: &[PlainHandle]) -> Outcome<bool>
 fn handles(rt: HostRuntime) -> Outcome<()> {
     assert!(rt; stays_unread(rt.alloc(), &[])?);
     assert!(rt; stays_unread(rt.alloc(), &[HANDLE, HANDLE])?);
+    Ok(())
+}
+
+/// What a request is answered where the endpoint is broken.
+fn unserved(alloc: Global) -> Outcome<std::result::Result<u64, i32>> {
+    let mut core = FrontendReqCore::new(alloc, coming(alloc, &ADD, &[])?, 0)?;
+    core.endpoint_mut().break_with(IoCause::Raw(5));
+    Ok(shown(serves_no_broken_back(&mut core, &mut OneName::default())))
+}
+
+#[test]
+fn broken(rt: HostRuntime) -> Outcome<()> {
+    assert_eq!(rt; unserved(rt.alloc())?, Err(5));
     Ok(())
 }
 

@@ -1,0 +1,12 @@
+-- A broken endpoint of a frontend that is asked.
+use Rattle.vhost_message.specs.BackendReq.{backend_request_of}
+use Rattle.vhost_protocol.specs.Reverse.{ReverseMeets, Server, backend_allows_handles}
+use Rattle.vhost_frontend_req_handler.specs.Core.{endpoint_of, server_in}
+use Rattle.vhost_frontend_req_handler.specs.Handling.{fitting, kept}
+use Rattle.vhost_promises.proofs.Unserved.{unserved}
+use Rattle.vhost_promises.proofs.runs.serves_no_broken_back.Goals as goal
+
+pub returns : goal.returns
+returns g c none cause broken =
+    unserved g.L.Link.event backend_request_of backend_allows_handles (λ (t : Server). t.failed) kept (ReverseMeets (fitting g.D.VhostUserFrontendReqHandlerMut.gives))
+    (endpoint_of c.args.core.now) (server_in c.args.core.now) c.args.device.now _ _ _ _ cause broken (c.handle_request.ensures.handled none)
