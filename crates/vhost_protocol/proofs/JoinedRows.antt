@@ -9,8 +9,8 @@ use Rattle.vhost_protocol.specs.AnswerTable.{Answered, answer}
 use Rattle.vhost_protocol.specs.Ask.{Asked, Refuses, Answers, Sends, ask}
 use Rattle.vhost_protocol.specs.DeviceCall as device
 use Rattle.vhost_protocol.specs.DeviceCall.{Call, Answer}
-use Rattle.vhost_protocol.specs.Error.{Error, InvalidOperation, InvalidParam, BackendInternalError, PartialMessage}
-use Rattle.vhost_protocol.specs.FrontendCall.{FrontendCall, Info, GetFeatures, SetOwner, GetProtocolFeatures, GetQueueNum, GetVringBase, GetConfig, SetMemTable, AddMemRegion, GetInflightFd, SetDeviceStateFd, PostcopyAdvise, PostcopyListen, PostcopyEnd, PostcopyAckMemRegions, SetVringCall, SetFeatures, SetProtocolFeatures, SetHdrFlags, Value, Nothing, Number, Bases, Base, ConfigOf, HandleOf, InflightOf, StateHandle, Frontend, new_frontend, SetVringBase, SetBackendRequestFd}
+use Rattle.vhost_protocol.specs.Error.{Error, InvalidOperation, InvalidParam, InactiveOperation, BackendInternalError, PartialMessage}
+use Rattle.vhost_protocol.specs.FrontendCall.{FrontendCall, Info, GetFeatures, SetOwner, GetProtocolFeatures, GetQueueNum, GetVringBase, GetConfig, SetMemTable, AddMemRegion, GetInflightFd, SetDeviceStateFd, PostcopyAdvise, PostcopyListen, PostcopyEnd, PostcopyAckMemRegions, SetVringCall, SetFeatures, SetProtocolFeatures, SetHdrFlags, Value, Nothing, Number, Bases, Base, ConfigOf, HandleOf, InflightOf, StateHandle, Frontend, new_frontend, SetVringBase, SetBackendRequestFd, SetMtu}
 use Rattle.vhost_protocol.specs.Joined.{read_as, is_last}
 use Rattle.vhost_protocol.specs.Row.{row}
 use Rattle.vhost_protocol.specs.Served.{reply}
@@ -128,6 +128,32 @@ known_config = refl
 protocol_features : (shows (sides 0 0) GetProtocolFeatures).result ≡ Some (Ok (Number 0x7fffff))
 unfolding shows line outcome_of opens text_of example sides session_of
 protocol_features = refl
+
+-- the greatest size of a packet
+mtu : shows (sides 0x18 8) (SetMtu 1500)
+    ≡ record {
+      request = (0x14 ∷ 0 ∷ 0 ∷ 0 ∷ 9 ∷ 0 ∷ 0 ∷ 0 ∷ 8 ∷ 0 ∷ 0 ∷ 0 ∷ 0xdc ∷ 5 ∷ replicate 6 0, []);
+      reply = (0x14 ∷ 0 ∷ 0 ∷ 0 ∷ 5 ∷ 0 ∷ 0 ∷ 0 ∷ 8 ∷ replicate 11 0, []);
+      result = Some (Ok Nothing);
+      frontend = sides 0x18 8;
+      session = session_of (sides 0x18 8);
+      last = false;
+    }
+unfolding shows line outcome_of opens text_of example sides session_of
+mtu = refl
+
+mtu_unknown : (shows (sides 8 8) (SetMtu 1500)).result ≡ Some (Err (InactiveOperation 0x10))
+unfolding shows line outcome_of opens text_of example sides session_of
+mtu_unknown = refl
+
+-- one of more than 16 bits is refused in silence, which is the last step
+mtu_too_large : (shows (sides 0x18 8) (SetMtu 65536)).result ≡ Some (Err PartialMessage)
+unfolding shows line outcome_of opens text_of example sides session_of
+mtu_too_large = refl
+
+mtu_too_large_is_last : (shows (sides 0x18 8) (SetMtu 65536)).last ≡ true
+unfolding shows line outcome_of opens text_of example sides session_of
+mtu_too_large_is_last = refl
 
 -- where a second owner is refused: acknowledged as an error, and the run goes on
 claimed : (c : Call ℕ ℕ ℕ) → Answer c

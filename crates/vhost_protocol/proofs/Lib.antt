@@ -15,6 +15,7 @@ mod TakeRows
 mod TableRows
 mod JoinedRows
 mod ReverseRows
+mod JoinedReverseRows
 mod GpuRows
 pub mod TakeShapes
 pub mod RegionLaws

@@ -59,6 +59,7 @@ pub data FrontendCall (H : Type 0) : Type 0 where
   PostcopyListen : FrontendCall H
   PostcopyEnd : FrontendCall H
   PostcopyAckMemRegions : FrontendReq → FrontendCall H
+  SetMtu : (mtu : ℕ) → FrontendCall H
   SetHdrFlags : (flags : ℕ) → FrontendCall H
 
 -- what a call that succeeds may answer

@@ -1,5 +1,5 @@
 -- Frontend and handler joined: each call's message, its row and the answer; in step, and the last step.
-use Rattle.std.specs.Prelude.{◌≡◌, Bool, true, false, ◌&&◌, ◌||◌, List, [], ◌∷◌, Some, Result, Ok, Err, is_err, bit_and}
+use Rattle.std.specs.Prelude.{◌≡◌, Bool, true, false, ◌&&◌, ◌||◌, List, [], ◌∷◌, Option, Some, None, Result, Ok, Err, is_err, bit_and, ⊤}
 use Rattle.vhost_message.specs.declared.frontend_req.FrontendReq.{FrontendReq}
 use Rattle.vhost_message.specs.declared.frontend_req.FrontendReq.TheVariants.{POSTCOPY_END}
 use Rattle.vhost_message.specs.FrontendReq.{request_number}
@@ -50,16 +50,17 @@ is_last r o = is_err o.answer && (is_silent o.served || is_end r)
 abbrev pub read_as : {R H : Type 0} → Written R H → Message R H
 read_as w = record { request = w.request; reply = w.reply; need_reply = w.need_reply; body = payload_text w.payload; handles = w.handles }
 
--- what a joined step shows: the request, the reply, the caller's answer, and whether the run stops there
+-- what a joined step shows: the request, the handler's answer where it served one, the reply, the caller's answer, and whether the run stops there
 pub record Shown (H : Type 0) : Type 0 where
   pub request : List (Cell H)
+  pub handled : Option (Result ⊤ Error)
   pub reply : List (Cell H)
   pub result : Result (Value H) Error
   pub last : Bool
 
 -- nothing is sent
 abbrev pub unsent : {H : Type 0} → Result (Value H) Error → Shown H
-unsent result = record { request = []; reply = []; result = result; last = false }
+unsent result = record { request = []; handled = None; reply = []; result = result; last = false }
 
 module _ {H B G Dev : Type 0} (gives : Dev → (c : Call H B G) → Answer c → Dev → Type 0)
     (opens_backend : H → Result B Error → Type 0) (opens_gpu : H → Result G Error → Type 0) where
@@ -70,7 +71,7 @@ module _ {H B G Dev : Type 0} (gives : Dev → (c : Call H B G) → Answer c →
   Exchanges f s d call (Sends w awaited g) shown f' s' d' =
       (o : Outcome H) × Meets gives opens_backend opens_gpu s d (read_as w) o d' × (s' ≡ o.session)
       × (answer call awaited g o.served ≡ Some (record { result = shown.result; session = f' }))
-      × (shown.request ≡ written_cells request_number w) × (shown.reply ≡ cells_of request_number (reply w.request o.served))
+      × (shown.request ≡ written_cells request_number w) × (shown.handled ≡ Some o.answer) × (shown.reply ≡ cells_of request_number (reply w.request o.served))
       × (shown.last ≡ is_last w.request o)
 
   -- one joined step

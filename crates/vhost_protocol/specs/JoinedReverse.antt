@@ -1,6 +1,7 @@
 -- Both sides of the reverse channel joined.
-use Rattle.std.specs.Prelude.{◌≡◌, ℕ, Bool, true, false, List, [], ◌∷◌, Some, Result, Ok, Err}
+use Rattle.std.specs.Prelude.{◌≡◌, ℕ, Bool, true, false, List, [], ◌∷◌, Option, Some, None, Result, Ok, Err}
 use Rattle.vhost_message.specs.BackendReq.{backend_request_number}
+use Rattle.vhost_protocol.specs.Error.{Error}
 use Rattle.vhost_protocol.specs.IoError.{IoError}
 use Rattle.vhost_protocol.specs.Joined.{read_as}
 use Rattle.vhost_protocol.specs.Reverse.{ReverseCall, Backend, ReverseAsked, Refuses, Sends, reverse_ask, reverse_answer, Server, ReverseOutcome, reverse_row, ReverseFollows, is_reverse_last}
@@ -16,22 +17,25 @@ pub data ReverseInput (H : Type 0) : Type 0 where
   SetConfigChange : Bool → ReverseInput H
   Asks : ReverseCall H → ReverseInput H
 
--- in step: nothing is awaited, and nothing is on the way
-pub record ReverseInStep {H : Type 0} (awaited : Bool) (to_server to_backend : List (Cell H)) : Type 0 where
-  pub nobody : awaited ≡ false
+-- in step: both have the same flag for acknowledgements, neither failed, and nothing is on the way
+pub record ReverseInStep {H : Type 0} (b : Backend) (s : Server) (to_server to_backend : List (Cell H)) : Type 0 where
+  pub agree : b.reply_ack ≡ s.reply_ack
+  pub asks : b.failed ≡ None
+  pub serves : s.failed ≡ None
   pub no_request : to_server ≡ []
   pub no_reply : to_backend ≡ []
 
--- what a joined step shows: the request, the reply, the caller's answer, and whether the run stops there
+-- what a joined step shows: the request, the serving side's answer where it served one, the reply, the caller's answer, and whether the run stops there
 pub record ReverseShown (H : Type 0) : Type 0 where
   pub request : List (Cell H)
+  pub handled : Option (Result ℕ Error)
   pub reply : List (Cell H)
   pub result : Result ℕ IoError
   pub last : Bool
 
 -- nothing is sent
 abbrev pub reverse_unsent : {H : Type 0} → Result ℕ IoError → ReverseShown H
-reverse_unsent result = record { request = []; reply = []; result = result; last = false }
+reverse_unsent result = record { request = []; handled = None; reply = []; result = result; last = false }
 
 module _ {H Dev : Type 0} (gives : Dev → ReverseCall H → Result ℕ IoError → Dev → Type 0) where
   -- what a call becomes: a refusal, or a message that meets its row, and the answer
@@ -40,7 +44,7 @@ module _ {H Dev : Type 0} (gives : Dev → ReverseCall H → Result ℕ IoError 
   ReverseExchanges s d (Sends w awaited) shown d' =
       (o : ReverseOutcome H) × ReverseFollows gives d (reverse_row s (read_as w)) o d'
       × (reverse_answer awaited o.served ≡ Some shown.result)
-      × (shown.request ≡ written_cells backend_request_number w) × (shown.reply ≡ cells_of backend_request_number (reply w.request o.served))
+      × (shown.request ≡ written_cells backend_request_number w) × (shown.handled ≡ Some o.answer) × (shown.reply ≡ cells_of backend_request_number (reply w.request o.served))
       × (shown.last ≡ is_reverse_last o)
 
   -- one joined step
