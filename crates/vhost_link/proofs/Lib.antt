@@ -6,3 +6,6 @@ pub mod Flowing
 pub mod Handing
 pub mod MemStream
 pub mod MemUse
+pub mod Piecing
+pub mod Ringing
+pub mod RingStream

@@ -3,3 +3,6 @@ pub mod Cuts
 pub mod Ends
 pub mod Marks
 pub mod Mem
+pub mod Pieces
+pub mod Rings
+pub mod Unix

@@ -24,7 +24,7 @@ abbrev pub is_uncut : Ends → Type 0
 is_uncut link = link.script ≡ []
 
 -- a duplicate is always refused
-abbrev pub refuses_duplicate : Result Ends IoCause → Type 0
+abbrev pub refuses_duplicate : {S : Type 0} → Result S IoCause → Type 0
 refuses_duplicate (Ok l) = ⊥
 refuses_duplicate (Err (Raw e)) = ⊥
 refuses_duplicate (Err (Named name)) = name.now ≡ codes "link cannot be duplicated"
