@@ -10,3 +10,4 @@ pub mod Bare
 pub mod Requests
 pub mod Asking
 pub mod Serving
+pub mod Sockets

@@ -7,8 +7,10 @@ mod bare;
 mod receives;
 mod requests;
 mod sends;
+mod sockets;
 
-use crate::buffer::{ReadAhead, Source};
+use crate::buffer::Source;
+use crate::buffers::Buffers;
 use crate::list::HandleList;
 use std::alloc::Global;
 use std::marker::PhantomData;
@@ -60,19 +62,25 @@ impl<M: MsgHeader, L: Link> Endpoint<M, L> {
     /// An endpoint over a link, with a budget of retries for each message.
     ///
     /// OutOfMemory: a growth was refused.
-    #[tactic(auto, unfolding(crate::specs::State::ahead_of))]
     pub fn from_stream(alloc: Global, link: L, budget: u32) -> Result<Self>
         ensures opened { IfOk result (λ e. state e ≡ fresh link budget) }
         ensures memory { IfErr result (λ e. e ≡ OutOfMemory) }
     {
-        let (Ok(ahead), Ok(list), Ok(spare)) = (
-            ReadAhead::new(alloc),
-            HandleList::new(alloc),
-            HandleList::new(alloc),
-        ) else {
-            return Err(Error::OutOfMemory);
-        };
-        Ok(Endpoint {
+        Ok(Endpoint::with_buffers(Buffers::new(alloc)?, link, budget))
+    }
+
+    /// The same, with buffers that are there already.
+    #[tactic(auto, unfolding(crate::specs::State::ahead_of))]
+    pub fn with_buffers(buffers: Buffers<L::Handle>, link: L, budget: u32) -> Self
+        ensures { state result ≡ fresh link budget }
+    {
+        let Buffers {
+            ahead,
+            list,
+            spare,
+            alloc,
+        } = buffers;
+        Endpoint {
             source: Source { link, ahead },
             budget,
             left: budget,
@@ -83,7 +91,7 @@ impl<M: MsgHeader, L: Link> Endpoint<M, L> {
             text: [0; MAX_MSG_TEXT],
             alloc,
             of: PhantomData,
-        })
+        }
     }
 
     /// SocketBroken: the endpoint is broken.

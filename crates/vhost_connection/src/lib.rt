@@ -3,14 +3,18 @@
 
 mod ahead;
 mod buffer;
+mod buffers;
 mod endpoint;
 mod fault;
 mod list;
+mod listener;
 mod pass;
 mod pieces;
 mod request;
 
+pub use buffers::Buffers;
 pub use endpoint::Endpoint;
 pub use fault::break_on_fault;
+pub use listener::Listener;
 pub use pieces::get_sub_iovs_offset;
 pub use request::{Request, RequestCode};
