@@ -10,6 +10,7 @@ use Rattle.vhost_message.specs.declared.io_error.IoError.{IoError}
 use Rattle.vhost_message.specs.declared.io_error.IoError.TheVariants.{Of}
 use Rattle.vhost_message.specs.Bits.{has_bit}
 use Rattle.vhost_message.specs.Header.{Header}
+use Rattle.vhost_message.specs.MsgHeader.{fields_of}
 use Rattle.vhost_message.specs.Records.{u64_at}
 use Rattle.vhost_protocol.specs.Stream.{Cell, has_some}
 use Rattle.vhost_protocol.specs.Error.{Error, seen}
@@ -24,8 +25,10 @@ use Rattle.vhost_connection.specs.Asking.Missing.{unfit, none, failed}
 use Rattle.vhost_connection.specs.Hearing.{Hears}
 use Rattle.vhost_connection.proofs.Replies.{hears-by}
 use Rattle.vhost_backend_req.specs.Asking as asking
-use Rattle.vhost_backend_req.specs.Asking.{RecvsNumber, AsksFor}
+use Rattle.vhost_backend_req.specs.Asking.{RecvsNumber, Takes, Asks, AsksFor}
 use Rattle.vhost_backend_req.specs.Channel.{Channel}
+use Rattle.vhost_backend_req.specs.Halves as halves
+use Rattle.vhost_backend_req.specs.Halves.{Head, AsksHalf, AsksHalfFor, TakesHalf}
 
 -- a number on the stream, with the header before it
 abbrev numbers : {H : Type 0} → List (Cell H) → Result (Received H) Error × List (Cell H)
@@ -36,19 +39,40 @@ pub sends-is : {H : Type 0} (b : Backend) (r : BackendReq) (p : Payload) (hs : L
     → sends_unless None b r p hs ≡ Sends (request_with flags r p hs) awaited
 sends-is b r p hs flags awaited no_reply need same = rw (no_reply, need, same) refl
 
-module _ {L H : Type 0} {event : L → Event H → L → Type 0} {old new : Channel L H} {result : Result ℕ IoError} where
+module _ {L H : Type 0} {event : L → Event H → L → Type 0} {old new : Channel L H} {result : Result (Option Head) IoError} where
   -- what was agreed on is sent
-  pub agreed : {on : Bool} (asked not_agreed : ReverseAsked H) → on ≡ true → AsksFor event asked old result new → AsksFor event (if on then asked else not_agreed) old result new
-  agreed asked not_agreed is p = subst (λ (b : Bool). AsksFor event (if b then asked else not_agreed) old result new) (sym is) p
+  pub agreed : {on : Bool} (asked not_agreed : ReverseAsked H) → on ≡ true → AsksHalfFor event asked old result new → AsksHalfFor event (if on then asked else not_agreed) old result new
+  agreed asked not_agreed is p = subst (λ (b : Bool). AsksHalfFor event (if b then asked else not_agreed) old result new) (sym is) p
 
   -- unless the channel was marked as failed
   pub asks-unless : (mark : Option ℤ) (b : Backend) (r : BackendReq) (p : Payload) (hs : List H) → ((n : ℤ) → mark ≡ Some n → (result ≡ Err (Of (code.SocketBroken (Raw n)))) × (new ≡ old))
-      → (mark ≡ None → AsksFor event (sends_unless None b r p hs) old result new) → AsksFor event (sends_unless mark b r p hs) old result new
+      → (mark ≡ None → AsksHalfFor event (sends_unless None b r p hs) old result new) → AsksHalfFor event (sends_unless mark b r p hs) old result new
   asks-unless (Some n) b r p hs stays sends =
       let s = stays n refl in
-      subst (λ (x : Channel L H). AsksFor event (Refuses (seen_io (Of (code.SocketBroken (Raw n))))) old result x) (sym s.1)
-      (subst (λ (x : Result ℕ IoError). AsksFor event (Refuses (seen_io (Of (code.SocketBroken (Raw n))))) old x old) (sym s.0) (asking.refused refl, refl))
+      subst (λ (x : Channel L H). AsksHalfFor event (Refuses (seen_io (Of (code.SocketBroken (Raw n))))) old result x) (sym s.1)
+      (subst (λ (x : Result (Option Head) IoError). AsksHalfFor event (Refuses (seen_io (Of (code.SocketBroken (Raw n))))) old x old) (sym s.0) (halves.refuses refl, refl))
   asks-unless None b r p hs stays sends = sends refl
+
+module _ {L H : Type 0} (event : L → Event H → L → Type 0) (asked : ReverseAsked H) where
+  unsent-half : {old new : State L H} (e : IoError) → AsksHalf event asked old (Err e) new → Asks event asked old (Err e) new
+  unsent-half _ (halves.refuses is) = asking.refused is
+  unsent-half _ (halves.fails is f) = asking.unsent is f
+
+  takes-half : (mid : State L H) (result : Result ℕ IoError) (new : State L H) (head : Head) (awaited : Bool) → TakesHalf event (if awaited then Some head else None) mid result new → Takes event awaited (fields_of head) mid result new
+  takes-half mid result new head true t = t
+  takes-half mid result new head false t = t
+
+  both-halves : {old : State L H} (mid : State L H) (result : Result ℕ IoError) (new : State L H) (sent : Option Head) → AsksHalf event asked old (Ok sent) mid → TakesHalf event sent mid result new → Asks event asked old result new
+  both-halves mid result new _ (halves.goes {awaited = awaited} head is out) t = asking.asked_for is out (takes-half mid result new head awaited t)
+
+  -- a call whose request was not sent
+  pub ends-unsent : {old new : Channel L H} (e : IoError) → AsksHalfFor event asked old (Err e) new → AsksFor event asked old (Err e) new
+  ends-unsent e (h, same) = (unsent-half e h, same)
+
+  -- a call by both of its halves
+  pub by-halves : {old : Channel L H} (mid : Channel L H) (result : Result ℕ IoError) (new : Channel L H) (sent : Option Head) → AsksHalfFor event asked old (Ok sent) mid → new ≡ record mid { endpoint = new.endpoint }
+      → TakesHalf event sent mid.endpoint result new.endpoint → AsksFor event asked old result new
+  by-halves mid result new sent (h, same) kept takes = (both-halves mid.endpoint result new.endpoint sent h takes, kept ∙ ap (λ (c : Channel L H). record c { endpoint = new.endpoint }) same)
 
 module _ {L H : Type 0} (event : L → Event H → L → Type 0) (sent : Header) (old new : State L H) where
   number-heard : (o : Result (Received H) Error) {result : Result ℕ IoError} → Hears event numbers old o new → reverse_understood sent o ≡ seen_io_result result → ((n : ℕ) → result ≡ Ok n → new.list ≡ true) → RecvsNumber event sent old result new

@@ -5,7 +5,7 @@ ghost use Rattle.vhost_message.specs.Bits.{has_bit};
 ghost use Rattle.vhost_message.specs.declared.header_bit.TheConstants.{NEED_REPLY, REPLY};
 ghost use Rattle.vhost_message.specs.MsgHeader.{fields_of};
 ghost use Rattle.vhost_message.specs.declared.limits.TheConstants.{MAX_ATTACHED_FD_ENTRIES, MAX_MSG_SIZE};
-ghost use Rattle.vhost_protocol.specs.Reverse.{HandleConfigChange, SharedObjectAdd, SharedObjectRemove, SharedObjectLookup, ShmemMap, ShmemUnmap, sends_unless, sends_object, sends_mapping};
+ghost use Rattle.vhost_protocol.specs.Reverse.{HandleConfigChange, SharedObjectAdd, SharedObjectRemove, SharedObjectLookup, ShmemMap, ShmemUnmap, reverse_ask, sends_unless, sends_object, sends_mapping};
 ghost use Rattle.vhost_protocol.specs.Written.{Payload, payload_text};
 
 use crate::internal::{BackendInternal, Header};
@@ -18,6 +18,7 @@ use vhost_message::{
 impl<L: Link> BackendInternal<L> {
     ghost use Rattle.vhost_backend_req.specs.Channel.{channel, backend_of};
     ghost use Rattle.vhost_backend_req.specs.Asking.{AsksCall, AsksFor, RecvsNumber};
+    ghost use Rattle.vhost_backend_req.specs.Halves.{AsksHalfFor, TakesHalf};
     ghost use Rattle.vhost_connection.specs.State.{state};
     ghost use Rattle.std.specs.Prelude.{None, Some, Err};
     ghost use Rattle.vhost_message.specs.declared.io_error.IoError.TheVariants.{Of};
@@ -30,10 +31,8 @@ impl<L: Link> BackendInternal<L> {
     pub fn handle_config_change(&mut self) -> HandlerResult<u64>
         ensures { AsksCall L.event HandleConfigChange (channel self.old) result (channel self.new) }
     {
-        if !self.config_change {
-            return Err(IoError::Raw(38));
-        }
-        self.ask(BackendReq::CONFIG_CHANGE_MSG, &VhostUserEmpty, &[])
+        let sent = self.send_config_change()?;
+        self.take_half(sent)
     }
 
     /// Adds a shared object by its name. The answer is 0; where none is awaited, it is given at once.
@@ -90,10 +89,8 @@ impl<L: Link> BackendInternal<L> {
         requires { length handles.now ≤ MAX_ATTACHED_FD_ENTRIES }
         ensures { AsksFor L.event (sends_object (backend_of (channel self.old)) code name.now (map (λ h. h.now) handles.now)) (channel self.old) result (channel self.new) }
     {
-        if !self.shared_object {
-            return Err(IoError::Named("Shared Object feature not negotiated"));
-        }
-        self.ask(code, name, handles)
+        let sent = self.send_object(code, name, handles)?;
+        self.take_half(sent)
     }
 
     /// Asks about a mapping.
@@ -106,24 +103,64 @@ impl<L: Link> BackendInternal<L> {
         requires { length handles.now ≤ MAX_ATTACHED_FD_ENTRIES }
         ensures { AsksFor L.event (sends_mapping (backend_of (channel self.old)) code mapping.now (map (λ h. h.now) handles.now)) (channel self.old) result (channel self.new) }
     {
+        let sent = self.send_mapping(code, mapping, handles)?;
+        self.take_half(sent)
+    }
+
+    /// Sends that the configuration space has changed, where that was agreed on.
+    pub(crate) fn send_config_change(&mut self) -> HandlerResult<Option<Header>>
+        ensures { AsksHalfFor L.event (reverse_ask (backend_of (channel self.old)) HandleConfigChange) (channel self.old) result (channel self.new) }
+    {
+        if !self.config_change {
+            return Err(IoError::Raw(38));
+        }
+        self.send(BackendReq::CONFIG_CHANGE_MSG, &VhostUserEmpty, &[])
+    }
+
+    /// Sends a request about a shared object, where those were agreed on.
+    pub(crate) fn send_object(
+        &mut self,
+        code: BackendReq,
+        name: &VhostUserSharedMsg,
+        handles: &[&L::Handle],
+    ) -> HandlerResult<Option<Header>>
+        requires { length handles.now ≤ MAX_ATTACHED_FD_ENTRIES }
+        ensures { AsksHalfFor L.event (sends_object (backend_of (channel self.old)) code name.now (map (λ h. h.now) handles.now)) (channel self.old) result (channel self.new) }
+    {
+        if !self.shared_object {
+            return Err(IoError::Named("Shared Object feature not negotiated"));
+        }
+        self.send(code, name, handles)
+    }
+
+    /// Sends a request about a mapping, where shared memory was agreed on.
+    pub(crate) fn send_mapping(
+        &mut self,
+        code: BackendReq,
+        mapping: &VhostUserMMap,
+        handles: &[&L::Handle],
+    ) -> HandlerResult<Option<Header>>
+        requires { length handles.now ≤ MAX_ATTACHED_FD_ENTRIES }
+        ensures { AsksHalfFor L.event (sends_mapping (backend_of (channel self.old)) code mapping.now (map (λ h. h.now) handles.now)) (channel self.old) result (channel self.new) }
+    {
         if !self.shmem {
             return Err(IoError::Named("SHMEM feature not negotiated"));
         }
-        self.ask(code, mapping, handles)
+        self.send(code, mapping, handles)
     }
 
-    /// Asks, unless the channel was marked as failed, and takes the answer where one is awaited.
-    fn ask<T: ByteValued>(
+    /// Sends a request, unless the channel was marked as failed: its header, where an answer is awaited.
+    fn send<T: ByteValued>(
         &mut self,
         code: BackendReq,
         body: &T,
         handles: &[&L::Handle],
-    ) -> HandlerResult<u64>
+    ) -> HandlerResult<Option<Header>>
         requires size { T.SIZE ≤ MAX_MSG_SIZE }
         requires handles { length handles.now ≤ MAX_ATTACHED_FD_ENTRIES }
         ensures marked { (n : ℤ) → (channel self.old).failed ≡ Some n → (result ≡ Err (Of (SocketBroken (Raw n)))) × (channel self.new ≡ channel self.old) }
-        ensures asked { (channel self.old).failed ≡ None → (p : Payload) → payload_text p ≡ T.text body.now
-            → AsksFor L.event (sends_unless None (backend_of (channel self.old)) code p (map (λ h. h.now) handles.now)) (channel self.old) result (channel self.new) }
+        ensures sent { (channel self.old).failed ≡ None → (p : Payload) → payload_text p ≡ T.text body.now
+            → AsksHalfFor L.event (sends_unless None (backend_of (channel self.old)) code p (map (λ h. h.now) handles.now)) (channel self.old) result (channel self.new) }
     {
         if let Some(number) = self.failed {
             return Err(IoError::Of(Error::SocketBroken(IoCause::Raw(number))));
@@ -132,11 +169,23 @@ impl<L: Link> BackendInternal<L> {
         match self.endpoint.send_request(code, flags, body, &[], handles) {
             Ok(header) => {
                 if !self.reply_ack {
-                    return Ok(0);
+                    return Ok(None);
                 }
-                self.recv_number(&header)
+                Ok(Some(header))
             }
             Err(error) => Err(IoError::Of(error)),
+        }
+    }
+
+    /// Takes the answer to a request that was sent: the number that answers it, where one is awaited; else 0, and nothing is
+    /// read. Errors are those of `shared_object_add` once its request was sent.
+    pub fn take_half(&mut self, sent: Option<Header>) -> HandlerResult<u64>
+        ensures same { channel self.new ≡ record (channel self.old) { endpoint = (channel self.new).endpoint } }
+        ensures taken { TakesHalf L.event sent (channel self.old).endpoint result (channel self.new).endpoint }
+    {
+        match sent {
+            Some(request) => self.recv_number(&request),
+            None => Ok(0),
         }
     }
 

@@ -3,7 +3,10 @@
 
 mod asking;
 mod backend;
+mod call;
+mod halves;
 mod internal;
 
 pub use backend::Backend;
+pub use call::{Asked, ReverseCall};
 pub use internal::BackendInternal;

@@ -1,14 +1,10 @@
--- A call about shared memory, where it was agreed on.
-use Rattle.std.proofs.Common.{refl, map}
-use Rattle.vhost_protocol.specs.Written.{Mapping}
-use Rattle.vhost_backend_req.specs.Asking.Asks.{refused}
-use Rattle.vhost_backend_req.specs.Channel.{channel, backend_of}
-use Rattle.vhost_backend_req.proofs.Answered.{agreed, asks-unless}
+-- A call about shared memory, by both halves.
+use Rattle.vhost_connection.proofs.Errors.{passed-on}
+use Rattle.vhost_backend_req.proofs.Answered.{ends-unsent, by-halves}
 use Rattle.vhost_backend_req.proofs.internal.BackendInternal.ask_mapping.Goals as goal
 
-pub returns-then-not-self : goal.returns-then-not-self
-returns-then-not-self g c = (refused (rw c.if-not-self.true refl), refl)
+pub returns-in_err-sent : goal.returns-in_err-sent
+returns-in_err-sent g c = rw (passed-on c.from_residual.result c.from_residual.ensures.1) (ends-unsent g.L.Link.event _ _ c.in_err-sent.ensures)
 
 pub returns : goal.returns
-returns g c =
-    agreed _ _ c.if-not-self.false (asks-unless c.args.self.now.failed (backend_of (channel c.args.self.now)) c.args.code (Mapping c.args.mapping.now) (map (λ h. h.now) c.args.handles.now) c.ask.ensures.marked (λ alive. c.ask.ensures.asked alive (Mapping c.args.mapping.now) refl))
+returns g c = by-halves g.L.Link.event _ _ c.take_half.result _ c.in_ok-sent.sent c.in_ok-sent.ensures c.take_half.ensures.same c.take_half.ensures.taken

@@ -1,0 +1,15 @@
+-- A change of the configuration is told, where that was agreed on.
+use Rattle.std.proofs.Common.{refl, []}
+use Rattle.vhost_message.specs.declared.backend_req.BackendReq.TheVariants.{CONFIG_CHANGE_MSG}
+use Rattle.vhost_protocol.specs.Written.{Empty}
+use Rattle.vhost_backend_req.specs.Halves.AsksHalf.{refuses}
+use Rattle.vhost_backend_req.specs.Channel.{channel, backend_of}
+use Rattle.vhost_backend_req.proofs.Answered.{agreed, asks-unless}
+use Rattle.vhost_backend_req.proofs.internal.BackendInternal.send_config_change.Goals as goal
+
+pub returns-then-not-self : goal.returns-then-not-self
+returns-then-not-self g c = (refuses (rw c.if-not-self.true refl), refl)
+
+pub returns : goal.returns
+returns g c =
+    agreed _ _ c.if-not-self.false (asks-unless c.args.self.now.failed (backend_of (channel c.args.self.now)) CONFIG_CHANGE_MSG Empty [] c.send.ensures.marked (λ alive. c.send.ensures.sent alive Empty refl))
