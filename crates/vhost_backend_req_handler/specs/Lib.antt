@@ -3,3 +3,4 @@ pub mod Core
 pub mod Opening
 pub mod Serving
 pub mod Sharing
+pub mod Accepting

@@ -7,6 +7,7 @@ use Rattle.vhost_link.specs.Law.{Event}
 use Rattle.vhost_link.specs.declared.handle.Kind.{Kind}
 use Rattle.vhost_backend_req.specs.declared.backend.Backend.{Backend}
 use Rattle.vhost_gpu_backend_req.specs.declared.backend.GpuBackend.{GpuBackend}
+use Rattle.vhost_backend_req_handler.specs.declared.handler.BackendReqHandler.{BackendReqHandler}
 use Rattle.vhost_backend_req_handler.specs.declared.session_core.SessionCore.{SessionCore}
 use Rattle.vhost_backend_req_handler.specs.Core.{endpoint_of, session_in}
 use Rattle.vhost_backend_req_handler.specs.Opening.{OpensAs}
@@ -22,3 +23,7 @@ abbrev pub ServesShared : {L H : Type 0} → (L → Event H → L → Type 0) �
 ServesShared {L} {H} event opens kinds old result new =
     CallsOnce {B = Backend L H} {G = GpuBackend L H} event any_answer (λ h o. OpensAs opens kinds h o) (λ h o. OpensAs opens kinds h o)
     (endpoint_of old) (session_in old) tt result (endpoint_of new) (session_in new) tt
+
+-- the session of a handler
+abbrev pub core_of : {L S H : Type 0} → BackendReqHandler L S H → SessionCore L H
+core_of h = h.core

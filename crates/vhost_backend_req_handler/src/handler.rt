@@ -3,12 +3,14 @@
 ghost use Rattle.std.specs.Prelude.{◌≡◌, IfErr, IfOk, Some};
 ghost use Rattle.vhost_message.specs.declared.error.Error.TheVariants.{OutOfMemory};
 
-use crate::session_core::SessionCore;
+use crate::session_core::{Header, SessionCore};
 use std::alloc::Global;
+use std::net::Net;
 use std::sync::{Arc, Wait};
+use vhost_connection::Endpoint;
 use vhost_device::{SharedDevice, VhostUserBackendReqHandler};
-use vhost_link::Link;
-use vhost_message::Result;
+use vhost_link::{Link, UnixLink};
+use vhost_message::{IoCause, Result};
 
 /// The backend's side of a connection, and its device, which others may share.
 ///
@@ -20,7 +22,7 @@ pub struct BackendReqHandler<L: Link, S> {
 }
 
 impl<L: Link, S: VhostUserBackendReqHandler<Link = L>> BackendReqHandler<L, S> {
-    ghost use Rattle.vhost_connection.specs.State.{fresh};
+    ghost use Rattle.vhost_connection.specs.State.{fresh, state};
     ghost use Rattle.vhost_protocol.specs.Session.{fresh as new_session};
     ghost use Rattle.vhost_backend_req_handler.specs.Core.{endpoint_of, session_in};
     ghost use Rattle.vhost_backend_req_handler.specs.Sharing.{ServesShared};
@@ -31,12 +33,36 @@ impl<L: Link, S: VhostUserBackendReqHandler<Link = L>> BackendReqHandler<L, S> {
     pub fn from_stream(alloc: Global, link: L, budget: u32, backend: Arc<S, Global>) -> Result<Self>
         ensures endpoint { IfOk result (λ h. endpoint_of h.core ≡ fresh link budget) }
         ensures session { IfOk result (λ h. session_in h.core ≡ new_session) }
+        ensures device { IfOk result (λ h. h.backend ≡ backend) }
         ensures memory { IfErr result (λ e. e ≡ OutOfMemory) }
     {
         Ok(BackendReqHandler {
             core: SessionCore::new(alloc, link, budget)?,
             backend,
         })
+    }
+
+    /// A new session over an endpoint.
+    pub(crate) fn over(
+        alloc: Global,
+        endpoint: Endpoint<Header, L>,
+        backend: Arc<S, Global>,
+    ) -> Self
+        ensures endpoint { endpoint_of result.core ≡ state endpoint }
+        ensures session { session_in result.core ≡ new_session }
+        ensures device { result.backend ≡ backend }
+    {
+        BackendReqHandler {
+            core: SessionCore::over(alloc, endpoint),
+            backend,
+        }
+    }
+
+    /// A duplicate of its link, or why there is none. It doesn't see what was received ahead.
+    pub fn try_clone_connection(&self) -> std::result::Result<L, IoCause>
+        ensures { L.duplicates (endpoint_of self.now.core).link result }
+    {
+        self.core.try_clone_connection()
     }
 
     /// Marks the session as failed with the number of a system's error, also with 0: from now on each request is
@@ -57,5 +83,28 @@ impl<L: Link, S: VhostUserBackendReqHandler<Link = L>> BackendReqHandler<L, S> {
             rt,
         };
         self.core.handle_request(&mut served)
+    }
+}
+
+impl<S: VhostUserBackendReqHandler<Link = UnixLink>> BackendReqHandler<UnixLink, S> {
+    ghost use Rattle.vhost_connection.specs.Sockets.{IsConnectError};
+    ghost use Rattle.vhost_backend_req_handler.specs.Accepting.{IsNew};
+
+    /// Connects to the socket at a path, for a new session. A message may take so many retries.
+    ///
+    /// SocketConnect: the system refused, whatever the number. OutOfMemory: a growth was refused.
+    pub fn connect(
+        rt: &impl Net,
+        alloc: Global,
+        path: &str,
+        budget: u32,
+        backend: Arc<S, Global>,
+    ) -> Result<Self>
+        ensures session { IfOk result (λ h. IsNew budget h) }
+        ensures device { IfOk result (λ h. h.backend ≡ backend) }
+        ensures refused { IfErr result IsConnectError }
+    {
+        let endpoint = Endpoint::connect(rt, alloc, path, budget)?;
+        Ok(BackendReqHandler::over(alloc, endpoint, backend))
     }
 }

@@ -29,7 +29,7 @@ mod rings;
 mod shared;
 mod transfer;
 
-type Header = VhostUserMsgHeader<FrontendReq>;
+pub(crate) type Header = VhostUserMsgHeader<FrontendReq>;
 
 /// A handler's session over a link, without its device.
 ///
@@ -63,12 +63,27 @@ impl<L: Link> SessionCore<L> {
         ensures session { IfOk result (λ c. session_in c ≡ new_session) }
         ensures memory { IfErr result (λ e. e ≡ OutOfMemory) }
     {
-        Ok(SessionCore {
-            endpoint: Endpoint::from_stream(alloc, link, budget)?,
+        Ok(SessionCore::over(alloc, Endpoint::from_stream(alloc, link, budget)?))
+    }
+
+    /// A new session over an endpoint.
+    pub(crate) fn over(alloc: Global, endpoint: Endpoint<Header, L>) -> Self
+        ensures endpoint { endpoint_of result ≡ state endpoint }
+        ensures session { session_in result ≡ new_session }
+    {
+        SessionCore {
+            endpoint,
             session: Session::new(),
             body: [0; MAX_MSG_SIZE],
             alloc,
-        })
+        }
+    }
+
+    /// A duplicate of its link, or why there is none. It doesn't see what was received ahead.
+    pub fn try_clone_connection(&self) -> std::result::Result<L, IoCause>
+        ensures { L.duplicates (endpoint_of self.now).link result }
+    {
+        self.endpoint.try_clone_sock()
     }
 
     /// Whether the last call that sent or received met a fault: the link failed, or retried once too often.
