@@ -2,7 +2,7 @@
 use Rattle.std.proofs.Common.{◌≡◌, Bool, true, false, cond, ◌⊎◌, Option, Some, None, Result, Ok, Err, refl, subst, inl, inr}
 use Rattle.vhost_message.specs.declared.frontend_req.FrontendReq.{FrontendReq}
 use Rattle.vhost_protocol.specs.Error.{Error}
-use Rattle.vhost_protocol.specs.FrontendCall.{FrontendCall, Frontend, SetLogBase}
+use Rattle.vhost_protocol.specs.FrontendCall.{FrontendCall, Frontend, SetLogBase, GetFeatures, GetProtocolFeatures, GetQueueNum, GetVringBase, GetSharedObject, GetInflightFd, GetMaxMemSlots, GetShmemConfig, SetDeviceStateFd, CheckDeviceState, PostcopyAdvise}
 use Rattle.vhost_protocol.specs.Written.{Written}
 use Rattle.vhost_protocol.specs.Ask.{Asked, Sends, ask, given, ◌>>◌, ◌>>=◌}
 use Rattle.vhost_protocol.specs.declared.asked.Awaited.{Awaited}
@@ -51,3 +51,33 @@ allowed f _ = search allowing
 -- a call that was sent awaits what it may
 pub awaits-allowed : {H : Type 0} (f : Frontend) (call : FrontendCall H) (w : Written FrontendReq H) (a : Awaited) (g : Frontend) → ask f call ≡ Sends w a g → MayAwait call a
 awaits-allowed f call w a g is = subst (λ (x : Asked _). AwaitsAllowed call x) is (allowed f call)
+
+-- the shape of the reply, where a call always has one
+abbrev pub replies : {H : Type 0} → FrontendCall H → Option Shape
+replies GetFeatures = Some shape.U64
+replies GetProtocolFeatures = Some shape.U64
+replies GetQueueNum = Some shape.U64
+replies (GetVringBase i) = Some shape.VringState
+replies (GetSharedObject name) = Some shape.Empty
+replies (GetInflightFd area) = Some shape.Inflight
+replies GetMaxMemSlots = Some shape.U64
+replies GetShmemConfig = Some shape.ShMemConfig
+replies (SetDeviceStateFd t h) = Some shape.U64
+replies CheckDeviceState = Some shape.U64
+replies PostcopyAdvise = Some shape.Empty
+replies _ = None
+
+-- its reply is awaited
+pub awaits-reply : {H : Type 0} (call : FrontendCall H) (a : Awaited) (s : Shape) → replies call ≡ Some s → MayAwait call a → a ≡ Reply s
+awaits-reply GetFeatures a s e may = cc
+awaits-reply GetProtocolFeatures a s e may = cc
+awaits-reply GetQueueNum a s e may = cc
+awaits-reply (GetVringBase i) a s e may = cc
+awaits-reply (GetSharedObject name) a s e may = cc
+awaits-reply (GetInflightFd area) a s e may = cc
+awaits-reply GetMaxMemSlots a s e may = cc
+awaits-reply GetShmemConfig a s e may = cc
+awaits-reply (SetDeviceStateFd t h) a s e may = cc
+awaits-reply CheckDeviceState a s e may = cc
+awaits-reply PostcopyAdvise a s e may = cc
+awaits-reply _ a s e may = cc e

@@ -1,6 +1,7 @@
 -- What a call may await once its request went out.
 use Rattle.std.specs.Prelude.{◌≡◌, ◌⊎◌, ⊤}
-use Rattle.vhost_protocol.specs.FrontendCall.{FrontendCall, GetFeatures, GetProtocolFeatures, GetQueueNum, SetMemTable, SetLogBase, GetVringBase, GetConfig, GetSharedObject, GetInflightFd, GetMaxMemSlots, AddMemRegion, GetShmemConfig, SetDeviceStateFd, CheckDeviceState, PostcopyAdvise, PostcopyAckMemRegions}
+use Rattle.vhost_protocol.specs.FrontendCall.{FrontendCall, GetFeatures, GetProtocolFeatures, GetQueueNum, SetMemTable, SetLogBase, GetVringBase, GetConfig, GetSharedObject, GetInflightFd, GetMaxMemSlots, AddMemRegion, GetShmemConfig, SetDeviceStateFd, CheckDeviceState, PostcopyAdvise, PostcopyAckMemRegions, Frontend, Nothing}
+use Rattle.vhost_protocol.specs.AnswerTable.{after_success, plain_value}
 use Rattle.vhost_protocol.specs.Ask.{Asked, Sends}
 use Rattle.vhost_protocol.specs.declared.asked.Awaited.{Awaited}
 use Rattle.vhost_protocol.specs.declared.asked.Awaited.TheVariants.{Nobody, Reply}
@@ -31,3 +32,9 @@ MayAwait _ a = IsAck a
 abbrev pub AwaitsAllowed : {H : Type 0} → FrontendCall H → Asked H → Type 0
 AwaitsAllowed call (Sends w a g) = MayAwait call a
 AwaitsAllowed call _ = ⊤
+
+-- the call is only acknowledged, shows nothing, and leaves the session as it is
+pub record IsAcked {H : Type 0} (call : FrontendCall H) : Type 0 where
+  pub awaits : (a : Awaited) → MayAwait call a → IsAck a
+  pub shows : plain_value call ≡ Nothing
+  pub keeps : (f : Frontend) → after_success f call ≡ f

@@ -11,7 +11,7 @@ use Rattle.vhost_frontend_core.specs.declared.asked.Kept.TheVariants as kept
 
 -- the regions of a table
 abbrev pub KeepsTable : List VhostUserMemoryRegion → code.Kept → Type 0
-KeepsTable regions (kept.Table t) = take t.count t.regions ≡ regions
+KeepsTable regions (kept.Table t) = take t.count t.regions.items ≡ regions
 KeepsTable regions _ = ⊥
 
 -- a part of the configuration space, and a buffer of so many bytes

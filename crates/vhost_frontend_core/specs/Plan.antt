@@ -44,6 +44,7 @@ call_in call.PostcopyAdvise = calls.PostcopyAdvise
 call_in call.PostcopyListen = calls.PostcopyListen
 call_in call.PostcopyEnd = calls.PostcopyEnd
 call_in (call.PostcopyAckMemRegions r) = calls.PostcopyAckMemRegions r
+call_in (call.SetMtu mtu) = calls.SetMtu mtu
 
 -- a call with this handle
 abbrev pub call_with : {H : Type 0} → HandleCall → H → FrontendCall H

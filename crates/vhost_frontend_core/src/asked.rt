@@ -1,21 +1,20 @@
 //! What a frontend keeps of a request that it sent.
 
-ghost use Rattle.std.specs.Prelude.{◌≡◌, ◌≤◌, [], vec_capacity};
+ghost use Rattle.std.specs.Prelude.{◌≡◌, ◌≤◌, [], length, vec_capacity};
 ghost use Rattle.vhost_message.specs.declared.limits.TheConstants.{MAX_MEM_REGIONS};
 
-use vhost_message::{
-    FrontendReq, MAX_MEM_REGIONS, VhostUserConfig, VhostUserMemoryRegion, VhostUserMsgHeader,
-};
+use vhost_message::{FrontendReq, VhostUserConfig, VhostUserMemoryRegion, VhostUserMsgHeader};
 use vhost_protocol::Awaited;
 
 /// A memory table that was sent, and an empty list with room for where its regions are mapped.
 #[derive(Drop)]
 pub struct KeptTable {
     /// The first `count` are its regions.
-    pub(crate) regions: [VhostUserMemoryRegion; MAX_MEM_REGIONS],
+    pub(crate) regions: Vec<VhostUserMemoryRegion>,
     pub(crate) count: usize,
     pub(crate) bases: Vec<u64>,
     ghost few: { count ≤ MAX_MEM_REGIONS },
+    ghost listed: { count ≤ length regions.items },
     ghost empty: { bases.items ≡ [] },
     ghost room: { count ≤ vec_capacity bases },
 }

@@ -19,6 +19,7 @@ mod features;
 mod inflight;
 mod log;
 mod memory;
+mod network;
 mod objects;
 mod ownership;
 mod plan;

@@ -91,7 +91,7 @@ pub fn table_of<H>(
 /// Where a table's regions are mapped, as the text of a reply's regions says. None: they are other regions.
 pub fn bases_of(table: KeptTable, text: &[u8]) -> Option<Vec<u64>>
     requires { length text.now ≡ MEMORY_REGION_SIZE * table.count }
-    ensures same { is_some result ≡ are_same_ranges (take table.count table.regions) (regions_of table.count text.now) }
+    ensures same { is_some result ≡ are_same_ranges (take table.count table.regions.items) (regions_of table.count text.now) }
     ensures bases { IfSome result (λ bases. bases.items ≡ bases_in (regions_of table.count text.now)) }
 {
     let KeptTable {

@@ -1,6 +1,6 @@
 //! Virtio features, protocol features, and the number of queues.
 
-ghost use Rattle.std.specs.Prelude.{◌≡◌, ℕ, bit_and};
+ghost use Rattle.std.specs.Prelude.{◌≡◌, ◌<◌, ◌^◌, ℕ, IfOk, bit_and};
 ghost use Rattle.vhost_protocol.specs.FrontendCall as call;
 ghost use Rattle.vhost_protocol.specs.declared.asked.Awaited.TheVariants.{Nobody, Reply};
 ghost use Rattle.vhost_protocol.specs.declared.asked.Shape.TheVariants as shape;
@@ -8,12 +8,10 @@ ghost use Rattle.vhost_protocol.specs.declared.asked.Shape.TheVariants as shape;
 use crate::asked::Sent;
 use crate::internal::FrontendInternal;
 use crate::internal::plan::RecordCall;
-use crate::session::protocol_in;
 use bitflags::Flags;
 use vhost_link::Link;
 use vhost_message::{
-    Error, FrontendReq, Result, VHOST_USER_MAX_VRINGS, VhostUserEmpty, VhostUserProtocolFeatures,
-    VhostUserU64, protocol_bit,
+    Error, Result, VHOST_USER_MAX_VRINGS, VhostUserProtocolFeatures, VhostUserU64,
 };
 use vhost_protocol::Shape;
 
@@ -47,7 +45,8 @@ impl<L: Link> FrontendInternal<L> {
 
     /// Acknowledges virtio features.
     pub fn ask_set_features(&mut self, features: u64) -> Result<Sent>
-        ensures { AsksHalf L.event (call.SetFeatures features) self.old result self.new }
+        ensures asked { AsksHalf L.event (call.SetFeatures features) self.old result self.new }
+        ensures fits { IfOk result (λ _. features < 2 ^ 64) }
     {
         self.ask(RecordCall::SetFeatures(features))
     }
@@ -84,7 +83,8 @@ impl<L: Link> FrontendInternal<L> {
     ///
     /// InactiveFeature: the device offers none.
     pub fn ask_set_protocol_features(&mut self, features: VhostUserProtocolFeatures) -> Result<Sent>
-        ensures { AsksHalf L.event (call.SetProtocolFeatures features.bits) self.old result self.new }
+        ensures asked { AsksHalf L.event (call.SetProtocolFeatures features.bits) self.old result self.new }
+        ensures fits { IfOk result (λ _. features.bits < 2 ^ 64) }
     {
         self.ask(RecordCall::SetProtocolFeatures(features))
     }

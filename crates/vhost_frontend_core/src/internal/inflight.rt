@@ -1,10 +1,9 @@
 //! The buffer for descriptors in flight.
 
-ghost use Rattle.std.specs.Prelude.{◌≡◌, ◌==◌, ◌&&◌, not};
+ghost use Rattle.std.specs.Prelude.{◌≡◌};
 ghost use Rattle.vhost_protocol.specs.FrontendCall as call;
 ghost use Rattle.vhost_message.specs.declared.records.inflight.VhostUserInflight.{VhostUserInflight};
 ghost use Rattle.vhost_protocol.specs.Ask as ask;
-ghost use Rattle.vhost_frontend_core.specs.Asking.{tested};
 ghost use Rattle.vhost_protocol.specs.declared.asked.Awaited.TheVariants.{Nobody, Reply};
 ghost use Rattle.vhost_protocol.specs.declared.asked.Shape.TheVariants as shape;
 
@@ -12,7 +11,7 @@ use crate::asked::Sent;
 use crate::internal::FrontendInternal;
 use crate::internal::plan::{HandleCall, RecordCall};
 use vhost_link::Link;
-use vhost_message::{Error, FrontendReq, Result, VhostUserInflight, protocol_bit};
+use vhost_message::{Result, VhostUserInflight};
 use vhost_protocol::Shape;
 
 impl<L: Link> FrontendInternal<L> {

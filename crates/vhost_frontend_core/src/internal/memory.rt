@@ -1,6 +1,6 @@
 //! Regions of guest memory, one by one.
 
-ghost use Rattle.std.specs.Prelude.{◌≡◌, ◌==◌, not, IfOk, Some};
+ghost use Rattle.std.specs.Prelude.{◌≡◌, IfOk, Some};
 ghost use Rattle.vhost_protocol.specs.Ask as ask;
 ghost use Rattle.vhost_protocol.specs.declared.asked.Awaited.TheVariants.{Nobody, Reply};
 ghost use Rattle.vhost_protocol.specs.declared.asked.Shape.TheVariants as shape;
@@ -10,7 +10,6 @@ ghost use Rattle.vhost_message.specs.declared.records.memory.VhostUserMemoryRegi
 ghost use Rattle.vhost_protocol.specs.Error.{InvalidMessage, seen_result};
 ghost use Rattle.vhost_protocol.specs.AnswerTable.{is_same_range, only_if};
 ghost use Rattle.vhost_backend.specs.Region.{region_in};
-ghost use Rattle.vhost_frontend_core.specs.Asking.{tested};
 ghost use Rattle.vhost_frontend_core.specs.Regions.{info_in};
 ghost use Rattle.vhost_frontend_core.specs.declared.asked.Kept.TheVariants.{Region};
 
@@ -21,8 +20,7 @@ use crate::regions::is_same;
 use vhost_backend::VhostUserMemoryRegionInfo;
 use vhost_link::Link;
 use vhost_message::{
-    Error, FrontendReq, Result, VhostUserEmpty, VhostUserMemoryRegion, VhostUserSingleMemoryRegion,
-    VhostUserU64, protocol_bit,
+    Error, Result, VhostUserMemoryRegion, VhostUserSingleMemoryRegion, VhostUserU64,
 };
 use vhost_protocol::{Awaited, Shape};
 

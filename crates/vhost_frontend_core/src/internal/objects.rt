@@ -9,11 +9,8 @@ ghost use Rattle.vhost_protocol.specs.declared.asked.Shape.TheVariants as shape;
 use crate::asked::Sent;
 use crate::internal::FrontendInternal;
 use crate::internal::plan::{HandleCall, RecordCall};
-use crate::session::valid;
 use vhost_link::Link;
-use vhost_message::{
-    FrontendReq, Result, VhostUserEmpty, VhostUserShMemConfig, VhostUserSharedMsg, protocol_bit,
-};
+use vhost_message::{Result, VhostUserEmpty, VhostUserShMemConfig, VhostUserSharedMsg};
 use vhost_protocol::Shape;
 
 impl<L: Link> FrontendInternal<L> {

@@ -8,7 +8,7 @@ use crate::asked::Sent;
 use crate::internal::FrontendInternal;
 use crate::internal::plan::RecordCall;
 use vhost_link::Link;
-use vhost_message::{FrontendReq, Result, VhostUserEmpty, protocol_bit};
+use vhost_message::Result;
 
 impl<L: Link> FrontendInternal<L> {
     ghost use Rattle.vhost_frontend_core.specs.Frontend.{awaits};

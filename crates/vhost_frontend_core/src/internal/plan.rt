@@ -1,9 +1,10 @@
 //! What each call becomes whose message is one record: the table of a frontend's requests.
 
-ghost use Rattle.std.specs.Prelude.{◌≡◌, false, map};
+ghost use Rattle.std.specs.Prelude.{◌≡◌, IfOk, false, map};
 ghost use Rattle.vhost_protocol.specs.declared.asked.Awaited.TheVariants.{Reply};
 ghost use Rattle.vhost_connection.specs.Asking.{request_with};
 ghost use Rattle.vhost_message.specs.Records.{single_region};
+ghost use Rattle.vhost_protocol.specs.Agreement.{Fits};
 ghost use Rattle.vhost_protocol.specs.Ask as ask;
 ghost use Rattle.vhost_frontend_core.specs.Plan.{planned as planned_as, record_in, written};
 ghost use Rattle.vhost_frontend_core.specs.Session.{frontend_of};
@@ -50,6 +51,7 @@ pub enum RecordCall {
     PostcopyListen,
     PostcopyEnd,
     PostcopyAckMemRegions(FrontendReq),
+    SetMtu(u16),
 }
 
 /// The same with one handle.
@@ -137,55 +139,42 @@ impl<L: Link> FrontendInternal<L> {
 
     /// What a call without a handle becomes.
     pub(crate) fn planned(&self, call: RecordCall) -> Result<Plan>
-        ensures { planned_as {H = L.Handle} [] result ≡ ask.ask (session_of self.now) (call_in call) }
+        ensures becomes { planned_as {H = L.Handle} [] result ≡ ask.ask (session_of self.now) (call_in call) }
+        ensures fits { IfOk result (λ _. Fits {H = L.Handle} (call_in call)) }
     {
+        use FrontendReq::*;
         use RecordCall::*;
         let session = self.session;
         match call {
-            GetFeatures => Ok(Plan::asks(
-                session,
-                FrontendReq::GET_FEATURES,
-                Record::Empty,
-                Shape::U64,
-            )),
+            GetFeatures => Ok(Plan::asks(session, GET_FEATURES, Record::Empty, Shape::U64)),
             SetFeatures(features) => {
                 let mut next = session;
                 next.acked = features & next.offered;
-                Ok(Plan::sends(next, FrontendReq::SET_FEATURES, Record::U64(features)))
+                Ok(Plan::sends(next, SET_FEATURES, Record::U64(features)))
             }
-            SetOwner => Ok(Plan::sends(session, FrontendReq::SET_OWNER, Record::Empty)),
-            ResetOwner => Ok(Plan::sends(session, FrontendReq::RESET_OWNER, Record::Empty)),
+            SetOwner => Ok(Plan::sends(session, SET_OWNER, Record::Empty)),
+            ResetOwner => Ok(Plan::sends(session, RESET_OWNER, Record::Empty)),
             GetProtocolFeatures => {
                 protocol_in(session.offered)?;
-                Ok(Plan::asks(
-                    session,
-                    FrontendReq::GET_PROTOCOL_FEATURES,
-                    Record::Empty,
-                    Shape::U64,
-                ))
+                Ok(Plan::asks(session, GET_PROTOCOL_FEATURES, Record::Empty, Shape::U64))
             }
             SetProtocolFeatures(features) => {
                 protocol_in(session.offered)?;
                 let mut next = session;
                 next.acked_protocol_features = features.bits();
                 let body = Record::U64(features.bits());
-                Ok(Plan::sends(next, FrontendReq::SET_PROTOCOL_FEATURES, body))
+                Ok(Plan::sends(next, SET_PROTOCOL_FEATURES, body))
             }
             GetQueueNum => {
                 session.needs(protocol_bit::MQ)?;
-                Ok(Plan::asks(
-                    session,
-                    FrontendReq::GET_QUEUE_NUM,
-                    Record::Empty,
-                    Shape::U64,
-                ))
+                Ok(Plan::asks(session, GET_QUEUE_NUM, Record::Empty, Shape::U64))
             }
             ResetDevice => {
                 session.needs(protocol_bit::RESET_DEVICE)?;
-                Ok(Plan::sends(session, FrontendReq::RESET_DEVICE, Record::Empty))
+                Ok(Plan::sends(session, RESET_DEVICE, Record::Empty))
             }
             SetLogBase(base) => Ok(Plan {
-                request: FrontendReq::SET_LOG_BASE,
+                request: SET_LOG_BASE,
                 quiet: false,
                 body: Record::U64(base),
                 awaited: Awaited::Nobody,
@@ -194,29 +183,25 @@ impl<L: Link> FrontendInternal<L> {
             SetVringNum(index, num) => {
                 let index = session.index(index)?;
                 let ring = VhostUserVringState::new(index, num.into());
-                Ok(Plan::sends(session, FrontendReq::SET_VRING_NUM, Record::RingState(ring)))
+                Ok(Plan::sends(session, SET_VRING_NUM, Record::RingState(ring)))
             }
             SetVringBase(index, base) => {
                 let index = session.index(index)?;
                 let ring = VhostUserVringState::new(index, base.into());
-                Ok(Plan::sends(
-                    session,
-                    FrontendReq::SET_VRING_BASE,
-                    Record::RingState(ring),
-                ))
+                Ok(Plan::sends(session, SET_VRING_BASE, Record::RingState(ring)))
             }
             SetVringAddr(index, config) => {
                 let index = session.index(index)?;
                 param(config.flags <= 1)?;
                 let ring = VhostUserVringAddr::from_config_data(index, &config);
-                Ok(Plan::sends(session, FrontendReq::SET_VRING_ADDR, Record::RingAddr(ring)))
+                Ok(Plan::sends(session, SET_VRING_ADDR, Record::RingAddr(ring)))
             }
             GetVringBase(index) => {
                 let index = session.index(index)?;
                 let ring = VhostUserVringState::new(index, 0);
                 Ok(Plan::asks(
                     session,
-                    FrontendReq::GET_VRING_BASE,
+                    GET_VRING_BASE,
                     Record::RingState(ring),
                     Shape::VringState,
                 ))
@@ -225,18 +210,14 @@ impl<L: Link> FrontendInternal<L> {
                 protocol_in(session.acked)?;
                 let index = session.index(index)?;
                 let ring = VhostUserVringState::new(index, enable.into());
-                Ok(Plan::sends(
-                    session,
-                    FrontendReq::SET_VRING_ENABLE,
-                    Record::RingState(ring),
-                ))
+                Ok(Plan::sends(session, SET_VRING_ENABLE, Record::RingState(ring)))
             }
             GetSharedObject(name) => {
                 session.needs(protocol_bit::SHARED_OBJECT)?;
                 valid(&name)?;
                 Ok(Plan::asks(
                     session,
-                    FrontendReq::GET_SHARED_OBJECT,
+                    GET_SHARED_OBJECT,
                     Record::ObjectName(name),
                     Shape::Empty,
                 ))
@@ -245,19 +226,14 @@ impl<L: Link> FrontendInternal<L> {
                 session.needs(protocol_bit::INFLIGHT_SHMFD)?;
                 Ok(Plan::asks(
                     session,
-                    FrontendReq::GET_INFLIGHT_FD,
+                    GET_INFLIGHT_FD,
                     Record::InflightArea(area),
                     Shape::Inflight,
                 ))
             }
             GetMaxMemSlots => {
                 session.needs(protocol_bit::CONFIGURE_MEM_SLOTS)?;
-                Ok(Plan::asks(
-                    session,
-                    FrontendReq::GET_MAX_MEM_SLOTS,
-                    Record::Empty,
-                    Shape::U64,
-                ))
+                Ok(Plan::asks(session, GET_MAX_MEM_SLOTS, Record::Empty, Shape::U64))
             }
             AddMemRegion(region) => {
                 session.needs(protocol_bit::CONFIGURE_MEM_SLOTS)?;
@@ -268,42 +244,27 @@ impl<L: Link> FrontendInternal<L> {
                 session.needs(protocol_bit::CONFIGURE_MEM_SLOTS)?;
                 param(region.memory_size != 0)?;
                 let body = Record::OneRegion(single(region));
-                Ok(Plan::sends(session, FrontendReq::REM_MEM_REG, body))
+                Ok(Plan::sends(session, REM_MEM_REG, body))
             }
             GetShmemConfig => {
                 session.needs(protocol_bit::SHMEM)?;
-                Ok(Plan::asks(
-                    session,
-                    FrontendReq::GET_SHMEM_CONFIG,
-                    Record::Empty,
-                    Shape::ShMemConfig,
-                ))
+                Ok(Plan::asks(session, GET_SHMEM_CONFIG, Record::Empty, Shape::ShMemConfig))
             }
             CheckDeviceState => {
                 session.needs(protocol_bit::DEVICE_STATE)?;
-                Ok(Plan::asks(
-                    session,
-                    FrontendReq::CHECK_DEVICE_STATE,
-                    Record::Empty,
-                    Shape::U64,
-                ))
+                Ok(Plan::asks(session, CHECK_DEVICE_STATE, Record::Empty, Shape::U64))
             }
             PostcopyAdvise => {
                 session.needs(protocol_bit::PAGEFAULT)?;
-                Ok(Plan::asks(
-                    session,
-                    FrontendReq::POSTCOPY_ADVISE,
-                    Record::Empty,
-                    Shape::Empty,
-                ))
+                Ok(Plan::asks(session, POSTCOPY_ADVISE, Record::Empty, Shape::Empty))
             }
             PostcopyListen => {
                 session.needs(protocol_bit::PAGEFAULT)?;
-                Ok(Plan::sends(session, FrontendReq::POSTCOPY_LISTEN, Record::Empty))
+                Ok(Plan::sends(session, POSTCOPY_LISTEN, Record::Empty))
             }
             PostcopyEnd => {
                 session.needs(protocol_bit::PAGEFAULT)?;
-                Ok(Plan::sends(session, FrontendReq::POSTCOPY_END, Record::Empty))
+                Ok(Plan::sends(session, POSTCOPY_END, Record::Empty))
             }
             PostcopyAckMemRegions(code) => {
                 param(is_mapping(code))?;
@@ -315,6 +276,10 @@ impl<L: Link> FrontendInternal<L> {
                     next: session,
                 })
             }
+            SetMtu(mtu) => {
+                session.needs(protocol_bit::MTU)?;
+                Ok(Plan::sends(session, NET_SET_MTU, Record::U64(mtu.into())))
+            }
         }
     }
 
@@ -322,34 +287,31 @@ impl<L: Link> FrontendInternal<L> {
     pub(crate) fn planned_with(&self, call: HandleCall) -> Result<Plan>
         ensures { (h : L.Handle) → planned_as (h ∷ []) result ≡ ask.ask (session_of self.now) (call_with call h) }
     {
+        use FrontendReq::*;
         use HandleCall::*;
         let session = self.session;
         match call {
-            SetLogFd => { Ok(Plan::sends(session, FrontendReq::SET_LOG_FD, Record::Empty)) }
+            SetLogFd => { Ok(Plan::sends(session, SET_LOG_FD, Record::Empty)) }
             SetVringCall(index) => {
                 let index = session.small_index(index)?;
-                Ok(Plan::sends(session, FrontendReq::SET_VRING_CALL, Record::U64(index)))
+                Ok(Plan::sends(session, SET_VRING_CALL, Record::U64(index)))
             }
             SetVringKick(index) => {
                 let index = session.small_index(index)?;
-                Ok(Plan::sends(session, FrontendReq::SET_VRING_KICK, Record::U64(index)))
+                Ok(Plan::sends(session, SET_VRING_KICK, Record::U64(index)))
             }
             SetVringErr(index) => {
                 let index = session.small_index(index)?;
-                Ok(Plan::sends(session, FrontendReq::SET_VRING_ERR, Record::U64(index)))
+                Ok(Plan::sends(session, SET_VRING_ERR, Record::U64(index)))
             }
             SetBackendRequestFd => {
                 session.needs(protocol_bit::BACKEND_REQ)?;
-                Ok(Plan::sends(session, FrontendReq::SET_BACKEND_REQ_FD, Record::Empty))
+                Ok(Plan::sends(session, SET_BACKEND_REQ_FD, Record::Empty))
             }
             SetInflightFd(area) => {
                 session.needs(protocol_bit::INFLIGHT_SHMFD)?;
                 param(area.mmap_size != 0 && area.num_queues != 0 && area.queue_size != 0)?;
-                Ok(Plan::sends(
-                    session,
-                    FrontendReq::SET_INFLIGHT_FD,
-                    Record::InflightArea(area),
-                ))
+                Ok(Plan::sends(session, SET_INFLIGHT_FD, Record::InflightArea(area)))
             }
             AddMemRegion(region) => {
                 session.needs(protocol_bit::CONFIGURE_MEM_SLOTS)?;
@@ -357,20 +319,20 @@ impl<L: Link> FrontendInternal<L> {
                 let body = Record::OneRegion(single(region));
                 if session.is_listening() {
                     return Ok(Plan {
-                        request: FrontendReq::ADD_MEM_REG,
+                        request: ADD_MEM_REG,
                         quiet: true,
                         body,
                         awaited: Awaited::Reply(Shape::SingleMemoryRegion),
                         next: session,
                     });
                 }
-                Ok(Plan::sends(session, FrontendReq::ADD_MEM_REG, body))
+                Ok(Plan::sends(session, ADD_MEM_REG, body))
             }
             SetDeviceStateFd(transfer) => {
                 session.needs(protocol_bit::DEVICE_STATE)?;
                 Ok(Plan::asks(
                     session,
-                    FrontendReq::SET_DEVICE_STATE_FD,
+                    SET_DEVICE_STATE_FD,
                     Record::DeviceState(transfer),
                     Shape::U64,
                 ))

@@ -4,7 +4,6 @@ ghost use Rattle.std.specs.Prelude.{◌≡◌};
 ghost use Rattle.vhost_protocol.specs.FrontendCall as call;
 ghost use Rattle.vhost_message.specs.declared.frontend_req.FrontendReq.{FrontendReq};
 ghost use Rattle.vhost_protocol.specs.Ask as ask;
-ghost use Rattle.vhost_frontend_core.specs.Asking.{tested};
 ghost use Rattle.vhost_protocol.specs.declared.asked.Awaited.TheVariants.{Nobody, Reply};
 ghost use Rattle.vhost_protocol.specs.declared.asked.Shape.TheVariants as shape;
 
@@ -12,9 +11,7 @@ use crate::asked::Sent;
 use crate::internal::FrontendInternal;
 use crate::internal::plan::RecordCall;
 use vhost_link::Link;
-use vhost_message::{
-    Error, FrontendReq, PostcopyState, Result, VhostUserEmpty, VhostUserU64, protocol_bit,
-};
+use vhost_message::{FrontendReq, PostcopyState, Result, VhostUserEmpty};
 use vhost_protocol::{Awaited, Shape};
 
 impl<L: Link> FrontendInternal<L> {

@@ -53,8 +53,10 @@ impl<L: Link> FrontendInternal<L> {
         }
     }
 
-    /// The same of a call that has nothing else to answer, and leaves the session as it is.
-    pub(crate) fn take_done(&mut self, sent: Sent) -> Result<()>
+    /// Takes what is awaited of any call that is only acknowledged and leaves the session as it is.
+    ///
+    /// Errors are those of an acknowledgement.
+    pub fn take_done(&mut self, sent: Sent) -> Result<()>
         ensures taken { (call : FrontendCall L.Handle) → plain_value call ≡ Nothing → after_success (session_of self.old) call ≡ session_of self.old → TakesAck L.event call sent self.old result self.new }
         ensures quiet { awaits self.new ≡ Nobody }
     {

@@ -9,11 +9,8 @@ ghost use Rattle.vhost_protocol.specs.declared.asked.Shape.TheVariants as shape;
 use crate::asked::Sent;
 use crate::internal::FrontendInternal;
 use crate::internal::plan::RecordCall;
-use crate::session::{param, protocol_in};
 use vhost_link::Link;
-use vhost_message::{
-    FrontendReq, Result, VhostUserVringAddr, VhostUserVringState, VringConfigData,
-};
+use vhost_message::{Result, VhostUserVringState, VringConfigData};
 use vhost_protocol::Shape;
 
 impl<L: Link> FrontendInternal<L> {

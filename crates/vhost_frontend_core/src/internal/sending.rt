@@ -1,6 +1,7 @@
 //! What all halves that ask have in common: a request goes out whole.
 
-ghost use Rattle.std.specs.Prelude.{◌≡◌, ◌+◌, ◌++◌, ◌≤◌, Ok, length, map};
+ghost use Rattle.std.specs.Prelude.{◌≡◌, ◌+◌, ◌++◌, ◌≤◌, IfOk, Ok, length, map};
+ghost use Rattle.vhost_protocol.specs.Agreement.{Fits};
 ghost use Rattle.vhost_message.specs.declared.limits.TheConstants.{MAX_ATTACHED_FD_ENTRIES, MAX_MSG_SIZE};
 ghost use Rattle.vhost_protocol.specs.Written.{Payload, payload_text};
 ghost use Rattle.vhost_frontend_core.specs.Plan.{call_in, call_with, planned as planned_as, record_in};
@@ -86,7 +87,8 @@ impl<L: Link> FrontendInternal<L> {
 
     /// Asks by the table of calls.
     pub(crate) fn ask(&mut self, call: RecordCall) -> Result<Sent>
-        ensures { AsksHalf L.event (call_in call) self.old result self.new }
+        ensures asked { AsksHalf L.event (call_in call) self.old result self.new }
+        ensures fits { IfOk result (λ _. Fits {H = L.Handle} (call_in call)) }
     {
         match self.planned(call) {
             Ok(plan) => self.carry_out(plan, &[]),

@@ -67,11 +67,14 @@ impl<L: Link> FrontendInternal<L> {
         let Ok(bases) = Vec::with_capacity(self.alloc, count) else {
             return Err(Error::OutOfMemory);
         };
+        let Ok(regions) = Vec::from_slice(self.alloc, &table[..count]) else {
+            return Err(Error::OutOfMemory);
+        };
         let request = (self.session.quiet_flags(), Awaited::Reply(Shape::Memory));
         match self.send_table(request, &table[..count], handles) {
             Ok(mut sent) => {
                 sent.kept = Kept::Table(KeptTable {
-                    regions: table,
+                    regions,
                     count,
                     bases,
                 });

@@ -16,8 +16,8 @@ use crate::internal::plan::{HandleCall, RecordCall};
 use crate::internal::replies::one_of;
 use vhost_link::Link;
 use vhost_message::{
-    Error, FrontendReq, Result, VhostTransferStateDirection, VhostTransferStatePhase,
-    VhostUserEmpty, VhostUserTransferDeviceState, VhostUserU64, protocol_bit,
+    Error, Result, VhostTransferStateDirection, VhostTransferStatePhase,
+    VhostUserTransferDeviceState, VhostUserU64,
 };
 use vhost_protocol::Shape;
 

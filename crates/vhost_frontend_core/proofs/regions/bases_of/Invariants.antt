@@ -8,7 +8,7 @@ use Rattle.vhost_frontend_core.proofs.regions.bases_of.Given as goal
 abbrev pub invariant-regions : goal.invariant-regions
 invariant-regions l =
     record {
-      same : l.same ≡ are_same_ranges (take l.i l.regions) (regions_of l.i l.text);
+      same : l.same ≡ are_same_ranges (take l.i l.regions.items) (regions_of l.i l.text);
       bases : l.bases.items ≡ bases_in (regions_of l.i l.text);
       len : vec_len l.bases ≡ l.i;
       room : l.count ≤ vec_capacity l.bases;

@@ -15,3 +15,6 @@ returns-in-Ok-send_table-clause-asked g c =
 pub returns-in-Err-clause-asked : goal.returns-in-Err-clause-asked
 returns-in-Err-clause-asked g c =
     roomy (tried-as (quiet_is _ (session_of c.args.self.now) _ _ _ c.quiet_flags.ensures.reply c.quiet_flags.ensures.need_reply) c.in-Err.ensures.session c.in-Err.ensures.sent)
+
+pub returns-in_default-from_slice-clause-asked : goal.returns-in_default-from_slice-clause-asked
+returns-in_default-from_slice-clause-asked g c = no_room refl

@@ -21,20 +21,20 @@ returns-then-is_reply-clause-taken g c infos kept =
 pub returns-in-Some-clause-taken : goal.returns-in-Some-clause-taken
 returns-in-Some-clause-taken g c infos kept =
     let table = c.in-Table.table in
-    let same : take table.count table.regions ≡ regions_in infos = subst (λ (k : Kept). KeepsTable (regions_in infos) k) c.in-Table.is kept in
-    bases-taken infos table.count (kept-long table.count table.regions infos (omega (arith, table.few)) same) (sym c.is_reply.ensures ∙ c.if-is_reply.false)
-    (ap (λ (x : FrontendInternal _ _). session_of x) c.recv_table.ensures.same) table.regions c.in-Some.bases same c.in-Ok.ensures.received (sym c.in-Some.ensures.same) c.in-Some.ensures.bases
+    let same : take table.count table.regions.items ≡ regions_in infos = subst (λ (k : Kept). KeepsTable (regions_in infos) k) c.in-Table.is kept in
+    bases-taken infos table.count (kept-long table.count table.regions.items infos (omega (arith, table.few)) same) (sym c.is_reply.ensures ∙ c.if-is_reply.false)
+    (ap (λ (x : FrontendInternal _ _). session_of x) c.recv_table.ensures.same) table.regions.items c.in-Some.bases same c.in-Ok.ensures.received (sym c.in-Some.ensures.same) c.in-Some.ensures.bases
 
 pub returns-in-None-clause-taken : goal.returns-in-None-clause-taken
 returns-in-None-clause-taken g c infos kept =
     let table = c.in-Table.table in
-    let same : take table.count table.regions ≡ regions_in infos = subst (λ (k : Kept). KeepsTable (regions_in infos) k) c.in-Table.is kept in
-    bases-refused infos table.count (kept-long table.count table.regions infos (omega (arith, table.few)) same) (sym c.is_reply.ensures ∙ c.if-is_reply.false)
-    (ap (λ (x : FrontendInternal _ _). session_of x) c.recv_table.ensures.same) table.regions same c.in-Ok.ensures.received (sym c.in-None.ensures.same)
+    let same : take table.count table.regions.items ≡ regions_in infos = subst (λ (k : Kept). KeepsTable (regions_in infos) k) c.in-Table.is kept in
+    bases-refused infos table.count (kept-long table.count table.regions.items infos (omega (arith, table.few)) same) (sym c.is_reply.ensures ∙ c.if-is_reply.false)
+    (ap (λ (x : FrontendInternal _ _). session_of x) c.recv_table.ensures.same) table.regions.items same c.in-Ok.ensures.received (sym c.in-None.ensures.same)
 
 pub returns-in-Err-clause-taken : goal.returns-in-Err-clause-taken
 returns-in-Err-clause-taken g c infos kept =
     let table = c.in-Table.table in
-    let same : take table.count table.regions ≡ regions_in infos = subst (λ (k : Kept). KeepsTable (regions_in infos) k) c.in-Table.is kept in
-    bases-missing infos table.count (kept-long table.count table.regions infos (omega (arith, table.few)) same) (sym c.is_reply.ensures ∙ c.if-is_reply.false)
+    let same : take table.count table.regions.items ≡ regions_in infos = subst (λ (k : Kept). KeepsTable (regions_in infos) k) c.in-Table.is kept in
+    bases-missing infos table.count (kept-long table.count table.regions.items infos (omega (arith, table.few)) same) (sym c.is_reply.ensures ∙ c.if-is_reply.false)
     (ap (λ (x : FrontendInternal _ _). session_of x) c.recv_table.ensures.same) c.in-Err.ensures.received
