@@ -1,30 +1,28 @@
 -- What both halves give of a call as a whole.
-use Rattle.std.proofs.Common.{◌≡◌, ◌⊎◌, inl, inr, Result, Ok, Err, refl, sym, subst}
-use Rattle.std.specs.Prelude.{IsErrAnd}
+use Rattle.std.proofs.Common.{◌≡◌, ◌⊎◌, inl, inr, Result, Ok, Err, Some, refl, sym, subst}
 use Rattle.vhost_message.specs.declared.error.Error as declared
 use Rattle.vhost_message.specs.Header.{Header}
-use Rattle.vhost_protocol.specs.FrontendCall.{FrontendCall, Frontend, Value}
+use Rattle.vhost_message.specs.MsgHeader.{fields_of}
 use Rattle.vhost_protocol.specs.Ask.{Asked, ask}
+use Rattle.vhost_protocol.specs.FrontendCall.{FrontendCall, Frontend, Value}
 use Rattle.vhost_protocol.specs.declared.asked.Awaited.{Awaited}
+use Rattle.vhost_protocol.specs.declared.asked.Awaited.TheVariants.{Reply}
+use Rattle.vhost_protocol.specs.declared.asked.Shape.{Shape}
 use Rattle.vhost_link.specs.Law.{Event}
 use Rattle.vhost_connection.specs.Talk.{State}
 use Rattle.vhost_frontend_core.specs.declared.asked.Sent.{Sent}
 use Rattle.vhost_frontend_core.specs.Asking as asking
 use Rattle.vhost_frontend_core.specs.Asking.{Asks, AsksWithRoom}
 use Rattle.vhost_frontend_core.specs.Awaiting.{MayAwait}
+use Rattle.vhost_frontend_core.specs.Frontend.{endpoint_of, session_of}
+use Rattle.vhost_frontend_core.specs.Halves.{AsksHalf}
 use Rattle.vhost_frontend_core.specs.Taking.{Takes}
 use Rattle.vhost_frontend_core.specs.declared.internal.FrontendInternal.{FrontendInternal}
-use Rattle.vhost_frontend_core.proofs.Awaiting.{awaits-allowed}
+use Rattle.vhost_frontend_core.proofs.Awaiting.{awaits-allowed, replies, awaits-reply}
 use Rattle.vhost_frontend.specs.Whole.{Calls}
-use Rattle.vhost_frontend.specs.Whole.Calls.{ended}
+use Rattle.vhost_frontend.specs.Whole.Calls.{ended, answered}
 
 module _ {L H : Type 0} {event : L → Event H → L → Type 0} where
-  -- `?` answers that it could not ask
-  pub ends : {call : FrontendCall H} {A : Type 0} {asks : FrontendInternal L H → Result Sent declared.Error → FrontendInternal L H → Type 0} {value : A → Value H} {old new : FrontendInternal L H} (e : declared.Error)
-      {result : Result A declared.Error} → IsErrAnd result (λ x. x ≡ e) → asks old (Err e) new → Calls event call asks value old result new
-  ends {call} {asks = asks} {value} {old} {new} e {result = Err x} same refused = subst (λ x. Calls event call asks value old (Err x) new) (sym same) (ended refused)
-  ends e {result = Ok a} none refused = absurd none
-
   -- whoever could not ask awaits what was awaited before
   pub still-awaits : {asked : Asked H} {old new : State L H} {f f' : Frontend} {before after : Awaited} {e : declared.Error} → Asks event asked old f before (Err e) new f' after → after ≡ before
   still-awaits (asking.refuses x) = refl
@@ -42,6 +40,18 @@ module _ {L H : Type 0} {event : L → Event H → L → Type 0} where
       → MayAwait call sent.awaited
   may-await-with-room call (asking.roomy x) = may-await call x
 
+  -- a call that could not ask is whole
+  pub unasked : {call : FrontendCall H} {A : Type 0} {asks : FrontendInternal L H → Result Sent declared.Error → FrontendInternal L H → Type 0} {value : A → Value H} {old new : FrontendInternal L H} {e : declared.Error}
+      → asks old (Err e) new → Calls event call asks value old (Err e) new
+  unasked x = ended x
+
+  -- so is one whose reply was taken
+  pub replied : {call : FrontendCall H} {A : Type 0} {value : A → Value H} {old new : FrontendInternal L H} {shape : Shape} {sent : Sent} (middle : FrontendInternal L H) {result : Result A declared.Error} → replies call ≡ Some shape → AsksHalf event call old (Ok sent) middle
+      → Takes event call value (Reply shape) (fields_of sent.request) (endpoint_of middle) (session_of middle) result (endpoint_of new) (session_of new) → Calls event call (AsksHalf event call) value old result new
+  replied {call} {value = value} {new = new} {sent = sent} middle {result = result} is asks takes =
+      answered asks (subst (λ a. Takes event call value a (fields_of sent.request) (endpoint_of middle) (session_of middle) result (endpoint_of new) (session_of new)) (sym (awaits-reply call sent.awaited _ is (may-await call asks))) takes)
+
+module _ {L H : Type 0} {event : L → Event H → L → Type 0} where
   -- an answer that is taken where just this is awaited
   pub taken-as : {call : FrontendCall H} {A : Type 0} {value : A → Value H} {asked other : Awaited} {sent : Header} {old new : State L H} {f f' : Frontend} {result : Result A declared.Error} → other ≡ asked
       → Takes event call value asked sent old f result new f' → Takes event call value other sent old f result new f'

@@ -340,6 +340,12 @@ impl<L: Link> VhostUserFrontend for Frontend<L> {
     {
         within(self.inner.lock(rt).postcopy_ack_mem_regions(code))
     }
+
+    fn set_mtu(&mut self, rt: &impl Wait, mtu: u16) -> Result<()>
+        ensures { Turn (Whole L.event (call.SetMtu mtu) (λ _. call.Nothing)) result }
+    {
+        within(self.inner.lock(rt).set_mtu(mtu))
+    }
 }
 
 /// What the protocol answered, as the answer of a vhost device.

@@ -1,6 +1,7 @@
 //! The side that asks: each call of a frontend whole, and a session that many threads may use.
 #![tactic(auto)]
 
+mod connect;
 mod frontend;
 mod memory_context;
 mod quiet;

@@ -120,4 +120,7 @@ pub trait VhostUserFrontend: VhostBackend {
 
     /// Acknowledges that the regions are mapped which this request brought: SET_MEM_TABLE or ADD_MEM_REG.
     fn postcopy_ack_mem_regions(&mut self, rt: &impl Wait, code: FrontendReq) -> Result<()>;
+
+    /// Tells the greatest size of a packet, in bytes.
+    fn set_mtu(&mut self, rt: &impl Wait, mtu: u16) -> Result<()>;
 }

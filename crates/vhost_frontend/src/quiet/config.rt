@@ -3,10 +3,11 @@
 ghost use Rattle.vhost_protocol.specs.FrontendCall as call;
 ghost use Rattle.vhost_message.specs.FlagBits.{config_bits};
 
-use crate::quiet::Quiet;
+use crate::quiet::{Quiet, acknowledged};
 use vhost_link::Link;
 use vhost_message::{Result, VhostUserConfig, VhostUserConfigFlags};
 
+#[tactic(auto, using(crate::proofs::Whole::unasked))]
 impl<L: Link> Quiet<L> {
     ghost use Rattle.vhost_frontend.specs.Whole.{Whole, WholeWithRoom};
 
@@ -25,8 +26,10 @@ impl<L: Link> Quiet<L> {
     ) -> Result<(VhostUserConfig, Vec<u8>)>
         ensures { WholeWithRoom L.event (call.GetConfig offset size (config_bits flags) buffer.now) (λ part. call.ConfigOf part.0 part.1.items) self.old.inner result self.new.inner }
     {
-        let sent = self.inner.ask_get_config(offset, size, flags, buffer)?;
-        self.inner.take_get_config(sent)
+        match self.inner.ask_get_config(offset, size, flags, buffer) {
+            Ok(sent) => self.inner.take_get_config(sent),
+            Err(error) => Err(error),
+        }
     }
 
     /// Changes the configuration space from this byte on.
@@ -41,7 +44,7 @@ impl<L: Link> Quiet<L> {
     ) -> Result<()>
         ensures { Whole L.event (call.SetConfig offset (config_bits flags) buffer.now) (λ _. call.Nothing) self.old.inner result self.new.inner }
     {
-        let sent = self.inner.ask_set_config(offset, flags, buffer)?;
-        self.inner.take_set_config(sent)
+        let asked = self.inner.ask_set_config(offset, flags, buffer);
+        acknowledged(&mut self.inner, asked)
     }
 }

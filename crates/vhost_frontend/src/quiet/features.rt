@@ -2,10 +2,11 @@
 
 ghost use Rattle.vhost_protocol.specs.FrontendCall as call;
 
-use crate::quiet::Quiet;
+use crate::quiet::{Quiet, acknowledged};
 use vhost_link::Link;
 use vhost_message::{Result, VhostUserProtocolFeatures};
 
+#[tactic(auto, using(crate::proofs::Whole::unasked))]
 impl<L: Link> Quiet<L> {
     ghost use Rattle.vhost_frontend.specs.Whole.{Whole};
 
@@ -13,16 +14,18 @@ impl<L: Link> Quiet<L> {
     pub fn get_features(&mut self) -> Result<u64>
         ensures { Whole L.event call.GetFeatures call.Number self.old.inner result self.new.inner }
     {
-        let sent = self.inner.ask_get_features()?;
-        self.inner.take_get_features(sent)
+        match self.inner.ask_get_features() {
+            Ok(sent) => self.inner.take_get_features(sent),
+            Err(error) => Err(error),
+        }
     }
 
     /// Acknowledges virtio features.
     pub fn set_features(&mut self, features: u64) -> Result<()>
         ensures { Whole L.event (call.SetFeatures features) (λ _. call.Nothing) self.old.inner result self.new.inner }
     {
-        let sent = self.inner.ask_set_features(features)?;
-        self.inner.take_set_features(sent)
+        let asked = self.inner.ask_set_features(features);
+        acknowledged(&mut self.inner, asked)
     }
 
     /// The protocol features that the device offers; bits without a meaning are dropped.
@@ -31,8 +34,10 @@ impl<L: Link> Quiet<L> {
     pub fn get_protocol_features(&mut self) -> Result<VhostUserProtocolFeatures>
         ensures { Whole L.event call.GetProtocolFeatures (λ features. call.Number features.bits) self.old.inner result self.new.inner }
     {
-        let sent = self.inner.ask_get_protocol_features()?;
-        self.inner.take_get_protocol_features(sent)
+        match self.inner.ask_get_protocol_features() {
+            Ok(sent) => self.inner.take_get_protocol_features(sent),
+            Err(error) => Err(error),
+        }
     }
 
     /// Chooses protocol features.
@@ -41,8 +46,8 @@ impl<L: Link> Quiet<L> {
     pub fn set_protocol_features(&mut self, features: VhostUserProtocolFeatures) -> Result<()>
         ensures { Whole L.event (call.SetProtocolFeatures features.bits) (λ _. call.Nothing) self.old.inner result self.new.inner }
     {
-        let sent = self.inner.ask_set_protocol_features(features)?;
-        self.inner.take_set_protocol_features(sent)
+        let asked = self.inner.ask_set_protocol_features(features);
+        acknowledged(&mut self.inner, asked)
     }
 
     /// How many queues the device has at most, from now on the bound of each index.
@@ -51,7 +56,9 @@ impl<L: Link> Quiet<L> {
     pub fn get_queue_num(&mut self) -> Result<u64>
         ensures { Whole L.event call.GetQueueNum call.Number self.old.inner result self.new.inner }
     {
-        let sent = self.inner.ask_get_queue_num()?;
-        self.inner.take_get_queue_num(sent)
+        match self.inner.ask_get_queue_num() {
+            Ok(sent) => self.inner.take_get_queue_num(sent),
+            Err(error) => Err(error),
+        }
     }
 }

@@ -2,10 +2,11 @@
 
 ghost use Rattle.vhost_protocol.specs.FrontendCall as call;
 
-use crate::quiet::Quiet;
+use crate::quiet::{Quiet, acknowledged};
 use vhost_link::Link;
 use vhost_message::{Result, VhostUserInflight};
 
+#[tactic(auto, using(crate::proofs::Whole::unasked))]
 impl<L: Link> Quiet<L> {
     ghost use Rattle.vhost_frontend.specs.Whole.{Whole};
 
@@ -18,8 +19,10 @@ impl<L: Link> Quiet<L> {
     ) -> Result<(VhostUserInflight, L::Handle)>
         ensures { Whole L.event (call.GetInflightFd inflight.now) (λ buffer. call.InflightOf buffer.0 buffer.1) self.old.inner result self.new.inner }
     {
-        let sent = self.inner.ask_get_inflight_fd(inflight)?;
-        self.inner.take_get_inflight_fd(sent)
+        match self.inner.ask_get_inflight_fd(inflight) {
+            Ok(sent) => self.inner.take_get_inflight_fd(sent),
+            Err(error) => Err(error),
+        }
     }
 
     /// Gives the buffer.
@@ -33,7 +36,7 @@ impl<L: Link> Quiet<L> {
     ) -> Result<()>
         ensures { Whole L.event (call.SetInflightFd inflight.now handle.now) (λ _. call.Nothing) self.old.inner result self.new.inner }
     {
-        let sent = self.inner.ask_set_inflight_fd(inflight, handle)?;
-        self.inner.take_set_inflight_fd(sent)
+        let asked = self.inner.ask_set_inflight_fd(inflight, handle);
+        acknowledged(&mut self.inner, asked)
     }
 }

@@ -3,11 +3,12 @@
 ghost use Rattle.vhost_protocol.specs.FrontendCall as call;
 ghost use Rattle.vhost_frontend_core.specs.Regions.{log_region_in};
 
-use crate::quiet::Quiet;
+use crate::quiet::{Quiet, acknowledged};
 use vhost_backend::VhostUserDirtyLogRegion;
 use vhost_link::Link;
 use vhost_message::Result;
 
+#[tactic(auto, using(crate::proofs::Whole::unasked))]
 impl<L: Link> Quiet<L> {
     ghost use Rattle.vhost_frontend.specs.Whole.{Whole};
 
@@ -21,15 +22,17 @@ impl<L: Link> Quiet<L> {
     ) -> Result<()>
         ensures { Whole L.event (call.SetLogBase base (log_region_in region.entry)) (λ _. call.Nothing) self.old.inner result self.new.inner }
     {
-        let sent = self.inner.ask_set_log_base(base, region)?;
-        self.inner.take_set_log_base(sent)
+        match self.inner.ask_set_log_base(base, region) {
+            Ok(sent) => self.inner.take_set_log_base(sent),
+            Err(error) => Err(error),
+        }
     }
 
     /// Gives the handle by which the device tells that it logged.
     pub fn set_log_fd(&mut self, handle: &L::Handle) -> Result<()>
         ensures { Whole L.event (call.SetLogFd handle.now) (λ _. call.Nothing) self.old.inner result self.new.inner }
     {
-        let sent = self.inner.ask_set_log_fd(handle)?;
-        self.inner.take_set_log_fd(sent)
+        let asked = self.inner.ask_set_log_fd(handle);
+        acknowledged(&mut self.inner, asked)
     }
 }

@@ -3,11 +3,12 @@
 ghost use Rattle.vhost_protocol.specs.FrontendCall as call;
 ghost use Rattle.vhost_frontend_core.specs.Regions.{bases_seen, info_in, infos_in};
 
-use crate::quiet::Quiet;
+use crate::quiet::{Quiet, acknowledged};
 use vhost_backend::VhostUserMemoryRegionInfo;
 use vhost_link::Link;
 use vhost_message::Result;
 
+#[tactic(auto, using(crate::proofs::Whole::unasked))]
 impl<L: Link> Quiet<L> {
     ghost use Rattle.vhost_frontend.specs.Whole.{Whole, WholeWithRoom};
 
@@ -21,8 +22,10 @@ impl<L: Link> Quiet<L> {
     ) -> Result<Option<Vec<u64>>>
         ensures { WholeWithRoom L.event (call.SetMemTable (infos_in regions.now)) (λ bases. call.Bases (bases_seen bases)) self.old.inner result self.new.inner }
     {
-        let sent = self.inner.ask_set_mem_table(regions)?;
-        self.inner.take_set_mem_table(sent)
+        match self.inner.ask_set_mem_table(regions) {
+            Ok(sent) => self.inner.take_set_mem_table(sent),
+            Err(error) => Err(error),
+        }
     }
 
     /// How many regions the device can be given.
@@ -31,8 +34,10 @@ impl<L: Link> Quiet<L> {
     pub fn get_max_mem_slots(&mut self) -> Result<u64>
         ensures { Whole L.event call.GetMaxMemSlots call.Number self.old.inner result self.new.inner }
     {
-        let sent = self.inner.ask_get_max_mem_slots()?;
-        self.inner.take_get_max_mem_slots(sent)
+        match self.inner.ask_get_max_mem_slots() {
+            Ok(sent) => self.inner.take_get_max_mem_slots(sent),
+            Err(error) => Err(error),
+        }
     }
 
     /// Gives the device a region. While postcopy listens, the answer is where it is mapped, else nothing.
@@ -45,8 +50,10 @@ impl<L: Link> Quiet<L> {
     ) -> Result<Option<u64>>
         ensures { Whole L.event (call.AddMemRegion (info_in region.now)) call.Base self.old.inner result self.new.inner }
     {
-        let sent = self.inner.ask_add_mem_region(region)?;
-        self.inner.take_add_mem_region(sent)
+        match self.inner.ask_add_mem_region(region) {
+            Ok(sent) => self.inner.take_add_mem_region(sent),
+            Err(error) => Err(error),
+        }
     }
 
     /// Takes a region from the device.
@@ -55,7 +62,7 @@ impl<L: Link> Quiet<L> {
     pub fn remove_mem_region(&mut self, region: &VhostUserMemoryRegionInfo<L::Handle>) -> Result<()>
         ensures { Whole L.event (call.RemoveMemRegion (info_in region.now)) (λ _. call.Nothing) self.old.inner result self.new.inner }
     {
-        let sent = self.inner.ask_remove_mem_region(region)?;
-        self.inner.take_remove_mem_region(sent)
+        let asked = self.inner.ask_remove_mem_region(region);
+        acknowledged(&mut self.inner, asked)
     }
 }

@@ -2,10 +2,11 @@
 
 ghost use Rattle.vhost_protocol.specs.FrontendCall as call;
 
-use crate::quiet::Quiet;
+use crate::quiet::{Quiet, acknowledged};
 use vhost_link::Link;
 use vhost_message::{Result, VhostUserShMemConfig, VhostUserSharedMsg};
 
+#[tactic(auto, using(crate::proofs::Whole::unasked))]
 impl<L: Link> Quiet<L> {
     ghost use Rattle.vhost_frontend.specs.Whole.{Whole};
 
@@ -16,8 +17,10 @@ impl<L: Link> Quiet<L> {
     pub fn get_shared_object(&mut self, name: &VhostUserSharedMsg) -> Result<L::Handle>
         ensures { Whole L.event (call.GetSharedObject name.now) call.HandleOf self.old.inner result self.new.inner }
     {
-        let sent = self.inner.ask_get_shared_object(name)?;
-        self.inner.take_get_shared_object(sent)
+        match self.inner.ask_get_shared_object(name) {
+            Ok(sent) => self.inner.take_get_shared_object(sent),
+            Err(error) => Err(error),
+        }
     }
 
     /// The regions of shared memory.
@@ -26,8 +29,10 @@ impl<L: Link> Quiet<L> {
     pub fn get_shmem_config(&mut self) -> Result<VhostUserShMemConfig>
         ensures { Whole L.event call.GetShmemConfig call.ShmemOf self.old.inner result self.new.inner }
     {
-        let sent = self.inner.ask_get_shmem_config()?;
-        self.inner.take_get_shmem_config(sent)
+        match self.inner.ask_get_shmem_config() {
+            Ok(sent) => self.inner.take_get_shmem_config(sent),
+            Err(error) => Err(error),
+        }
     }
 
     /// Gives the channel on which the device may ask.
@@ -36,7 +41,7 @@ impl<L: Link> Quiet<L> {
     pub fn set_backend_request_fd(&mut self, handle: &L::Handle) -> Result<()>
         ensures { Whole L.event (call.SetBackendRequestFd handle.now) (λ _. call.Nothing) self.old.inner result self.new.inner }
     {
-        let sent = self.inner.ask_set_backend_request_fd(handle)?;
-        self.inner.take_set_backend_request_fd(sent)
+        let asked = self.inner.ask_set_backend_request_fd(handle);
+        acknowledged(&mut self.inner, asked)
     }
 }

@@ -2,7 +2,7 @@
 
 ghost use Rattle.vhost_protocol.specs.FrontendCall as call;
 
-use crate::quiet::Quiet;
+use crate::quiet::{Quiet, acknowledged};
 use vhost_link::Link;
 use vhost_message::Result;
 
@@ -13,16 +13,16 @@ impl<L: Link> Quiet<L> {
     pub fn set_owner(&mut self) -> Result<()>
         ensures { Whole L.event call.SetOwner (λ _. call.Nothing) self.old.inner result self.new.inner }
     {
-        let sent = self.inner.ask_set_owner()?;
-        self.inner.take_set_owner(sent)
+        let asked = self.inner.ask_set_owner();
+        acknowledged(&mut self.inner, asked)
     }
 
     /// Gives the session up.
     pub fn reset_owner(&mut self) -> Result<()>
         ensures { Whole L.event call.ResetOwner (λ _. call.Nothing) self.old.inner result self.new.inner }
     {
-        let sent = self.inner.ask_reset_owner()?;
-        self.inner.take_reset_owner(sent)
+        let asked = self.inner.ask_reset_owner();
+        acknowledged(&mut self.inner, asked)
     }
 
     /// Resets the device.
@@ -31,7 +31,7 @@ impl<L: Link> Quiet<L> {
     pub fn reset_device(&mut self) -> Result<()>
         ensures { Whole L.event call.ResetDevice (λ _. call.Nothing) self.old.inner result self.new.inner }
     {
-        let sent = self.inner.ask_reset_device()?;
-        self.inner.take_reset_device(sent)
+        let asked = self.inner.ask_reset_device();
+        acknowledged(&mut self.inner, asked)
     }
 }

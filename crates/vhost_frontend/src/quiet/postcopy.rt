@@ -2,10 +2,11 @@
 
 ghost use Rattle.vhost_protocol.specs.FrontendCall as call;
 
-use crate::quiet::Quiet;
+use crate::quiet::{Quiet, acknowledged};
 use vhost_link::Link;
 use vhost_message::{FrontendReq, Result};
 
+#[tactic(auto, using(crate::proofs::Whole::unasked))]
 impl<L: Link> Quiet<L> {
     ghost use Rattle.vhost_frontend.specs.Whole.{Whole};
 
@@ -15,8 +16,10 @@ impl<L: Link> Quiet<L> {
     pub fn postcopy_advise(&mut self) -> Result<L::Handle>
         ensures { Whole L.event call.PostcopyAdvise call.HandleOf self.old.inner result self.new.inner }
     {
-        let sent = self.inner.ask_postcopy_advise()?;
-        self.inner.take_postcopy_advise(sent)
+        match self.inner.ask_postcopy_advise() {
+            Ok(sent) => self.inner.take_postcopy_advise(sent),
+            Err(error) => Err(error),
+        }
     }
 
     /// Tells the device to listen for page faults, as it does from now on.
@@ -25,8 +28,10 @@ impl<L: Link> Quiet<L> {
     pub fn postcopy_listen(&mut self) -> Result<()>
         ensures { Whole L.event call.PostcopyListen (λ _. call.Nothing) self.old.inner result self.new.inner }
     {
-        let sent = self.inner.ask_postcopy_listen()?;
-        self.inner.take_postcopy_listen(sent)
+        match self.inner.ask_postcopy_listen() {
+            Ok(sent) => self.inner.take_postcopy_listen(sent),
+            Err(error) => Err(error),
+        }
     }
 
     /// Tells that postcopy has ended, as it has from now on.
@@ -35,8 +40,10 @@ impl<L: Link> Quiet<L> {
     pub fn postcopy_end(&mut self) -> Result<()>
         ensures { Whole L.event call.PostcopyEnd (λ _. call.Nothing) self.old.inner result self.new.inner }
     {
-        let sent = self.inner.ask_postcopy_end()?;
-        self.inner.take_postcopy_end(sent)
+        match self.inner.ask_postcopy_end() {
+            Ok(sent) => self.inner.take_postcopy_end(sent),
+            Err(error) => Err(error),
+        }
     }
 
     /// Acknowledges that the regions are mapped which this request brought: SET_MEM_TABLE or ADD_MEM_REG. Nothing is awaited.
@@ -45,7 +52,7 @@ impl<L: Link> Quiet<L> {
     pub fn postcopy_ack_mem_regions(&mut self, code: FrontendReq) -> Result<()>
         ensures { Whole L.event (call.PostcopyAckMemRegions code) (λ _. call.Nothing) self.old.inner result self.new.inner }
     {
-        let sent = self.inner.ask_postcopy_ack_mem_regions(code)?;
-        self.inner.take_postcopy_ack_mem_regions(sent)
+        let asked = self.inner.ask_postcopy_ack_mem_regions(code);
+        acknowledged(&mut self.inner, asked)
     }
 }

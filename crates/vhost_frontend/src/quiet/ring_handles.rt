@@ -2,7 +2,7 @@
 
 ghost use Rattle.vhost_protocol.specs.FrontendCall as call;
 
-use crate::quiet::Quiet;
+use crate::quiet::{Quiet, acknowledged};
 use vhost_link::Link;
 use vhost_message::Result;
 
@@ -15,8 +15,8 @@ impl<L: Link> Quiet<L> {
     pub fn set_vring_call(&mut self, index: usize, handle: &L::Handle) -> Result<()>
         ensures { Whole L.event (call.SetVringCall index handle.now) (λ _. call.Nothing) self.old.inner result self.new.inner }
     {
-        let sent = self.inner.ask_set_vring_call(index, handle)?;
-        self.inner.take_set_vring_call(sent)
+        let asked = self.inner.ask_set_vring_call(index, handle);
+        acknowledged(&mut self.inner, asked)
     }
 
     /// Gives the handle by which the driver tells that it added descriptors.
@@ -25,8 +25,8 @@ impl<L: Link> Quiet<L> {
     pub fn set_vring_kick(&mut self, index: usize, handle: &L::Handle) -> Result<()>
         ensures { Whole L.event (call.SetVringKick index handle.now) (λ _. call.Nothing) self.old.inner result self.new.inner }
     {
-        let sent = self.inner.ask_set_vring_kick(index, handle)?;
-        self.inner.take_set_vring_kick(sent)
+        let asked = self.inner.ask_set_vring_kick(index, handle);
+        acknowledged(&mut self.inner, asked)
     }
 
     /// Gives the handle by which the device tells of an error.
@@ -35,7 +35,7 @@ impl<L: Link> Quiet<L> {
     pub fn set_vring_err(&mut self, index: usize, handle: &L::Handle) -> Result<()>
         ensures { Whole L.event (call.SetVringErr index handle.now) (λ _. call.Nothing) self.old.inner result self.new.inner }
     {
-        let sent = self.inner.ask_set_vring_err(index, handle)?;
-        self.inner.take_set_vring_err(sent)
+        let asked = self.inner.ask_set_vring_err(index, handle);
+        acknowledged(&mut self.inner, asked)
     }
 }

@@ -2,10 +2,11 @@
 
 ghost use Rattle.vhost_protocol.specs.FrontendCall as call;
 
-use crate::quiet::Quiet;
+use crate::quiet::{Quiet, acknowledged};
 use vhost_link::Link;
 use vhost_message::{Result, VringConfigData};
 
+#[tactic(auto, using(crate::proofs::Whole::unasked))]
 impl<L: Link> Quiet<L> {
     ghost use Rattle.vhost_frontend.specs.Whole.{Whole};
 
@@ -15,8 +16,8 @@ impl<L: Link> Quiet<L> {
     pub fn set_vring_num(&mut self, index: usize, num: u16) -> Result<()>
         ensures { Whole L.event (call.SetVringNum index num) (λ _. call.Nothing) self.old.inner result self.new.inner }
     {
-        let sent = self.inner.ask_set_vring_num(index, num)?;
-        self.inner.take_set_vring_num(sent)
+        let asked = self.inner.ask_set_vring_num(index, num);
+        acknowledged(&mut self.inner, asked)
     }
 
     /// Sets a ring's next descriptor.
@@ -25,8 +26,8 @@ impl<L: Link> Quiet<L> {
     pub fn set_vring_base(&mut self, index: usize, base: u16) -> Result<()>
         ensures { Whole L.event (call.SetVringBase index base) (λ _. call.Nothing) self.old.inner result self.new.inner }
     {
-        let sent = self.inner.ask_set_vring_base(index, base)?;
-        self.inner.take_set_vring_base(sent)
+        let asked = self.inner.ask_set_vring_base(index, base);
+        acknowledged(&mut self.inner, asked)
     }
 
     /// Says where a ring's parts lie.
@@ -36,8 +37,8 @@ impl<L: Link> Quiet<L> {
     pub fn set_vring_addr(&mut self, index: usize, config_data: &VringConfigData) -> Result<()>
         ensures { Whole L.event (call.SetVringAddr index config_data.now) (λ _. call.Nothing) self.old.inner result self.new.inner }
     {
-        let sent = self.inner.ask_set_vring_addr(index, config_data)?;
-        self.inner.take_set_vring_addr(sent)
+        let asked = self.inner.ask_set_vring_addr(index, config_data);
+        acknowledged(&mut self.inner, asked)
     }
 
     /// A ring's next descriptor; the ring stops.
@@ -46,8 +47,10 @@ impl<L: Link> Quiet<L> {
     pub fn get_vring_base(&mut self, index: usize) -> Result<u32>
         ensures { Whole L.event (call.GetVringBase index) call.Number self.old.inner result self.new.inner }
     {
-        let sent = self.inner.ask_get_vring_base(index)?;
-        self.inner.take_get_vring_base(sent)
+        match self.inner.ask_get_vring_base(index) {
+            Ok(sent) => self.inner.take_get_vring_base(sent),
+            Err(error) => Err(error),
+        }
     }
 
     /// Switches a ring on or off.
@@ -57,7 +60,7 @@ impl<L: Link> Quiet<L> {
     pub fn set_vring_enable(&mut self, index: usize, enable: bool) -> Result<()>
         ensures { Whole L.event (call.SetVringEnable index enable) (λ _. call.Nothing) self.old.inner result self.new.inner }
     {
-        let sent = self.inner.ask_set_vring_enable(index, enable)?;
-        self.inner.take_set_vring_enable(sent)
+        let asked = self.inner.ask_set_vring_enable(index, enable);
+        acknowledged(&mut self.inner, asked)
     }
 }

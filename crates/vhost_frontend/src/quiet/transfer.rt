@@ -7,6 +7,7 @@ use crate::quiet::Quiet;
 use vhost_link::Link;
 use vhost_message::{Result, VhostTransferStateDirection, VhostTransferStatePhase};
 
+#[tactic(auto, using(crate::proofs::Whole::unasked))]
 impl<L: Link> Quiet<L> {
     ghost use Rattle.vhost_frontend.specs.Whole.{Whole};
 
@@ -22,10 +23,10 @@ impl<L: Link> Quiet<L> {
     ) -> Result<Option<L::Handle>>
         ensures { Whole L.event (call.SetDeviceStateFd (record { direction = direction_number direction; phase = phase_number phase }) handle.now) call.StateHandle self.old.inner result self.new.inner }
     {
-        let sent = self
-            .inner
-            .ask_set_device_state_fd(direction, phase, handle)?;
-        self.inner.take_set_device_state_fd(sent)
+        match self.inner.ask_set_device_state_fd(direction, phase, handle) {
+            Ok(sent) => self.inner.take_set_device_state_fd(sent),
+            Err(error) => Err(error),
+        }
     }
 
     /// Tells whether the transfer succeeded.
@@ -34,7 +35,9 @@ impl<L: Link> Quiet<L> {
     pub fn check_device_state(&mut self) -> Result<()>
         ensures { Whole L.event call.CheckDeviceState (λ _. call.Nothing) self.old.inner result self.new.inner }
     {
-        let sent = self.inner.ask_check_device_state()?;
-        self.inner.take_check_device_state(sent)
+        match self.inner.ask_check_device_state() {
+            Ok(sent) => self.inner.take_check_device_state(sent),
+            Err(error) => Err(error),
+        }
     }
 }

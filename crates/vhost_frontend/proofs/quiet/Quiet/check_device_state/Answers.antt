@@ -1,15 +1,7 @@
 -- CHECK_DEVICE_STATE whole.
-use Rattle.std.proofs.Common.{◌∙◌}
-use Rattle.vhost_protocol.specs.FrontendCall.{CheckDeviceState}
-use Rattle.vhost_frontend.specs.Whole.Calls.{answered}
-use Rattle.vhost_frontend.proofs.Whole.{ends, may-await, still-awaits, taken-as}
+use Rattle.std.proofs.Common.{refl}
+use Rattle.vhost_frontend.proofs.Whole.{replied}
 use Rattle.vhost_frontend.proofs.quiet.Quiet.check_device_state.Goals as goal
 
-pub invariant_of-self : goal.invariant_of-self
-invariant_of-self g c = record { quiet = still-awaits c.in_err-sent.ensures ∙ c.args.self.now.quiet }
-
-pub returns-in_err-sent : goal.returns-in_err-sent
-returns-in_err-sent g c = ends _ c.from_residual.ensures.1 c.in_err-sent.ensures
-
-pub returns : goal.returns
-returns g c = answered c.in_ok-sent.ensures (taken-as (may-await CheckDeviceState c.in_ok-sent.ensures) c.take_check_device_state.ensures.taken)
+pub returns-in-Ok : goal.returns-in-Ok
+returns-in-Ok g c = replied c.ask_check_device_state.new.self refl c.in-Ok.ensures c.take_check_device_state.ensures.taken
