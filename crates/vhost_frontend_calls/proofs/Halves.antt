@@ -1,5 +1,5 @@
 -- The halves of a call that is a value, from those of its name.
-use Rattle.std.proofs.Common.{◌≡◌, ℕ, ◌⊎◌, inl, inr, List, Result, Ok, Err, IfOk, refl, sym, subst}
+use Rattle.std.proofs.Common.{◌≡◌, ℕ, ◌⊎◌, inl, inr, List, Result, refl, sym, subst}
 use Rattle.vhost_message.specs.declared.error.Error as declared
 use Rattle.vhost_message.specs.Header.{Header}
 use Rattle.vhost_protocol.specs.declared.asked.Awaited.{Awaited}
@@ -12,56 +12,28 @@ use Rattle.vhost_link.specs.Mem.{event}
 use Rattle.vhost_frontend_core.specs.Taking.{Takes, valued, taken, stopped}
 use Rattle.vhost_link.specs.Ends.{Ends}
 use Rattle.vhost_connection.specs.Talk.{State}
-use Rattle.vhost_frontend_core.specs.Halves.{AsksHalfWithRoom}
-use Rattle.vhost_frontend_core.specs.Awaiting.{MayAwait}
 use Rattle.vhost_frontend_core.specs.Kept.{IsKeptFor}
 use Rattle.vhost_frontend_core.specs.declared.asked.Kept.{Kept}
-use Rattle.vhost_frontend_core.specs.declared.asked.Sent.{Sent}
-use Rattle.vhost_frontend_core.specs.declared.internal.FrontendInternal.{FrontendInternal}
 use Rattle.vhost_message.specs.declared.flags.header.VhostUserHeaderFlag.{VhostUserHeaderFlag}
 use Rattle.vhost_frontend_calls.specs.declared.call.FrontendCall as code
 use Rattle.vhost_frontend_calls.specs.declared.call.FrontendCall.TheVariants as call
 use Rattle.vhost_frontend_calls.specs.Calls.{call_of}
-use Rattle.vhost_frontend_calls.specs.Halves.{IsSent, IsProper, TakesResult}
+use Rattle.vhost_frontend_calls.specs.Halves.{IsSent, TakesResult}
 
 abbrev End : Type 0
 End = State Ends PlainHandle
-
-pub if-ok : {A E P : Type 0} (r : Result A E) → P → IfOk r (λ a. P)
-if-ok (Ok a) p = p
-if-ok (Err e) p = tt
 
 -- every call but the one for which nothing is sent
 pub is-sent : (c : code.FrontendCall) → ((flags : VhostUserHeaderFlag) → c ≡ call.SetHdrFlags flags → ⊥) → IsSent (call_of c)
 is-sent (call.SetHdrFlags flags) not = not flags refl
 is-sent _ not = tt
 
--- a call by another name
-module _ {call call' : FrontendCall PlainHandle} (is : call ≡ call') where
-  pub asked-by : (old : FrontendInternal Ends PlainHandle) (r : Result Sent declared.Error) (new : FrontendInternal Ends PlainHandle) → AsksHalfWithRoom event call' old r new → AsksHalfWithRoom event call old r new
-  asked-by old r new p = subst (λ x. AsksHalfWithRoom event x old r new) (sym is) p
-
-  pub kept-by : (r : Result Sent declared.Error) → IfOk r (λ sent. IsKeptFor call' sent.awaited sent.kept) → IfOk r (λ sent. IsKeptFor call sent.awaited sent.kept)
-  kept-by r p = subst (λ x. IfOk r (λ sent. IsKeptFor x sent.awaited sent.kept)) (sym is) p
-
-  pub proper-by : (r : Result Sent declared.Error) → IfOk r (λ sent. IsProper call') → IfOk r (λ sent. IsProper call)
-  proper-by r p = subst (λ x. IfOk r (λ sent. IsProper x)) (sym is) p
-
-  pub awaits-by : (a : Awaited) → MayAwait call a → MayAwait call' a
-  awaits-by a p = subst (λ x. MayAwait x a) is p
-
-  pub kept-as : (a : Awaited) (k : Kept) → IsKeptFor call a k → IsKeptFor call' a k
-  kept-as a k p = subst (λ x. IsKeptFor x a k) is p
-
-  pub taken-by : (awaited : Awaited) (sent : Header) (old : End) (f : Frontend) (shown : Result (Value PlainHandle) Error) (new : End) (f' : Frontend) → TakesResult call' awaited sent old f shown new f' → TakesResult call awaited sent old f shown new f'
-  taken-by awaited sent old f shown new f' p = subst (λ x. TakesResult x awaited sent old f shown new f') (sym is) p
-
 -- ---- what was taken, as an answer
 
 took-value : {A : Type 0} (call : FrontendCall PlainHandle) (value : A → Value PlainHandle) (asked : Awaited) {sent : Header} {old new : End} {f f' : Frontend} {r : Result A declared.Error}
     → Takes event call value asked sent old f r new f' → TakesResult call asked sent old f (valued value r) new f'
 took-value call value asked (taken reads) = inl reads
-took-value call value asked (stopped fails) = inr (refl, _, fails)
+took-value call value asked (stopped fails) = inr (refl, _, refl, fails)
 
 pub took : {A : Type 0} {call : FrontendCall PlainHandle} {sent : Header} {old new : End} {f f' : Frontend} (value : A → Value PlainHandle) (asked : Awaited) (r : Result A declared.Error) (shown : Result (Value PlainHandle) Error)
     → shown ≡ valued value r → Takes event call value asked sent old f r new f' → TakesResult call asked sent old f shown new f'

@@ -1,2 +1,4 @@
 pub mod Halves
 pub mod Tables
+pub mod Plain
+pub mod Taken

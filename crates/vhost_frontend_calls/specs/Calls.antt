@@ -59,6 +59,7 @@ call_of call.PostcopyAdvise = calls.PostcopyAdvise
 call_of call.PostcopyListen = calls.PostcopyListen
 call_of call.PostcopyEnd = calls.PostcopyEnd
 call_of (call.PostcopyAckMemRegions r) = calls.PostcopyAckMemRegions r
+call_of (call.SetMtu mtu) = calls.SetMtu mtu
 call_of (call.SetHdrFlags flags) = calls.SetHdrFlags flags.bits
 
 -- where regions are mapped

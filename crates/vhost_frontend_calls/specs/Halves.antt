@@ -1,11 +1,13 @@
 -- The halves of a call that is a value.
-use Rattle.std.specs.Prelude.{◌≡◌, ◌⊎◌, ℕ, true, ⊤, Option, Some, None, Result, Ok, Err}
+use Rattle.std.specs.Prelude.{◌≡◌, ◌⊎◌, ℕ, true, ⊤, IfOk, Option, Some, None, Result, Ok, Err}
 use Rattle.vhost_message.specs.declared.error.Error as declared
 use Rattle.vhost_message.specs.Header.{Header}
+use Rattle.vhost_message.specs.MsgHeader.{fields_of}
 use Rattle.vhost_protocol.specs.AnswerTable.{answered}
 use Rattle.vhost_protocol.specs.Agreement.{Fits}
 use Rattle.vhost_protocol.specs.declared.asked.Awaited.{Awaited}
-use Rattle.vhost_protocol.specs.Error.{Error}
+use Rattle.vhost_protocol.specs.declared.asked.Awaited.TheVariants.{Nobody}
+use Rattle.vhost_protocol.specs.Error.{Error, seen}
 use Rattle.vhost_protocol.specs.FrontendCall.{FrontendCall, SetHdrFlags, Value, Frontend}
 use Rattle.vhost_protocol.specs.Heard.{CallFits, IsNamedWell}
 use Rattle.vhost_link.specs.declared.plain.PlainHandle.{PlainHandle}
@@ -15,9 +17,13 @@ use Rattle.vhost_connection.specs.Talk.{State}
 use Rattle.vhost_connection.specs.Hearing.{Fails}
 use Rattle.vhost_frontend_core.specs.Frontend.{endpoint_of, session_of, awaits}
 use Rattle.vhost_frontend_core.specs.Halves.{AsksHalfWithRoom}
+use Rattle.vhost_frontend_core.specs.Awaiting.{MayAwait}
+use Rattle.vhost_frontend_core.specs.Kept.{IsKeptFor}
 use Rattle.vhost_frontend_core.specs.Taking.{Reads}
 use Rattle.vhost_frontend_core.specs.declared.asked.Sent.{Sent}
 use Rattle.vhost_frontend_core.specs.declared.internal.FrontendInternal.{FrontendInternal}
+use Rattle.vhost_frontend_calls.specs.declared.answer.FrontendAnswer.{FrontendAnswer}
+use Rattle.vhost_frontend_calls.specs.Calls.{answer_of}
 
 -- every call but the one for which nothing is sent
 abbrev pub IsSent : {H : Type 0} → FrontendCall H → Type 0
@@ -30,11 +36,23 @@ pub record IsProper {H : Type 0} (call : FrontendCall H) : Type 0 where
   pub bits : Fits call
   pub small : CallFits call
 
--- the half that takes, of any call: the answer by the stream; or the link failed, and the session is as before
+-- A call was asked by its half: what is kept is what its answer needs, and where it was sent, it is made of numbers that fit.
+pub record AsksWell (call : FrontendCall PlainHandle) (old : FrontendInternal Ends PlainHandle) (result : Result Sent declared.Error) (new : FrontendInternal Ends PlainHandle) : Type 0 where
+  pub asked : AsksHalfWithRoom event call old result new
+  pub kept : IfOk result (λ sent. IsKeptFor call sent.awaited sent.kept)
+  pub proper : IfOk result (λ _. IsProper call)
+
+-- the half that takes, of any call: the answer by the stream; or the link failed, this is the answer, and the session is as before
 abbrev pub TakesResult : FrontendCall PlainHandle → Awaited → Header → State Ends PlainHandle → Frontend → Result (Value PlainHandle) Error → State Ends PlainHandle → Frontend → Type 0
 TakesResult call awaited sent old f result new f' =
     Reads event call awaited sent f old (Some (answered f' result)) new
-    ⊎ ((f' ≡ f) × (e : declared.Error) × Fails event old true e new)
+    ⊎ ((f' ≡ f) × (e : declared.Error) × (result ≡ Err (seen e)) × Fails event old true e new)
+
+-- The answer of a call was taken, of what its half that asks sent: this is the answer, and nothing is awaited.
+pub record TakesWell (call : FrontendCall PlainHandle) (sent : Sent) (old : FrontendInternal Ends PlainHandle) (answer : FrontendAnswer) (new : FrontendInternal Ends PlainHandle) : Type 0 where
+  pub taken : IsSent call → MayAwait call sent.awaited → IsKeptFor call sent.awaited sent.kept
+      → TakesResult call sent.awaited (fields_of sent.request) (endpoint_of old) (session_of old) (answer_of answer) (endpoint_of new) (session_of new)
+  pub quiet : IsSent call → awaits new ≡ Nobody
 
 module _ (call : FrontendCall PlainHandle) (old : FrontendInternal Ends PlainHandle) where
   -- A call was asked by its half; or nothing is sent for it, and it was done.

@@ -1,12 +1,12 @@
 //! The half of each call that asks.
 
-ghost use Rattle.std.specs.Prelude.{◌≡◌, ◌<◌, ◌^◌, IfOk, IfSome, map, length};
+ghost use Rattle.std.specs.Prelude.{◌≡◌, ◌<◌, IfOk, IfSome, map, length};
 ghost use Rattle.vhost_link.specs.Mem.{event};
 ghost use Rattle.vhost_protocol.specs.FrontendCall as calls;
 ghost use Rattle.vhost_frontend_core.specs.Halves.{AsksHalf, AsksHalfWithRoom};
 ghost use Rattle.vhost_frontend_core.specs.Kept.{IsKeptFor};
 ghost use Rattle.vhost_frontend_calls.specs.Calls.{call_of, info_of, log_region_of};
-ghost use Rattle.vhost_frontend_calls.specs.Halves.{IsSent, IsProper, AsksCall};
+ghost use Rattle.vhost_frontend_calls.specs.Halves.{IsSent, IsProper, AsksCall, AsksWell};
 
 use crate::call::{FrontendCall, LogRegion, RegionInfo};
 use crate::table::table_of;
@@ -14,8 +14,7 @@ use bitflags::Flags;
 use vhost_frontend_core::{FrontendInternal, Sent};
 use vhost_link::MemLink;
 use vhost_message::{
-    ByteValued, Error, MAX_MEM_REGIONS, Result, VhostUserHeaderFlag, VhostUserProtocolFeatures,
-    VhostUserSharedMsg,
+    ByteValued, Error, MAX_MEM_REGIONS, Result, VhostUserHeaderFlag, VhostUserSharedMsg,
 };
 
 /// Asks by the half of the call's name. None: nothing is sent for the call, and it was done.
@@ -39,20 +38,19 @@ pub fn ask(frontend: &mut FrontendInternal<MemLink>, call: &FrontendCall) -> Res
 }
 
 /// Asks by the half of the call's name, where something is sent for it.
+#[tactic(auto, using(crate::proofs::Plain::plain))]
 fn ask_half(frontend: &mut FrontendInternal<MemLink>, call: &FrontendCall) -> Result<Sent>
     requires { IsSent (call_of call.now) }
-    ensures asked { AsksHalfWithRoom event (call_of call.now) frontend.old result frontend.new }
-    ensures kept { IfOk result (λ sent. IsKeptFor (call_of call.now) sent.awaited sent.kept) }
-    ensures proper { IfOk result (λ _. IsProper (call_of call.now)) }
+    ensures { AsksWell (call_of call.now) frontend.old result frontend.new }
 {
     match call {
         FrontendCall::GetFeatures => frontend.ask_get_features(),
-        FrontendCall::SetFeatures(features) => ask_features(frontend, *features),
+        FrontendCall::SetFeatures(features) => frontend.ask_set_features(*features),
         FrontendCall::SetOwner => frontend.ask_set_owner(),
         FrontendCall::ResetOwner => frontend.ask_reset_owner(),
         FrontendCall::GetProtocolFeatures => frontend.ask_get_protocol_features(),
         FrontendCall::SetProtocolFeatures(features) => {
-            ask_protocol_features(frontend, *features)
+            frontend.ask_set_protocol_features(*features)
         },
         FrontendCall::GetQueueNum => frontend.ask_get_queue_num(),
         FrontendCall::ResetDevice => frontend.ask_reset_device(),
@@ -90,28 +88,9 @@ fn ask_half(frontend: &mut FrontendInternal<MemLink>, call: &FrontendCall) -> Re
         FrontendCall::PostcopyListen => frontend.ask_postcopy_listen(),
         FrontendCall::PostcopyEnd => frontend.ask_postcopy_end(),
         FrontendCall::PostcopyAckMemRegions(code) => frontend.ask_postcopy_ack_mem_regions(*code),
+        FrontendCall::SetMtu(mtu) => frontend.ask_set_mtu(*mtu),
         FrontendCall::SetHdrFlags(_) => Err(Error::InvalidParam),
     }
-}
-
-/// The half of SET_FEATURES.
-fn ask_features(frontend: &mut FrontendInternal<MemLink>, features: u64) -> Result<Sent>
-    ensures asked { AsksHalf event (calls.SetFeatures features) frontend.old result frontend.new }
-    ensures fits { features < 2 ^ 64 }
-{
-    frontend.ask_set_features(features)
-}
-
-/// The half of SET_PROTOCOL_FEATURES.
-fn ask_protocol_features(
-    frontend: &mut FrontendInternal<MemLink>,
-    features: VhostUserProtocolFeatures,
-) -> Result<Sent>
-    ensures asked { AsksHalf event (calls.SetProtocolFeatures features.bits) frontend.old result frontend.new }
-    ensures fits { features.bits < 2 ^ 64 }
-{
-    let _ = features.bits();
-    frontend.ask_set_protocol_features(features)
 }
 
 /// The half of GET_SHARED_OBJECT. A name has sixteen bytes.

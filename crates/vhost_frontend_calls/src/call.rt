@@ -135,6 +135,8 @@ pub enum FrontendCall {
     PostcopyEnd,
     /// Which request brought the regions.
     PostcopyAckMemRegions(FrontendReq),
+    /// The greatest size of a packet, in bytes.
+    SetMtu(u16),
     /// The flags of each request from then on. Nothing is sent for it.
     SetHdrFlags(VhostUserHeaderFlag),
 }

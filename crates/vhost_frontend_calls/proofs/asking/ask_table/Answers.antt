@@ -3,7 +3,7 @@ use Rattle.std.proofs.Common.{arith, map}
 use Rattle.std.proofs.lemmas.List.{length-map}
 use Rattle.vhost_frontend_core.specs.Asking.{roomy, refuses}
 use Rattle.vhost_frontend_calls.specs.Calls.{info_of}
-use Rattle.vhost_frontend_calls.proofs.Halves.{if-ok}
+use Rattle.vhost_frontend_core.proofs.Exits.{if-ok}
 use Rattle.vhost_frontend_calls.proofs.Tables.{too-many, all-regions}
 use Rattle.vhost_frontend_calls.proofs.asking.ask_table.Goals as goal
 
