@@ -31,7 +31,7 @@ fn show_missing<W: fmt::Write>(bits: u64, f: &mut Formatter<W>) -> fmt::Result
 }
 
 /// The name of an error.
-fn name_of(error: &Error) -> &'static str
+pub fn name_of(error: &Error) -> &'static str
     ensures { result.now ≡ name_of error.now }
 {
     match error {

@@ -7,4 +7,5 @@ mod lists;
 mod message;
 
 pub use answer::Answer;
+pub use error::name_of;
 pub use message::Message;
