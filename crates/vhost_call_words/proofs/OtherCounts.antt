@@ -1,7 +1,7 @@
 -- Lists of another length than a call takes: they ask for no call.
 use Rattle.std.proofs.Common.{◌≡◌, ℕ, ◌<◌, List, [], ◌∷◌, length, Option, None, refl, arith}
 use Rattle.std.specs.Borrow.{Bor}
-use Rattle.vhost_protocol.specs.FrontendCall.{SetFeatures, SetProtocolFeatures, GetVringBase, SetLogFd, SetBackendRequestFd, GetSharedObject, PostcopyAckMemRegions, SetHdrFlags, SetVringNum, SetVringBase, SetVringCall, SetVringKick, SetVringErr, SetVringEnable}
+use Rattle.vhost_protocol.specs.FrontendCall.{SetFeatures, SetProtocolFeatures, GetVringBase, SetLogFd, SetBackendRequestFd, GetSharedObject, PostcopyAckMemRegions, SetMtu, SetHdrFlags, SetVringNum, SetVringBase, SetVringCall, SetVringKick, SetVringErr, SetVringEnable}
 use Rattle.vhost_call_words.specs.Arguments.{switch, protocol_features, header_flags, handle, request, object_name}
 use Rattle.vhost_call_words.specs.Number.{u64, u16}
 use Rattle.vhost_call_words.specs.Calls.{set_log_base, set_vring_addr, get_inflight_fd, set_inflight_fd, only_region, set_device_state_fd, get_config, set_config}
@@ -35,6 +35,7 @@ single-other single_name.SetLogFd ws other = one-other handle SetLogFd ws other
 single-other single_name.SetBackendRequestFd ws other = one-other handle SetBackendRequestFd ws other
 single-other single_name.GetSharedObject ws other = one-other object_name GetSharedObject ws other
 single-other single_name.PostcopyAckMemRegions ws other = one-other request PostcopyAckMemRegions ws other
+single-other single_name.SetMtu ws other = one-other u16 SetMtu ws other
 single-other single_name.SetHdrFlags ws other = one-other header_flags SetHdrFlags ws other
 
 pub ring-other : (name : RingName) (ws : Words) → (length ws ≡ 2 → ⊥) → ring_row name (texts ws) ≡ None

@@ -5,7 +5,7 @@ use lib.Utf8.{encode}
 use Rattle.hex.proofs.OnLiterals.{hex_on_literals}
 use Rattle.vhost_link.specs.declared.handle.Kind.TheVariants.{NoSocket, UnixStream}
 use Rattle.vhost_message.specs.declared.frontend_req.FrontendReq.TheVariants.{ADD_MEM_REG}
-use Rattle.vhost_protocol.specs.FrontendCall.{GetFeatures, SetFeatures, SetProtocolFeatures, SetMemTable, SetLogBase, SetVringNum, SetVringAddr, GetConfig, SetConfig, SetBackendRequestFd, SetDeviceStateFd, PostcopyAckMemRegions}
+use Rattle.vhost_protocol.specs.FrontendCall.{GetFeatures, SetFeatures, SetProtocolFeatures, SetMemTable, SetLogBase, SetVringNum, SetVringAddr, GetConfig, SetConfig, SetBackendRequestFd, SetDeviceStateFd, PostcopyAckMemRegions, SetMtu}
 use Rattle.vhost_call_words.specs.Calls.{call_in}
 use Rattle.vhost_call_words.specs.Number.{number, u16}
 use Rattle.vhost_call_words.specs.Words.{words}
@@ -38,6 +38,14 @@ call-bare = refl
 pub call-number : call_in (codes "set_features 0x10") ≡ Some (SetFeatures 16)
 unfolding is_utf8 chars encode
 call-number = refl
+
+pub call-mtu : call_in (codes "set_mtu 65535") ≡ Some (SetMtu 65535)
+unfolding is_utf8 chars encode
+call-mtu = refl
+
+pub call-large_mtu : call_in (codes "set_mtu 65536") ≡ None
+unfolding is_utf8 chars encode
+call-large_mtu = refl
 
 pub call-twice_spaced : call_in (codes "set_features  16") ≡ None
 unfolding is_utf8 chars encode

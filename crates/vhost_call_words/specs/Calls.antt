@@ -3,7 +3,7 @@ use Rattle.std.specs.Prelude.{ℕ, min, List, [], ◌∷◌, Option, Some, None,
 use Rattle.std.specs.Str.{bytes_eq, is_utf8}
 use Rattle.vhost_link.specs.declared.plain.PlainHandle.{PlainHandle}
 use Rattle.vhost_message.specs.declared.records.inflight.VhostUserInflight.{VhostUserInflight}
-use Rattle.vhost_protocol.specs.FrontendCall.{FrontendCall, Info, GetFeatures, SetFeatures, SetOwner, ResetOwner, GetProtocolFeatures, SetProtocolFeatures, GetQueueNum, ResetDevice, SetMemTable, SetLogBase, SetLogFd, SetVringNum, SetVringBase, SetVringAddr, GetVringBase, SetVringCall, SetVringKick, SetVringErr, SetVringEnable, GetConfig, SetConfig, SetBackendRequestFd, GetSharedObject, GetInflightFd, SetInflightFd, GetMaxMemSlots, AddMemRegion, RemoveMemRegion, GetShmemConfig, SetDeviceStateFd, CheckDeviceState, PostcopyAdvise, PostcopyListen, PostcopyEnd, PostcopyAckMemRegions, SetHdrFlags}
+use Rattle.vhost_protocol.specs.FrontendCall.{FrontendCall, Info, GetFeatures, SetFeatures, SetOwner, ResetOwner, GetProtocolFeatures, SetProtocolFeatures, GetQueueNum, ResetDevice, SetMemTable, SetLogBase, SetLogFd, SetVringNum, SetVringBase, SetVringAddr, GetVringBase, SetVringCall, SetVringKick, SetVringErr, SetVringEnable, GetConfig, SetConfig, SetBackendRequestFd, GetSharedObject, GetInflightFd, SetInflightFd, GetMaxMemSlots, AddMemRegion, RemoveMemRegion, GetShmemConfig, SetDeviceStateFd, CheckDeviceState, PostcopyAdvise, PostcopyListen, PostcopyEnd, PostcopyAckMemRegions, SetMtu, SetHdrFlags}
 use Rattle.vhost_call_words.specs.Words.{words}
 use Rattle.vhost_call_words.specs.Number.{u64, u32, u16}
 use Rattle.vhost_call_words.specs.Arguments.{◌>>=◌, switch, protocol_features, header_flags, config_flags, handle, request, direction, phase, byte_string, object_name}
@@ -131,6 +131,7 @@ calls =
     ∷ (codes "set_backend_request_fd", one handle SetBackendRequestFd)
     ∷ (codes "get_shared_object", one object_name GetSharedObject)
     ∷ (codes "postcopy_ack_mem_regions", one request PostcopyAckMemRegions)
+    ∷ (codes "set_mtu", one u16 SetMtu)
     ∷ (codes "set_hdr_flags", one header_flags SetHdrFlags)
     ∷ (codes "set_vring_num", two u64 u16 SetVringNum)
     ∷ (codes "set_vring_base", two u64 u16 SetVringBase)

@@ -1,6 +1,6 @@
 -- The names of calls, by how many arguments a call takes.
 use Rattle.std.specs.Prelude.{ℕ, List, [], ◌∷◌, ◌++◌, Option, codes}
-use Rattle.vhost_protocol.specs.FrontendCall.{GetFeatures, SetOwner, ResetOwner, GetProtocolFeatures, GetQueueNum, ResetDevice, GetMaxMemSlots, GetShmemConfig, CheckDeviceState, PostcopyAdvise, PostcopyListen, PostcopyEnd, SetFeatures, SetProtocolFeatures, GetVringBase, SetLogFd, SetBackendRequestFd, GetSharedObject, PostcopyAckMemRegions, SetHdrFlags, SetVringNum, SetVringBase, SetVringCall, SetVringKick, SetVringErr, SetVringEnable}
+use Rattle.vhost_protocol.specs.FrontendCall.{GetFeatures, SetOwner, ResetOwner, GetProtocolFeatures, GetQueueNum, ResetDevice, GetMaxMemSlots, GetShmemConfig, CheckDeviceState, PostcopyAdvise, PostcopyListen, PostcopyEnd, SetFeatures, SetProtocolFeatures, GetVringBase, SetLogFd, SetBackendRequestFd, GetSharedObject, PostcopyAckMemRegions, SetMtu, SetHdrFlags, SetVringNum, SetVringBase, SetVringCall, SetVringKick, SetVringErr, SetVringEnable}
 use Rattle.vhost_call_words.specs.Number.{u64, u16}
 use Rattle.vhost_call_words.specs.Arguments.{switch, protocol_features, header_flags, handle, request, object_name}
 use Rattle.vhost_call_words.specs.Shapes.{bare, one, two}
@@ -45,6 +45,7 @@ single_names =
     ∷ (codes "set_backend_request_fd", single_name.SetBackendRequestFd)
     ∷ (codes "get_shared_object", single_name.GetSharedObject)
     ∷ (codes "postcopy_ack_mem_regions", single_name.PostcopyAckMemRegions)
+    ∷ (codes "set_mtu", single_name.SetMtu)
     ∷ (codes "set_hdr_flags", single_name.SetHdrFlags)
     ∷ []
 
@@ -103,6 +104,7 @@ single_row single_name.SetLogFd args = one handle SetLogFd args
 single_row single_name.SetBackendRequestFd args = one handle SetBackendRequestFd args
 single_row single_name.GetSharedObject args = one object_name GetSharedObject args
 single_row single_name.PostcopyAckMemRegions args = one request PostcopyAckMemRegions args
+single_row single_name.SetMtu args = one u16 SetMtu args
 single_row single_name.SetHdrFlags args = one header_flags SetHdrFlags args
 
 -- the call of each, of its arguments

@@ -31,6 +31,7 @@ pub(crate) enum SingleName {
     SetBackendRequestFd,
     GetSharedObject,
     PostcopyAckMemRegions,
+    SetMtu,
     SetHdrFlags,
 }
 
@@ -108,6 +109,7 @@ fn single_name(word: &str) -> Option<SingleName>
         "set_backend_request_fd" => Some(SingleName::SetBackendRequestFd),
         "get_shared_object" => Some(SingleName::GetSharedObject),
         "postcopy_ack_mem_regions" => Some(SingleName::PostcopyAckMemRegions),
+        "set_mtu" => Some(SingleName::SetMtu),
         "set_hdr_flags" => Some(SingleName::SetHdrFlags),
         _ => None,
     }

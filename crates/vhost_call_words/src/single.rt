@@ -6,7 +6,7 @@ ghost use Rattle.vhost_call_words.specs.Read.{called, texts};
 
 use crate::argument::{handle, header_flags, object_name, protocol_features, request};
 use crate::name::SingleName;
-use crate::number::{index, number};
+use crate::number::{index, number, number_16};
 use vhost_frontend_calls::FrontendCall;
 
 /// The call of a name and its argument. None where there is another count of arguments, or this is none.
@@ -28,6 +28,7 @@ pub(crate) fn single_call(name: SingleName, args: &[&str]) -> Option<FrontendCal
         SingleName::PostcopyAckMemRegions => {
             Some(FrontendCall::PostcopyAckMemRegions(request(word)?))
         }
+        SingleName::SetMtu => Some(FrontendCall::SetMtu(number_16(word)?)),
         SingleName::SetHdrFlags => Some(FrontendCall::SetHdrFlags(header_flags(word)?)),
     }
 }
