@@ -23,10 +23,10 @@ use Rattle.vhost_frontend_core.specs.Asking.{AsksWithRoom, Goes}
 use Rattle.vhost_frontend_core.specs.declared.asked.Sent.{Sent}
 use Rattle.vhost_frontend_core.specs.Taking.{Reads, unread, read}
 use Rattle.vhost_pair.specs.OnWay.{incoming, outgoing, Carries}
-use Rattle.vhost_pair.specs.Joined.{IsUsed}
+use Rattle.vhost_pair.specs.Joined.{Passes}
 use Rattle.vhost_pair.specs.Sides.{cuts_of}
 use Rattle.vhost_pair.proofs.OnWay.{incoming-handed, incoming-cut, outgoing-taken}
-use Rattle.vhost_pair.proofs.Spent.{Faults, faults, no-memory, talk-used, used-none}
+use Rattle.vhost_pair.proofs.Spent.{Faults, faults, no-memory, passes, passes-none}
 
 abbrev pub End : Type 0
 End = State Ends PlainHandle
@@ -50,7 +50,7 @@ module _ (call : FrontendCall PlainHandle) (fe : End) (f : Frontend) (before : A
     pub faulted : fe'.faulted ≡ false
     pub list : fe'.list ≡ true
     pub budget : fe'.budget ≡ fe.budget
-    pub used : IsUsed (cuts_of fe.link) (cuts_of fe'.link)
+    pub passed : Passes fe.budget (cuts_of fe.link) (cuts_of fe'.link)
 
   went-asked : {w : Written FrontendReq PlainHandle} {aw' : Awaited} {f' : Frontend} {sent : Sent} {fe' : End} → ask f call ≡ Sends w aw' f' → Goes event w aw' fe sent fe' → IsAsked sent fe' f' aw'
   went-asked {w} {fe' = fe'} e g = record {
@@ -64,7 +64,7 @@ module _ (call : FrontendCall PlainHandle) (fe : End) (f : Frontend) (before : A
     faulted = g.serves.faulted;
     list = g.list;
     budget = g.serves.talks.budget;
-    used = talk-used fe fe' _ g.serves.talks;
+    passed = passes fe fe' _ _ g.serves;
   }
 
   pub is-asked : {sent : Sent} {fe' : End} {f' : Frontend} {aw' : Awaited} → AsksWithRoom event (ask f call) fe f before (Ok sent) fe' f' aw' → IsAsked sent fe' f' aw'
@@ -74,7 +74,7 @@ module _ (call : FrontendCall PlainHandle) (fe : End) (f : Frontend) (before : A
   pub record IsUnasked (e : declared.Error) (fe' : End) (f' : Frontend) (aw' : Awaited) : Type 0 where
     pub session : f' ≡ f
     pub awaits : aw' ≡ before
-    pub why : ((ask f call ≡ Refuses (seen e)) × (fe' ≡ fe)) ⊎ Faults fe fe'
+    pub why : ((ask f call ≡ Refuses (seen e)) × (fe' ≡ fe)) ⊎ Faults fe fe' e
 
   pub is-unasked : {e : declared.Error} {fe' : End} {f' : Frontend} {aw' : Awaited} → (e ≡ error.OutOfMemory → ⊥) → fe.broken ≡ None → fe.list ≡ true
       → AsksWithRoom event (ask f call) fe f before (Err e) fe' f' aw' → IsUnasked e fe' f' aw'
@@ -116,7 +116,7 @@ module _ (call : FrontendCall PlainHandle) (awaited : Awaited) (sent : Header) (
   pub record IsTaken (fe' : End) : Type 0 where
     pub cut : take call awaited sent f (incoming fe) ≡ (x, incoming fe')
     pub outgoing : outgoing fe' ≡ outgoing fe
-    pub used : IsUsed (cuts_of fe.link) (cuts_of fe'.link)
+    pub passed : Passes fe.budget (cuts_of fe.link) (cuts_of fe'.link)
     pub broken : fe'.broken ≡ None
     pub faulted : fe'.faulted ≡ false
     pub budget : fe'.budget ≡ fe.budget
@@ -125,7 +125,7 @@ module _ (call : FrontendCall PlainHandle) (awaited : Awaited) (sent : Header) (
   is-taken whole sound (unread here) = record {
     cut = here (incoming fe);
     outgoing = refl;
-    used = used-none (cuts_of fe.link) (cuts_of fe.link) refl;
+    passed = passes-none fe.budget (cuts_of fe.link) (cuts_of fe.link) refl;
     broken = whole;
     faulted = sound;
     budget = refl;
@@ -133,7 +133,7 @@ module _ (call : FrontendCall PlainHandle) (awaited : Awaited) (sent : Header) (
   is-taken {fe' = fe'} whole sound (read h) = record {
     cut = incoming-cut fe fe' _ h.serves.talks (take call awaited sent f) h.cells h.ended x refl h.splits;
     outgoing = outgoing-taken fe fe' _ h.serves.talks ∙ append-nil (outgoing fe);
-    used = talk-used fe fe' _ h.serves.talks;
+    passed = passes fe fe' _ _ h.serves;
     broken = h.serves.after;
     faulted = h.serves.faulted;
     budget = h.serves.talks.budget;

@@ -24,6 +24,8 @@ use Rattle.vhost_protocol.specs.Take.{take}
 use Rattle.vhost_protocol.specs.Written.{Written, written_cells}
 use Rattle.vhost_link.specs.declared.plain.PlainHandle.{PlainHandle}
 use Rattle.vhost_backend_req_handler.specs.Serving.{fitting}
+use Rattle.vhost_link.specs.Mem.{event}
+use Rattle.vhost_frontend_core.specs.Taking.{Reads}
 use Rattle.vhost_frontend_core.specs.declared.asked.Sent.{Sent}
 use Rattle.vhost_pair.specs.declared.halt.Stop.{Stop}
 use Rattle.vhost_pair.specs.declared.halt.Stop.TheVariants.{Premise}
@@ -34,14 +36,18 @@ use Rattle.vhost_frontend_calls.specs.Halves.{IsProper, TakesResult}
 use Rattle.vhost_pair.specs.OnWay.{incoming, outgoing}
 use Rattle.vhost_pair.specs.Text.{text_of, no_text}
 use Rattle.vhost_pair.specs.Joined as joined
-use Rattle.vhost_pair.specs.Joined.{View, IsReady, IsSpent, IsUsed, Keeps, Answers}
+use Rattle.vhost_pair.specs.Joined.{Cuts, View, IsReady, Passes, PassesBoth, Stops, StopsReply, Took, Keeps, Answers}
 use Rattle.vhost_pair.specs.Sides as sides
 use Rattle.vhost_pair.specs.Sides.{Parts, cuts_of, as_view, IsSound, HaveLists, ends, stop_of, Served, Serves, EndsUnsent, IsAskedBy, Exchanges}
 use Rattle.vhost_pair.proofs.Asked.{End, both-empty, IsAsked, is-asked, IsUnasked, is-unasked, arrived, emptied, kept, held, sender-cuts, receiver-cuts, IsTaken, is-taken}
-use Rattle.vhost_pair.proofs.Served.{pair-first, pair-second, IsHandled, split-handled, IsServed, is-served, last_stop, stopped-as}
+use Rattle.vhost_pair.proofs.Served.{pair-first, pair-second, ServingFaults, IsHandled, split-handled, IsServed, is-served, last_stop, stopped-as, fed}
 use Rattle.vhost_pair.proofs.Calls.{ends-so}
 use Rattle.vhost_pair.proofs.Outcomes.{sendable, few-written, Outcomes, outcomes}
-use Rattle.vhost_pair.proofs.Spent.{Faults, faults, fault-spent, spent-later, used-none, used-then}
+use Rattle.vhost_pair.proofs.Spent.{Faults, faults, passes-none}
+
+-- a step for which no link was called
+passed-none : (budget : ℕ) (old new : Cuts) → new ≡ old → PassesBoth budget old new
+passed-none budget old new same = record { mid = old; request = passes-none budget old old refl; reply = passes-none budget old new same }
 
 from_some : {A : Type 0} → A → Option A → A
 from_some a None = a
@@ -88,11 +94,11 @@ module _ {Dev : Type 0} (gives : Gives Dev) (call : FrontendCall PlainHandle) (b
       abbrev IsServed1 : Type 0
       IsServed1 = IsServed gives he1 he2 old.session new.session old.device new.device w (seen_result v.result)
 
-      served-or-not : IsServed1 ⊎ Faults he1 he2
+      served-or-not : IsServed1 ⊎ ServingFaults he1 he2
       served-or-not = by-cases (split-handled gives he1 he2 old.session new.session old.device new.device sound.failed v.result (v.handled sound.failed) (ap {A = End} (λ e. e.broken) v.there.receiver ∙ sound.serves) (ap {A = End} (λ e. e.list) v.there.receiver ∙ lists.1))
         where
-          by-cases : IsHandled gives he1 he2 old.session new.session old.device new.device (seen_result v.result) ⊎ Faults he1 he2 → IsServed1 ⊎ Faults he1 he2
-          by-cases (inl h) = inl (is-served gives he1 he2 old.session new.session old.device new.device w (seen_result v.result) (sendable call good old.frontend w aw1 f1 ask1.asked) h came clear sound.failed)
+          by-cases : (IsHandled gives he1 he2 old.session new.session old.device new.device (seen_result v.result) × PassesBoth he1.budget (cuts_of he1.link) (cuts_of he2.link)) ⊎ ServingFaults he1 he2 → IsServed1 ⊎ ServingFaults he1 he2
+          by-cases (inl (h, passed)) = inl (is-served gives he1 he2 old.session new.session old.device new.device w (seen_result v.result) (sendable call good old.frontend w aw1 f1 ask1.asked) h passed came clear sound.failed)
           by-cases (inr k) = inr k
 
       abbrev Done1 : Outcome PlainHandle → Type 0
@@ -109,7 +115,7 @@ module _ {Dev : Type 0} (gives : Gives Dev) (call : FrontendCall PlainHandle) (b
       Goal = Answers gives (as_view old None) call ans (as_view new stop)
 
       -- a fault on one side stops the run
-      premise : (new.asking.faulted || new.serving.faulted) ≡ true → joined.Breaks gives call (as_view old None) (as_view new stop) → Goal
+      premise : (new.asking.faulted || new.serving.faulted) ≡ true → joined.Breaks gives (as_view old None) call ans (as_view new stop) → Goal
       premise faulted breaks = inr (v.stops ∙ ap (λ b. stop_of (ends call) b v.result new.reply.bytes) faulted, breaks)
 
       asking-whole : fe3.broken ≡ None
@@ -127,23 +133,50 @@ module _ {Dev : Type 0} (gives : Gives Dev) (call : FrontendCall PlainHandle) (b
       serving-budget : he1.budget ≡ old.asking.budget
       serving-budget = ap {A = End} (λ e. e.budget) v.there.receiver ∙ sound.budget
 
-      asking-used : IsUsed (cuts_of old.asking.link) (cuts_of fe3.link)
-      asking-used = used-then (cuts_of old.asking.link) (cuts_of fe1.link) (cuts_of fe3.link) ask1.used
-          (used-none (cuts_of fe1.link) (cuts_of fe3.link) (receiver-cuts he2 fe2 new.serving fe3 v.back ∙ sender-cuts fe1 old.serving fe2 he1 v.there))
+      asking-passed : Passes old.asking.budget (cuts_of old.asking.link) (cuts_of fe3.link)
+      asking-passed = subst (λ c. Passes old.asking.budget (cuts_of old.asking.link) c) (sym (receiver-cuts he2 fe2 new.serving fe3 v.back ∙ sender-cuts fe1 old.serving fe2 he1 v.there)) ask1.passed
 
-      serving-fault : Faults he1 he2 → Goal
-      serving-fault k =
-          let faulted : (new.asking.faulted || new.serving.faulted) ≡ true = ap (λ b. new.asking.faulted || b) (ap {A = End} (λ e. e.faulted) v.back.sender ∙ k.faulted) ∙ or-true new.asking.faulted in
-          let after : IsSpent he1.budget (cuts_of he1.link) (cuts_of new.serving.link) = subst (λ y. IsSpent he1.budget (cuts_of he1.link) y) (sym (sender-cuts he2 fe2 new.serving fe3 v.back)) (fault-spent he1 he2 k) in
-          let before : IsSpent he1.budget (cuts_of old.serving.link) (cuts_of new.serving.link) = subst (λ y. IsSpent he1.budget y (cuts_of new.serving.link)) (receiver-cuts fe1 old.serving fe2 he1 v.there) after in
-          premise faulted (joined.serving (subst (λ n. IsSpent n (cuts_of old.serving.link) (cuts_of new.serving.link)) serving-budget before))
+      -- the handler's link between the two carries
+      abbrev OfServing : (Cuts → Cuts → Type 0) → Type 0
+      OfServing P = P (cuts_of he1.link) (cuts_of he2.link) → P (cuts_of old.serving.link) (cuts_of new.serving.link)
 
-      asking-fault : Faults fe3 new.asking → Goal
-      asking-fault k =
-          let faulted : (new.asking.faulted || new.serving.faulted) ≡ true = ap (λ b. b || new.serving.faulted) k.faulted in
-          let before = asking-used in
-          let whole : IsSpent fe3.budget (cuts_of old.asking.link) (cuts_of new.asking.link) = spent-later fe3.budget (before.used) (cuts_of old.asking.link) (cuts_of fe3.link) (cuts_of new.asking.link) before.script (fault-spent fe3 new.asking k) in
-          premise faulted (joined.asking (subst (λ n. IsSpent n (cuts_of old.asking.link) (cuts_of new.asking.link)) asking-budget whole))
+      of-serving : (P : Cuts → Cuts → Type 0) → OfServing P
+      of-serving P p = subst (λ c. P c (cuts_of new.serving.link)) (receiver-cuts fe1 old.serving fe2 he1 v.there) (subst (λ c. P (cuts_of he1.link) c) (sym (sender-cuts he2 fe2 new.serving fe3 v.back)) p)
+
+      -- what came of the reply is all that the handler wrote
+      came-back : incoming fe3 ≡ outgoing he2
+      came-back = arrived he2 fe2 new.serving fe3 v.back nothing-left
+
+      took : length (outgoing he2) ≤ MAX_MSG_TEXT → IsTaken call aw1 (fields_of sent.request) f1 fe3 (Some (answered new.frontend ans)) new.asking → Took gives (as_view old None) call ans (as_view new stop)
+      took few t = record {
+        message = w;
+        awaited = aw1;
+        after = f1;
+        asked = ask1.asked;
+        request = v.request few-asked ∙ ap text_of asked-whole;
+        came = outgoing he2;
+        reply = v.reply few;
+        left = incoming new.asking;
+        taken = ap (λ header. take call aw1 header f1 (outgoing he2)) (sym ask1.header) ∙ ap (λ cells. take call aw1 (fields_of sent.request) f1 cells) (sym came-back) ∙ t.cut;
+      }
+
+      serving-fault : ServingFaults he1 he2 → IsTaken call aw1 (fields_of sent.request) f1 fe3 (Some (answered new.frontend ans)) new.asking → Goal
+      serving-fault k t = premise (ap (λ b. new.asking.faulted || b) (ap {A = End} (λ e. e.faulted) v.back.sender ∙ k.faulted) ∙ or-true new.asking.faulted) (by-message k.stopped)
+        where
+          few : length (outgoing he2) ≤ MAX_MSG_TEXT
+          few = subst (λ cells. length cells ≤ MAX_MSG_TEXT) (sym (k.sent ∙ ap (λ xs. xs ++ k.gone) clear)) k.few
+
+          by-message : Stops he1.budget k.cause (cuts_of he1.link) (cuts_of he2.link) ⊎ StopsReply he1.budget k.cause (cuts_of he1.link) (cuts_of he2.link) → joined.Breaks gives (as_view old None) call ans (as_view new stop)
+          by-message (inl p) = joined.unread k.cause (of-serving (λ a b. Stops old.asking.budget k.cause a b) (subst (λ n. Stops n k.cause (cuts_of he1.link) (cuts_of he2.link)) serving-budget p)) (took few t)
+          by-message (inr p) = joined.unanswered k.cause (of-serving (λ a b. StopsReply old.asking.budget k.cause a b) (subst (λ n. StopsReply n k.cause (cuts_of he1.link) (cuts_of he2.link)) serving-budget p)) (took few t)
+
+      asking-fault : (e : declared.Error) → ans ≡ Err (seen e) → Faults fe3 new.asking e → Goal
+      asking-fault e is k = premise (ap (λ b. b || new.serving.faulted) k.faulted)
+          (joined.lost k.cause (record {
+            mid = cuts_of fe3.link;
+            request = asking-passed;
+            reply = subst (λ n. Stops n k.cause (cuts_of fe3.link) (cuts_of new.asking.link)) asking-budget k.stopped;
+          }) (is ∙ ap {A = declared.Error} {B = Result (Value PlainHandle) Error} (λ x. Err (seen x)) k.error))
 
       both-served : IsServed1 → IsTaken call aw1 (fields_of sent.request) f1 fe3 (Some (answered new.frontend ans)) new.asking → Goal
       unfolding from_some
@@ -195,12 +228,12 @@ module _ {Dev : Type 0} (gives : Gives Dev) (call : FrontendCall PlainHandle) (b
           }
 
           shown : Shown PlainHandle
-          shown = record { request = written_cells request_number w; reply = replied; result = ans; last = last }
+          shown = record { request = written_cells request_number w; handled = Some h.outcome.answer; reply = replied; result = ans; last = last }
 
-          keeps : stop ≡ last_stop last → Keeps gives (as_view old None) call ans (as_view new stop)
-          keeps at_last = record {
+          keeps : stop ≡ last_stop last → (Some h.outcome.answer ≡ Some (Err OutOfMemory) → ⊥) → Keeps gives (as_view old None) call ans (as_view new stop)
+          keeps at_last without = record {
             shown = shown;
-            step = subst (λ x. protocol.Exchanges gives opens_backend opens_gpu old.frontend old.session old.device call x shown new.frontend new.session new.device) (sym ask1.asked) (h.outcome, k.meets, h.session, k.known.known ∙ sym some, refl, refl, refl);
+            step = subst (λ x. protocol.Exchanges gives opens_backend opens_gpu old.frontend old.session old.device call x shown new.frontend new.session new.device) (sym ask1.asked) (h.outcome, k.meets, h.session, k.known.known ∙ sym some, refl, refl, refl, refl);
             answered = refl;
             request = v.request few-asked ∙ ap text_of asked-whole;
             reply = is_reply;
@@ -208,23 +241,26 @@ module _ {Dev : Type 0} (gives : Gives Dev) (call : FrontendCall PlainHandle) (b
             in_step = in_step;
             no_request = no_request;
             no_reply = no_reply;
-            asking = used-then (cuts_of old.asking.link) (cuts_of fe3.link) (cuts_of new.asking.link) asking-used t.used;
-            serving = used-then (cuts_of old.serving.link) (cuts_of he1.link) (cuts_of new.serving.link) (used-none (cuts_of old.serving.link) (cuts_of he1.link) (receiver-cuts fe1 old.serving fe2 he1 v.there))
-                (used-then (cuts_of he1.link) (cuts_of he2.link) (cuts_of new.serving.link) h.used (used-none (cuts_of he2.link) (cuts_of new.serving.link) (sender-cuts he2 fe2 new.serving fe3 v.back)));
+            asking = record { mid = cuts_of fe3.link; request = asking-passed; reply = subst (λ n. Passes n (cuts_of fe3.link) (cuts_of new.asking.link)) asking-budget t.passed };
+            serving = of-serving (λ a b. PassesBoth old.asking.budget a b) (subst (λ n. PassesBoth n (cuts_of he1.link) (cuts_of he2.link)) serving-budget h.passed);
+            fed = without;
             budget = t.budget ∙ asking-budget;
           }
 
           by-cases : ((stop_of (ends call) false v.result (bytes replied) ≡ Some Premise) × (h.outcome.answer ≡ Err OutOfMemory)) ⊎ (stop_of (ends call) false v.result (bytes replied) ≡ last_stop last) → Goal
-          by-cases (inl (e, memory)) = inr (stops ∙ e, joined.device (record { message = w; awaited = aw1; after = f1; asked = ask1.asked; outcome = h.outcome; meets = k.meets; memory = memory }))
-          by-cases (inr e) = inl (keeps (stops ∙ e))
+          by-cases (inl (e, memory)) = inr (stops ∙ e, joined.starved (record { message = w; awaited = aw1; after = f1; asked = ask1.asked; outcome = h.outcome; meets = k.meets; memory = memory }) (took few-served t))
+          by-cases (inr e) = inl (keeps (stops ∙ e) (λ is. fed (ends call) v.result (bytes replied) last e (h.answer ∙ cc is)))
 
       exchanged : Goal
       exchanged = by-cases served-or-not (subst (λ a. TakesResult call a (fields_of sent.request) fe3 f1 ans new.asking new.frontend) ask1.awaits v.takes)
         where
-          by-cases : IsServed1 ⊎ Faults he1 he2 → TakesResult call aw1 (fields_of sent.request) fe3 f1 ans new.asking new.frontend → Goal
-          by-cases (inr k) t = serving-fault k
-          by-cases (inl h) (inl t) = both-served h (is-taken call aw1 (fields_of sent.request) f1 fe3 (Some (answered new.frontend ans)) asking-whole asking-sound t)
-          by-cases (inl h) (inr (same, e, fails)) = asking-fault (faults fe3 new.asking true e fails asking-whole asking-list)
+          taken-so : Reads event call aw1 (fields_of sent.request) f1 fe3 (Some (answered new.frontend ans)) new.asking → IsTaken call aw1 (fields_of sent.request) f1 fe3 (Some (answered new.frontend ans)) new.asking
+          taken-so t = is-taken call aw1 (fields_of sent.request) f1 fe3 (Some (answered new.frontend ans)) asking-whole asking-sound t
+
+          by-cases : IsServed1 ⊎ ServingFaults he1 he2 → TakesResult call aw1 (fields_of sent.request) fe3 f1 ans new.asking new.frontend → Goal
+          by-cases (inr k) (inl t) = serving-fault k (taken-so t)
+          by-cases (inl h) (inl t) = both-served h (taken-so t)
+          by-cases x (inr (same, e, is, fails)) = asking-fault e is (faults fe3 new.asking true e fails asking-whole asking-list)
 
       -- nothing is in the reply's way
       none-left : fe2.link.pending ≡ []
@@ -252,8 +288,9 @@ module _ {Dev : Type 0} (gives : Gives Dev) (call : FrontendCall PlainHandle) (b
     in_step = λ last. subst (λ p. InStep p.frontend p.session p.awaited (outgoing p.asking ++ incoming p.serving) (outgoing p.serving ++ incoming p.asking)) (sym same) ready.in_step;
     no_request = ap {A = Parts Dev} (λ p. outgoing p.asking ++ incoming p.serving) same ∙ ready.in_step.no_request;
     no_reply = ap {A = Parts Dev} (λ p. outgoing p.serving ++ incoming p.asking) same ∙ ready.in_step.no_reply;
-    asking = used-none (cuts_of old.asking.link) (cuts_of new.asking.link) (ap {A = Parts Dev} (λ p. cuts_of p.asking.link) same);
-    serving = used-none (cuts_of old.serving.link) (cuts_of new.serving.link) (ap {A = Parts Dev} (λ p. cuts_of p.serving.link) same);
+    asking = passed-none old.asking.budget (cuts_of old.asking.link) (cuts_of new.asking.link) (ap {A = Parts Dev} (λ p. cuts_of p.asking.link) same);
+    serving = passed-none old.asking.budget (cuts_of old.serving.link) (cuts_of new.serving.link) (ap {A = Parts Dev} (λ p. cuts_of p.serving.link) same);
+    fed = λ is. cc is;
     budget = ap {A = Parts Dev} (λ p. p.asking.budget) same;
   }
 
@@ -263,7 +300,7 @@ module _ {Dev : Type 0} (gives : Gives Dev) (call : FrontendCall PlainHandle) (b
       u : IsUnasked call old.asking old.frontend old.awaited e asked.asking asked.frontend asked.awaited
       u = is-unasked call old.asking old.frontend old.awaited other sound.asks lists.0 by.asks
 
-      by-cases : ((ask old.frontend call ≡ ask.Refuses (seen e)) × (asked.asking ≡ old.asking)) ⊎ Faults old.asking asked.asking → Answers gives (as_view old None) call (answer_of x.answer) (as_view new x.stop)
+      by-cases : ((ask old.frontend call ≡ ask.Refuses (seen e)) × (asked.asking ≡ old.asking)) ⊎ Faults old.asking asked.asking e → Answers gives (as_view old None) call (answer_of x.answer) (as_view new x.stop)
       by-cases (inl (refuses, unchanged)) =
           let none : x.stop ≡ None = end.goes_on (ap {A = End} (λ s. s.faulted) unchanged ∙ sound.sound) in
           let here : asked ≡ old = by.same ∙ ap {A = End} (λ s. record old { asking = s; frontend = asked.frontend; awaited = asked.awaited }) unchanged ∙ ap {A = Frontend} (λ g. record old { frontend = g; awaited = asked.awaited }) u.session ∙ ap {A = Awaited} (λ a. record old { awaited = a }) u.awaits in
@@ -275,7 +312,7 @@ module _ {Dev : Type 0} (gives : Gives Dev) (call : FrontendCall PlainHandle) (b
       by-cases (inr k) =
           let why : x.stop ≡ Some Premise = end.stopped k.faulted in
           let link : new.asking ≡ asked.asking = ap {A = Parts Dev} (λ p. p.asking) end.same in
-          inr (why, joined.asking (subst (λ s. IsSpent old.asking.budget (cuts_of old.asking.link) (cuts_of s.link)) (sym link) (fault-spent old.asking asked.asking k)))
+          inr (why, joined.unsent k.cause (subst (λ s. Stops old.asking.budget k.cause (cuts_of old.asking.link) (cuts_of s.link)) (sym link) k.stopped) (end.answer ∙ ap {A = declared.Error} {B = Result (Value PlainHandle) Error} (λ x. Err (seen x)) k.error))
 
   -- it was answered at once
   at-once : (x : Exchanged) (new : Parts Dev) (flags : ℕ) → call ≡ SetHdrFlags flags → answer_of x.answer ≡ Ok Nothing → x.stop ≡ None
@@ -302,8 +339,9 @@ module _ {Dev : Type 0} (gives : Gives Dev) (call : FrontendCall PlainHandle) (b
         };
         no_request = ready.in_step.no_request;
         no_reply = ready.in_step.no_reply;
-        asking = used-none (cuts_of old.asking.link) (cuts_of old.asking.link) refl;
-        serving = used-none (cuts_of old.serving.link) (cuts_of old.serving.link) refl;
+        asking = passed-none old.asking.budget (cuts_of old.asking.link) (cuts_of old.asking.link) refl;
+        serving = passed-none old.asking.budget (cuts_of old.serving.link) (cuts_of old.serving.link) refl;
+        fed = λ is. cc is;
         budget = refl;
       }
 

@@ -12,5 +12,6 @@ pub mod Exchanging
 pub mod HeaderFlags
 pub mod Ready
 pub mod Stepping
-pub mod Running
 pub mod Lockstep
+pub mod Running
+pub mod Lists

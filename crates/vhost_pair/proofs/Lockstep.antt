@@ -1,5 +1,5 @@
--- Joined runs where no premise of the lockstep fails.
-use Rattle.std.proofs.Common.{◌≡◌, inl, inr, Bool, true, false, cond, List, [], ◌∷◌, Some, None, Result, Ok, Err, refl, sym, ◌∙◌, ap, subst}
+-- Frontend and handler stay in lockstep.
+use Rattle.std.proofs.Common.{◌≡◌, ℕ, inl, inr, Bool, true, false, cond, List, [], ◌∷◌, Some, None, Result, Ok, Err, refl, sym, ◌∙◌, ap, subst}
 use Rattle.std.specs.Prelude.{⊤}
 use Rattle.vhost_protocol.specs.Error.{Error}
 use Rattle.vhost_protocol.specs.FrontendCall.{FrontendCall, Value}
@@ -13,8 +13,10 @@ use Rattle.vhost_pair.specs.declared.halt.Stop.{Stop}
 use Rattle.vhost_pair.specs.declared.halt.Stop.TheVariants.{Table, Premise}
 use Rattle.vhost_protocol.specs.Joined.{JoinedRun}
 use Rattle.vhost_pair.specs.Device.{Gives, opens_backend, opens_gpu}
-use Rattle.vhost_pair.specs.Joined.{View, IsReady, Offers, Steps, StepsAll, Keeps, Answers}
-use Rattle.vhost_pair.specs.Lockstep.{entries, IsPlain, IsLockstep, LockstepLaw, BeginsInStep}
+use Rattle.vhost_pair.specs.Joined.{View, IsReady, Offers, Steps, StepsAll, Keeps, Breaks, Answers}
+use Rattle.vhost_pair.specs.Lockstep.{entries, IsPlain, ArePlain, InLockstep, Lockstep}
+use Rattle.vhost_pair.specs.Sides.{as_view, fresh_parts}
+use Rattle.vhost_link.specs.declared.cut.Cut.{Cut}
 use Rattle.vhost_pair.proofs.Ready.{stays-ready}
 
 -- ---- steps
@@ -26,7 +28,7 @@ module _ {Dev : Type 0} (gives : Gives Dev) where
 
   -- a run that has stopped answers no more
   stopped-same : (old new : View Dev) (calls : List code.FrontendCall) (answers : List FrontendAnswer) (end : Result ⊤ Halt) (stop : Stop) → old.stopped ≡ Some stop
-      → StepsAll gives old calls answers end new → (new ≡ old) × (entries calls answers ≡ [])
+      → StepsAll gives old calls answers end new → (new ≡ old) × (answers ≡ [])
   stopped-same old new [] [] (Ok u) stop e s = (s, refl)
   stopped-same old new [] [] (Err h) stop e s = absurd s
   stopped-same old new [] (a ∷ as') end stop e s = absurd s
@@ -35,76 +37,131 @@ module _ {Dev : Type 0} (gives : Gives Dev) where
   stopped-same old new (c ∷ cs) (a ∷ as') end stop e s = let none = s.1.0 in absurd (cc (sym e ∙ none))
 
   module _ (bit : Bool) where
-    unstepped : (old new : View Dev) → IsReady bit old → old.stopped ≡ None → new ≡ old → IsLockstep gives bit old new [] []
-    unstepped old new ready none same = record {
-      run = (ap (λ v. v.frontend) same, ap (λ v. v.session) same, ap (λ v. v.device) same);
+    -- no call was answered
+    unstepped : (old new : View Dev) (calls : List code.FrontendCall) → IsReady bit old → new ≡ old → InLockstep gives bit old calls [] new
+    unstepped old new calls ready same = record {
+      run = none calls;
+      each = same;
       in_step = λ on. subst (λ v. IsReady bit v) (sym same) ready;
       no_request = ap (λ v. v.to_handler) same ∙ ready.in_step.no_request;
       no_reply = ap (λ v. v.to_frontend) same ∙ ready.in_step.no_reply;
     }
+      where
+        none : (cs : List code.FrontendCall) → JoinedRun gives opens_backend opens_gpu old.frontend old.session old.device (entries cs []) new.frontend new.session new.device
+        none [] = (ap (λ v. v.frontend) same, ap (λ v. v.session) same, ap (λ v. v.device) same)
+        none (c ∷ cs) = (ap (λ v. v.frontend) same, ap (λ v. v.session) same, ap (λ v. v.device) same)
+
+    pub unanswered : (old new : View Dev) (calls : List code.FrontendCall) → IsReady bit old → old.stopped ≡ None → new ≡ old → Lockstep gives bit old calls [] new
+    unanswered old new calls ready going same = inl (unstepped old new calls ready same, λ premise. cc (sym (ap (λ v. v.stopped) same ∙ going) ∙ premise))
 
     -- both sides are ready for the next call
-    next-ready : Offers gives bit → (call : FrontendCall PlainHandle) (old mid : View Dev) (result : Result (Value PlainHandle) Error) → IsPlain call → IsReady bit old → (k : Keeps gives old call result mid) → k.shown.last ≡ false
+    pub next-ready : Offers gives bit → (call : FrontendCall PlainHandle) (old mid : View Dev) (result : Result (Value PlainHandle) Error) → IsPlain call → IsReady bit old → (k : Keeps gives old call result mid) → k.shown.last ≡ false
         → IsReady bit mid
     next-ready offers call old mid result plain ready k on =
         let still = stays-ready gives bit offers old.frontend old.session old.device call (k.shown) mid.frontend mid.session mid.device plain (ready.plain, ready.negotiates) k.step in
         record { in_step = k.in_step on; plain = still.0; negotiates = still.1 }
 
-    lockstep-more : Offers gives bit → (old mid new : View Dev) (c : code.FrontendCall) (cs : List code.FrontendCall) (a : FrontendAnswer) (as' : List FrontendAnswer) (end : Result ⊤ Halt)
-        → IsPlain (call_of c) → IsReady bit old → Answers gives old (call_of c) (answer_of a) mid → StepsAll gives mid cs as' end new → (new.stopped ≡ Some Premise → ⊥)
-        → (IsReady bit mid → mid.stopped ≡ None → IsLockstep gives bit mid new cs as') → IsLockstep gives bit old new (c ∷ cs) (a ∷ as')
-    lockstep-more offers old mid new c cs a as' end plain ready answered steps going before = by-cases answered
+    module _ (old mid new : View Dev) (c : code.FrontendCall) (cs : List code.FrontendCall) (a : FrontendAnswer) (as' : List FrontendAnswer) (k : Keeps gives old (call_of c) (answer_of a) mid) where
+      -- a call that kept the protocol, and those behind it
+      in-step-more : k.shown.last ≡ false → IsReady bit mid → InLockstep gives bit mid cs as' new → InLockstep gives bit old (c ∷ cs) (a ∷ as') new
+      in-step-more on ready rest = record {
+        run = (k.shown, mid.frontend, mid.session, mid.device, k.step, sym k.answered, λ t. absurd (cc (sym on ∙ t)), rest.run);
+        each = (mid, k, λ _. ready, λ t. absurd (cc (sym on ∙ t)), rest.each);
+        in_step = rest.in_step;
+        no_request = rest.no_request;
+        no_reply = rest.no_reply;
+      }
+
+      -- the last step
+      in-step-last : k.shown.last ≡ true → mid.stopped ≡ Some Table → new ≡ mid → as' ≡ [] → InLockstep gives bit old (c ∷ cs) (a ∷ as') new
+      in-step-last at_end stopped same none = subst (λ xs. InLockstep gives bit old (c ∷ cs) (a ∷ xs) new) (sym none) (record {
+        run = (k.shown, mid.frontend, mid.session, mid.device, k.step, sym k.answered, λ t. no-entries cs, no-run cs);
+        each = (mid, k, (λ on. absurd (cc (sym at_end ∙ on))), (λ t. refl), same);
+        in_step = λ on. absurd (cc (sym (ap (λ v. v.stopped) same ∙ stopped) ∙ on));
+        no_request = ap (λ v. v.to_handler) same ∙ k.no_request;
+        no_reply = ap (λ v. v.to_frontend) same ∙ k.no_reply;
+      })
+        where
+          no-entries : (xs : List code.FrontendCall) → entries xs [] ≡ []
+          no-entries [] = refl
+          no-entries (x ∷ xs) = refl
+
+          no-run : (xs : List code.FrontendCall) → JoinedRun gives opens_backend opens_gpu mid.frontend mid.session mid.device (entries xs []) new.frontend new.session new.device
+          no-run [] = (ap (λ v. v.frontend) same, ap (λ v. v.session) same, ap (λ v. v.device) same)
+          no-run (x ∷ xs) = (ap (λ v. v.frontend) same, ap (λ v. v.session) same, ap (λ v. v.device) same)
+
+      -- the same of calls of which the last one broke a premise
+      more : k.shown.last ≡ false → IsReady bit mid → Lockstep gives bit mid cs as' new → Lockstep gives bit old (c ∷ cs) (a ∷ as') new
+      more on ready (inl (rest, going)) = inl (in-step-more on ready rest, going)
+      more on ready (inr b) = inr (record {
+        before = c ∷ b.before;
+        call = b.call;
+        later = b.later;
+        asked = ap (λ xs. c ∷ xs) b.asked;
+        kept = a ∷ b.kept;
+        answer = b.answer;
+        answered = ap (λ xs. a ∷ xs) b.answered;
+        mid = b.mid;
+        lockstep = before b.before b.kept b.mid b.lockstep;
+        going = b.going;
+        stopped = b.stopped;
+        breaks = b.breaks;
+      })
+        where
+          before : (ds : List code.FrontendCall) (bs : List FrontendAnswer) (v : View Dev) → InLockstep gives bit mid ds bs v → InLockstep gives bit old (c ∷ ds) (a ∷ bs) v
+          before ds bs v rest = record {
+            run = (k.shown, mid.frontend, mid.session, mid.device, k.step, sym k.answered, λ t. absurd (cc (sym on ∙ t)), rest.run);
+            each = (mid, k, λ _. ready, λ t. absurd (cc (sym on ∙ t)), rest.each);
+            in_step = rest.in_step;
+            no_request = rest.no_request;
+            no_reply = rest.no_reply;
+          }
+
+    stepped : Offers gives bit → (old mid new : View Dev) (c : code.FrontendCall) (cs : List code.FrontendCall) (a : FrontendAnswer) (as' : List FrontendAnswer) (end : Result ⊤ Halt)
+        → IsPlain (call_of c) → IsReady bit old → old.stopped ≡ None → Answers gives old (call_of c) (answer_of a) mid → StepsAll gives mid cs as' end new
+        → (IsReady bit mid → mid.stopped ≡ None → Lockstep gives bit mid cs as' new) → Lockstep gives bit old (c ∷ cs) (a ∷ as') new
+    stepped offers old mid new c cs a as' end plain ready going (inl k) steps behind = by-last (k.shown.last) refl
       where
-        kept : Keeps gives old (call_of c) (answer_of a) mid → IsLockstep gives bit old new (c ∷ cs) (a ∷ as')
-        kept k = by-last (k.shown.last) refl
-          where
-            stops : (last : Bool) → k.shown.last ≡ last → mid.stopped ≡ cond last (Some Table) None
-            stops last e = k.stopped ∙ ap (λ b. cond b (Some Table) None) e
+        stops : (last : Bool) → k.shown.last ≡ last → mid.stopped ≡ cond last (Some Table) None
+        stops last e = k.stopped ∙ ap (λ b. cond b (Some Table) None) e
 
-            nothing : k.shown.last ≡ true → (new ≡ mid) × (entries cs as' ≡ [])
-            nothing e = stopped-same mid new cs as' end Table (stops true e) steps
+        by-last : (last : Bool) → k.shown.last ≡ last → Lockstep gives bit old (c ∷ cs) (a ∷ as') new
+        by-last false e =
+            let next = next-ready offers (call_of c) old mid (answer_of a) plain ready k e in
+            more old mid new c cs a as' k e next (behind next (stops false e))
+        by-last true e =
+            let ended = stopped-same mid new cs as' end Table (stops true e) steps in
+            inl (in-step-last old mid new c cs a as' k e (stops true e) ended.0 ended.1, λ premise. cc (sym (ap (λ v. v.stopped) ended.0 ∙ stops true e) ∙ premise))
+    stepped offers old mid new c cs a as' end plain ready going (inr (premise, breaks)) steps behind =
+        let ended = stopped-same mid new cs as' end Premise premise steps in
+        inr (record {
+          before = [];
+          call = c;
+          later = cs;
+          asked = refl;
+          kept = [];
+          answer = a;
+          answered = ap (λ xs. a ∷ xs) ended.1;
+          mid = old;
+          lockstep = unstepped old old [] ready refl;
+          going = going;
+          stopped = ap (λ v. v.stopped) ended.0 ∙ premise;
+          breaks = subst (λ v. Breaks gives old (call_of c) (answer_of a) v) (sym ended.0) breaks;
+        })
 
-            by-last : (last : Bool) → k.shown.last ≡ last → IsLockstep gives bit old new (c ∷ cs) (a ∷ as')
-            by-last false e =
-                let rest : IsLockstep gives bit mid new cs as' = before (next-ready offers (call_of c) old mid (answer_of a) plain ready k e) (stops false e) in
-                record {
-                  run = (k.shown, mid.frontend, mid.session, mid.device, k.step, sym k.answered, λ t. (nothing t).1, rest.run);
-                  in_step = rest.in_step;
-                  no_request = rest.no_request;
-                  no_reply = rest.no_reply;
-                }
-            by-last true e =
-                let stopped : new.stopped ≡ Some Table = ap (λ v. v.stopped) (nothing e).0 ∙ stops true e in
-                let ended = nothing e in
-                record {
-                  run = (k.shown, mid.frontend, mid.session, mid.device, k.step, sym k.answered, λ t. ended.1, ran-none ended.0 ended.1);
-                  in_step = λ on. absurd (cc (sym stopped ∙ on));
-                  no_request = ap (λ v. v.to_handler) ended.0 ∙ k.no_request;
-                  no_reply = ap (λ v. v.to_frontend) ended.0 ∙ k.no_reply;
-                }
-              where
-                ran-none : new ≡ mid → entries cs as' ≡ [] → JoinedRun gives opens_backend opens_gpu mid.frontend mid.session mid.device (entries cs as') new.frontend new.session new.device
-                ran-none same none = subst (λ es. JoinedRun gives opens_backend opens_gpu mid.frontend mid.session mid.device es new.frontend new.session new.device) (sym none)
-                    (ap (λ v. v.frontend) same, ap (λ v. v.session) same, ap (λ v. v.device) same)
-
-        by-cases : Answers gives old (call_of c) (answer_of a) mid → IsLockstep gives bit old new (c ∷ cs) (a ∷ as')
-        by-cases (inl k) = kept k
-        by-cases (inr b) = absurd (going (ap (λ v. v.stopped) (stopped-same mid new cs as' end Premise b.0 steps).0 ∙ b.0))
-
-  pub lockstep : LockstepLaw gives
-  lockstep bit old new [] [] (Ok u) offers ready none plain s going = unstepped bit old new ready none s
-  lockstep bit old new [] [] (Err h) offers ready none plain s going = absurd s
-  lockstep bit old new [] (a ∷ as') end offers ready none plain s going = absurd s
-  lockstep bit old new (c ∷ cs) [] (Ok u) offers ready none plain s going = absurd s
-  lockstep bit old new (c ∷ cs) [] (Err h) offers ready none plain s going =
-      let k = unstepped bit old new ready none (halted-same old new c h s) in record { run = k.run; in_step = k.in_step; no_request = k.no_request; no_reply = k.no_reply }
-  lockstep bit old new (c ∷ cs) (a ∷ as') end offers ready none plain s going =
-      lockstep-more bit offers old s.0 new c cs a as' end plain.0 ready (s.1.1 bit ready) s.2 going
-      (λ mid_ready mid_none. lockstep bit s.0 new cs as' end offers mid_ready mid_none plain.1 s.2 going)
+    pub lockstep : (old new : View Dev) (calls : List code.FrontendCall) (answers : List FrontendAnswer) (end : Result ⊤ Halt)
+        → Offers gives bit → IsReady bit old → old.stopped ≡ None → ArePlain calls → StepsAll gives old calls answers end new → Lockstep gives bit old calls answers new
+    lockstep old new [] [] (Ok u) offers ready going plain s = unanswered old new [] ready going s
+    lockstep old new [] [] (Err h) offers ready going plain s = absurd s
+    lockstep old new [] (a ∷ as') end offers ready going plain s = absurd s
+    lockstep old new (c ∷ cs) [] (Ok u) offers ready going plain s = absurd s
+    lockstep old new (c ∷ cs) [] (Err h) offers ready going plain s = unanswered old new (c ∷ cs) ready going (halted-same old new c h s)
+    lockstep old new (c ∷ cs) (a ∷ as') end offers ready going plain s =
+        stepped offers old s.0 new c cs a as' end plain.0 ready going (s.1.1 bit ready) s.2 (λ next on. lockstep s.0 new cs as' end offers next on plain.1 s.2)
 
 -- a run that begins is ready
-pub begins : (Dev : Type 0) → BeginsInStep Dev
-begins Dev device queues budget asking serving bit = record {
+pub begins : {Dev : Type 0} (device : Dev) (queues budget : ℕ) (asking serving : List Cut) (bit : Bool) → IsReady bit (as_view (fresh_parts device queues budget asking serving) None)
+begins device queues budget asking serving bit = record {
   in_step = record { agree = record { offered = refl; acked_protocol_features = refl; postcopy = refl; acked = refl }; nobody = refl; no_request = refl; no_reply = refl };
   plain = refl;
   negotiates = (λ on. absurd (cc on), λ on. absurd (cc on), λ on. absurd (cc on));

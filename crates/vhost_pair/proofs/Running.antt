@@ -1,5 +1,5 @@
 -- Runs of calls, one call after another.
-use Rattle.std.proofs.Common.{◌≡◌, ℕ, ◌+◌, suc, get_or, ◌<◌, List, [], ◌∷◌, ◌++◌, length, take, drop, Option, Some, None, Result, Ok, Err, refl, sym, ◌∙◌, ap, subst, arith, inl, append_assoc, false}
+use Rattle.std.proofs.Common.{◌≡◌, ℕ, ◌+◌, suc, get_or, ◌<◌, List, [], ◌∷◌, ◌++◌, length, take, drop, Option, Some, None, Result, Ok, Err, refl, sym, ◌∙◌, ap, subst, arith, inl, inr, append_assoc, false}
 use Rattle.std.proofs.lemmas.List.{append-nil, take-append-drop}
 use Rattle.std.proofs.Math.Seq.{take-suc, drop-cons}
 use Rattle.std.specs.Prelude.{⊤, is_some, is_err, OnOk, IfOk, IsErrAnd}
@@ -7,9 +7,12 @@ use Rattle.std.proofs.lemmas.Result.{err_from_is_err_and}
 use Rattle.vhost_frontend_calls.specs.declared.call.FrontendCall as code
 use Rattle.vhost_frontend_calls.specs.declared.answer.FrontendAnswer.{FrontendAnswer}
 use Rattle.vhost_pair.specs.declared.halt.Halt.{Halt}
+use Rattle.vhost_pair.specs.declared.halt.Halt.TheVariants as halt
 use Rattle.vhost_pair.specs.Device.{Gives}
 use Rattle.vhost_frontend_calls.specs.Calls.{call_of}
-use Rattle.vhost_pair.specs.Joined.{View, Steps, StepsAll, RunsCalls}
+use Rattle.vhost_pair.specs.Joined.{View, Steps, StepsAll}
+use Rattle.vhost_pair.specs.Lockstep.{RunsCalls}
+use Rattle.vhost_pair.proofs.Lockstep.{lockstep, unanswered}
 
 module _ {Dev : Type 0} (gives : Gives Dev) where
   -- each call was answered
@@ -53,12 +56,30 @@ module _ {Dev : Type 0} (gives : Gives Dev) where
     did = next c a r.did step;
   }
 
+  runs : (old new : View Dev) (calls : List code.FrontendCall) (before answers after : List FrontendAnswer) (end : Result ⊤ Halt) → after ≡ before ++ answers → StepsAll gives old calls answers end new
+      → RunsCalls gives old calls before end after new
+  runs old new calls before answers after end grown steps = record {
+    answers = answers;
+    appended = grown;
+    steps = inl steps;
+    lockstep = λ bit offers ready going plain. lockstep gives bit old new calls answers end offers ready going plain steps;
+  }
+
+  -- there was no room for the answers
+  pub runs-none : (old : View Dev) (calls : List code.FrontendCall) (before : List FrontendAnswer) → RunsCalls gives old calls before (Err halt.OutOfMemory) before old
+  runs-none old calls before = record {
+    answers = [];
+    appended = sym (append-nil before);
+    steps = inr (refl, refl, refl);
+    lockstep = λ bit offers ready going plain. unanswered gives bit old old calls ready going refl;
+  }
+
   pub ran-all : (old new : View Dev) (calls : List code.FrontendCall) (before after : List FrontendAnswer) → Ran old calls before after new → RunsCalls gives old calls before (Ok tt) after new
-  ran-all old new calls before after r = record { answers = r.answers; appended = r.grown; steps = inl (did-all old new calls r.answers r.did) }
+  ran-all old new calls before after r = runs old new calls before r.answers after (Ok tt) r.grown (did-all old new calls r.answers r.did)
 
   pub ran-until : (old mid new : View Dev) (calls : List code.FrontendCall) (before after : List FrontendAnswer) (c : code.FrontendCall) (more : List code.FrontendCall) (h : Halt)
       → Ran old calls before after mid → Steps gives mid (call_of c) (Err h) new → RunsCalls gives old (calls ++ c ∷ more) before (Err h) after new
-  ran-until old mid new calls before after c more h r step = record { answers = r.answers; appended = r.grown; steps = inl (did-until old mid new calls c more r.answers h r.did step) }
+  ran-until old mid new calls before after c more h r step = runs old new (calls ++ c ∷ more) before r.answers after (Err h) r.grown (did-until old mid new calls c more r.answers h r.did step)
 
 pub not-stopped : {A : Type 0} (o : Option A) → is_some o ≡ false → o ≡ None
 not-stopped None e = refl

@@ -20,9 +20,10 @@ use Rattle.vhost_frontend_calls.specs.Halves.{TakesResult}
 use Rattle.vhost_pair.specs.OnWay.{outgoing}
 use Rattle.vhost_pair.specs.Text.{no_text}
 use Rattle.vhost_pair.specs.Sides as sides
-use Rattle.vhost_pair.specs.Sides.{Parts, IsSound, HaveLists, ends, stop_of, Served, Serves, EndsUnsent, IsAskedBy, Exchanges}
+use Rattle.vhost_pair.specs.Joined.{PassesBoth}
+use Rattle.vhost_pair.specs.Sides.{Parts, cuts_of, IsSound, HaveLists, ends, stop_of, Served, Serves, EndsUnsent, IsAskedBy, Exchanges}
 use Rattle.vhost_pair.proofs.Asked.{End, IsAsked, is-asked, IsUnasked, is-unasked, emptied, held, IsTaken, is-taken}
-use Rattle.vhost_pair.proofs.Served.{IsHandled, split-handled, handled-mark}
+use Rattle.vhost_pair.proofs.Served.{ServingFaults, IsHandled, split-handled, handled-mark}
 use Rattle.vhost_pair.proofs.Spent.{Faults, faults}
 
 module _ {Dev : Type 0} (gives : Gives Dev) (call : FrontendCall PlainHandle) (old : Parts Dev) (sound : IsSound old) (lists : HaveLists old) where
@@ -39,8 +40,8 @@ module _ {Dev : Type 0} (gives : Gives Dev) (call : FrontendCall PlainHandle) (o
     handled : IsHandled1
     handled = by-cases (split-handled gives v.serving_then v.serving_after old.session new.session old.device new.device sound.failed v.result (v.handled sound.failed) (ap {A = End} (λ e. e.broken) v.there.receiver ∙ sound.serves) (ap {A = End} (λ e. e.list) v.there.receiver ∙ lists.1))
       where
-        by-cases : IsHandled1 ⊎ Faults v.serving_then v.serving_after → IsHandled1
-        by-cases (inl h) = h
+        by-cases : (IsHandled1 × PassesBoth v.serving_then.budget (cuts_of v.serving_then.link) (cuts_of v.serving_after.link)) ⊎ ServingFaults v.serving_then v.serving_after → IsHandled1
+        by-cases (inl (h, passed)) = h
         by-cases (inr k) = absurd (faulted-stops (ap (λ b. new.asking.faulted || b) (ap {A = End} (λ e. e.faulted) v.back.sender ∙ k.faulted) ∙ or-true new.asking.faulted))
 
     taken : IsTaken call sent.awaited (fields_of sent.request) f1 v.asking_after (Some (answered new.frontend ans)) new.asking
@@ -58,8 +59,8 @@ module _ {Dev : Type 0} (gives : Gives Dev) (call : FrontendCall PlainHandle) (o
         by-cases : TakesResult call sent.awaited (fields_of sent.request) v.asking_after f1 ans new.asking new.frontend
             → IsTaken call sent.awaited (fields_of sent.request) f1 v.asking_after (Some (answered new.frontend ans)) new.asking
         by-cases (inl t) = is-taken call sent.awaited (fields_of sent.request) f1 v.asking_after (Some (answered new.frontend ans)) whole faultless t
-        by-cases (inr (same, e, fails)) =
-            let k : Faults v.asking_after new.asking = faults v.asking_after new.asking true e fails whole list in
+        by-cases (inr (same, e, is, fails)) =
+            let k : Faults v.asking_after new.asking e = faults v.asking_after new.asking true e fails whole list in
             absurd (faulted-stops (ap (λ b. b || new.serving.faulted) k.faulted))
 
     sound-served : IsSound new
@@ -105,7 +106,7 @@ module _ {Dev : Type 0} (gives : Gives Dev) (call : FrontendCall PlainHandle) (o
       same : new ≡ record asked { request = new.request; reply = no_text }
       same = end.same
 
-      by-cases : ((ask old.frontend call ≡ Refuses (seen e)) × (asked.asking ≡ old.asking)) ⊎ Faults old.asking asked.asking → IsSound new
+      by-cases : ((ask old.frontend call ≡ Refuses (seen e)) × (asked.asking ≡ old.asking)) ⊎ Faults old.asking asked.asking e → IsSound new
       by-cases (inl (refuses, unchanged)) = still-sound new (ap {A = Parts Dev} (λ p. p.asking) same ∙ unchanged)
           (ap {A = Parts Dev} (λ p. p.serving) same ∙ ap {A = Parts Dev} (λ p. p.serving) by.same) (ap {A = Parts Dev} (λ p. p.session) same ∙ ap {A = Parts Dev} (λ p. p.session) by.same)
           (ap {A = Parts Dev} (λ p. p.awaited) same ∙ u.awaits)

@@ -1,19 +1,18 @@
--- Joined runs where no premise of the lockstep fails.
-use Rattle.std.specs.Prelude.{◌≡◌, ℕ, List, [], ◌∷◌, Bool, Some, None, false, Result, ⊤}
+-- Frontend and handler in lockstep: what a joined run is worth.
+use Rattle.std.specs.Prelude.{◌≡◌, ◌⊎◌, List, [], ◌∷◌, ◌++◌, Bool, Some, None, true, false, Result, Err, ⊤}
 use Rattle.vhost_message.specs.Bits.{has_bit}
 use Rattle.vhost_protocol.specs.Error.{Error}
 use Rattle.vhost_protocol.specs.FrontendCall.{FrontendCall, SetHdrFlags, Value}
 use Rattle.vhost_protocol.specs.Joined.{JoinedRun}
-use Rattle.vhost_link.specs.declared.cut.Cut.{Cut}
 use Rattle.vhost_link.specs.declared.plain.PlainHandle.{PlainHandle}
 use Rattle.vhost_frontend_calls.specs.declared.call.FrontendCall as code
 use Rattle.vhost_frontend_calls.specs.declared.answer.FrontendAnswer.{FrontendAnswer}
-use Rattle.vhost_pair.specs.declared.halt.Halt.{Halt}
-use Rattle.vhost_pair.specs.declared.halt.Stop.TheVariants.{Premise}
 use Rattle.vhost_frontend_calls.specs.Calls.{call_of, answer_of}
+use Rattle.vhost_pair.specs.declared.halt.Halt.{Halt}
+use Rattle.vhost_pair.specs.declared.halt.Halt.TheVariants as halt
+use Rattle.vhost_pair.specs.declared.halt.Stop.TheVariants.{Premise}
 use Rattle.vhost_pair.specs.Device.{Gives, opens_backend, opens_gpu}
-use Rattle.vhost_pair.specs.Joined.{View, IsReady, Offers, StepsAll}
-use Rattle.vhost_pair.specs.Sides.{as_view, fresh_parts}
+use Rattle.vhost_pair.specs.Joined.{View, IsReady, Offers, Keeps, Breaks, StepsAll}
 
 -- the calls that were answered, with their answers
 abbrev pub entries : List code.FrontendCall → List FrontendAnswer → List (FrontendCall PlainHandle × Result (Value PlainHandle) Error)
@@ -30,20 +29,46 @@ abbrev pub ArePlain : List code.FrontendCall → Type 0
 ArePlain [] = ⊤
 ArePlain (c ∷ cs) = IsPlain (call_of c) × ArePlain cs
 
-module _ {Dev : Type 0} (gives : Gives Dev) where
-  -- The answered calls are a joined run of the protocol. Nothing is left on the way, and unless the run stopped both sides are in step.
-  pub record IsLockstep (bit : Bool) (old new : View Dev) (calls : List code.FrontendCall) (answers : List FrontendAnswer) : Type 0 where
+module _ {Dev : Type 0} (gives : Gives Dev) (bit : Bool) where
+  -- Answered calls one after another, each of which keeps the protocol. Both sides are in step after each but the last step, and behind that there is none.
+  abbrev pub KeepsAll : View Dev → List code.FrontendCall → List FrontendAnswer → View Dev → Type 0
+  KeepsAll old cs [] new = new ≡ old
+  KeepsAll old [] (a ∷ as') new = ⊥
+  KeepsAll old (c ∷ cs) (a ∷ as') new =
+      (mid : View Dev) × (k : Keeps gives old (call_of c) (answer_of a) mid) × (k.shown.last ≡ false → IsReady bit mid) × (k.shown.last ≡ true → as' ≡ []) × KeepsAll mid cs as' new
+
+  -- The answered calls are a joined run of the protocol, to the sessions and the device of now. Nothing is left on the way, and unless the run stopped both sides are in step.
+  pub record InLockstep (old : View Dev) (calls : List code.FrontendCall) (answers : List FrontendAnswer) (new : View Dev) : Type 0 where
     pub run : JoinedRun gives opens_backend opens_gpu old.frontend old.session old.device (entries calls answers) new.frontend new.session new.device
+    pub each : KeepsAll old calls answers new
     pub in_step : new.stopped ≡ None → IsReady bit new
     pub no_request : new.to_handler ≡ []
     pub no_reply : new.to_frontend ≡ []
 
-  -- The steps of a run that was in step keep the lockstep, unless it stopped because a premise failed: that step has the evidence.
-  abbrev pub LockstepLaw : Type 0
-  LockstepLaw = (bit : Bool) (old new : View Dev) (calls : List code.FrontendCall) (answers : List FrontendAnswer) (end : Result ⊤ Halt)
-      → Offers gives bit → IsReady bit old → old.stopped ≡ None → ArePlain calls → StepsAll gives old calls answers end new → (new.stopped ≡ Some Premise → ⊥)
-      → IsLockstep bit old new calls answers
+  -- The last answered call broke a premise, and the run stopped for it; the calls before it are in lockstep.
+  pub record BrokeAtLast (old : View Dev) (calls : List code.FrontendCall) (answers : List FrontendAnswer) (new : View Dev) : Type 0 where
+    pub before : List code.FrontendCall
+    pub call : code.FrontendCall
+    pub later : List code.FrontendCall
+    pub asked : calls ≡ before ++ call ∷ later
+    pub kept : List FrontendAnswer
+    pub answer : FrontendAnswer
+    pub answered : answers ≡ kept ++ answer ∷ []
+    pub mid : View Dev
+    pub lockstep : InLockstep old before kept mid
+    pub going : mid.stopped ≡ None
+    pub stopped : new.stopped ≡ Some Premise
+    pub breaks : Breaks gives mid (call_of call) (answer_of answer) new
 
--- a run that begins is in step
-abbrev pub BeginsInStep : Type 0 → Type 0
-BeginsInStep Dev = (device : Dev) (queues budget : ℕ) (asking serving : List Cut) (bit : Bool) → IsReady bit (as_view (fresh_parts device queues budget asking serving) None)
+  -- Frontend and handler are in lockstep; or they were up to the last answered call, where a premise failed.
+  abbrev pub Lockstep : View Dev → List code.FrontendCall → List FrontendAnswer → View Dev → Type 0
+  Lockstep old calls answers new = (InLockstep old calls answers new × (new.stopped ≡ Some Premise → ⊥)) ⊎ BrokeAtLast old calls answers new
+
+-- The headline, the contract of `Joined::run`: for every device, every list of calls and every pair of scripts. Where all features that the device offers agree on protocol
+-- features, no request is sent as a reply, and both sides were in step, they are in lockstep.
+-- Whatever was before: the answers are appended, each call is a step, and where there is no room for the answers, no call is done.
+pub record RunsCalls {Dev : Type 0} (gives : Gives Dev) (old : View Dev) (calls : List code.FrontendCall) (before : List FrontendAnswer) (result : Result ⊤ Halt) (after : List FrontendAnswer) (new : View Dev) : Type 0 where
+  pub answers : List FrontendAnswer
+  pub appended : after ≡ before ++ answers
+  pub steps : StepsAll gives old calls answers result new ⊎ ((result ≡ Err halt.OutOfMemory) × (answers ≡ []) × (new ≡ old))
+  pub lockstep : (bit : Bool) → Offers gives bit → IsReady bit old → old.stopped ≡ None → ArePlain calls → Lockstep gives bit old calls answers new

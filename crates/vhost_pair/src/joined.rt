@@ -1,6 +1,6 @@
 //! A frontend and a handler joined over two links in memory.
 
-ghost use Rattle.std.specs.Prelude.{◌≡◌, None, IfOk, IfErr};
+ghost use Rattle.std.specs.Prelude.{◌≡◌, Bool, None, IfOk, IfErr};
 ghost use Rattle.vhost_pair.specs.declared.halt.Halt.TheVariants.{OutOfMemory};
 
 use crate::halt::{Halt, Stop};
@@ -31,8 +31,10 @@ impl<D: Drop> Model for Joined<D> {
 }
 
 impl<D: VhostUserBackendReqHandlerMut<Link = MemLink>> Joined<D> {
-    ghost use Rattle.vhost_frontend_calls.specs.Calls.{call_of};
-    ghost use Rattle.vhost_pair.specs.Joined.{Steps, RunsCalls};
+    ghost use Rattle.vhost_frontend_calls.specs.Calls.{call_of, answer_of};
+    ghost use Rattle.vhost_pair.specs.Joined.{IsReady, Steps};
+    ghost use Rattle.vhost_pair.specs.Lists.{IsListedFor};
+    ghost use Rattle.vhost_pair.specs.Lockstep.{RunsCalls};
     ghost use Rattle.vhost_pair.specs.Sides.{as_view, fresh_parts};
 
     /// Two new sessions over two new links, which are cut as the scripts say: the first that of the frontend. The
@@ -47,6 +49,7 @@ impl<D: VhostUserBackendReqHandlerMut<Link = MemLink>> Joined<D> {
         scripts: (Vec<Cut>, Vec<Cut>),
     ) -> Result<Self, Halt>
         ensures fresh { IfOk result (λ run. run ≡ as_view (fresh_parts device max_queue_num budget scripts.0.items scripts.1.items) None) }
+        ensures ready { IfOk result (λ run. (bit : Bool) → IsReady bit run) }
         ensures memory { IfErr result (λ halt. halt ≡ OutOfMemory) }
     {
         let (asking, serving) = scripts;
@@ -64,7 +67,8 @@ impl<D: VhostUserBackendReqHandlerMut<Link = MemLink>> Joined<D> {
     /// `Halt::Stopped`: the run has stopped before. `Halt::OutOfMemory`: a growth was refused before the first byte.
     /// In both cases nothing changed.
     pub fn step(&mut self, call: &FrontendCall) -> Result<FrontendAnswer, Halt>
-        ensures { Steps D.gives self.old (call_of call.now) result self.new }
+        ensures step { Steps D.gives self.old (call_of call.now) result self.new }
+        ensures listed { IfOk result (λ answer. IsListedFor (call_of call.now) (answer_of answer)) }
     {
         if self.stopped.is_some() {
             return Err(Halt::Stopped);

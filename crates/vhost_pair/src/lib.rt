@@ -3,12 +3,12 @@
 
 mod halt;
 mod joined;
-mod law;
 mod sides;
 mod ways;
 mod wire;
 
 pub use halt::{Halt, Stop};
 pub use joined::Joined;
-pub use law::lockstep_law;
 pub use vhost_frontend_calls::{FrontendAnswer, FrontendCall, LogRegion, RegionInfo};
+pub use ways::{carry, copy};
+pub use wire::Wire;

@@ -3,6 +3,7 @@
 ghost use Rattle.std.specs.Prelude.{◌≡◌, ◌||◌, Some, None, Ok, IfOk, IfErr};
 ghost use Rattle.vhost_message.specs.declared.error.Error.TheVariants.{OutOfMemory};
 ghost use Rattle.vhost_frontend_calls.specs.Calls.{call_of, answer_of};
+ghost use Rattle.vhost_pair.specs.Lists.{IsListedFor};
 ghost use Rattle.vhost_pair.specs.Sides.{ends};
 ghost use Rattle.vhost_pair.specs.declared.halt.Stop.TheVariants.{Premise};
 
@@ -107,7 +108,8 @@ impl<D: VhostUserBackendReqHandlerMut<Link = MemLink>> Sides<D> {
     /// `Halt::OutOfMemory`: there was no room for its answer; nothing changed.
     pub fn exchange(&mut self, call: &FrontendCall) -> std::result::Result<Exchanged, Halt>
         requires { HaveLists (parts_of self.old) }
-        ensures { Exchanges D.gives (call_of call.now) (parts_of self.old) result (parts_of self.new) }
+        ensures done { Exchanges D.gives (call_of call.now) (parts_of self.old) result (parts_of self.new) }
+        ensures listed { IfOk result (λ done. IsListedFor (call_of call.now) (answer_of done.answer)) }
     {
         match ask(&mut self.frontend, call) {
             Ok(Some(sent)) => Ok(self.serve(call, sent)),
@@ -153,7 +155,8 @@ impl<D: VhostUserBackendReqHandlerMut<Link = MemLink>> Sides<D> {
         requires sent { IsSent (call_of call.now) }
         requires awaited { MayAwait (call_of call.now) sent.awaited }
         requires kept { IsKeptFor (call_of call.now) sent.awaited sent.kept }
-        ensures { Serves D.gives (call_of call.now) sent (parts_of self.old) result (parts_of self.new) }
+        ensures served { Serves D.gives (call_of call.now) sent (parts_of self.old) result (parts_of self.new) }
+        ensures listed { IsListedFor (call_of call.now) (answer_of result.answer) }
     {
         copy_request(&mut self.frontend, &mut self.request);
         let served = self.hand_over();

@@ -15,14 +15,15 @@ use vhost_backend_req_handler::SessionCore;
 use vhost_connection::Endpoint;
 use vhost_frontend_core::FrontendInternal;
 use vhost_link::MemLink;
-use vhost_message::{Error, FrontendReq, Result, VhostUserMsgHeader};
-
-type End = Endpoint<VhostUserMsgHeader<FrontendReq>, MemLink>;
+use vhost_message::{Error, Req, Result, VhostUserMsgHeader};
 
 /// What one endpoint sent goes to another.
 ///
 /// OutOfMemory: the other had more to receive, and its growth was refused; then nothing changed.
-fn carry(from: &mut End, to: &mut End) -> Result<()>
+pub fn carry<R: Req>(
+    from: &mut Endpoint<VhostUserMsgHeader<R>, MemLink>,
+    to: &mut Endpoint<VhostUserMsgHeader<R>, MemLink>,
+) -> Result<()>
     ensures carried { OnOk result (Carries (state from.old) (state to.old) (state from.new) (state to.new)) }
     ensures refused { OnErr result ((state from.new ≡ state from.old) × (state to.new ≡ state to.old)) }
     ensures succeeds { (state to.old).link.pending ≡ [] → IsOk result }
@@ -34,7 +35,7 @@ fn carry(from: &mut End, to: &mut End) -> Result<()>
 }
 
 /// Copies what an endpoint sent.
-fn copy(end: &mut End, wire: &mut Wire)
+pub fn copy<R: Req>(end: &mut Endpoint<VhostUserMsgHeader<R>, MemLink>, wire: &mut Wire)
     ensures text { length (outgoing (state end.old)) ≤ MAX_MSG_TEXT → text_in wire.new ≡ text_of (outgoing (state end.old)) }
     ensures same { state end.new ≡ state end.old }
 {

@@ -4,4 +4,4 @@ use Rattle.vhost_pair.proofs.ways.carry.Goals as goal
 
 pub returns-in-Ok-clause-carried : goal.returns-in-Ok-clause-carried
 unfolding ahead_of
-returns-in-Ok-clause-carried c = carries _ _ _ _ _ _ c.link.ensures.value c.link-2.ensures.value c.in-Ok.ensures.carried
+returns-in-Ok-clause-carried g c = carries _ _ _ _ _ _ c.link.ensures.value c.link-2.ensures.value c.in-Ok.ensures.carried

@@ -12,26 +12,34 @@ returns-in-Ok g c =
     let none = not-stopped (c.self.inside.stopped) (sym c.is_some.ensures ∙ c.if-is_some.false) in
     let gives = g.D.VhostUserBackendReqHandlerMut.gives in
     let lists = held c.prepare.result _ (sym c.is_err.ensures.value ∙ c.if-is_err.false) c.prepare.ensures.lists in
-    subst (λ v. Steps gives v (call_of c.args.call.now) (Ok c.in-Ok.done.answer) (as_view (parts_of c.exchange.new.self) c.in-Ok.done.stop)) c.self.view_is
-    (steps-so gives (call_of c.args.call.now) (parts_of c.self.inside.sides) (parts_of c.prepare.new.self) c.prepare.ensures.asking c.prepare.ensures.serving c.prepare.ensures.rest
-    c.in-Ok.done (parts_of c.exchange.new.self) c.self.inside.stopped none (c.self.invariant none) lists c.in-Ok.ensures)
+    record {
+      step =
+          subst (λ v. Steps gives v (call_of c.args.call.now) (Ok c.in-Ok.done.answer) (as_view (parts_of c.exchange.new.self) c.in-Ok.done.stop)) c.self.view_is
+          (steps-so gives (call_of c.args.call.now) (parts_of c.self.inside.sides) (parts_of c.prepare.new.self) c.prepare.ensures.asking c.prepare.ensures.serving c.prepare.ensures.rest
+          c.in-Ok.done (parts_of c.exchange.new.self) c.self.inside.stopped none (c.self.invariant none) lists c.in-Ok.ensures.done);
+      listed = c.in-Ok.ensures.listed;
+    }
 
 pub returns-in-Err : goal.returns-in-Err
 returns-in-Err g c =
     let none = not-stopped (c.self.inside.stopped) (sym c.is_some.ensures ∙ c.if-is_some.false) in
     let gives = g.D.VhostUserBackendReqHandlerMut.gives in
-    subst (λ v. Steps gives v (call_of c.args.call.now) (Err c.in-Err.halt) (as_view (parts_of c.exchange.new.self) c.self.inside.stopped)) c.self.view_is
-    (halts-so gives (call_of c.args.call.now) (parts_of c.self.inside.sides) (parts_of c.prepare.new.self) c.prepare.ensures.asking c.prepare.ensures.serving c.prepare.ensures.rest
-    c.in-Err.halt (parts_of c.exchange.new.self) c.self.inside.stopped none c.in-Err.ensures)
+    record {
+      step =
+          subst (λ v. Steps gives v (call_of c.args.call.now) (Err c.in-Err.halt) (as_view (parts_of c.exchange.new.self) c.self.inside.stopped)) c.self.view_is
+          (halts-so gives (call_of c.args.call.now) (parts_of c.self.inside.sides) (parts_of c.prepare.new.self) c.prepare.ensures.asking c.prepare.ensures.serving c.prepare.ensures.rest
+          c.in-Err.halt (parts_of c.exchange.new.self) c.self.inside.stopped none c.in-Err.ensures.done);
+      listed = tt;
+    }
 
 pub invariant_of-self-in-Ok : goal.invariant_of-self-in-Ok
 invariant_of-self-in-Ok g c on =
     let none = not-stopped (c.self.inside.stopped) (sym c.is_some.ensures ∙ c.if-is_some.false) in
     let lists = held c.prepare.result _ (sym c.is_err.ensures.value ∙ c.if-is_err.false) c.prepare.ensures.lists in
     sound-so g.D.VhostUserBackendReqHandlerMut.gives (call_of c.args.call.now) (parts_of c.self.inside.sides) (parts_of c.prepare.new.self) c.prepare.ensures.asking c.prepare.ensures.serving c.prepare.ensures.rest
-    c.in-Ok.done (parts_of c.exchange.new.self) (c.self.invariant none) lists c.in-Ok.ensures on
+    c.in-Ok.done (parts_of c.exchange.new.self) (c.self.invariant none) lists c.in-Ok.ensures.done on
 
 pub invariant_of-self-in-Err : goal.invariant_of-self-in-Err
 invariant_of-self-in-Err g c on =
     sound-halted g.D.VhostUserBackendReqHandlerMut.gives (call_of c.args.call.now) (parts_of c.self.inside.sides) (parts_of c.prepare.new.self) c.prepare.ensures.asking c.prepare.ensures.serving c.prepare.ensures.rest
-    c.in-Err.halt (parts_of c.exchange.new.self) (c.self.invariant on) c.in-Err.ensures
+    c.in-Err.halt (parts_of c.exchange.new.self) (c.self.invariant on) c.in-Err.ensures.done

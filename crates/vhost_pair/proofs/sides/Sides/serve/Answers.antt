@@ -3,15 +3,22 @@ use Rattle.vhost_frontend_calls.specs.Calls.{call_of}
 use Rattle.vhost_pair.specs.Sides as sides
 use Rattle.vhost_pair.specs.Sides.{parts_of}
 use Rattle.vhost_pair.proofs.Handing.{same-asked, served-copied, lost-copied}
+use Rattle.vhost_pair.proofs.Lists.{result-listed}
 use Rattle.vhost_pair.proofs.sides.Sides.serve.Goals as goal
 
 pub returns : goal.returns
 returns g c =
     let copied = same-asked (record (parts_of c.args.self.now) { request = _ }) _ _ _ c.copy_request.ensures.same c.copy_request.ensures.frontend.0 c.copy_request.ensures.frontend.1 in
-    sides.served (served-copied g.D.VhostUserBackendReqHandlerMut.gives (call_of c.args.call.now) c.args.sent (parts_of c.args.self.now) _ c.copy_request.ensures.text _ _ _ _ _ _ copied c.in-Some.ensures
-    (c.take-answer.ensures.taken c.requires.sent c.requires.awaited c.requires.kept) refl (c.take-answer.ensures.quiet c.requires.sent) c.stop_after-stop.ensures)
+    record {
+      served = sides.served (served-copied g.D.VhostUserBackendReqHandlerMut.gives (call_of c.args.call.now) c.args.sent (parts_of c.args.self.now) _ c.copy_request.ensures.text _ _ _ _ _ _ copied c.in-Some.ensures
+          (c.take-answer.ensures.taken c.requires.sent c.requires.awaited c.requires.kept) refl (c.take-answer.ensures.quiet c.requires.sent) c.stop_after-stop.ensures);
+      listed = result-listed (call_of c.args.call.now) _ _ _ _ _ _ _ (c.take-answer.ensures.taken c.requires.sent c.requires.awaited c.requires.kept);
+    }
 
 pub returns-in_default : goal.returns-in_default
 returns-in_default g c =
     let copied = same-asked (record (parts_of c.args.self.now) { request = _ }) _ _ _ c.copy_request.ensures.same c.copy_request.ensures.frontend.0 c.copy_request.ensures.frontend.1 in
-    lost-copied g.D.VhostUserBackendReqHandlerMut.gives (call_of c.args.call.now) c.args.sent (parts_of c.args.self.now) _ _ _ _ _ copied c.in_default.ensures refl
+    record {
+      served = lost-copied g.D.VhostUserBackendReqHandlerMut.gives (call_of c.args.call.now) c.args.sent (parts_of c.args.self.now) _ _ _ _ _ copied c.in_default.ensures refl;
+      listed = result-listed (call_of c.args.call.now) _ _ _ _ _ _ _ (c.take-answer.ensures.taken c.requires.sent c.requires.awaited c.requires.kept);
+    }
