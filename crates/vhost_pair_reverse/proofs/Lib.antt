@@ -1,0 +1,8 @@
+pub mod Messages
+pub mod Served
+pub mod Taken
+pub mod Exchange
+pub mod Stepping
+pub mod Handing
+pub mod Lockstep
+pub mod Running

@@ -1,0 +1,102 @@
+-- Joined runs of the reverse channel, as contracts see them.
+use Rattle.std.specs.Prelude.{◌≡◌, ℕ, List, [], ◌∷◌, Option, Some, None, Bool, true, ◌⊎◌, if◌then◌else◌, Result, Ok, Err, ⊤, is_some}
+use Rattle.vhost_message.specs.BackendReq.{backend_request_number}
+use Rattle.vhost_message.specs.Cause.{error_of}
+use Rattle.vhost_message.specs.declared.backend_req.BackendReq.{BackendReq}
+use Rattle.vhost_message.specs.declared.cause.IoCause.{IoCause}
+use Rattle.vhost_message.specs.declared.io_error.IoError as io
+use Rattle.vhost_protocol.specs.Error.{seen}
+use Rattle.vhost_protocol.specs.IoError.{IoError, Of, seen_io_result}
+use Rattle.vhost_protocol.specs.JoinedReverse.{ReverseInput, Asks, ReverseInStep, ReverseShown, ReverseJoinedStep}
+use Rattle.vhost_protocol.specs.Reverse.{ReverseCall, Backend, Server, Sends, reverse_ask, reverse_take}
+use Rattle.vhost_protocol.specs.Stream.{Cell}
+use Rattle.vhost_protocol.specs.Written.{Written, head_of, written_cells}
+use Rattle.vhost_link.specs.declared.plain.PlainHandle.{PlainHandle}
+use Rattle.vhost_backend_req.specs.Halves.{input_of}
+use Rattle.vhost_backend_req.specs.declared.call.ReverseCall as code
+use Rattle.vhost_pair.specs.declared.halt.Halt.{Halt}
+use Rattle.vhost_pair.specs.declared.halt.Halt.TheVariants as halt
+use Rattle.vhost_pair.specs.declared.halt.Stop.{Stop}
+use Rattle.vhost_pair.specs.declared.halt.Stop.TheVariants as stop
+use Rattle.vhost_pair.specs.Joined.{Cuts, PassesBoth, Stops, StopsReply}
+use Rattle.vhost_pair.specs.Text.{Text, text_of}
+
+-- what the device behind the serving side may do at each call: old state, call, answer and new state
+abbrev pub Gives : Type 0 → Type 1
+Gives Dev = Dev → ReverseCall PlainHandle → Result ℕ IoError → Dev → Type 0
+
+-- A joined run: what both sides remember, the device, what is on the way, and what the last step wrote.
+pub record View (Dev : Type 0) : Type 0 where
+  pub backend : Backend
+  pub server : Server
+  pub device : Dev
+  pub to_server : List (Cell PlainHandle)
+  pub to_backend : List (Cell PlainHandle)
+  -- the two links, and how many retries one message may take
+  pub asking : Cuts
+  pub serving : Cuts
+  pub budget : ℕ
+  -- the messages of the last step that was answered
+  pub request : Text
+  pub reply : Text
+  pub stopped : Option Stop
+
+-- both sides are in step
+abbrev pub IsReady : {Dev : Type 0} → View Dev → Type 0
+IsReady v = ReverseInStep v.backend v.server v.to_server v.to_backend
+
+-- The answer is the asking side's for what came of the reply: all that the serving side wrote.
+pub record Took {Dev : Type 0} (old : View Dev) (input : ReverseInput PlainHandle) (result : Result ℕ IoError) (new : View Dev) : Type 0 where
+  pub call : ReverseCall PlainHandle
+  pub is_call : input ≡ Asks call
+  pub message : Written BackendReq PlainHandle
+  pub awaited : Bool
+  pub asked : reverse_ask old.backend call ≡ Sends message awaited
+  pub request : new.request ≡ text_of (written_cells backend_request_number message)
+  pub came : List (Cell PlainHandle)
+  pub reply : new.reply ≡ text_of came
+  pub left : List (Cell PlainHandle)
+  pub taken : reverse_take awaited (head_of backend_request_number message) came ≡ (result, left)
+
+-- A premise of the lockstep failed in a step. In which message, and why, the scripts tell; the answer is that failure, or the asking side's for what came of the reply.
+pub data Breaks {Dev : Type 0} (old : View Dev) (input : ReverseInput PlainHandle) (result : Result ℕ IoError) (new : View Dev) : Type 0 where
+  -- the asking side's link failed while the request went out
+  unsent : (c : IoCause) → Stops old.budget c old.asking new.asking → result ≡ Err (Of (seen (error_of c))) → Breaks old input result new
+  -- it failed while the reply came in
+  lost : (c : IoCause) → StopsReply old.budget c old.asking new.asking → result ≡ Err (Of (seen (error_of c))) → Breaks old input result new
+  -- the serving side's link failed while the request came in
+  unread : (c : IoCause) → Stops old.budget c old.serving new.serving → Took old input result new → Breaks old input result new
+  -- it failed while the reply went out
+  unanswered : (c : IoCause) → StopsReply old.budget c old.serving new.serving → Took old input result new → Breaks old input result new
+
+module _ {Dev : Type 0} (gives : Gives Dev) where
+  -- The step is that of the protocol: its messages, the device's move, the answer and both sides. Both are in step after it,
+  -- no premise failed, and the run stops exactly where the definition says.
+  pub record Keeps (old : View Dev) (input : ReverseInput PlainHandle) (result : Result ℕ IoError) (new : View Dev) : Type 0 where
+    pub shown : ReverseShown PlainHandle
+    pub step : ReverseJoinedStep gives old.backend old.server old.device input shown new.backend new.server new.device
+    pub answered : result ≡ shown.result
+    pub request : new.request ≡ text_of shown.request
+    pub reply : new.reply ≡ text_of shown.reply
+    pub stopped : new.stopped ≡ (if shown.last then Some stop.Table else None)
+    pub in_step : IsReady new
+    pub asking : PassesBoth old.budget old.asking new.asking
+    pub serving : PassesBoth old.budget old.serving new.serving
+    pub budget : new.budget ≡ old.budget
+
+  -- an answered step: that of the protocol, or a premise failed and the run stopped
+  abbrev pub Answers : View Dev → ReverseInput PlainHandle → Result ℕ IoError → View Dev → Type 0
+  Answers old input result new = Keeps old input result new ⊎ ((new.stopped ≡ Some stop.Premise) × Breaks old input result new)
+
+  -- one step: a run that stopped before, and want of memory before the first byte, change nothing
+  abbrev pub Steps : View Dev → ReverseInput PlainHandle → Result (Result ℕ io.IoError) Halt → View Dev → Type 0
+  Steps old input (Ok a) new = (old.stopped ≡ None) × Answers old input (seen_io_result a) new
+  Steps old input (Err halt.Stopped) new = (is_some old.stopped ≡ true) × (new ≡ old)
+  Steps old input (Err halt.OutOfMemory) new = (old.stopped ≡ None) × (new ≡ old)
+
+  -- steps one after another, until one is not done
+  abbrev pub StepsAll : View Dev → List (code.ReverseCall PlainHandle) → List (Result ℕ io.IoError) → Result ⊤ Halt → View Dev → Type 0
+  StepsAll old [] [] (Ok u) new = new ≡ old
+  StepsAll old (c ∷ cs) [] (Err h) new = Steps old (input_of c) (Err h) new
+  StepsAll old (c ∷ cs) (a ∷ as') end new = (mid : View Dev) × Steps old (input_of c) (Ok a) mid × StepsAll mid cs as' end new
+  StepsAll _ _ _ _ _ = ⊥

@@ -1,0 +1,9 @@
+//! Both sides of the reverse channel joined over links in memory, in lockstep.
+#![tactic(auto)]
+
+mod joined;
+mod sides;
+mod ways;
+
+pub use joined::{JoinedReverse, ReverseCall};
+pub use vhost_pair::{Halt, Stop};

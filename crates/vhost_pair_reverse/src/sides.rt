@@ -1,0 +1,188 @@
+//! Both sides of a joined run, and one exchange between them.
+
+ghost use Rattle.std.specs.Prelude.{◌≡◌, ◌||◌, Some, None, Ok, IfOk, IfErr};
+ghost use Rattle.vhost_backend_req.specs.Halves.{input_of};
+ghost use Rattle.vhost_message.specs.declared.error.Error.TheVariants.{OutOfMemory};
+
+use crate::ways::{
+    carry_reply, carry_request, copy_reply, copy_request, make_reply_list, make_request_list,
+};
+use std::alloc::Global;
+use vhost_backend_req::{Asked, BackendInternal, ReverseCall};
+use vhost_frontend_req_handler::{FrontendReqCore, VhostUserFrontendReqHandlerMut};
+use vhost_link::{Cut, MemLink, PlainHandle};
+use vhost_message::{BackendReq, Error, HandlerResult, IoError, Result, VhostUserMsgHeader};
+use vhost_pair::{Stop, Wire};
+
+type Header = VhostUserMsgHeader<BackendReq>;
+
+/// What a step answered, and why the run stops with it, if it does.
+#[derive(Drop)]
+pub struct Exchanged {
+    pub answer: HandlerResult<u64>,
+    pub stop: Option<Stop>,
+}
+
+/// Both sides over their links, what serves the requests, and copies of what the last step wrote.
+#[derive(Drop)]
+pub struct Sides<D: Drop> {
+    backend: BackendInternal<MemLink>,
+    server: FrontendReqCore<MemLink>,
+    device: D,
+    request: Wire,
+    reply: Wire,
+}
+
+impl<D: VhostUserFrontendReqHandlerMut<Handle = PlainHandle>> Sides<D> {
+    ghost use Rattle.vhost_backend_req.specs.Channel.{channel};
+    ghost use Rattle.vhost_frontend_req_handler.specs.Core.{endpoint_of};
+    ghost use Rattle.vhost_pair.specs.Text.{no_text};
+    ghost use Rattle.vhost_pair.specs.Wire.{text_in};
+    ghost use Rattle.vhost_pair_reverse.specs.Sides.{parts_of, fresh_parts, HaveLists, Exchanges, Serves, HandsOver, EndsUnsent, stop_of, acknowledging};
+
+    /// Two new sides over two new links, which are cut as the scripts say.
+    ///
+    /// OutOfMemory: a growth was refused.
+    pub fn new(
+        alloc: Global,
+        device: D,
+        budget: u32,
+        asking: Vec<Cut>,
+        serving: Vec<Cut>,
+    ) -> Result<Self>
+        ensures fresh { IfOk result (λ sides. parts_of sides ≡ fresh_parts device budget asking.items serving.items) }
+        ensures memory { IfErr result (λ e. e ≡ OutOfMemory) }
+    {
+        let asking = MemLink::new(alloc, asking);
+        let serving = MemLink::new(alloc, serving);
+        let (Ok(request), Ok(reply)) = (Wire::new(alloc), Wire::new(alloc)) else {
+            return Err(Error::OutOfMemory);
+        };
+        Ok(Sides {
+            backend: BackendInternal::from_stream(alloc, asking, budget)?,
+            server: FrontendReqCore::new(alloc, serving, budget)?,
+            device,
+            request,
+            reply,
+        })
+    }
+
+    /// Makes what a step may need before its first byte.
+    ///
+    /// OutOfMemory: a growth was refused.
+    pub fn prepare(&mut self) -> Result<()>
+        ensures lists { IfOk result (λ _. HaveLists (parts_of self.new)) }
+        ensures asking { (parts_of self.new).channel.endpoint ≡ record (parts_of self.old).channel.endpoint { list = (parts_of self.new).channel.endpoint.list } }
+        ensures channel { (parts_of self.new).channel ≡ record (parts_of self.old).channel { endpoint = (parts_of self.new).channel.endpoint } }
+        ensures serving { (parts_of self.new).serving ≡ record (parts_of self.old).serving { list = (parts_of self.new).serving.list } }
+        ensures rest { parts_of self.new ≡ record (parts_of self.old) { channel = (parts_of self.new).channel; serving = (parts_of self.new).serving } }
+    {
+        make_reply_list(&mut self.backend)?;
+        make_request_list(&mut self.server)
+    }
+
+    /// The last request.
+    pub fn request(&self) -> &Wire
+        ensures { result.now ≡ self.now.request }
+    {
+        &self.request
+    }
+
+    /// The last reply.
+    pub fn reply(&self) -> &Wire
+        ensures { result.now ≡ self.now.reply }
+    {
+        &self.reply
+    }
+
+    /// Sets a flag, or does a call whose lists were made.
+    pub fn exchange(&mut self, call: &ReverseCall<PlainHandle>) -> Exchanged
+        requires { HaveLists (parts_of self.old) }
+        ensures { Exchanges D.gives (input_of call.now) (parts_of self.old) result (parts_of self.new) }
+    {
+        match self.backend.ask_half(call) {
+            Ok(Asked::Sent(sent)) => self.serve(sent),
+            Ok(Asked::Set) => self.set(call),
+            Err(error) => self.unsent(error),
+        }
+    }
+
+    /// Ends a call that set a flag of the asking side. The flag for acknowledgements is that of both sides.
+    fn set(&mut self, call: &ReverseCall<PlainHandle>) -> Exchanged
+        ensures answer { (result.answer ≡ Ok 0) × (result.stop ≡ None) }
+        ensures same { parts_of self.new ≡ record (parts_of self.old) { server = acknowledging (input_of call.now) (parts_of self.old).server; request = no_text; reply = no_text } }
+    {
+        if let ReverseCall::SetReplyAck(on) = call {
+            self.server.set_reply_ack_flag(*on);
+        }
+        self.request.clear();
+        self.reply.clear();
+        Exchanged {
+            answer: Ok(0),
+            stop: None,
+        }
+    }
+
+    /// Ends a call whose request was not sent.
+    fn unsent(&mut self, error: IoError) -> Exchanged
+        ensures { EndsUnsent error (parts_of self.old) result (parts_of self.new) }
+    {
+        self.reply.clear();
+        copy_request(&mut self.backend, &mut self.request);
+        let answer = Err(error);
+        if self.backend.faulted() {
+            return Exchanged {
+                answer,
+                stop: Some(Stop::Premise),
+            };
+        }
+        Exchanged { answer, stop: None }
+    }
+
+    /// Has a request served that was sent, and takes its answer.
+    fn serve(&mut self, sent: Option<Header>) -> Exchanged
+        ensures { Serves D.gives sent (parts_of self.old) result (parts_of self.new) }
+    {
+        copy_request(&mut self.backend, &mut self.request);
+        let served = self.hand_over();
+        let answer = self.backend.take_half(sent);
+        let Some(served) = served else {
+            return Exchanged {
+                answer,
+                stop: Some(Stop::Premise),
+            };
+        };
+        let stop = self.stop_after(&served);
+        Exchanged { answer, stop }
+    }
+
+    /// Carries what the asking side sent to the other, has it served, and carries back what that one sent. None: it
+    /// found no room on its way.
+    fn hand_over(&mut self) -> Option<Result<u64>>
+        ensures { HandsOver D.gives (parts_of self.old) result (parts_of self.new) }
+    {
+        self.reply.clear();
+        if carry_request(&mut self.backend, &mut self.server).is_err() {
+            return None;
+        }
+        let served = self.server.handle_request(&mut self.device);
+        copy_reply(&mut self.server, &mut self.reply);
+        if carry_reply(&mut self.server, &mut self.backend).is_err() {
+            return None;
+        }
+        Some(served)
+    }
+
+    /// Why the run stops once the serving side answered so.
+    fn stop_after(&self, served: &Result<u64>) -> Option<Stop>
+        ensures { result ≡ stop_of ((channel self.now.backend).endpoint.faulted || (endpoint_of self.now.server).faulted) served.now (text_in self.now.reply).bytes }
+    {
+        if self.backend.faulted() || self.server.faulted() {
+            return Some(Stop::Premise);
+        }
+        match served {
+            Err(_) if self.reply.bytes().is_empty() => Some(Stop::Table),
+            _ => None,
+        }
+    }
+}
