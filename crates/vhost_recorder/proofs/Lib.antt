@@ -1,0 +1,4 @@
+pub mod Tables
+pub mod Logs
+pub mod Going
+pub mod Kept

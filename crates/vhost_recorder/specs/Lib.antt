@@ -1,0 +1,5 @@
+pub mod Recording
+pub mod Kept
+pub mod Room
+pub mod Prepared
+pub mod Share

@@ -1,0 +1,44 @@
+-- A joined run with the log of its calls, as contracts see it.
+use Rattle.std.specs.Prelude.{◌≡◌, ℕ, List, [], ◌∷◌, ◌++◌, Option, Some, Bool, true, false, Result, Ok, Err}
+use Rattle.vhost_protocol.specs.FrontendCall.{FrontendCall}
+use Rattle.vhost_protocol.specs.Log.{Entry, calls_of, IsLegal}
+use Rattle.vhost_link.specs.declared.plain.PlainHandle.{PlainHandle}
+use Rattle.vhost_frontend_calls.specs.declared.answer.FrontendAnswer.{FrontendAnswer}
+use Rattle.vhost_frontend_calls.specs.Calls.{answer_of}
+use Rattle.vhost_pair.specs.declared.halt.Halt.{Halt}
+use Rattle.vhost_pair.specs.declared.halt.Stop.{Stop}
+use Rattle.vhost_pair.specs.declared.halt.Stop.TheVariants.{Premise}
+use Rattle.vhost_pair.specs.Device.{Gives, opens_backend, opens_gpu}
+use Rattle.vhost_pair.specs.Joined.{View, Steps}
+
+-- The joined run, what was recorded of it, and how many queues its frontend was opened with.
+pub record Recording (Dev : Type 0) : Type 0 where
+  pub joined : View Dev
+  pub entries : List (Entry PlainHandle)
+  pub queues : ℕ
+
+-- a link, a budget or want of memory stopped the run
+abbrev pub is_broken : Option Stop → Bool
+is_broken (Some Premise) = true
+is_broken _ = false
+
+module _ {Dev : Type 0} (gives : Gives Dev) where
+  -- the log is legal: the callers' serials count up, and the entries are a joined run from new sessions to the present ones
+  abbrev pub HasLegalLog : Recording Dev → Type 0
+  HasLegalLog r = IsLegal gives opens_backend opens_gpu r.queues (is_broken r.joined.stopped) r.entries r.joined.frontend r.joined.session r.joined.device
+
+  -- One call was done and recorded: the entry has the next serial of its caller, the call and the joined step's answer, and sessions and device moved by that step.
+  pub record Appends (old : Recording Dev) (by : ℕ) (asked : FrontendCall PlainHandle) (entry : Entry PlainHandle) (new : Recording Dev) : Type 0 where
+    pub entries : new.entries ≡ old.entries ++ entry ∷ []
+    pub caller : entry.caller ≡ by
+    pub serial : entry.serial ≡ calls_of by old.entries
+    pub call : entry.call ≡ asked
+    pub answer : FrontendAnswer
+    pub answered : entry.result ≡ answer_of answer
+    pub step : Steps gives old.joined asked (Ok answer) new.joined
+    pub queues : new.queues ≡ old.queues
+
+  -- one recorded step; one that was not done changes nothing
+  abbrev pub Records : Recording Dev → (caller : ℕ) → FrontendCall PlainHandle → Result (Entry PlainHandle) Halt → Recording Dev → Type 0
+  Records old caller call (Ok entry) new = Appends old caller call entry new
+  Records old caller call (Err halt) new = Steps gives old.joined call (Err halt) new.joined × (new ≡ old)
