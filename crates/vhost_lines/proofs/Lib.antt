@@ -1,3 +1,5 @@
 pub mod LineLaws
 pub mod Progress
 pub mod Rows
+pub mod Plain
+pub mod InRun

@@ -53,10 +53,10 @@ stopped_of now = now.stopped
 abbrev pub Answers : View → Call → List ℕ → View → Type 0
 Answers = AnswersCall Steps request_of reply_of stopped_of
 
--- what is written shows the lines of a text, answered by a session as it begins, up to the first one that is no call
-abbrev pub ShowsLines : List ℕ → Option (List ℕ) → Option (List ℕ) → Type 0
-ShowsLines = ShowsText Steps request_of reply_of stopped_of IsFresh
+-- what is written shows the lines of a text, answered one step of the code after another by a session as it begins, up to the first one that is no call
+abbrev pub AnswersLines : List ℕ → Option (List ℕ) → Option (List ℕ) → Type 0
+AnswersLines = ShowsText Steps request_of reply_of stopped_of IsFresh
 
 -- what is written is a front of what the lines of a text show, answered by a session as it begins
-abbrev pub ShowsFront : List ℕ → Option (List ℕ) → Option (List ℕ) → Type 0
-ShowsFront = ShowsFrontOf Steps request_of reply_of stopped_of IsFresh
+abbrev pub AnswersFront : List ℕ → Option (List ℕ) → Option (List ℕ) → Type 0
+AnswersFront = ShowsFrontOf Steps request_of reply_of stopped_of IsFresh

@@ -6,7 +6,8 @@ ghost use Rattle.std.specs.Io.KnownBytes.{Appends};
 ghost use Rattle.vhost_lines.specs.Lines.{lines, bad_line, status_of, complaint_of, GivesLine};
 ghost use Rattle.vhost_lines.specs.Shown.{line_text};
 ghost use Rattle.vhost_frontend_calls.specs.Calls.{call_of};
-ghost use Rattle.vhost_lines.specs.Session.{IsFresh, Answers, ShowsLines, ShowsFront, request_of, reply_of, stopped_of};
+ghost use Rattle.vhost_lines.specs.Run.{ShowsLines, ShowsFront};
+ghost use Rattle.vhost_lines.specs.Session.{IsFresh, Answers, AnswersLines, AnswersFront, request_of, reply_of, stopped_of};
 
 use crate::device::{Device, new_device};
 use crate::fault::{Fault, input_fault};
@@ -30,6 +31,7 @@ type Session = Joined<Device>;
 /// it isn't shown. Nothing is written to `output` after a write or a flush of it that failed: whatever the status, what was
 /// written is a front of what the lines show.
 /// Where the device wants memory for bytes of its configuration space, it refuses the call, and the line shows that.
+#[tactic(auto, using(crate::proofs::InRun::lines_known, crate::proofs::InRun::front_known))]
 pub fn run_lines<I: BufRead, W: Write, E: Write>(
     alloc: Global,
     input: &mut I,
@@ -77,8 +79,8 @@ fn answer_lines<I: BufRead, W: Write>(
     output: &mut W,
 ) -> Result<Option<u64>, Fault>
     ensures bad { IfOk result (λ bad. IfSome (I.remaining input.old) (λ text. bad ≡ bad_line 1 (lines text))) }
-    ensures shown { OnOk result (IfSome (I.remaining input.old) (λ text. ShowsLines text (W.contents output.old) (W.contents output.new))) }
-    ensures front { IfSome (I.remaining input.old) (λ text. ShowsFront text (W.contents output.old) (W.contents output.new)) }
+    ensures shown { OnOk result (IfSome (I.remaining input.old) (λ text. AnswersLines text (W.contents output.old) (W.contents output.new))) }
+    ensures front { IfSome (I.remaining input.old) (λ text. AnswersFront text (W.contents output.old) (W.contents output.new)) }
 {
     let mut session = new_session(alloc)?;
     let mut line = Vec::new(alloc);
