@@ -1,6 +1,6 @@
 -- What a call of a channel adds up to.
-use Rattle.std.proofs.Common.{◌≡◌, ℕ, ◌+◌, ◌++◌, List, [], ◌∷◌, take, drop, Bool, true, false, Result, Ok, Err, refl, ap, subst, ◌∙◌, arith}
-use Rattle.std.specs.Prelude.{◌&&◌, not, if◌then◌else◌}
+use Rattle.std.proofs.Common.{◌≡◌, ℕ, ◌+◌, ◌++◌, List, [], ◌∷◌, take, drop, Bool, true, false, Some, None, Result, Ok, Err, refl, sym, ap, subst, ◌∙◌, arith}
+use Rattle.std.specs.Prelude.{◌&&◌, ◌||◌, not, if◌then◌else◌}
 use Rattle.std.proofs.lemmas.List.{append-nil}
 use Rattle.vhost_message.specs.declared.error.Error as declared
 use Rattle.vhost_message.specs.declared.limits.TheConstants.{MSG_HEADER_SIZE}
@@ -13,7 +13,7 @@ use Rattle.vhost_protocol.specs.Stream.{Cell, Item, items, bytes, first_handles,
 use Rattle.vhost_link.specs.Law.{Event, Move, move, nothing}
 use Rattle.vhost_link.specs.Law.Moved.{still}
 use Rattle.vhost_connection.specs.Pass.{sends, receives}
-use Rattle.vhost_connection.specs.Talk.{State, Serves, Talks, Trouble}
+use Rattle.vhost_connection.specs.Talk.{State, Serves, Talks, Trouble, has_moved}
 use Rattle.vhost_connection.specs.Talk.Trouble.{was_broken as trouble_broken, no_memory as trouble_memory, fault as trouble_fault}
 use Rattle.vhost_connection.specs.Hearing.{Fails}
 use Rattle.vhost_connection.specs.Hearing.Fails.{was_broken as fails_broken, no_memory as fails_memory, fault as fails_fault}
@@ -44,23 +44,24 @@ module _ {L H : Type 0} (event : L → Event H → L → Type 0) where
   not-yet : (old : State L H) (listed : Bool) → Talks event old nothing (record old { list = listed })
   not-yet old listed = record { below = nothing; moved = still; handed = append-nil (items old.ahead); taken = refl; retries = refl; failures = refl; budget = refl }
 
-  -- a failure has its reason
-  pub fails-reason : (old : State L H) (between : Bool) (e : declared.Error) (new : State L H) → Fails event old between e new → HasReason event old e new
-  fails-reason old between e new (fails_broken b s k) = was_broken b
-  fails-reason old between e new (fails_memory l s) = no_list l
-  fails-reason old between e new (fails_fault c m b fell none most spent few broken faulted kept) = failed c (not-yet old old.list) refl fell none spent
+  -- a failure of the first message has its reason
+  pub fails-reason : (old : State L H) (e : declared.Error) (new : State L H) → Fails event old false e new → HasReason event old e new
+  fails-reason old e new (fails_broken b s k) = was_broken b (ap (λ x. x.broken) s ∙ b)
+  fails-reason old e new (fails_memory l s) = no_list l (ap (λ x. x.broken) s)
+  fails-reason old e new (fails_fault c m b fell none most spent few broken faulted kept) = failed c (not-yet old old.list) refl b fell none spent broken
 
   -- behind a message that went out it is the link's
-  pub behind-reason : (old mid : State L H) {m : Move H} (between : Bool) (e : declared.Error) (new : State L H) → Serves event old old.budget m mid → mid.list ≡ true → Fails event mid between e new → HasReason event old e new
-  behind-reason old mid between e new s listed (fails_broken b same k) = let sound = s.after in absurd cc
-  behind-reason old mid between e new s listed (fails_memory l same) = absurd cc
-  behind-reason old mid between e new s listed (fails_fault c m b fell none most spent few broken faulted kept) = failed c s.talks s.failures fell none (λ is. spent is ∙ s.talks.budget)
+  pub behind-reason : (old mid : State L H) {m : Move H} (e : declared.Error) (new : State L H) → Serves event old old.budget m mid → has_moved m ≡ true → mid.list ≡ true → Fails event mid true e new → HasReason event old e new
+  behind-reason old mid e new s moved listed (fails_broken b same k) = let sound = s.after in absurd cc
+  behind-reason old mid e new s moved listed (fails_memory l same) = absurd cc
+  behind-reason old mid e new s moved listed (fails_fault c m b fell none most spent few broken faulted kept) =
+      failed c s.talks s.failures s.before fell none (λ is. spent is ∙ s.talks.budget) (broken ∙ ap (λ x. if x || has_moved m then Some c else None) (sym moved))
 
   -- so has trouble of an endpoint that has its list
-  pub trouble-reason : (old : State L H) (m : Move H) (breaks : Bool) (e : declared.Error) (new : State L H) → Trouble event (record old { list = true }) old.budget false breaks m e new → HasReason event old e new
-  trouble-reason old m breaks e new (trouble_broken b s n) = was_broken b
-  trouble-reason old m breaks e new (trouble_memory g b l s n) = absurd cc
-  trouble-reason old m breaks e new (trouble_fault c b fell none most spent broken faulted kept) = failed c (not-yet old true) refl fell none spent
+  pub trouble-reason : (old : State L H) (m : Move H) (e : declared.Error) (new : State L H) → Trouble event (record old { list = true }) old.budget false false m e new → HasReason event old e new
+  trouble-reason old m e new (trouble_broken b s n) = was_broken b (ap (λ x. x.broken) n ∙ b)
+  trouble-reason old m e new (trouble_memory g b l s n) = absurd cc
+  trouble-reason old m e new (trouble_fault c b fell none most spent broken faulted kept) = failed c (not-yet old true) refl b fell none spent broken
 
 -- ---- what was received
 

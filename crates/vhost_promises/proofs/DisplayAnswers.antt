@@ -106,14 +106,14 @@ module _ {L H T : Type 0} (event : L → Event H → L → Type 0) (read : List 
         (ap fault_in (sym (ap (λ (x : Result (List ℕ) IoError × List (Cell H)). x.0) cut)) ∙ answer-no-fault (gpu_head (gpu_row call)) (records shape h.cells).0 (reply-no-fault is_known_gpu (gpu_record_size shape) always 0 h.cells))
     not-shown (Some shape) e row (stopped f) =
         let (r, s, list, left) = out.sends in
-        fault (behind-reason event old.endpoint mid true _ after (whole _ r mid s) list f)
+        fault (behind-reason event old.endpoint mid _ after (whole _ r mid s) refl list f)
 
   -- the message did not go out
   not-sent : (e : IoError) (new : Channel L H) → Unsent event (sent_by call) (gpu_row call) old e new → IsNotDone event call old e new
   not-sent e new (unsent_refused is) = refused is
-  not-sent e new (unsent_memory alive away same) = fault (no_list away)
+  not-sent e new (unsent_memory alive away same) = fault (no_list away (ap (λ x. x.endpoint.broken) same))
   not-sent e new (unsent_long alive long same) = too_long long same
-  not-sent e new (unsent_stopped alive fits (n, r, t, short) others) = fault (trouble-reason event old.endpoint (sends _ r) false _ new.endpoint t)
+  not-sent e new (unsent_stopped alive fits (n, r, t, short) others) = fault (trouble-reason event old.endpoint (sends _ r) _ new.endpoint t)
 
   -- by its result
   pub answers-call : (result : Result T declared.IoError) (new : Channel L H) → AsksCall event read call old result new → AnswersCall event read call old result new

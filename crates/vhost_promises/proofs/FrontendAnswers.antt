@@ -96,13 +96,13 @@ module _ {L H : Type 0} (event : L → Event H → L → Type 0) (call : Reverse
         answered w asked h.cells h.ended (exchange event old.endpoint mid after _ _ out.retries h.retries out.serves h.serves)
         (subst (λ (x : Header). reverse_take true x h.cells ≡ (Err (seen_io e), [])) out.header cut)
         (ap fault_in (sym (ap (λ (x : Result ℕ IoError × List (Cell H)). x.0) cut)) ∙ answer-no-fault (fields_of sent) (numbers h.cells).0 (reply-no-fault _ 8 (λ bs. true) 0 h.cells))
-    not-done true e asked (stopped f) = fault (behind-reason event old.endpoint mid true _ after out.serves out.list f)
+    not-done true e asked (stopped f) = fault (behind-reason event old.endpoint mid _ after out.serves refl out.list f)
 
   -- by its result
   answers : (result : Result ℕ declared.IoError) (after : State L H) → Asks event (reverse_ask (backend_of old) call) old.endpoint result after → AnswersCall event call old result (record old { endpoint = after })
   answers (Ok n) after (asked_for {w} {awaited} {sent} {mid} asked out takes) = done w sent mid after out awaited n asked takes
   answers (Err e) after (refused is) = not_asked is
-  answers (Err e) after (unsent is f) = fault (fails-reason event old.endpoint false _ after f)
+  answers (Err e) after (unsent is f) = fault (fails-reason event old.endpoint _ after f)
   answers (Err e) after (asked_for {w} {awaited} {sent} {mid} asked out takes) = not-done w sent mid after out awaited e asked takes
 
   pub answers-call : (result : Result ℕ declared.IoError) (new : Channel L H) → AsksCall event call old result new → AnswersCall event call old result new

@@ -5,3 +5,12 @@ pub mod Calls
 pub mod FrontendAnswers
 pub mod DisplayAnswers
 pub mod Unserved
+pub mod Claiming
+pub mod Hungry
+pub mod Known
+pub mod Serving
+pub mod Faulting
+pub mod FaultingAsked
+pub mod FaultingRead
+pub mod Sharing
+pub mod Showing

@@ -1,19 +1,33 @@
--- The lockstep of calls that were all done.
-use Rattle.std.proofs.Common.{◌≡◌, Bool, List, [], Some, None, Result, Ok, Err, inl, inr}
-use Rattle.std.specs.Prelude.{◌⊎◌, ⊤}
+-- The lockstep of a run from two new sides.
+use Rattle.std.proofs.Common.{◌≡◌, ℕ, List, ◌++◌, Bool, Some, None, Result, inl, inr, subst}
+use Rattle.vhost_link.specs.declared.cut.Cut.{Cut}
 use Rattle.vhost_frontend_calls.specs.declared.answer.FrontendAnswer.{FrontendAnswer}
 use Rattle.vhost_frontend_calls.specs.declared.call.FrontendCall.{FrontendCall}
 use Rattle.vhost_pair.specs.Device.{Gives}
-use Rattle.vhost_pair.specs.Joined.{View, IsReady, Offers, StepsAll}
-use Rattle.vhost_pair.specs.Lockstep.{ArePlain, IsLockstep, LockstepLaw}
-use Rattle.vhost_pair.specs.declared.halt.Halt.{Halt}
-use Rattle.vhost_pair.specs.declared.halt.Halt.TheVariants.{OutOfMemory}
+use Rattle.vhost_pair.specs.Joined.{View}
+use Rattle.vhost_pair.specs.Lockstep.{InLockstep, Lockstep}
+use Rattle.vhost_pair.specs.Sides.{as_view, fresh_parts}
 use Rattle.vhost_pair.specs.declared.halt.Stop.TheVariants.{Premise}
+use Rattle.vhost_promises.specs.Joined.{AnswersFresh, AnswersFreshBack}
+use Rattle.vhost_message.specs.declared.io_error.IoError.{IoError}
+use Rattle.vhost_backend_req.specs.declared.call.ReverseCall.{ReverseCall}
+use Rattle.vhost_link.specs.declared.plain.PlainHandle.{PlainHandle}
+use Rattle.vhost_pair_reverse.specs.Joined as back
+use Rattle.vhost_pair_reverse.specs.Lockstep as back_lockstep
+use Rattle.vhost_pair_reverse.specs.Sides as back_sides
 
--- want of room for the answers is an error, so what was done are the steps
-pub in-lockstep : {Dev : Type 0} (gives : Gives Dev) → LockstepLaw gives → (bit : Bool) (old new : View Dev) (calls : List FrontendCall) (answers : List FrontendAnswer) (end : Result ⊤ Halt)
-    → Offers gives bit → IsReady bit old → old.stopped ≡ None → ArePlain calls
-    → StepsAll gives old calls answers end new ⊎ ((end ≡ Err OutOfMemory) × (answers ≡ []) × (new ≡ old)) → end ≡ Ok tt → (new.stopped ≡ Some Premise → ⊥)
-    → IsLockstep gives bit old new calls answers
-in-lockstep gives law bit old new calls answers end offers ready running plain (inl steps) done goes_on = law bit old new calls answers end offers ready running plain steps goes_on
-in-lockstep gives law bit old new calls answers end offers ready running plain (inr (short, none, same)) done goes_on = absurd cc
+-- in lockstep from two new sides, unless a premise failed, is a run of the definitions
+pub fresh-run : {Dev : Type 0} (gives : Gives Dev) (bit : Bool) (queues budget : ℕ) (device : Dev) (asking serving : List Cut) (old new : View Dev) (calls : List FrontendCall) (before after answers : List FrontendAnswer)
+    → old ≡ as_view (fresh_parts device queues budget asking serving) None → after ≡ before ++ answers → Lockstep gives bit old calls answers new → (new.stopped ≡ Some Premise → ⊥)
+    → AnswersFresh gives queues device calls before after new
+fresh-run gives bit queues budget device asking serving old new calls before after answers is appended (inl (kept, _)) goes_on =
+    record { answers = answers; appended = appended; run = (subst (λ v. InLockstep gives bit v calls answers new) is kept).run }
+fresh-run gives bit queues budget device asking serving old new calls before after answers is appended (inr broke) goes_on = absurd (goes_on broke.stopped)
+
+-- the same of the reverse channel
+pub fresh-run-back : {Dev : Type 0} (gives : back.Gives Dev) (budget : ℕ) (device : Dev) (asking serving : List Cut) (old new : back.View Dev) (calls : List (ReverseCall PlainHandle)) (before after answers : List (Result ℕ IoError))
+    → old ≡ back_sides.as_view (back_sides.fresh_parts device budget asking serving) None → after ≡ before ++ answers → back_lockstep.Lockstep gives old calls answers new → (new.stopped ≡ Some Premise → ⊥)
+    → AnswersFreshBack gives device calls before after new
+fresh-run-back gives budget device asking serving old new calls before after answers is appended (inl (kept, _)) goes_on =
+    record { answers = answers; appended = appended; run = (subst (λ v. back_lockstep.InLockstep gives v calls answers new) is kept).run }
+fresh-run-back gives budget device asking serving old new calls before after answers is appended (inr broke) goes_on = absurd (goes_on broke.stopped)

@@ -1,9 +1,9 @@
 -- Whole runs, as a caller of a handler derives them.
-use Rattle.std.specs.Prelude.{◌≡◌, ℕ, Bool, true, false, List, length, Result, Ok, Err, ⊤}
+use Rattle.std.specs.Prelude.{◌≡◌, ℕ, Bool, false, List, length, Result, Ok, Err, ⊤}
 use Rattle.vhost_message.specs.BackendReq.{backend_request_of}
 use Rattle.vhost_message.specs.declared.cause.IoCause.{IoCause}
 use Rattle.vhost_message.specs.declared.error.Error.{Error}
-use Rattle.vhost_message.specs.declared.error.Error.TheVariants.{SocketError, SocketBroken, SocketConnect, SocketRetry, OutOfMemory}
+use Rattle.vhost_message.specs.declared.error.Error.TheVariants.{SocketBroken}
 use Rattle.vhost_message.specs.FrontendReq.{request_of}
 use Rattle.vhost_protocol.specs.Codes.{allows_handles}
 use Rattle.vhost_protocol.specs.DeviceCall.{Call, Answer}
@@ -16,17 +16,13 @@ use Rattle.vhost_link.specs.Law.{Event}
 use Rattle.vhost_connection.specs.Talk.{State}
 use Rattle.vhost_connection.specs.Serving.{WholeRun}
 use Rattle.vhost_frontend_req_handler.specs.Handling.{fitting, kept}
+use Rattle.vhost_promises.specs.Calls.{is_fault}
 use Rattle.vhost_backend_req_handler.specs.Serving.{kept_unsent}
 use Rattle.vhost_backend_req_handler.specs.Serving as served
 
 -- an error that a link or want of memory may bring
 abbrev pub of_link : Error → Bool
-of_link (SocketError c) = true
-of_link (SocketBroken c) = true
-of_link (SocketConnect c) = true
-of_link (SocketRetry c) = true
-of_link OutOfMemory = true
-of_link _ = false
+of_link e = is_fault (protocol.seen e)
 
 abbrev pub answer_of_link : {A : Type 0} → Result A Error → Bool
 answer_of_link (Ok a) = false

@@ -13,16 +13,15 @@ use vhost_connection::Endpoint;
 use vhost_link::Link;
 use vhost_message::{FrontendReq, Result, VhostUserConfig, VhostUserMsgHeader};
 
-/// Sends bytes of the configuration space behind their header and record. Over a link that takes all that it is given, the whole
-/// message goes out by one call of the link, with nothing before it but retries.
+/// Sends bytes of the configuration space behind their header and record. Where they fit and the link takes all that it is given, the
+/// whole message goes out by one call of the link, with nothing before it but retries.
 pub fn sends_in_one<L: Link>(
     endpoint: &mut Endpoint<VhostUserMsgHeader<FrontendReq>, L>,
     header: &VhostUserMsgHeader<FrontendReq>,
     part: &VhostUserConfig,
     bytes: &[u8],
 ) -> Result<()>
-    requires { 12 + length bytes.now ≤ MAX_MSG_SIZE }
-    ensures { L.takes_all (state endpoint.old).link → IfOk result (λ _. WentAtOnce L.event (state endpoint.old).link (carrying [] (header_text (fields_of header.now) ++ config_text part.now ++ bytes.now)) (state endpoint.new).link) }
+    ensures { 12 + length bytes.now ≤ MAX_MSG_SIZE → L.takes_all (state endpoint.old).link → IfOk result (λ _. WentAtOnce L.event (state endpoint.old).link (carrying [] (header_text (fields_of header.now) ++ config_text part.now ++ bytes.now)) (state endpoint.new).link) }
 {
     endpoint.send_message_with_payload(header, part, bytes, &[])
 }

@@ -4,12 +4,33 @@
 
 mod asks;
 mod endpoints;
+mod example;
+mod example_back;
+mod faults;
+mod faults_asking;
 mod joined;
+mod lines;
+mod recorder;
+mod records;
 mod runs;
+mod served;
 mod shared;
+mod streams;
 
 pub use asks::{adds_object, asks_features, maps_memory, moves_cursor};
 pub use endpoints::sends_in_one;
-pub use joined::{begins_in_step, stays_in_step};
+pub use example::{Device, claims_device, claims_twice};
+pub use example_back::{OneObject, shares_object, shares_twice};
+pub use faults::{meets_fault, meets_fault_back, stays_broken, stays_broken_back};
+pub use faults_asking::{adds_broken, asks_broken, displays_broken, meets_fault_asking};
+pub use joined::{runs_back_in_lockstep, runs_in_lockstep, stays_in_step};
+pub use lines::runs_two_lines;
+pub use recorder::{finds_own, first_answer, records_two, two_callers};
+pub use records::{
+    back_and_there, names_request, same_config, same_cursor, same_gpu_header, same_name,
+    same_number, same_region, same_scanout, there_and_back,
+};
 pub use runs::{serves_no_broken, serves_no_broken_back, serves_whole, serves_whole_back};
+pub use served::{serves_three, serves_three_new};
 pub use shared::own_features;
+pub use streams::{finds_none, finds_none_back};

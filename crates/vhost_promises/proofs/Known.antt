@@ -1,0 +1,188 @@
+-- A stream that is known is cut as the definitions say, whatever the link does.
+use Rattle.std.proofs.Common.{◌≡◌, ℕ, zero, suc, ◌<◌, Bool, true, false, List, [], ◌∷◌, ◌++◌, replicate, append_assoc, Option, Result, Ok, Err, inl, inr, refl, sym, ap, subst, ◌∙◌, arith}
+use Rattle.std.specs.Prelude.{ℤ}
+use Rattle.std.proofs.lemmas.List.{append-nil, map-append}
+use Rattle.vhost_message.specs.declared.error.Error as declared
+use Rattle.vhost_protocol.specs.Error.{Error, seen_result}
+use Rattle.vhost_protocol.specs.Run as run
+use Rattle.vhost_protocol.specs.Split.{Message, Splits, split}
+use Rattle.vhost_protocol.specs.Stream.{Cell, Item, Byte, End, items, heard}
+use Rattle.vhost_link.specs.Law.{Move}
+use Rattle.vhost_link.specs.Mem.{event, HandsFront, StreamLaw}
+use Rattle.vhost_link.specs.declared.plain.PlainHandle.{PlainHandle}
+use Rattle.vhost_connection.specs.Hearing.{Hears}
+use Rattle.vhost_connection.specs.Requests.{Replies}
+use Rattle.vhost_connection.specs.Serving.{Handled, HandlesOne}
+use Rattle.vhost_connection.specs.Talk.{Talks}
+use Rattle.vhost_promises.specs.Runs.{answer_of_link}
+use Rattle.vhost_promises.specs.Streams.{Near, stream, FindsNone}
+use Rattle.vhost_promises.proofs.Whole.{breaks-of-link}
+
+-- ---- fronts of a stream
+
+-- only ends were told, so nothing waits
+only-ends : {H : Type 0} (told : List (Item H)) (ahead : List (Cell H)) (n : ℕ) → told ++ items ahead ≡ replicate n End → (k : ℕ) × (told ≡ replicate k End) × (ahead ≡ [])
+only-ends [] [] n is = (0, refl, refl)
+only-ends [] (a ∷ ahead) zero is = cc
+only-ends [] (a ∷ ahead) (suc n) is = cc
+only-ends (t ∷ told) ahead zero is = cc
+only-ends (t ∷ told) ahead (suc n) is =
+    let (k, same, none) = only-ends told ahead n (let e : told ++ items ahead ≡ replicate n End = cc in e) in
+    let first : t ≡ End = cc in (suc k, ap (λ x. x ∷ told) first ∙ ap (λ xs. End ∷ xs) same, none)
+
+-- some cells of these, and then ends
+record Fronts {H : Type 0} (told : List (Item H)) (ahead cells left : List (Cell H)) : Type 0 where
+  some : List (Cell H)
+  ends : ℕ
+  order : told ≡ items some ++ replicate ends End
+  front : cells ++ left ≡ some ++ (ahead ++ left)
+  last : 0 < ends → ahead ++ left ≡ []
+
+fronts : {H : Type 0} (told : List (Item H)) (ahead cells left : List (Cell H)) (n : ℕ) → told ++ items ahead ≡ items cells ++ replicate n End → (0 < n → left ≡ []) → Fronts told ahead cells left
+fronts [] [] [] left n is last = record { some = []; ends = 0; order = refl; front = refl; last = λ h. absurd (omega arith) }
+fronts [] [] (c ∷ cells) left n is last = absurd cc
+fronts [] (a ∷ ahead) [] left zero is last = absurd cc
+fronts [] (a ∷ ahead) [] left (suc n) is last = absurd cc
+fronts [] (a ∷ ahead) (c ∷ cells) left n is last =
+    let f = fronts [] ahead cells left n (let e : items ahead ≡ items cells ++ replicate n End = cc in e) last in
+    let same : c ≡ a = cc in
+    let none : f.some ≡ [] = no-cells f.some f.ends f.order in
+    record { some = []; ends = 0; order = refl; front = ap (λ x. x ∷ cells ++ left) same ∙ ap (λ xs. a ∷ xs) (f.front ∙ ap (λ xs. xs ++ (ahead ++ left)) none); last = λ h. absurd (omega arith) }
+  where
+    no-cells : {H : Type 0} (some : List (Cell H)) (ends : ℕ) → [] ≡ items some ++ replicate ends End → some ≡ []
+    no-cells [] ends e = refl
+    no-cells (x ∷ xs) ends e = absurd cc
+fronts (t ∷ told) ahead (c ∷ cells) left n is last =
+    let f = fronts told ahead cells left n (let e : told ++ items ahead ≡ items cells ++ replicate n End = cc in e) last in
+    let first : t ≡ Byte c = cc in
+    record { some = c ∷ f.some; ends = f.ends; order = ap (λ x. x ∷ told) first ∙ ap (λ xs. Byte c ∷ xs) f.order; front = ap (λ xs. c ∷ xs) f.front; last = f.last }
+fronts (t ∷ told) ahead [] left zero is last = absurd cc
+fronts (t ∷ told) ahead [] left (suc n) is last =
+    let (k, same, none) = only-ends (t ∷ told) ahead (suc n) is in
+    let over : ahead ++ left ≡ [] = ap (λ xs. xs ++ left) none ∙ last (omega arith) in
+    record { some = []; ends = k; order = same; front = last (omega arith) ∙ sym over; last = λ h. over }
+
+-- what waits belongs to what is left
+behind : {H : Type 0} (before : List (Cell H)) (told : List (Item H)) (ahead left : List (Cell H)) → HandsFront before (told ++ items ahead) left → HandsFront before told (ahead ++ left)
+behind before told ahead left h =
+    let f = fronts told ahead h.cells left h.ends h.order h.last in
+    record { cells = f.some; ends = f.ends; order = f.order; front = h.front ∙ f.front; last = f.last }
+
+-- what waited comes first
+before-it : {H : Type 0} (ahead before : List (Cell H)) (told : List (Item H)) (left : List (Cell H)) → HandsFront before told left → HandsFront (ahead ++ before) (items ahead ++ told) left
+before-it ahead before told left h = record {
+  cells = ahead ++ h.cells;
+  ends = h.ends;
+  order = ap (λ xs. items ahead ++ xs) h.order ∙ sym (append_assoc (items ahead) (items h.cells) (replicate h.ends End)) ∙ ap (λ xs. xs ++ replicate h.ends End) (sym (map-append Byte ahead h.cells));
+  front = ap (λ xs. ahead ++ xs) h.front ∙ sym (append_assoc ahead h.cells left);
+  last = h.last;
+}
+
+-- an endpoint over a link in memory hands out its stream, in order, and appends what it takes
+pub talked : StreamLaw → (old new : Near) (m : Move PlainHandle) → Talks event old m new → HandsFront (stream old) m.handed (stream new) × (new.link.sent ≡ old.link.sent ++ m.taken)
+talked law old new m t =
+    let r = law old.link new.link t.below t.moved in (
+      behind (stream old) m.handed new.ahead new.link.pending (subst (λ is. HandsFront (stream old) is new.link.pending) t.handed (before-it old.ahead old.link.pending t.below.handed new.link.pending r.stream)),
+      r.taken ∙ ap (λ xs. old.link.sent ++ xs) t.taken,
+    )
+
+-- where nothing was handed out, all is left
+pub none-handed : {H : Type 0} (before left : List (Cell H)) → HandsFront before [] left → left ≡ before
+none-handed {H} before left h = none h.cells h.order h.front
+  where
+    none : (cells : List (Cell H)) → [] ≡ items cells ++ replicate h.ends End → before ≡ cells ++ left → left ≡ before
+    none [] order front = sym front
+    none (c ∷ cells) order front = absurd cc
+
+-- ---- the next message of a stream
+
+-- cells that were handed out first, and what came behind them
+record Peels {H : Type 0} (cells : List (Cell H)) (later : List (Item H)) (before left : List (Cell H)) : Type 0 where
+  rest : List (Cell H)
+  front : before ≡ cells ++ rest
+  hands : HandsFront rest later left
+
+peel : {H : Type 0} (cells : List (Cell H)) (later : List (Item H)) (some left : List (Cell H)) (n : ℕ) → items cells ++ later ≡ items some ++ replicate n End → (0 < n → left ≡ []) → Peels cells later (some ++ left) left
+peel [] later some left n is last = record { rest = some ++ left; front = refl; hands = record { cells = some; ends = n; order = is; front = refl; last = last } }
+peel (c ∷ cells) later [] left zero is last = absurd cc
+peel (c ∷ cells) later [] left (suc n) is last = absurd cc
+peel (c ∷ cells) later (x ∷ some) left n is last =
+    let p = peel cells later some left n (let e : items cells ++ later ≡ items some ++ replicate n End = cc in e) last in
+    let same : x ≡ c = cc in
+    record { rest = p.rest; front = ap (λ y. y ∷ some ++ left) same ∙ ap (λ xs. c ∷ xs) p.front; hands = p.hands }
+
+peeled : {H : Type 0} (cells : List (Cell H)) (later : List (Item H)) (before left : List (Cell H)) → HandsFront before (items cells ++ later) left → Peels cells later before left
+peeled cells later before left h = subst (λ xs. Peels cells later xs left) (sym h.front) (peel cells later h.cells left h.ends h.order h.last)
+
+-- an end that was told is at the end
+ended : {H : Type 0} (before : List (Cell H)) (later : List (Item H)) (left : List (Cell H)) → HandsFront before (End ∷ later) left → (before ≡ []) × HandsFront [] later left
+ended {H} before later left h = by h.cells h.ends h.order h.front h.last
+  where
+    by : (cells : List (Cell H)) (n : ℕ) → End ∷ later ≡ items cells ++ replicate n End → before ≡ cells ++ left → (0 < n → left ≡ []) → (before ≡ []) × HandsFront [] later left
+    by (c ∷ cells) n order front last = absurd cc
+    by [] zero order front last = absurd cc
+    by [] (suc n) order front last =
+        let none : left ≡ [] = last (omega arith) in (
+          front ∙ none,
+          record { cells = []; ends = n; order = (let e : later ≡ replicate n End = cc in e); front = sym none; last = λ h. none },
+        )
+
+-- What was heard of a stream has the outcome of the whole stream, and what comes later is of the rest.
+pub record Cuts {A H : Type 0} (cut : List (Cell H) → A × List (Cell H)) (before : List (Cell H)) (outcome : A) (later : List (Item H)) (left : List (Cell H)) : Type 0 where
+  pub rest : List (Cell H)
+  pub is : cut before ≡ (outcome, rest)
+  pub hands : HandsFront rest later left
+
+pub cuts : {A H : Type 0} (cut : List (Cell H) → A × List (Cell H)) (cells : List (Cell H)) (ends : Bool) (outcome : A) (before left : List (Cell H)) (later : List (Item H))
+    → Splits cut cells ends outcome → HandsFront before (heard cells ends ++ later) left → Cuts cut before outcome later left
+cuts cut cells false outcome before left later s h =
+    let p = peeled cells later before left h in record { rest = p.rest; is = ap cut p.front ∙ s p.rest; hands = p.hands }
+cuts cut cells true outcome before left later s h =
+    let p = peeled cells (End ∷ later) before left (subst (λ is. HandsFront before is left) (append_assoc (items cells) (End ∷ []) later) h) in
+    let (none, hands) = ended p.rest later left p.hands in
+    record { rest = []; is = ap cut (p.front ∙ ap (λ xs. cells ++ xs) none ∙ append-nil cells) ∙ s.0; hands = hands }
+
+-- what an endpoint heard is what the definitions make of its stream, and the rest is left
+pub hears-cut : {A : Type 0} → StreamLaw → (cut : List (Cell PlainHandle) → A × List (Cell PlainHandle)) (old new : Near) (outcome : A) → Hears event cut old outcome new
+    → (cut (stream old) ≡ (outcome, stream new)) × (new.link.sent ≡ old.link.sent)
+hears-cut law cut old new outcome h =
+    let t = talked law old new _ h.serves.talks in
+    let c = cuts cut h.cells h.ended outcome (stream old) (stream new) [] h.splits (subst (λ is. HandsFront (stream old) is (stream new)) (sym (append-nil (heard h.cells h.ended))) t.0) in
+    (c.is ∙ ap (λ xs. (outcome, xs)) (sym (none-handed c.rest (stream new) c.hands)), t.1 ∙ append-nil old.link.sent)
+
+-- what it wrote stands behind what it had written, and its stream is as it was
+pub replies-told : StreamLaw → (old new : Near) (written : List (Cell PlainHandle)) → Replies event old written new → (stream new ≡ stream old) × (new.link.sent ≡ old.link.sent ++ written)
+replies-told law old new written r =
+    let t = talked law old new _ r.serves.talks in (none-handed (stream old) (stream new) t.0, t.1)
+
+-- ---- one call
+
+module _ {R S A Dev : Type 0} (request_of : ℕ → Option R) (allows_handles : R → ℕ → Bool) (failed : S → Option ℤ)
+    (kept : R → S → S → S) (Meets : S → Dev → Message R PlainHandle → Result A Error → List (Cell PlainHandle) → S → Dev → Type 0) (law : StreamLaw) where
+  -- a call that was served found no message where the definitions find none
+  finds-none : (old : Near) (s : S) (d : Dev) (result : Result A declared.Error) (new : Near) (s' : S) (d' : Dev) (e : Error) (rest : List (Cell PlainHandle))
+      → split request_of allows_handles (stream old) ≡ (Err e, rest)
+      → Handled event request_of allows_handles failed kept Meets old s d (seen_result result) new s' d' → FindsNone e rest old s d result new s' d'
+  finds-none old s d result new s' d' e rest none h =
+      let (cut, quiet) = hears-cut law (split request_of allows_handles) old h.mid h.heard h.hears in
+      let same = sym cut ∙ none in
+      let handles : run.Handles request_of allows_handles failed Meets s d (Err e) (seen_result result) h.written s' d' =
+      subst (λ o. run.Handles request_of allows_handles failed Meets s d o (seen_result result) h.written s' d') (ap (λ x. x.0) same) h.handles in
+      let (left, told) = replies-told law h.mid new h.written h.replies in
+      record {
+        answered = handles.0;
+        left = left ∙ ap (λ x. x.1) same;
+        written = told ∙ ap (λ xs. h.mid.link.sent ++ xs) handles.1 ∙ append-nil h.mid.link.sent ∙ quiet;
+        session = handles.2;
+        device = handles.3;
+      }
+
+  -- so does every call, unless it failed for its link or for want of memory
+  pub one-none : (old : Near) (s : S) (d : Dev) (result : Result A declared.Error) (new : Near) (s' : S) (d' : Dev) (e : Error) (rest : List (Cell PlainHandle))
+      → split request_of allows_handles (stream old) ≡ (Err e, rest) → answer_of_link result ≡ false
+      → HandlesOne event request_of allows_handles failed kept Meets old s d result new s' d' → FindsNone e rest old s d result new s' d'
+  one-none old s d (Ok a) new s' d' e rest none sound h = finds-none old s d (Ok a) new s' d' e rest none h
+  one-none old s d (Err x) new s' d' e rest none sound (inl h) = finds-none old s d (Err x) new s' d' e rest none h
+  one-none old s d (Err x) new s' d' e rest none sound (inr b) =
+      let found : true ≡ false = sym (breaks-of-link event request_of allows_handles failed kept Meets old s d x new s' d' b) ∙ sound in
+      absurd cc

@@ -1,0 +1,70 @@
+//! The example device behind a handler, with exact answers.
+
+ghost use Rattle.std.specs.Prelude.{◌≡◌, false, IfOk};
+ghost use Rattle.std.specs.List.{list_any};
+ghost use Rattle.vhost_backend_req_handler.specs.Core.{endpoint_of, session_in};
+ghost use Rattle.vhost_connection.specs.State.{fresh as new_endpoint};
+ghost use Rattle.vhost_dummy_backend.specs.Dummy.{fresh as new_device};
+ghost use Rattle.vhost_protocol.specs.Session.{fresh as new_session};
+ghost use Rattle.vhost_protocol.specs.Stream.{plain};
+ghost use Rattle.vhost_promises.specs.Runs.{answer_of_link};
+ghost use Rattle.vhost_promises.specs.Served.{ServesThree, holding, three_requests};
+ghost use Rattle.vhost_promises.specs.Streams.{stream};
+
+use crate::runs::serves_whole;
+use std::alloc::Global;
+use vhost_backend_req_handler::SessionCore;
+use vhost_dummy_backend::DummyBackendReqHandler;
+use vhost_link::{Cut, MemLink, PlainHandle, stream_law};
+use vhost_message::{Error, Result};
+
+/// The example device, over links in memory.
+type Device = DummyBackendReqHandler<MemLink>;
+
+/// Serves three requests of a stream that holds them: the features, an owner, and an owner once more. However the link is cut, the
+/// answers are these, the bytes that went out are these, and the device has an owner; unless one of the answers is an error that a
+/// link or want of memory may bring.
+pub fn serves_three(
+    alloc: Global,
+    core: &mut SessionCore<MemLink>,
+    device: &mut Device,
+) -> Result<Vec<Result<()>>>
+    ensures { IfOk result (λ answers. session_in core.old ≡ new_session → device.old.owned ≡ false → stream (endpoint_of core.old) ≡ plain three_requests
+        → list_any answer_of_link answers.items ≡ false → ServesThree device.old (endpoint_of core.old) answers.items (endpoint_of core.new) (session_in core.new) device.new) }
+{
+    stream_law();
+    serves_whole(alloc, core, device, 3)
+}
+
+/// A new handler over a new example device, whose link in memory holds the three requests and is cut as the script says, serves them.
+///
+/// OutOfMemory: a growth was refused.
+pub fn serves_three_new(
+    alloc: Global,
+    spare: Vec<PlainHandle>,
+    script: Vec<Cut>,
+    budget: u32,
+) -> Result<(SessionCore<MemLink>, Device, Vec<Result<()>>)>
+    ensures { IfOk result (λ run. list_any answer_of_link run.2.items ≡ false
+        → ServesThree (new_device alloc spare.items) (new_endpoint (holding script.items) budget) run.2.items (endpoint_of run.0) (session_in run.0) run.1) }
+{
+    let mut device = DummyBackendReqHandler::new(alloc, spare);
+    let mut core = SessionCore::new(alloc, holds_three(alloc, script)?, budget)?;
+    let answers = serves_three(alloc, &mut core, &mut device)?;
+    Ok((core, device, answers))
+}
+
+/// A link in memory that holds the three requests.
+fn holds_three(alloc: Global, script: Vec<Cut>) -> Result<MemLink>
+    ensures { IfOk result (λ link. link ≡ holding script.items) }
+{
+    let mut link = MemLink::new(alloc, script);
+    let requests = [
+        1, 0, 0, 0, 1, 0, 0, 0, 0, 0, 0, 0, 3, 0, 0, 0, 1, 0, 0, 0, 0, 0, 0, 0, 3, 0, 0, 0, 1, 0,
+        0, 0, 0, 0, 0, 0,
+    ];
+    match link.push(&requests, &[]) {
+        Ok(()) => Ok(link),
+        Err(_) => Err(Error::OutOfMemory),
+    }
+}
