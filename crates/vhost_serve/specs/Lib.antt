@@ -1,0 +1,2 @@
+-- How sessions go.
+pub mod Session
