@@ -15,7 +15,8 @@ pub struct Message {
     pub handles: Vec<PlainHandle>,
 }
 
-/// The message of a line: `[7] 01000000`, `first COUNT MESSAGE`, `after COUNT MESSAGE`, and further bytes after `then`.
+/// The message of a line: `[7] 01000000`, `first COUNT MESSAGE`, `after COUNT MESSAGE`, where handles may stand before `after`,
+/// and further bytes after `then`.
 pub fn message_of(alloc: Global, n: usize, text: &str) -> Result<Message, Miss> {
     let Some((front, more)) = text.split_once(" then ") else {
         return front_of(alloc, n, text);
@@ -32,13 +33,16 @@ fn front_of(alloc: Global, n: usize, text: &str) -> Result<Message, Miss> {
         message.bytes.truncate(count);
         return Ok(message);
     }
-    match text.strip_prefix("after ") {
-        Some(part) => {
-            let (count, message) = part_of(alloc, n, part)?;
-            without(alloc, count, message)
-        }
-        None => whole_message(alloc, n, text),
+    let (handles, rest) = handles_in(alloc, text)?;
+    let Some(part) = rest.strip_prefix("after ") else {
+        return whole_message(alloc, n, text);
+    };
+    let (count, message) = part_of(alloc, n, part)?;
+    let mut message = without(alloc, count, message)?;
+    if !handles.is_empty() {
+        message.handles = handles;
     }
+    Ok(message)
 }
 
 /// A message without its first bytes.

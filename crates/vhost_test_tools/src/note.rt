@@ -3,7 +3,7 @@
 use crate::handles::{handle_text, push_handles};
 use crate::link::ScriptHandle;
 use std::alloc::{AllocError, Global};
-use vhost_message::{VhostUserInflight, VhostUserMemoryRegion, VhostUserSharedMsg};
+use vhost_message::{VhostUserInflight, VhostUserMMap, VhostUserMemoryRegion, VhostUserSharedMsg};
 
 /// A handle, or `none`.
 pub(crate) fn file_text<H: ScriptHandle>(
@@ -78,4 +78,11 @@ pub(crate) fn area_text(alloc: Global, area: &VhostUserInflight) -> Result<Strin
 /// The bytes of an object's name.
 pub(crate) fn name_text(alloc: Global, name: &VhostUserSharedMsg) -> Result<String, AllocError> {
     hex::encode(alloc, name.uuid.as_bytes().as_slice())
+}
+
+/// A mapping: the region, where it begins in the file and in the region, its length, and flags.
+pub(crate) fn mapping_text(alloc: Global, mapping: &VhostUserMMap) -> Result<String, AllocError> {
+    let (region, file, place) = (mapping.shmid, mapping.fd_offset, mapping.shm_offset);
+    let (length, flags) = (mapping.len, mapping.flags);
+    format!(in alloc; "{region} {file} {place} {length} {flags}")
 }

@@ -61,7 +61,11 @@ fn take<'a>(alloc: Global, sessions: &mut Vec<Session<'a>>, line: Line<'a>) -> R
 /// A session of a kind and a title.
 fn begin<'a>(alloc: Global, number: u64, header: &'a str) -> Result<Session<'a>, Miss> {
     let (kind, title) = header.split_once(" ").unwrap_or((header, ""));
-    let is_kind = matches!(kind, "served" | "asking" | "joined" | "lines" | "endpoint");
+    let is_kind = matches!(kind, "served" | "asking" | "joined" | "lines" | "endpoint")
+        || matches!(
+            kind,
+            "reverse" | "reverse_served" | "reverse_asking" | "display"
+        );
     if !is_kind || title.is_empty() {
         return Err(unreadable(alloc, "a kind of session and its title", header));
     }

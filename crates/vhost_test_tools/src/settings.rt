@@ -28,7 +28,7 @@ pub struct Settings<'a> {
     pub over: Over<'a>,
     pub queues: u64,
     pub budget: u32,
-    /// The cuts of the link, and of the handler's link where both sides are joined.
+    /// The cuts of the link, and of the serving side's link where both sides are joined.
     pub cuts: &'a str,
     pub serving_cuts: &'a str,
     /// The handles that can't say of what kind they are.
@@ -92,9 +92,9 @@ impl<'a> Settings<'a> {
 fn belongs(kind: &str, word: &str) -> bool {
     match word {
         "for" | "budget" | "cuts" => kind != "lines",
-        "over" => matches!(kind, "served" | "joined"),
+        "over" => matches!(kind, "served" | "reverse_served" | "joined"),
         "queues" => matches!(kind, "asking" | "joined"),
-        "serving_cuts" => kind == "joined",
+        "serving_cuts" => matches!(kind, "joined" | "reverse"),
         "silent" => kind == "served",
         "gpu" => kind == "endpoint",
         _ => true,

@@ -5,9 +5,12 @@ use crate::errors::error_of;
 use crate::handles::handles_in;
 use crate::miss::{Miss, unreadable};
 use crate::numbers::{narrow, number_of};
+use crate::reverse_calls::back_of;
 use std::alloc::Global;
 use vhost_link::PlainHandle;
-use vhost_message::{Error, VhostUserInflight, VhostUserShMemConfig, VhostUserVringState};
+use vhost_message::{
+    Error, HandlerResult, VhostUserInflight, VhostUserShMemConfig, VhostUserVringState,
+};
 
 /// What kind of value a call of the device answers.
 #[derive(Clone, Copy, PartialEq, Eq)]
@@ -22,6 +25,7 @@ pub(crate) enum Shape {
     Area,
     StateHandle,
     Regions,
+    Back,
 }
 
 /// What a call of the device answers.
@@ -38,6 +42,8 @@ pub(crate) enum Value {
     Area(VhostUserInflight, PlainHandle),
     StateHandle(Option<PlainHandle>),
     Regions(VhostUserShMemConfig),
+    /// What a frontend answers to its device.
+    Back(HandlerResult<u64>),
 }
 
 /// What a call answers, by its name. None: there is no such call.
@@ -72,17 +78,26 @@ pub(crate) fn shape_of(name: &str) -> Option<Shape> {
         | "set_log_base" => Shape::Nothing,
         "check_device_state" | "postcopy_listen" | "postcopy_end" | "postcopy_ack_mem_regions" =>
             Shape::Nothing,
+        "handle_config_change"
+        | "shared_object_add"
+        | "shared_object_remove"
+        | "shared_object_lookup"
+        | "shmem_map"
+        | "shmem_unmap" => Shape::Back,
         _ => return None,
     })
 }
 
 /// The value of a kind that words tell, or the error.
 pub(crate) fn value_of(alloc: Global, shape: Shape, text: &str) -> Result<Value, Miss> {
+    if shape == Shape::Back {
+        return Ok(Value::Back(back_of(alloc, text)?));
+    }
     if let Some(error) = text.strip_prefix("err ") {
         return Ok(Value::Failed(error_of(alloc, error)?));
     }
     match shape {
-        Shape::Nothing => Err(unreadable(alloc, "an error", text)),
+        Shape::Nothing | Shape::Back => Err(unreadable(alloc, "an error", text)),
         Shape::Number => Ok(Value::Number(number_of(alloc, text)?)),
         Shape::Bases if text == "none" => Ok(Value::Bases(None)),
         Shape::Bases => Ok(Value::Bases(Some(numbers_of(alloc, text)?))),
