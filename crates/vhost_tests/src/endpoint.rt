@@ -2,7 +2,6 @@
 
 mod pieces;
 mod receives;
-mod records;
 mod sends;
 
 use crate::endpoint::pieces::{offset_text, send_pieces};

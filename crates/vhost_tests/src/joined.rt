@@ -1,45 +1,64 @@
-//! Joined sessions: a frontend and a handler in lockstep.
+//! Joined sessions: two sides in lockstep.
+
+mod forward;
+mod reverse;
 
 use std::alloc::Global;
 use std::cell::RefCell;
 use std::rc::Rc;
-use vhost_dummy_backend::DummyBackendReqHandler;
-use vhost_frontend_calls::{FrontendAnswer, FrontendCall};
-use vhost_link::MemLink;
-use vhost_pair::{Halt, Joined, Stop};
-use vhost_test_tools::{
-    Miss, Over, Scripted, Settings, Sheet, Traffic, answer_text, call_in, cuts_of, expect,
-    handles_in, lend, unreadable,
-};
+use vhost_link::PlainHandle;
+use vhost_pair::Stop;
+use vhost_test_tools::{Miss, Settings, Sheet, Traffic, expect, lend, unreadable};
 
-/// Both sides, over one of two devices.
-#[derive(Drop)]
-enum Pair {
-    Scripted(Joined<Scripted<MemLink>>),
-    Dummy(Joined<DummyBackendReqHandler<MemLink>>),
+/// Both sides of a channel, joined.
+pub(crate) trait Sides: Sized + Drop {
+    /// What is asked of them.
+    type Call: Drop;
+
+    /// Whether what serves the requests goes by the script.
+    const IS_SCRIPTED: bool;
+
+    /// Both sides, new. What serves the requests goes by the sheet, if it goes by the script; `n` is the session's number.
+    fn new(
+        alloc: Global,
+        settings: &Settings<'_>,
+        n: usize,
+        sheet: &Rc<RefCell<Sheet>>,
+    ) -> Result<Self, Miss>;
+
+    /// The call that words tell.
+    fn call_in(alloc: Global, text: &str) -> Result<Self::Call, Miss>;
+
+    /// Makes a call; its answer as words. None: the run had stopped.
+    fn make(&mut self, alloc: Global, call: &Self::Call) -> Result<Option<String>, Miss>;
+
+    /// What the asking side wrote at the last call.
+    fn request(&self) -> (&[u8], &[PlainHandle]);
+
+    /// What the serving side wrote.
+    fn reply(&self) -> (&[u8], &[PlainHandle]);
+
+    /// Whether the run has stopped, and why.
+    fn stop(&self) -> Option<Stop>;
 }
 
 /// Both sides, and what is to happen until the next answer.
 #[derive(Drop)]
-pub(crate) struct JoinedPlayer {
-    pair: Pair,
+pub(crate) struct JoinedPlayer<S: Sides> {
+    sides: S,
     sheet: Rc<RefCell<Sheet>>,
     request: Traffic,
     reply: Traffic,
-    call: Option<FrontendCall>,
+    call: Option<S::Call>,
     alloc: Global,
 }
 
-impl JoinedPlayer {
+impl<S: Sides> JoinedPlayer<S> {
     /// A new session.
-    pub(crate) fn new(
-        alloc: Global,
-        settings: &Settings<'_>,
-        n: usize,
-    ) -> Result<JoinedPlayer, Miss> {
+    pub(crate) fn new(alloc: Global, settings: &Settings<'_>, n: usize) -> Result<Self, Miss> {
         let sheet = Rc::new(alloc, RefCell::new(Sheet::new(alloc)))?;
         Ok(JoinedPlayer {
-            pair: Pair::new(alloc, settings, n, &sheet)?,
+            sides: S::new(alloc, settings, n, &sheet)?,
             sheet,
             request: Traffic::new(alloc, n),
             reply: Traffic::new(alloc, n),
@@ -50,18 +69,17 @@ impl JoinedPlayer {
 
     /// Does what a line says, or compares it.
     pub(crate) fn step(&mut self, word: &str, rest: &str) -> Result<(), Miss> {
-        let is_scripted = matches!(&self.pair, Pair::Scripted(_));
         match word {
             "call" if self.call.is_none() => {
-                self.call = Some(call_in(self.alloc, rest)?);
+                self.call = Some(S::call_in(self.alloc, rest)?);
                 Ok(())
             }
             "request" => self.request.want(rest),
-            "device" if is_scripted => lend(self.alloc, &self.sheet)?.want(rest),
-            "gives" if is_scripted => lend(self.alloc, &self.sheet)?.give(rest),
+            "device" if S::IS_SCRIPTED => lend(self.alloc, &self.sheet)?.want(rest),
+            "gives" if S::IS_SCRIPTED => lend(self.alloc, &self.sheet)?.give(rest),
             "reply" => self.reply.want(rest),
             "answer" => self.answer(rest),
-            "stopped" => expect(self.alloc, rest, self.pair.stopped()),
+            "stopped" => expect(self.alloc, rest, stop_text(self.sides.stop())),
             _ => Err(unreadable(self.alloc, "a step", word)),
         }
     }
@@ -72,16 +90,23 @@ impl JoinedPlayer {
             return Err(unreadable(self.alloc, "a call before its answer", wanted));
         };
         lend(self.alloc, &self.sheet)?.expect_told()?;
-        let met = match self.pair.step(&call) {
-            Ok(answer) => answer_text(self.alloc, &answer)?,
-            Err(Halt::Stopped) => return expect(self.alloc, wanted, "stopped"),
-            Err(Halt::OutOfMemory) => return Err(Miss::OutOfMemory),
+        let Some(met) = self.sides.make(self.alloc, &call)? else {
+            return expect(self.alloc, wanted, "stopped");
         };
         let asked = lend(self.alloc, &self.sheet)?.check();
-        let written = self.pair.check(&mut self.request, &mut self.reply);
+        let written = self.check();
         asked?;
         written?;
         expect(self.alloc, wanted, met.as_str())
+    }
+
+    /// Compares what both sides wrote at the last call.
+    fn check(&mut self) -> Result<(), Miss> {
+        let (bytes, handles) = self.sides.request();
+        let written = self.request.check_message(bytes, handles);
+        let (bytes, handles) = self.sides.reply();
+        self.reply.check_message(bytes, handles)?;
+        written
     }
 
     /// Tests that nothing is wanted any more.
@@ -95,68 +120,11 @@ impl JoinedPlayer {
     }
 }
 
-impl Pair {
-    /// Both sides, over a device.
-    fn new(
-        alloc: Global,
-        settings: &Settings<'_>,
-        n: usize,
-        sheet: &Rc<RefCell<Sheet>>,
-    ) -> Result<Pair, Miss> {
-        let cuts = (
-            cuts_of(alloc, n, settings.cuts)?,
-            cuts_of(alloc, n, settings.serving_cuts)?,
-        );
-        let (queues, budget) = (settings.queues, settings.budget);
-        match settings.over {
-            Over::Scripted => {
-                let device = Scripted::new(alloc, sheet)?;
-                match Joined::new(alloc, device, queues, budget, cuts) {
-                    Ok(joined) => Ok(Pair::Scripted(joined)),
-                    Err(_) => Err(Miss::OutOfMemory),
-                }
-            }
-            Over::Dummy(spare) => {
-                let (spare, _) = handles_in(alloc, spare)?;
-                let device = DummyBackendReqHandler::new(alloc, spare);
-                match Joined::new(alloc, device, queues, budget, cuts) {
-                    Ok(joined) => Ok(Pair::Dummy(joined)),
-                    Err(_) => Err(Miss::OutOfMemory),
-                }
-            }
-            Over::Locked | Over::Untold => Err(unreadable(alloc, "a device", "none")),
-        }
-    }
-
-    /// Makes a call.
-    fn step(&mut self, call: &FrontendCall) -> Result<FrontendAnswer, Halt> {
-        match self {
-            Pair::Scripted(joined) => joined.step(call),
-            Pair::Dummy(joined) => joined.step(call),
-        }
-    }
-
-    /// Compares what both sides wrote at the last call.
-    fn check(&self, request: &mut Traffic, reply: &mut Traffic) -> Result<(), Miss> {
-        let ((asked, with), (replied, along)) = match self {
-            Pair::Scripted(joined) => (joined.last_request(), joined.last_reply()),
-            Pair::Dummy(joined) => (joined.last_request(), joined.last_reply()),
-        };
-        let written = request.check_message(asked, with);
-        reply.check_message(replied, along)?;
-        written
-    }
-
-    /// Whether the run has stopped, and why.
-    fn stopped(&self) -> &'static str {
-        let stopped = match self {
-            Pair::Scripted(joined) => joined.stopped(),
-            Pair::Dummy(joined) => joined.stopped(),
-        };
-        match stopped {
-            None => "no",
-            Some(Stop::Table) => "table",
-            Some(Stop::Premise) => "premise",
-        }
+/// Whether a run has stopped, and why, as a word.
+fn stop_text(stop: Option<Stop>) -> &'static str {
+    match stop {
+        None => "no",
+        Some(Stop::Table) => "table",
+        Some(Stop::Premise) => "premise",
     }
 }

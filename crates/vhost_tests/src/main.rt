@@ -3,10 +3,13 @@
 
 mod actor;
 mod asking;
+mod channels;
 mod endpoint;
 mod joined;
 mod lines;
 mod play;
+mod records;
+mod reverse_served;
 mod served;
 
 use play::{Tally, play_session};

@@ -133,6 +133,7 @@ fn ask_hypervisor<F: VhostUserFrontend + VhostBackend<Handle = PlainHandle>>(
         FrontendCall::PostcopyAckMemRegions(code) => {
             done(frontend.postcopy_ack_mem_regions(rt, *code))
         }
+        FrontendCall::SetMtu(mtu) => done(frontend.set_mtu(rt, *mtu)),
         _ => ask_device(alloc, frontend, rt, call),
     }
 }

@@ -1,7 +1,7 @@
 //! Calls that send bytes as they are.
 
-use crate::endpoint::records::{failed, last_handles, shown, word_of};
 use crate::endpoint::sends::lent;
+use crate::records::{failed, last_handles, shown, word_of};
 use std::alloc::Global;
 use vhost_connection::{Endpoint, get_sub_iovs_offset};
 use vhost_link::MemLink;

@@ -2,7 +2,7 @@
 
 ghost use Rattle.std.specs.Prelude.{◌≤◌, IfOk};
 
-use crate::endpoint::records::{failed, record_of, record_text, shown, word_of};
+use crate::records::{failed, record_of, record_text, shown, word_of};
 use std::alloc::Global;
 use vhost_connection::Endpoint;
 use vhost_link::{MemLink, PlainHandle};

@@ -1,6 +1,6 @@
 //! Calls that send whole messages.
 
-use crate::endpoint::records::{failed, last_handles, record_of, word_of};
+use crate::records::{failed, last_handles, record_of, word_of};
 use std::alloc::Global;
 use vhost_connection::Endpoint;
 use vhost_gpu_message::VhostUserGpuUpdate;
