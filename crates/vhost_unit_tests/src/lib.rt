@@ -15,3 +15,5 @@ mod gpu_message;
 mod link;
 #[cfg(test)]
 mod message;
+#[cfg(test)]
+mod promises;

@@ -6,10 +6,9 @@ ghost use Rattle.vhost_message.specs.declared.limits.TheConstants.{MAX_ATTACHED_
 use std::alloc::Global;
 use std::test::Fail;
 use uuid::Uuid;
-use vhost_backend_req::{Backend, BackendInternal};
-use vhost_frontend_req_handler::VhostUserFrontendReqHandler;
+use vhost_backend_req::BackendInternal;
 use vhost_link::{Kind, Link, MemLink, PlainHandle};
-use vhost_message::{Error, HandlerResult, IoCause, IoError, VhostUserMMap, VhostUserSharedMsg};
+use vhost_message::{Error, HandlerResult, IoError, VhostUserMMap, VhostUserSharedMsg};
 use vhost_promises::{adds_object, maps_memory};
 
 const HANDLE: PlainHandle = PlainHandle {
@@ -39,12 +38,7 @@ const fn number(code: u8, size: u8, value: u8) -> [u8; 20] {
 fn shown(answer: HandlerResult<u64>) -> Result<u64, &'static str> {
     match answer {
         Ok(number) => Ok(number),
-        Err(IoError::Raw(38)) => Err("38"),
-        Err(IoError::Named(reason)) => Err(reason),
-        Err(IoError::Of(Error::InvalidMessage)) => Err("invalid"),
-        Err(IoError::Of(Error::PartialMessage)) => Err("partial"),
         Err(IoError::Of(Error::FrontendInternalError)) => Err("frontend"),
-        Err(IoError::Of(Error::SocketBroken(IoCause::Raw(5)))) => Err("broken"),
         Err(_) => Err("other"),
     }
 }
@@ -100,101 +94,15 @@ fn numbers(rt: HostRuntime) -> Result<(), Fail> {
     let alloc: Global = rt.alloc();
     assert_eq!(rt; added(alloc, &number(6, 8, 0), &[])?, Ok(0));
     assert_eq!(rt; added(alloc, &number(6, 8, 1), &[])?, Err("frontend"));
-    assert_eq!(rt; added(alloc, &number(6, 16, 0), &[])?, Ok(0));
-    assert_eq!(rt; added(alloc, &number(7, 8, 0), &[])?, Err("invalid"));
-    assert_eq!(rt; added(alloc, &number(6, 8, 0), &[HANDLE])?, Err("invalid"));
-    assert_eq!(rt; added(alloc, &[], &[])?, Err("partial"));
     Ok(())
-}
-
-/// What SHARED_OBJECT_ADD of the name that is none answers where nothing comes back, and whether it went out with these flags.
-fn unnamed(
-    alloc: Global,
-    reply_ack: bool,
-    flags: u8,
-) -> Result<(Result<u64, &'static str>, bool), Fail> {
-    let mut channel = channel(alloc, &[], &[])?;
-    agree(&mut channel, reply_ack);
-    let answer = adds_object(&mut channel, &VhostUserSharedMsg { uuid: Uuid::nil() });
-    let mut request = [0; 28];
-    (request[0], request[4], request[8]) = (6, flags, 16);
-    Ok((shown(answer), written(&mut channel).0 == request.as_slice()))
-}
-
-#[test]
-fn no_name(rt: HostRuntime) -> Result<(), Fail> {
-    assert_eq!(rt; unnamed(rt.alloc(), false, 1)?, (Ok(0), true));
-    assert_eq!(rt; unnamed(rt.alloc(), true, 9)?, (Err("partial"), true));
-    Ok(())
-}
-
-/// A call that nothing answers, by its place among these.
-fn asked<L: Link>(
-    channel: &mut BackendInternal<L>,
-    handle: &L::Handle,
-    call: usize,
-) -> Result<u64, &'static str> {
-    let mapping = VhostUserMMap::default();
-    shown(match call {
-        0 => channel.handle_config_change(),
-        1 => channel.shared_object_lookup(&name(), handle),
-        2 => maps_memory(channel, &mapping, handle),
-        3 => channel.shmem_unmap(&mapping),
-        _ => channel.shared_object_remove(&name()),
-    })
 }
 
 #[test]
 fn unanswered(rt: HostRuntime) -> Result<(), Fail> {
-    let alloc: Global = rt.alloc();
-    let heads: [([u8; 12], usize, usize); 5] = [
-        ([2, 0, 0, 0, 1, 0, 0, 0, 0, 0, 0, 0], 12, 0),
-        ([8, 0, 0, 0, 1, 0, 0, 0, 16, 0, 0, 0], 28, 1),
-        ([9, 0, 0, 0, 1, 0, 0, 0, 40, 0, 0, 0], 52, 1),
-        ([10, 0, 0, 0, 1, 0, 0, 0, 40, 0, 0, 0], 52, 0),
-        ([7, 0, 0, 0, 1, 0, 0, 0, 16, 0, 0, 0], 28, 0),
-    ];
-    for (call, (head, count, handles)) in heads.iter().enumerate() {
-        let mut channel = channel(alloc, &[], &[])?;
-        agree(&mut channel, false);
-        assert_eq!(rt; asked(&mut channel, &HANDLE, call), Ok(0));
-        let (bytes, with) = written(&mut channel);
-        assert!(rt; bytes.starts_with(head.as_slice()));
-        assert_eq!(rt; (bytes.len(), with), (*count, *handles));
-    }
-    Ok(())
-}
-
-#[test]
-fn refused(rt: HostRuntime) -> Result<(), Fail> {
-    let alloc: Global = rt.alloc();
-    let mut bare = channel(alloc, &[], &[])?;
-    let object = Err("Shared Object feature not negotiated");
-    let memory = Err("SHMEM feature not negotiated");
-    for (call, refusal) in [Err("38"), object, memory, memory, object]
-        .iter()
-        .enumerate()
-    {
-        assert_eq!(rt; asked(&mut bare, &HANDLE, call), *refusal);
-    }
-    agree(&mut bare, true);
-    bare.set_failed(5);
-    for call in 0..5 {
-        assert_eq!(rt; asked(&mut bare, &HANDLE, call), Err("broken"));
-    }
-    assert!(rt; written(&mut bare).0.is_empty());
-    Ok(())
-}
-
-#[test]
-fn shared(rt: HostRuntime) -> Result<(), Fail> {
-    let alloc: Global = rt.alloc();
-    let link = MemLink::new(alloc, Vec::new(alloc));
-    let channel = Backend::from_stream(alloc, link, 0)?;
-    let other = channel.clone()?;
-    channel.set_config_change_flag(&rt, true);
-    assert_eq!(rt; shown(other.handle_config_change(&rt)), Ok(0));
-    channel.set_failed(&rt, 5);
-    assert_eq!(rt; shown(other.handle_config_change(&rt)), Err("broken"));
+    let mut channel = channel(rt.alloc(), &[], &[])?;
+    agree(&mut channel, false);
+    let answer = maps_memory(&mut channel, &VhostUserMMap::default(), &HANDLE);
+    assert_eq!(rt; shown(answer), Ok(0));
+    assert_eq!(rt; written(&mut channel).1, 1);
     Ok(())
 }

@@ -4,18 +4,20 @@ ghost use Rattle.std.specs.Prelude.{⊤, ◌≤◌, length};
 ghost use Rattle.vhost_message.specs.declared.limits.TheConstants.{MAX_ATTACHED_FD_ENTRIES};
 
 use std::alloc::Global;
-use std::sync::{Arc, Mutex};
+use std::sync::Arc;
 use std::test::Fail;
 use uuid::Uuid;
 use vhost_frontend_req_handler::{
     FrontendReqCore, FrontendReqHandler, VhostUserFrontendReqHandler,
     VhostUserFrontendReqHandlerMut,
 };
-use vhost_link::{Kind, Link, MemLink, PlainHandle};
+use vhost_link::{Cut, Kind, Link, MemLink, PlainHandle};
 use vhost_message::{
     Error, HandlerResult, IoCause, IoError, Result, VhostUserMMap, VhostUserSharedMsg,
 };
-use vhost_promises::{serves_no_broken_back, serves_whole_back};
+use vhost_promises::{
+    finds_none_back, meets_fault_back, serves_no_broken_back, serves_whole_back, stays_broken_back,
+};
 
 const HANDLE: PlainHandle = PlainHandle {
     id: 7,
@@ -103,40 +105,6 @@ fn shown(answer: Result<u64>) -> std::result::Result<u64, i32> {
     }
 }
 
-/// What a request is answered where it is acknowledged by this number, and nothing else goes back.
-fn served(
-    alloc: Global,
-    device: &mut OneName,
-    request: &[u8],
-    code: u8,
-    number: i64,
-) -> Outcome<std::result::Result<u64, i32>> {
-    let mut core = FrontendReqCore::new(alloc, coming(alloc, request, &[])?, 0)?;
-    core.set_reply_ack_flag(true);
-    let answer = shown(core.handle_request(device));
-    let bytes = core.endpoint_mut().link().taken().bytes();
-    let head = [code, 0, 0, 0, 5, 0, 0, 0, 8, 0, 0, 0];
-    if bytes.strip_prefix(&head[..]) != Some(number.to_le_bytes().as_slice()) {
-        return Err("not acknowledged so")?;
-    }
-    Ok(answer)
-}
-
-#[test]
-fn numbers(rt: HostRuntime) -> Outcome<()> {
-    let alloc: Global = rt.alloc();
-    let mut device = OneName::default();
-    assert_eq!(rt; served(alloc, &mut device, &ADD, 6, 0)?, Ok(0));
-    assert_eq!(rt; served(alloc, &mut device, &ADD, 6, 1)?, Ok(1));
-    for (error, number) in [(38, -38), (i32::MIN, -22), (0, 0)] {
-        device.error = error;
-        assert_eq!(rt; served(alloc, &mut device, &CHANGE, 2, number)?, Err(error));
-    }
-    let kick = [4, 0, 0, 0, 9, 0, 0, 0, 0, 0, 0, 0];
-    assert_eq!(rt; served(alloc, &mut device, &kick, 4, -22)?, Err(-1));
-    Ok(())
-}
-
 /// Whether SHMEM_MAP with these handles is refused with its body unread, so that the body is the next request; and both are a
 /// whole run.
 fn stays_unread(alloc: Global, handles: &[PlainHandle]) -> Outcome<bool>
@@ -169,21 +137,47 @@ fn broken(rt: HostRuntime) -> Outcome<()> {
     Ok(())
 }
 
-/// Whether SHARED_OBJECT_ADD of the name that is none, with these flags, is refused in silence.
-fn unnamed(alloc: Global, flags: u8) -> Outcome<bool> {
-    let mut request = [0; 28];
-    (request[0], request[4], request[8]) = (6, flags, 16);
-    let mut core = FrontendReqCore::new(alloc, coming(alloc, &request, &[])?, 0)?;
-    core.set_reply_ack_flag(true);
-    let answer = shown(core.handle_request(&mut OneName::default()));
-    let silent = core.endpoint_mut().link().taken().bytes().is_empty();
-    Ok(answer == Err(-1) && silent)
+/// Whether a request that the link's error 5 tears after five bytes is answered so, and each one behind it that the endpoint is broken.
+fn is_torn(alloc: Global) -> Outcome<bool> {
+    let mut script = Vec::new(alloc);
+    script.push(Cut::Give(5))?;
+    script.push(Cut::Fault(5))?;
+    let mut link = MemLink::new(alloc, script);
+    link.push(&ADD, &[])?;
+    let mut core = FrontendReqCore::new(alloc, link, 0)?;
+    let mut device = OneName::default();
+    let first = meets_fault_back(&mut core, &mut device);
+    let later = stays_broken_back(alloc, &mut core, &mut device, 2)?;
+    Ok(
+        matches!(first, Err(Error::SocketError(IoCause::Raw(5))))
+            && matches!(
+                later.as_slice(),
+                [
+                    Err(Error::SocketBroken(IoCause::Raw(5))),
+                    Err(Error::SocketBroken(IoCause::Raw(5)))
+                ]
+            ),
+    )
 }
 
 #[test]
-fn no_name(rt: HostRuntime) -> Outcome<()> {
-    assert!(rt; unnamed(rt.alloc(), 1)?);
-    assert!(rt; unnamed(rt.alloc(), 9)?);
+fn torn(rt: HostRuntime) -> Outcome<()> {
+    assert!(rt; is_torn(rt.alloc())?);
+    Ok(())
+}
+
+/// What a stream without a message is answered.
+fn none_found(alloc: Global, bytes: &[u8]) -> Outcome<Result<u64>> {
+    let mut core = FrontendReqCore::new(alloc, coming(alloc, bytes, &[])?, 0)?;
+    Ok(finds_none_back(&mut core, &mut OneName::default()))
+}
+
+#[test]
+fn no_message(rt: HostRuntime) -> Outcome<()> {
+    let alloc: Global = rt.alloc();
+    assert!(rt; matches!(none_found(alloc, &[])?, Err(Error::Disconnected)));
+    assert!(rt; matches!(none_found(alloc, &ADD[..5])?, Err(Error::PartialMessage)));
+    assert!(rt; matches!(none_found(alloc, &ADD[..15])?, Err(Error::InvalidMessage)));
     Ok(())
 }
 
@@ -197,16 +191,5 @@ fn shared(rt: HostRuntime) -> Outcome<()> {
     assert_eq!(rt; shown(handler.handle_request(&rt)), Err(5));
     handler.set_failed(0);
     assert_eq!(rt; shown(handler.handle_request(&rt)), Err(38));
-    Ok(())
-}
-
-#[test]
-fn behind_a_lock(rt: HostRuntime) -> Outcome<()> {
-    let alloc: Global = rt.alloc();
-    let link = coming(alloc, &ADD, &[])?;
-    let device = Arc::new(alloc, Mutex::new(OneName::default()))?;
-    let mut handler = FrontendReqHandler::new(alloc, HANDLE, link, 0, device)?;
-    handler.set_reply_ack_flag(true);
-    assert_eq!(rt; shown(handler.handle_request(&rt)), Ok(0));
     Ok(())
 }

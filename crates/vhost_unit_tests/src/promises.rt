@@ -1,0 +1,156 @@
+//! Clients of the promises, each run once with ample memory.
+
+use std::alloc::Global;
+use std::sync::Wait;
+use std::test::Fail;
+use vhost_link::Cut;
+use vhost_message::{BackendReq, Error, FrontendReq, HandlerResult, IoError};
+use vhost_promises::{
+    Device, finds_own, first_answer, names_request, records_two, runs_two_lines, serves_three_new,
+    shares_twice, two_callers,
+};
+use vhost_recorder::{FrontendAnswer, FrontendCall, Log, Receipt, Recorded};
+
+type Outcome<T> = std::result::Result<T, Fail>;
+
+/// Every third call of the link is to be made again, and the others move a byte or two.
+fn small_cuts(alloc: Global) -> Outcome<Vec<Cut>> {
+    let mut cuts = Vec::new(alloc);
+    for _ in 0..12 {
+        cuts.push(Cut::Give(1))?;
+        cuts.push(Cut::Retry)?;
+        cuts.push(Cut::Give(2))?;
+    }
+    Ok(cuts)
+}
+
+/// What three requests wrote, where they were answered as the example device does.
+fn wrote(alloc: Global) -> Outcome<Vec<u8>> {
+    let (mut core, _device, answers) = serves_three_new(
+        alloc,
+        Vec::new(alloc),
+        small_cuts(alloc)?,
+        40,
+    )?;
+    if !matches!(
+        answers.as_slice(),
+        [Ok(()), Ok(()), Err(Error::InvalidOperation(_))]
+    ) {
+        return Err("other answers")?;
+    }
+    Ok(Vec::from_slice(alloc, core.endpoint_mut().link().taken().bytes())?)
+}
+
+#[test]
+fn three_requests(rt: HostRuntime) -> Outcome<()> {
+    let reply = [
+        1, 0, 0, 0, 5, 0, 0, 0, 8, 0, 0, 0, 3, 0, 0, 0x40, 0, 0, 0, 0,
+    ];
+    assert_eq!(rt; wrote(rt.alloc())?.as_slice(), reply.as_slice());
+    Ok(())
+}
+
+#[test]
+fn two_lines(rt: HostRuntime) -> Outcome<()> {
+    let shown =
+        "010000000100000000000000 0100000005000000080000000300004000000000 ok 0x40000003\n030000000100000000000000 - ok\n";
+    let Ok(output) = runs_two_lines(rt.alloc()) else {
+        return Err("no memory")?;
+    };
+    assert_eq!(rt; output.as_slice(), shown.as_bytes());
+    Ok(())
+}
+
+/// The last reply where an object was shared twice.
+fn refused_reply(alloc: Global, answers: &mut Vec<HandlerResult<u64>>) -> Outcome<Vec<u8>> {
+    let Ok(joined) = shares_twice(alloc, answers) else {
+        return Err("no memory")?;
+    };
+    Ok(Vec::from_slice(alloc, joined.last_reply().0)?)
+}
+
+#[test]
+fn one_object(rt: HostRuntime) -> Outcome<()> {
+    let mut answers = Vec::new(rt.alloc());
+    let reply = refused_reply(rt.alloc(), &mut answers)?;
+    let number = [
+        6, 0, 0, 0, 5, 0, 0, 0, 8, 0, 0, 0, 0xda, 255, 255, 255, 255, 255, 255, 255,
+    ];
+    assert_eq!(rt; reply.as_slice(), number.as_slice());
+    assert!(rt;
+        matches!(
+            answers.as_slice(),
+            [
+                Ok(0),
+                Ok(0),
+                Ok(0),
+                Err(IoError::Of(Error::FrontendInternalError))
+            ]
+        )
+    );
+    Ok(())
+}
+
+#[test]
+fn headers(rt: HostRuntime) -> Outcome<()> {
+    assert_eq!(rt;
+        names_request(FrontendReq::SET_OWNER, 0xd, 0)?,
+        (FrontendReq::SET_OWNER, 0, true, true)
+    );
+    assert_eq!(rt;
+        names_request(BackendReq::SHMEM_MAP, 8, 40)?,
+        (BackendReq::SHMEM_MAP, 40, false, true)
+    );
+    Ok(())
+}
+
+/// What a client of a log saw, as plain values.
+#[derive(Clone, Copy, Debug, PartialEq, Eq)]
+struct Seen {
+    entries: usize,
+    confirmed: bool,
+    features: Option<u64>,
+}
+
+fn seen_of(log: &Log<Device>, first: &Receipt, second: &Receipt) -> Seen {
+    let features = match first_answer(log) {
+        Some(FrontendAnswer::Number(number)) => Some(*number),
+        _ => None,
+    };
+    Seen {
+        entries: log.entries().len(),
+        confirmed: log.confirms(first) && log.confirms(second),
+        features,
+    }
+}
+
+fn two_callers_seen<R: Wait>(rt: &R, alloc: Global) -> Option<Seen> {
+    let (log, first, second) = two_callers(rt, alloc).ok()?;
+    Some(seen_of(&log, &first, &second))
+}
+
+#[test]
+fn a_log_of_two_callers(rt: HostRuntime) {
+    let seen = Seen {
+        entries: 2,
+        confirmed: true,
+        features: Some(0x4000_0003),
+    };
+    assert_eq!(rt; two_callers_seen(&rt, rt.alloc()), Some(seen));
+}
+
+/// The serials of two calls that are recorded for caller 7, and whether the receipt of a third is found.
+fn three_recorded(alloc: Global) -> Option<(u64, u64, bool)> {
+    let device = Device::new(alloc, Vec::new(alloc));
+    let scripts = (Vec::new(alloc), Vec::new(alloc));
+    let mut recorded = Recorded::new(alloc, device, 2, 3, scripts).ok()?;
+    let (get, own) = (FrontendCall::GetFeatures, FrontendCall::SetOwner);
+    let (one, two) = records_two(&mut recorded, 7, &get, &own).ok()?;
+    let found = finds_own(&mut recorded, 7, &get).ok()?;
+    Some((one.serial(), two.serial(), found))
+}
+
+#[test]
+fn one_caller_records(rt: HostRuntime) {
+    assert_eq!(rt; three_recorded(rt.alloc()), Some((0, 1, true)));
+}
