@@ -1,0 +1,204 @@
+//! Four callers in threads of their own.
+
+ghost use Rattle.std.specs.Prelude.{◌≡◌, ◌+◌, ◌<◌, IfOk, length};
+ghost use Rattle.vhost_recorder.specs.Share.{parts_of, count_of};
+
+use std::alloc::Global;
+use std::marker::Brand;
+use std::sync::Wait;
+use std::sync::ledger::{Blank, Ledger};
+use std::thread::{Threads, join};
+use vhost_dummy_backend::DummyBackendReqHandler;
+use vhost_link::MemLink;
+use vhost_recorder::{FrontendCall, Halt, Log, Receipt, Recorder, Share};
+
+/// The example device, over links in memory.
+pub(crate) type Device = DummyBackendReqHandler<MemLink>;
+
+/// What a thread hands back: its share, which has counted its receipts.
+#[derive(Drop)]
+struct Spent<L: Ledger> {
+    share: Share<L>,
+    receipts: Vec<Receipt>,
+    ghost one_part: { parts_of share ≡ 1 },
+    ghost counted: { count_of share ≡ length receipts.items },
+}
+
+/// The log of four callers, and the receipts of each.
+#[derive(Drop)]
+pub(crate) struct Crowd {
+    pub(crate) log: Log<Device>,
+    pub(crate) first: Vec<Receipt>,
+    pub(crate) second: Vec<Receipt>,
+    pub(crate) third: Vec<Receipt>,
+    pub(crate) fourth: Vec<Receipt>,
+}
+
+/// What a thread begins with: a share that has counted nothing.
+#[derive(Drop)]
+struct Fresh<L: Ledger> {
+    share: Share<L>,
+    ghost one_part: { parts_of share ≡ 1 },
+    ghost uncounted: { count_of share ≡ 0 },
+}
+
+/// One part for another caller.
+fn fresh_share<L: Ledger>(all: &mut Share<L>, caller: u32) -> Fresh<L>
+    requires { 1 < parts_of all.old }
+    ensures parts { parts_of all.new + 1 ≡ parts_of all.old }
+    ensures count { count_of all.new ≡ count_of all.old }
+{
+    Fresh {
+        share: all.split(caller),
+    }
+}
+
+/// Asks so many times for the device's features, and keeps the receipts.
+fn ask_often<L: Ledger, R: Wait>(
+    rt: &R,
+    alloc: Global,
+    recorder: &Recorder<Device, L>,
+    fresh: Fresh<L>,
+    times: u32,
+) -> Spent<L> {
+    let Fresh { mut share } = fresh;
+    let mut receipts = Vec::new(alloc);
+    for _i in 0..times {
+        if receipts.reserve(1).is_err() {
+            break;
+        }
+        if let Ok(receipt) = recorder.call(rt, &mut share, &FrontendCall::GetFeatures) {
+            receipts.push_reserved(receipt);
+        }
+    }
+    hand_back(share, receipts)
+}
+
+/// What a thread hands back.
+fn hand_back<L: Ledger>(share: Share<L>, receipts: Vec<Receipt>) -> Spent<L>
+    requires { (parts_of share ≡ 1) × (count_of share ≡ length receipts.items) }
+{
+    Spent { share, receipts }
+}
+
+/// What two threads hand back.
+#[derive(Drop)]
+struct Both<L: Ledger> {
+    one: Spent<L>,
+    other: Spent<L>,
+}
+
+/// Two callers in threads of their own.
+fn two_ask<L: Ledger + Send + Sync, R: Threads + Wait + Sync>(
+    rt: &R,
+    alloc: Global,
+    recorder: &Recorder<Device, L>,
+    one: Fresh<L>,
+    other: Fresh<L>,
+    times: u32,
+) -> Both<L> {
+    let (one, other) = join(
+        rt,
+        move || ask_often(rt, alloc, recorder, one, times),
+        move || ask_often(rt, alloc, recorder, other, times),
+    );
+    Both { one, other }
+}
+
+/// A recorder over the example device, and the share of caller 0.
+///
+/// `Halt::OutOfMemory`: a growth was refused.
+fn open<L: Ledger>(alloc: Global, blank: Blank) -> Result<(Recorder<Device, L>, Share<L>), Halt>
+    requires { (blank.name ≡ L.name) × (blank.parts ≡ L.parts) }
+    ensures { IfOk result (λ opened. (parts_of opened.1 ≡ L.parts) × (count_of opened.1 ≡ 0)) }
+{
+    let device = DummyBackendReqHandler::new(alloc, Vec::new(alloc));
+    let scripts = (Vec::new(alloc), Vec::new(alloc));
+    Recorder::open(blank, alloc, device, 2, 3, scripts)
+}
+
+/// Four callers, 1 to 4, in threads of their own, each of whom asks so many times. The log has as many entries as they have
+/// receipts.
+///
+/// `Halt::OutOfMemory`: a growth was refused before the first call.
+fn four_ask<L: Ledger + Send + Sync, R: Threads + Wait + Sync>(
+    rt: &R,
+    alloc: Global,
+    blank: Blank,
+    times: u32,
+) -> Result<Crowd, Halt>
+    requires { (blank.name ≡ L.name) × (blank.parts ≡ L.parts) × (L.parts ≡ 5) }
+    ensures { IfOk result (λ crowd. length crowd.log.entries ≡ length crowd.first.items + length crowd.second.items + length crowd.third.items + length crowd.fourth.items) }
+{
+    let (recorder, mut all) = open::<L>(alloc, blank)?;
+    let first = fresh_share(&mut all, 1);
+    let second = fresh_share(&mut all, 2);
+    let third = fresh_share(&mut all, 3);
+    let fourth = fresh_share(&mut all, 4);
+    let shared = &recorder;
+    let (left, right) = join(
+        rt,
+        move || two_ask(rt, alloc, shared, first, second, times),
+        move || two_ask(rt, alloc, shared, third, fourth, times),
+    );
+    Ok(gather(recorder, all, left, right))
+}
+
+/// Ends a recorder once all shares came back.
+fn gather<L: Ledger>(
+    recorder: Recorder<Device, L>,
+    all: Share<L>,
+    left: Both<L>,
+    right: Both<L>,
+) -> Crowd
+    requires { (parts_of all ≡ 1) × (count_of all ≡ 0) × (L.parts ≡ 5) }
+    ensures { length result.log.entries ≡ length result.first.items + length result.second.items + length result.third.items + length result.fourth.items }
+{
+    let mut all = all;
+    let Both { one, other: two } = left;
+    let Both {
+        one: three,
+        other: four,
+    } = right;
+    let Spent {
+        share,
+        receipts: first,
+    } = one;
+    all.join(share);
+    let Spent {
+        share,
+        receipts: second,
+    } = two;
+    all.join(share);
+    let Spent {
+        share,
+        receipts: third,
+    } = three;
+    all.join(share);
+    let Spent {
+        share,
+        receipts: fourth,
+    } = four;
+    all.join(share);
+    Crowd {
+        log: recorder.close(all),
+        first,
+        second,
+        third,
+        fourth,
+    }
+}
+
+/// Four callers, 1 to 4, in threads of their own, each of whom asks so many times for the device's features. The log has as
+/// many entries as they have receipts.
+///
+/// `Halt::OutOfMemory`: a growth was refused before the first call.
+pub(crate) fn four_callers<R: Threads + Wait + Sync>(
+    rt: &R,
+    alloc: Global,
+    times: u32,
+) -> Result<Crowd, Halt>
+    ensures { IfOk result (λ crowd. length crowd.log.entries ≡ length crowd.first.items + length crowd.second.items + length crowd.third.items + length crowd.fourth.items) }
+{
+    four_ask::<Brand, R>(rt, alloc, Blank::new(5), times)
+}

@@ -1,0 +1,9 @@
+//! Tests of callers of one recorder in threads of their own, with what is proved of their receipts.
+#![tactic(auto)]
+
+#[cfg(test)]
+mod alone;
+#[cfg(test)]
+mod drive;
+#[cfg(test)]
+mod tests;
