@@ -1,0 +1,65 @@
+//! Serves a device over a Unix socket in one thread, and asks it as a hypervisor does from another.
+#![tactic(auto)]
+
+use std::alloc::Global;
+use std::net::Net;
+use std::rt::{Clock, Files};
+use std::sync::{Arc, Mutex, Wait};
+use std::thread;
+use vhost_backend::VhostBackend;
+use vhost_backend_req_handler::BackendListener;
+use vhost_connection::Listener;
+use vhost_dummy_backend::DummyBackendReqHandler;
+use vhost_frontend::{Frontend, VhostUserFrontend};
+use vhost_message::{Error, Result, VhostUserProtocolFeatures};
+
+/// Where the device listens.
+const PATH: &str = "device.sock";
+
+/// How many rings the driver has at first, and how many retries a message may take.
+const RINGS: u64 = 1;
+
+const BUDGET: u32 = 3;
+
+/// Serves the first frontend that connects until it ends the session; how many requests that were. The listener ends with
+/// it, so that nobody waits for an answer any more.
+fn serve<R: Files + Drop>(rt: &impl Wait, alloc: Global, mut listener: Listener<R>) -> Result<u64> {
+    let device = DummyBackendReqHandler::new(alloc, Vec::new(alloc));
+    let Ok(device) = Arc::new(alloc, Mutex::new(device)) else {
+        return Err(Error::OutOfMemory);
+    };
+    let mut backend = BackendListener::new(alloc, &mut listener, device, BUDGET)?;
+    let Some(mut handler) = backend.accept()? else {
+        return Ok(0);
+    };
+    for served in 0..u64::MAX {
+        match handler.handle_request(rt) {
+            Ok(()) => {}
+            Err(Error::Disconnected) => return Ok(served),
+            Err(error) => return Err(error),
+        }
+    }
+    Ok(u64::MAX)
+}
+
+/// Connects, and asks for the device's features and for how many rings it has.
+fn ask(rt: &(impl Net + Clock + Wait), alloc: Global) -> vhost_backend::Result<(u64, u64)> {
+    let mut frontend = Frontend::connect(rt, alloc, PATH, RINGS, BUDGET)?;
+    let features = frontend.get_features(rt)?;
+    frontend.set_protocol_features(rt, VhostUserProtocolFeatures::MQ)?;
+    Ok((features, frontend.get_queue_num(rt)?))
+}
+
+fn main(rt: HostRuntime) -> anyhow::Result<()> {
+    let listener = Listener::new(&rt, rt.alloc(), PATH, true)?;
+    let (served, asked) = thread::join(
+        &rt,
+        || serve(&rt, rt.alloc(), listener),
+        || ask(&rt, rt.alloc()),
+    );
+    let (features, rings) = asked?;
+    println!(rt; "features: {features:#x}")?;
+    println!(rt; "rings: {rings}")?;
+    println!(rt; "requests served: {}", served?)?;
+    Ok(())
+}
