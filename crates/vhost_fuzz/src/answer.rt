@@ -1,0 +1,112 @@
+//! What a call answered, as plain values.
+
+use bitflags::Flags;
+use std::fmt;
+use vhost_answer_text::name_of;
+use vhost_message::{Error, IoCause};
+
+/// What an answer carries.
+#[derive(Clone, Copy, PartialEq, Eq)]
+pub(crate) enum Detail {
+    Nothing,
+    /// The number of a success.
+    Number(u64),
+    /// The number of the system, as a cause.
+    Raw(i32),
+    /// A reason, or the name of a cause.
+    Named(&'static str),
+    /// The features that are missing.
+    Bits(u64),
+}
+
+/// What a call answered: `ok` or an error's name, and what it carries.
+#[derive(Clone, Copy, PartialEq, Eq)]
+pub(crate) struct Answer {
+    pub(crate) name: &'static str,
+    detail: Detail,
+}
+
+impl Answer {
+    pub(crate) fn done() -> Answer {
+        Answer {
+            name: "ok",
+            detail: Detail::Nothing,
+        }
+    }
+
+    pub(crate) fn number(number: u64) -> Answer {
+        Answer {
+            name: "ok",
+            detail: Detail::Number(number),
+        }
+    }
+
+    pub(crate) fn failed(error: &Error) -> Answer {
+        Answer {
+            name: name_of(error),
+            detail: carried(error),
+        }
+    }
+
+    pub(crate) fn is(&self, name: &str) -> bool {
+        self.name == name
+    }
+
+    /// Whether the link failed.
+    pub(crate) fn is_fault(&self) -> bool {
+        self.is("SocketError")
+            || self.is("SocketConnect")
+            || self.is("SocketBroken")
+            || self.is("SocketRetry")
+    }
+
+    /// Whether the stream ended.
+    pub(crate) fn is_end(&self) -> bool {
+        self.is("Disconnected") || self.is("PartialMessage")
+    }
+
+    /// Whether the message failed a test, so that no device was asked.
+    pub(crate) fn is_untaken(&self) -> bool {
+        self.is_end()
+            || self.is("InvalidMessage")
+            || self.is("InactiveFeature")
+            || self.is("InactiveOperation")
+    }
+}
+
+/// What an error carries.
+fn carried(error: &Error) -> Detail {
+    match error {
+        Error::InvalidOperation(reason) => Detail::Named(reason),
+        Error::InactiveFeature(missing) => Detail::Bits(missing.bits()),
+        Error::InactiveOperation(missing) => Detail::Bits(missing.bits()),
+        Error::InvalidSocketFd(cause)
+        | Error::SocketError(cause)
+        | Error::SocketConnect(cause)
+        | Error::SocketBroken(cause)
+        | Error::SocketRetry(cause)
+        | Error::ReqHandlerError(cause) => match cause {
+            IoCause::Raw(number) => Detail::Raw(*number),
+            IoCause::Named(name) => Detail::Named(name),
+        },
+        _ => Detail::Nothing,
+    }
+}
+
+impl fmt::Display for Answer {
+    /// As a script of tests writes it.
+    fn fmt<W: fmt::Write>(&self, f: &mut fmt::Formatter<W>) -> fmt::Result {
+        let name = self.name;
+        if !self.is("ok") {
+            f.write_str("err ")?;
+        }
+        f.write_str(name)?;
+        match self.detail {
+            Detail::Nothing => Ok(()),
+            Detail::Number(number) => write!(f, " {number}"),
+            Detail::Raw(number) => write!(f, " {number}"),
+            Detail::Named(name) => write!(f, " {name}"),
+            Detail::Bits(bits) => write!(f, " 0x{bits:x}"),
+        }
+    }
+}

@@ -1,0 +1,130 @@
+//! Messages that a peer sends: as they should be, and spoiled.
+
+use crate::dice::Dice;
+use crate::memory::NoMemory;
+use std::alloc::Global;
+use vhost_link::{Kind, PlainHandle};
+use vhost_message::MAX_ATTACHED_FD_ENTRIES;
+
+/// Some bytes, and the handles that come with the first of them.
+#[derive(Drop)]
+pub(crate) struct Piece {
+    pub(crate) bytes: Vec<u8>,
+    pub(crate) handles: Vec<PlainHandle>,
+}
+
+/// A message's body, while it is written.
+#[derive(Drop)]
+pub(crate) struct Body {
+    bytes: Vec<u8>,
+}
+
+impl Body {
+    pub(crate) fn new(alloc: Global) -> Body {
+        Body {
+            bytes: Vec::new(alloc),
+        }
+    }
+
+    /// The lowest bytes of a number, so many, 8 at most.
+    pub(crate) fn put(&mut self, number: u64, size: usize) -> Result<(), NoMemory> {
+        let bytes = number.to_le_bytes();
+        self.bytes.extend_from_slice(&bytes[..size.min(8)])?;
+        Ok(())
+    }
+
+    /// So many notable numbers of eight bytes.
+    pub(crate) fn put_notable(&mut self, dice: &mut Dice, count: u32) -> Result<(), NoMemory> {
+        for _ in 0..count {
+            self.put(dice.notable(), 8)?;
+        }
+        Ok(())
+    }
+
+    /// A message of this body, with so many handles.
+    pub(crate) fn message(
+        self,
+        alloc: Global,
+        dice: &mut Dice,
+        code: u32,
+        flags: u64,
+        handles: usize,
+    ) -> Result<Piece, NoMemory> {
+        let mut text = Body::new(alloc);
+        text.put(u64::from(code), 4)?;
+        text.put(flags, 4)?;
+        text.put(self.bytes.len() as u64, 4)?;
+        text.bytes.extend_from_slice(&self.bytes)?;
+        Ok(Piece {
+            bytes: text.bytes,
+            handles: some_handles(alloc, dice, handles)?,
+        })
+    }
+}
+
+/// So many handles, 32 at most. Most are Unix sockets, which every request takes.
+fn some_handles(
+    alloc: Global,
+    dice: &mut Dice,
+    count: usize,
+) -> Result<Vec<PlainHandle>, NoMemory> {
+    let mut handles = Vec::new(alloc);
+    for _ in 0..count.min(MAX_ATTACHED_FD_ENTRIES) {
+        let kind = match dice.below(12) {
+            0 => Kind::NoSocket,
+            1 => Kind::NotUnix,
+            2 => Kind::NotStream,
+            _ => Kind::UnixStream,
+        };
+        handles.push(PlainHandle {
+            id: dice.small(1000),
+            kind,
+        })?;
+    }
+    Ok(handles)
+}
+
+/// Another byte at a place; nothing where there is no such place.
+fn set_byte(bytes: &mut [u8], place: usize, byte: u8) {
+    if let Some(at) = bytes.get_mut(place) {
+        *at = byte;
+    }
+}
+
+/// Spoils a message: a byte, its size, its flags or its code is another, it is cut short or longer, or its handles are others or come
+/// with a later byte. It becomes one piece or two.
+pub(crate) fn spoil(
+    alloc: Global,
+    dice: &mut Dice,
+    mut piece: Piece,
+    pieces: &mut Vec<Piece>,
+) -> Result<(), NoMemory> {
+    let len = piece.bytes.len();
+    match dice.below(8) {
+        0 => {
+            let place = dice.place(len);
+            set_byte(&mut piece.bytes, place, dice.byte());
+        }
+        1 => set_byte(&mut piece.bytes, 8, dice.byte()),
+        2 => set_byte(&mut piece.bytes, 4, dice.byte()),
+        3 => set_byte(&mut piece.bytes, 0, dice.byte() & 63),
+        4 => piece.bytes.truncate(dice.place(len).max(1)),
+        5 => piece.bytes.extend_from_slice(&dice.any().to_le_bytes())?,
+        6 => {
+            let count = dice.place(5);
+            piece.handles = some_handles(alloc, dice, count)?;
+        }
+        _ => {
+            let place = dice.place(len).max(1).min(len);
+            let rest = piece.bytes.split_off(place)?;
+            let count = dice.place(3);
+            pieces.push(piece)?;
+            piece = Piece {
+                bytes: rest,
+                handles: some_handles(alloc, dice, count)?,
+            };
+        }
+    }
+    pieces.push(piece)?;
+    Ok(())
+}

@@ -1,0 +1,178 @@
+//! What a frontend asks, and what a device asks back: messages whose form is right.
+
+use crate::dice::Dice;
+use crate::memory::NoMemory;
+use crate::message::{Body, Piece};
+use std::alloc::Global;
+use vhost_message::{BackendReq, FrontendReq, VHOST_USER_CONFIG_OFFSET};
+
+/// Version 1, and at times that an answer is wanted.
+fn flags(dice: &mut Dice) -> u64 {
+    if dice.one_of(2) { 9 } else { 1 }
+}
+
+/// A region of memory: where it is in the guest, how long it is, where it is in the frontend, and where in its file.
+fn put_region(body: &mut Body, dice: &mut Dice) -> Result<(), NoMemory> {
+    for _ in 0..4 {
+        body.put(dice.below(16).wrapping_mul(0x1000), 8)?;
+    }
+    Ok(())
+}
+
+/// A table of regions; how many.
+fn put_table(body: &mut Body, dice: &mut Dice) -> Result<usize, NoMemory> {
+    let count = if dice.one_of(20) { 33 } else { dice.below(4) };
+    body.put(count, 4)?;
+    body.put(0, 4)?;
+    for _ in 0..count {
+        put_region(body, dice)?;
+    }
+    Ok(count as usize)
+}
+
+/// Where a ring's parts are: its index, flags and four addresses.
+fn put_addresses(body: &mut Body, dice: &mut Dice) -> Result<(), NoMemory> {
+    body.put(dice.below(3), 4)?;
+    body.put(dice.below(2), 4)?;
+    for _ in 0..4 {
+        body.put(dice.below(16).wrapping_mul(0x1000), 8)?;
+    }
+    Ok(())
+}
+
+/// A part of the configuration space, with its bytes.
+fn put_config(body: &mut Body, dice: &mut Dice) -> Result<(), NoMemory> {
+    let size = dice.below(6);
+    let offset = u64::from(VHOST_USER_CONFIG_OFFSET);
+    body.put(offset.wrapping_add(dice.below(2)), 4)?;
+    body.put(size, 4)?;
+    body.put(dice.below(3), 4)?;
+    for _ in 0..size {
+        body.put(dice.any(), 1)?;
+    }
+    Ok(())
+}
+
+/// Buffers for descriptors in flight: size and offset in bytes, how many rings, and how long each is.
+fn put_inflight(body: &mut Body, dice: &mut Dice) -> Result<(), NoMemory> {
+    body.put(dice.below(3).wrapping_mul(0x1000), 8)?;
+    body.put(0, 8)?;
+    body.put(dice.below(4), 2)?;
+    body.put(dice.below(300), 2)?;
+    body.put(0, 4)
+}
+
+/// A request of a frontend, and its handles, as its row wants them.
+pub(crate) fn request_of_frontend(alloc: Global, dice: &mut Dice) -> Result<Piece, NoMemory> {
+    let code = dice.small(46);
+    let mut body = Body::new(alloc);
+    let mut handles = 0;
+    let Ok(request) = FrontendReq::try_from(code) else {
+        let flags = flags(dice);
+        return body.message(alloc, dice, code, flags, 0);
+    };
+    match request {
+        FrontendReq::SET_FEATURES | FrontendReq::SET_PROTOCOL_FEATURES | FrontendReq::NET_SET_MTU =>
+            body.put_notable(dice, 1)?,
+        FrontendReq::SET_MEM_TABLE => handles = put_table(&mut body, dice)?,
+        FrontendReq::SET_LOG_BASE => {
+            body.put_notable(dice, 2)?;
+            handles = 1;
+        }
+        FrontendReq::SET_VRING_NUM | FrontendReq::SET_VRING_BASE | FrontendReq::GET_VRING_BASE => {
+            body.put(dice.below(3), 4)?;
+            body.put(dice.notable(), 4)?;
+        }
+        FrontendReq::SET_VRING_ENABLE => {
+            body.put(dice.below(3), 4)?;
+            body.put(dice.below(3), 4)?;
+        }
+        FrontendReq::SET_VRING_ADDR => put_addresses(&mut body, dice)?,
+        FrontendReq::SET_VRING_KICK | FrontendReq::SET_VRING_CALL | FrontendReq::SET_VRING_ERR => {
+            handles = dice.place(2);
+            let unset = if handles == 0 { 0x100 } else { 0 };
+            body.put(dice.below(3).wrapping_add(unset), 8)?;
+        }
+        FrontendReq::GET_CONFIG | FrontendReq::SET_CONFIG => put_config(&mut body, dice)?,
+        FrontendReq::SET_BACKEND_REQ_FD | FrontendReq::GPU_SET_SOCKET => handles = 1,
+        FrontendReq::GET_INFLIGHT_FD => put_inflight(&mut body, dice)?,
+        FrontendReq::SET_INFLIGHT_FD => {
+            put_inflight(&mut body, dice)?;
+            handles = 1;
+        }
+        FrontendReq::ADD_MEM_REG | FrontendReq::REM_MEM_REG => {
+            body.put(0, 8)?;
+            put_region(&mut body, dice)?;
+            handles = if request == FrontendReq::ADD_MEM_REG {
+                1
+            } else {
+                0
+            };
+        }
+        FrontendReq::GET_SHARED_OBJECT => body.put_notable(dice, 2)?,
+        FrontendReq::SET_DEVICE_STATE_FD => {
+            body.put(dice.below(3), 4)?;
+            body.put(dice.below(2), 4)?;
+            handles = 1;
+        }
+        _ => {}
+    }
+    let flags = flags(dice);
+    body.message(alloc, dice, code, flags, handles)
+}
+
+/// The requests that open most sessions, so that later ones find their features: GET_FEATURES, SET_OWNER, SET_FEATURES,
+/// GET_PROTOCOL_FEATURES, SET_PROTOCOL_FEATURES.
+pub(crate) fn put_opening(
+    alloc: Global,
+    dice: &mut Dice,
+    pieces: &mut Vec<Piece>,
+) -> Result<(), NoMemory> {
+    for (code, number) in [
+        (1, None),
+        (3, None),
+        (2, Some(0x4000_0003)),
+        (15, None),
+        (16, Some(0x7f_ffff & dice.any() | 8)),
+    ] {
+        let mut body = Body::new(alloc);
+        if let Some(number) = number {
+            body.put(number, 8)?;
+        }
+        pieces.push(body.message(alloc, dice, code, 1, 0)?)?;
+    }
+    Ok(())
+}
+
+/// A request of a device, and its handles, as its row wants them.
+pub(crate) fn request_of_device(alloc: Global, dice: &mut Dice) -> Result<Piece, NoMemory> {
+    let code = dice.small(12);
+    let mut body = Body::new(alloc);
+    let mut handles = 0;
+    match BackendReq::try_from(code) {
+        Ok(BackendReq::SHARED_OBJECT_ADD | BackendReq::SHARED_OBJECT_REMOVE) => body.put_notable(
+            dice, 2,
+        )?,
+        Ok(BackendReq::SHARED_OBJECT_LOOKUP) => {
+            body.put_notable(dice, 2)?;
+            handles = 1;
+        }
+        Ok(BackendReq::SHMEM_MAP) => {
+            put_mapping(&mut body, dice)?;
+            handles = 1;
+        }
+        Ok(BackendReq::SHMEM_UNMAP) => put_mapping(&mut body, dice)?,
+        _ => {}
+    }
+    let flags = flags(dice);
+    body.message(alloc, dice, code, flags, handles)
+}
+
+/// A mapping into shared memory: its region, two offsets, its length and its flags.
+fn put_mapping(body: &mut Body, dice: &mut Dice) -> Result<(), NoMemory> {
+    body.put(dice.below(4), 8)?;
+    for _ in 0..3 {
+        body.put(dice.below(16).wrapping_mul(0x1000), 8)?;
+    }
+    body.put(dice.below(2), 8)
+}

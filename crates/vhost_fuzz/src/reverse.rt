@@ -1,0 +1,120 @@
+//! A frontend's side of the reverse channel, over a device that counts its calls.
+
+ghost use Rattle.std.specs.Prelude.{⊤};
+
+use crate::answer::Answer;
+use crate::memory::NoMemory;
+use crate::side::{Side, drain_link, push_piece};
+use std::alloc::Global;
+use vhost_frontend_req_handler::{FrontendReqCore, VhostUserFrontendReqHandlerMut};
+use vhost_link::{Cut, MemLink, PlainHandle};
+use vhost_message::{Error, HandlerResult, IoError, VhostUserMMap, VhostUserSharedMsg};
+
+/// Counts its calls, and answers them by their numbers: a success, a number, or an error.
+#[derive(Drop)]
+struct Counting {
+    calls: u64,
+}
+
+impl Counting {
+    fn called(&mut self) -> HandlerResult<u64> {
+        self.calls = self.calls.wrapping_add(1);
+        match self.calls % 4 {
+            0 => Err(IoError::Raw(38)),
+            1 => Ok(0),
+            2 => Ok(5),
+            _ => Err(IoError::Of(Error::InvalidParam)),
+        }
+    }
+}
+
+impl VhostUserFrontendReqHandlerMut for Counting {
+    ghost use Rattle.std.specs.Prelude.{⊤};
+
+    type Handle = PlainHandle;
+
+    ghost gives = { λ _ _ _ _. ⊤ };
+
+    fn handle_config_change(&mut self) -> HandlerResult<u64> {
+        self.called()
+    }
+
+    fn shared_object_add(&mut self, _uuid: &VhostUserSharedMsg) -> HandlerResult<u64> {
+        self.called()
+    }
+
+    fn shared_object_remove(&mut self, _uuid: &VhostUserSharedMsg) -> HandlerResult<u64> {
+        self.called()
+    }
+
+    fn shared_object_lookup(
+        &mut self,
+        _uuid: &VhostUserSharedMsg,
+        _fd: &PlainHandle,
+    ) -> HandlerResult<u64> {
+        self.called()
+    }
+
+    fn shmem_map(&mut self, _req: &VhostUserMMap, _fd: &PlainHandle) -> HandlerResult<u64> {
+        self.called()
+    }
+
+    fn shmem_unmap(&mut self, _req: &VhostUserMMap) -> HandlerResult<u64> {
+        self.called()
+    }
+}
+
+#[derive(Drop)]
+pub(crate) struct Reverse {
+    core: FrontendReqCore<MemLink>,
+    device: Counting,
+}
+
+impl Reverse {
+    pub(crate) fn new(alloc: Global, cuts: Vec<Cut>, budget: u32) -> Result<Reverse, NoMemory> {
+        let mut core = FrontendReqCore::new(alloc, MemLink::new(alloc, cuts), budget)?;
+        core.set_reply_ack_flag(true);
+        Ok(Reverse {
+            core,
+            device: Counting { calls: 0 },
+        })
+    }
+}
+
+impl Side for Reverse {
+    fn step(&mut self) -> Answer {
+        match self.core.handle_request(&mut self.device) {
+            Ok(number) => Answer::number(number),
+            Err(error) => Answer::failed(&error),
+        }
+    }
+
+    fn is_over(&self, answer: &Answer) -> bool {
+        answer.is_end()
+    }
+
+    fn state(&self) -> u64 {
+        self.device.calls
+    }
+
+    fn push(&mut self, bytes: &[u8], handles: &[PlainHandle]) -> Result<(), NoMemory> {
+        push_piece(self.core.endpoint_mut().link(), bytes, handles)
+    }
+
+    fn sent(&mut self) -> usize {
+        self.core.endpoint_mut().link().taken().len()
+    }
+
+    fn is_starved(&mut self) -> bool {
+        self.core.endpoint_mut().link().is_starved()
+    }
+
+    fn output(&mut self, out: &mut Vec<u8>) -> Result<(), NoMemory> {
+        out.extend_from_slice(self.core.endpoint_mut().link().taken().bytes())?;
+        Ok(())
+    }
+
+    fn drain(&mut self, alloc: Global) -> Result<usize, NoMemory> {
+        drain_link(alloc, self.core.endpoint_mut().link())
+    }
+}

@@ -1,0 +1,201 @@
+//! One session: what its peer sends, and what is held of a side that takes it.
+
+use crate::asking::Asking;
+use crate::dice::Dice;
+use crate::exchanges::{EXCHANGES, OPENING};
+use crate::memory::NoMemory;
+use crate::message::{Piece, spoil};
+use crate::requests::{put_opening, request_of_device, request_of_frontend};
+use crate::reverse::Reverse;
+use crate::served::Served;
+use crate::side::{Side, Trace, play};
+use std::alloc::Global;
+use vhost_link::Cut;
+use vhost_message::MSG_HEADER_SIZE;
+use vhost_test_tools::message_of;
+
+/// How many retries a message may take.
+pub(crate) const BUDGET: u32 = 3;
+
+/// Which side takes the messages.
+#[derive(Clone, Copy, PartialEq, Eq)]
+pub(crate) enum Kind {
+    /// A handler over the example device.
+    Served,
+    /// A frontend's side of the reverse channel.
+    Reverse,
+    /// A frontend, to which replies come.
+    Asking,
+}
+
+/// What a peer sends.
+#[derive(Drop)]
+pub(crate) struct Session {
+    pub(crate) kind: Kind,
+    pub(crate) pieces: Vec<Piece>,
+    /// The calls of a frontend.
+    pub(crate) calls: Vec<&'static str>,
+    /// How many messages it was made of.
+    pub(crate) messages: u64,
+    /// How many bytes there are in all.
+    pub(crate) len: usize,
+}
+
+/// Makes a session; a sixth of its messages is spoiled.
+pub(crate) fn make(alloc: Global, dice: &mut Dice) -> Result<Session, NoMemory> {
+    let kind = match dice.below(4) {
+        0 => Kind::Reverse,
+        1 => Kind::Asking,
+        _ => Kind::Served,
+    };
+    let mut session = Session {
+        kind,
+        pieces: Vec::new(alloc),
+        calls: Vec::new(alloc),
+        messages: 0,
+        len: 0,
+    };
+    let opens = !dice.one_of(4);
+    let count = dice.below(12).saturating_add(1);
+    if opens {
+        session.open(alloc, dice)?;
+    }
+    for _ in 0..count {
+        session.go_on(alloc, dice)?;
+    }
+    session.len = len_of(&session.pieces);
+    Ok(session)
+}
+
+/// How many bytes there are in all.
+fn len_of(pieces: &[Piece]) -> usize {
+    let mut len: usize = 0;
+    for piece in pieces {
+        len = len.saturating_add(piece.bytes.len());
+    }
+    len
+}
+
+impl Session {
+    /// The messages that most sessions begin with, so that later ones find their features.
+    fn open(&mut self, alloc: Global, dice: &mut Dice) -> Result<(), NoMemory> {
+        match self.kind {
+            Kind::Served => {
+                put_opening(alloc, dice, &mut self.pieces)?;
+                self.messages = self.pieces.len() as u64;
+            }
+            Kind::Reverse => {}
+            Kind::Asking => {
+                for (call, reply) in &EXCHANGES[..OPENING] {
+                    self.exchange(alloc, dice, call, reply)?;
+                }
+            }
+        }
+        Ok(())
+    }
+
+    /// One message more, of any request or reply.
+    fn go_on(&mut self, alloc: Global, dice: &mut Dice) -> Result<(), NoMemory> {
+        let piece = match self.kind {
+            Kind::Served => request_of_frontend(alloc, dice)?,
+            Kind::Reverse => request_of_device(alloc, dice)?,
+            Kind::Asking => {
+                let place = dice.place(EXCHANGES.len());
+                let Some((call, reply)) = EXCHANGES.get(place) else {
+                    return Ok(());
+                };
+                return self.exchange(alloc, dice, call, reply);
+            }
+        };
+        self.put(alloc, dice, piece)
+    }
+
+    /// A message more, which may be spoiled.
+    fn put(&mut self, alloc: Global, dice: &mut Dice, piece: Piece) -> Result<(), NoMemory> {
+        self.messages = self.messages.saturating_add(1);
+        if dice.one_of(6) {
+            return spoil(alloc, dice, piece, &mut self.pieces);
+        }
+        self.pieces.push(piece)?;
+        Ok(())
+    }
+
+    /// A call more, and its reply.
+    fn exchange(
+        &mut self,
+        alloc: Global,
+        dice: &mut Dice,
+        call: &'static str,
+        reply: &str,
+    ) -> Result<(), NoMemory> {
+        self.calls.push(call)?;
+        if reply == "-" {
+            return Ok(());
+        }
+        let message = message_of(alloc, 0, reply)?;
+        let piece = Piece {
+            bytes: message.bytes,
+            handles: message.handles,
+        };
+        self.put(alloc, dice, piece)
+    }
+
+    /// How many calls take all of it at most: each takes a header, or ends, or is one of the calls that are made.
+    pub(crate) fn most(&self) -> usize {
+        match self.kind {
+            Kind::Asking => self.calls.len(),
+            _ => (self.len / MSG_HEADER_SIZE).saturating_add(8),
+        }
+    }
+
+    /// What a new side shows that takes it over a link that is cut so, in so many calls at most.
+    pub(crate) fn shown(
+        &self,
+        alloc: Global,
+        cuts: Vec<Cut>,
+        most: usize,
+    ) -> Result<Trace, NoMemory> {
+        self.front_shown(alloc, cuts, most, self.len)
+    }
+
+    /// The same, where the stream ends after so many bytes.
+    pub(crate) fn front_shown(
+        &self,
+        alloc: Global,
+        cuts: Vec<Cut>,
+        most: usize,
+        len: usize,
+    ) -> Result<Trace, NoMemory> {
+        match self.kind {
+            Kind::Served => {
+                let side = Served::new(alloc, cuts, BUDGET)?;
+                take(alloc, side, &self.pieces, len, most)
+            }
+            Kind::Reverse => {
+                let side = Reverse::new(alloc, cuts, BUDGET)?;
+                take(alloc, side, &self.pieces, len, most)
+            }
+            Kind::Asking => {
+                let side = Asking::new(alloc, cuts, BUDGET, &self.calls)?;
+                take(alloc, side, &self.pieces, len, most)
+            }
+        }
+    }
+}
+
+/// Puts pieces on their way to a side, so many bytes in all, and lets it take them.
+fn take<S: Side>(
+    alloc: Global,
+    mut side: S,
+    pieces: &[Piece],
+    len: usize,
+    most: usize,
+) -> Result<Trace, NoMemory> {
+    let mut left = len;
+    for piece in pieces {
+        let count = left.min(piece.bytes.len());
+        side.push(&piece.bytes[..count], &piece.handles)?;
+        left = left.saturating_sub(count);
+    }
+    play(alloc, &mut side, most)
+}

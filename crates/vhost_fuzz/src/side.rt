@@ -1,0 +1,116 @@
+//! A side that takes one message after another, and what is seen of it.
+
+use crate::answer::Answer;
+use crate::memory::NoMemory;
+use std::alloc::Global;
+use vhost_link::{Link, MemLink, PlainHandle};
+use vhost_message::MAX_ATTACHED_FD_ENTRIES;
+
+/// A side over a link in memory.
+pub(crate) trait Side: Drop {
+    /// Takes one message.
+    fn step(&mut self) -> Answer;
+
+    /// Whether nothing follows an answer.
+    fn is_over(&self, answer: &Answer) -> bool;
+
+    /// What of its device a message may change, as a number.
+    fn state(&self) -> u64;
+
+    /// Puts bytes on their way to it, and handles with the first of them.
+    fn push(&mut self, bytes: &[u8], handles: &[PlainHandle]) -> Result<(), NoMemory>;
+
+    /// How many bytes it has sent.
+    fn sent(&mut self) -> usize;
+
+    /// Whether its link ever wanted memory; it may be called again then.
+    fn is_starved(&mut self) -> bool;
+
+    /// All that it has sent.
+    fn output(&mut self, out: &mut Vec<u8>) -> Result<(), NoMemory>;
+
+    /// How many bytes are still on their way to it; they are taken away.
+    fn drain(&mut self, alloc: Global) -> Result<usize, NoMemory>;
+}
+
+/// Puts bytes on their way to a link's side, and handles with the first of them; 32 at most.
+pub(crate) fn push_piece(
+    link: &mut MemLink,
+    bytes: &[u8],
+    handles: &[PlainHandle],
+) -> Result<(), NoMemory> {
+    let most = handles.len().min(MAX_ATTACHED_FD_ENTRIES);
+    link.push(bytes, &handles[..most])?;
+    Ok(())
+}
+
+/// How many bytes are on their way to a link's side; they are taken away. There are fewer than 2 to the power of 20.
+pub(crate) fn drain_link(alloc: Global, link: &mut MemLink) -> Result<usize, NoMemory> {
+    let mut count: usize = 0;
+    for _ in 0..1_048_576u32 {
+        let mut room = [0u8; 512];
+        let mut handles = Vec::with_capacity(alloc, MAX_ATTACHED_FD_ENTRIES)?;
+        match link.recv(&mut room, &mut handles) {
+            Ok(0) => break,
+            Ok(some) => count = count.saturating_add(some),
+            Err(_) => {}
+        }
+    }
+    Ok(count)
+}
+
+/// What a side showed after one call.
+#[derive(Clone, Copy, PartialEq, Eq)]
+pub(crate) struct Shown {
+    pub(crate) answer: Answer,
+    pub(crate) state: u64,
+    pub(crate) sent: usize,
+}
+
+/// What a side showed from its first call on.
+#[derive(Drop)]
+pub(crate) struct Trace {
+    /// The state of its device before.
+    pub(crate) opening: u64,
+    pub(crate) shown: Vec<Shown>,
+    pub(crate) output: Vec<u8>,
+    /// Whether memory was refused.
+    pub(crate) starved: bool,
+    /// How many bytes were still on their way to it at the end.
+    pub(crate) left: usize,
+}
+
+/// Lets a side take messages, or make calls, so many at most: to the end of its stream, or until it answered twice that it is broken. Where memory was refused,
+/// the call is made once more.
+pub(crate) fn play<S: Side>(alloc: Global, side: &mut S, most: usize) -> Result<Trace, NoMemory> {
+    let mut trace = Trace {
+        opening: side.state(),
+        shown: Vec::new(alloc),
+        output: Vec::new(alloc),
+        starved: false,
+        left: 0,
+    };
+    let mut broken = 0u32;
+    for _ in 0..most {
+        let answer = side.step();
+        let shown = Shown {
+            answer,
+            state: side.state(),
+            sent: side.sent(),
+        };
+        trace.shown.push(shown)?;
+        if answer.is("OutOfMemory") {
+            trace.starved = true;
+        }
+        if answer.is("SocketBroken") {
+            broken = broken.saturating_add(1);
+        }
+        if side.is_over(&answer) || broken > 1 {
+            break;
+        }
+    }
+    trace.starved |= side.is_starved();
+    side.output(&mut trace.output)?;
+    trace.left = side.drain(alloc)?;
+    Ok(trace)
+}

@@ -1,0 +1,80 @@
+"""Runs a program with each growth of memory refused in turn. `refused-memory.sh` says more, and calls it."""
+
+import glob
+import os
+import subprocess
+import sys
+import tempfile
+
+
+def sessions(top):
+    """The lines of each session of the scripts of lines, one input a session."""
+    for path in sorted(glob.glob(f"{top}/crates/vhost_tests/data/lines_*.txt")):
+        with open(path, encoding="utf-8", errors="replace") as file:
+            lines = None
+            for line in [*file.read().splitlines(), "session"]:
+                if line.startswith("session"):
+                    if lines:
+                        yield "".join(f"{it}\n" for it in lines).encode()
+                    lines = []
+                elif line.startswith("line ") and lines is not None:
+                    lines.append(line[5:])
+
+
+def run(words, given, library, refused, counted=None):
+    """Runs the program with one growth refused, none where that is 0: its output and its status."""
+    env = {"LD_PRELOAD": library, "REFUSE": str(refused)}
+    if counted:
+        env["COUNT"] = counted
+    ran = subprocess.run(words, input=given, stdout=subprocess.PIPE, stderr=subprocess.DEVNULL, env=env, check=False)
+    return ran.stdout, ran.returncode
+
+
+def is_of_the_device(whole, wrote):
+    """Whether the example device refused for want of memory, which its frontend is told as any other refusal of a device."""
+    pairs = list(zip(whole.splitlines(), wrote.splitlines()))
+    changed = [(a.split(b" ")[0], b) for a, b in pairs if a != b]
+    refused = [b for a, b in changed if b.startswith(a + b" ") and b.endswith(b" err BackendInternalError")]
+    return len(whole.splitlines()) == len(wrote.splitlines()) and len(changed) == len(refused) == 1
+
+
+def refuse_all(words, given, library, room):
+    """Each growth of one run, refused in turn: how many ended as else, with a refusal of the device, with a front, and otherwise."""
+    counted = f"{room}/count"
+    whole, status = run(words, given, library, 0, counted)
+    with open(counted, encoding="ascii") as file:
+        growths = int(file.read())
+    same = device = front = other = 0
+    for refused in range(1, growths + 1):
+        wrote, ended = run(words, given, library, refused)
+        if (wrote, ended) == (whole, status):
+            same += 1
+        elif ended == status and is_of_the_device(whole, wrote):
+            device += 1
+        elif ended == 2 and whole.startswith(wrote):
+            front += 1
+        else:
+            other += 1
+            print(f"growth {refused} of {growths}: status {ended}, {len(wrote)} bytes, of input {given[:200]!r}")
+    return same, device, front, other
+
+
+def main():
+    top, name, program = sys.argv[1:]
+    with tempfile.TemporaryDirectory() as room:
+        library = f"{room}/refuse.so"
+        made = subprocess.run(["cc", "-shared", "-fPIC", "-O2", "-o", library, f"{top}/scripts/refuse.c", "-ldl"], check=False)
+        if made.returncode:
+            return 3
+        runs = [([program, "1", "300"], b"")]
+        if name == "vhost-run":
+            runs = [([program], given) for given in sessions(top)]
+        sums = [0, 0, 0, 0]
+        for words, given in runs:
+            sums = [a + b for a, b in zip(sums, refuse_all(words, given, library, room))]
+    same, device, front, other = sums
+    print(f"{name}: {len(runs)} runs, {sum(sums)} growths refused: {same} ended as else, {device} with a refusal of the device, {front} with status 2, {other} otherwise")
+    return 1 if other else 0
+
+
+sys.exit(main())
