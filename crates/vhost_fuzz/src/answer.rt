@@ -22,27 +22,47 @@ pub(crate) enum Detail {
 /// What a call answered: `ok` or an error's name, and what it carries.
 #[derive(Clone, Copy, PartialEq, Eq)]
 pub(crate) struct Answer {
+    /// `Of ` where the error is that of the protocol, and any other of the system may stand there.
+    within: &'static str,
     pub(crate) name: &'static str,
     detail: Detail,
 }
 
 impl Answer {
-    pub(crate) fn done() -> Answer {
+    fn plain(name: &'static str, detail: Detail) -> Answer {
         Answer {
-            name: "ok",
-            detail: Detail::Nothing,
+            within: "",
+            name,
+            detail,
         }
+    }
+
+    pub(crate) fn done() -> Answer {
+        Answer::plain("ok", Detail::Nothing)
     }
 
     pub(crate) fn number(number: u64) -> Answer {
-        Answer {
-            name: "ok",
-            detail: Detail::Number(number),
-        }
+        Answer::plain("ok", Detail::Number(number))
     }
 
     pub(crate) fn failed(error: &Error) -> Answer {
+        Answer::plain(name_of(error), carried(error))
+    }
+
+    /// An error of the system, by its number.
+    pub(crate) fn raw(number: i32) -> Answer {
+        Answer::plain("Raw", Detail::Raw(number))
+    }
+
+    /// An error of the system without a number.
+    pub(crate) fn named(name: &'static str) -> Answer {
+        Answer::plain("Named", Detail::Named(name))
+    }
+
+    /// An error of the protocol, where one of the system might stand.
+    pub(crate) fn of(error: &Error) -> Answer {
         Answer {
+            within: "Of ",
             name: name_of(error),
             detail: carried(error),
         }
@@ -96,11 +116,11 @@ fn carried(error: &Error) -> Detail {
 impl fmt::Display for Answer {
     /// As a script of tests writes it.
     fn fmt<W: fmt::Write>(&self, f: &mut fmt::Formatter<W>) -> fmt::Result {
-        let name = self.name;
         if !self.is("ok") {
             f.write_str("err ")?;
         }
-        f.write_str(name)?;
+        f.write_str(self.within)?;
+        f.write_str(self.name)?;
         match self.detail {
             Detail::Nothing => Ok(()),
             Detail::Number(number) => write!(f, " {number}"),

@@ -1,64 +1,58 @@
-//! A frontend, whose calls are made one after another.
+//! A side that makes calls, one after another.
 
 use crate::answer::Answer;
 use crate::memory::NoMemory;
-use crate::side::{Side, drain_link, push_piece};
+use crate::side::Side;
 use std::alloc::Global;
-use vhost_frontend_calls::{FrontendAnswer, FrontendCall, ask, take};
-use vhost_frontend_core::FrontendInternal;
-use vhost_link::{Cut, MemLink, PlainHandle};
-use vhost_test_tools::call_in;
+use vhost_link::{Cut, MemLink};
 
-/// How many rings the frontend is told of.
-const QUEUES: u64 = 2;
+/// What makes calls, and awaits their replies, over a link in memory.
+pub(crate) trait Caller: Drop {
+    type Call: Drop;
+
+    /// A new one.
+    fn open(alloc: Global, link: MemLink, budget: u32) -> Result<Self, NoMemory>;
+
+    /// The call of a line.
+    fn call_in(alloc: Global, line: &str) -> Result<Self::Call, NoMemory>;
+
+    /// Makes a call.
+    fn make(&mut self, call: &Self::Call) -> Answer;
+
+    /// Its link.
+    fn link(&mut self) -> &mut MemLink;
+}
 
 #[derive(Drop)]
-pub(crate) struct Asking {
-    frontend: FrontendInternal<MemLink>,
-    calls: Vec<FrontendCall>,
+pub(crate) struct Asking<C: Caller> {
+    caller: C,
+    calls: Vec<C::Call>,
     next: usize,
 }
 
-impl Asking {
+impl<C: Caller> Asking<C> {
     pub(crate) fn new(
         alloc: Global,
         cuts: Vec<Cut>,
         budget: u32,
         lines: &[&'static str],
-    ) -> Result<Asking, NoMemory> {
+    ) -> Result<Asking<C>, NoMemory> {
         let mut calls = Vec::new(alloc);
         for line in lines {
-            calls.push(call_in(alloc, line)?)?;
+            calls.push(C::call_in(alloc, line)?)?;
         }
         Ok(Asking {
-            frontend: FrontendInternal::new(alloc, MemLink::new(alloc, cuts), QUEUES, budget)?,
+            caller: C::open(alloc, MemLink::new(alloc, cuts), budget)?,
             calls,
             next: 0,
         })
     }
 }
 
-/// Makes one call.
-fn made(frontend: &mut FrontendInternal<MemLink>, call: &FrontendCall) -> Answer {
-    match ask(frontend, call) {
-        Ok(Some(sent)) => answer_of(&take(frontend, call, sent)),
-        Ok(None) => Answer::done(),
-        Err(error) => Answer::failed(&error),
-    }
-}
-
-fn answer_of(answer: &FrontendAnswer) -> Answer {
-    match answer {
-        FrontendAnswer::Failed(error) => Answer::failed(error),
-        FrontendAnswer::Number(number) => Answer::number(*number),
-        _ => Answer::done(),
-    }
-}
-
-impl Side for Asking {
+impl<C: Caller> Side for Asking<C> {
     fn step(&mut self) -> Answer {
         let answer = match self.calls.get(self.next) {
-            Some(call) => made(&mut self.frontend, call),
+            Some(call) => self.caller.make(call),
             None => Answer::done(),
         };
         self.next = self.next.saturating_add(1);
@@ -73,24 +67,7 @@ impl Side for Asking {
         0
     }
 
-    fn push(&mut self, bytes: &[u8], handles: &[PlainHandle]) -> Result<(), NoMemory> {
-        push_piece(self.frontend.endpoint_mut().link(), bytes, handles)
-    }
-
-    fn sent(&mut self) -> usize {
-        self.frontend.endpoint_mut().link().taken().len()
-    }
-
-    fn is_starved(&mut self) -> bool {
-        self.frontend.endpoint_mut().link().is_starved()
-    }
-
-    fn output(&mut self, out: &mut Vec<u8>) -> Result<(), NoMemory> {
-        out.extend_from_slice(self.frontend.endpoint_mut().link().taken().bytes())?;
-        Ok(())
-    }
-
-    fn drain(&mut self, alloc: Global) -> Result<usize, NoMemory> {
-        drain_link(alloc, self.frontend.endpoint_mut().link())
+    fn link(&mut self) -> &mut MemLink {
+        self.caller.link()
     }
 }

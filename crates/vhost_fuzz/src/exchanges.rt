@@ -1,8 +1,10 @@
-//! Calls of a frontend, and replies to them whose form is right.
+//! Calls, and replies to them whose form is right.
 
-/// Each call as a line of calls, and the reply to it as a script of tests writes it; `-` for none. Most sessions begin with the first six, after which
-/// each request wants an answer.
-pub(crate) const EXCHANGES: [(&str, &str); 40] = [
+/// A call as a line of calls, and the reply to it as a script of tests writes it; `-` for none.
+pub(crate) type Exchange = (&'static str, &'static str);
+
+/// Calls of a frontend. Most sessions begin with the first six, after which each request wants an answer.
+pub(crate) const OF_FRONTEND: [Exchange; 40] = [
     (
         "get_features",
         "01000000 05000000 08000000 0300004000000000",
@@ -141,5 +143,62 @@ pub(crate) const EXCHANGES: [(&str, &str); 40] = [
     ),
 ];
 
-/// How many of them open most sessions.
+/// How many calls of a frontend open most sessions.
 pub(crate) const OPENING: usize = 6;
+
+/// Calls of a device. Most sessions begin with the first four, after which each call is made, and wants an answer.
+pub(crate) const OF_DEVICE: [Exchange; 17] = [
+    ("set_reply_ack_flag 1", "-"),
+    ("set_shared_object_flag 1", "-"),
+    ("set_shmem_flag 1", "-"),
+    ("set_config_change_flag 1", "-"),
+    ("set_reply_ack_flag 0", "-"),
+    ("set_shmem_flag 0", "-"),
+    (
+        "handle_config_change",
+        "02000000 05000000 08000000 0000000000000000",
+    ),
+    (
+        "handle_config_change",
+        "02000000 05000000 08000000 daffffffffffffff",
+    ),
+    (
+        "shared_object_add 0102030405060708090a0b0c0d0e0f10",
+        "06000000 05000000 08000000 0000000000000000",
+    ),
+    (
+        "shared_object_add 0102030405060708090a0b0c0d0e0f10",
+        "06000000 05000000 08000000 0100000000000000",
+    ),
+    (
+        "shared_object_remove 0102030405060708090a0b0c0d0e0f10",
+        "07000000 05000000 08000000 0000000000000000",
+    ),
+    (
+        "shared_object_lookup 0102030405060708090a0b0c0d0e0f10 7",
+        "08000000 05000000 08000000 0000000000000000",
+    ),
+    (
+        "shared_object_lookup 0102030405060708090a0b0c0d0e0f10 7",
+        "08000000 05000000 08000000 eaffffffffffffff",
+    ),
+    (
+        "shmem_map 1 0x1000 0x2000 0x3000 1 9",
+        "09000000 05000000 08000000 0000000000000000",
+    ),
+    (
+        "shmem_map 1 0x1000 0x2000 0x3000 1 9",
+        "09000000 05000000 08000000 ffffffffffffffff",
+    ),
+    (
+        "shmem_unmap 1 0x1000 0x2000 0x3000 1",
+        "0a000000 05000000 08000000 0000000000000000",
+    ),
+    (
+        "shmem_unmap 1 0x1000 0x2000 0x3000 1",
+        "0a000000 05000000 08000000 0200000000000000",
+    ),
+];
+
+/// How many calls of a device open most sessions.
+pub(crate) const FLAGS: usize = 4;

@@ -2,7 +2,7 @@
 
 use crate::dice::Dice;
 use crate::memory::NoMemory;
-use crate::session::{BUDGET, Kind, Session};
+use crate::session::{BUDGET, Session};
 use crate::side::{Shown, Trace};
 use std::alloc::Global;
 use vhost_link::Cut;
@@ -197,7 +197,7 @@ fn wrong_fault(whole: &Trace, faulted: &Trace, has_moved: Option<bool>) -> Optio
     None
 }
 
-/// What doesn't hold of a frontend's calls, where the link was sound.
+/// What doesn't hold of a side's calls, where the link was sound.
 fn wrong_calls(trace: &Trace) -> Option<&'static str> {
     for shown in &trace.shown {
         if shown.answer.is_fault() {
@@ -207,7 +207,7 @@ fn wrong_calls(trace: &Trace) -> Option<&'static str> {
     None
 }
 
-/// What doesn't hold of a frontend's calls, where the link failed; a byte of the call that met it had moved or not, if that is known.
+/// What doesn't hold of a side's calls, where the link failed; a byte of the call that met it had moved or not, if that is known.
 fn wrong_asked(whole: &Trace, faulted: &Trace, has_moved: Option<bool>) -> Option<&'static str> {
     let Some((met, rest)) = since_fault(whole, faulted) else {
         return None;
@@ -217,10 +217,10 @@ fn wrong_asked(whole: &Trace, faulted: &Trace, has_moved: Option<bool>) -> Optio
     }
     for shown in rest {
         if has_moved == Some(true) && shown.sent != met.sent {
-            return Some("a frontend whose call had moved a byte sent more");
+            return Some("a side whose call had moved a byte sent more");
         }
         if has_moved == Some(false) && shown.answer.is("SocketBroken") {
-            return Some("a frontend broke where no byte had moved");
+            return Some("a side broke where no byte of a call had moved");
         }
     }
     None
@@ -242,9 +242,10 @@ impl Session {
     /// Lets new sides take it: byte by byte, over other cuts, and over a link that fails; and holds what they show against each other.
     pub(crate) fn judge(&self, alloc: Global, dice: &mut Dice) -> Result<Verdict, NoMemory> {
         let trace = self.byte_by_byte(alloc, self.most())?;
-        let finding = match self.kind {
-            Kind::Asking => self.judge_calls(alloc, dice, &trace)?,
-            _ => self.judge_messages(alloc, dice, &trace)?,
+        let finding = if self.kind.makes_calls() {
+            self.judge_calls(alloc, dice, &trace)?
+        } else {
+            self.judge_messages(alloc, dice, &trace)?
         };
         Ok(Verdict { trace, finding })
     }
@@ -272,7 +273,7 @@ impl Session {
         Ok(finding)
     }
 
-    /// What does not hold of a frontend that makes calls.
+    /// What does not hold of a side that makes calls.
     fn judge_calls(
         &self,
         alloc: Global,
@@ -327,7 +328,7 @@ impl Session {
         dice: &mut Dice,
         whole: &Trace,
     ) -> Result<Option<Finding>, NoMemory> {
-        let place = dice.place(self.moved(whole).saturating_add(1).min(self.calls()));
+        let place = self.place_in_calls(alloc, dice, whole)?;
         let cuts = fault_after(dice, ones(alloc, place)?)?;
         let faulted = self.shown(alloc, Vec::from_slice(alloc, &cuts)?, self.most())?;
         if faulted.starved {
@@ -339,6 +340,31 @@ impl Session {
         let has_moved = is_known.then_some(place > self.moved(&before));
         let what = wrong_asked(whole, &faulted, has_moved);
         Ok(found(what, cuts, faulted))
+    }
+
+    /// After how many bytes the link of a side that makes calls fails: between a request and its reply, or anywhere.
+    fn place_in_calls(
+        &self,
+        alloc: Global,
+        dice: &mut Dice,
+        whole: &Trace,
+    ) -> Result<usize, NoMemory> {
+        if dice.one_of(2) {
+            let moved = self.moved(whole).saturating_add(1);
+            return Ok(dice.place(moved.min(self.calls())));
+        }
+        let calls = dice.place(whole.shown.len());
+        let before = self.byte_by_byte(alloc, calls)?;
+        let sent = match whole.shown.get(calls) {
+            Some(shown) => shown.sent,
+            None => 0,
+        };
+        let request = sent.saturating_sub(before.output.len());
+        Ok(
+            self.moved(&before)
+                .saturating_add(request)
+                .min(self.calls()),
+        )
     }
 
     /// Other cuts, and retries, change nothing.

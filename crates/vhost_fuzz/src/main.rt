@@ -1,10 +1,12 @@
-//! Sends both handlers and a frontend what a hostile peer might send, and holds what they do against what holds of every peer.
+//! Sends both handlers and both askers what a hostile peer might send, and holds what they do against what holds of every peer.
 #![tactic(auto)]
 
 mod answer;
 mod asking;
+mod channel;
 mod dice;
 mod exchanges;
+mod frontend;
 mod judge;
 mod memory;
 mod message;

@@ -4,7 +4,7 @@ ghost use Rattle.std.specs.Prelude.{⊤};
 
 use crate::answer::Answer;
 use crate::memory::NoMemory;
-use crate::side::{Side, drain_link, push_piece};
+use crate::side::Side;
 use std::alloc::Global;
 use vhost_frontend_req_handler::{FrontendReqCore, VhostUserFrontendReqHandlerMut};
 use vhost_link::{Cut, MemLink, PlainHandle};
@@ -97,24 +97,7 @@ impl Side for Reverse {
         self.device.calls
     }
 
-    fn push(&mut self, bytes: &[u8], handles: &[PlainHandle]) -> Result<(), NoMemory> {
-        push_piece(self.core.endpoint_mut().link(), bytes, handles)
-    }
-
-    fn sent(&mut self) -> usize {
-        self.core.endpoint_mut().link().taken().len()
-    }
-
-    fn is_starved(&mut self) -> bool {
-        self.core.endpoint_mut().link().is_starved()
-    }
-
-    fn output(&mut self, out: &mut Vec<u8>) -> Result<(), NoMemory> {
-        out.extend_from_slice(self.core.endpoint_mut().link().taken().bytes())?;
-        Ok(())
-    }
-
-    fn drain(&mut self, alloc: Global) -> Result<usize, NoMemory> {
-        drain_link(alloc, self.core.endpoint_mut().link())
+    fn link(&mut self) -> &mut MemLink {
+        self.core.endpoint_mut().link()
     }
 }

@@ -20,20 +20,21 @@ pub(crate) fn write_script<W: Write>(
     let kind = match session.kind {
         Kind::Served => "served",
         Kind::Reverse => "reverse_served",
-        Kind::Asking => "asking",
+        Kind::Frontend => "asking",
+        Kind::Channel => "reverse_asking",
     };
     writeln!(output, "# {what}\nsession {kind} {title}\nbudget {BUDGET}")?;
     match session.kind {
         Kind::Served => writeln!(output, "over dummy [0,1,2,3]")?,
         Kind::Reverse => writeln!(output, "over scripted")?,
-        Kind::Asking => {}
+        Kind::Frontend | Kind::Channel => {}
     }
     write_cuts(&finding.cuts, output)?;
     for piece in &session.pieces {
         let mut handles = String::new(alloc);
         push_handles(alloc, &mut handles, &piece.handles)?;
         let bytes = bytes_text(alloc, &piece.bytes)?;
-        let word = if session.kind == Kind::Asking {
+        let word = if session.kind.makes_calls() {
             "reply"
         } else {
             "request"

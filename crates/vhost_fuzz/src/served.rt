@@ -2,7 +2,7 @@
 
 use crate::answer::Answer;
 use crate::memory::NoMemory;
-use crate::side::{Side, drain_link, push_piece};
+use crate::side::Side;
 use std::alloc::Global;
 use vhost_backend_req_handler::SessionCore;
 use vhost_dummy_backend::DummyBackendReqHandler;
@@ -107,24 +107,7 @@ impl Side for Served {
         add(sum, u64::from(device.mtu))
     }
 
-    fn push(&mut self, bytes: &[u8], handles: &[PlainHandle]) -> Result<(), NoMemory> {
-        push_piece(self.core.endpoint_mut().link(), bytes, handles)
-    }
-
-    fn sent(&mut self) -> usize {
-        self.core.endpoint_mut().link().taken().len()
-    }
-
-    fn is_starved(&mut self) -> bool {
-        self.core.endpoint_mut().link().is_starved()
-    }
-
-    fn output(&mut self, out: &mut Vec<u8>) -> Result<(), NoMemory> {
-        out.extend_from_slice(self.core.endpoint_mut().link().taken().bytes())?;
-        Ok(())
-    }
-
-    fn drain(&mut self, alloc: Global) -> Result<usize, NoMemory> {
-        drain_link(alloc, self.core.endpoint_mut().link())
+    fn link(&mut self) -> &mut MemLink {
+        self.core.endpoint_mut().link()
     }
 }

@@ -2,15 +2,17 @@
 
 use crate::asking::Asking;
 use crate::dice::Dice;
-use crate::exchanges::{EXCHANGES, OPENING};
+use crate::exchanges::{Exchange, FLAGS, OF_DEVICE, OF_FRONTEND, OPENING};
 use crate::memory::NoMemory;
 use crate::message::{Piece, spoil};
 use crate::requests::{put_opening, request_of_device, request_of_frontend};
 use crate::reverse::Reverse;
 use crate::served::Served;
-use crate::side::{Side, Trace, play};
+use crate::side::{Side, Trace, play, push_piece};
 use std::alloc::Global;
-use vhost_link::Cut;
+use vhost_backend_req::BackendInternal;
+use vhost_frontend_core::FrontendInternal;
+use vhost_link::{Cut, MemLink};
 use vhost_message::MSG_HEADER_SIZE;
 use vhost_test_tools::message_of;
 
@@ -25,7 +27,25 @@ pub(crate) enum Kind {
     /// A frontend's side of the reverse channel.
     Reverse,
     /// A frontend, to which replies come.
-    Asking,
+    Frontend,
+    /// A device, to which replies to what it asks come.
+    Channel,
+}
+
+impl Kind {
+    /// The calls that a side makes, and those that open most of its sessions; none where it makes no calls.
+    fn exchanges(self) -> (&'static [Exchange], &'static [Exchange]) {
+        match self {
+            Kind::Served | Kind::Reverse => (&[], &[]),
+            Kind::Frontend => (&OF_FRONTEND, &OF_FRONTEND[..OPENING]),
+            Kind::Channel => (&OF_DEVICE, &OF_DEVICE[..FLAGS]),
+        }
+    }
+
+    /// Whether it makes calls, to which replies come.
+    pub(crate) fn makes_calls(self) -> bool {
+        self == Kind::Frontend || self == Kind::Channel
+    }
 }
 
 /// What a peer sends.
@@ -33,7 +53,7 @@ pub(crate) enum Kind {
 pub(crate) struct Session {
     pub(crate) kind: Kind,
     pub(crate) pieces: Vec<Piece>,
-    /// The calls of a frontend.
+    /// The calls that the side makes.
     pub(crate) calls: Vec<&'static str>,
     /// How many messages it was made of.
     pub(crate) messages: u64,
@@ -43,9 +63,10 @@ pub(crate) struct Session {
 
 /// Makes a session; a sixth of its messages is spoiled.
 pub(crate) fn make(alloc: Global, dice: &mut Dice) -> Result<Session, NoMemory> {
-    let kind = match dice.below(4) {
+    let kind = match dice.below(6) {
         0 => Kind::Reverse,
-        1 => Kind::Asking,
+        1 => Kind::Frontend,
+        2 => Kind::Channel,
         _ => Kind::Served,
     };
     let mut session = Session {
@@ -79,17 +100,13 @@ fn len_of(pieces: &[Piece]) -> usize {
 impl Session {
     /// The messages that most sessions begin with, so that later ones find their features.
     fn open(&mut self, alloc: Global, dice: &mut Dice) -> Result<(), NoMemory> {
-        match self.kind {
-            Kind::Served => {
-                put_opening(alloc, dice, &mut self.pieces)?;
-                self.messages = self.pieces.len() as u64;
-            }
-            Kind::Reverse => {}
-            Kind::Asking => {
-                for (call, reply) in &EXCHANGES[..OPENING] {
-                    self.exchange(alloc, dice, call, reply)?;
-                }
-            }
+        if self.kind == Kind::Served {
+            put_opening(alloc, dice, &mut self.pieces)?;
+            self.messages = self.pieces.len() as u64;
+        }
+        let (_, opening) = self.kind.exchanges();
+        for (call, reply) in opening {
+            self.exchange(alloc, dice, call, reply)?;
         }
         Ok(())
     }
@@ -99,9 +116,9 @@ impl Session {
         let piece = match self.kind {
             Kind::Served => request_of_frontend(alloc, dice)?,
             Kind::Reverse => request_of_device(alloc, dice)?,
-            Kind::Asking => {
-                let place = dice.place(EXCHANGES.len());
-                let Some((call, reply)) = EXCHANGES.get(place) else {
+            Kind::Frontend | Kind::Channel => {
+                let (all, _) = self.kind.exchanges();
+                let Some((call, reply)) = all.get(dice.place(all.len())) else {
                     return Ok(());
                 };
                 return self.exchange(alloc, dice, call, reply);
@@ -142,10 +159,10 @@ impl Session {
 
     /// How many calls take all of it at most: each takes a header, or ends, or is one of the calls that are made.
     pub(crate) fn most(&self) -> usize {
-        match self.kind {
-            Kind::Asking => self.calls.len(),
-            _ => (self.len / MSG_HEADER_SIZE).saturating_add(8),
+        if self.kind.makes_calls() {
+            return self.calls.len();
         }
+        (self.len / MSG_HEADER_SIZE).saturating_add(8)
     }
 
     /// What a new side shows that takes it over a link that is cut so, in so many calls at most.
@@ -175,8 +192,22 @@ impl Session {
                 let side = Reverse::new(alloc, cuts, BUDGET)?;
                 take(alloc, side, &self.pieces, len, most)
             }
-            Kind::Asking => {
-                let side = Asking::new(alloc, cuts, BUDGET, &self.calls)?;
+            Kind::Frontend => {
+                let side: Asking<FrontendInternal<MemLink>> = Asking::new(
+                    alloc,
+                    cuts,
+                    BUDGET,
+                    &self.calls,
+                )?;
+                take(alloc, side, &self.pieces, len, most)
+            }
+            Kind::Channel => {
+                let side: Asking<BackendInternal<MemLink>> = Asking::new(
+                    alloc,
+                    cuts,
+                    BUDGET,
+                    &self.calls,
+                )?;
                 take(alloc, side, &self.pieces, len, most)
             }
         }
@@ -194,7 +225,7 @@ fn take<S: Side>(
     let mut left = len;
     for piece in pieces {
         let count = left.min(piece.bytes.len());
-        side.push(&piece.bytes[..count], &piece.handles)?;
+        push_piece(side.link(), &piece.bytes[..count], &piece.handles)?;
         left = left.saturating_sub(count);
     }
     play(alloc, &mut side, most)

@@ -17,20 +17,8 @@ pub(crate) trait Side: Drop {
     /// What of its device a message may change, as a number.
     fn state(&self) -> u64;
 
-    /// Puts bytes on their way to it, and handles with the first of them.
-    fn push(&mut self, bytes: &[u8], handles: &[PlainHandle]) -> Result<(), NoMemory>;
-
-    /// How many bytes it has sent.
-    fn sent(&mut self) -> usize;
-
-    /// Whether its link ever wanted memory; it may be called again then.
-    fn is_starved(&mut self) -> bool;
-
-    /// All that it has sent.
-    fn output(&mut self, out: &mut Vec<u8>) -> Result<(), NoMemory>;
-
-    /// How many bytes are still on their way to it; they are taken away.
-    fn drain(&mut self, alloc: Global) -> Result<usize, NoMemory>;
+    /// Its link.
+    fn link(&mut self) -> &mut MemLink;
 }
 
 /// Puts bytes on their way to a link's side, and handles with the first of them; 32 at most.
@@ -45,7 +33,7 @@ pub(crate) fn push_piece(
 }
 
 /// How many bytes are on their way to a link's side; they are taken away. There are fewer than 2 to the power of 20.
-pub(crate) fn drain_link(alloc: Global, link: &mut MemLink) -> Result<usize, NoMemory> {
+fn drain(alloc: Global, link: &mut MemLink) -> Result<usize, NoMemory> {
     let mut count: usize = 0;
     for _ in 0..1_048_576u32 {
         let mut room = [0u8; 512];
@@ -96,7 +84,7 @@ pub(crate) fn play<S: Side>(alloc: Global, side: &mut S, most: usize) -> Result<
         let shown = Shown {
             answer,
             state: side.state(),
-            sent: side.sent(),
+            sent: side.link().taken().len(),
         };
         trace.shown.push(shown)?;
         if answer.is("OutOfMemory") {
@@ -109,8 +97,9 @@ pub(crate) fn play<S: Side>(alloc: Global, side: &mut S, most: usize) -> Result<
             break;
         }
     }
-    trace.starved |= side.is_starved();
-    side.output(&mut trace.output)?;
-    trace.left = side.drain(alloc)?;
+    let link = side.link();
+    trace.starved |= link.is_starved();
+    trace.output.extend_from_slice(link.taken().bytes())?;
+    trace.left = drain(alloc, link)?;
     Ok(trace)
 }

@@ -1,0 +1,45 @@
+//! A frontend, which makes calls.
+
+use crate::answer::Answer;
+use crate::asking::Caller;
+use crate::memory::NoMemory;
+use std::alloc::Global;
+use vhost_frontend_calls::{FrontendAnswer, FrontendCall, ask, take};
+use vhost_frontend_core::FrontendInternal;
+use vhost_link::MemLink;
+use vhost_test_tools::call_in;
+
+/// How many rings the frontend is told of.
+const QUEUES: u64 = 2;
+
+impl Caller for FrontendInternal<MemLink> {
+    type Call = FrontendCall;
+
+    fn open(alloc: Global, link: MemLink, budget: u32) -> Result<Self, NoMemory> {
+        Ok(FrontendInternal::new(alloc, link, QUEUES, budget)?)
+    }
+
+    fn call_in(alloc: Global, line: &str) -> Result<FrontendCall, NoMemory> {
+        Ok(call_in(alloc, line)?)
+    }
+
+    fn make(&mut self, call: &FrontendCall) -> Answer {
+        match ask(self, call) {
+            Ok(Some(sent)) => answer_of(&take(self, call, sent)),
+            Ok(None) => Answer::done(),
+            Err(error) => Answer::failed(&error),
+        }
+    }
+
+    fn link(&mut self) -> &mut MemLink {
+        self.endpoint_mut().link()
+    }
+}
+
+fn answer_of(answer: &FrontendAnswer) -> Answer {
+    match answer {
+        FrontendAnswer::Failed(error) => Answer::failed(error),
+        FrontendAnswer::Number(number) => Answer::number(*number),
+        _ => Answer::done(),
+    }
+}
