@@ -1,0 +1,71 @@
+//! A handler over links that cost nothing, or little.
+
+use crate::flat::FlatLink;
+use crate::messages::{Message, OPENED, OPENING, QUEUED};
+use crate::ready::Ready;
+use crate::watch::{Failed, Taken, Watch};
+use std::alloc::Global;
+use std::time::Clock;
+use vhost_backend_req_handler::SessionCore;
+use vhost_link::{Link, MemLink};
+
+/// How many retries a message may take.
+pub(crate) const BUDGET: u32 = 3;
+
+/// Has a handler serve so many messages; how many succeeded.
+pub(crate) fn serve<L: Link>(core: &mut SessionCore<L>, device: &mut Ready<L>, count: u64) -> u64 {
+    let mut good: u64 = 0;
+    for _ in 0..count {
+        if core.handle_request(device).is_ok() {
+            good = good.wrapping_add(1);
+        }
+    }
+    good
+}
+
+/// A message is served over a link that costs nothing.
+pub(crate) fn over_flat(
+    clock: &impl Clock,
+    alloc: Global,
+    message: Message,
+    count: u64,
+) -> Result<Taken, Failed> {
+    let opening = FlatLink::new(Vec::from_slice(alloc, &OPENING)?);
+    let mut core = SessionCore::new(alloc, opening, BUDGET)?;
+    let mut device = Ready::new(alloc);
+    serve(&mut core, &mut device, OPENED);
+    *core.endpoint_mut().link() = FlatLink::new(message.text(alloc)?);
+    let watch = Watch::start(clock)?;
+    let good = serve(&mut core, &mut device, count);
+    watch.stop(clock, count, good)
+}
+
+/// A message is served over a link in memory, where so many wait at a time.
+pub(crate) fn over_memory(
+    clock: &impl Clock,
+    alloc: Global,
+    message: Message,
+    count: u64,
+) -> Result<Taken, Failed> {
+    let mut core = SessionCore::new(alloc, MemLink::new(alloc, Vec::new(alloc)), BUDGET)?;
+    let mut device = Ready::new(alloc);
+    core.endpoint_mut().link().push(&OPENING, &[])?;
+    serve(&mut core, &mut device, OPENED);
+    let text = message.text(alloc)?;
+    let (mut good, mut left): (u64, u64) = (0, count);
+    let watch = Watch::start(clock)?;
+    for _ in 0..count {
+        if left == 0 {
+            break;
+        }
+        let some = left.min(QUEUED);
+        for _ in 0..some {
+            core.endpoint_mut().link().push(&text, &[])?;
+        }
+        good = good.wrapping_add(serve(&mut core, &mut device, some));
+        let mut away = MemLink::new(alloc, Vec::new(alloc));
+        MemLink::carry(core.endpoint_mut().link(), &mut away)?;
+        left = left.saturating_sub(some);
+    }
+    watch.stop(clock, count, good)
+}

@@ -1,0 +1,111 @@
+//! A handler at a socket, in the thread of its peer.
+
+use crate::messages::{FEATURES, QUEUED, RING};
+use crate::ready::Ready;
+use crate::served::{BUDGET, serve};
+use crate::watch::{Failed, Taken, Watch};
+use std::alloc::Global;
+use std::io::{Read, Write};
+use std::net::Net;
+use std::os::unix::net::UnixStream;
+use std::time::Clock;
+use vhost_backend_req_handler::SessionCore;
+use vhost_link::UnixLink;
+
+/// A reply with a number.
+const REPLY: [u8; 20] = [
+    1, 0, 0, 0, 5, 0, 0, 0, 8, 0, 0, 0, 3, 0, 0, 0x40, 0, 0, 0, 0,
+];
+
+/// So many messages, one behind another.
+fn batch(alloc: Global, count: u64) -> Result<Vec<u8>, Failed> {
+    let mut all = Vec::new(alloc);
+    for _ in 0..count {
+        all.extend_from_slice(&RING)?;
+    }
+    Ok(all)
+}
+
+/// Messages wait at a socket, and are served.
+pub(crate) fn serve_queued(
+    rt: &(impl Net + Clock),
+    alloc: Global,
+    count: u64,
+) -> Result<Taken, Failed> {
+    let (mut near, far) = UnixStream::pair(rt)?;
+    let mut core = SessionCore::new(alloc, UnixLink::from(far), BUDGET)?;
+    let mut device = Ready::new(alloc);
+    let (mut good, mut left): (u64, u64) = (0, count);
+    let watch = Watch::start(rt)?;
+    for _ in 0..count {
+        if left == 0 {
+            break;
+        }
+        let some = left.min(QUEUED);
+        near.write_all(&batch(alloc, some)?)?;
+        good = good.wrapping_add(serve(&mut core, &mut device, some));
+        left = left.saturating_sub(some);
+    }
+    watch.stop(rt, count, good)
+}
+
+/// The same messages wait, and are read, each by one read.
+pub(crate) fn read_queued(
+    rt: &(impl Net + Clock),
+    alloc: Global,
+    count: u64,
+) -> Result<Taken, Failed> {
+    let (mut near, mut far) = UnixStream::pair(rt)?;
+    let (mut good, mut left): (u64, u64) = (0, count);
+    let mut room = [0u8; 20];
+    let watch = Watch::start(rt)?;
+    for _ in 0..count {
+        if left == 0 {
+            break;
+        }
+        let some = left.min(QUEUED);
+        near.write_all(&batch(alloc, some)?)?;
+        for _ in 0..some {
+            far.read_exact(&mut room)?;
+            good = good.wrapping_add(1);
+        }
+        left = left.saturating_sub(some);
+    }
+    watch.stop(rt, count, good)
+}
+
+/// A request is written, served and answered, and the reply is read.
+pub(crate) fn serve_trips(
+    rt: &(impl Net + Clock),
+    alloc: Global,
+    count: u64,
+) -> Result<Taken, Failed> {
+    let (mut near, far) = UnixStream::pair(rt)?;
+    let mut core = SessionCore::new(alloc, UnixLink::from(far), BUDGET)?;
+    let mut device = Ready::new(alloc);
+    let mut good: u64 = 0;
+    let mut room = [0u8; 20];
+    let watch = Watch::start(rt)?;
+    for _ in 0..count {
+        near.write_all(&FEATURES)?;
+        good = good.wrapping_add(serve(&mut core, &mut device, 1));
+        near.read_exact(&mut room)?;
+    }
+    watch.stop(rt, count, good)
+}
+
+/// The same bytes are written and read.
+pub(crate) fn trips(rt: &(impl Net + Clock), count: u64) -> Result<Taken, Failed> {
+    let (mut near, mut far) = UnixStream::pair(rt)?;
+    let mut good: u64 = 0;
+    let mut room = [0u8; 20];
+    let watch = Watch::start(rt)?;
+    for _ in 0..count {
+        near.write_all(&FEATURES)?;
+        far.read_exact(&mut room[..12])?;
+        far.write_all(&REPLY)?;
+        near.read_exact(&mut room)?;
+        good = good.wrapping_add(1);
+    }
+    watch.stop(rt, count, good)
+}
