@@ -1,4 +1,4 @@
-//! Four callers in threads of their own.
+//! Callers of a recorder: one alone, and four in threads of their own.
 
 ghost use Rattle.std.specs.Prelude.{◌≡◌, ◌+◌, ◌<◌, IfOk, length};
 ghost use Rattle.vhost_recorder.specs.Share.{parts_of, count_of};
@@ -9,17 +9,18 @@ use std::sync::Wait;
 use std::sync::ledger::{Blank, Ledger};
 use std::thread::{Threads, join};
 use vhost_dummy_backend::DummyBackendReqHandler;
-use vhost_link::MemLink;
+use vhost_link::{Cut, MemLink};
 use vhost_recorder::{FrontendCall, Halt, Log, Receipt, Recorder, Share};
 
 /// The example device, over links in memory.
 pub(crate) type Device = DummyBackendReqHandler<MemLink>;
 
-/// What a thread hands back: its share, which has counted its receipts.
+/// What a caller hands back: its share, which has counted its receipts, and why its last call was not done, if one was not.
 #[derive(Drop)]
 struct Spent<L: Ledger> {
     share: Share<L>,
     receipts: Vec<Receipt>,
+    halt: Option<Halt>,
     ghost one_part: { parts_of share ≡ 1 },
     ghost counted: { count_of share ≡ length receipts.items },
 }
@@ -34,7 +35,15 @@ pub(crate) struct Crowd {
     pub(crate) fourth: Vec<Receipt>,
 }
 
-/// What a thread begins with: a share that has counted nothing.
+/// The log of one caller, its receipts, and why its last call was not done, if one was not.
+#[derive(Drop)]
+pub(crate) struct Alone {
+    pub(crate) log: Log<Device>,
+    pub(crate) receipts: Vec<Receipt>,
+    pub(crate) halt: Option<Halt>,
+}
+
+/// What a caller begins with: a share that has counted nothing.
 #[derive(Drop)]
 struct Fresh<L: Ledger> {
     share: Share<L>,
@@ -53,32 +62,38 @@ fn fresh_share<L: Ledger>(all: &mut Share<L>, caller: u32) -> Fresh<L>
     }
 }
 
-/// Asks so many times for the device's features, and keeps the receipts.
-fn ask_often<L: Ledger, R: Wait>(
+/// Makes these calls, one after another, and keeps the receipts.
+fn call_all<L: Ledger, R: Wait>(
     rt: &R,
     alloc: Global,
     recorder: &Recorder<Device, L>,
     fresh: Fresh<L>,
-    times: u32,
+    calls: &[FrontendCall],
 ) -> Spent<L> {
     let Fresh { mut share } = fresh;
     let mut receipts = Vec::new(alloc);
-    for _i in 0..times {
+    let mut halt = None;
+    for call in calls {
         if receipts.reserve(1).is_err() {
             break;
         }
-        if let Ok(receipt) = recorder.call(rt, &mut share, &FrontendCall::GetFeatures) {
-            receipts.push_reserved(receipt);
+        match recorder.call(rt, &mut share, call) {
+            Ok(receipt) => receipts.push_reserved(receipt),
+            Err(why) => halt = Some(why),
         }
     }
-    hand_back(share, receipts)
+    hand_back(share, receipts, halt)
 }
 
-/// What a thread hands back.
-fn hand_back<L: Ledger>(share: Share<L>, receipts: Vec<Receipt>) -> Spent<L>
+/// What a caller hands back.
+fn hand_back<L: Ledger>(share: Share<L>, receipts: Vec<Receipt>, halt: Option<Halt>) -> Spent<L>
     requires { (parts_of share ≡ 1) × (count_of share ≡ length receipts.items) }
 {
-    Spent { share, receipts }
+    Spent {
+        share,
+        receipts,
+        halt,
+    }
 }
 
 /// What two threads hand back.
@@ -95,29 +110,78 @@ fn two_ask<L: Ledger + Send + Sync, R: Threads + Wait + Sync>(
     recorder: &Recorder<Device, L>,
     one: Fresh<L>,
     other: Fresh<L>,
-    times: u32,
+    calls: &[FrontendCall],
 ) -> Both<L> {
     let (one, other) = join(
         rt,
-        move || ask_often(rt, alloc, recorder, one, times),
-        move || ask_often(rt, alloc, recorder, other, times),
+        move || call_all(rt, alloc, recorder, one, calls),
+        move || call_all(rt, alloc, recorder, other, calls),
     );
     Both { one, other }
 }
 
-/// A recorder over the example device, and the share of caller 0.
+/// A recorder over the example device, with a budget of retries and a script of the frontend's link, and the share of caller 0.
 ///
 /// `Halt::OutOfMemory`: a growth was refused.
-fn open<L: Ledger>(alloc: Global, blank: Blank) -> Result<(Recorder<Device, L>, Share<L>), Halt>
+fn open<L: Ledger>(
+    alloc: Global,
+    blank: Blank,
+    budget: u32,
+    script: Vec<Cut>,
+) -> Result<(Recorder<Device, L>, Share<L>), Halt>
     requires { (blank.name ≡ L.name) × (blank.parts ≡ L.parts) }
     ensures { IfOk result (λ opened. (parts_of opened.1 ≡ L.parts) × (count_of opened.1 ≡ 0)) }
 {
     let device = DummyBackendReqHandler::new(alloc, Vec::new(alloc));
-    let scripts = (Vec::new(alloc), Vec::new(alloc));
-    Recorder::open(blank, alloc, device, 2, 3, scripts)
+    let scripts = (script, Vec::new(alloc));
+    Recorder::open(blank, alloc, device, 2, budget, scripts)
 }
 
-/// Four callers, 1 to 4, in threads of their own, each of whom asks so many times. The log has as many entries as they have
+/// A caller makes its calls alone.
+fn one_calls<L: Ledger, R: Wait>(
+    rt: &R,
+    alloc: Global,
+    blank: Blank,
+    caller: u32,
+    calls: &[FrontendCall],
+    link: (u32, Vec<Cut>),
+) -> Result<Alone, Halt>
+    requires { (blank.name ≡ L.name) × (blank.parts ≡ L.parts) × (L.parts ≡ 2) }
+    ensures { IfOk result (λ alone. length alone.log.entries ≡ length alone.receipts.items) }
+{
+    let (budget, script) = link;
+    let (recorder, mut all) = open::<L>(alloc, blank, budget, script)?;
+    let fresh = fresh_share(&mut all, caller);
+    let Spent {
+        share,
+        receipts,
+        halt,
+    } = call_all(rt, alloc, &recorder, fresh, calls);
+    all.join(share);
+    Ok(Alone {
+        log: recorder.close(all),
+        receipts,
+        halt,
+    })
+}
+
+/// A caller makes these calls alone, with a budget of retries, and a link of the frontend that is cut by a script. The log has as many
+/// entries as it has receipts.
+///
+/// `Halt::OutOfMemory`: a growth was refused before the first call.
+pub(crate) fn call_alone<R: Wait>(
+    rt: &R,
+    alloc: Global,
+    caller: u32,
+    calls: &[FrontendCall],
+    link: (u32, Vec<Cut>),
+) -> Result<Alone, Halt>
+    ensures { IfOk result (λ alone. length alone.log.entries ≡ length alone.receipts.items) }
+{
+    one_calls::<Brand, R>(rt, alloc, Blank::new(2), caller, calls, link)
+}
+
+/// Four callers, 1 to 4, in threads of their own, each of whom makes these calls. The log has as many entries as they have
 /// receipts.
 ///
 /// `Halt::OutOfMemory`: a growth was refused before the first call.
@@ -125,12 +189,12 @@ fn four_ask<L: Ledger + Send + Sync, R: Threads + Wait + Sync>(
     rt: &R,
     alloc: Global,
     blank: Blank,
-    times: u32,
+    calls: &[FrontendCall],
 ) -> Result<Crowd, Halt>
     requires { (blank.name ≡ L.name) × (blank.parts ≡ L.parts) × (L.parts ≡ 5) }
     ensures { IfOk result (λ crowd. length crowd.log.entries ≡ length crowd.first.items + length crowd.second.items + length crowd.third.items + length crowd.fourth.items) }
 {
-    let (recorder, mut all) = open::<L>(alloc, blank)?;
+    let (recorder, mut all) = open::<L>(alloc, blank, 3, Vec::new(alloc))?;
     let first = fresh_share(&mut all, 1);
     let second = fresh_share(&mut all, 2);
     let third = fresh_share(&mut all, 3);
@@ -138,8 +202,8 @@ fn four_ask<L: Ledger + Send + Sync, R: Threads + Wait + Sync>(
     let shared = &recorder;
     let (left, right) = join(
         rt,
-        move || two_ask(rt, alloc, shared, first, second, times),
-        move || two_ask(rt, alloc, shared, third, fourth, times),
+        move || two_ask(rt, alloc, shared, first, second, calls),
+        move || two_ask(rt, alloc, shared, third, fourth, calls),
     );
     Ok(gather(recorder, all, left, right))
 }
@@ -163,21 +227,25 @@ fn gather<L: Ledger>(
     let Spent {
         share,
         receipts: first,
+        halt: _,
     } = one;
     all.join(share);
     let Spent {
         share,
         receipts: second,
+        halt: _,
     } = two;
     all.join(share);
     let Spent {
         share,
         receipts: third,
+        halt: _,
     } = three;
     all.join(share);
     let Spent {
         share,
         receipts: fourth,
+        halt: _,
     } = four;
     all.join(share);
     Crowd {
@@ -189,16 +257,16 @@ fn gather<L: Ledger>(
     }
 }
 
-/// Four callers, 1 to 4, in threads of their own, each of whom asks so many times for the device's features. The log has as
-/// many entries as they have receipts.
+/// Four callers, 1 to 4, in threads of their own, each of whom makes these calls. The log has as many
+/// entries as they have receipts.
 ///
 /// `Halt::OutOfMemory`: a growth was refused before the first call.
 pub(crate) fn four_callers<R: Threads + Wait + Sync>(
     rt: &R,
     alloc: Global,
-    times: u32,
+    calls: &[FrontendCall],
 ) -> Result<Crowd, Halt>
     ensures { IfOk result (λ crowd. length crowd.log.entries ≡ length crowd.first.items + length crowd.second.items + length crowd.third.items + length crowd.fourth.items) }
 {
-    four_ask::<Brand, R>(rt, alloc, Blank::new(5), times)
+    four_ask::<Brand, R>(rt, alloc, Blank::new(5), calls)
 }

@@ -1,7 +1,6 @@
 //! What callers see, whatever the schedule.
 
-use crate::alone::{base_of_seven, features_over, halted};
-use crate::drive::{Crowd, Device, four_callers};
+use crate::drive::{Alone, Crowd, Device, call_alone, four_callers};
 use std::alloc::{AllocError, Global};
 use std::test::Fail;
 use vhost_link::Cut;
@@ -27,9 +26,20 @@ fn is_set(log: &Log<Device>, receipt: &Receipt) -> bool {
 
 #[test]
 fn one_caller_reads_what_it_set(rt: HostRuntime) -> Result<(), Fail> {
-    let (log, first, second) = base_of_seven(&rt, rt.alloc())?;
-    assert!(rt; is_set(&log, &first));
-    assert!(rt; is_number(&log, &second, 7, 1, 9));
+    let calls = [
+        FrontendCall::SetVringBase(0, 9),
+        FrontendCall::GetVringBase(0),
+    ];
+    let Alone { log, receipts, .. } = call_alone(
+        &rt,
+        rt.alloc(),
+        7,
+        &calls,
+        (3, Vec::new(rt.alloc())),
+    )?;
+    assert_eq!(rt; receipts.len(), 2);
+    assert!(rt; is_set(&log, &receipts[0]));
+    assert!(rt; is_number(&log, &receipts[1], 7, 1, 9));
     assert_eq!(rt; log.entries().len(), 2);
     Ok(())
 }
@@ -53,9 +63,18 @@ fn all_confirmed(crowd: &Crowd) -> u64 {
     left.saturating_add(right)
 }
 
+/// So many calls for the device's features.
+fn asking(alloc: Global, count: u32) -> Result<Vec<FrontendCall>, AllocError> {
+    let mut calls = Vec::new(alloc);
+    for _i in 0..count {
+        calls.push(FrontendCall::GetFeatures)?;
+    }
+    Ok(calls)
+}
+
 #[test]
 fn four_callers_are_recorded(rt: HostRuntime) -> Result<(), Fail> {
-    let crowd = four_callers(&rt, rt.alloc(), 100)?;
+    let crowd = four_callers(&rt, rt.alloc(), &asking(rt.alloc(), 100)?)?;
     assert_eq!(rt; all_confirmed(&crowd), 400);
     assert_eq!(rt; crowd.log.entries().len(), 400);
     Ok(())
@@ -68,8 +87,8 @@ fn are_first_confirmed(log: &Log<Device>, receipts: &[Receipt]) -> bool {
 
 #[test]
 fn another_recorders_receipt_is_not_confirmed(rt: HostRuntime) -> Result<(), Fail> {
-    let crowd = four_callers(&rt, rt.alloc(), 100)?;
-    let other = four_callers(&rt, rt.alloc(), 101)?;
+    let crowd = four_callers(&rt, rt.alloc(), &asking(rt.alloc(), 100)?)?;
+    let other = four_callers(&rt, rt.alloc(), &asking(rt.alloc(), 101)?)?;
     assert_eq!(rt; other.first.len(), 101);
     assert!(rt; are_first_confirmed(&crowd.log, &other.first));
     Ok(())
@@ -77,7 +96,17 @@ fn another_recorders_receipt_is_not_confirmed(rt: HostRuntime) -> Result<(), Fai
 
 #[test]
 fn a_halt_records_nothing(rt: HostRuntime) -> Result<(), Fail> {
-    let (log, halt) = halted(&rt, rt.alloc())?;
+    let calls = [
+        FrontendCall::SetOwner,
+        FrontendCall::SetOwner,
+        FrontendCall::GetFeatures,
+    ];
+    let Alone {
+        log,
+        receipts,
+        halt,
+    } = call_alone(&rt, rt.alloc(), 3, &calls, (3, Vec::new(rt.alloc())))?;
+    assert_eq!(rt; receipts.len(), 2);
     assert!(rt; halt == Some(Halt::Stopped));
     assert_eq!(rt; log.entries().len(), 2);
     assert!(rt; log.stopped() == Some(Stop::Table));
@@ -95,14 +124,19 @@ fn four_retries(alloc: Global) -> Result<Vec<Cut>, AllocError> {
 
 #[test]
 fn a_budget_is_that_of_the_recorder(rt: HostRuntime) -> Result<(), Fail> {
-    let (log, receipt) = features_over(&rt, rt.alloc(), 4, four_retries(rt.alloc())?)?;
-    assert!(rt; is_number(&log, &receipt, 0, 0, 0x4000_0003));
+    let calls = [FrontendCall::GetFeatures];
+    let retries = four_retries(rt.alloc())?;
+    let Alone { log, receipts, .. } = call_alone(&rt, rt.alloc(), 0, &calls, (4, retries))?;
+    assert_eq!(rt; receipts.len(), 1);
+    assert!(rt; is_number(&log, &receipts[0], 0, 0, 0x4000_0003));
     assert!(rt; log.stopped().is_none());
-    let (log, receipt) = features_over(&rt, rt.alloc(), 3, four_retries(rt.alloc())?)?;
-    assert!(rt; log.confirms(&receipt));
+    let retries = four_retries(rt.alloc())?;
+    let Alone { log, receipts, .. } = call_alone(&rt, rt.alloc(), 0, &calls, (3, retries))?;
+    assert_eq!(rt; receipts.len(), 1);
+    assert!(rt; log.confirms(&receipts[0]));
     assert!(rt;
         matches!(
-            receipt.answer(),
+            receipts[0].answer(),
             FrontendAnswer::Failed(Error::SocketRetry(_))
         )
     );
