@@ -55,10 +55,10 @@ impl Work {
         count: u64,
     ) -> Result<Taken, Failed> {
         match self {
-            Work::CopyMessage => copy_message(rt, count),
-            Work::CheckHeader => check_header(rt, count),
-            Work::MakeHeader => make_header(rt, count),
-            Work::CheckRegion => check_region(rt, count),
+            Work::CopyMessage => copy_message(rt, alloc, count),
+            Work::CheckHeader => check_header(rt, alloc, count),
+            Work::MakeHeader => make_header(rt, alloc, count),
+            Work::CheckRegion => check_region(rt, alloc, count),
             Work::Flat(message) => over_flat(rt, alloc, message, count),
             Work::Memory(message) => over_memory(rt, alloc, message, count),
             Work::Queued => serve_queued(rt, alloc, count),
