@@ -4,7 +4,7 @@
 cd "$(dirname "$0")/.." || exit 2
 status=0
 for crate in crates/*/; do
-    said=$(cd "$crate" && rt fmt 2>&1) || exit 2
-    [ -z "$said" ] || { echo "$crate: $said"; status=1; }
+    said=$(cd "$crate" && rt fmt 2>&1) || { echo "$crate: $said"; exit 2; }
+    case $said in *formatted*) echo "$crate: $said"; status=1 ;; esac
 done
 exit "$status"

@@ -1,4 +1,4 @@
-//! Sends both handlers and both askers what a hostile peer might send, and holds what they do against what holds of every peer.
+//! Sends both handlers, a frontend and a device what a hostile peer might send, and holds what they do against what holds of every peer.
 #![tactic(auto)]
 
 mod answer;
