@@ -16,6 +16,3 @@ fn main(rt: HostRuntime) -> ExitCode {
     let status = run_lines(rt.alloc(), &mut input, &mut output, &mut rt.stderr());
     ExitCode::from(status)
 }
-
-#[cfg(test)]
-mod tests;

@@ -1,0 +1,4 @@
+//! Sessions side by side.
+
+mod clients;
+mod sessions;

@@ -1,0 +1,9 @@
+//! What goes over Unix sockets.
+
+mod connecting;
+mod device;
+mod links;
+mod listening;
+mod outcome;
+mod serving;
+mod talking;

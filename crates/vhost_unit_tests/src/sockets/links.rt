@@ -1,0 +1,99 @@
+//! A link over a socket, by itself.
+
+use crate::sockets::device::{BUDGET, new_device};
+use std::alloc::Global;
+use std::os::unix::net::UnixStream;
+use std::test::Fail;
+use vhost_backend_req_handler::BackendReqHandler;
+use vhost_connection::Endpoint;
+use vhost_link::{Link, NoHandle, UnixLink};
+use vhost_message::{FrontendReq, IoCause, MAX_ATTACHED_FD_ENTRIES, VhostUserMsgHeader};
+
+type Header = VhostUserMsgHeader<FrontendReq>;
+
+/// What one receive with so much room answered: how many bytes, or why none.
+fn receive(alloc: Global, link: &mut UnixLink, room: &mut [u8]) -> Result<usize, IoCause> {
+    if room.is_empty() {
+        return Ok(0);
+    }
+    let Ok(mut handles) = Vec::<NoHandle>::with_capacity(alloc, MAX_ATTACHED_FD_ENTRIES) else {
+        return Err(IoCause::Raw(12));
+    };
+    link.recv(room, &mut handles)
+}
+
+#[test]
+fn carries_bytes_and_an_end(rt: HostRuntime) -> Result<(), Fail> {
+    let (near, far) = UnixStream::pair(&rt)?;
+    let (mut near, mut far) = (UnixLink::from(near), UnixLink::from(far));
+    let (mut front, mut rest) = ([0u8; 2], [0u8; 3]);
+    assert!(rt; matches!(near.send(b"hello", &[]), Ok(5)));
+    assert!(rt; matches!(receive(rt.alloc(), &mut far, &mut front), Ok(2)));
+    assert!(rt; matches!(receive(rt.alloc(), &mut far, &mut rest), Ok(3)));
+    assert_eq!(rt; front.as_slice(), b"he".as_slice());
+    assert_eq!(rt; rest.as_slice(), b"llo".as_slice());
+    drop(near);
+    assert!(rt; matches!(receive(rt.alloc(), &mut far, &mut rest), Ok(0)));
+    assert!(rt; matches!(far.send(b"x", &[]), Err(IoCause::Raw(32))));
+    Ok(())
+}
+
+#[test]
+fn says_that_it_would_wait(rt: HostRuntime) -> Result<(), Fail> {
+    let (near, far) = UnixStream::pair(&rt)?;
+    far.set_nonblocking(true)?;
+    let mut far = UnixLink::from(far);
+    assert!(rt;
+        matches!(
+            receive(rt.alloc(), &mut far, &mut [0; 4]),
+            Err(IoCause::Raw(11))
+        )
+    );
+    drop(near);
+    Ok(())
+}
+
+#[test]
+fn duplicates_share_a_stream(rt: HostRuntime) -> Result<(), Fail> {
+    let (near, far) = UnixStream::pair(&rt)?;
+    let (near, mut far) = (UnixLink::from(near), UnixLink::from(far));
+    let Ok(mut second) = near.duplicate() else {
+        return Err(Fail::from("no duplicate"));
+    };
+    drop(near);
+    assert!(rt; matches!(second.send(b"abc", &[]), Ok(3)));
+    let mut room = [0u8; 8];
+    assert!(rt; matches!(receive(rt.alloc(), &mut far, &mut room), Ok(3)));
+    drop(second);
+    assert!(rt; matches!(receive(rt.alloc(), &mut far, &mut room), Ok(0)));
+    Ok(())
+}
+
+/// A duplicate of an endpoint's link; the endpoint itself ends.
+fn duplicate_below_endpoint(alloc: Global, link: UnixLink) -> Option<UnixLink> {
+    let endpoint = Endpoint::<Header, UnixLink>::from_stream(alloc, link, BUDGET).ok()?;
+    endpoint.try_clone_sock().ok()
+}
+
+/// A duplicate of a handler's link; the handler itself ends.
+fn duplicate_below_handler(alloc: Global, link: UnixLink) -> Option<UnixLink> {
+    let device = new_device(alloc).ok()?;
+    let handler = BackendReqHandler::from_stream(alloc, link, BUDGET, device).ok()?;
+    handler.try_clone_connection().ok()
+}
+
+#[test]
+fn duplicates_outlive_a_session(rt: HostRuntime) -> Result<(), Fail> {
+    let (near, far) = UnixStream::pair(&rt)?;
+    let near = duplicate_below_endpoint(rt.alloc(), UnixLink::from(near)).ok_or("no duplicate")?;
+    let mut near = duplicate_below_handler(rt.alloc(), near).ok_or("no duplicate")?;
+    assert!(rt; matches!(near.send(b"abc", &[]), Ok(3)));
+    let mut room = [0u8; 8];
+    assert!(rt;
+        matches!(
+            receive(rt.alloc(), &mut UnixLink::from(far), &mut room),
+            Ok(3)
+        )
+    );
+    Ok(())
+}

@@ -1,0 +1,225 @@
+//! A frontend and a handler, each in a thread of its own: every call that carries no handle, once.
+//!
+//! What is wanted of each call is what the joined run answers to it (`vhost-run`), on the same device.
+
+use crate::sockets::device::{BUDGET, QUEUES};
+use bitflags::Flags;
+use std::alloc::Global;
+use std::os::unix::net::UnixStream;
+use std::sync::{Arc, Mutex, Wait};
+use std::test::Fail;
+use std::thread;
+use std::time::Duration;
+use vhost_backend::{Error, Result, VhostBackend, VhostUserMemoryRegionInfo, VringConfigData};
+use vhost_backend_req_handler::BackendReqHandler;
+use vhost_dummy_backend::DummyBackendReqHandler;
+use vhost_frontend::{Frontend, VhostUserFrontend};
+use vhost_link::{NoHandle, UnixLink};
+use vhost_message::{
+    Error as ProtocolError, FrontendReq, VhostUserConfigFlags, VhostUserHeaderFlag,
+    VhostUserProtocolFeatures, VhostUserShMemConfig,
+};
+
+/// The protocol features that are chosen: MQ, REPLY_ACK, MTU, CONFIG, RESET_DEVICE, CONFIGURE_MEM_SLOTS, DEVICE_STATE and
+/// SHMEM.
+const CHOSEN: u64 = 0x0048_a219;
+
+/// How many requests the handler answers at most.
+const MOST: u32 = 100;
+
+/// What a call answered.
+#[derive(Clone, Copy, Debug, PartialEq, Eq)]
+enum Told {
+    Done,
+    Number(u64),
+    /// BackendInternalError: the device refused.
+    Refused,
+    /// Any other error.
+    Failed,
+}
+
+/// What an error tells.
+fn told_error(error: Error) -> Told {
+    match error {
+        Error::VhostUserProtocol(ProtocolError::BackendInternalError) => Told::Refused,
+        _ => Told::Failed,
+    }
+}
+
+fn done(answer: Result<()>) -> Told {
+    match answer {
+        Ok(()) => Told::Done,
+        Err(error) => told_error(error),
+    }
+}
+
+fn number(answer: Result<u64>) -> Told {
+    match answer {
+        Ok(number) => Told::Number(number),
+        Err(error) => told_error(error),
+    }
+}
+
+fn negotiate<F: VhostUserFrontend>(rt: &impl Wait, frontend: &mut F) -> [Told; 5] {
+    let chosen = VhostUserProtocolFeatures::from_bits_truncate(CHOSEN);
+    [
+        number(frontend.get_features(rt)),
+        done(frontend.set_owner(rt)),
+        done(frontend.set_features(rt, 0x4000_0003)),
+        number(
+            frontend
+                .get_protocol_features(rt)
+                .map(|features| features.bits()),
+        ),
+        done(frontend.set_protocol_features(rt, chosen)),
+    ]
+}
+
+const NEGOTIATED: [Told; 5] = [
+    Told::Number(0x4000_0003),
+    Told::Done,
+    Told::Done,
+    Told::Number(0x007f_ffff),
+    Told::Done,
+];
+
+fn set_rings<F: VhostUserFrontend>(rt: &impl Wait, frontend: &mut F) -> [Told; 7] {
+    let places = VringConfigData {
+        queue_max_size: 256,
+        queue_size: 256,
+        flags: 0,
+        desc_table_addr: 0x1000,
+        used_ring_addr: 0x2000,
+        avail_ring_addr: 0x3000,
+        log_addr: None,
+    };
+    [
+        number(frontend.get_queue_num(rt)),
+        done(frontend.set_vring_num(rt, 0, 256)),
+        done(frontend.set_vring_addr(rt, 0, &places)),
+        done(frontend.set_vring_base(rt, 0, 7)),
+        number(frontend.get_vring_base(rt, 0).map(u64::from)),
+        done(frontend.set_vring_enable(rt, 0, true)),
+        done(frontend.set_vring_num(rt, 1, 257)),
+    ]
+}
+
+const RINGS_SET: [Told; 7] = [
+    Told::Number(2),
+    Told::Done,
+    Told::Done,
+    Told::Done,
+    Told::Number(7),
+    Told::Done,
+    Told::Refused,
+];
+
+/// The first byte of the configuration space that is read.
+fn first_byte(frontend: &mut impl VhostUserFrontend, rt: &impl Wait) -> Result<u64> {
+    let flags = VhostUserConfigFlags::empty();
+    let (_, bytes) = frontend.get_config(rt, 0x100, 4, flags, &[0; 4])?;
+    match bytes.first() {
+        Some(byte) => Ok(u64::from(*byte)),
+        None => Ok(0),
+    }
+}
+
+fn configure<F: VhostUserFrontend + VhostBackend<Handle = NoHandle>>(
+    rt: &impl Wait,
+    frontend: &mut F,
+) -> [Told; 7] {
+    let region = VhostUserMemoryRegionInfo::new(0x1000, 0x1000, 0x7000, 0, None);
+    let flags = VhostUserConfigFlags::empty();
+    [
+        number(first_byte(frontend, rt)),
+        done(frontend.set_config(rt, 0x100, flags, &[0xa5; 4])),
+        number(frontend.get_max_mem_slots(rt)),
+        done(frontend.remove_mem_region(rt, &region)),
+        number(
+            frontend
+                .get_shmem_config(rt)
+                .map(|config| u64::from(config.nregions)),
+        ),
+        done(frontend.check_device_state(rt)),
+        done(frontend.set_mtu(rt, 1500)),
+    ]
+}
+
+const CONFIGURED: [Told; 7] = [
+    Told::Number(0xa5),
+    Told::Done,
+    Told::Number(509),
+    Told::Done,
+    Told::Number(2),
+    Told::Refused,
+    Told::Done,
+];
+
+/// The last two are refused without an answer, and none is awaited.
+fn end<F: VhostUserFrontend + VhostBackend<Handle = NoHandle>>(
+    rt: &impl Wait,
+    frontend: &mut F,
+) -> [Told; 4] {
+    [
+        done(frontend.reset_device(rt)),
+        done(frontend.reset_owner(rt)),
+        done(frontend.postcopy_ack_mem_regions(rt, FrontendReq::SET_MEM_TABLE)),
+        done(frontend.set_log_base(rt, 0x1000, None)),
+    ]
+}
+
+/// Whether each call answers what it should.
+fn ask(rt: &impl Wait, alloc: Global, link: UnixLink) -> [bool; 4] {
+    let Ok(mut frontend) = Frontend::from_stream(alloc, link, QUEUES, BUDGET) else {
+        return [false; 4];
+    };
+    let negotiated = negotiate(rt, &mut frontend) == NEGOTIATED;
+    frontend.set_hdr_flags(rt, VhostUserHeaderFlag::NEED_REPLY);
+    [
+        negotiated,
+        set_rings(rt, &mut frontend) == RINGS_SET,
+        configure(rt, &mut frontend) == CONFIGURED,
+        end(rt, &mut frontend) == [Told::Done; 4],
+    ]
+}
+
+/// Serves a session to its end; how many requests were served, and how many were refused. None: it failed.
+fn serve(rt: &impl Wait, alloc: Global, link: UnixLink) -> Option<(u32, u32)> {
+    let mut device = DummyBackendReqHandler::new(alloc, Vec::new(alloc));
+    device.set_shmem_config(VhostUserShMemConfig::new(2, &[0x1000, 0x2000]));
+    let device = Arc::new(alloc, Mutex::new(device)).ok()?;
+    let mut handler = BackendReqHandler::from_stream(alloc, link, BUDGET, device).ok()?;
+    let mut served: u32 = 0;
+    for answered in 0..MOST {
+        match handler.handle_request(rt) {
+            Ok(()) => served = served.saturating_add(1),
+            Err(ProtocolError::Disconnected) => {
+                return Some((served, answered.saturating_sub(served)));
+            }
+            Err(_) => {}
+        }
+    }
+    None
+}
+
+/// Two ends of a connection, at which no wait is endless.
+fn connection(rt: &HostRuntime) -> std::io::Result<(UnixLink, UnixLink)> {
+    let most = Some(Duration::from_secs(5));
+    let (near, far) = UnixStream::pair(rt)?;
+    near.set_read_timeout(most)?;
+    far.set_read_timeout(most)?;
+    Ok((UnixLink::from(near), UnixLink::from(far)))
+}
+
+#[test]
+fn each_call_is_answered_as_in_a_joined_run(rt: HostRuntime) -> std::result::Result<(), Fail> {
+    let (near, far) = connection(&rt)?;
+    let (served, asked) = thread::join(
+        &rt,
+        || serve(&rt, rt.alloc(), far),
+        || ask(&rt, rt.alloc(), near),
+    );
+    assert_eq!(rt; asked, [true; 4]);
+    assert_eq!(rt; served, Some((20, 3)));
+    Ok(())
+}

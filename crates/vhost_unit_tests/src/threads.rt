@@ -1,0 +1,6 @@
+//! Sessions whose sides are in two threads.
+
+mod answers;
+mod calls;
+mod clones;
+mod session;
