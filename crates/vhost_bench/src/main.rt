@@ -13,7 +13,7 @@ mod socket;
 mod talk;
 mod watch;
 
-use crate::figures::FIGURES;
+use crate::figures::{FIGURES, Figure};
 use crate::watch::Failed;
 use std::alloc::Global;
 use std::io::Write;
@@ -30,9 +30,10 @@ const TURNS: u32 = 9;
 /// How many times the work of a figure is done where only its success is shown.
 const TRIED: u64 = 10;
 
-/// Measures each figure in turns, and shows nanoseconds each; with `--try`, only whether each work succeeds.
+/// Measures each figure in turns, and shows nanoseconds each; with `--try`, only whether each work succeeds; with `--one NAME COUNT`, does
+/// one figure's work so often, and shows how often it succeeded.
 ///
-/// Status 0 where all was measured, 1 after other arguments, 2 where memory, a socket, the clock or the output failed.
+/// Status 0 where all was done, 1 after other arguments, 2 where memory, a socket, the clock or the output failed.
 fn main(rt: HostRuntime) -> ExitCode {
     let mut errors = rt.stderr();
     let Ok(words) = env::args(&rt) else {
@@ -40,15 +41,21 @@ fn main(rt: HostRuntime) -> ExitCode {
         return ExitCode::from(2);
     };
     let mut words = words.skip(1);
-    let (word, more) = (words.next(), words.next());
-    if more.is_some() {
-        return usage(&mut errors);
-    }
+    let (word, name, count) = (words.next(), words.next(), words.next());
     let mut output = io::writer(&rt);
-    let done = match word {
-        None => measure(&rt, rt.alloc(), &mut output),
-        Some(word) if word.as_str() == "--try" => attempt(&rt, rt.alloc(), &mut output),
-        Some(_) => return usage(&mut errors),
+    let done = match (word, name, count) {
+        (None, None, None) => measure(&rt, rt.alloc(), &mut output),
+        (Some(word), None, None) if word.as_str() == "--try" => {
+            attempt(&rt, rt.alloc(), &mut output)
+        }
+        (Some(word), Some(name), Some(count)) if word.as_str() == "--one" => {
+            let (Some(figure), Ok(count)) = (figure_of(name.as_str()), count.as_str().parse())
+            else {
+                return usage(&mut errors);
+            };
+            show_good(&rt, rt.alloc(), &figure, count, &mut output)
+        }
+        _ => return usage(&mut errors),
     };
     if done.is_ok() {
         return ExitCode::from(0);
@@ -61,8 +68,27 @@ fn main(rt: HostRuntime) -> ExitCode {
 }
 
 fn usage<E: Write>(errors: &mut E) -> ExitCode {
-    let _ = writeln!(errors, "usage: vhost-bench [--try]");
+    let _ = writeln!(errors, "usage: vhost-bench [--try | --one FIGURE COUNT]");
     ExitCode::from(1)
+}
+
+/// The figure of a name, if there is one.
+fn figure_of(name: &str) -> Option<Figure> {
+    FIGURES.iter().copied().find(|figure| figure.0 == name)
+}
+
+/// Does the work of a figure so often, and shows how often it succeeded.
+fn show_good<R: Threads + Wait + Clock + Net + Sync, O: Write>(
+    rt: &R,
+    alloc: Global,
+    figure: &Figure,
+    count: u64,
+    output: &mut O,
+) -> Result<(), Failed> {
+    let (name, _, work, _) = figure;
+    let good = work.take(rt, alloc, count)?.good;
+    writeln!(output, "{name} {good}")?;
+    Ok(())
 }
 
 /// Does the work of each figure a few times, and shows how often it succeeded.
@@ -71,9 +97,8 @@ fn attempt<R: Threads + Wait + Clock + Net + Sync, O: Write>(
     alloc: Global,
     output: &mut O,
 ) -> Result<(), Failed> {
-    for (name, _, work, _) in &FIGURES {
-        let good = work.take(rt, alloc, TRIED)?.good;
-        writeln!(output, "{name} {good}")?;
+    for figure in &FIGURES {
+        show_good(rt, alloc, figure, TRIED, output)?;
     }
     output.flush()?;
     Ok(())

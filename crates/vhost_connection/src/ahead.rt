@@ -62,14 +62,10 @@ fn ask<L: Link>(
     ensures asked { Asks L.event link.old result (waiting ahead.new) list.new.items link.new }
     ensures places { vec_capacity list.old ≤ vec_capacity list.new }
 {
-    match link.recv(&mut ahead.buffer[..], list) {
-        Ok(count) => {
-            ahead.start = 0;
-            ahead.end = count;
-            Ok(())
-        }
-        Err(cause) => Err(cause),
-    }
+    let count = link.recv(&mut ahead.buffer[..], list)?;
+    ahead.start = 0;
+    ahead.end = count;
+    Ok(())
 }
 
 /// Receives what fits into the room: of what waits, or where nothing waits, of what one receive of the link brings.

@@ -2,7 +2,7 @@
 use Rattle.std.specs.Prelude.{◌≡◌, ℕ, List, [], ◌++◌}
 use Rattle.vhost_link.specs.Law.{Event, Handed, Ended, Taken, Refused}
 use Rattle.vhost_protocol.specs.Stream.{Cell, plain}
-use Rattle.vhost_example_link.specs.declared.loopback.Ticket.{Ticket}
+use Rattle.vhost_examples.specs.declared.loopback.Ticket.{Ticket}
 
 -- these bytes, none of which brings a handle
 abbrev pub Plain : List (Cell Ticket) → (List ℕ → Type 0) → Type 0

@@ -2,7 +2,7 @@
 use Rattle.std.specs.Prelude.{◌≡◌, ℕ, true, false, bit_and, Result, Ok, Err, ⊤}
 use Rattle.vhost_protocol.specs.DeviceCall.{Call, Answer, GetFeatures, SetFeatures, SetOwner, ResetOwner}
 use Rattle.vhost_protocol.specs.Error.{Error, InvalidParam}
-use Rattle.vhost_example_device.specs.declared.device.Device.{Device}
+use Rattle.vhost_examples.specs.declared.device.Device.{Device}
 
 -- It offers bit 0 and the protocol features, bit 30.
 abbrev pub offered : ℕ

@@ -1,7 +1,7 @@
 use Rattle.std.proofs.Common.{◌≡◌, ◌-◌, ◌≤◌, length, take, drop, ap, sym, ◌∙◌, arith}
 use Rattle.std.proofs.lemmas.List.{length-drop, length-take, take_all}
-use Rattle.vhost_example_link.proofs.Handing.{hands_front}
-use Rattle.vhost_example_link.proofs.loopback.Loopback.hand_out.Goals as goal
+use Rattle.vhost_examples.proofs.Handing.{hands_front}
+use Rattle.vhost_examples.proofs.loopback.Loopback.hand_out.Goals as goal
 
 -- src/loopback.rt:62:5
 pub returns-clause-front : goal.returns-clause-front

@@ -33,7 +33,7 @@ pub struct Device {
 }
 
 impl VhostUserBackendReqHandlerMut for Device {
-    ghost use Rattle.vhost_example_device.specs.Device.{Gives};
+    ghost use Rattle.vhost_examples.specs.Device.{Gives};
 
     type Link = MemLink;
 

@@ -76,7 +76,7 @@ impl Loopback {
 
 impl Link for Loopback {
     ghost use Rattle.std.specs.Prelude.{⊤};
-    ghost use Rattle.vhost_example_link.specs.Loopback.{event};
+    ghost use Rattle.vhost_examples.specs.Loopback.{event};
 
     type Handle = Ticket;
 

@@ -1,9 +1,6 @@
 //! A link of one's own, and an endpoint that sends whole messages over it.
-#![tactic(auto)]
 
-mod loopback;
-
-use loopback::Loopback;
+use crate::loopback::Loopback;
 use vhost_connection::Endpoint;
 use vhost_message::{FrontendReq, VhostUserMsgHeader, VhostUserU64};
 
@@ -13,7 +10,7 @@ type Header = VhostUserMsgHeader<FrontendReq>;
 const BUDGET: u32 = 3;
 
 /// Sends SET_FEATURES to itself, reads it again, and finds the end of the stream.
-fn main(rt: HostRuntime) -> anyhow::Result<()> {
+pub(crate) fn run(rt: &HostRuntime) -> anyhow::Result<()> {
     let link = Loopback::new(rt.alloc());
     let mut endpoint: Endpoint<Header, Loopback> = Endpoint::from_stream(rt.alloc(), link, BUDGET)?;
     let header = Header::new(FrontendReq::SET_FEATURES, 0, 8);

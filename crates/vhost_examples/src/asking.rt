@@ -1,5 +1,4 @@
 //! Asks a device as a hypervisor does, over a link in memory that holds the device's answers.
-#![tactic(auto)]
 
 use bitflags::Flags;
 use vhost_frontend::Quiet;
@@ -44,7 +43,7 @@ fn show<T: Drop>(rt: &HostRuntime, name: &str, answer: Result<T>) -> anyhow::Res
     Ok(())
 }
 
-fn main(rt: HostRuntime) -> anyhow::Result<()> {
+pub(crate) fn run(rt: &HostRuntime) -> anyhow::Result<()> {
     let mut link = MemLink::new(rt.alloc(), Vec::new(rt.alloc()));
     for answer in &ANSWERS {
         link.push(answer, &[])?;
@@ -52,18 +51,18 @@ fn main(rt: HostRuntime) -> anyhow::Result<()> {
     let mut frontend = Quiet::new(rt.alloc(), link, RINGS, BUDGET)?;
     let features = negotiate(&mut frontend)?;
     println!(rt; "protocol features: {:#x}", features.bits())?;
-    show(&rt, "set_owner", frontend.set_owner())?;
+    show(rt, "set_owner", frontend.set_owner())?;
     show(
-        &rt,
+        rt,
         "set_vring_num of ring 0",
         frontend.set_vring_num(0, 1000),
     )?;
     show(
-        &rt,
+        rt,
         "set_vring_num of ring 2",
         frontend.set_vring_num(2, 256),
     )?;
     let (part, bytes) = frontend.get_config(0x100, 4, VhostUserConfigFlags::empty(), &[0; 4])?;
     println!(rt; "get_config at {:#x}: {:?}", part.offset, bytes.as_slice())?;
-    show(&rt, "get_vring_base of ring 1", frontend.get_vring_base(1))
+    show(rt, "get_vring_base of ring 1", frontend.get_vring_base(1))
 }

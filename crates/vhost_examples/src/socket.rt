@@ -1,11 +1,11 @@
 //! Serves a device over a Unix socket in one thread, and asks it as a hypervisor does from another.
-#![tactic(auto)]
 
 use std::alloc::Global;
 use std::net::Net;
 use std::rt::{Clock, Files};
 use std::sync::{Arc, Mutex, Wait};
 use std::thread;
+use std::thread::Threads;
 use vhost_backend::VhostBackend;
 use vhost_backend_req_handler::BackendListener;
 use vhost_connection::Listener;
@@ -50,16 +50,13 @@ fn ask(rt: &(impl Net + Clock + Wait), alloc: Global) -> vhost_backend::Result<(
     Ok((features, frontend.get_queue_num(rt)?))
 }
 
-fn main(rt: HostRuntime) -> anyhow::Result<()> {
-    let listener = Listener::new(&rt, rt.alloc(), PATH, true)?;
-    let (served, asked) = thread::join(
-        &rt,
-        || serve(&rt, rt.alloc(), listener),
-        || ask(&rt, rt.alloc()),
-    );
+/// The features that the device offers, how many rings it has, and how many requests it served.
+pub(crate) fn run<R: Threads + Wait + Net + Clock + Files + Sync>(
+    rt: &R,
+    alloc: Global,
+) -> anyhow::Result<(u64, u64, u64)> {
+    let listener = Listener::new(rt, alloc, PATH, true)?;
+    let (served, asked) = thread::join(rt, || serve(rt, alloc, listener), || ask(rt, alloc));
     let (features, rings) = asked?;
-    println!(rt; "features: {features:#x}")?;
-    println!(rt; "rings: {rings}")?;
-    println!(rt; "requests served: {}", served?)?;
-    Ok(())
+    Ok((features, rings, served?))
 }

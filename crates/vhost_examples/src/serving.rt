@@ -1,9 +1,6 @@
 //! Serves a device of one's own over a link in memory.
-#![tactic(auto)]
 
-mod device;
-
-use device::Device;
+use crate::device::Device;
 use vhost_backend_req_handler::SessionCore;
 use vhost_link::MemLink;
 
@@ -25,7 +22,7 @@ const REQUESTS: [(&str, &[u8]); 4] = [
 ];
 
 /// Prints how each request was answered, and what the device has become.
-fn main(rt: HostRuntime) -> anyhow::Result<()> {
+pub(crate) fn run(rt: &HostRuntime) -> anyhow::Result<()> {
     let mut link = MemLink::new(rt.alloc(), Vec::new(rt.alloc()));
     for (_, bytes) in &REQUESTS {
         link.push(bytes, &[])?;
