@@ -1,11 +1,9 @@
-//! Serves a device over a Unix socket in one thread, and asks it as a hypervisor does from another.
+//! Serves a device over a Unix socket in one thread, and asks it as a hypervisor does from another. `main` starts both.
 
 use std::alloc::Global;
 use std::net::Net;
 use std::rt::{Clock, Files};
 use std::sync::{Arc, Mutex, Wait};
-use std::thread;
-use std::thread::Threads;
 use vhost_backend::VhostBackend;
 use vhost_backend_req_handler::BackendListener;
 use vhost_connection::Listener;
@@ -14,7 +12,7 @@ use vhost_frontend::{Frontend, VhostUserFrontend};
 use vhost_message::{Error, Result, VhostUserProtocolFeatures};
 
 /// Where the device listens.
-const PATH: &str = "device.sock";
+pub(crate) const PATH: &str = "device.sock";
 
 /// How many rings the driver has at first, and how many retries a message may take.
 const RINGS: u64 = 1;
@@ -23,7 +21,11 @@ const BUDGET: u32 = 3;
 
 /// Serves the first frontend that connects until it ends the session; how many requests that were. The listener ends with
 /// it, so that nobody waits for an answer any more.
-fn serve<R: Files + Drop>(rt: &impl Wait, alloc: Global, mut listener: Listener<R>) -> Result<u64> {
+pub(crate) fn serve<R: Files + Drop>(
+    rt: &impl Wait,
+    alloc: Global,
+    mut listener: Listener<R>,
+) -> Result<u64> {
     let device = DummyBackendReqHandler::new(alloc, Vec::new(alloc));
     let Ok(device) = Arc::new(alloc, Mutex::new(device)) else {
         return Err(Error::OutOfMemory);
@@ -43,20 +45,12 @@ fn serve<R: Files + Drop>(rt: &impl Wait, alloc: Global, mut listener: Listener<
 }
 
 /// Connects, and asks for the device's features and for how many rings it has.
-fn ask(rt: &(impl Net + Clock + Wait), alloc: Global) -> vhost_backend::Result<(u64, u64)> {
+pub(crate) fn ask(
+    rt: &(impl Net + Clock + Wait),
+    alloc: Global,
+) -> vhost_backend::Result<(u64, u64)> {
     let mut frontend = Frontend::connect(rt, alloc, PATH, RINGS, BUDGET)?;
     let features = frontend.get_features(rt)?;
     frontend.set_protocol_features(rt, VhostUserProtocolFeatures::MQ)?;
     Ok((features, frontend.get_queue_num(rt)?))
-}
-
-/// The features that the device offers, how many rings it has, and how many requests it served.
-pub(crate) fn run<R: Threads + Wait + Net + Clock + Files + Sync>(
-    rt: &R,
-    alloc: Global,
-) -> anyhow::Result<(u64, u64, u64)> {
-    let listener = Listener::new(rt, alloc, PATH, true)?;
-    let (served, asked) = thread::join(rt, || serve(rt, alloc, listener), || ask(rt, alloc));
-    let (features, rings) = asked?;
-    Ok((features, rings, served?))
 }
