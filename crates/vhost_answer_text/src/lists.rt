@@ -1,12 +1,17 @@
 //! Bytes, numbers and handles, one after another.
 
+ghost use Rattle.std.specs.Prelude.{◌≡◌, ◌≤◌, length};
 ghost use Rattle.std.specs.Fmt.{WritesOnOk};
-ghost use Rattle.vhost_answer_text.specs.Numbers.{bytes_text, numbers_text};
+ghost use Rattle.std.specs.List.{flat_map};
+ghost use Rattle.vhost_answer_text.specs.Numbers.{byte_text, bytes_text, numbers_text};
 ghost use Rattle.vhost_answer_text.specs.Text.{handles_text};
 
 use std::fmt;
 use std::fmt::Formatter;
 use vhost_link::PlainHandle;
+
+/// How many bytes are shown by one write.
+const CHUNK: usize = 128;
 
 /// Shows bytes in hexadecimal, two digits each, and `-` where there is none.
 pub(crate) fn show_bytes<W: fmt::Write>(bytes: &[u8], f: &mut Formatter<W>) -> fmt::Result
@@ -15,11 +20,26 @@ pub(crate) fn show_bytes<W: fmt::Write>(bytes: &[u8], f: &mut Formatter<W>) -> f
     if bytes.is_empty() {
         return f.write_str("-");
     }
-    for byte in bytes {
-        let (high, low) = (*byte / 16, *byte % 16);
-        write!(f, "{high:x}{low:x}")?;
+    let mut room = [0u8; 2 * CHUNK];
+    for chunk in bytes.chunks(CHUNK) {
+        f.write_str(digits_of(chunk, &mut room))?;
     }
     Ok(())
+}
+
+/// The digits of a chunk, two each byte, in the front of the room that there is for them.
+fn digits_of<'a>(chunk: &[u8], room: &'a mut [u8; 2 * CHUNK]) -> &'a str
+    requires { length chunk.now ≤ 128 }
+    ensures { result.now ≡ flat_map byte_text chunk.now }
+{
+    let digits = &mut room[..2 * chunk.len()];
+    let Ok(()) = hex::encode_to_slice(chunk, digits) else {
+        unreachable!();
+    };
+    let Ok(text) = str::from_utf8(digits) else {
+        unreachable!();
+    };
+    text
 }
 
 /// Shows numbers in hexadecimal, as `0x1,0x20`, and `-` where there is none.
