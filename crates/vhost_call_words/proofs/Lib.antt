@@ -1,7 +1,8 @@
 pub mod NumberLaws
+pub mod WordLaws
+pub mod FirstWords
 pub mod ArgumentLaws
 pub mod OtherCounts
 pub mod RegionLaws
-pub mod NameLaws
 pub mod LineLaws
 pub mod Rows

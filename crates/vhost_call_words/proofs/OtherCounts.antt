@@ -1,17 +1,9 @@
 -- Lists of another length than a call takes: they ask for no call.
-use Rattle.std.proofs.Common.{◌≡◌, ℕ, ◌<◌, List, [], ◌∷◌, length, Option, None, refl, arith}
+use Rattle.std.proofs.Common.{◌≡◌, ℕ, ◌<◌, List, [], ◌∷◌, length, Option, None, refl, sym, arith}
 use Rattle.std.specs.Borrow.{Bor}
-use Rattle.vhost_protocol.specs.FrontendCall.{SetFeatures, SetProtocolFeatures, GetVringBase, SetLogFd, SetBackendRequestFd, GetSharedObject, PostcopyAckMemRegions, SetMtu, SetHdrFlags, SetVringNum, SetVringBase, SetVringCall, SetVringKick, SetVringErr, SetVringEnable}
-use Rattle.vhost_call_words.specs.Arguments.{switch, protocol_features, header_flags, handle, request, object_name}
-use Rattle.vhost_call_words.specs.Number.{u64, u16}
 use Rattle.vhost_call_words.specs.Calls.{set_log_base, set_vring_addr, get_inflight_fd, set_inflight_fd, only_region, set_device_state_fd, get_config, set_config}
-use Rattle.vhost_call_words.specs.Names.{single_row, ring_row}
 use Rattle.vhost_call_words.specs.Read.{texts}
 use Rattle.vhost_call_words.specs.Shapes.{one, two}
-use Rattle.vhost_call_words.specs.declared.name.SingleName.{SingleName}
-use Rattle.vhost_call_words.specs.declared.name.SingleName.TheVariants as single_name
-use Rattle.vhost_call_words.specs.declared.name.RingName.{RingName}
-use Rattle.vhost_call_words.specs.declared.name.RingName.TheVariants as ring_name
 
 abbrev Words : Type 0
 Words = List (Bor (List ℕ))
@@ -27,24 +19,11 @@ two-other first second call (a ∷ []) other = refl
 two-other first second call (a ∷ b ∷ []) other = absurd (other refl)
 two-other first second call (a ∷ b ∷ d ∷ ws) other = refl
 
-pub single-other : (name : SingleName) (ws : Words) → (length ws ≡ 1 → ⊥) → single_row name (texts ws) ≡ None
-single-other single_name.SetFeatures ws other = one-other u64 SetFeatures ws other
-single-other single_name.SetProtocolFeatures ws other = one-other protocol_features SetProtocolFeatures ws other
-single-other single_name.GetVringBase ws other = one-other u64 GetVringBase ws other
-single-other single_name.SetLogFd ws other = one-other handle SetLogFd ws other
-single-other single_name.SetBackendRequestFd ws other = one-other handle SetBackendRequestFd ws other
-single-other single_name.GetSharedObject ws other = one-other object_name GetSharedObject ws other
-single-other single_name.PostcopyAckMemRegions ws other = one-other request PostcopyAckMemRegions ws other
-single-other single_name.SetMtu ws other = one-other u16 SetMtu ws other
-single-other single_name.SetHdrFlags ws other = one-other header_flags SetHdrFlags ws other
+pub not_one : {A C : Type 0} (first : List ℕ → Option A) (call : A → C) (ws : Words) → (length ws ≡ 1 → ⊥) → None ≡ one first call (texts ws)
+not_one first call ws other = sym (one-other first call ws other)
 
-pub ring-other : (name : RingName) (ws : Words) → (length ws ≡ 2 → ⊥) → ring_row name (texts ws) ≡ None
-ring-other ring_name.SetVringNum ws other = two-other u64 u16 SetVringNum ws other
-ring-other ring_name.SetVringBase ws other = two-other u64 u16 SetVringBase ws other
-ring-other ring_name.SetVringCall ws other = two-other u64 handle SetVringCall ws other
-ring-other ring_name.SetVringKick ws other = two-other u64 handle SetVringKick ws other
-ring-other ring_name.SetVringErr ws other = two-other u64 handle SetVringErr ws other
-ring-other ring_name.SetVringEnable ws other = two-other u64 switch SetVringEnable ws other
+pub not_two : {A B C : Type 0} (first : List ℕ → Option A) (second : List ℕ → Option B) (call : A → B → C) (ws : Words) → (length ws ≡ 2 → ⊥) → None ≡ two first second call (texts ws)
+not_two first second call ws other = sym (two-other first second call ws other)
 
 pub set_log_base-other : (ws : Words) → (length ws ≡ 1 → ⊥) → (length ws ≡ 4 → ⊥) → set_log_base (texts ws) ≡ None
 set_log_base-other [] other other1 = refl

@@ -3,5 +3,4 @@ pub mod Number
 pub mod Arguments
 pub mod Shapes
 pub mod Calls
-pub mod Names
 pub mod Read

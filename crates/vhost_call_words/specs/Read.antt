@@ -1,5 +1,6 @@
 -- What the code reads, as the definitions see it.
-use Rattle.std.specs.Prelude.{ℕ, List, map, Option, option_map, Vec}
+use Rattle.std.specs.Prelude.{ℕ, List, [], map, Option, Some, None, option_map, Vec, codes, if◌then◌else◌}
+use Rattle.std.specs.Str.{bytes_eq}
 use Rattle.std.specs.Borrow.{Bor}
 use Rattle.std.specs.Global.{Global}
 use Rattle.vhost_link.specs.declared.plain.PlainHandle.{PlainHandle}
@@ -8,10 +9,20 @@ use Rattle.vhost_frontend_calls.specs.declared.call.FrontendCall as code
 use Rattle.vhost_frontend_calls.specs.declared.call.RegionInfo.{RegionInfo}
 use Rattle.vhost_frontend_calls.specs.Calls.{call_of, info_of}
 use Rattle.vhost_call_words.specs.Calls.{Call}
+use Rattle.vhost_call_words.specs.Words.{words}
 
 -- the texts that some words point to
 abbrev pub texts : List (Bor (List ℕ)) → List (List ℕ)
 texts words = map (λ (word : Bor (List ℕ)). word.now) words
+
+-- the words of a text, where there is one
+abbrev pub words_of : Option (Bor (List ℕ)) → List (List ℕ)
+words_of None = []
+words_of (Some text) = words text.now
+
+-- the words that the code reads as the arguments of a name: for a table of memory all of them, else the first ones
+abbrev pub read_for : (name : List ℕ) (first all : List (List ℕ)) → List (List ℕ)
+read_for name first all = if bytes_eq name (codes "set_mem_table") then all else first
 
 -- a call of the code, where there is one
 abbrev pub called : Option code.FrontendCall → Option Call

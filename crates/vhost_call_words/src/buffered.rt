@@ -1,52 +1,49 @@
-//! Calls that bring a list.
+//! Calls that bring a list. Each is none where there is another count of arguments, or where one of them is none.
 
 ghost use Rattle.std.specs.Prelude.{◌≡◌, IfOk};
 ghost use Rattle.vhost_call_words.specs.Calls.{regions, set_mem_table, get_config, set_config};
-ghost use Rattle.vhost_call_words.specs.Names.{buffered_row};
-ghost use Rattle.vhost_call_words.specs.Read.{called, texts, infos_of};
+ghost use Rattle.vhost_call_words.specs.Read.{called, texts, words_of, infos_of};
 
 use crate::argument::{byte_string, config_flags};
-use crate::name::BufferedName;
 use crate::number::number_32;
-use crate::region::only_region;
+use crate::region::first_region;
 use std::alloc::{AllocError, Global};
 use vhost_frontend_calls::{FrontendCall, RegionInfo};
-
-/// How many words a region is.
-const REGION_WORDS: usize = 5;
 
 /// The greatest buffer for a part of configuration space, in bytes.
 const MAX_BUFFER: u32 = 4096;
 
-/// Any number of regions, of five words each. AllocError: a growth was refused.
-fn regions(alloc: Global, args: &[&str]) -> Result<Option<Vec<RegionInfo>>, AllocError>
-    ensures { IfOk result (λ found. infos_of found ≡ regions (texts args.now)) }
+/// The regions of a text, of five words each. AllocError: a growth was refused.
+fn regions(alloc: Global, text: Option<&str>) -> Result<Option<Vec<RegionInfo>>, AllocError>
+    ensures { IfOk result (λ found. infos_of found ≡ regions (words_of text.entry)) }
 {
     let mut found = Vec::new(alloc);
-    let mut rest = args;
-    while !rest.is_empty() {
-        let count = rest.len().min(REGION_WORDS);
-        let Some(info) = only_region(&rest[..count]) else {
+    let mut rest = text;
+    while let Some(text) = rest {
+        let Some((info, behind)) = first_region(text) else {
             return Ok(None);
         };
         found.push(info)?;
-        rest = &rest[count..];
+        rest = behind;
     }
     Ok(Some(found))
 }
 
-/// A table of memory. AllocError: a growth was refused.
-fn set_mem_table(alloc: Global, args: &[&str]) -> Result<Option<FrontendCall>, AllocError>
-    ensures { IfOk result (λ call. called call ≡ set_mem_table (texts args.now)) }
+/// A table of memory, of any number of regions. AllocError: a growth was refused.
+pub(crate) fn set_mem_table(
+    alloc: Global,
+    text: Option<&str>,
+) -> Result<Option<FrontendCall>, AllocError>
+    ensures { IfOk result (λ call. called call ≡ set_mem_table (words_of text.entry)) }
 {
-    let Some(regions) = regions(alloc, args)? else {
+    let Some(regions) = regions(alloc, text)? else {
         return Ok(None);
     };
     Ok(Some(FrontendCall::SetMemTable(regions)))
 }
 
 /// A part of configuration space, and a buffer for it. AllocError: a growth was refused.
-fn get_config(alloc: Global, args: &[&str]) -> Result<Option<FrontendCall>, AllocError>
+pub(crate) fn get_config(alloc: Global, args: &[&str]) -> Result<Option<FrontendCall>, AllocError>
     ensures { IfOk result (λ call. called call ≡ get_config (texts args.now)) }
 {
     let [offset, size, flags] = args else {
@@ -66,7 +63,7 @@ fn get_config(alloc: Global, args: &[&str]) -> Result<Option<FrontendCall>, Allo
 }
 
 /// Bytes for a part of configuration space. AllocError: a growth was refused.
-fn set_config(alloc: Global, args: &[&str]) -> Result<Option<FrontendCall>, AllocError>
+pub(crate) fn set_config(alloc: Global, args: &[&str]) -> Result<Option<FrontendCall>, AllocError>
     ensures { IfOk result (λ call. called call ≡ set_config (texts args.now)) }
 {
     let [offset, flags, bytes] = args else {
@@ -82,20 +79,4 @@ fn set_config(alloc: Global, args: &[&str]) -> Result<Option<FrontendCall>, Allo
         return Ok(None);
     };
     Ok(Some(FrontendCall::SetConfig(offset, flags, bytes)))
-}
-
-/// The call of a name and its arguments. None where there is another count of arguments, or one of them is none.
-/// AllocError: a growth was refused.
-pub(crate) fn buffered_call(
-    alloc: Global,
-    name: BufferedName,
-    args: &[&str],
-) -> Result<Option<FrontendCall>, AllocError>
-    ensures { IfOk result (λ call. called call ≡ buffered_row name (texts args.now)) }
-{
-    match name {
-        BufferedName::SetMemTable => set_mem_table(alloc, args),
-        BufferedName::GetConfig => get_config(alloc, args),
-        BufferedName::SetConfig => set_config(alloc, args),
-    }
 }

@@ -9,12 +9,12 @@ mod argument;
 mod bare;
 mod buffered;
 mod line;
-mod name;
 mod number;
 mod region;
 mod ring;
 mod several;
 mod single;
+mod table;
 mod words;
 
 pub use line::call_of;

@@ -1,12 +1,14 @@
 //! Words as a region of guest memory.
 
-ghost use Rattle.std.specs.Prelude.{◌≡◌, option_map};
-ghost use Rattle.vhost_call_words.specs.Calls.{region, only_region};
-ghost use Rattle.vhost_call_words.specs.Read.{texts};
+ghost use Rattle.std.specs.Prelude.{◌≡◌, ◌∷◌, ◌<◌, length, IfSome, MatchOption, None, option_map};
+ghost use Rattle.vhost_call_words.specs.Calls.{region, only_region, regions};
+ghost use Rattle.vhost_call_words.specs.Read.{texts, words_of};
+ghost use Rattle.vhost_call_words.specs.Words.{words};
 ghost use Rattle.vhost_frontend_calls.specs.Calls.{info_of};
 
 use crate::argument::handle;
 use crate::number::number;
+use crate::words::first_word;
 use vhost_frontend_calls::RegionInfo;
 use vhost_message::VhostUserMemoryRegion;
 
@@ -32,4 +34,18 @@ pub(crate) fn only_region(args: &[&str]) -> Option<RegionInfo>
         return None;
     };
     region(guest, size, user, offset, mapping)
+}
+
+/// The region of the first five words of a text, and the text behind them, where there is one. None where they are no region,
+/// or too few.
+pub(crate) fn first_region(text: &str) -> Option<(RegionInfo, Option<&str>)>
+    ensures regions { MatchOption result (regions (words text.now) ≡ None) (λ found. regions (words text.now) ≡ option_map (λ infos. info_of found.0 ∷ infos) (regions (words_of found.1))) }
+    ensures fewer { IfSome result (λ found. length (words_of found.1) < length (words text.now)) }
+{
+    let (guest, rest) = first_word(text);
+    let (size, rest) = first_word(rest?);
+    let (user, rest) = first_word(rest?);
+    let (offset, rest) = first_word(rest?);
+    let (mapping, rest) = first_word(rest?);
+    Some((region(guest, size, user, offset, mapping)?, rest))
 }

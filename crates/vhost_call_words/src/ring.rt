@@ -1,26 +1,61 @@
-//! Calls of a ring's index and one argument more.
+//! Calls of a ring's index and one argument more. Each is none where there is another count of arguments, or where one of them is
+//! none.
 
 ghost use Rattle.std.specs.Prelude.{◌≡◌};
-ghost use Rattle.vhost_call_words.specs.Names.{ring_row};
+ghost use Rattle.vhost_protocol.specs.FrontendCall as value;
+ghost use Rattle.vhost_call_words.specs.Arguments.{handle, switch};
+ghost use Rattle.vhost_call_words.specs.Number.{u64, u16};
 ghost use Rattle.vhost_call_words.specs.Read.{called, texts};
+ghost use Rattle.vhost_call_words.specs.Shapes.{two};
 
 use crate::argument::{handle, switch};
-use crate::name::RingName;
 use crate::number::{index, number_16};
 use vhost_frontend_calls::FrontendCall;
 
-/// The call of a name and its arguments. None where there is another count of arguments, or one of them is none.
-pub(crate) fn ring_call(name: RingName, args: &[&str]) -> Option<FrontendCall>
-    ensures { called result ≡ ring_row name (texts args.now) }
+/// A ring and its size, in descriptors.
+pub(crate) fn set_vring_num(args: &[&str]) -> Option<FrontendCall>
+    ensures { called result ≡ two u64 u16 value.SetVringNum (texts args.now) }
 {
     let [ring, word] = args else { return None };
-    let ring = index(ring)?;
-    match name {
-        RingName::SetVringNum => Some(FrontendCall::SetVringNum(ring, number_16(word)?)),
-        RingName::SetVringBase => Some(FrontendCall::SetVringBase(ring, number_16(word)?)),
-        RingName::SetVringCall => Some(FrontendCall::SetVringCall(ring, handle(word)?)),
-        RingName::SetVringKick => Some(FrontendCall::SetVringKick(ring, handle(word)?)),
-        RingName::SetVringErr => Some(FrontendCall::SetVringErr(ring, handle(word)?)),
-        RingName::SetVringEnable => Some(FrontendCall::SetVringEnable(ring, switch(word)?)),
-    }
+    Some(FrontendCall::SetVringNum(index(ring)?, number_16(word)?))
+}
+
+/// A ring and the index of its first descriptor.
+pub(crate) fn set_vring_base(args: &[&str]) -> Option<FrontendCall>
+    ensures { called result ≡ two u64 u16 value.SetVringBase (texts args.now) }
+{
+    let [ring, word] = args else { return None };
+    Some(FrontendCall::SetVringBase(index(ring)?, number_16(word)?))
+}
+
+/// A ring and the handle by which the device tells of used buffers.
+pub(crate) fn set_vring_call(args: &[&str]) -> Option<FrontendCall>
+    ensures { called result ≡ two u64 handle value.SetVringCall (texts args.now) }
+{
+    let [ring, word] = args else { return None };
+    Some(FrontendCall::SetVringCall(index(ring)?, handle(word)?))
+}
+
+/// A ring and the handle by which the device is told of available buffers.
+pub(crate) fn set_vring_kick(args: &[&str]) -> Option<FrontendCall>
+    ensures { called result ≡ two u64 handle value.SetVringKick (texts args.now) }
+{
+    let [ring, word] = args else { return None };
+    Some(FrontendCall::SetVringKick(index(ring)?, handle(word)?))
+}
+
+/// A ring and the handle by which the device tells of errors.
+pub(crate) fn set_vring_err(args: &[&str]) -> Option<FrontendCall>
+    ensures { called result ≡ two u64 handle value.SetVringErr (texts args.now) }
+{
+    let [ring, word] = args else { return None };
+    Some(FrontendCall::SetVringErr(index(ring)?, handle(word)?))
+}
+
+/// A ring, and whether it is on.
+pub(crate) fn set_vring_enable(args: &[&str]) -> Option<FrontendCall>
+    ensures { called result ≡ two u64 switch value.SetVringEnable (texts args.now) }
+{
+    let [ring, word] = args else { return None };
+    Some(FrontendCall::SetVringEnable(index(ring)?, switch(word)?))
 }

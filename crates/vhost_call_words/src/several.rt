@@ -1,21 +1,19 @@
-//! Calls of several arguments.
+//! Calls of several arguments. Each is none where there is another count of arguments, or where one of them is none.
 
 ghost use Rattle.std.specs.Prelude.{◌≡◌};
-ghost use Rattle.vhost_call_words.specs.Calls.{set_log_base, set_vring_addr, get_inflight_fd, set_inflight_fd, set_device_state_fd};
-ghost use Rattle.vhost_call_words.specs.Names.{several_row};
+ghost use Rattle.vhost_call_words.specs.Calls.{set_log_base, set_vring_addr, get_inflight_fd, set_inflight_fd, set_device_state_fd, add_mem_region, remove_mem_region};
 ghost use Rattle.vhost_call_words.specs.Read.{called, texts};
 ghost use Rattle.vhost_call_words.specs.Number.{u64};
 ghost use Rattle.vhost_call_words.specs.Shapes.{optional};
 
 use crate::argument::{area, direction, handle, phase};
-use crate::name::SeveralName;
 use crate::number::{index, number, number_32};
 use crate::region::only_region;
 use vhost_frontend_calls::{FrontendCall, LogRegion};
 use vhost_message::VringConfigData;
 
 /// The log's base, and where the log is kept.
-fn set_log_base(args: &[&str]) -> Option<FrontendCall>
+pub(crate) fn set_log_base(args: &[&str]) -> Option<FrontendCall>
     ensures { called result ≡ set_log_base (texts args.now) }
 {
     match args {
@@ -45,7 +43,7 @@ fn optional_number(args: &[&str]) -> Option<Option<u64>>
 }
 
 /// How a ring is configured.
-fn set_vring_addr(args: &[&str]) -> Option<FrontendCall>
+pub(crate) fn set_vring_addr(args: &[&str]) -> Option<FrontendCall>
     ensures { called result ≡ set_vring_addr (texts args.now) }
 {
     let [ring, flags, descriptor, used, available, log @ ..] = args else {
@@ -65,7 +63,7 @@ fn set_vring_addr(args: &[&str]) -> Option<FrontendCall>
 }
 
 /// The area that is asked for.
-fn get_inflight_fd(args: &[&str]) -> Option<FrontendCall>
+pub(crate) fn get_inflight_fd(args: &[&str]) -> Option<FrontendCall>
     ensures { called result ≡ get_inflight_fd (texts args.now) }
 {
     let [size, offset, queues, descriptors] = args else {
@@ -76,7 +74,7 @@ fn get_inflight_fd(args: &[&str]) -> Option<FrontendCall>
 }
 
 /// The area that is given, and its handle.
-fn set_inflight_fd(args: &[&str]) -> Option<FrontendCall>
+pub(crate) fn set_inflight_fd(args: &[&str]) -> Option<FrontendCall>
     ensures { called result ≡ set_inflight_fd (texts args.now) }
 {
     let [size, offset, queues, descriptors, mapping] = args else {
@@ -87,7 +85,7 @@ fn set_inflight_fd(args: &[&str]) -> Option<FrontendCall>
 }
 
 /// Which way the state of the device goes, when, and over which handle.
-fn set_device_state_fd(args: &[&str]) -> Option<FrontendCall>
+pub(crate) fn set_device_state_fd(args: &[&str]) -> Option<FrontendCall>
     ensures { called result ≡ set_device_state_fd (texts args.now) }
 {
     let [way, time, pipe] = args else { return None };
@@ -96,17 +94,16 @@ fn set_device_state_fd(args: &[&str]) -> Option<FrontendCall>
     Some(FrontendCall::SetDeviceStateFd(way, time, handle(pipe)?))
 }
 
-/// The call of a name and its arguments. None where there is another count of arguments, or one of them is none.
-pub(crate) fn several_call(name: SeveralName, args: &[&str]) -> Option<FrontendCall>
-    ensures { called result ≡ several_row name (texts args.now) }
+/// The region that is added.
+pub(crate) fn add_mem_region(args: &[&str]) -> Option<FrontendCall>
+    ensures { called result ≡ add_mem_region (texts args.now) }
 {
-    match name {
-        SeveralName::SetLogBase => set_log_base(args),
-        SeveralName::SetVringAddr => set_vring_addr(args),
-        SeveralName::GetInflightFd => get_inflight_fd(args),
-        SeveralName::SetInflightFd => set_inflight_fd(args),
-        SeveralName::AddMemRegion => Some(FrontendCall::AddMemRegion(only_region(args)?)),
-        SeveralName::RemoveMemRegion => Some(FrontendCall::RemoveMemRegion(only_region(args)?)),
-        SeveralName::SetDeviceStateFd => set_device_state_fd(args),
-    }
+    Some(FrontendCall::AddMemRegion(only_region(args)?))
+}
+
+/// The region that is taken away.
+pub(crate) fn remove_mem_region(args: &[&str]) -> Option<FrontendCall>
+    ensures { called result ≡ remove_mem_region (texts args.now) }
+{
+    Some(FrontendCall::RemoveMemRegion(only_region(args)?))
 }

@@ -1,34 +1,90 @@
-//! Calls of one argument.
+//! Calls of one argument. Each is none where there is another count of arguments, or where the one is none.
 
 ghost use Rattle.std.specs.Prelude.{◌≡◌};
-ghost use Rattle.vhost_call_words.specs.Names.{single_row};
+ghost use Rattle.vhost_protocol.specs.FrontendCall as value;
+ghost use Rattle.vhost_call_words.specs.Arguments.{protocol_features, header_flags, handle, request, object_name};
+ghost use Rattle.vhost_call_words.specs.Number.{u64, u16};
 ghost use Rattle.vhost_call_words.specs.Read.{called, texts};
+ghost use Rattle.vhost_call_words.specs.Shapes.{one};
 
 use crate::argument::{handle, header_flags, object_name, protocol_features, request};
-use crate::name::SingleName;
 use crate::number::{index, number, number_16};
 use vhost_frontend_calls::FrontendCall;
 
-/// The call of a name and its argument. None where there is another count of arguments, or this is none.
-pub(crate) fn single_call(name: SingleName, args: &[&str]) -> Option<FrontendCall>
-    ensures { called result ≡ single_row name (texts args.now) }
+/// Virtio features to acknowledge.
+#[tactic(auto, using(crate::proofs::OtherCounts::not_one))]
+pub(crate) fn set_features(args: &[&str]) -> Option<FrontendCall>
+    ensures { called result ≡ one u64 value.SetFeatures (texts args.now) }
 {
     let [word] = args else { return None };
-    match name {
-        SingleName::SetFeatures => Some(FrontendCall::SetFeatures(number(word)?)),
-        SingleName::SetProtocolFeatures => {
-            Some(FrontendCall::SetProtocolFeatures(protocol_features(word)?))
-        }
-        SingleName::GetVringBase => Some(FrontendCall::GetVringBase(index(word)?)),
-        SingleName::SetLogFd => Some(FrontendCall::SetLogFd(handle(word)?)),
-        SingleName::SetBackendRequestFd => {
-            Some(FrontendCall::SetBackendRequestFd(handle(word)?))
-        }
-        SingleName::GetSharedObject => Some(FrontendCall::GetSharedObject(object_name(word)?)),
-        SingleName::PostcopyAckMemRegions => {
-            Some(FrontendCall::PostcopyAckMemRegions(request(word)?))
-        }
-        SingleName::SetMtu => Some(FrontendCall::SetMtu(number_16(word)?)),
-        SingleName::SetHdrFlags => Some(FrontendCall::SetHdrFlags(header_flags(word)?)),
-    }
+    Some(FrontendCall::SetFeatures(number(word)?))
+}
+
+/// Protocol features to acknowledge.
+pub(crate) fn set_protocol_features(args: &[&str]) -> Option<FrontendCall>
+    ensures { called result ≡ one protocol_features value.SetProtocolFeatures (texts args.now) }
+{
+    let [word] = args else { return None };
+    Some(FrontendCall::SetProtocolFeatures(protocol_features(word)?))
+}
+
+/// The ring that is stopped.
+#[tactic(auto, using(crate::proofs::OtherCounts::not_one))]
+pub(crate) fn get_vring_base(args: &[&str]) -> Option<FrontendCall>
+    ensures { called result ≡ one u64 value.GetVringBase (texts args.now) }
+{
+    let [word] = args else { return None };
+    Some(FrontendCall::GetVringBase(index(word)?))
+}
+
+/// The handle that tells of log writes.
+#[tactic(auto, using(crate::proofs::OtherCounts::not_one))]
+pub(crate) fn set_log_fd(args: &[&str]) -> Option<FrontendCall>
+    ensures { called result ≡ one handle value.SetLogFd (texts args.now) }
+{
+    let [word] = args else { return None };
+    Some(FrontendCall::SetLogFd(handle(word)?))
+}
+
+/// The socket of the device's own requests.
+#[tactic(auto, using(crate::proofs::OtherCounts::not_one))]
+pub(crate) fn set_backend_request_fd(args: &[&str]) -> Option<FrontendCall>
+    ensures { called result ≡ one handle value.SetBackendRequestFd (texts args.now) }
+{
+    let [word] = args else { return None };
+    Some(FrontendCall::SetBackendRequestFd(handle(word)?))
+}
+
+/// The name of a shared object.
+#[tactic(auto, using(crate::proofs::OtherCounts::not_one))]
+pub(crate) fn get_shared_object(args: &[&str]) -> Option<FrontendCall>
+    ensures { called result ≡ one object_name value.GetSharedObject (texts args.now) }
+{
+    let [word] = args else { return None };
+    Some(FrontendCall::GetSharedObject(object_name(word)?))
+}
+
+/// The request that brought the regions.
+pub(crate) fn postcopy_ack_mem_regions(args: &[&str]) -> Option<FrontendCall>
+    ensures { called result ≡ one request value.PostcopyAckMemRegions (texts args.now) }
+{
+    let [word] = args else { return None };
+    Some(FrontendCall::PostcopyAckMemRegions(request(word)?))
+}
+
+/// The greatest size of a packet, in bytes.
+#[tactic(auto, using(crate::proofs::OtherCounts::not_one))]
+pub(crate) fn set_mtu(args: &[&str]) -> Option<FrontendCall>
+    ensures { called result ≡ one u16 value.SetMtu (texts args.now) }
+{
+    let [word] = args else { return None };
+    Some(FrontendCall::SetMtu(number_16(word)?))
+}
+
+/// The flags of each request from then on.
+pub(crate) fn set_hdr_flags(args: &[&str]) -> Option<FrontendCall>
+    ensures { called result ≡ one header_flags value.SetHdrFlags (texts args.now) }
+{
+    let [word] = args else { return None };
+    Some(FrontendCall::SetHdrFlags(header_flags(word)?))
 }

@@ -1,11 +1,14 @@
-use Rattle.std.proofs.Common.{◌∙◌, rules, tests}
-use Rattle.vhost_call_words.proofs.RegionLaws.{regions-next, regions-end}
+use Rattle.std.proofs.Common.{map, ap, sym, ◌∙◌}
+use Rattle.vhost_frontend_calls.specs.Calls.{info_of}
+use Rattle.vhost_call_words.specs.Calls.{regions}
+use Rattle.vhost_call_words.specs.Read.{words_of}
+use Rattle.vhost_call_words.specs.Words.{words}
+use Rattle.vhost_call_words.proofs.RegionLaws.{behind, regions-next}
 use Rattle.vhost_call_words.proofs.buffered.regions.Goals as goal
 
 pub loop-rest-preserved : goal.loop-rest-preserved
 loop-rest-preserved c =
-    rw (c.in_ok-push.ensures {u = tt}).items (regions-next c.loop-rest.found.items c.in-Some.info c.loop-rest.rest.now c.min-count.result c.min-count.ensures (c.in-Some.ensures {u = tt}) ∙ c.loop-rest.invariant)
-
-pub returns-in_default : goal.returns-in_default
-returns-in_default c =
-    regions-end c.loop-rest.found.items c.loop-rest.rest.now c.min-count.result c.min-count.ensures (λ none. search (rules, tests)) (c.in_default.ensures {u = tt}) ∙ c.loop-rest.invariant
+    let found = c.loop-rest.found.items in
+    rw (c.in_ok-push.ensures {u = tt}).items
+    (regions-next found c.in-Some-first_region.info (words c.in-Some.text.now) (words_of c.in-Some-first_region.behind) (c.in-Some-first_region.ensures {u = tt}).regions
+    ∙ (ap (λ rest. behind (map info_of found) (regions (words_of rest))) (sym c.in-Some.is) ∙ c.loop-rest.invariant))

@@ -1,12 +1,12 @@
 use Rattle.std.proofs.Common.{◌≡◌, length, map}
 use Rattle.vhost_frontend_calls.specs.Calls.{info_of}
 use Rattle.vhost_call_words.specs.Calls.{regions}
-use Rattle.vhost_call_words.specs.Read.{texts}
+use Rattle.vhost_call_words.specs.Read.{words_of}
 use Rattle.vhost_call_words.proofs.RegionLaws.{behind}
 use Rattle.vhost_call_words.proofs.buffered.regions.Given as goal
 
 abbrev pub invariant-loop-rest : goal.invariant-loop-rest
-invariant-loop-rest l = behind (map info_of l.found.items) (regions (texts l.rest)) ≡ regions (texts l.args)
+invariant-loop-rest l = behind (map info_of l.found.items) (regions (words_of l.rest)) ≡ regions (words_of l.fn.text)
 
 abbrev pub decreases-loop-rest : goal.decreases-loop-rest
-decreases-loop-rest l = length l.rest
+decreases-loop-rest l = length (words_of l.rest)

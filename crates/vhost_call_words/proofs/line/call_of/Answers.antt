@@ -1,6 +1,5 @@
 use Rattle.std.proofs.Common.{◌≡◌, ap, sym, ◌∙◌}
 use Rattle.vhost_call_words.specs.Calls.{call_in, call_named}
-use Rattle.vhost_call_words.specs.Read.{texts}
 use Rattle.vhost_call_words.specs.Words.{words}
 use Rattle.vhost_call_words.proofs.LineLaws.{call_in-utf8, call_in-not_utf8}
 use Rattle.vhost_call_words.proofs.line.call_of.Goals as goal
@@ -11,9 +10,6 @@ returns-in_default c = sym (call_in-not_utf8 c.args.line.now (c.in_default.ensur
 pub returns : goal.returns
 returns c =
     let text = (c.in-Ok.ensures {u = tt}).cases in
-    let e : call_in c.args.line.now ≡ call_named (texts c.deref.result.now) =
-    call_in-utf8 c.args.line.now text.1
-    ∙ ap (λ line. call_named (words line)) (sym text.0)
-    ∙ ap call_named (sym (c.in_ok-words.ensures {u = tt}))
-    ∙ ap (λ ws. call_named (texts ws)) (sym c.deref.ensures.value) in
-    rw e c.call_of_words.ensures
+    let e : call_in c.args.line.now ≡ call_named (words c.in-Ok.text.now) =
+    call_in-utf8 c.args.line.now text.1 ∙ ap (λ line. call_named (words line)) (sym text.0) in
+    rw e c.call_of_text.ensures
