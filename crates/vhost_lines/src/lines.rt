@@ -102,13 +102,17 @@ fn answer_lines<I: BufRead, W: Write>(
     Err(Fault::Input(io::Error::from(ErrorKind::FileTooLarge)))
 }
 
-/// Both sides as they begin.
-fn new_session(alloc: Global) -> Result<Session, Fault>
-    ensures { IfOk result (λ session. IsFresh session) }
+/// Both sides as they begin, which are too large for a frame.
+#[inline(never)]
+fn new_session(alloc: Global) -> Result<Box<Session>, Fault>
+    ensures { IfOk result (λ session. IsFresh session.value) }
 {
     let device = new_device(alloc)?;
     let scripts = (Vec::new(alloc), Vec::new(alloc));
-    Ok(Joined::new(alloc, device, 2, 3, scripts)?)
+    match Box::new(alloc, Joined::new(alloc, device, 2, 3, scripts)?) {
+        Ok(session) => Ok(session),
+        Err(_) => Err(Fault::OutOfMemory),
+    }
 }
 
 /// Reads the next line without its end. False where there is none.
@@ -126,6 +130,7 @@ fn read_line<I: BufRead>(input: &mut I, line: &mut Vec<u8>) -> io::Result<bool>
 }
 
 /// Does a call, and makes its line.
+#[inline(never)]
 fn show_call(session: &mut Session, call: &FrontendCall, shown: &mut Vec<u8>) -> Result<(), Fault>
     ensures { OnOk result (Answers session.old (call_of call.now) shown.new.items session.new) }
 {

@@ -41,6 +41,7 @@ impl<D: VhostUserBackendReqHandlerMut<Link = MemLink>> Joined<D> {
     /// device has at most so many queues, and a message may take so many retries.
     ///
     /// `Halt::OutOfMemory`: a growth was refused.
+    #[inline(never)]
     pub fn new(
         alloc: Global,
         device: D,

@@ -1,6 +1,7 @@
 //! A frontend and a handler joined over links in memory, in lockstep.
 #![tactic(auto)]
 
+mod begin;
 mod halt;
 mod joined;
 mod sides;

@@ -7,6 +7,7 @@ ghost use Rattle.vhost_pair.specs.Lists.{IsListedFor};
 ghost use Rattle.vhost_pair.specs.Sides.{ends};
 ghost use Rattle.vhost_pair.specs.declared.halt.Stop.TheVariants.{Premise};
 
+use crate::begin::{new_asking, new_serving};
 use crate::halt::{Halt, Stop};
 use crate::ways::{
     carry_reply, carry_request, copy_reply, copy_request, make_reply_list, make_request_list,
@@ -51,6 +52,7 @@ impl<D: VhostUserBackendReqHandlerMut<Link = MemLink>> Sides<D> {
     /// Two new sessions over two new links, which are cut as the scripts say.
     ///
     /// OutOfMemory: a growth was refused.
+    #[inline(never)]
     pub fn new(
         alloc: Global,
         device: D,
@@ -68,8 +70,8 @@ impl<D: VhostUserBackendReqHandlerMut<Link = MemLink>> Sides<D> {
             return Err(Error::OutOfMemory);
         };
         Ok(Sides {
-            frontend: FrontendInternal::new(alloc, asking, max_queue_num, budget)?,
-            handler: SessionCore::new(alloc, serving, budget)?,
+            frontend: new_asking(alloc, asking, max_queue_num, budget)?,
+            handler: new_serving(alloc, serving, budget)?,
             device,
             request,
             reply,
@@ -135,6 +137,7 @@ impl<D: VhostUserBackendReqHandlerMut<Link = MemLink>> Sides<D> {
     }
 
     /// Ends a call whose request was not sent.
+    #[inline(never)]
     fn unsent(&mut self, error: Error) -> Exchanged
         ensures { EndsUnsent error (parts_of self.old) result (parts_of self.new) }
     {
@@ -151,6 +154,7 @@ impl<D: VhostUserBackendReqHandlerMut<Link = MemLink>> Sides<D> {
     }
 
     /// Has a request served that was sent, and takes its answer.
+    #[inline(never)]
     fn serve(&mut self, call: &FrontendCall, sent: Sent) -> Exchanged
         requires sent { IsSent (call_of call.now) }
         requires awaited { MayAwait (call_of call.now) sent.awaited }
@@ -173,6 +177,7 @@ impl<D: VhostUserBackendReqHandlerMut<Link = MemLink>> Sides<D> {
 
     /// Carries what the frontend sent to the handler, has it served, and carries back what the handler sent. None: it
     /// found no room on its way.
+    #[inline(never)]
     fn hand_over(&mut self) -> Option<Result<()>>
         ensures { HandsOver D.gives (parts_of self.old) result (parts_of self.new) }
     {

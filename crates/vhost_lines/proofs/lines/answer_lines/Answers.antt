@@ -46,7 +46,7 @@ pub returns-in_err-write_line-in-Some-clause-front : goal.returns-in_err-write_l
 returns-in_err-write_line-in-Some-clause-front g c =
     let some : Some (call_of c.in-Some.call) ≡ call_in c.read_line.new.line.items = rw c.deref.ensures.value at (rw c.in-Some.is at (c.in_ok-call.ensures {u = tt})) in
     front-next Steps request_of reply_of stopped_of IsFresh _ _ _ _ _ _ _ c.read_line.new.line.items (call_of c.in-Some.call) c.show_call.new.shown.items c.show_call.new.session _ _
-    (c.in_ok-session.ensures {u = tt}) c.loop-number.invariant (rw c.in-Ok-true.field-0-test at (c.in-Ok-true.ensures {u = tt})) some (c.in_ok-show_call-in-Some.ensures {u = tt})
+    (c.in_ok-session.ensures {u = tt}) c.loop-number.invariant (rw c.in-Ok-true.field-0-test at (c.in-Ok-true.ensures {u = tt})) some (rw c.deref_mut.ensures.value at (c.in_ok-show_call-in-Some.ensures {u = tt}))
     (rw c.deref-in-Some.ensures.value at (c.in_err-write_line-in-Some.ensures {u = tt}))
 
 pub returns-clause-front : goal.returns-clause-front
@@ -56,4 +56,4 @@ pub loop-number-preserved : goal.loop-number-preserved
 loop-number-preserved g c =
     let some : Some (call_of c.in-Some.call) ≡ call_in c.read_line.new.line.items = rw c.deref.ensures.value at (rw c.in-Some.is at (c.in_ok-call.ensures {u = tt})) in
     goes-more Steps request_of reply_of stopped_of _ _ _ _ _ _ _ c.read_line.new.line.items (call_of c.in-Some.call) c.show_call.new.shown.items _ _ _ c.loop-number.invariant (rw c.in-Ok-true.field-0-test at (c.in-Ok-true.ensures {u = tt})) some
-    (c.in_ok-show_call-in-Some.ensures {u = tt}) (rw c.deref-in-Some.ensures.value at (c.in_ok-write_line-in-Some.ensures {u = tt}))
+    (rw c.deref_mut.ensures.value at (c.in_ok-show_call-in-Some.ensures {u = tt})) (rw c.deref-in-Some.ensures.value at (c.in_ok-write_line-in-Some.ensures {u = tt}))
