@@ -142,6 +142,7 @@ fn show_call(session: &mut Session, call: &FrontendCall, shown: &mut Vec<u8>) ->
 }
 
 /// Makes the line of an answered call, unless a link failed or memory was refused in its middle.
+#[inline(never)]
 fn show_answer(session: &Session, answer: &FrontendAnswer, shown: &mut Vec<u8>) -> Result<(), Fault>
     ensures premises { OnOk result (stopped_of session.now ≢ Some Premise) }
     ensures line { OnOk result (shown.new.items ≡ line_text (request_of session.now) (reply_of session.now) answer.now) }

@@ -108,6 +108,7 @@ impl<D: VhostUserBackendReqHandlerMut<Link = MemLink>> Sides<D> {
     /// Does a call whose lists were made.
     ///
     /// `Halt::OutOfMemory`: there was no room for its answer; nothing changed.
+    #[inline(never)]
     pub fn exchange(&mut self, call: &FrontendCall) -> std::result::Result<Exchanged, Halt>
         requires { HaveLists (parts_of self.old) }
         ensures done { Exchanges D.gives (call_of call.now) (parts_of self.old) result (parts_of self.new) }
