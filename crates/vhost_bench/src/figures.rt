@@ -74,7 +74,7 @@ impl Work {
 }
 
 /// All figures.
-pub(crate) const FIGURES: [Figure; 22] = [
+pub(crate) const FIGURES: [Figure; 24] = [
     ("copy_message", 1_000_000, Work::CopyMessage, None),
     (
         "check_header",
@@ -177,4 +177,15 @@ pub(crate) const FIGURES: [Figure; 22] = [
         Work::Lines("get_features"),
         None,
     ),
+    ("line_set_mem_table_8", 10_000, Work::Lines(TABLE), None),
+    (
+        "line_get_config_4084",
+        2_000,
+        Work::Lines("get_config 0 4084 0"),
+        None,
+    ),
 ];
+
+/// A line that gives eight regions.
+const TABLE: &str =
+    "set_mem_table 0 0x1000 0x7000 0 1 0x1000 0x1000 0x8000 0 2 0x2000 0x1000 0x9000 0 3 0x3000 0x1000 0xa000 0 4 0x4000 0x1000 0xb000 0 5 0x5000 0x1000 0xc000 0 6 0x6000 0x1000 0xd000 0 7 0x7000 0x1000 0xe000 0 8";

@@ -35,18 +35,25 @@ pub(crate) fn serve_queued(
     let (mut near, far) = UnixStream::pair(rt)?;
     let mut core = SessionCore::new(alloc, UnixLink::from(far), BUDGET)?;
     let mut device = Ready::new(alloc);
-    let (mut good, mut left): (u64, u64) = (0, count);
+    let messages = batch(alloc, QUEUED)?;
+    let mut good = 0u64;
     let watch = Watch::start(rt)?;
-    for _ in 0..count {
-        if left == 0 {
-            break;
-        }
-        let some = left.min(QUEUED);
-        near.write_all(&batch(alloc, some)?)?;
-        good = good.wrapping_add(serve(&mut core, &mut device, some));
-        left = left.saturating_sub(some);
+    for _ in 0..count / QUEUED {
+        near.write_all(&messages)?;
+        good = good.wrapping_add(serve(&mut core, &mut device, QUEUED));
     }
+    near.write_all(&batch(alloc, count % QUEUED)?)?;
+    good = good.wrapping_add(serve(&mut core, &mut device, count % QUEUED));
     watch.stop(rt, count, good)
+}
+
+/// Reads so many messages, each by one read.
+fn read_each(stream: &mut UnixStream, count: u64) -> Result<u64, Failed> {
+    let mut room = [0u8; 20];
+    for _ in 0..count {
+        stream.read_exact(&mut room)?;
+    }
+    Ok(count)
 }
 
 /// The same messages wait, and are read, each by one read.
@@ -56,21 +63,15 @@ pub(crate) fn read_queued(
     count: u64,
 ) -> Result<Taken, Failed> {
     let (mut near, mut far) = UnixStream::pair(rt)?;
-    let (mut good, mut left): (u64, u64) = (0, count);
-    let mut room = [0u8; 20];
+    let messages = batch(alloc, QUEUED)?;
+    let mut good = 0u64;
     let watch = Watch::start(rt)?;
-    for _ in 0..count {
-        if left == 0 {
-            break;
-        }
-        let some = left.min(QUEUED);
-        near.write_all(&batch(alloc, some)?)?;
-        for _ in 0..some {
-            far.read_exact(&mut room)?;
-            good = good.wrapping_add(1);
-        }
-        left = left.saturating_sub(some);
+    for _ in 0..count / QUEUED {
+        near.write_all(&messages)?;
+        good = good.wrapping_add(read_each(&mut far, QUEUED)?);
     }
+    near.write_all(&batch(alloc, count % QUEUED)?)?;
+    good = good.wrapping_add(read_each(&mut far, count % QUEUED)?);
     watch.stop(rt, count, good)
 }
 
