@@ -37,6 +37,9 @@ def main():
             print(f"{name} {mine:.1f} {middle:.1f} {mine / max(middle, 0.1):.2f}")
         else:
             print(f"{name} {mine:.1f} - -")
+    for name in other[0]:
+        if name not in own[0]:
+            print(f"{name} - {statistics.median(it[name] for it in other):.1f} -")
 
 
 main()
