@@ -1,0 +1,187 @@
+//! The answer that was taken last is read, by its form.
+
+use crate::holder::Holder;
+use crate::records::{Config, Inflight, fd_of};
+use crate::refusal::{Refusal, number_of};
+use std::alloc::Global;
+use vhost_frontend_calls::FrontendAnswer;
+
+type Outcome = Result<(), Refusal>;
+
+/// Reads a number, or features.
+#[unsafe(no_mangle)]
+pub extern "C" fn covretin_answer_number(
+    alloc: Global,
+    session: &mut Holder,
+    number: &mut u64,
+) -> i32 {
+    let Some(held) = session.take(alloc) else {
+        return number_of(Err(Refusal::NoSession));
+    };
+    let outcome = read_number(held.answer(), number);
+    session.put(held);
+    number_of(outcome)
+}
+
+/// Reads where regions are mapped, if the device listens for page faults; else their count is 0.
+#[unsafe(no_mangle)]
+pub extern "C" fn covretin_answer_bases(
+    alloc: Global,
+    session: &mut Holder,
+    bases: &mut [u64],
+    count: &mut usize,
+) -> i32 {
+    let Some(held) = session.take(alloc) else {
+        return number_of(Err(Refusal::NoSession));
+    };
+    let outcome = read_bases(held.answer(), bases, count);
+    session.put(held);
+    number_of(outcome)
+}
+
+/// Reads a part of the configuration space, and its bytes.
+#[unsafe(no_mangle)]
+pub extern "C" fn covretin_answer_config(
+    alloc: Global,
+    session: &mut Holder,
+    config: &mut Config,
+    bytes: &mut [u8],
+    count: &mut usize,
+) -> i32 {
+    let Some(held) = session.take(alloc) else {
+        return number_of(Err(Refusal::NoSession));
+    };
+    let outcome = read_config(held.answer(), config, bytes, count);
+    session.put(held);
+    number_of(outcome)
+}
+
+/// Reads a descriptor; -1 is none, where the call may do without.
+#[unsafe(no_mangle)]
+pub extern "C" fn covretin_answer_fd(alloc: Global, session: &mut Holder, fd: &mut i32) -> i32 {
+    let Some(held) = session.take(alloc) else {
+        return number_of(Err(Refusal::NoSession));
+    };
+    let outcome = read_fd(held.answer(), fd);
+    session.put(held);
+    number_of(outcome)
+}
+
+/// Reads the buffer for descriptors in flight, and the descriptor that maps it.
+#[unsafe(no_mangle)]
+pub extern "C" fn covretin_answer_inflight(
+    alloc: Global,
+    session: &mut Holder,
+    inflight: &mut Inflight,
+    fd: &mut i32,
+) -> i32 {
+    let Some(held) = session.take(alloc) else {
+        return number_of(Err(Refusal::NoSession));
+    };
+    let outcome = read_inflight(held.answer(), inflight, fd);
+    session.put(held);
+    number_of(outcome)
+}
+
+/// Reads the sizes of the regions of shared memory, in bytes, 0 where there is none; `count` is how many regions there are.
+#[unsafe(no_mangle)]
+pub extern "C" fn covretin_answer_shmem(
+    alloc: Global,
+    session: &mut Holder,
+    sizes: &mut [u64],
+    count: &mut usize,
+) -> i32 {
+    let Some(held) = session.take(alloc) else {
+        return number_of(Err(Refusal::NoSession));
+    };
+    let outcome = read_shmem(held.answer(), sizes, count);
+    session.put(held);
+    number_of(outcome)
+}
+
+fn read_number(answer: &FrontendAnswer, number: &mut u64) -> Outcome {
+    match answer {
+        FrontendAnswer::Number(value) => {
+            *number = *value;
+            Ok(())
+        }
+        _ => Err(Refusal::OtherAnswer),
+    }
+}
+
+fn read_bases(answer: &FrontendAnswer, places: &mut [u64], count: &mut usize) -> Outcome {
+    match answer {
+        FrontendAnswer::Bases(Some(bases)) => put(bases, places, count),
+        FrontendAnswer::Base(Some(base)) => put(&[*base], places, count),
+        FrontendAnswer::Bases(None) | FrontendAnswer::Base(None) => put(&[], places, count),
+        _ => Err(Refusal::OtherAnswer),
+    }
+}
+
+fn read_config(
+    answer: &FrontendAnswer,
+    place: &mut Config,
+    room: &mut [u8],
+    count: &mut usize,
+) -> Outcome {
+    match answer {
+        FrontendAnswer::Config(part, bytes) => {
+            put(bytes, room, count)?;
+            *place = Config {
+                offset: part.offset,
+                size: part.size,
+                flags: part.flags,
+            };
+            Ok(())
+        }
+        _ => Err(Refusal::OtherAnswer),
+    }
+}
+
+fn read_fd(answer: &FrontendAnswer, fd: &mut i32) -> Outcome {
+    match answer {
+        FrontendAnswer::Handle(handle) | FrontendAnswer::StateHandle(Some(handle)) => {
+            *fd = fd_of(*handle);
+            Ok(())
+        }
+        FrontendAnswer::StateHandle(None) => {
+            *fd = -1;
+            Ok(())
+        }
+        _ => Err(Refusal::OtherAnswer),
+    }
+}
+
+fn read_inflight(answer: &FrontendAnswer, place: &mut Inflight, fd: &mut i32) -> Outcome {
+    match answer {
+        FrontendAnswer::Inflight(data, handle) => {
+            *place = Inflight::of(data);
+            *fd = fd_of(*handle);
+            Ok(())
+        }
+        _ => Err(Refusal::OtherAnswer),
+    }
+}
+
+fn read_shmem(answer: &FrontendAnswer, sizes: &mut [u64], count: &mut usize) -> Outcome {
+    match answer {
+        FrontendAnswer::ShmemConfig(config) => {
+            put(&config.memory_sizes, sizes, count)?;
+            *count = config.nregions as usize;
+            Ok(())
+        }
+        _ => Err(Refusal::OtherAnswer),
+    }
+}
+
+/// Copies a list to the front of a place; `count` is how long it is.
+///
+/// NoRoom: the place is too small, and nothing changed.
+fn put<T: Copy>(list: &[T], place: &mut [T], count: &mut usize) -> Outcome {
+    if list.len() > place.len() {
+        return Err(Refusal::NoRoom);
+    }
+    place[..list.len()].copy_from_slice(list);
+    *count = list.len();
+    Ok(())
+}

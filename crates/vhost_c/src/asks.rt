@@ -1,0 +1,315 @@
+//! Asks whose arguments are numbers and records.
+
+use crate::holder::Holder;
+use crate::records::{Inflight, Region, Vring, infos_of};
+use crate::refusal::{Refusal, number_of};
+use bitflags::Flags;
+use std::alloc::Global;
+use uuid::Uuid;
+use vhost_frontend_calls::FrontendCall;
+use vhost_message::{
+    Error, FrontendReq, MAX_MSG_SIZE, VhostUserConfigFlags, VhostUserHeaderFlag,
+    VhostUserProtocolFeatures, VhostUserSharedMsg,
+};
+
+/// Asks a session, if there is one.
+pub(crate) fn asked(alloc: Global, holder: &mut Holder, call: FrontendCall) -> i32 {
+    let Some(mut session) = holder.take(alloc) else {
+        return number_of(Err(Refusal::NoSession));
+    };
+    let outcome = session.ask(call);
+    holder.put(session);
+    number_of(outcome)
+}
+
+/// Refuses arguments of which no call can be made.
+pub(crate) fn refused(error: Error) -> i32 {
+    number_of(Err(Refusal::Protocol(error)))
+}
+
+/// The flags of each request from now on. Nothing is sent for it, and nothing to be taken.
+#[unsafe(no_mangle)]
+pub extern "C" fn covretin_set_hdr_flags(alloc: Global, session: &mut Holder, flags: u32) -> i32 {
+    let flags = VhostUserHeaderFlag::from_bits_retain(flags);
+    asked(alloc, session, FrontendCall::SetHdrFlags(flags))
+}
+
+/// Asks for the features that the device offers.
+#[unsafe(no_mangle)]
+pub extern "C" fn covretin_ask_get_features(alloc: Global, session: &mut Holder) -> i32 {
+    asked(alloc, session, FrontendCall::GetFeatures)
+}
+
+/// Acknowledges features.
+#[unsafe(no_mangle)]
+pub extern "C" fn covretin_ask_set_features(
+    alloc: Global,
+    session: &mut Holder,
+    features: u64,
+) -> i32 {
+    asked(alloc, session, FrontendCall::SetFeatures(features))
+}
+
+/// Takes the device.
+#[unsafe(no_mangle)]
+pub extern "C" fn covretin_ask_set_owner(alloc: Global, session: &mut Holder) -> i32 {
+    asked(alloc, session, FrontendCall::SetOwner)
+}
+
+/// Gives the device back.
+#[unsafe(no_mangle)]
+pub extern "C" fn covretin_ask_reset_owner(alloc: Global, session: &mut Holder) -> i32 {
+    asked(alloc, session, FrontendCall::ResetOwner)
+}
+
+/// Asks for the protocol features that the device offers.
+#[unsafe(no_mangle)]
+pub extern "C" fn covretin_ask_get_protocol_features(alloc: Global, session: &mut Holder) -> i32 {
+    asked(alloc, session, FrontendCall::GetProtocolFeatures)
+}
+
+/// Acknowledges protocol features.
+#[unsafe(no_mangle)]
+pub extern "C" fn covretin_ask_set_protocol_features(
+    alloc: Global,
+    session: &mut Holder,
+    features: u64,
+) -> i32 {
+    asked(
+        alloc,
+        session,
+        FrontendCall::SetProtocolFeatures(VhostUserProtocolFeatures::from_bits_retain(features)),
+    )
+}
+
+/// Asks how many queues the device has.
+#[unsafe(no_mangle)]
+pub extern "C" fn covretin_ask_get_queue_num(alloc: Global, session: &mut Holder) -> i32 {
+    asked(alloc, session, FrontendCall::GetQueueNum)
+}
+
+/// Resets the device.
+#[unsafe(no_mangle)]
+pub extern "C" fn covretin_ask_reset_device(alloc: Global, session: &mut Holder) -> i32 {
+    asked(alloc, session, FrontendCall::ResetDevice)
+}
+
+/// Sets a ring's size, in descriptors.
+#[unsafe(no_mangle)]
+pub extern "C" fn covretin_ask_set_vring_num(
+    alloc: Global,
+    session: &mut Holder,
+    index: usize,
+    num: u16,
+) -> i32 {
+    asked(alloc, session, FrontendCall::SetVringNum(index, num))
+}
+
+/// Sets where a ring lies.
+#[unsafe(no_mangle)]
+pub extern "C" fn covretin_ask_set_vring_addr(
+    alloc: Global,
+    session: &mut Holder,
+    index: usize,
+    ring: &Vring,
+) -> i32 {
+    asked(
+        alloc,
+        session,
+        FrontendCall::SetVringAddr(index, ring.data()),
+    )
+}
+
+/// Sets at which descriptor a ring begins.
+#[unsafe(no_mangle)]
+pub extern "C" fn covretin_ask_set_vring_base(
+    alloc: Global,
+    session: &mut Holder,
+    index: usize,
+    base: u16,
+) -> i32 {
+    asked(alloc, session, FrontendCall::SetVringBase(index, base))
+}
+
+/// Stops a ring, and asks at which descriptor it goes on.
+#[unsafe(no_mangle)]
+pub extern "C" fn covretin_ask_get_vring_base(
+    alloc: Global,
+    session: &mut Holder,
+    index: usize,
+) -> i32 {
+    asked(alloc, session, FrontendCall::GetVringBase(index))
+}
+
+/// Enables or disables a ring.
+#[unsafe(no_mangle)]
+pub extern "C" fn covretin_ask_set_vring_enable(
+    alloc: Global,
+    session: &mut Holder,
+    index: usize,
+    enable: bool,
+) -> i32 {
+    asked(alloc, session, FrontendCall::SetVringEnable(index, enable))
+}
+
+/// Asks for the buffer for descriptors in flight.
+#[unsafe(no_mangle)]
+pub extern "C" fn covretin_ask_get_inflight_fd(
+    alloc: Global,
+    session: &mut Holder,
+    inflight: &Inflight,
+) -> i32 {
+    asked(alloc, session, FrontendCall::GetInflightFd(inflight.data()))
+}
+
+/// Asks how many regions of memory the device takes.
+#[unsafe(no_mangle)]
+pub extern "C" fn covretin_ask_get_max_mem_slots(alloc: Global, session: &mut Holder) -> i32 {
+    asked(alloc, session, FrontendCall::GetMaxMemSlots)
+}
+
+/// Adds a region of memory.
+#[unsafe(no_mangle)]
+pub extern "C" fn covretin_ask_add_mem_region(
+    alloc: Global,
+    session: &mut Holder,
+    region: &Region,
+) -> i32 {
+    asked(alloc, session, FrontendCall::AddMemRegion(region.info()))
+}
+
+/// Removes a region of memory.
+#[unsafe(no_mangle)]
+pub extern "C" fn covretin_ask_remove_mem_region(
+    alloc: Global,
+    session: &mut Holder,
+    region: &Region,
+) -> i32 {
+    asked(alloc, session, FrontendCall::RemoveMemRegion(region.info()))
+}
+
+/// Asks for the regions of shared memory.
+#[unsafe(no_mangle)]
+pub extern "C" fn covretin_ask_get_shmem_config(alloc: Global, session: &mut Holder) -> i32 {
+    asked(alloc, session, FrontendCall::GetShmemConfig)
+}
+
+/// Asks whether the transfer of the device's state succeeded.
+#[unsafe(no_mangle)]
+pub extern "C" fn covretin_ask_check_device_state(alloc: Global, session: &mut Holder) -> i32 {
+    asked(alloc, session, FrontendCall::CheckDeviceState)
+}
+
+/// Tells that postcopy is going to begin, and asks for the descriptor of page faults.
+#[unsafe(no_mangle)]
+pub extern "C" fn covretin_ask_postcopy_advise(alloc: Global, session: &mut Holder) -> i32 {
+    asked(alloc, session, FrontendCall::PostcopyAdvise)
+}
+
+/// Tells the device to listen for page faults.
+#[unsafe(no_mangle)]
+pub extern "C" fn covretin_ask_postcopy_listen(alloc: Global, session: &mut Holder) -> i32 {
+    asked(alloc, session, FrontendCall::PostcopyListen)
+}
+
+/// Tells that postcopy has ended.
+#[unsafe(no_mangle)]
+pub extern "C" fn covretin_ask_postcopy_end(alloc: Global, session: &mut Holder) -> i32 {
+    asked(alloc, session, FrontendCall::PostcopyEnd)
+}
+
+/// Tells the greatest size of a packet, in bytes.
+#[unsafe(no_mangle)]
+pub extern "C" fn covretin_ask_set_mtu(alloc: Global, session: &mut Holder, mtu: u16) -> i32 {
+    asked(alloc, session, FrontendCall::SetMtu(mtu))
+}
+
+/// Asks for bytes of the configuration space, from `offset` on.
+#[unsafe(no_mangle)]
+pub extern "C" fn covretin_ask_get_config(
+    alloc: Global,
+    session: &mut Holder,
+    offset: u32,
+    size: u32,
+    flags: u32,
+) -> i32 {
+    if size as usize > MAX_MSG_SIZE {
+        return refused(Error::InvalidParam);
+    }
+    let flags = VhostUserConfigFlags::from_bits_retain(flags);
+    match Vec::from_elem(alloc, 0u8, size as usize) {
+        Ok(bytes) => asked(
+            alloc,
+            session,
+            FrontendCall::GetConfig(offset, size, flags, bytes),
+        ),
+        Err(_) => refused(Error::OutOfMemory),
+    }
+}
+
+/// Writes bytes of the configuration space, from `offset` on.
+#[unsafe(no_mangle)]
+pub extern "C" fn covretin_ask_set_config(
+    alloc: Global,
+    session: &mut Holder,
+    offset: u32,
+    flags: u32,
+    bytes: &[u8],
+) -> i32 {
+    if bytes.len() > MAX_MSG_SIZE {
+        return refused(Error::InvalidParam);
+    }
+    let flags = VhostUserConfigFlags::from_bits_retain(flags);
+    match Vec::from_slice(alloc, bytes) {
+        Ok(bytes) => asked(
+            alloc,
+            session,
+            FrontendCall::SetConfig(offset, flags, bytes),
+        ),
+        Err(_) => refused(Error::OutOfMemory),
+    }
+}
+
+/// Gives the regions of guest memory.
+#[unsafe(no_mangle)]
+pub extern "C" fn covretin_ask_set_mem_table(
+    alloc: Global,
+    session: &mut Holder,
+    regions: &[Region],
+) -> i32 {
+    match infos_of(alloc, regions) {
+        Ok(infos) => asked(alloc, session, FrontendCall::SetMemTable(infos)),
+        Err(error) => refused(error),
+    }
+}
+
+/// Asks for the descriptor of a shared object, by its name of 16 bytes.
+#[unsafe(no_mangle)]
+pub extern "C" fn covretin_ask_get_shared_object(
+    alloc: Global,
+    session: &mut Holder,
+    name: &[u8],
+) -> i32 {
+    if name.len() != 16 {
+        return refused(Error::InvalidParam);
+    }
+    let mut bytes = [0; 16];
+    bytes.copy_from_slice(name);
+    let name = VhostUserSharedMsg {
+        uuid: Uuid::from_bytes(bytes),
+    };
+    asked(alloc, session, FrontendCall::GetSharedObject(name))
+}
+
+/// Acknowledges that the regions are mapped which the request of this number brought.
+#[unsafe(no_mangle)]
+pub extern "C" fn covretin_ask_postcopy_ack_mem_regions(
+    alloc: Global,
+    session: &mut Holder,
+    request: u32,
+) -> i32 {
+    match FrontendReq::try_from(request) {
+        Ok(code) => asked(alloc, session, FrontendCall::PostcopyAckMemRegions(code)),
+        Err(()) => refused(Error::InvalidParam),
+    }
+}

@@ -1,0 +1,15 @@
+//! The asking side for programs in C: a session whose link is its caller's.
+#![tactic(auto)]
+
+mod answers;
+mod asks;
+mod fd_asks;
+mod holder;
+mod incoming;
+mod loose;
+mod moving;
+mod opening;
+mod outgoing;
+mod records;
+mod refusal;
+mod session;

@@ -1,0 +1,68 @@
+//! What a session sends goes out, what came for it is taken in, and its answers are taken.
+
+use crate::holder::Holder;
+use crate::refusal::{Refusal, number_of};
+use std::alloc::Global;
+
+/// Hands out a piece of what is to be sent: bytes, and the descriptors that go with the first of them.
+#[unsafe(no_mangle)]
+pub extern "C" fn covretin_to_send(
+    alloc: Global,
+    session: &mut Holder,
+    bytes: &mut [u8],
+    fds: &mut [i32],
+    byte_count: &mut usize,
+    fd_count: &mut usize,
+) -> i32 {
+    let Some(mut held) = session.take(alloc) else {
+        return number_of(Err(Refusal::NoSession));
+    };
+    let outcome = held.hand_out(bytes, fds);
+    session.put(held);
+    match outcome {
+        Ok((bytes, fds)) => {
+            *byte_count = bytes;
+            *fd_count = fds;
+            0
+        }
+        Err(refusal) => number_of(Err(refusal)),
+    }
+}
+
+/// How many bytes can be told to be missing of the answer: 0 where it may be taken.
+#[unsafe(no_mangle)]
+pub extern "C" fn covretin_missing(alloc: Global, session: &mut Holder) -> usize {
+    let Some(held) = session.take(alloc) else {
+        return 0;
+    };
+    let missing = held.missing();
+    session.put(held);
+    missing
+}
+
+/// Takes in bytes of the answer, with the descriptors that came with the first of them.
+#[unsafe(no_mangle)]
+pub extern "C" fn covretin_receive(
+    alloc: Global,
+    session: &mut Holder,
+    bytes: &[u8],
+    fds: &[i32],
+) -> i32 {
+    let Some(mut held) = session.take(alloc) else {
+        return number_of(Err(Refusal::NoSession));
+    };
+    let outcome = held.receive(bytes, fds);
+    session.put(held);
+    number_of(outcome)
+}
+
+/// Takes the answer of the call that was asked.
+#[unsafe(no_mangle)]
+pub extern "C" fn covretin_take(alloc: Global, session: &mut Holder) -> i32 {
+    let Some(mut held) = session.take(alloc) else {
+        return number_of(Err(Refusal::NoSession));
+    };
+    let outcome = held.take();
+    session.put(held);
+    number_of(outcome)
+}

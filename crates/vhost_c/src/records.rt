@@ -1,0 +1,179 @@
+//! Records as a program in C writes them.
+
+ghost use Rattle.std.specs.Prelude.{◌≡◌, IfSome};
+
+use std::alloc::Global;
+use vhost_frontend_calls::{LogRegion, RegionInfo};
+use vhost_link::{Kind, PlainHandle};
+use vhost_message::{
+    Error, MAX_MEM_REGIONS, Result, VhostUserInflight, VhostUserMemoryRegion, VringConfigData,
+};
+
+/// A region of guest memory and the descriptor that maps it: `covretin_region`.
+#[repr(C)]
+#[derive(Drop, Clone, Copy)]
+pub struct Region {
+    pub guest_phys_addr: u64,
+    /// In bytes.
+    pub memory_size: u64,
+    pub user_addr: u64,
+    /// Where it begins in what the descriptor maps, in bytes.
+    pub mmap_offset: u64,
+    /// Negative: none.
+    pub fd: i32,
+}
+
+/// Where a ring lies: `covretin_vring`.
+#[repr(C)]
+#[derive(Drop, Clone, Copy)]
+pub struct Vring {
+    /// In descriptors.
+    pub queue_max_size: u16,
+    /// In descriptors.
+    pub queue_size: u16,
+    /// Bit 0: writes to the used ring are logged.
+    pub flags: u32,
+    pub desc_table_addr: u64,
+    pub used_ring_addr: u64,
+    pub avail_ring_addr: u64,
+    /// Where they are logged.
+    pub log_addr: u64,
+    /// Whether `log_addr` counts.
+    pub has_log_addr: bool,
+}
+
+/// The buffer for descriptors in flight: `covretin_inflight`.
+#[repr(C)]
+#[derive(Drop, Clone, Copy)]
+pub struct Inflight {
+    /// In bytes.
+    pub mmap_size: u64,
+    /// In bytes.
+    pub mmap_offset: u64,
+    pub num_queues: u16,
+    pub queue_size: u16,
+}
+
+/// A part of the configuration space: `covretin_config`.
+#[repr(C)]
+#[derive(Drop, Clone, Copy)]
+pub struct Config {
+    /// In bytes.
+    pub offset: u32,
+    /// In bytes.
+    pub size: u32,
+    pub flags: u32,
+}
+
+impl Region {
+    /// The region of a call.
+    pub(crate) fn info(&self) -> RegionInfo {
+        RegionInfo {
+            region: VhostUserMemoryRegion::new(
+                self.guest_phys_addr,
+                self.memory_size,
+                self.user_addr,
+                self.mmap_offset,
+            ),
+            mmap_handle: handle_of(self.fd),
+        }
+    }
+
+    /// The region as the place of a log.
+    pub(crate) fn log(&self) -> LogRegion {
+        LogRegion {
+            mmap_size: self.memory_size,
+            mmap_offset: self.mmap_offset,
+            mmap_handle: handle_of(self.fd),
+        }
+    }
+}
+
+impl Vring {
+    /// The ring of a call.
+    pub(crate) fn data(&self) -> VringConfigData {
+        VringConfigData {
+            queue_max_size: self.queue_max_size,
+            queue_size: self.queue_size,
+            flags: self.flags,
+            desc_table_addr: self.desc_table_addr,
+            used_ring_addr: self.used_ring_addr,
+            avail_ring_addr: self.avail_ring_addr,
+            log_addr: if self.has_log_addr {
+                Some(self.log_addr)
+            } else {
+                None
+            },
+        }
+    }
+}
+
+impl Inflight {
+    /// The buffer of a call.
+    pub(crate) fn data(&self) -> VhostUserInflight {
+        VhostUserInflight::new(
+            self.mmap_size,
+            self.mmap_offset,
+            self.num_queues,
+            self.queue_size,
+        )
+    }
+
+    /// The buffer of an answer.
+    pub(crate) fn of(data: &VhostUserInflight) -> Inflight {
+        Inflight {
+            mmap_size: data.mmap_size,
+            mmap_offset: data.mmap_offset,
+            num_queues: data.num_queues,
+            queue_size: data.queue_size,
+        }
+    }
+}
+
+/// The regions of a table.
+///
+/// InvalidParam: there are more than a table may have. OutOfMemory: a growth was refused.
+pub(crate) fn infos_of(alloc: Global, regions: &[Region]) -> Result<Vec<RegionInfo>> {
+    if regions.len() > MAX_MEM_REGIONS {
+        return Err(Error::InvalidParam);
+    }
+    let mut infos = Vec::new(alloc);
+    for region in regions {
+        if infos.push(region.info()).is_err() {
+            return Err(Error::OutOfMemory);
+        }
+    }
+    Ok(infos)
+}
+
+/// The handle whose number is that of the descriptor. None: it is negative.
+pub(crate) fn handle_of(fd: i32) -> Option<PlainHandle> {
+    match u32::try_from(fd) {
+        Ok(id) => Some(PlainHandle {
+            id,
+            kind: Kind::NoSocket,
+        }),
+        Err(_) => None,
+    }
+}
+
+/// The handles of descriptors.
+///
+/// InvalidParam: one is negative. OutOfMemory: a growth was refused.
+pub(crate) fn handles_of(alloc: Global, fds: &[i32]) -> Result<Vec<PlainHandle>> {
+    let mut handles = Vec::new(alloc);
+    for fd in fds {
+        let Some(handle) = handle_of(*fd) else {
+            return Err(Error::InvalidParam);
+        };
+        if handles.push(handle).is_err() {
+            return Err(Error::OutOfMemory);
+        }
+    }
+    Ok(handles)
+}
+
+/// The descriptor whose number a handle has, or -1.
+pub(crate) fn fd_of(handle: PlainHandle) -> i32 {
+    i32::try_from(handle.id).unwrap_or(-1)
+}

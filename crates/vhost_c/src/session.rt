@@ -1,0 +1,149 @@
+//! A frontend's session whose link is its caller's.
+
+use crate::incoming::Incoming;
+use crate::outgoing::{Outgoing, forget, give};
+use crate::records::handles_of;
+use crate::refusal::Refusal;
+use std::alloc::Global;
+use vhost_frontend_calls::{FrontendAnswer, FrontendCall, ask, take};
+use vhost_frontend_core::{Awaited, FrontendInternal, Sent};
+use vhost_link::MemLink;
+use vhost_message::{Error, MAX_ATTACHED_FD_ENTRIES};
+
+type Outcome<T> = std::result::Result<T, Refusal>;
+
+/// A link in memory is asked once: what it can't do it will not do.
+const BUDGET: u32 = 0;
+
+/// A call whose answer is still to be taken.
+#[derive(Drop)]
+struct Asked {
+    call: FrontendCall,
+    sent: Sent,
+}
+
+/// A session: the frontend, what is to be sent, and what is awaited.
+#[derive(Drop)]
+pub struct Session {
+    frontend: FrontendInternal<MemLink>,
+    outgoing: Outgoing,
+    asked: Option<Asked>,
+    incoming: Incoming,
+    answer: FrontendAnswer,
+    alloc: Global,
+}
+
+impl Session {
+    /// A new session with a device of at most so many queues.
+    ///
+    /// OutOfMemory: a growth was refused.
+    pub(crate) fn new(alloc: Global, max_queue_num: u64) -> Outcome<Session> {
+        let link = MemLink::new(alloc, Vec::new(alloc));
+        let Ok(outgoing) = Outgoing::new(alloc) else {
+            return Err(Refusal::Protocol(Error::OutOfMemory));
+        };
+        Ok(Session {
+            frontend: FrontendInternal::new(alloc, link, max_queue_num, BUDGET)?,
+            outgoing,
+            asked: None,
+            incoming: Incoming::new(),
+            answer: FrontendAnswer::Done,
+            alloc,
+        })
+    }
+
+    /// Asks. What is to be sent then waits to be handed out.
+    ///
+    /// NotTaken: the answer of the call before is still to be taken. The errors of the call. After each, nothing more is to
+    /// be sent than before.
+    pub(crate) fn ask(&mut self, call: FrontendCall) -> Outcome<()> {
+        if self.asked.is_some() {
+            return Err(Refusal::NotTaken);
+        }
+        self.outgoing.collect(self.frontend.endpoint_mut())?;
+        match ask(&mut self.frontend, &call) {
+            Ok(Some(sent)) => {
+                self.incoming = Incoming::new();
+                self.asked = Some(Asked { call, sent });
+                Ok(())
+            }
+            Ok(None) => Ok(()),
+            Err(error) => {
+                forget(self.alloc, self.frontend.endpoint_mut());
+                Err(Refusal::Protocol(error))
+            }
+        }
+    }
+
+    /// Hands out a piece of what is to be sent; the answer is how many bytes and descriptors. Nothing is left to be sent
+    /// where it is 0.
+    ///
+    /// NoRoom: there is no room for a byte, or not for all descriptors that one may bring. OutOfMemory: a growth was
+    /// refused. After each, nothing changed.
+    pub(crate) fn hand_out(
+        &mut self,
+        bytes: &mut [u8],
+        fds: &mut [i32],
+    ) -> Outcome<(usize, usize)> {
+        if bytes.is_empty() || fds.len() < MAX_ATTACHED_FD_ENTRIES {
+            return Err(Refusal::NoRoom);
+        }
+        self.outgoing.collect(self.frontend.endpoint_mut())?;
+        Ok(self.outgoing.hand_out(bytes, fds))
+    }
+
+    /// How many bytes can be told to be missing of the answer.
+    pub(crate) fn missing(&self) -> usize {
+        match &self.asked {
+            None => 0,
+            Some(asked) => match asked.sent.awaited() {
+                Awaited::Nobody => 0,
+                _ => self.incoming.missing(),
+            },
+        }
+    }
+
+    /// Takes in bytes of the answer, with the descriptors that came with the first of them.
+    ///
+    /// TooManyBytes: they are more than are missing. InvalidParam: descriptors without a byte, more than a message may
+    /// have, or a negative one. OutOfMemory: a growth was refused. After each, nothing changed.
+    pub(crate) fn receive(&mut self, bytes: &[u8], fds: &[i32]) -> Outcome<()> {
+        if bytes.len() > self.missing() {
+            return Err(Refusal::TooManyBytes);
+        }
+        if fds.len() > MAX_ATTACHED_FD_ENTRIES || bytes.is_empty() && !fds.is_empty() {
+            return Err(Refusal::Protocol(Error::InvalidParam));
+        }
+        let handles = handles_of(self.alloc, fds)?;
+        give(self.frontend.endpoint_mut(), bytes, &handles)?;
+        self.incoming.add(bytes);
+        Ok(())
+    }
+
+    /// Takes the answer of the call that was asked.
+    ///
+    /// NothingAsked, NotYet: nothing changed. The errors of the call; after these, nothing is asked any more.
+    pub(crate) fn take(&mut self) -> Outcome<()> {
+        if self.missing() > 0 {
+            return Err(Refusal::NotYet);
+        }
+        let Some(asked) = self.asked.take() else {
+            return Err(Refusal::NothingAsked);
+        };
+        match take(&mut self.frontend, &asked.call, asked.sent) {
+            FrontendAnswer::Failed(error) => {
+                self.answer = FrontendAnswer::Done;
+                Err(Refusal::Protocol(error))
+            }
+            answer => {
+                self.answer = answer;
+                Ok(())
+            }
+        }
+    }
+
+    /// The answer that was taken last.
+    pub(crate) fn answer(&self) -> &FrontendAnswer {
+        &self.answer
+    }
+}
