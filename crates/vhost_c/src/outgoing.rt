@@ -1,6 +1,6 @@
 //! What is to be sent.
 
-ghost use Rattle.std.specs.Prelude.{◌≤◌, length, vec_capacity};
+ghost use Rattle.std.specs.Prelude.{◌<◌, ◌≤◌, length, vec_capacity};
 ghost use Rattle.vhost_message.specs.declared.limits.TheConstants.{MAX_ATTACHED_FD_ENTRIES};
 
 use crate::records::fd_of;

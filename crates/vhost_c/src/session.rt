@@ -111,10 +111,10 @@ impl Session {
         if bytes.len() > self.missing() {
             return Err(Refusal::TooManyBytes);
         }
-        if fds.len() > MAX_ATTACHED_FD_ENTRIES || bytes.is_empty() && !fds.is_empty() {
+        let handles = handles_of(self.alloc, fds)?;
+        if handles.len() > MAX_ATTACHED_FD_ENTRIES || bytes.is_empty() && !fds.is_empty() {
             return Err(Refusal::Protocol(Error::InvalidParam));
         }
-        let handles = handles_of(self.alloc, fds)?;
         give(self.frontend.endpoint_mut(), bytes, &handles)?;
         self.incoming.add(bytes);
         Ok(())
@@ -127,10 +127,10 @@ impl Session {
         if self.missing() > 0 {
             return Err(Refusal::NotYet);
         }
-        let Some(asked) = self.asked.take() else {
+        let Some(Asked { call, sent }) = self.asked.take() else {
             return Err(Refusal::NothingAsked);
         };
-        match take(&mut self.frontend, &asked.call, asked.sent) {
+        match take(&mut self.frontend, &call, sent) {
             FrontendAnswer::Failed(error) => {
                 self.answer = FrontendAnswer::Done;
                 Err(Refusal::Protocol(error))
