@@ -121,7 +121,7 @@ static void malformed(void)
     expect_text("\1\0\0\0\1\0\0\0\0\0\0\0", 12);
     EXPECT(0, covretin_receive(&session, (const uint8_t *)"\1\0\0\0\5\0\0\0\377\377\377\377", 12, fds, 0));
     EXPECT(0, covretin_missing(&session));
-    EXPECT(COVRETIN_INVALID_MESSAGE, covretin_take(&session));
+    EXPECT(COVRETIN_PARTIAL_MESSAGE, covretin_take(&session));
     EXPECT(COVRETIN_NOTHING_ASKED, covretin_take(&session));
     covretin_close(&session);
     EXPECT(0, session.opaque != NULL);

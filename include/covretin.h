@@ -62,7 +62,7 @@ enum covretin_error {
     COVRETIN_INVALID_SOCKET_FD = 6,
     COVRETIN_NOT_UNIX_SOCKET = 7,
     COVRETIN_NOT_STREAM_SOCKET = 8,
-    COVRETIN_PARTIAL_MESSAGE = 9,         /* the answer is cut short: close the session */
+    COVRETIN_PARTIAL_MESSAGE = 9,         /* the answer is cut short, or longer than a message: close the session */
     COVRETIN_DISCONNECTED = 10,
     COVRETIN_OVERSIZED_MSG = 11,
     COVRETIN_INCORRECT_FDS = 12,          /* the answer came with a wrong number of descriptors */
