@@ -3,6 +3,7 @@
 
 mod answers;
 mod asks;
+mod carrying;
 mod fd_asks;
 mod holder;
 mod incoming;

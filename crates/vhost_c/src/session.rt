@@ -1,13 +1,14 @@
 //! A frontend's session whose link is its caller's.
 
+use crate::carrying::{collect, forget, give};
 use crate::incoming::Incoming;
-use crate::outgoing::{Outgoing, forget, give};
+use crate::outgoing::Outgoing;
 use crate::records::handles_of;
 use crate::refusal::Refusal;
 use std::alloc::Global;
 use vhost_frontend_calls::{FrontendAnswer, FrontendCall, ask, take};
 use vhost_frontend_core::{Awaited, FrontendInternal, Sent};
-use vhost_link::MemLink;
+use vhost_link::{MemLink, stream_law};
 use vhost_message::{Error, MAX_ATTACHED_FD_ENTRIES};
 
 type Outcome<T> = std::result::Result<T, Refusal>;
@@ -34,6 +35,11 @@ pub struct Session {
 }
 
 impl Session {
+    ghost use Rattle.std.specs.Prelude.{◌≡◌, [], IfOk, IfErr};
+    ghost use Rattle.vhost_frontend_core.specs.Frontend.{endpoint_of};
+    ghost use Rattle.vhost_frontend_calls.specs.Calls.{call_of};
+    ghost use Rattle.vhost_c.specs.Session.{Asks, Stays, Refused, Fails, remembers};
+
     /// A new session with a device of at most so many queues.
     ///
     /// OutOfMemory: a growth was refused.
@@ -56,11 +62,31 @@ impl Session {
     ///
     /// NotTaken: the answer of the call before is still to be taken. The errors of the call. After each, nothing more is to
     /// be sent than before.
-    pub(crate) fn ask(&mut self, call: FrontendCall) -> Outcome<()> {
+    pub(crate) fn ask(&mut self, call: FrontendCall) -> Outcome<()>
+        ensures asked { IfOk result (λ _. Asks (call_of call) self.old self.new) }
+        ensures refused { IfErr result (λ _. Stays self.old self.new) }
+        ensures reason { IfErr result (λ r. Refused (call_of call) self.old r) }
+    {
         if self.asked.is_some() {
             return Err(Refusal::NotTaken);
         }
-        self.outgoing.collect(self.frontend.endpoint_mut())?;
+        match collect(&mut self.frontend, &mut self.outgoing.link) {
+            Ok(()) => match self.ask_now(call) {
+                Ok(()) => Ok(()),
+                Err(error) => Err(Refusal::Protocol(error)),
+            },
+            Err(error) => Err(Refusal::Protocol(error)),
+        }
+    }
+
+    /// Asks where the frontend's link has nothing that is to be sent.
+    fn ask_now(&mut self, call: FrontendCall) -> std::result::Result<(), Error>
+        requires unsent { (endpoint_of self.old.frontend).link.sent ≡ [] }
+        ensures asked { IfOk result (λ _. Asks (call_of call) self.old self.new) }
+        ensures refused { IfErr result (λ _. Stays self.old self.new) }
+        ensures reason { IfErr result (λ e. Fails (call_of call) (remembers self.old) e) }
+    {
+        stream_law();
         match ask(&mut self.frontend, &call) {
             Ok(Some(sent)) => {
                 self.incoming = Incoming::new();
@@ -69,8 +95,8 @@ impl Session {
             }
             Ok(None) => Ok(()),
             Err(error) => {
-                forget(self.alloc, self.frontend.endpoint_mut());
-                Err(Refusal::Protocol(error))
+                forget(self.alloc, &mut self.frontend);
+                Err(error)
             }
         }
     }
@@ -88,7 +114,7 @@ impl Session {
         if bytes.is_empty() || fds.len() < MAX_ATTACHED_FD_ENTRIES {
             return Err(Refusal::NoRoom);
         }
-        self.outgoing.collect(self.frontend.endpoint_mut())?;
+        collect(&mut self.frontend, &mut self.outgoing.link)?;
         Ok(self.outgoing.hand_out(bytes, fds))
     }
 
@@ -115,7 +141,7 @@ impl Session {
         if handles.len() > MAX_ATTACHED_FD_ENTRIES || bytes.is_empty() && !fds.is_empty() {
             return Err(Refusal::Protocol(Error::InvalidParam));
         }
-        give(self.frontend.endpoint_mut(), bytes, &handles)?;
+        give(&mut self.frontend, bytes, &handles)?;
         self.incoming.add(bytes);
         Ok(())
     }

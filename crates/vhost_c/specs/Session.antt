@@ -1,0 +1,59 @@
+-- What the calls of a session do.
+use Rattle.std.specs.Prelude.{◌≡◌, ℕ, List, [], ◌++◌, Option, Some, None, is_some, true}
+use Rattle.vhost_message.specs.declared.error.Error as declared
+use Rattle.vhost_message.specs.declared.error.Error.TheVariants.{OutOfMemory}
+use Rattle.vhost_message.specs.declared.frontend_req.FrontendReq.{FrontendReq}
+use Rattle.vhost_message.specs.FrontendReq.{request_number}
+use Rattle.vhost_protocol.specs.Ask.{ask, Asked, Sends, Refuses}
+use Rattle.vhost_protocol.specs.declared.asked.Awaited.{Awaited}
+use Rattle.vhost_protocol.specs.Error.{seen}
+use Rattle.vhost_protocol.specs.FrontendCall.{FrontendCall, SetHdrFlags, Frontend}
+use Rattle.vhost_protocol.specs.Stream.{Cell}
+use Rattle.vhost_protocol.specs.Written.{Written, written_cells}
+use Rattle.vhost_link.specs.Ends.{Ends}
+use Rattle.vhost_link.specs.declared.plain.PlainHandle.{PlainHandle}
+use Rattle.vhost_connection.specs.Talk.{State}
+use Rattle.vhost_frontend_core.specs.Frontend.{endpoint_of, session_of, awaits}
+use Rattle.vhost_c.specs.declared.refusal.Refusal.{Refusal}
+use Rattle.vhost_c.specs.declared.refusal.Refusal.TheVariants.{NotTaken, Protocol}
+use Rattle.vhost_c.specs.declared.session.Session.{Session}
+
+-- what is to be sent: bytes, each with the descriptors that go with it
+abbrev pub queued : Session → List (Cell PlainHandle)
+queued s = s.outgoing.link.pending ++ (endpoint_of s.frontend).link.sent
+
+-- what came, and was not taken
+abbrev pub arrived : Session → List (Cell PlainHandle)
+arrived s = (endpoint_of s.frontend).link.pending
+
+-- what is remembered of the device
+abbrev pub remembers : Session → Frontend
+remembers s = session_of s.frontend
+
+-- What an endpoint sent is behind what is to be sent, and nothing else changed.
+pub record Collects (old new : State Ends PlainHandle) (before after : List (Cell PlainHandle)) : Type 0 where
+  pub given : new ≡ record old { link = record old.link { sent = [] } }
+  pub got : after ≡ before ++ old.link.sent
+
+-- A call was asked: its request is behind what was to be sent before, and what is remembered and awaited is the definitions'; or nothing is sent for it, and it was done.
+pub data Asks (call : FrontendCall PlainHandle) (old new : Session) : Type 0 where
+  sent : (w : Written FrontendReq PlainHandle) → ask (remembers old) call ≡ Sends w (awaits new.frontend) (remembers new)
+      → queued new ≡ queued old ++ written_cells request_number w → Asks call old new
+  at_once : (flags : ℕ) → call ≡ SetHdrFlags flags → remembers new ≡ record (remembers old) { header_flags = flags } → queued new ≡ queued old → Asks call old new
+
+-- Why a call was not asked: its own tests say so; or memory was refused, before or on its way.
+pub data Fails (call : FrontendCall PlainHandle) (f : Frontend) : declared.Error → Type 0 where
+  refused : {e : declared.Error} → ask f call ≡ Refuses (seen e) → Fails call f e
+  no_memory : Fails call f OutOfMemory
+  unsent : {e : declared.Error} (w : Written FrontendReq PlainHandle) (a : Awaited) (f' : Frontend) → ask f call ≡ Sends w a f' → Fails call f e
+
+-- A call was not asked: nothing more is to be sent, and what is remembered and asked is as before.
+pub record Stays (old new : Session) : Type 0 where
+  pub queue : queued new ≡ queued old
+  pub memory : remembers new ≡ remembers old
+  pub asked : new.asked ≡ old.asked
+
+-- Why a session refused to ask: the answer before is still to be taken; or the call failed.
+pub data Refused (call : FrontendCall PlainHandle) (s : Session) : Refusal → Type 0 where
+  busy : is_some s.asked ≡ true → Refused call s NotTaken
+  fails : {e : declared.Error} → Fails call (remembers s) e → Refused call s (Protocol e)
