@@ -134,7 +134,7 @@ typedef struct covretin_config {
 /* -- Sessions ------------------------------------------------------------------------------------------------------ */
 
 /* Opens a session with a device of at most so many queues. SESSION_OPEN; OUT_OF_MEMORY. After an error nothing changed. */
-int32_t covretin_open(covretin_session *session, uint64_t max_queue_num);
+enum covretin_error covretin_open(covretin_session *session, uint64_t max_queue_num);
 
 /* Frees what the session held; it is {0} again. Descriptors are not closed. A session that is not open stays so. */
 void covretin_close(covretin_session *session);
@@ -146,7 +146,7 @@ void covretin_close(covretin_session *session);
  * so the caller sends all of it, in this order; where a sendmsg takes only a part, the rest follows without descriptors.
  * bytes_len is 1 at least, and COVRETIN_MAX_MESSAGE is enough for any request; fds_len is COVRETIN_MAX_FDS at least.
  * NO_SESSION, NO_ROOM, OUT_OF_MEMORY: the counts were not written, and nothing is gone. */
-int32_t covretin_to_send(covretin_session *session, uint8_t *bytes, size_t bytes_len, int32_t *fds, size_t fds_len,
+enum covretin_error covretin_to_send(covretin_session *session, uint8_t *bytes, size_t bytes_len, int32_t *fds, size_t fds_len,
                          size_t *byte_count, size_t *fd_count);
 
 /* How many bytes to read for the answer of the call that was asked; 0 where it may be taken. First the 12 bytes of its
@@ -156,39 +156,39 @@ size_t covretin_missing(covretin_session *session);
 /* Takes in bytes of the answer: a part of those that are missing, or all, and the descriptors that came with the first of
  * them. NO_SESSION; TOO_MANY_BYTES; INVALID_PARAM: descriptors without a byte, more than COVRETIN_MAX_FDS, or a negative
  * one; OUT_OF_MEMORY. After an error nothing was taken in. Where the socket ends before nothing is missing, close the session. */
-int32_t covretin_receive(covretin_session *session, const uint8_t *bytes, size_t bytes_len, const int32_t *fds,
+enum covretin_error covretin_receive(covretin_session *session, const uint8_t *bytes, size_t bytes_len, const int32_t *fds,
                          size_t fds_len);
 
 /* Takes the answer of the call that was asked: whether it succeeded. NO_SESSION, NOTHING_ASKED, NOT_YET: nothing changed.
  * After all others nothing is asked any more, and there is no answer to be read: BACKEND_INTERNAL_ERROR: the device refused,
  * and the session goes on. INCORRECT_FDS: the answer's descriptors are wrong in number, or where none may be.
  * INVALID_MESSAGE and the like: close the session. */
-int32_t covretin_take(covretin_session *session);
+enum covretin_error covretin_take(covretin_session *session);
 
 /* -- The answer that was taken last ---------------------------------------------------------------------------------
  * It can be read until the next covretin_take. NO_SESSION; OTHER_ANSWER; NO_ROOM. After an error nothing was written. */
 
 /* Of get_features, get_protocol_features, get_queue_num, get_vring_base, get_max_mem_slots. */
-int32_t covretin_answer_number(covretin_session *session, uint64_t *number);
+enum covretin_error covretin_answer_number(covretin_session *session, uint64_t *number);
 
 /* Of set_mem_table and add_mem_region: where the regions are mapped, in the order of the request, if the device listens for
  * page faults; else *count is 0. bases_len is the number of regions at least. */
-int32_t covretin_answer_bases(covretin_session *session, uint64_t *bases, size_t bases_len, size_t *count);
+enum covretin_error covretin_answer_bases(covretin_session *session, uint64_t *bases, size_t bases_len, size_t *count);
 
 /* Of get_config: *count bytes. bytes_len is the size that was asked for at least. */
-int32_t covretin_answer_config(covretin_session *session, covretin_config *config, uint8_t *bytes, size_t bytes_len,
+enum covretin_error covretin_answer_config(covretin_session *session, covretin_config *config, uint8_t *bytes, size_t bytes_len,
                                size_t *count);
 
 /* Of get_shared_object, postcopy_advise and set_device_state_fd: a descriptor that was handed in with the answer. -1 after
  * set_device_state_fd: the device uses the one that it was given. */
-int32_t covretin_answer_fd(covretin_session *session, int32_t *fd);
+enum covretin_error covretin_answer_fd(covretin_session *session, int32_t *fd);
 
 /* Of get_inflight_fd. */
-int32_t covretin_answer_inflight(covretin_session *session, covretin_inflight *inflight, int32_t *fd);
+enum covretin_error covretin_answer_inflight(covretin_session *session, covretin_inflight *inflight, int32_t *fd);
 
 /* Of get_shmem_config: 256 sizes, 0 where there is no region; *count is how many regions the device has. sizes_len is 256
  * at least. */
-int32_t covretin_answer_shmem(covretin_session *session, uint64_t *sizes, size_t sizes_len, size_t *count);
+enum covretin_error covretin_answer_shmem(covretin_session *session, uint64_t *sizes, size_t sizes_len, size_t *count);
 
 /* -- Asks -----------------------------------------------------------------------------------------------------------
  * Each makes its request, which covretin_to_send then hands out. After an error nothing more is to be sent than before.
@@ -197,73 +197,73 @@ int32_t covretin_answer_shmem(covretin_session *session, uint64_t *sizes, size_t
  * COVRETIN_NEED_REPLY is set; else nothing is awaited, and a refusal by the device is not seen. */
 
 /* The flags of each request from now on: COVRETIN_NEED_REPLY, or 0. Nothing is sent for it, and nothing is to be taken. */
-int32_t covretin_set_hdr_flags(covretin_session *session, uint32_t flags);
+enum covretin_error covretin_set_hdr_flags(covretin_session *session, uint32_t flags);
 
-int32_t covretin_ask_get_features(covretin_session *session);
+enum covretin_error covretin_ask_get_features(covretin_session *session);
 /* Acknowledges, of these, the ones that the device offered. */
-int32_t covretin_ask_set_features(covretin_session *session, uint64_t features);
-int32_t covretin_ask_set_owner(covretin_session *session);
-int32_t covretin_ask_reset_owner(covretin_session *session);
+enum covretin_error covretin_ask_set_features(covretin_session *session, uint64_t features);
+enum covretin_error covretin_ask_set_owner(covretin_session *session);
+enum covretin_error covretin_ask_reset_owner(covretin_session *session);
 /* INACTIVE_FEATURE: PROTOCOL_FEATURES was not acknowledged, or not offered. */
-int32_t covretin_ask_get_protocol_features(covretin_session *session);
-int32_t covretin_ask_set_protocol_features(covretin_session *session, uint64_t features);
+enum covretin_error covretin_ask_get_protocol_features(covretin_session *session);
+enum covretin_error covretin_ask_set_protocol_features(covretin_session *session, uint64_t features);
 /* INACTIVE_OPERATION: MQ was not acknowledged. */
-int32_t covretin_ask_get_queue_num(covretin_session *session);
+enum covretin_error covretin_ask_get_queue_num(covretin_session *session);
 /* INACTIVE_OPERATION: RESET_DEVICE was not acknowledged. */
-int32_t covretin_ask_reset_device(covretin_session *session);
+enum covretin_error covretin_ask_reset_device(covretin_session *session);
 
 /* 1 to 32 regions, each with a size and a descriptor. */
-int32_t covretin_ask_set_mem_table(covretin_session *session, const covretin_region *regions, size_t count);
+enum covretin_error covretin_ask_set_mem_table(covretin_session *session, const covretin_region *regions, size_t count);
 /* INACTIVE_OPERATION: CONFIGURE_MEM_SLOTS was not acknowledged. */
-int32_t covretin_ask_get_max_mem_slots(covretin_session *session);
-int32_t covretin_ask_add_mem_region(covretin_session *session, const covretin_region *region);
-int32_t covretin_ask_remove_mem_region(covretin_session *session, const covretin_region *region);
+enum covretin_error covretin_ask_get_max_mem_slots(covretin_session *session);
+enum covretin_error covretin_ask_add_mem_region(covretin_session *session, const covretin_region *region);
+enum covretin_error covretin_ask_remove_mem_region(covretin_session *session, const covretin_region *region);
 
 /* Where the log begins, and where it is kept: the memory_size, mmap_offset and fd of a region. Without LOG_SHMFD the base
  * alone goes out. */
-int32_t covretin_ask_set_log_base(covretin_session *session, uint64_t base, const covretin_region *region);
-int32_t covretin_ask_set_log_base_alone(covretin_session *session, uint64_t base);
-int32_t covretin_ask_set_log_fd(covretin_session *session, int32_t fd);
+enum covretin_error covretin_ask_set_log_base(covretin_session *session, uint64_t base, const covretin_region *region);
+enum covretin_error covretin_ask_set_log_base_alone(covretin_session *session, uint64_t base);
+enum covretin_error covretin_ask_set_log_fd(covretin_session *session, int32_t fd);
 
 /* num and base are in descriptors. */
-int32_t covretin_ask_set_vring_num(covretin_session *session, size_t index, uint16_t num);
-int32_t covretin_ask_set_vring_addr(covretin_session *session, size_t index, const covretin_vring *ring);
-int32_t covretin_ask_set_vring_base(covretin_session *session, size_t index, uint16_t base);
-int32_t covretin_ask_get_vring_base(covretin_session *session, size_t index);
-int32_t covretin_ask_set_vring_call(covretin_session *session, size_t index, int32_t fd);
-int32_t covretin_ask_set_vring_kick(covretin_session *session, size_t index, int32_t fd);
-int32_t covretin_ask_set_vring_err(covretin_session *session, size_t index, int32_t fd);
+enum covretin_error covretin_ask_set_vring_num(covretin_session *session, size_t index, uint16_t num);
+enum covretin_error covretin_ask_set_vring_addr(covretin_session *session, size_t index, const covretin_vring *ring);
+enum covretin_error covretin_ask_set_vring_base(covretin_session *session, size_t index, uint16_t base);
+enum covretin_error covretin_ask_get_vring_base(covretin_session *session, size_t index);
+enum covretin_error covretin_ask_set_vring_call(covretin_session *session, size_t index, int32_t fd);
+enum covretin_error covretin_ask_set_vring_kick(covretin_session *session, size_t index, int32_t fd);
+enum covretin_error covretin_ask_set_vring_err(covretin_session *session, size_t index, int32_t fd);
 /* INACTIVE_FEATURE: PROTOCOL_FEATURES was not acknowledged. */
-int32_t covretin_ask_set_vring_enable(covretin_session *session, size_t index, bool enable);
+enum covretin_error covretin_ask_set_vring_enable(covretin_session *session, size_t index, bool enable);
 
 /* size is 4096 at most. INACTIVE_OPERATION: CONFIG was not acknowledged. */
-int32_t covretin_ask_get_config(covretin_session *session, uint32_t offset, uint32_t size, uint32_t flags);
-int32_t covretin_ask_set_config(covretin_session *session, uint32_t offset, uint32_t flags, const uint8_t *bytes,
+enum covretin_error covretin_ask_get_config(covretin_session *session, uint32_t offset, uint32_t size, uint32_t flags);
+enum covretin_error covretin_ask_set_config(covretin_session *session, uint32_t offset, uint32_t flags, const uint8_t *bytes,
                                 size_t bytes_len);
 
 /* INACTIVE_OPERATION: BACKEND_REQ was not acknowledged. */
-int32_t covretin_ask_set_backend_request_fd(covretin_session *session, int32_t fd);
+enum covretin_error covretin_ask_set_backend_request_fd(covretin_session *session, int32_t fd);
 /* name_len is 16. INACTIVE_OPERATION: SHARED_OBJECT was not acknowledged. */
-int32_t covretin_ask_get_shared_object(covretin_session *session, const uint8_t *name, size_t name_len);
+enum covretin_error covretin_ask_get_shared_object(covretin_session *session, const uint8_t *name, size_t name_len);
 /* INACTIVE_OPERATION: INFLIGHT_SHMFD was not acknowledged. */
-int32_t covretin_ask_get_inflight_fd(covretin_session *session, const covretin_inflight *inflight);
-int32_t covretin_ask_set_inflight_fd(covretin_session *session, const covretin_inflight *inflight, int32_t fd);
+enum covretin_error covretin_ask_get_inflight_fd(covretin_session *session, const covretin_inflight *inflight);
+enum covretin_error covretin_ask_set_inflight_fd(covretin_session *session, const covretin_inflight *inflight, int32_t fd);
 /* INACTIVE_OPERATION: SHMEM was not acknowledged. */
-int32_t covretin_ask_get_shmem_config(covretin_session *session);
+enum covretin_error covretin_ask_get_shmem_config(covretin_session *session);
 
 /* direction 0 from the device (save), 1 to it (load); phase 0, stopped. INACTIVE_OPERATION: DEVICE_STATE was not acknowledged. */
-int32_t covretin_ask_set_device_state_fd(covretin_session *session, uint32_t direction, uint32_t phase, int32_t fd);
-int32_t covretin_ask_check_device_state(covretin_session *session);
+enum covretin_error covretin_ask_set_device_state_fd(covretin_session *session, uint32_t direction, uint32_t phase, int32_t fd);
+enum covretin_error covretin_ask_check_device_state(covretin_session *session);
 
 /* INACTIVE_OPERATION: PAGEFAULT was not acknowledged. */
-int32_t covretin_ask_postcopy_advise(covretin_session *session);
-int32_t covretin_ask_postcopy_listen(covretin_session *session);
-int32_t covretin_ask_postcopy_end(covretin_session *session);
+enum covretin_error covretin_ask_postcopy_advise(covretin_session *session);
+enum covretin_error covretin_ask_postcopy_listen(covretin_session *session);
+enum covretin_error covretin_ask_postcopy_end(covretin_session *session);
 /* The request that brought the regions: 5, SET_MEM_TABLE, or 37, ADD_MEM_REG. */
-int32_t covretin_ask_postcopy_ack_mem_regions(covretin_session *session, uint32_t request);
+enum covretin_error covretin_ask_postcopy_ack_mem_regions(covretin_session *session, uint32_t request);
 
 /* INACTIVE_OPERATION: MTU was not acknowledged. */
-int32_t covretin_ask_set_mtu(covretin_session *session, uint16_t mtu);
+enum covretin_error covretin_ask_set_mtu(covretin_session *session, uint16_t mtu);
 
 #ifdef __cplusplus
 }

@@ -1,5 +1,6 @@
 -- What became of a call that was asked.
-use Rattle.std.proofs.Common.{◌≡◌, ℕ, List, [], ◌++◌, append_assoc, Option, Some, None, Result, Ok, Err, refl, sym, ap, subst, ◌∙◌}
+use Rattle.std.proofs.Common.{◌≡◌, ℕ, List, [], ◌++◌, append_assoc, Option, Some, None, Result, Ok, Err, IfOk, IfErr, refl, sym, ap, subst, ◌∙◌}
+use Rattle.std.specs.Prelude.{⊤}
 use Rattle.std.proofs.lemmas.List.{append-nil}
 use Rattle.vhost_message.specs.declared.error.Error as declared
 use Rattle.vhost_message.specs.declared.frontend_req.FrontendReq.{FrontendReq}
@@ -14,13 +15,16 @@ use Rattle.vhost_link.specs.Ends.{Ends}
 use Rattle.vhost_link.specs.Mem.{event, StreamLaw}
 use Rattle.vhost_link.specs.declared.plain.PlainHandle.{PlainHandle}
 use Rattle.vhost_connection.specs.Talk.{State}
-use Rattle.vhost_frontend_core.specs.Asking.{AsksWithRoom, roomy, no_room, refuses, goes, fails}
+use Rattle.vhost_frontend_core.specs.Asking as core
+use Rattle.vhost_frontend_core.specs.Asking.{AsksWithRoom, roomy, no_room, goes, fails}
 use Rattle.vhost_frontend_core.specs.Frontend.{endpoint_of, session_of, awaits}
 use Rattle.vhost_frontend_core.specs.Halves.{AsksHalfWithRoom}
 use Rattle.vhost_frontend_core.specs.declared.asked.Sent.{Sent}
 use Rattle.vhost_frontend_core.specs.declared.internal.FrontendInternal.{FrontendInternal}
 use Rattle.vhost_frontend_calls.specs.Halves.{AsksCall, half, refused, at_once}
-use Rattle.vhost_c.specs.Session.{Asks, sent, Stays, Fails, unsent, no_memory, queued, remembers}
+use Rattle.vhost_c.specs.Number.{number, outcome_number}
+use Rattle.vhost_c.specs.Session.{Asks, sent, Stays, Fails, unsent, no_memory, Refused, AsksBy, none, asks, refuses, queued, remembers}
+use Rattle.vhost_c.specs.declared.refusal.Refusal.{Refusal}
 use Rattle.vhost_c.specs.declared.session.Session.{Session}
 use Rattle.vhost_c.specs.Session as session
 
@@ -42,7 +46,7 @@ went law asked old new f f' before after s (roomy (goes {w = w} is g)) =
 
 -- A call that was not asked leaves what is remembered, and this is why.
 pub stayed : (call : FrontendCall PlainHandle) (old new : State Ends PlainHandle) (f f' : Frontend) (before after : Awaited) (e : declared.Error) → AsksWithRoom event (ask f call) old f before (Err e) new f' after → (f' ≡ f) × Fails call f e
-stayed call old new f f' before after e (roomy (refuses is)) = (refl, session.refused is)
+stayed call old new f f' before after e (roomy (core.refuses is)) = (refl, session.refused is)
 stayed call old new f f' before after e (roomy (fails {w = w} {awaited = a} {f' = g} is why)) = (refl, unsent w a g is)
 stayed call old new f f' before after e (no_room is) = (refl, no_memory)
 
@@ -68,7 +72,7 @@ behind before taken text after is = ap (λ xs. before ++ xs) is ∙ sym (append_
 
 -- what is to be sent is the same once it was collected
 pub collected : (before taken pending now : List (Cell PlainHandle)) → pending ≡ before ++ taken → now ≡ [] → pending ++ now ≡ before ++ taken
-collected before taken pending now is none = ap (λ xs. pending ++ xs) none ∙ append-nil pending ∙ is
+collected before taken pending now is gone = ap (λ xs. pending ++ xs) gone ∙ append-nil pending ∙ is
 
 -- what was asked of a session in between was asked of the one before, where nothing but its places changed
 pub asks-since : (call : FrontendCall PlainHandle) (old mid new : Session) → queued mid ≡ queued old → remembers mid ≡ remembers old → Asks call mid new → Asks call old new
@@ -77,3 +81,17 @@ asks-since call old mid new queue memory (session.at_once flags is f q) = sessio
 
 pub stays-since : (old mid new : Session) → queued mid ≡ queued old → remembers mid ≡ remembers old → mid.asked ≡ old.asked → Stays mid new → Stays old new
 stays-since old mid new queue memory asked s = record { queue = s.queue ∙ queue; memory = s.memory ∙ memory; asked = s.asked ∙ asked }
+
+-- a session that C asks, by the number that it is answered
+pub asks-none : (call : FrontendCall PlainHandle) (old new : Option Session) (n : ℕ) → old ≡ None → new ≡ None → n ≡ 101 → AsksBy call old n new
+asks-none call old new n at_old at_new is =
+    subst (λ o. AsksBy call o n new) (sym at_old) (subst (λ o. AsksBy call None n o) (sym at_new) (subst (λ m. AsksBy call None m None) (sym is) none))
+
+at-some : (call : FrontendCall PlainHandle) (old new : Option Session) (s s' : Session) (n m : ℕ) → old ≡ Some s → new ≡ Some s' → n ≡ m → AsksBy call (Some s) m (Some s') → AsksBy call old n new
+at-some call old new s s' n m at_old at_new is a =
+    subst (λ o. AsksBy call o n new) (sym at_old) (subst (λ o. AsksBy call (Some s) n o) (sym at_new) (subst (λ k. AsksBy call (Some s) k (Some s')) (sym is) a))
+
+pub asks-some : (call : FrontendCall PlainHandle) (old new : Option Session) (s s' : Session) (n : ℕ) (outcome : Result ⊤ Refusal) → old ≡ Some s → new ≡ Some s' → n ≡ outcome_number outcome
+    → IfOk outcome (λ _. Asks call s s') → IfErr outcome (λ _. Stays s s') → IfErr outcome (λ r. Refused call s r) → AsksBy call old n new
+asks-some call old new s s' n (Ok done) at_old at_new is asked stays reason = at-some call old new s s' n 0 at_old at_new is (asks asked)
+asks-some call old new s s' n (Err r) at_old at_new is asked stays reason = at-some call old new s s' n (number r) at_old at_new is (refuses reason stays)

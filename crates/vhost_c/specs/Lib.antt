@@ -1,2 +1,3 @@
 pub mod Holder
+pub mod Number
 pub mod Session

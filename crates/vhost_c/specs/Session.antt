@@ -14,6 +14,7 @@ use Rattle.vhost_link.specs.Ends.{Ends}
 use Rattle.vhost_link.specs.declared.plain.PlainHandle.{PlainHandle}
 use Rattle.vhost_connection.specs.Talk.{State}
 use Rattle.vhost_frontend_core.specs.Frontend.{endpoint_of, session_of, awaits}
+use Rattle.vhost_c.specs.Number.{number}
 use Rattle.vhost_c.specs.declared.refusal.Refusal.{Refusal}
 use Rattle.vhost_c.specs.declared.refusal.Refusal.TheVariants.{NotTaken, Protocol}
 use Rattle.vhost_c.specs.declared.session.Session.{Session}
@@ -57,3 +58,9 @@ pub record Stays (old new : Session) : Type 0 where
 pub data Refused (call : FrontendCall PlainHandle) (s : Session) : Refusal → Type 0 where
   busy : is_some s.asked ≡ true → Refused call s NotTaken
   fails : {e : declared.Error} → Fails call (remembers s) e → Refused call s (Protocol e)
+
+-- A call of C: there is no session; or the call was asked, 0; or it was refused, and this is why.
+pub data AsksBy (call : FrontendCall PlainHandle) : Option Session → ℕ → Option Session → Type 0 where
+  none : AsksBy call None 101 None
+  asks : {s s' : Session} → Asks call s s' → AsksBy call (Some s) 0 (Some s')
+  refuses : {s s' : Session} {r : Refusal} → Refused call s r → Stays s s' → AsksBy call (Some s) (number r) (Some s')

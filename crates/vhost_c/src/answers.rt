@@ -14,7 +14,7 @@ pub extern "C" fn covretin_answer_number(
     alloc: Global,
     session: &mut Holder,
     number: &mut u64,
-) -> i32 {
+) -> u32 {
     let Some(held) = session.take(alloc) else {
         return number_of(Err(Refusal::NoSession));
     };
@@ -30,7 +30,7 @@ pub extern "C" fn covretin_answer_bases(
     session: &mut Holder,
     bases: &mut [u64],
     count: &mut usize,
-) -> i32 {
+) -> u32 {
     let Some(held) = session.take(alloc) else {
         return number_of(Err(Refusal::NoSession));
     };
@@ -47,7 +47,7 @@ pub extern "C" fn covretin_answer_config(
     config: &mut Config,
     bytes: &mut [u8],
     count: &mut usize,
-) -> i32 {
+) -> u32 {
     let Some(held) = session.take(alloc) else {
         return number_of(Err(Refusal::NoSession));
     };
@@ -58,7 +58,7 @@ pub extern "C" fn covretin_answer_config(
 
 /// Reads a descriptor; -1 is none, where the call may do without.
 #[unsafe(no_mangle)]
-pub extern "C" fn covretin_answer_fd(alloc: Global, session: &mut Holder, fd: &mut i32) -> i32 {
+pub extern "C" fn covretin_answer_fd(alloc: Global, session: &mut Holder, fd: &mut i32) -> u32 {
     let Some(held) = session.take(alloc) else {
         return number_of(Err(Refusal::NoSession));
     };
@@ -74,7 +74,7 @@ pub extern "C" fn covretin_answer_inflight(
     session: &mut Holder,
     inflight: &mut Inflight,
     fd: &mut i32,
-) -> i32 {
+) -> u32 {
     let Some(held) = session.take(alloc) else {
         return number_of(Err(Refusal::NoSession));
     };
@@ -90,7 +90,7 @@ pub extern "C" fn covretin_answer_shmem(
     session: &mut Holder,
     sizes: &mut [u64],
     count: &mut usize,
-) -> i32 {
+) -> u32 {
     let Some(held) = session.take(alloc) else {
         return number_of(Err(Refusal::NoSession));
     };

@@ -1,5 +1,8 @@
 //! Asks whose arguments are numbers and records.
 
+ghost use Rattle.vhost_frontend_calls.specs.Calls.{call_of};
+ghost use Rattle.vhost_c.specs.Session.{AsksBy};
+
 use crate::holder::Holder;
 use crate::records::{Inflight, Region, Vring, infos_of};
 use crate::refusal::{Refusal, number_of};
@@ -13,30 +16,34 @@ use vhost_message::{
 };
 
 /// Asks a session, if there is one.
-pub(crate) fn asked(alloc: Global, holder: &mut Holder, call: FrontendCall) -> i32 {
-    let Some(mut session) = holder.take(alloc) else {
-        return number_of(Err(Refusal::NoSession));
-    };
-    let outcome = session.ask(call);
-    holder.put(session);
-    number_of(outcome)
+pub(crate) fn asked(alloc: Global, holder: &mut Holder, call: FrontendCall) -> u32
+    ensures { AsksBy (call_of call) holder.old.session result holder.new.session }
+{
+    match holder.take(alloc) {
+        None => number_of(Err(Refusal::NoSession)),
+        Some(mut session) => {
+            let outcome = session.ask(call);
+            holder.put(session);
+            number_of(outcome)
+        }
+    }
 }
 
 /// Refuses arguments of which no call can be made.
-pub(crate) fn refused(error: Error) -> i32 {
+pub(crate) fn refused(error: Error) -> u32 {
     number_of(Err(Refusal::Protocol(error)))
 }
 
 /// The flags of each request from now on. Nothing is sent for it, and nothing to be taken.
 #[unsafe(no_mangle)]
-pub extern "C" fn covretin_set_hdr_flags(alloc: Global, session: &mut Holder, flags: u32) -> i32 {
+pub extern "C" fn covretin_set_hdr_flags(alloc: Global, session: &mut Holder, flags: u32) -> u32 {
     let flags = VhostUserHeaderFlag::from_bits_retain(flags);
     asked(alloc, session, FrontendCall::SetHdrFlags(flags))
 }
 
 /// Asks for the features that the device offers.
 #[unsafe(no_mangle)]
-pub extern "C" fn covretin_ask_get_features(alloc: Global, session: &mut Holder) -> i32 {
+pub extern "C" fn covretin_ask_get_features(alloc: Global, session: &mut Holder) -> u32 {
     asked(alloc, session, FrontendCall::GetFeatures)
 }
 
@@ -46,25 +53,25 @@ pub extern "C" fn covretin_ask_set_features(
     alloc: Global,
     session: &mut Holder,
     features: u64,
-) -> i32 {
+) -> u32 {
     asked(alloc, session, FrontendCall::SetFeatures(features))
 }
 
 /// Takes the device.
 #[unsafe(no_mangle)]
-pub extern "C" fn covretin_ask_set_owner(alloc: Global, session: &mut Holder) -> i32 {
+pub extern "C" fn covretin_ask_set_owner(alloc: Global, session: &mut Holder) -> u32 {
     asked(alloc, session, FrontendCall::SetOwner)
 }
 
 /// Gives the device back.
 #[unsafe(no_mangle)]
-pub extern "C" fn covretin_ask_reset_owner(alloc: Global, session: &mut Holder) -> i32 {
+pub extern "C" fn covretin_ask_reset_owner(alloc: Global, session: &mut Holder) -> u32 {
     asked(alloc, session, FrontendCall::ResetOwner)
 }
 
 /// Asks for the protocol features that the device offers.
 #[unsafe(no_mangle)]
-pub extern "C" fn covretin_ask_get_protocol_features(alloc: Global, session: &mut Holder) -> i32 {
+pub extern "C" fn covretin_ask_get_protocol_features(alloc: Global, session: &mut Holder) -> u32 {
     asked(alloc, session, FrontendCall::GetProtocolFeatures)
 }
 
@@ -74,7 +81,7 @@ pub extern "C" fn covretin_ask_set_protocol_features(
     alloc: Global,
     session: &mut Holder,
     features: u64,
-) -> i32 {
+) -> u32 {
     asked(
         alloc,
         session,
@@ -84,13 +91,13 @@ pub extern "C" fn covretin_ask_set_protocol_features(
 
 /// Asks how many queues the device has.
 #[unsafe(no_mangle)]
-pub extern "C" fn covretin_ask_get_queue_num(alloc: Global, session: &mut Holder) -> i32 {
+pub extern "C" fn covretin_ask_get_queue_num(alloc: Global, session: &mut Holder) -> u32 {
     asked(alloc, session, FrontendCall::GetQueueNum)
 }
 
 /// Resets the device.
 #[unsafe(no_mangle)]
-pub extern "C" fn covretin_ask_reset_device(alloc: Global, session: &mut Holder) -> i32 {
+pub extern "C" fn covretin_ask_reset_device(alloc: Global, session: &mut Holder) -> u32 {
     asked(alloc, session, FrontendCall::ResetDevice)
 }
 
@@ -101,7 +108,7 @@ pub extern "C" fn covretin_ask_set_vring_num(
     session: &mut Holder,
     index: usize,
     num: u16,
-) -> i32 {
+) -> u32 {
     asked(alloc, session, FrontendCall::SetVringNum(index, num))
 }
 
@@ -112,7 +119,7 @@ pub extern "C" fn covretin_ask_set_vring_addr(
     session: &mut Holder,
     index: usize,
     ring: &Vring,
-) -> i32 {
+) -> u32 {
     asked(
         alloc,
         session,
@@ -127,7 +134,7 @@ pub extern "C" fn covretin_ask_set_vring_base(
     session: &mut Holder,
     index: usize,
     base: u16,
-) -> i32 {
+) -> u32 {
     asked(alloc, session, FrontendCall::SetVringBase(index, base))
 }
 
@@ -137,7 +144,7 @@ pub extern "C" fn covretin_ask_get_vring_base(
     alloc: Global,
     session: &mut Holder,
     index: usize,
-) -> i32 {
+) -> u32 {
     asked(alloc, session, FrontendCall::GetVringBase(index))
 }
 
@@ -148,7 +155,7 @@ pub extern "C" fn covretin_ask_set_vring_enable(
     session: &mut Holder,
     index: usize,
     enable: bool,
-) -> i32 {
+) -> u32 {
     asked(alloc, session, FrontendCall::SetVringEnable(index, enable))
 }
 
@@ -158,13 +165,13 @@ pub extern "C" fn covretin_ask_get_inflight_fd(
     alloc: Global,
     session: &mut Holder,
     inflight: &Inflight,
-) -> i32 {
+) -> u32 {
     asked(alloc, session, FrontendCall::GetInflightFd(inflight.data()))
 }
 
 /// Asks how many regions of memory the device takes.
 #[unsafe(no_mangle)]
-pub extern "C" fn covretin_ask_get_max_mem_slots(alloc: Global, session: &mut Holder) -> i32 {
+pub extern "C" fn covretin_ask_get_max_mem_slots(alloc: Global, session: &mut Holder) -> u32 {
     asked(alloc, session, FrontendCall::GetMaxMemSlots)
 }
 
@@ -174,7 +181,7 @@ pub extern "C" fn covretin_ask_add_mem_region(
     alloc: Global,
     session: &mut Holder,
     region: &Region,
-) -> i32 {
+) -> u32 {
     asked(alloc, session, FrontendCall::AddMemRegion(region.info()))
 }
 
@@ -184,43 +191,43 @@ pub extern "C" fn covretin_ask_remove_mem_region(
     alloc: Global,
     session: &mut Holder,
     region: &Region,
-) -> i32 {
+) -> u32 {
     asked(alloc, session, FrontendCall::RemoveMemRegion(region.info()))
 }
 
 /// Asks for the regions of shared memory.
 #[unsafe(no_mangle)]
-pub extern "C" fn covretin_ask_get_shmem_config(alloc: Global, session: &mut Holder) -> i32 {
+pub extern "C" fn covretin_ask_get_shmem_config(alloc: Global, session: &mut Holder) -> u32 {
     asked(alloc, session, FrontendCall::GetShmemConfig)
 }
 
 /// Asks whether the transfer of the device's state succeeded.
 #[unsafe(no_mangle)]
-pub extern "C" fn covretin_ask_check_device_state(alloc: Global, session: &mut Holder) -> i32 {
+pub extern "C" fn covretin_ask_check_device_state(alloc: Global, session: &mut Holder) -> u32 {
     asked(alloc, session, FrontendCall::CheckDeviceState)
 }
 
 /// Tells that postcopy is going to begin, and asks for the descriptor of page faults.
 #[unsafe(no_mangle)]
-pub extern "C" fn covretin_ask_postcopy_advise(alloc: Global, session: &mut Holder) -> i32 {
+pub extern "C" fn covretin_ask_postcopy_advise(alloc: Global, session: &mut Holder) -> u32 {
     asked(alloc, session, FrontendCall::PostcopyAdvise)
 }
 
 /// Tells the device to listen for page faults.
 #[unsafe(no_mangle)]
-pub extern "C" fn covretin_ask_postcopy_listen(alloc: Global, session: &mut Holder) -> i32 {
+pub extern "C" fn covretin_ask_postcopy_listen(alloc: Global, session: &mut Holder) -> u32 {
     asked(alloc, session, FrontendCall::PostcopyListen)
 }
 
 /// Tells that postcopy has ended.
 #[unsafe(no_mangle)]
-pub extern "C" fn covretin_ask_postcopy_end(alloc: Global, session: &mut Holder) -> i32 {
+pub extern "C" fn covretin_ask_postcopy_end(alloc: Global, session: &mut Holder) -> u32 {
     asked(alloc, session, FrontendCall::PostcopyEnd)
 }
 
 /// Tells the greatest size of a packet, in bytes.
 #[unsafe(no_mangle)]
-pub extern "C" fn covretin_ask_set_mtu(alloc: Global, session: &mut Holder, mtu: u16) -> i32 {
+pub extern "C" fn covretin_ask_set_mtu(alloc: Global, session: &mut Holder, mtu: u16) -> u32 {
     asked(alloc, session, FrontendCall::SetMtu(mtu))
 }
 
@@ -232,7 +239,7 @@ pub extern "C" fn covretin_ask_get_config(
     offset: u32,
     size: u32,
     flags: u32,
-) -> i32 {
+) -> u32 {
     if size as usize > MAX_MSG_SIZE {
         return refused(Error::InvalidParam);
     }
@@ -255,7 +262,7 @@ pub extern "C" fn covretin_ask_set_config(
     offset: u32,
     flags: u32,
     bytes: &[u8],
-) -> i32 {
+) -> u32 {
     if bytes.len() > MAX_MSG_SIZE {
         return refused(Error::InvalidParam);
     }
@@ -276,7 +283,7 @@ pub extern "C" fn covretin_ask_set_mem_table(
     alloc: Global,
     session: &mut Holder,
     regions: &[Region],
-) -> i32 {
+) -> u32 {
     match infos_of(alloc, regions) {
         Ok(infos) => asked(alloc, session, FrontendCall::SetMemTable(infos)),
         Err(error) => refused(error),
@@ -289,7 +296,7 @@ pub extern "C" fn covretin_ask_get_shared_object(
     alloc: Global,
     session: &mut Holder,
     name: &[u8],
-) -> i32 {
+) -> u32 {
     if name.len() != 16 {
         return refused(Error::InvalidParam);
     }
@@ -307,7 +314,7 @@ pub extern "C" fn covretin_ask_postcopy_ack_mem_regions(
     alloc: Global,
     session: &mut Holder,
     request: u32,
-) -> i32 {
+) -> u32 {
     match FrontendReq::try_from(request) {
         Ok(code) => asked(alloc, session, FrontendCall::PostcopyAckMemRegions(code)),
         Err(()) => refused(Error::InvalidParam),

@@ -9,7 +9,7 @@ use vhost_message::{Error, VhostTransferStateDirection, VhostTransferStatePhase}
 
 /// Gives a descriptor that is signalled when the log was written.
 #[unsafe(no_mangle)]
-pub extern "C" fn covretin_ask_set_log_fd(alloc: Global, session: &mut Holder, fd: i32) -> i32 {
+pub extern "C" fn covretin_ask_set_log_fd(alloc: Global, session: &mut Holder, fd: i32) -> u32 {
     match handle_of(fd) {
         Some(handle) => asked(alloc, session, FrontendCall::SetLogFd(handle)),
         None => refused(Error::InvalidParam),
@@ -23,7 +23,7 @@ pub extern "C" fn covretin_ask_set_vring_call(
     session: &mut Holder,
     index: usize,
     fd: i32,
-) -> i32 {
+) -> u32 {
     match handle_of(fd) {
         Some(handle) => asked(alloc, session, FrontendCall::SetVringCall(index, handle)),
         None => refused(Error::InvalidParam),
@@ -37,7 +37,7 @@ pub extern "C" fn covretin_ask_set_vring_kick(
     session: &mut Holder,
     index: usize,
     fd: i32,
-) -> i32 {
+) -> u32 {
     match handle_of(fd) {
         Some(handle) => asked(alloc, session, FrontendCall::SetVringKick(index, handle)),
         None => refused(Error::InvalidParam),
@@ -51,7 +51,7 @@ pub extern "C" fn covretin_ask_set_vring_err(
     session: &mut Holder,
     index: usize,
     fd: i32,
-) -> i32 {
+) -> u32 {
     match handle_of(fd) {
         Some(handle) => asked(alloc, session, FrontendCall::SetVringErr(index, handle)),
         None => refused(Error::InvalidParam),
@@ -64,7 +64,7 @@ pub extern "C" fn covretin_ask_set_backend_request_fd(
     alloc: Global,
     session: &mut Holder,
     fd: i32,
-) -> i32 {
+) -> u32 {
     match handle_of(fd) {
         Some(handle) => asked(alloc, session, FrontendCall::SetBackendRequestFd(handle)),
         None => refused(Error::InvalidParam),
@@ -78,7 +78,7 @@ pub extern "C" fn covretin_ask_set_inflight_fd(
     session: &mut Holder,
     inflight: &Inflight,
     fd: i32,
-) -> i32 {
+) -> u32 {
     match handle_of(fd) {
         Some(handle) => asked(
             alloc,
@@ -96,7 +96,7 @@ pub extern "C" fn covretin_ask_set_log_base(
     session: &mut Holder,
     base: u64,
     region: &Region,
-) -> i32 {
+) -> u32 {
     let call = FrontendCall::SetLogBase(base, Some(region.log()));
     asked(alloc, session, call)
 }
@@ -107,7 +107,7 @@ pub extern "C" fn covretin_ask_set_log_base_alone(
     alloc: Global,
     session: &mut Holder,
     base: u64,
-) -> i32 {
+) -> u32 {
     asked(alloc, session, FrontendCall::SetLogBase(base, None))
 }
 
@@ -119,7 +119,7 @@ pub extern "C" fn covretin_ask_set_device_state_fd(
     direction: u32,
     phase: u32,
     fd: i32,
-) -> i32 {
+) -> u32 {
     let (Ok(direction), Ok(phase), Some(handle)) = (
         VhostTransferStateDirection::try_from(direction),
         VhostTransferStatePhase::try_from(phase),

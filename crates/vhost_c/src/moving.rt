@@ -13,7 +13,7 @@ pub extern "C" fn covretin_to_send(
     fds: &mut [i32],
     byte_count: &mut usize,
     fd_count: &mut usize,
-) -> i32 {
+) -> u32 {
     let Some(mut held) = session.take(alloc) else {
         return number_of(Err(Refusal::NoSession));
     };
@@ -47,7 +47,7 @@ pub extern "C" fn covretin_receive(
     session: &mut Holder,
     bytes: &[u8],
     fds: &[i32],
-) -> i32 {
+) -> u32 {
     let Some(mut held) = session.take(alloc) else {
         return number_of(Err(Refusal::NoSession));
     };
@@ -58,7 +58,7 @@ pub extern "C" fn covretin_receive(
 
 /// Takes the answer of the call that was asked.
 #[unsafe(no_mangle)]
-pub extern "C" fn covretin_take(alloc: Global, session: &mut Holder) -> i32 {
+pub extern "C" fn covretin_take(alloc: Global, session: &mut Holder) -> u32 {
     let Some(mut held) = session.take(alloc) else {
         return number_of(Err(Refusal::NoSession));
     };

@@ -8,7 +8,7 @@ use vhost_message::Error;
 
 /// Opens a session with a device of at most so many queues.
 #[unsafe(no_mangle)]
-pub extern "C" fn covretin_open(alloc: Global, session: &mut Holder, max_queue_num: u64) -> i32 {
+pub extern "C" fn covretin_open(alloc: Global, session: &mut Holder, max_queue_num: u64) -> u32 {
     number_of(open(alloc, session, max_queue_num))
 }
 

@@ -1,5 +1,8 @@
 //! Why a call from C was refused, as a number.
 
+ghost use Rattle.std.specs.Prelude.{◌≡◌};
+ghost use Rattle.vhost_c.specs.Number.{error_number as number_in, number, outcome_number};
+
 use vhost_message::Error;
 
 /// Why a call from C was refused.
@@ -38,7 +41,9 @@ impl From<Error> for Refusal {
 
 impl Refusal {
     /// The number of `enum covretin_error`.
-    fn number(&self) -> i32 {
+    fn number(&self) -> u32
+        ensures { result ≡ number self.now }
+    {
         match self {
             Refusal::Protocol(error) => error_number(error),
             Refusal::NoSession => 101,
@@ -53,7 +58,9 @@ impl Refusal {
     }
 }
 
-fn error_number(error: &Error) -> i32 {
+fn error_number(error: &Error) -> u32
+    ensures { result ≡ number_in error.now }
+{
     match error {
         Error::InvalidParam => 1,
         Error::InvalidOperation(_) => 2,
@@ -83,7 +90,9 @@ fn error_number(error: &Error) -> i32 {
 }
 
 /// What a call answers to C: 0, or the number of its refusal.
-pub(crate) fn number_of(outcome: Result<(), Refusal>) -> i32 {
+pub(crate) fn number_of(outcome: Result<(), Refusal>) -> u32
+    ensures { result ≡ outcome_number outcome }
+{
     match outcome {
         Ok(()) => 0,
         Err(refusal) => refusal.number(),

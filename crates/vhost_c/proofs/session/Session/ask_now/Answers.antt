@@ -16,7 +16,7 @@ pub returns-in-Ok-Some-clause-asked : goal.returns-in-Ok-Some-clause-asked
 returns-in-Ok-Some-clause-asked c =
     let old = c.args.self.now.frontend in let new = c.ask.new.frontend in
     let w = went c.stream_law.ensures.stream (ask (session_of old) (call_of c.args.call)) (endpoint_of old) (endpoint_of new) (session_of old) (session_of new) (awaits old) (awaits new) c.in-Ok-Some.sent
-        (by-half (call_of c.args.call) old new c.in-Ok-Some.sent (subst {A = Option Sent} (λ o. AsksCall (call_of c.args.call) old (Ok o) new) c.in-Ok-Some.field-0-is c.in-Ok-Some.ensures.asked)) in
+    (by-half (call_of c.args.call) old new c.in-Ok-Some.sent (subst {A = Option Sent} (λ o. AsksCall (call_of c.args.call) old (Ok o) new) c.in-Ok-Some.field-0-is c.in-Ok-Some.ensures.asked)) in
     sent w.w w.is (behind c.args.self.now.outgoing.link.pending (endpoint_of old).link.sent (cells w.w) (endpoint_of new).link.sent w.text)
 
 pub returns-in-Ok-None-clause-asked : goal.returns-in-Ok-None-clause-asked
