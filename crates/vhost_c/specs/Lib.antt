@@ -1,3 +1,4 @@
 pub mod Holder
 pub mod Number
+pub mod Records
 pub mod Session

@@ -64,3 +64,8 @@ pub data AsksBy (call : FrontendCall PlainHandle) : Option Session → ℕ → O
   none : AsksBy call None 101 None
   asks : {s s' : Session} → Asks call s s' → AsksBy call (Some s) 0 (Some s')
   refuses : {s s' : Session} {r : Refusal} → Refused call s r → Stays s s' → AsksBy call (Some s) (number r) (Some s')
+
+-- The same of a call that gives a descriptor: where there is none, the call is refused as one with an argument that is not allowed.
+abbrev pub AsksWith : Option PlainHandle → (PlainHandle → FrontendCall PlainHandle) → Option Session → ℕ → Option Session → Type 0
+AsksWith (Some h) call old n new = AsksBy (call h) old n new
+AsksWith None call old n new = (n ≡ 1) × (new ≡ old)

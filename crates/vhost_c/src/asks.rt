@@ -1,6 +1,10 @@
 //! Asks whose arguments are numbers and records.
 
+ghost use Rattle.std.specs.Prelude.{◌≡◌};
+ghost use Rattle.vhost_c.specs.Number.{error_number};
+ghost use Rattle.vhost_protocol.specs.FrontendCall as calls;
 ghost use Rattle.vhost_frontend_calls.specs.Calls.{call_of};
+ghost use Rattle.vhost_c.specs.Records.{vring_in, inflight_in, info_in};
 ghost use Rattle.vhost_c.specs.Session.{AsksBy};
 
 use crate::holder::Holder;
@@ -30,20 +34,26 @@ pub(crate) fn asked(alloc: Global, holder: &mut Holder, call: FrontendCall) -> u
 }
 
 /// Refuses arguments of which no call can be made.
-pub(crate) fn refused(error: Error) -> u32 {
+pub(crate) fn refused(error: Error) -> u32
+    ensures { result ≡ error_number error }
+{
     number_of(Err(Refusal::Protocol(error)))
 }
 
 /// The flags of each request from now on. Nothing is sent for it, and nothing to be taken.
 #[unsafe(no_mangle)]
-pub extern "C" fn covretin_set_hdr_flags(alloc: Global, session: &mut Holder, flags: u32) -> u32 {
+pub extern "C" fn covretin_set_hdr_flags(alloc: Global, session: &mut Holder, flags: u32) -> u32
+    ensures { AsksBy (calls.SetHdrFlags flags) session.old.session result session.new.session }
+{
     let flags = VhostUserHeaderFlag::from_bits_retain(flags);
     asked(alloc, session, FrontendCall::SetHdrFlags(flags))
 }
 
 /// Asks for the features that the device offers.
 #[unsafe(no_mangle)]
-pub extern "C" fn covretin_ask_get_features(alloc: Global, session: &mut Holder) -> u32 {
+pub extern "C" fn covretin_ask_get_features(alloc: Global, session: &mut Holder) -> u32
+    ensures { AsksBy calls.GetFeatures session.old.session result session.new.session }
+{
     asked(alloc, session, FrontendCall::GetFeatures)
 }
 
@@ -53,25 +63,33 @@ pub extern "C" fn covretin_ask_set_features(
     alloc: Global,
     session: &mut Holder,
     features: u64,
-) -> u32 {
+) -> u32
+    ensures { AsksBy (calls.SetFeatures features) session.old.session result session.new.session }
+{
     asked(alloc, session, FrontendCall::SetFeatures(features))
 }
 
 /// Takes the device.
 #[unsafe(no_mangle)]
-pub extern "C" fn covretin_ask_set_owner(alloc: Global, session: &mut Holder) -> u32 {
+pub extern "C" fn covretin_ask_set_owner(alloc: Global, session: &mut Holder) -> u32
+    ensures { AsksBy calls.SetOwner session.old.session result session.new.session }
+{
     asked(alloc, session, FrontendCall::SetOwner)
 }
 
 /// Gives the device back.
 #[unsafe(no_mangle)]
-pub extern "C" fn covretin_ask_reset_owner(alloc: Global, session: &mut Holder) -> u32 {
+pub extern "C" fn covretin_ask_reset_owner(alloc: Global, session: &mut Holder) -> u32
+    ensures { AsksBy calls.ResetOwner session.old.session result session.new.session }
+{
     asked(alloc, session, FrontendCall::ResetOwner)
 }
 
 /// Asks for the protocol features that the device offers.
 #[unsafe(no_mangle)]
-pub extern "C" fn covretin_ask_get_protocol_features(alloc: Global, session: &mut Holder) -> u32 {
+pub extern "C" fn covretin_ask_get_protocol_features(alloc: Global, session: &mut Holder) -> u32
+    ensures { AsksBy calls.GetProtocolFeatures session.old.session result session.new.session }
+{
     asked(alloc, session, FrontendCall::GetProtocolFeatures)
 }
 
@@ -81,7 +99,9 @@ pub extern "C" fn covretin_ask_set_protocol_features(
     alloc: Global,
     session: &mut Holder,
     features: u64,
-) -> u32 {
+) -> u32
+    ensures { AsksBy (calls.SetProtocolFeatures features) session.old.session result session.new.session }
+{
     asked(
         alloc,
         session,
@@ -91,13 +111,17 @@ pub extern "C" fn covretin_ask_set_protocol_features(
 
 /// Asks how many queues the device has.
 #[unsafe(no_mangle)]
-pub extern "C" fn covretin_ask_get_queue_num(alloc: Global, session: &mut Holder) -> u32 {
+pub extern "C" fn covretin_ask_get_queue_num(alloc: Global, session: &mut Holder) -> u32
+    ensures { AsksBy calls.GetQueueNum session.old.session result session.new.session }
+{
     asked(alloc, session, FrontendCall::GetQueueNum)
 }
 
 /// Resets the device.
 #[unsafe(no_mangle)]
-pub extern "C" fn covretin_ask_reset_device(alloc: Global, session: &mut Holder) -> u32 {
+pub extern "C" fn covretin_ask_reset_device(alloc: Global, session: &mut Holder) -> u32
+    ensures { AsksBy calls.ResetDevice session.old.session result session.new.session }
+{
     asked(alloc, session, FrontendCall::ResetDevice)
 }
 
@@ -108,7 +132,9 @@ pub extern "C" fn covretin_ask_set_vring_num(
     session: &mut Holder,
     index: usize,
     num: u16,
-) -> u32 {
+) -> u32
+    ensures { AsksBy (calls.SetVringNum index num) session.old.session result session.new.session }
+{
     asked(alloc, session, FrontendCall::SetVringNum(index, num))
 }
 
@@ -119,7 +145,9 @@ pub extern "C" fn covretin_ask_set_vring_addr(
     session: &mut Holder,
     index: usize,
     ring: &Vring,
-) -> u32 {
+) -> u32
+    ensures { AsksBy (calls.SetVringAddr index (vring_in ring.now)) session.old.session result session.new.session }
+{
     asked(
         alloc,
         session,
@@ -134,7 +162,9 @@ pub extern "C" fn covretin_ask_set_vring_base(
     session: &mut Holder,
     index: usize,
     base: u16,
-) -> u32 {
+) -> u32
+    ensures { AsksBy (calls.SetVringBase index base) session.old.session result session.new.session }
+{
     asked(alloc, session, FrontendCall::SetVringBase(index, base))
 }
 
@@ -144,7 +174,9 @@ pub extern "C" fn covretin_ask_get_vring_base(
     alloc: Global,
     session: &mut Holder,
     index: usize,
-) -> u32 {
+) -> u32
+    ensures { AsksBy (calls.GetVringBase index) session.old.session result session.new.session }
+{
     asked(alloc, session, FrontendCall::GetVringBase(index))
 }
 
@@ -155,7 +187,9 @@ pub extern "C" fn covretin_ask_set_vring_enable(
     session: &mut Holder,
     index: usize,
     enable: bool,
-) -> u32 {
+) -> u32
+    ensures { AsksBy (calls.SetVringEnable index enable) session.old.session result session.new.session }
+{
     asked(alloc, session, FrontendCall::SetVringEnable(index, enable))
 }
 
@@ -165,13 +199,17 @@ pub extern "C" fn covretin_ask_get_inflight_fd(
     alloc: Global,
     session: &mut Holder,
     inflight: &Inflight,
-) -> u32 {
+) -> u32
+    ensures { AsksBy (calls.GetInflightFd (inflight_in inflight.now)) session.old.session result session.new.session }
+{
     asked(alloc, session, FrontendCall::GetInflightFd(inflight.data()))
 }
 
 /// Asks how many regions of memory the device takes.
 #[unsafe(no_mangle)]
-pub extern "C" fn covretin_ask_get_max_mem_slots(alloc: Global, session: &mut Holder) -> u32 {
+pub extern "C" fn covretin_ask_get_max_mem_slots(alloc: Global, session: &mut Holder) -> u32
+    ensures { AsksBy calls.GetMaxMemSlots session.old.session result session.new.session }
+{
     asked(alloc, session, FrontendCall::GetMaxMemSlots)
 }
 
@@ -181,7 +219,9 @@ pub extern "C" fn covretin_ask_add_mem_region(
     alloc: Global,
     session: &mut Holder,
     region: &Region,
-) -> u32 {
+) -> u32
+    ensures { AsksBy (calls.AddMemRegion (info_in region.now)) session.old.session result session.new.session }
+{
     asked(alloc, session, FrontendCall::AddMemRegion(region.info()))
 }
 
@@ -191,43 +231,57 @@ pub extern "C" fn covretin_ask_remove_mem_region(
     alloc: Global,
     session: &mut Holder,
     region: &Region,
-) -> u32 {
+) -> u32
+    ensures { AsksBy (calls.RemoveMemRegion (info_in region.now)) session.old.session result session.new.session }
+{
     asked(alloc, session, FrontendCall::RemoveMemRegion(region.info()))
 }
 
 /// Asks for the regions of shared memory.
 #[unsafe(no_mangle)]
-pub extern "C" fn covretin_ask_get_shmem_config(alloc: Global, session: &mut Holder) -> u32 {
+pub extern "C" fn covretin_ask_get_shmem_config(alloc: Global, session: &mut Holder) -> u32
+    ensures { AsksBy calls.GetShmemConfig session.old.session result session.new.session }
+{
     asked(alloc, session, FrontendCall::GetShmemConfig)
 }
 
 /// Asks whether the transfer of the device's state succeeded.
 #[unsafe(no_mangle)]
-pub extern "C" fn covretin_ask_check_device_state(alloc: Global, session: &mut Holder) -> u32 {
+pub extern "C" fn covretin_ask_check_device_state(alloc: Global, session: &mut Holder) -> u32
+    ensures { AsksBy calls.CheckDeviceState session.old.session result session.new.session }
+{
     asked(alloc, session, FrontendCall::CheckDeviceState)
 }
 
 /// Tells that postcopy is going to begin, and asks for the descriptor of page faults.
 #[unsafe(no_mangle)]
-pub extern "C" fn covretin_ask_postcopy_advise(alloc: Global, session: &mut Holder) -> u32 {
+pub extern "C" fn covretin_ask_postcopy_advise(alloc: Global, session: &mut Holder) -> u32
+    ensures { AsksBy calls.PostcopyAdvise session.old.session result session.new.session }
+{
     asked(alloc, session, FrontendCall::PostcopyAdvise)
 }
 
 /// Tells the device to listen for page faults.
 #[unsafe(no_mangle)]
-pub extern "C" fn covretin_ask_postcopy_listen(alloc: Global, session: &mut Holder) -> u32 {
+pub extern "C" fn covretin_ask_postcopy_listen(alloc: Global, session: &mut Holder) -> u32
+    ensures { AsksBy calls.PostcopyListen session.old.session result session.new.session }
+{
     asked(alloc, session, FrontendCall::PostcopyListen)
 }
 
 /// Tells that postcopy has ended.
 #[unsafe(no_mangle)]
-pub extern "C" fn covretin_ask_postcopy_end(alloc: Global, session: &mut Holder) -> u32 {
+pub extern "C" fn covretin_ask_postcopy_end(alloc: Global, session: &mut Holder) -> u32
+    ensures { AsksBy calls.PostcopyEnd session.old.session result session.new.session }
+{
     asked(alloc, session, FrontendCall::PostcopyEnd)
 }
 
 /// Tells the greatest size of a packet, in bytes.
 #[unsafe(no_mangle)]
-pub extern "C" fn covretin_ask_set_mtu(alloc: Global, session: &mut Holder, mtu: u16) -> u32 {
+pub extern "C" fn covretin_ask_set_mtu(alloc: Global, session: &mut Holder, mtu: u16) -> u32
+    ensures { AsksBy (calls.SetMtu mtu) session.old.session result session.new.session }
+{
     asked(alloc, session, FrontendCall::SetMtu(mtu))
 }
 

@@ -1,19 +1,68 @@
 //! Asks that give a descriptor.
 
+ghost use Rattle.std.specs.Prelude.{◌≡◌};
+ghost use Rattle.vhost_frontend_calls.specs.Calls.{call_of};
+ghost use Rattle.vhost_c.specs.Records.{handle_in, call_with};
+ghost use Rattle.vhost_c.specs.Session.{AsksWith};
+ghost use Rattle.vhost_c.specs.declared.fd_asks.FdAsk.TheVariants.{SetLogFd, SetVringCall, SetVringKick, SetVringErr, SetBackendRequestFd, SetInflightFd};
+
 use crate::asks::{asked, refused};
 use crate::holder::Holder;
 use crate::records::{Inflight, Region, handle_of};
 use std::alloc::Global;
 use vhost_frontend_calls::FrontendCall;
+use vhost_link::PlainHandle;
 use vhost_message::{Error, VhostTransferStateDirection, VhostTransferStatePhase};
+
+/// A call that gives a descriptor, without it.
+#[derive(Drop)]
+pub(crate) enum FdAsk {
+    SetLogFd,
+    SetVringCall(usize),
+    SetVringKick(usize),
+    SetVringErr(usize),
+    SetBackendRequestFd,
+    SetInflightFd(Inflight),
+    SetDeviceStateFd(VhostTransferStateDirection, VhostTransferStatePhase),
+}
+
+impl FdAsk {
+    /// The call that gives this one.
+    fn with(self, handle: PlainHandle) -> FrontendCall
+        ensures { call_of result ≡ call_with self handle }
+    {
+        match self {
+            FdAsk::SetLogFd => FrontendCall::SetLogFd(handle),
+            FdAsk::SetVringCall(index) => FrontendCall::SetVringCall(index, handle),
+            FdAsk::SetVringKick(index) => FrontendCall::SetVringKick(index, handle),
+            FdAsk::SetVringErr(index) => FrontendCall::SetVringErr(index, handle),
+            FdAsk::SetBackendRequestFd => FrontendCall::SetBackendRequestFd(handle),
+            FdAsk::SetInflightFd(inflight) => FrontendCall::SetInflightFd(inflight.data(), handle),
+            FdAsk::SetDeviceStateFd(direction, phase) => {
+                FrontendCall::SetDeviceStateFd(direction, phase, handle)
+            }
+        }
+    }
+}
+
+/// Asks with the descriptor of this number.
+///
+/// InvalidParam: it is negative.
+fn asked_with(alloc: Global, holder: &mut Holder, ask: FdAsk, fd: i32) -> u32
+    ensures { AsksWith (handle_in fd) (call_with ask) holder.old.session result holder.new.session }
+{
+    match handle_of(fd) {
+        Some(handle) => asked(alloc, holder, ask.with(handle)),
+        None => refused(Error::InvalidParam),
+    }
+}
 
 /// Gives a descriptor that is signalled when the log was written.
 #[unsafe(no_mangle)]
-pub extern "C" fn covretin_ask_set_log_fd(alloc: Global, session: &mut Holder, fd: i32) -> u32 {
-    match handle_of(fd) {
-        Some(handle) => asked(alloc, session, FrontendCall::SetLogFd(handle)),
-        None => refused(Error::InvalidParam),
-    }
+pub extern "C" fn covretin_ask_set_log_fd(alloc: Global, session: &mut Holder, fd: i32) -> u32
+    ensures { AsksWith (handle_in fd) (call_with SetLogFd) session.old.session result session.new.session }
+{
+    asked_with(alloc, session, FdAsk::SetLogFd, fd)
 }
 
 /// Gives the descriptor by which the device interrupts for a ring.
@@ -23,11 +72,10 @@ pub extern "C" fn covretin_ask_set_vring_call(
     session: &mut Holder,
     index: usize,
     fd: i32,
-) -> u32 {
-    match handle_of(fd) {
-        Some(handle) => asked(alloc, session, FrontendCall::SetVringCall(index, handle)),
-        None => refused(Error::InvalidParam),
-    }
+) -> u32
+    ensures { AsksWith (handle_in fd) (call_with (SetVringCall index)) session.old.session result session.new.session }
+{
+    asked_with(alloc, session, FdAsk::SetVringCall(index), fd)
 }
 
 /// Gives the descriptor by which a ring is kicked.
@@ -37,11 +85,10 @@ pub extern "C" fn covretin_ask_set_vring_kick(
     session: &mut Holder,
     index: usize,
     fd: i32,
-) -> u32 {
-    match handle_of(fd) {
-        Some(handle) => asked(alloc, session, FrontendCall::SetVringKick(index, handle)),
-        None => refused(Error::InvalidParam),
-    }
+) -> u32
+    ensures { AsksWith (handle_in fd) (call_with (SetVringKick index)) session.old.session result session.new.session }
+{
+    asked_with(alloc, session, FdAsk::SetVringKick(index), fd)
 }
 
 /// Gives the descriptor by which the device reports an error of a ring.
@@ -51,11 +98,10 @@ pub extern "C" fn covretin_ask_set_vring_err(
     session: &mut Holder,
     index: usize,
     fd: i32,
-) -> u32 {
-    match handle_of(fd) {
-        Some(handle) => asked(alloc, session, FrontendCall::SetVringErr(index, handle)),
-        None => refused(Error::InvalidParam),
-    }
+) -> u32
+    ensures { AsksWith (handle_in fd) (call_with (SetVringErr index)) session.old.session result session.new.session }
+{
+    asked_with(alloc, session, FdAsk::SetVringErr(index), fd)
 }
 
 /// Gives the socket on which the device may ask.
@@ -64,11 +110,10 @@ pub extern "C" fn covretin_ask_set_backend_request_fd(
     alloc: Global,
     session: &mut Holder,
     fd: i32,
-) -> u32 {
-    match handle_of(fd) {
-        Some(handle) => asked(alloc, session, FrontendCall::SetBackendRequestFd(handle)),
-        None => refused(Error::InvalidParam),
-    }
+) -> u32
+    ensures { AsksWith (handle_in fd) (call_with SetBackendRequestFd) session.old.session result session.new.session }
+{
+    asked_with(alloc, session, FdAsk::SetBackendRequestFd, fd)
 }
 
 /// Gives the buffer for descriptors in flight.
@@ -78,15 +123,10 @@ pub extern "C" fn covretin_ask_set_inflight_fd(
     session: &mut Holder,
     inflight: &Inflight,
     fd: i32,
-) -> u32 {
-    match handle_of(fd) {
-        Some(handle) => asked(
-            alloc,
-            session,
-            FrontendCall::SetInflightFd(inflight.data(), handle),
-        ),
-        None => refused(Error::InvalidParam),
-    }
+) -> u32
+    ensures { AsksWith (handle_in fd) (call_with (SetInflightFd inflight.now)) session.old.session result session.new.session }
+{
+    asked_with(alloc, session, FdAsk::SetInflightFd(*inflight), fd)
 }
 
 /// Sets where the log of written pages begins, and where it is kept: a part of what the region's descriptor maps.
@@ -120,16 +160,16 @@ pub extern "C" fn covretin_ask_set_device_state_fd(
     phase: u32,
     fd: i32,
 ) -> u32 {
-    let (Ok(direction), Ok(phase), Some(handle)) = (
+    let (Ok(direction), Ok(phase)) = (
         VhostTransferStateDirection::try_from(direction),
         VhostTransferStatePhase::try_from(phase),
-        handle_of(fd),
     ) else {
         return refused(Error::InvalidParam);
     };
-    asked(
+    asked_with(
         alloc,
         session,
-        FrontendCall::SetDeviceStateFd(direction, phase, handle),
+        FdAsk::SetDeviceStateFd(direction, phase),
+        fd,
     )
 }

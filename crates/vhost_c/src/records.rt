@@ -1,6 +1,8 @@
 //! Records as a program in C writes them.
 
-ghost use Rattle.std.specs.Prelude.{◌≡◌, IfSome};
+ghost use Rattle.std.specs.Prelude.{◌≡◌};
+ghost use Rattle.vhost_frontend_calls.specs.Calls.{info_of};
+ghost use Rattle.vhost_c.specs.Records.{handle_in, info_in, vring_in, inflight_in};
 
 use std::alloc::Global;
 use vhost_frontend_calls::{LogRegion, RegionInfo};
@@ -67,7 +69,9 @@ pub struct Config {
 
 impl Region {
     /// The region of a call.
-    pub(crate) fn info(&self) -> RegionInfo {
+    pub(crate) fn info(&self) -> RegionInfo
+        ensures { info_of result ≡ info_in self.now }
+    {
         RegionInfo {
             region: VhostUserMemoryRegion::new(
                 self.guest_phys_addr,
@@ -91,7 +95,9 @@ impl Region {
 
 impl Vring {
     /// The ring of a call.
-    pub(crate) fn data(&self) -> VringConfigData {
+    pub(crate) fn data(&self) -> VringConfigData
+        ensures { result ≡ vring_in self.now }
+    {
         VringConfigData {
             queue_max_size: self.queue_max_size,
             queue_size: self.queue_size,
@@ -110,7 +116,9 @@ impl Vring {
 
 impl Inflight {
     /// The buffer of a call.
-    pub(crate) fn data(&self) -> VhostUserInflight {
+    pub(crate) fn data(&self) -> VhostUserInflight
+        ensures { result ≡ inflight_in self.now }
+    {
         VhostUserInflight::new(
             self.mmap_size,
             self.mmap_offset,
@@ -147,14 +155,16 @@ pub(crate) fn infos_of(alloc: Global, regions: &[Region]) -> Result<Vec<RegionIn
 }
 
 /// The handle whose number is that of the descriptor. None: it is negative.
-pub(crate) fn handle_of(fd: i32) -> Option<PlainHandle> {
-    match u32::try_from(fd) {
-        Ok(id) => Some(PlainHandle {
-            id,
-            kind: Kind::NoSocket,
-        }),
-        Err(_) => None,
+pub(crate) fn handle_of(fd: i32) -> Option<PlainHandle>
+    ensures { result ≡ handle_in fd }
+{
+    if fd < 0 {
+        return None;
     }
+    Some(PlainHandle {
+        id: fd.unsigned_abs(),
+        kind: Kind::NoSocket,
+    })
 }
 
 /// The handles of descriptors.
