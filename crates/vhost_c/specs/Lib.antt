@@ -1,4 +1,5 @@
 pub mod Holder
+pub mod Moving
 pub mod Number
 pub mod Records
 pub mod Session

@@ -1,5 +1,5 @@
 -- Records of C, as the definitions see them.
-use Rattle.std.specs.Prelude.{ℕ, ℤ, pos, int_lt, unsigned_abs, Option, Some, None, if◌then◌else◌}
+use Rattle.std.specs.Prelude.{ℕ, ℤ, pos, negsuc, nat_lt, int_lt, unsigned_abs, Option, Some, None, if◌then◌else◌}
 use Rattle.vhost_message.specs.declared.records.inflight.VhostUserInflight.{VhostUserInflight}
 use Rattle.vhost_message.specs.declared.vring_config.VringConfigData.{VringConfigData}
 use Rattle.vhost_protocol.specs.FrontendCall as calls
@@ -16,6 +16,10 @@ use Rattle.vhost_c.specs.declared.records.Vring.{Vring}
 -- the handle of a descriptor: its number; none where that is negative
 abbrev pub handle_in : ℤ → Option PlainHandle
 handle_in fd = if int_lt fd (pos 0) then None else Some (record { id = unsigned_abs fd; kind = NoSocket })
+
+-- the descriptor of a handle, or -1
+abbrev pub fd_in : PlainHandle → ℤ
+fd_in h = if nat_lt 2147483647 h.id then negsuc 0 else pos h.id
 
 -- a region and its handle
 abbrev pub info_in : Region → Info PlainHandle

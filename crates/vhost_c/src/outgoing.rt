@@ -1,12 +1,12 @@
 //! What is to be sent.
 
-ghost use Rattle.std.specs.Prelude.{◌<◌, ◌≤◌, length, vec_capacity};
+ghost use Rattle.std.specs.Prelude.{◌≤◌, vec_capacity};
 ghost use Rattle.vhost_message.specs.declared.limits.TheConstants.{MAX_ATTACHED_FD_ENTRIES};
 
-use crate::records::fd_of;
+use crate::records::put_fds;
 use std::alloc::{AllocError, Global};
 use vhost_link::{Link, MemLink, PlainHandle};
-use vhost_message::MAX_ATTACHED_FD_ENTRIES;
+use vhost_message::{Error, MAX_ATTACHED_FD_ENTRIES, Result};
 
 /// What is to be sent: a link that hands it out, and a list for the handles of one piece.
 #[derive(Drop)]
@@ -17,6 +17,9 @@ pub(crate) struct Outgoing {
 }
 
 impl Outgoing {
+    ghost use Rattle.std.specs.Prelude.{◌≡◌, ◌<◌, ◌≤◌, length, IfOk, IfErr};
+    ghost use Rattle.vhost_c.specs.Moving.{HandsOut};
+
     /// Nothing is to be sent.
     pub(crate) fn new(alloc: Global) -> std::result::Result<Outgoing, AllocError> {
         Ok(Outgoing {
@@ -27,21 +30,21 @@ impl Outgoing {
 
     /// Hands out a piece: bytes, with the descriptors on the first of them. The answer is how many of each; no byte is
     /// left where it is 0.
-    pub(crate) fn hand_out(&mut self, bytes: &mut [u8], fds: &mut [i32]) -> (usize, usize)
+    ///
+    /// OutOfMemory: nothing was handed out.
+    pub(crate) fn hand_out(&mut self, bytes: &mut [u8], fds: &mut [i32]) -> Result<(usize, usize)>
         requires bytes { 0 < length bytes.old }
         requires fds { MAX_ATTACHED_FD_ENTRIES ≤ length fds.old }
+        ensures out { IfOk result (λ n. HandsOut self.old.link.pending self.new.link.pending bytes.new fds.new n) }
+        ensures refused { IfErr result (λ e. self.new.link.pending ≡ self.old.link.pending) }
     {
         self.list.clear();
-        let count = self.link.recv(bytes, &mut self.list).unwrap_or(0);
-        (count, put_fds(&self.list, fds))
+        match self.link.recv(bytes, &mut self.list) {
+            Ok(count) => {
+                put_fds(&self.list, fds);
+                Ok((count, self.list.len()))
+            }
+            Err(_) => Err(Error::OutOfMemory),
+        }
     }
-}
-
-/// Writes the numbers of descriptors to the front of a place; the answer is how many.
-fn put_fds(handles: &[PlainHandle], fds: &mut [i32]) -> usize {
-    let count = handles.len().min(fds.len());
-    for i in 0..count {
-        fds[i] = fd_of(handles[i]);
-    }
-    count
 }

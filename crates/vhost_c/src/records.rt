@@ -1,8 +1,8 @@
 //! Records as a program in C writes them.
 
-ghost use Rattle.std.specs.Prelude.{◌≡◌};
+ghost use Rattle.std.specs.Prelude.{◌≡◌, ◌≤◌, length, take, map};
 ghost use Rattle.vhost_frontend_calls.specs.Calls.{info_of};
-ghost use Rattle.vhost_c.specs.Records.{handle_in, info_in, vring_in, inflight_in};
+ghost use Rattle.vhost_c.specs.Records.{handle_in, fd_in, info_in, vring_in, inflight_in};
 
 use std::alloc::Global;
 use vhost_frontend_calls::{LogRegion, RegionInfo};
@@ -184,6 +184,21 @@ pub(crate) fn handles_of(alloc: Global, fds: &[i32]) -> Result<Vec<PlainHandle>>
 }
 
 /// The descriptor whose number a handle has, or -1.
-pub(crate) fn fd_of(handle: PlainHandle) -> i32 {
-    i32::try_from(handle.id).unwrap_or(-1)
+pub(crate) fn fd_of(handle: PlainHandle) -> i32
+    ensures { result ≡ fd_in handle }
+{
+    if handle.id > i32::MAX as u32 {
+        return -1;
+    }
+    handle.id as i32
+}
+
+/// Writes the numbers of descriptors to the front of a place.
+pub(crate) fn put_fds(handles: &[PlainHandle], fds: &mut [i32])
+    requires { length handles.now ≤ length fds.old }
+    ensures { take (length handles.now) fds.new ≡ map fd_in handles.now }
+{
+    'handles: for i in 0..handles.len() {
+        fds[i] = fd_of(handles[i]);
+    }
 }

@@ -38,7 +38,8 @@ impl Session {
     ghost use Rattle.std.specs.Prelude.{◌≡◌, [], IfOk, IfErr};
     ghost use Rattle.vhost_frontend_core.specs.Frontend.{endpoint_of};
     ghost use Rattle.vhost_frontend_calls.specs.Calls.{call_of};
-    ghost use Rattle.vhost_c.specs.Session.{Asks, Stays, Refused, Fails, remembers};
+    ghost use Rattle.vhost_c.specs.Moving.{HandsOut};
+    ghost use Rattle.vhost_c.specs.Session.{Asks, Stays, Refused, Fails, queued, remembers};
 
     /// A new session with a device of at most so many queues.
     ///
@@ -106,16 +107,21 @@ impl Session {
     ///
     /// NoRoom: there is no room for a byte, or not for all descriptors that one may bring. OutOfMemory: a growth was
     /// refused. After each, nothing changed.
-    pub(crate) fn hand_out(
-        &mut self,
-        bytes: &mut [u8],
-        fds: &mut [i32],
-    ) -> Outcome<(usize, usize)> {
+    pub(crate) fn hand_out(&mut self, bytes: &mut [u8], fds: &mut [i32]) -> Outcome<(usize, usize)>
+        ensures out { IfOk result (λ n. HandsOut (queued self.old) (queued self.new) bytes.new fds.new n) }
+        ensures refused { IfErr result (λ _. queued self.new ≡ queued self.old) }
+        ensures rest { (remembers self.new ≡ remembers self.old) × (self.new.asked ≡ self.old.asked) }
+    {
         if bytes.is_empty() || fds.len() < MAX_ATTACHED_FD_ENTRIES {
             return Err(Refusal::NoRoom);
         }
-        collect(&mut self.frontend, &mut self.outgoing.link)?;
-        Ok(self.outgoing.hand_out(bytes, fds))
+        match collect(&mut self.frontend, &mut self.outgoing.link) {
+            Ok(()) => match self.outgoing.hand_out(bytes, fds) {
+                Ok(counts) => Ok(counts),
+                Err(error) => Err(Refusal::Protocol(error)),
+            },
+            Err(error) => Err(Refusal::Protocol(error)),
+        }
     }
 
     /// How many bytes can be told to be missing of the answer.
