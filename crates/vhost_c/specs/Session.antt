@@ -1,5 +1,5 @@
 -- What the calls of a session do.
-use Rattle.std.specs.Prelude.{◌≡◌, ℕ, List, [], ◌++◌, Option, Some, None, is_some, true}
+use Rattle.std.specs.Prelude.{◌≡◌, ℕ, List, [], ◌++◌, Option, Some, None, Result, Ok, Err, ⊤, is_some, true}
 use Rattle.vhost_message.specs.declared.error.Error as declared
 use Rattle.vhost_message.specs.declared.error.Error.TheVariants.{OutOfMemory}
 use Rattle.vhost_message.specs.declared.frontend_req.FrontendReq.{FrontendReq}
@@ -14,9 +14,14 @@ use Rattle.vhost_link.specs.Ends.{Ends}
 use Rattle.vhost_link.specs.declared.plain.PlainHandle.{PlainHandle}
 use Rattle.vhost_connection.specs.Talk.{State}
 use Rattle.vhost_frontend_core.specs.Frontend.{endpoint_of, session_of, awaits}
+use Rattle.vhost_frontend_calls.specs.Calls.{call_of}
+use Rattle.vhost_frontend_calls.specs.Halves.{TakesWell}
+use Rattle.vhost_frontend_calls.specs.declared.answer.FrontendAnswer.{FrontendAnswer}
+use Rattle.vhost_frontend_calls.specs.declared.answer.FrontendAnswer.TheVariants.{Failed}
 use Rattle.vhost_c.specs.Number.{number}
 use Rattle.vhost_c.specs.declared.refusal.Refusal.{Refusal}
-use Rattle.vhost_c.specs.declared.refusal.Refusal.TheVariants.{NotTaken, Protocol}
+use Rattle.vhost_c.specs.declared.refusal.Refusal.TheVariants.{NotTaken, Protocol, NothingAsked, NotYet}
+use Rattle.vhost_c.specs.declared.session.Asked.{Asked as CallAsked}
 use Rattle.vhost_c.specs.declared.session.Session.{Session}
 
 -- what is to be sent: bytes, each with the descriptors that go with it
@@ -69,3 +74,17 @@ pub data AsksBy (call : FrontendCall PlainHandle) : Option Session → ℕ → O
 abbrev pub AsksWith : Option PlainHandle → (PlainHandle → FrontendCall PlainHandle) → Option Session → ℕ → Option Session → Type 0
 AsksWith (Some h) call old n new = AsksBy (call h) old n new
 AsksWith None call old n new = (n ≡ 1) × (new ≡ old)
+
+-- The answer of the call that was asked was taken, of what came: this is the answer, and nothing is asked any more.
+pub record TakesOne (old : Session) (answer : FrontendAnswer) (new : Session) : Type 0 where
+  pub asked : CallAsked
+  pub was : old.asked ≡ Some asked
+  pub taken : TakesWell (call_of asked.call) asked.sent old.frontend answer new.frontend
+  pub now : new.asked ≡ None
+
+-- What taking answers: the answer is kept, or it is this error; or nothing was asked, or the answer has not come whole, and nothing changed.
+pub data Takes (old new : Session) : Result ⊤ Refusal → Type 0 where
+  kept : TakesOne old new.answer new → Takes old new (Ok tt)
+  failed : {e : declared.Error} → TakesOne old (Failed e) new → Takes old new (Err (Protocol e))
+  nothing_asked : old.asked ≡ None → new ≡ old → Takes old new (Err NothingAsked)
+  not_yet : new ≡ old → Takes old new (Err NotYet)

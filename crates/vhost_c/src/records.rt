@@ -1,6 +1,6 @@
 //! Records as a program in C writes them.
 
-ghost use Rattle.std.specs.Prelude.{◌≡◌, ◌≤◌, length, take, map};
+ghost use Rattle.std.specs.Prelude.{◌≡◌, ◌≤◌, length, take, map, Some, IfOk};
 ghost use Rattle.vhost_frontend_calls.specs.Calls.{info_of};
 ghost use Rattle.vhost_c.specs.Records.{handle_in, fd_in, info_in, vring_in, inflight_in};
 
@@ -170,9 +170,11 @@ pub(crate) fn handle_of(fd: i32) -> Option<PlainHandle>
 /// The handles of descriptors.
 ///
 /// InvalidParam: one is negative. OutOfMemory: a growth was refused.
-pub(crate) fn handles_of(alloc: Global, fds: &[i32]) -> Result<Vec<PlainHandle>> {
+pub(crate) fn handles_of(alloc: Global, fds: &[i32]) -> Result<Vec<PlainHandle>>
+    ensures { IfOk result (λ handles. map handle_in fds.now ≡ map Some handles.items) }
+{
     let mut handles = Vec::new(alloc);
-    for fd in fds {
+    'fds: for fd in fds {
         let Some(handle) = handle_of(*fd) else {
             return Err(Error::InvalidParam);
         };

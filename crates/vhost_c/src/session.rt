@@ -38,8 +38,8 @@ impl Session {
     ghost use Rattle.std.specs.Prelude.{◌≡◌, [], IfOk, IfErr};
     ghost use Rattle.vhost_frontend_core.specs.Frontend.{endpoint_of};
     ghost use Rattle.vhost_frontend_calls.specs.Calls.{call_of};
-    ghost use Rattle.vhost_c.specs.Moving.{HandsOut};
-    ghost use Rattle.vhost_c.specs.Session.{Asks, Stays, Refused, Fails, queued, remembers};
+    ghost use Rattle.vhost_c.specs.Moving.{HandsOut, TakesIn};
+    ghost use Rattle.vhost_c.specs.Session.{Asks, Stays, Refused, Fails, Takes, queued, arrived, remembers};
 
     /// A new session with a device of at most so many queues.
     ///
@@ -139,38 +139,54 @@ impl Session {
     ///
     /// TooManyBytes: they are more than are missing. InvalidParam: descriptors without a byte, more than a message may
     /// have, or a negative one. OutOfMemory: a growth was refused. After each, nothing changed.
-    pub(crate) fn receive(&mut self, bytes: &[u8], fds: &[i32]) -> Outcome<()> {
+    pub(crate) fn receive(&mut self, bytes: &[u8], fds: &[i32]) -> Outcome<()>
+        ensures got { IfOk result (λ _. TakesIn bytes.now fds.now (arrived self.old) (arrived self.new)) }
+        ensures refused { IfErr result (λ _. arrived self.new ≡ arrived self.old) }
+        ensures rest { (queued self.new ≡ queued self.old) × (remembers self.new ≡ remembers self.old) × (self.new.asked ≡ self.old.asked) }
+    {
         if bytes.len() > self.missing() {
             return Err(Refusal::TooManyBytes);
         }
-        let handles = handles_of(self.alloc, fds)?;
-        if handles.len() > MAX_ATTACHED_FD_ENTRIES || bytes.is_empty() && !fds.is_empty() {
-            return Err(Refusal::Protocol(Error::InvalidParam));
+        match handles_of(self.alloc, fds) {
+            Ok(handles) => {
+                if handles.len() > MAX_ATTACHED_FD_ENTRIES || bytes.is_empty() && !fds.is_empty() {
+                    return Err(Refusal::Protocol(Error::InvalidParam));
+                }
+                match give(&mut self.frontend, bytes, &handles) {
+                    Ok(()) => {
+                        self.incoming.add(bytes);
+                        Ok(())
+                    }
+                    Err(error) => Err(Refusal::Protocol(error)),
+                }
+            }
+            Err(error) => Err(Refusal::Protocol(error)),
         }
-        give(&mut self.frontend, bytes, &handles)?;
-        self.incoming.add(bytes);
-        Ok(())
     }
 
     /// Takes the answer of the call that was asked.
     ///
     /// NothingAsked, NotYet: nothing changed. The errors of the call; after these, nothing is asked any more.
-    pub(crate) fn take(&mut self) -> Outcome<()> {
+    pub(crate) fn take(&mut self) -> Outcome<()>
+        ensures { Takes self.old self.new result }
+    {
         if self.missing() > 0 {
             return Err(Refusal::NotYet);
         }
-        let Some(Asked { call, sent }) = self.asked.take() else {
-            return Err(Refusal::NothingAsked);
-        };
-        match take(&mut self.frontend, &call, sent) {
-            FrontendAnswer::Failed(error) => {
-                self.answer = FrontendAnswer::Done;
-                Err(Refusal::Protocol(error))
+        match self.asked.take() {
+            Some(Asked { call, sent }) => {
+                match take(&mut self.frontend, &call, sent) {
+                    FrontendAnswer::Failed(error) => {
+                        self.answer = FrontendAnswer::Done;
+                        Err(Refusal::Protocol(error))
+                    }
+                    answer => {
+                        self.answer = answer;
+                        Ok(())
+                    }
+                }
             }
-            answer => {
-                self.answer = answer;
-                Ok(())
-            }
+            None => Err(Refusal::NothingAsked),
         }
     }
 
