@@ -1,6 +1,5 @@
 -- What became of a call that was asked.
-use Rattle.std.proofs.Common.{◌≡◌, ℕ, List, [], ◌++◌, append_assoc, Option, Some, None, Result, Ok, Err, IfOk, IfErr, refl, sym, ap, subst, ◌∙◌}
-use Rattle.std.specs.Prelude.{⊤}
+use Rattle.std.proofs.Common.{◌≡◌, ℕ, List, [], ◌++◌, append_assoc, Option, Some, None, Result, Ok, Err, refl, sym, ap, subst, ◌∙◌}
 use Rattle.std.proofs.lemmas.List.{append-nil}
 use Rattle.vhost_message.specs.declared.error.Error as declared
 use Rattle.vhost_message.specs.declared.frontend_req.FrontendReq.{FrontendReq}
@@ -22,9 +21,7 @@ use Rattle.vhost_frontend_core.specs.Halves.{AsksHalfWithRoom}
 use Rattle.vhost_frontend_core.specs.declared.asked.Sent.{Sent}
 use Rattle.vhost_frontend_core.specs.declared.internal.FrontendInternal.{FrontendInternal}
 use Rattle.vhost_frontend_calls.specs.Halves.{AsksCall, half, refused, at_once}
-use Rattle.vhost_c.specs.Number.{number, outcome_number}
-use Rattle.vhost_c.specs.Session.{Asks, sent, Stays, Fails, unsent, no_memory, Refused, AsksBy, none, asks, refuses, queued, remembers}
-use Rattle.vhost_c.specs.declared.refusal.Refusal.{Refusal}
+use Rattle.vhost_c.specs.Session.{Asks, sent, Stays, Fails, unsent, no_memory, queued, remembers}
 use Rattle.vhost_c.specs.declared.session.Session.{Session}
 use Rattle.vhost_c.specs.Session as session
 
@@ -81,17 +78,3 @@ asks-since call old mid new queue memory (session.at_once flags is f q) = sessio
 
 pub stays-since : (old mid new : Session) → queued mid ≡ queued old → remembers mid ≡ remembers old → mid.asked ≡ old.asked → Stays mid new → Stays old new
 stays-since old mid new queue memory asked s = record { queue = s.queue ∙ queue; memory = s.memory ∙ memory; asked = s.asked ∙ asked }
-
--- a session that C asks, by the number that it is answered
-pub asks-none : (call : FrontendCall PlainHandle) (old new : Option Session) (n : ℕ) → old ≡ None → new ≡ None → n ≡ 101 → AsksBy call old n new
-asks-none call old new n at_old at_new is =
-    subst (λ o. AsksBy call o n new) (sym at_old) (subst (λ o. AsksBy call None n o) (sym at_new) (subst (λ m. AsksBy call None m None) (sym is) none))
-
-at-some : (call : FrontendCall PlainHandle) (old new : Option Session) (s s' : Session) (n m : ℕ) → old ≡ Some s → new ≡ Some s' → n ≡ m → AsksBy call (Some s) m (Some s') → AsksBy call old n new
-at-some call old new s s' n m at_old at_new is a =
-    subst (λ o. AsksBy call o n new) (sym at_old) (subst (λ o. AsksBy call (Some s) n o) (sym at_new) (subst (λ k. AsksBy call (Some s) k (Some s')) (sym is) a))
-
-pub asks-some : (call : FrontendCall PlainHandle) (old new : Option Session) (s s' : Session) (n : ℕ) (outcome : Result ⊤ Refusal) → old ≡ Some s → new ≡ Some s' → n ≡ outcome_number outcome
-    → IfOk outcome (λ _. Asks call s s') → IfErr outcome (λ _. Stays s s') → IfErr outcome (λ r. Refused call s r) → AsksBy call old n new
-asks-some call old new s s' n (Ok done) at_old at_new is asked stays reason = at-some call old new s s' n 0 at_old at_new is (asks asked)
-asks-some call old new s s' n (Err r) at_old at_new is asked stays reason = at-some call old new s s' n (number r) at_old at_new is (refuses reason stays)

@@ -1,5 +1,5 @@
 -- What the calls of a session do.
-use Rattle.std.specs.Prelude.{◌≡◌, ℕ, List, [], ◌++◌, Option, Some, None, Result, Ok, Err, ⊤, is_some, true}
+use Rattle.std.specs.Prelude.{◌≡◌, ℕ, ℤ, List, [], ◌++◌, Option, Some, None, Result, Ok, Err, ⊤, is_some, true}
 use Rattle.vhost_message.specs.declared.error.Error as declared
 use Rattle.vhost_message.specs.declared.error.Error.TheVariants.{OutOfMemory}
 use Rattle.vhost_message.specs.declared.frontend_req.FrontendReq.{FrontendReq}
@@ -18,7 +18,8 @@ use Rattle.vhost_frontend_calls.specs.Calls.{call_of}
 use Rattle.vhost_frontend_calls.specs.Halves.{TakesWell}
 use Rattle.vhost_frontend_calls.specs.declared.answer.FrontendAnswer.{FrontendAnswer}
 use Rattle.vhost_frontend_calls.specs.declared.answer.FrontendAnswer.TheVariants.{Failed}
-use Rattle.vhost_c.specs.Number.{number}
+use Rattle.vhost_c.specs.Number.{outcome_number}
+use Rattle.vhost_c.specs.Moving.{HandsOut, TakesIn}
 use Rattle.vhost_c.specs.declared.refusal.Refusal.{Refusal}
 use Rattle.vhost_c.specs.declared.refusal.Refusal.TheVariants.{NotTaken, Protocol, NothingAsked, NotYet}
 use Rattle.vhost_c.specs.declared.session.Asked.{Asked as CallAsked}
@@ -64,11 +65,19 @@ pub data Refused (call : FrontendCall PlainHandle) (s : Session) : Refusal → T
   busy : is_some s.asked ≡ true → Refused call s NotTaken
   fails : {e : declared.Error} → Fails call (remembers s) e → Refused call s (Protocol e)
 
--- A call of C: there is no session; or the call was asked, 0; or it was refused, and this is why.
-pub data AsksBy (call : FrontendCall PlainHandle) : Option Session → ℕ → Option Session → Type 0 where
-  none : AsksBy call None 101 None
-  asks : {s s' : Session} → Asks call s s' → AsksBy call (Some s) 0 (Some s')
-  refuses : {s s' : Session} {r : Refusal} → Refused call s r → Stays s s' → AsksBy call (Some s) (number r) (Some s')
+-- What a session answers to an ask.
+abbrev pub Asking : FrontendCall PlainHandle → Session → Result ⊤ Refusal → Session → Type 0
+Asking call s (Ok done) s' = Asks call s s'
+Asking call s (Err r) s' = Refused call s r × Stays s s'
+
+-- A call of C, by the number that it answers: there is no session, or what it does to the session is this.
+pub data By (does : Session → Result ⊤ Refusal → Session → Type 0) : Option Session → ℕ → Option Session → Type 0 where
+  none : By does None 101 None
+  some : {s s' : Session} {outcome : Result ⊤ Refusal} → does s outcome s' → By does (Some s) (outcome_number outcome) (Some s')
+
+-- an ask of C
+abbrev pub AsksBy : FrontendCall PlainHandle → Option Session → ℕ → Option Session → Type 0
+AsksBy call = By (Asking call)
 
 -- The same of a call that gives a descriptor: where there is none, the call is refused as one with an argument that is not allowed.
 abbrev pub AsksWith : Option PlainHandle → (PlainHandle → FrontendCall PlainHandle) → Option Session → ℕ → Option Session → Type 0
@@ -88,3 +97,25 @@ pub data Takes (old new : Session) : Result ⊤ Refusal → Type 0 where
   failed : {e : declared.Error} → TakesOne old (Failed e) new → Takes old new (Err (Protocol e))
   nothing_asked : old.asked ≡ None → new ≡ old → Takes old new (Err NothingAsked)
   not_yet : new ≡ old → Takes old new (Err NotYet)
+
+-- A part of the answer came, or nothing did; nothing else changed.
+pub record Waits (old new : Session) : Type 0 where
+  pub queue : queued new ≡ queued old
+  pub memory : remembers new ≡ remembers old
+  pub asked : new.asked ≡ old.asked
+
+-- what a session answers to bytes of its answer
+abbrev pub Receiving : List ℕ → List ℤ → Session → Result ⊤ Refusal → Session → Type 0
+Receiving bytes fds s (Ok done) s' = TakesIn bytes fds (arrived s) (arrived s') × Waits s s'
+Receiving bytes fds s (Err r) s' = (arrived s' ≡ arrived s) × Waits s s'
+
+-- what it answers where it is to hand out what is to be sent
+abbrev pub Sending : List ℕ → List ℤ → ℕ × ℕ → Session → Result ⊤ Refusal → Session → Type 0
+Sending bytes fds count s (Ok done) s' = HandsOut (queued s) (queued s') bytes fds count × (remembers s' ≡ remembers s) × (s'.asked ≡ s.asked)
+Sending bytes fds count s (Err r) s' = (queued s' ≡ queued s) × (remembers s' ≡ remembers s) × (s'.asked ≡ s.asked)
+
+-- An ask of C whose arguments may be such that no call can be made of them: then it is refused, 1. Else it is asked; or memory was refused before, 24.
+pub data AsksUnless (bad : Type 0) (call : FrontendCall PlainHandle) (old : Option Session) (n : ℕ) (new : Option Session) : Type 0 where
+  asks : AsksBy call old n new → AsksUnless bad call old n new
+  refuses : bad → n ≡ 1 → new ≡ old → AsksUnless bad call old n new
+  wants : n ≡ 24 → new ≡ old → AsksUnless bad call old n new

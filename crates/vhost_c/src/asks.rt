@@ -1,11 +1,12 @@
 //! Asks whose arguments are numbers and records.
 
-ghost use Rattle.std.specs.Prelude.{◌≡◌};
+ghost use Rattle.std.specs.Prelude.{◌≡◌, ◌≢◌, ◌<◌, length, map, replicate};
+ghost use Rattle.vhost_message.specs.declared.limits.TheConstants.{MAX_MSG_SIZE, MAX_MEM_REGIONS};
 ghost use Rattle.vhost_c.specs.Number.{error_number};
 ghost use Rattle.vhost_protocol.specs.FrontendCall as calls;
 ghost use Rattle.vhost_frontend_calls.specs.Calls.{call_of};
 ghost use Rattle.vhost_c.specs.Records.{vring_in, inflight_in, info_in};
-ghost use Rattle.vhost_c.specs.Session.{AsksBy};
+ghost use Rattle.vhost_c.specs.Session.{AsksBy, AsksUnless};
 
 use crate::holder::Holder;
 use crate::records::{Inflight, Region, Vring, infos_of};
@@ -293,7 +294,9 @@ pub extern "C" fn covretin_ask_get_config(
     offset: u32,
     size: u32,
     flags: u32,
-) -> u32 {
+) -> u32
+    ensures { AsksUnless (MAX_MSG_SIZE < size) (calls.GetConfig offset size flags (replicate size 0)) session.old.session result session.new.session }
+{
     if size as usize > MAX_MSG_SIZE {
         return refused(Error::InvalidParam);
     }
@@ -316,7 +319,9 @@ pub extern "C" fn covretin_ask_set_config(
     offset: u32,
     flags: u32,
     bytes: &[u8],
-) -> u32 {
+) -> u32
+    ensures { AsksUnless (MAX_MSG_SIZE < length bytes.now) (calls.SetConfig offset flags bytes.now) session.old.session result session.new.session }
+{
     if bytes.len() > MAX_MSG_SIZE {
         return refused(Error::InvalidParam);
     }
@@ -337,7 +342,9 @@ pub extern "C" fn covretin_ask_set_mem_table(
     alloc: Global,
     session: &mut Holder,
     regions: &[Region],
-) -> u32 {
+) -> u32
+    ensures { AsksUnless (MAX_MEM_REGIONS < length regions.now) (calls.SetMemTable (map info_in regions.now)) session.old.session result session.new.session }
+{
     match infos_of(alloc, regions) {
         Ok(infos) => asked(alloc, session, FrontendCall::SetMemTable(infos)),
         Err(error) => refused(error),
@@ -350,7 +357,9 @@ pub extern "C" fn covretin_ask_get_shared_object(
     alloc: Global,
     session: &mut Holder,
     name: &[u8],
-) -> u32 {
+) -> u32
+    ensures { AsksUnless (length name.now ≢ 16) (calls.GetSharedObject (record { uuid = name.now })) session.old.session result session.new.session }
+{
     if name.len() != 16 {
         return refused(Error::InvalidParam);
     }

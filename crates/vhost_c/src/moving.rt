@@ -1,5 +1,7 @@
 //! What a session sends goes out, what came for it is taken in, and its answers are taken.
 
+ghost use Rattle.vhost_c.specs.Session.{By, Sending, Receiving, Takes};
+
 use crate::holder::Holder;
 use crate::refusal::{Refusal, number_of};
 use std::alloc::Global;
@@ -13,19 +15,23 @@ pub extern "C" fn covretin_to_send(
     fds: &mut [i32],
     byte_count: &mut usize,
     fd_count: &mut usize,
-) -> u32 {
-    let Some(mut held) = session.take(alloc) else {
-        return number_of(Err(Refusal::NoSession));
-    };
-    let outcome = held.hand_out(bytes, fds);
-    session.put(held);
-    match outcome {
-        Ok((bytes, fds)) => {
-            *byte_count = bytes;
-            *fd_count = fds;
-            0
+) -> u32
+    ensures { By (Sending bytes.new fds.new (byte_count.new, fd_count.new)) session.old.session result session.new.session }
+{
+    match session.take(alloc) {
+        None => number_of(Err(Refusal::NoSession)),
+        Some(mut held) => {
+            let outcome = held.hand_out(bytes, fds);
+            session.put(held);
+            match outcome {
+                Ok((bytes, fds)) => {
+                    *byte_count = bytes;
+                    *fd_count = fds;
+                    number_of(Ok(()))
+                }
+                Err(refusal) => number_of(Err(refusal)),
+            }
         }
-        Err(refusal) => number_of(Err(refusal)),
     }
 }
 
@@ -47,22 +53,30 @@ pub extern "C" fn covretin_receive(
     session: &mut Holder,
     bytes: &[u8],
     fds: &[i32],
-) -> u32 {
-    let Some(mut held) = session.take(alloc) else {
-        return number_of(Err(Refusal::NoSession));
-    };
-    let outcome = held.receive(bytes, fds);
-    session.put(held);
-    number_of(outcome)
+) -> u32
+    ensures { By (Receiving bytes.now fds.now) session.old.session result session.new.session }
+{
+    match session.take(alloc) {
+        None => number_of(Err(Refusal::NoSession)),
+        Some(mut held) => {
+            let outcome = held.receive(bytes, fds);
+            session.put(held);
+            number_of(outcome)
+        }
+    }
 }
 
 /// Takes the answer of the call that was asked.
 #[unsafe(no_mangle)]
-pub extern "C" fn covretin_take(alloc: Global, session: &mut Holder) -> u32 {
-    let Some(mut held) = session.take(alloc) else {
-        return number_of(Err(Refusal::NoSession));
-    };
-    let outcome = held.take();
-    session.put(held);
-    number_of(outcome)
+pub extern "C" fn covretin_take(alloc: Global, session: &mut Holder) -> u32
+    ensures { By (λ s o s'. Takes s s' o) session.old.session result session.new.session }
+{
+    match session.take(alloc) {
+        None => number_of(Err(Refusal::NoSession)),
+        Some(mut held) => {
+            let outcome = held.take();
+            session.put(held);
+            number_of(outcome)
+        }
+    }
 }

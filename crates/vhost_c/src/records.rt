@@ -1,6 +1,8 @@
 //! Records as a program in C writes them.
 
-ghost use Rattle.std.specs.Prelude.{◌≡◌, ◌≤◌, length, take, map, Some, IfOk};
+ghost use Rattle.std.specs.Prelude.{◌≡◌, ◌<◌, ◌≤◌, ◌⊎◌, length, take, map, Some, IfOk, IfErr};
+ghost use Rattle.vhost_message.specs.declared.error.Error.TheVariants.{OutOfMemory, InvalidParam};
+ghost use Rattle.vhost_message.specs.declared.limits.TheConstants.{MAX_MEM_REGIONS};
 ghost use Rattle.vhost_frontend_calls.specs.Calls.{info_of};
 ghost use Rattle.vhost_c.specs.Records.{handle_in, fd_in, info_in, vring_in, inflight_in};
 
@@ -141,12 +143,15 @@ impl Inflight {
 /// The regions of a table.
 ///
 /// InvalidParam: there are more than a table may have. OutOfMemory: a growth was refused.
-pub(crate) fn infos_of(alloc: Global, regions: &[Region]) -> Result<Vec<RegionInfo>> {
+pub(crate) fn infos_of(alloc: Global, regions: &[Region]) -> Result<Vec<RegionInfo>>
+    ensures infos { IfOk result (λ infos. map info_of infos.items ≡ map info_in regions.now) }
+    ensures reason { IfErr result (λ e. (e ≡ OutOfMemory) ⊎ ((e ≡ InvalidParam) × (MAX_MEM_REGIONS < length regions.now))) }
+{
     if regions.len() > MAX_MEM_REGIONS {
         return Err(Error::InvalidParam);
     }
     let mut infos = Vec::new(alloc);
-    for region in regions {
+    'regions: for region in regions {
         if infos.push(region.info()).is_err() {
             return Err(Error::OutOfMemory);
         }

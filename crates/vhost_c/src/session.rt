@@ -38,8 +38,8 @@ impl Session {
     ghost use Rattle.std.specs.Prelude.{◌≡◌, [], IfOk, IfErr};
     ghost use Rattle.vhost_frontend_core.specs.Frontend.{endpoint_of};
     ghost use Rattle.vhost_frontend_calls.specs.Calls.{call_of};
-    ghost use Rattle.vhost_c.specs.Moving.{HandsOut, TakesIn};
-    ghost use Rattle.vhost_c.specs.Session.{Asks, Stays, Refused, Fails, Takes, queued, arrived, remembers};
+    ghost use Rattle.vhost_c.specs.Moving.{HandsOut};
+    ghost use Rattle.vhost_c.specs.Session.{Asks, Asking, Stays, Fails, Receiving, Takes, queued, remembers};
 
     /// A new session with a device of at most so many queues.
     ///
@@ -64,9 +64,7 @@ impl Session {
     /// NotTaken: the answer of the call before is still to be taken. The errors of the call. After each, nothing more is to
     /// be sent than before.
     pub(crate) fn ask(&mut self, call: FrontendCall) -> Outcome<()>
-        ensures asked { IfOk result (λ _. Asks (call_of call) self.old self.new) }
-        ensures refused { IfErr result (λ _. Stays self.old self.new) }
-        ensures reason { IfErr result (λ r. Refused (call_of call) self.old r) }
+        ensures { Asking (call_of call) self.old result self.new }
     {
         if self.asked.is_some() {
             return Err(Refusal::NotTaken);
@@ -140,9 +138,7 @@ impl Session {
     /// TooManyBytes: they are more than are missing. InvalidParam: descriptors without a byte, more than a message may
     /// have, or a negative one. OutOfMemory: a growth was refused. After each, nothing changed.
     pub(crate) fn receive(&mut self, bytes: &[u8], fds: &[i32]) -> Outcome<()>
-        ensures got { IfOk result (λ _. TakesIn bytes.now fds.now (arrived self.old) (arrived self.new)) }
-        ensures refused { IfErr result (λ _. arrived self.new ≡ arrived self.old) }
-        ensures rest { (queued self.new ≡ queued self.old) × (remembers self.new ≡ remembers self.old) × (self.new.asked ≡ self.old.asked) }
+        ensures { Receiving bytes.now fds.now self.old result self.new }
     {
         if bytes.len() > self.missing() {
             return Err(Refusal::TooManyBytes);

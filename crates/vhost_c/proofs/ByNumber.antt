@@ -1,0 +1,21 @@
+-- What C calls, by the number that it is answered.
+use Rattle.std.proofs.Common.{◌≡◌, ℕ, Option, Some, None, Result, Ok, Err, IfOk, IfErr, sym, subst}
+use Rattle.std.specs.Prelude.{⊤}
+use Rattle.vhost_c.specs.Number.{outcome_number}
+use Rattle.vhost_c.specs.Session.{By, none, some}
+use Rattle.vhost_c.specs.declared.refusal.Refusal.{Refusal}
+use Rattle.vhost_c.specs.declared.session.Session.{Session}
+
+module _ (does : Session → Result ⊤ Refusal → Session → Type 0) (old new : Option Session) (n : ℕ) where
+  pub by-none : old ≡ None → new ≡ None → n ≡ 101 → By does old n new
+  by-none at_old at_new is =
+      subst (λ o. By does o n new) (sym at_old) (subst (λ o. By does None n o) (sym at_new) (subst (λ m. By does None m None) (sym is) none))
+
+  pub by-some : (s s' : Session) (outcome : Result ⊤ Refusal) → old ≡ Some s → new ≡ Some s' → n ≡ outcome_number outcome → does s outcome s' → By does old n new
+  by-some s s' outcome at_old at_new is did =
+      subst (λ o. By does o n new) (sym at_old) (subst (λ o. By does (Some s) n o) (sym at_new) (subst (λ m. By does (Some s) m (Some s')) (sym is) (some did)))
+
+-- what is said of an Ok and of an Err apart, at once
+pub either : {P : ⊤ → Type 0} {Q : Refusal → Type 0} (both : Result ⊤ Refusal → Type 0) → ((t : ⊤) → P t → both (Ok t)) → ((r : Refusal) → Q r → both (Err r)) → (outcome : Result ⊤ Refusal) → IfOk outcome P → IfErr outcome Q → both outcome
+either both ok err (Ok t) p q = ok t p
+either both ok err (Err r) p q = err r q
