@@ -1,5 +1,5 @@
 -- What C calls, by the number that it is answered.
-use Rattle.std.proofs.Common.{◌≡◌, ℕ, Option, Some, None, Result, Ok, Err, IfOk, IfErr, sym, subst}
+use Rattle.std.proofs.Common.{◌≡◌, ℕ, Option, Some, None, Result, sym, subst}
 use Rattle.std.specs.Prelude.{⊤}
 use Rattle.vhost_c.specs.Number.{outcome_number}
 use Rattle.vhost_c.specs.Session.{By, none, some}
@@ -15,7 +15,6 @@ module _ (does : Session → Result ⊤ Refusal → Session → Type 0) (old new
   by-some s s' outcome at_old at_new is did =
       subst (λ o. By does o n new) (sym at_old) (subst (λ o. By does (Some s) n o) (sym at_new) (subst (λ m. By does (Some s) m (Some s')) (sym is) (some did)))
 
--- what is said of an Ok and of an Err apart, at once
-pub either : {P : ⊤ → Type 0} {Q : Refusal → Type 0} (both : Result ⊤ Refusal → Type 0) → ((t : ⊤) → P t → both (Ok t)) → ((r : Refusal) → Q r → both (Err r)) → (outcome : Result ⊤ Refusal) → IfOk outcome P → IfErr outcome Q → both outcome
-either both ok err (Ok t) p q = ok t p
-either both ok err (Err r) p q = err r q
+-- the same of other names for the three
+pub as-said : (P : Option Session → ℕ → Option Session → Type 0) (old new old' new' : Option Session) (n n' : ℕ) → old ≡ old' → n ≡ n' → new ≡ new' → P old' n' new' → P old n new
+as-said P old new old' new' n n' at_old is at_new p = subst (λ o. P o n new) (sym at_old) (subst (λ m. P old' m new) (sym is) (subst (λ o. P old' n' o) (sym at_new) p))

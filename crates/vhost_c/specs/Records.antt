@@ -3,7 +3,7 @@ use Rattle.std.specs.Prelude.{ℕ, ℤ, pos, negsuc, nat_lt, int_lt, unsigned_ab
 use Rattle.vhost_message.specs.declared.records.inflight.VhostUserInflight.{VhostUserInflight}
 use Rattle.vhost_message.specs.declared.vring_config.VringConfigData.{VringConfigData}
 use Rattle.vhost_protocol.specs.FrontendCall as calls
-use Rattle.vhost_protocol.specs.FrontendCall.{FrontendCall, Info}
+use Rattle.vhost_protocol.specs.FrontendCall.{FrontendCall, Info, LogRegion}
 use Rattle.vhost_link.specs.declared.handle.Kind.TheVariants.{NoSocket}
 use Rattle.vhost_link.specs.declared.plain.PlainHandle.{PlainHandle}
 use Rattle.vhost_message.specs.Transfer.{direction_number, phase_number}
@@ -24,6 +24,10 @@ fd_in h = if nat_lt 2147483647 h.id then negsuc 0 else pos h.id
 -- a region and its handle
 abbrev pub info_in : Region → Info PlainHandle
 info_in r = record { region = record { guest_phys_addr = r.guest_phys_addr; memory_size = r.memory_size; user_addr = r.user_addr; mmap_offset = r.mmap_offset }; handle = handle_in r.fd }
+
+-- the part of a region's mapping where a log is kept
+abbrev pub log_in : Region → LogRegion PlainHandle
+log_in r = record { mmap_size = r.memory_size; mmap_offset = r.mmap_offset; handle = handle_in r.fd }
 
 -- where a ring lies
 abbrev pub vring_in : Vring → VringConfigData

@@ -7,7 +7,7 @@ use Rattle.vhost_message.specs.FrontendReq.{request_number}
 use Rattle.vhost_protocol.specs.Ask.{ask, Asked, Sends, Refuses}
 use Rattle.vhost_protocol.specs.declared.asked.Awaited.{Awaited}
 use Rattle.vhost_protocol.specs.Error.{seen}
-use Rattle.vhost_protocol.specs.FrontendCall.{FrontendCall, SetHdrFlags, Frontend}
+use Rattle.vhost_protocol.specs.FrontendCall.{FrontendCall, SetHdrFlags, PostcopyAckMemRegions, Frontend, new_frontend}
 use Rattle.vhost_protocol.specs.Stream.{Cell}
 use Rattle.vhost_protocol.specs.Written.{Written, written_cells}
 use Rattle.vhost_link.specs.Ends.{Ends}
@@ -119,3 +119,21 @@ pub data AsksUnless (bad : Type 0) (call : FrontendCall PlainHandle) (old : Opti
   asks : AsksBy call old n new → AsksUnless bad call old n new
   refuses : bad → n ≡ 1 → new ≡ old → AsksUnless bad call old n new
   wants : n ≡ 24 → new ≡ old → AsksUnless bad call old n new
+
+-- A new session: nothing is to be sent, nothing came, nothing is asked.
+pub record IsNew (max_queue_num : ℕ) (s : Session) : Type 0 where
+  pub queue : queued s ≡ []
+  pub came : arrived s ≡ []
+  pub memory : remembers s ≡ new_frontend max_queue_num
+  pub asked : s.asked ≡ None
+
+-- A session was opened; or there was one; or memory was refused.
+pub data Opens (max_queue_num : ℕ) : Option Session → ℕ → Option Session → Type 0 where
+  opened : {s : Session} → IsNew max_queue_num s → Opens max_queue_num None 0 (Some s)
+  was_open : {s : Session} → Opens max_queue_num (Some s) 102 (Some s)
+  no_room : Opens max_queue_num None 24 None
+
+-- an ask that names a request by its number
+abbrev pub AcksBy : Result FrontendReq ⊤ → Option Session → ℕ → Option Session → Type 0
+AcksBy (Ok code) old n new = AsksBy (PostcopyAckMemRegions code) old n new
+AcksBy (Err none_of_it) old n new = (n ≡ 1) × (new ≡ old)

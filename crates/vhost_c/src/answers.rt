@@ -1,5 +1,7 @@
 //! The answer that was taken last is read, by its form.
 
+ghost use Rattle.std.specs.Prelude.{◌≡◌};
+
 use crate::holder::Holder;
 use crate::records::{Config, Inflight, fd_of};
 use crate::refusal::{Refusal, number_of};
@@ -14,7 +16,9 @@ pub extern "C" fn covretin_answer_number(
     alloc: Global,
     session: &mut Holder,
     number: &mut u64,
-) -> u32 {
+) -> u32
+    ensures { session.new.session ≡ session.old.session }
+{
     let Some(held) = session.take(alloc) else {
         return number_of(Err(Refusal::NoSession));
     };
@@ -30,7 +34,9 @@ pub extern "C" fn covretin_answer_bases(
     session: &mut Holder,
     bases: &mut [u64],
     count: &mut usize,
-) -> u32 {
+) -> u32
+    ensures { session.new.session ≡ session.old.session }
+{
     let Some(held) = session.take(alloc) else {
         return number_of(Err(Refusal::NoSession));
     };
@@ -47,7 +53,9 @@ pub extern "C" fn covretin_answer_config(
     config: &mut Config,
     bytes: &mut [u8],
     count: &mut usize,
-) -> u32 {
+) -> u32
+    ensures { session.new.session ≡ session.old.session }
+{
     let Some(held) = session.take(alloc) else {
         return number_of(Err(Refusal::NoSession));
     };
@@ -58,7 +66,9 @@ pub extern "C" fn covretin_answer_config(
 
 /// Reads a descriptor; -1 is none, where the call may do without.
 #[unsafe(no_mangle)]
-pub extern "C" fn covretin_answer_fd(alloc: Global, session: &mut Holder, fd: &mut i32) -> u32 {
+pub extern "C" fn covretin_answer_fd(alloc: Global, session: &mut Holder, fd: &mut i32) -> u32
+    ensures { session.new.session ≡ session.old.session }
+{
     let Some(held) = session.take(alloc) else {
         return number_of(Err(Refusal::NoSession));
     };
@@ -74,7 +84,9 @@ pub extern "C" fn covretin_answer_inflight(
     session: &mut Holder,
     inflight: &mut Inflight,
     fd: &mut i32,
-) -> u32 {
+) -> u32
+    ensures { session.new.session ≡ session.old.session }
+{
     let Some(held) = session.take(alloc) else {
         return number_of(Err(Refusal::NoSession));
     };
@@ -90,7 +102,9 @@ pub extern "C" fn covretin_answer_shmem(
     session: &mut Holder,
     sizes: &mut [u64],
     count: &mut usize,
-) -> u32 {
+) -> u32
+    ensures { session.new.session ≡ session.old.session }
+{
     let Some(held) = session.take(alloc) else {
         return number_of(Err(Refusal::NoSession));
     };

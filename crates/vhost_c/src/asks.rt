@@ -6,7 +6,8 @@ ghost use Rattle.vhost_c.specs.Number.{error_number};
 ghost use Rattle.vhost_protocol.specs.FrontendCall as calls;
 ghost use Rattle.vhost_frontend_calls.specs.Calls.{call_of};
 ghost use Rattle.vhost_c.specs.Records.{vring_in, inflight_in, info_in};
-ghost use Rattle.vhost_c.specs.Session.{AsksBy, AsksUnless};
+ghost use Rattle.vhost_c.specs.Session.{AcksBy, AsksBy, AsksUnless};
+ghost use Rattle.vhost_message.specs.FrontendReq.{request_at};
 
 use crate::holder::Holder;
 use crate::records::{Inflight, Region, Vring, infos_of};
@@ -377,7 +378,9 @@ pub extern "C" fn covretin_ask_postcopy_ack_mem_regions(
     alloc: Global,
     session: &mut Holder,
     request: u32,
-) -> u32 {
+) -> u32
+    ensures { AcksBy (request_at request) session.old.session result session.new.session }
+{
     match FrontendReq::try_from(request) {
         Ok(code) => asked(alloc, session, FrontendCall::PostcopyAckMemRegions(code)),
         Err(()) => refused(Error::InvalidParam),

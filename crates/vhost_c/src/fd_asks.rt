@@ -1,9 +1,10 @@
 //! Asks that give a descriptor.
 
-ghost use Rattle.std.specs.Prelude.{◌≡◌};
+ghost use Rattle.std.specs.Prelude.{◌≡◌, Some, None};
+ghost use Rattle.vhost_protocol.specs.FrontendCall as calls;
 ghost use Rattle.vhost_frontend_calls.specs.Calls.{call_of};
-ghost use Rattle.vhost_c.specs.Records.{handle_in, call_with};
-ghost use Rattle.vhost_c.specs.Session.{AsksWith};
+ghost use Rattle.vhost_c.specs.Records.{handle_in, log_in, call_with};
+ghost use Rattle.vhost_c.specs.Session.{AsksBy, AsksWith};
 ghost use Rattle.vhost_c.specs.declared.fd_asks.FdAsk.TheVariants.{SetLogFd, SetVringCall, SetVringKick, SetVringErr, SetBackendRequestFd, SetInflightFd};
 
 use crate::asks::{asked, refused};
@@ -136,7 +137,9 @@ pub extern "C" fn covretin_ask_set_log_base(
     session: &mut Holder,
     base: u64,
     region: &Region,
-) -> u32 {
+) -> u32
+    ensures { AsksBy (calls.SetLogBase base (Some (log_in region.now))) session.old.session result session.new.session }
+{
     let call = FrontendCall::SetLogBase(base, Some(region.log()));
     asked(alloc, session, call)
 }
@@ -147,7 +150,9 @@ pub extern "C" fn covretin_ask_set_log_base_alone(
     alloc: Global,
     session: &mut Holder,
     base: u64,
-) -> u32 {
+) -> u32
+    ensures { AsksBy (calls.SetLogBase base None) session.old.session result session.new.session }
+{
     asked(alloc, session, FrontendCall::SetLogBase(base, None))
 }
 

@@ -1,5 +1,6 @@
 //! What a session sends goes out, what came for it is taken in, and its answers are taken.
 
+ghost use Rattle.std.specs.Prelude.{◌≡◌};
 ghost use Rattle.vhost_c.specs.Session.{By, Sending, Receiving, Takes};
 
 use crate::holder::Holder;
@@ -37,7 +38,9 @@ pub extern "C" fn covretin_to_send(
 
 /// How many bytes can be told to be missing of the answer: 0 where it may be taken.
 #[unsafe(no_mangle)]
-pub extern "C" fn covretin_missing(alloc: Global, session: &mut Holder) -> usize {
+pub extern "C" fn covretin_missing(alloc: Global, session: &mut Holder) -> usize
+    ensures { session.new.session ≡ session.old.session }
+{
     let Some(held) = session.take(alloc) else {
         return 0;
     };

@@ -1,5 +1,8 @@
 //! Sessions are opened and closed.
 
+ghost use Rattle.std.specs.Prelude.{◌≡◌, None, IfOk};
+ghost use Rattle.vhost_c.specs.Session.{IsNew, Opens};
+
 use crate::holder::Holder;
 use crate::refusal::{Refusal, number_of};
 use crate::session::Session;
@@ -8,27 +11,41 @@ use vhost_message::Error;
 
 /// Opens a session with a device of at most so many queues.
 #[unsafe(no_mangle)]
-pub extern "C" fn covretin_open(alloc: Global, session: &mut Holder, max_queue_num: u64) -> u32 {
-    number_of(open(alloc, session, max_queue_num))
+pub extern "C" fn covretin_open(alloc: Global, session: &mut Holder, max_queue_num: u64) -> u32
+    ensures { Opens max_queue_num session.old.session result session.new.session }
+{
+    match session.take(alloc) {
+        Some(held) => {
+            session.put(held);
+            number_of(Err(Refusal::SessionOpen))
+        }
+        None => match boxed(alloc, max_queue_num) {
+            Ok(made) => {
+                session.put(made);
+                number_of(Ok(()))
+            }
+            Err(_) => number_of(Err(Refusal::Protocol(Error::OutOfMemory))),
+        },
+    }
 }
 
-fn open(alloc: Global, holder: &mut Holder, max_queue_num: u64) -> Result<(), Refusal> {
-    if let Some(session) = holder.take(alloc) {
-        holder.put(session);
-        return Err(Refusal::SessionOpen);
-    }
-    let session = Session::new(alloc, max_queue_num)?;
-    match Box::new(alloc, session) {
-        Ok(session) => {
-            holder.put(session);
-            Ok(())
-        }
-        Err(_) => Err(Refusal::Protocol(Error::OutOfMemory)),
+/// A new session in a box.
+fn boxed(alloc: Global, max_queue_num: u64) -> Result<Box<Session>, Error>
+    ensures { IfOk result (λ b. IsNew max_queue_num b.value) }
+{
+    match Session::new(alloc, max_queue_num) {
+        Ok(session) => match Box::new(alloc, session) {
+            Ok(made) => Ok(made),
+            Err(_) => Err(Error::OutOfMemory),
+        },
+        Err(error) => Err(error),
     }
 }
 
 /// Closes a session, if there is one, and frees what it held.
 #[unsafe(no_mangle)]
-pub extern "C" fn covretin_close(alloc: Global, session: &mut Holder) {
+pub extern "C" fn covretin_close(alloc: Global, session: &mut Holder)
+    ensures { session.new.session ≡ None }
+{
     let _closed = session.take(alloc);
 }

@@ -17,11 +17,13 @@ pub(crate) struct Outgoing {
 }
 
 impl Outgoing {
-    ghost use Rattle.std.specs.Prelude.{◌≡◌, ◌<◌, ◌≤◌, length, IfOk, IfErr};
+    ghost use Rattle.std.specs.Prelude.{◌≡◌, ◌<◌, ◌≤◌, [], length, IfOk, IfErr};
     ghost use Rattle.vhost_c.specs.Moving.{HandsOut};
 
     /// Nothing is to be sent.
-    pub(crate) fn new(alloc: Global) -> std::result::Result<Outgoing, AllocError> {
+    pub(crate) fn new(alloc: Global) -> std::result::Result<Outgoing, AllocError>
+        ensures { IfOk result (λ o. o.link.pending ≡ []) }
+    {
         Ok(Outgoing {
             link: MemLink::new(alloc, Vec::new(alloc)),
             list: Vec::with_capacity(alloc, MAX_ATTACHED_FD_ENTRIES)?,

@@ -3,8 +3,8 @@
 ghost use Rattle.std.specs.Prelude.{◌≡◌, ◌<◌, ◌≤◌, ◌⊎◌, length, take, map, Some, IfOk, IfErr};
 ghost use Rattle.vhost_message.specs.declared.error.Error.TheVariants.{OutOfMemory, InvalidParam};
 ghost use Rattle.vhost_message.specs.declared.limits.TheConstants.{MAX_MEM_REGIONS};
-ghost use Rattle.vhost_frontend_calls.specs.Calls.{info_of};
-ghost use Rattle.vhost_c.specs.Records.{handle_in, fd_in, info_in, vring_in, inflight_in};
+ghost use Rattle.vhost_frontend_calls.specs.Calls.{info_of, log_region_of};
+ghost use Rattle.vhost_c.specs.Records.{handle_in, fd_in, info_in, log_in, vring_in, inflight_in};
 
 use std::alloc::Global;
 use vhost_frontend_calls::{LogRegion, RegionInfo};
@@ -86,7 +86,9 @@ impl Region {
     }
 
     /// The region as the place of a log.
-    pub(crate) fn log(&self) -> LogRegion {
+    pub(crate) fn log(&self) -> LogRegion
+        ensures { log_region_of (Some result) ≡ Some (log_in self.now) }
+    {
         LogRegion {
             mmap_size: self.memory_size,
             mmap_offset: self.mmap_offset,

@@ -39,24 +39,29 @@ impl Session {
     ghost use Rattle.vhost_frontend_core.specs.Frontend.{endpoint_of};
     ghost use Rattle.vhost_frontend_calls.specs.Calls.{call_of};
     ghost use Rattle.vhost_c.specs.Moving.{HandsOut};
-    ghost use Rattle.vhost_c.specs.Session.{Asks, Asking, Stays, Fails, Receiving, Takes, queued, remembers};
+    ghost use Rattle.vhost_c.specs.Session.{IsNew, Asks, Asking, Stays, Fails, Receiving, Takes, queued, remembers};
 
     /// A new session with a device of at most so many queues.
     ///
     /// OutOfMemory: a growth was refused.
-    pub(crate) fn new(alloc: Global, max_queue_num: u64) -> Outcome<Session> {
+    pub(crate) fn new(alloc: Global, max_queue_num: u64) -> std::result::Result<Session, Error>
+        ensures { IfOk result (IsNew max_queue_num) }
+    {
         let link = MemLink::new(alloc, Vec::new(alloc));
         let Ok(outgoing) = Outgoing::new(alloc) else {
-            return Err(Refusal::Protocol(Error::OutOfMemory));
+            return Err(Error::OutOfMemory);
         };
-        Ok(Session {
-            frontend: FrontendInternal::new(alloc, link, max_queue_num, BUDGET)?,
-            outgoing,
-            asked: None,
-            incoming: Incoming::new(),
-            answer: FrontendAnswer::Done,
-            alloc,
-        })
+        match FrontendInternal::new(alloc, link, max_queue_num, BUDGET) {
+            Ok(frontend) => Ok(Session {
+                frontend,
+                outgoing,
+                asked: None,
+                incoming: Incoming::new(),
+                answer: FrontendAnswer::Done,
+                alloc,
+            }),
+            Err(error) => Err(error),
+        }
     }
 
     /// Asks. What is to be sent then waits to be handed out.
