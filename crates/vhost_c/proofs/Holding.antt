@@ -3,14 +3,13 @@ use Rattle.std.proofs.Common.{◌≡◌, ℕ, List, [], ◌∷◌, ◌++◌, ref
 use seplogic.Ra.Ura.{Ura}
 use mir.Syntax.{ty_ptr}
 use mir.Raw.{raw as bare}
-use mir.Val.{Val, vptr, vstruct, vcons, vnil, of_list}
-use base.Fml.{Fml, ftrue, fsep}
+use mir.Val.{Val, vstruct, vcons, vnil, of_list}
+use base.Fml.{Fml}
 use base.Fraction.{full_share}
 use base.Logic.{ent, emp, guard, via, snd∗, guard_i}
 use contract.Monad.{fact_use}
 use types.Logic.{Logic, sem}
 use types.Kit.{Item, Goal, Seq, ‵, ◌$◌, drop, fsplit, fpick}
-use denote.RattleType.{RattleType}
 use denote.Memory.{lone}
 use denote.RawPtr.{Ptr, RawPtr, block_ptr, null_ptr, ptr_val, lies_at, Testable}
 use denote.Shadow.{shadow, makes_shadow}

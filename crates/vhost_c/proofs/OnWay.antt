@@ -1,5 +1,5 @@
 -- What goes between an endpoint's link and its caller.
-use Rattle.std.proofs.Common.{◌≡◌, ℕ, List, [], ◌++◌, Result, Ok, Err, OnOk, IsOk, ap, ◌∙◌}
+use Rattle.std.proofs.Common.{◌≡◌, List, [], ◌++◌, Result, Ok, Err, OnOk, IsOk, ap, ◌∙◌}
 use Rattle.vhost_link.specs.declared.plain.PlainHandle.{PlainHandle}
 use Rattle.vhost_link.specs.Ends.{Ends, Carried}
 use Rattle.vhost_protocol.specs.Stream.{Cell}

@@ -1,5 +1,5 @@
 -- Bytes out and in.
-use Rattle.std.specs.Prelude.{◌≡◌, ℕ, ℤ, ◌≤◌, List, [], ◌++◌, length, map, take, Some}
+use Rattle.std.specs.Prelude.{◌≡◌, ℕ, ℤ, List, [], ◌++◌, length, map, take, Some}
 use Rattle.vhost_protocol.specs.Stream.{Cell, carrying}
 use Rattle.vhost_link.specs.declared.plain.PlainHandle.{PlainHandle}
 use Rattle.vhost_c.specs.Records.{fd_in, handle_in}

@@ -1,5 +1,5 @@
 -- Records of C, as the definitions see them.
-use Rattle.std.specs.Prelude.{ℕ, ℤ, pos, negsuc, nat_lt, int_lt, unsigned_abs, Option, Some, None, if◌then◌else◌}
+use Rattle.std.specs.Prelude.{ℤ, pos, negsuc, nat_lt, int_lt, unsigned_abs, Option, Some, None, if◌then◌else◌}
 use Rattle.vhost_message.specs.declared.records.inflight.VhostUserInflight.{VhostUserInflight}
 use Rattle.vhost_message.specs.declared.vring_config.VringConfigData.{VringConfigData}
 use Rattle.vhost_protocol.specs.FrontendCall as calls

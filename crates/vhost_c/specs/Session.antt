@@ -4,7 +4,7 @@ use Rattle.vhost_message.specs.declared.error.Error as declared
 use Rattle.vhost_message.specs.declared.error.Error.TheVariants.{OutOfMemory}
 use Rattle.vhost_message.specs.declared.frontend_req.FrontendReq.{FrontendReq}
 use Rattle.vhost_message.specs.FrontendReq.{request_number}
-use Rattle.vhost_protocol.specs.Ask.{ask, Asked, Sends, Refuses}
+use Rattle.vhost_protocol.specs.Ask.{ask, Sends, Refuses}
 use Rattle.vhost_protocol.specs.declared.asked.Awaited.{Awaited}
 use Rattle.vhost_protocol.specs.Error.{seen}
 use Rattle.vhost_protocol.specs.FrontendCall.{FrontendCall, SetHdrFlags, PostcopyAckMemRegions, Frontend, new_frontend}
@@ -137,3 +137,8 @@ pub data Opens (max_queue_num : ℕ) : Option Session → ℕ → Option Session
 abbrev pub AcksBy : Result FrontendReq ⊤ → Option Session → ℕ → Option Session → Type 0
 AcksBy (Ok code) old n new = AsksBy (PostcopyAckMemRegions code) old n new
 AcksBy (Err none_of_it) old n new = (n ≡ 1) × (new ≡ old)
+
+-- what it answers where its answer is read: where that has the form that is asked for, this was read; nothing changed
+abbrev pub Reading : FrontendAnswer → Session → Result ⊤ Refusal → Session → Type 0
+Reading answer s (Ok done) s' = (s.answer ≡ answer) × (s' ≡ s)
+Reading answer s (Err r) s' = s' ≡ s

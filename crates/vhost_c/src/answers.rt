@@ -1,6 +1,8 @@
 //! The answer that was taken last is read, by its form.
 
-ghost use Rattle.std.specs.Prelude.{◌≡◌};
+ghost use Rattle.std.specs.Prelude.{◌≡◌, IfOk};
+ghost use Rattle.vhost_frontend_calls.specs.declared.answer.FrontendAnswer.TheVariants.{Number};
+ghost use Rattle.vhost_c.specs.Session.{By, Reading};
 
 use crate::holder::Holder;
 use crate::records::{Config, Inflight, fd_of};
@@ -17,14 +19,16 @@ pub extern "C" fn covretin_answer_number(
     session: &mut Holder,
     number: &mut u64,
 ) -> u32
-    ensures { session.new.session ≡ session.old.session }
+    ensures { By (Reading (Number number.new)) session.old.session result session.new.session }
 {
-    let Some(held) = session.take(alloc) else {
-        return number_of(Err(Refusal::NoSession));
-    };
-    let outcome = read_number(held.answer(), number);
-    session.put(held);
-    number_of(outcome)
+    match session.take(alloc) {
+        None => number_of(Err(Refusal::NoSession)),
+        Some(held) => {
+            let outcome = read_number(held.answer(), number);
+            session.put(held);
+            number_of(outcome)
+        }
+    }
 }
 
 /// Reads where regions are mapped, if the device listens for page faults; else their count is 0.
@@ -113,7 +117,9 @@ pub extern "C" fn covretin_answer_shmem(
     number_of(outcome)
 }
 
-fn read_number(answer: &FrontendAnswer, number: &mut u64) -> Outcome {
+fn read_number(answer: &FrontendAnswer, number: &mut u64) -> Outcome
+    ensures { IfOk result (λ _. answer.now ≡ Number number.new) }
+{
     match answer {
         FrontendAnswer::Number(value) => {
             *number = *value;

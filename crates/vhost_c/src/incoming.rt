@@ -1,6 +1,7 @@
 //! How much came of the reply that is awaited.
 
-ghost use Rattle.std.specs.Prelude.{◌≤◌, length};
+ghost use Rattle.std.specs.Prelude.{◌≡◌, ◌<◌, ◌≤◌, ◌-◌};
+ghost use Rattle.vhost_message.specs.declared.limits.TheConstants.{MAX_MSG_TEXT, MSG_HEADER_SIZE};
 
 use vhost_message::{MAX_MSG_SIZE, MSG_HEADER_SIZE};
 
@@ -13,7 +14,9 @@ pub(crate) struct Incoming {
 
 impl Incoming {
     /// Nothing came yet.
-    pub(crate) fn new() -> Incoming {
+    pub(crate) fn new() -> Incoming
+        ensures { result.count ≡ 0 }
+    {
         Incoming {
             head: [0; MSG_HEADER_SIZE],
             count: 0,
@@ -22,7 +25,10 @@ impl Incoming {
 
     /// How many bytes can be told to be missing: those of the header, and then those of the body that the header
     /// announces. The body of a reply that is longer than a message may be is not waited for.
-    pub(crate) fn missing(&self) -> usize {
+    pub(crate) fn missing(&self) -> usize
+        ensures header { self.now.count < MSG_HEADER_SIZE → result ≡ MSG_HEADER_SIZE - self.now.count }
+        ensures within { result ≤ MAX_MSG_TEXT }
+    {
         if self.count < MSG_HEADER_SIZE {
             return MSG_HEADER_SIZE - self.count;
         }

@@ -35,7 +35,8 @@ pub struct Session {
 }
 
 impl Session {
-    ghost use Rattle.std.specs.Prelude.{◌≡◌, [], IfOk, IfErr};
+    ghost use Rattle.std.specs.Prelude.{◌≡◌, ◌≤◌, [], None, IfOk, IfErr};
+    ghost use Rattle.vhost_message.specs.declared.limits.TheConstants.{MAX_MSG_TEXT};
     ghost use Rattle.vhost_frontend_core.specs.Frontend.{endpoint_of};
     ghost use Rattle.vhost_frontend_calls.specs.Calls.{call_of};
     ghost use Rattle.vhost_c.specs.Moving.{HandsOut};
@@ -128,7 +129,10 @@ impl Session {
     }
 
     /// How many bytes can be told to be missing of the answer.
-    pub(crate) fn missing(&self) -> usize {
+    pub(crate) fn missing(&self) -> usize
+        ensures within { result ≤ MAX_MSG_TEXT }
+        ensures unasked { self.now.asked ≡ None → result ≡ 0 }
+    {
         match &self.asked {
             None => 0,
             Some(asked) => match asked.sent.awaited() {
@@ -192,7 +196,9 @@ impl Session {
     }
 
     /// The answer that was taken last.
-    pub(crate) fn answer(&self) -> &FrontendAnswer {
+    pub(crate) fn answer(&self) -> &FrontendAnswer
+        ensures { result.now ≡ self.now.answer }
+    {
         &self.answer
     }
 }

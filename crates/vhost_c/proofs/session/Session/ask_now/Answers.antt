@@ -1,4 +1,4 @@
-use Rattle.std.proofs.Common.{[], ◌++◌, List, Option, Ok, refl, sym, ap, subst, ◌∙◌}
+use Rattle.std.proofs.Common.{◌++◌, List, Option, Ok, refl, sym, ap, subst, ◌∙◌}
 use Rattle.vhost_frontend_core.specs.declared.asked.Sent.{Sent}
 use Rattle.vhost_frontend_calls.specs.Halves.{AsksCall}
 use Rattle.vhost_link.specs.Ends.{Ends}

@@ -1,7 +1,6 @@
-use Rattle.std.proofs.Common.{Option, Some, refl, sym, ap, ◌∙◌}
+use Rattle.std.proofs.Common.{Option, refl, sym, ap, ◌∙◌}
 use Rattle.vhost_c.specs.Session.{kept, failed, nothing_asked, not_yet}
 use Rattle.vhost_c.specs.declared.session.Asked.{Asked}
-use Rattle.vhost_c.specs.declared.session.Session.{Session}
 use Rattle.vhost_c.proofs.session.Session.take.Goals as goal
 
 pub returns-then-missing-gt0 : goal.returns-then-missing-gt0
