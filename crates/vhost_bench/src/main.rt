@@ -36,26 +36,18 @@ const TRIED: u64 = 10;
 /// Status 0 where all was done, 1 after other arguments, 2 where memory, a socket, the clock or the output failed.
 fn main(rt: HostRuntime) -> ExitCode {
     let mut errors = rt.stderr();
-    let Ok(words) = env::args(&rt) else {
+    let Ok(words) = words_of(&rt, rt.alloc()) else {
         let _ = writeln!(errors, "vhost-bench: out of memory");
         return ExitCode::from(2);
     };
-    let mut words = words.skip(1);
-    let (word, name, count) = (words.next(), words.next(), words.next());
+    let Some(asked) = asked_by(&words) else {
+        return usage(&mut errors);
+    };
     let mut output = io::writer(&rt);
-    let done = match (word, name, count) {
-        (None, None, None) => measure(&rt, rt.alloc(), &mut output),
-        (Some(word), None, None) if word.as_str() == "--try" => {
-            attempt(&rt, rt.alloc(), &mut output)
-        }
-        (Some(word), Some(name), Some(count)) if word.as_str() == "--one" => {
-            let (Some(figure), Ok(count)) = (figure_of(name.as_str()), count.as_str().parse())
-            else {
-                return usage(&mut errors);
-            };
-            show_good(&rt, rt.alloc(), &figure, count, &mut output)
-        }
-        _ => return usage(&mut errors),
+    let done = match asked {
+        Asked::All => measure(&rt, rt.alloc(), &mut output),
+        Asked::Try => attempt(&rt, rt.alloc(), &mut output),
+        Asked::One(figure, count) => show_good(&rt, rt.alloc(), &figure, count, &mut output),
     };
     if done.is_ok() {
         return ExitCode::from(0);
@@ -65,6 +57,39 @@ fn main(rt: HostRuntime) -> ExitCode {
         "vhost-bench: memory, a socket, the clock or the output failed"
     );
     ExitCode::from(2)
+}
+
+/// What the arguments ask for.
+#[derive(Clone, Copy)]
+enum Asked {
+    /// All figures are measured.
+    All,
+    /// Each work is done a few times.
+    Try,
+    /// A figure's work is done so often.
+    One(Figure, u64),
+}
+
+/// The arguments behind the program's name.
+fn words_of(rt: &HostRuntime, alloc: Global) -> io::Result<Vec<String>> {
+    let mut words = Vec::new(alloc);
+    for word in env::args(rt)?.skip(1) {
+        words.push(word)?;
+    }
+    Ok(words)
+}
+
+/// What some arguments ask for. None where that is nothing.
+fn asked_by(words: &[String]) -> Option<Asked> {
+    match words {
+        [] => Some(Asked::All),
+        [word] if word.as_str() == "--try" => Some(Asked::Try),
+        [word, name, count] if word.as_str() == "--one" => {
+            let count = count.as_str().parse::<u64>().ok()?;
+            Some(Asked::One(figure_of(name.as_str())?, count))
+        }
+        _ => None,
+    }
 }
 
 fn usage<E: Write>(errors: &mut E) -> ExitCode {
