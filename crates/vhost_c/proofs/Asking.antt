@@ -71,9 +71,9 @@ pub collected : (before taken pending now : List (Cell PlainHandle)) → pending
 collected before taken pending now is gone = ap (λ xs. pending ++ xs) gone ∙ append-nil pending ∙ is
 
 -- what was asked of a session in between was asked of the one before, where nothing but its places changed
-pub asks-since : (call : FrontendCall PlainHandle) (old mid new : Session) → queued mid ≡ queued old → remembers mid ≡ remembers old → Asks call mid new → Asks call old new
-asks-since call old mid new queue memory (sent w is text) = sent w (subst (λ f. ask f call ≡ Sends w (awaits new.frontend) (remembers new)) memory is) (text ∙ ap (λ xs. xs ++ cells w) queue)
-asks-since call old mid new queue memory (session.at_once flags is f q) = session.at_once flags is (f ∙ ap {A = Frontend} (λ g. record g { header_flags = flags }) memory) (q ∙ queue)
+pub asks-since : (call : FrontendCall PlainHandle) (old mid new : Session) → queued mid ≡ queued old → remembers mid ≡ remembers old → mid.asked ≡ old.asked → Asks call mid new → Asks call old new
+asks-since call old mid new queue memory asked (sent w is text kept at same) = sent w (subst (λ f. ask f call ≡ Sends w (awaits new.frontend) (remembers new)) memory is) (text ∙ ap (λ xs. xs ++ cells w) queue) kept at same
+asks-since call old mid new queue memory asked (session.at_once flags is f q at) = session.at_once flags is (f ∙ ap {A = Frontend} (λ g. record g { header_flags = flags }) memory) (q ∙ queue) (at ∙ asked)
 
 pub stays-since : (old mid new : Session) → queued mid ≡ queued old → remembers mid ≡ remembers old → mid.asked ≡ old.asked → Stays mid new → Stays old new
 stays-since old mid new queue memory asked s = record { queue = s.queue ∙ queue; memory = s.memory ∙ memory; asked = s.asked ∙ asked }

@@ -42,11 +42,11 @@ pub record Collects (old new : State Ends PlainHandle) (before after : List (Cel
   pub given : new ≡ record old { link = record old.link { sent = [] } }
   pub got : after ≡ before ++ old.link.sent
 
--- A call was asked: its request is behind what was to be sent before, and what is remembered and awaited is the definitions'; or nothing is sent for it, and it was done.
+-- A call was asked: its request is behind what was to be sent before, what is remembered and awaited is the definitions', and it is the call that is kept until it is taken; or nothing is sent for it, and it was done.
 pub data Asks (call : FrontendCall PlainHandle) (old new : Session) : Type 0 where
   sent : (w : Written FrontendReq PlainHandle) → ask (remembers old) call ≡ Sends w (awaits new.frontend) (remembers new)
-      → queued new ≡ queued old ++ written_cells request_number w → Asks call old new
-  at_once : (flags : ℕ) → call ≡ SetHdrFlags flags → remembers new ≡ record (remembers old) { header_flags = flags } → queued new ≡ queued old → Asks call old new
+      → queued new ≡ queued old ++ written_cells request_number w → (kept : CallAsked) → new.asked ≡ Some kept → call_of kept.call ≡ call → Asks call old new
+  at_once : (flags : ℕ) → call ≡ SetHdrFlags flags → remembers new ≡ record (remembers old) { header_flags = flags } → queued new ≡ queued old → new.asked ≡ old.asked → Asks call old new
 
 -- Why a call was not asked: its own tests say so; or memory was refused, before or on its way.
 pub data Fails (call : FrontendCall PlainHandle) (f : Frontend) : declared.Error → Type 0 where

@@ -22,7 +22,7 @@ returns-in-Err c = (
 pub returns-in-Ok-ask_now : goal.returns-in-Ok-ask_now
 returns-in-Ok-ask_now c =
     asks-since _ _ _ _ (collected c.args.self.now.outgoing.link.pending (endpoint_of c.args.self.now.frontend).link.sent _ _ c.in-Ok.ensures.collected.got (ap {A = State Ends PlainHandle} (λ e. e.link.sent) c.in-Ok.ensures.collected.given))
-    c.in-Ok.ensures.rest.0 c.in-Ok-ask_now.ensures.asked
+    c.in-Ok.ensures.rest.0 refl c.in-Ok-ask_now.ensures.asked
 
 pub returns-in-Err-ask_now : goal.returns-in-Err-ask_now
 returns-in-Err-ask_now c = (

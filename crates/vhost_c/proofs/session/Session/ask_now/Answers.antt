@@ -17,12 +17,12 @@ returns-in-Ok-Some-clause-asked c =
     let old = c.args.self.now.frontend in let new = c.ask.new.frontend in
     let w = went c.stream_law.ensures.stream (ask (session_of old) (call_of c.args.call)) (endpoint_of old) (endpoint_of new) (session_of old) (session_of new) (awaits old) (awaits new) c.in-Ok-Some.sent
     (by-half (call_of c.args.call) old new c.in-Ok-Some.sent (subst {A = Option Sent} (λ o. AsksCall (call_of c.args.call) old (Ok o) new) c.in-Ok-Some.field-0-is c.in-Ok-Some.ensures.asked)) in
-    sent w.w w.is (behind c.args.self.now.outgoing.link.pending (endpoint_of old).link.sent (cells w.w) (endpoint_of new).link.sent w.text)
+    sent w.w w.is (behind c.args.self.now.outgoing.link.pending (endpoint_of old).link.sent (cells w.w) (endpoint_of new).link.sent w.text) (record { call = c.args.call; sent = c.in-Ok-Some.sent }) refl refl
 
 pub returns-in-Ok-None-clause-asked : goal.returns-in-Ok-None-clause-asked
 returns-in-Ok-None-clause-asked c =
     let f = by-flags (call_of c.args.call) c.args.self.now.frontend c.ask.new.frontend (subst {A = Option Sent} (λ o. AsksCall (call_of c.args.call) c.args.self.now.frontend (Ok o) c.ask.new.frontend) c.in-Ok-None.field-0-is c.in-Ok-None.ensures.asked) in
-    at_once f.flags f.is f.session (ap {A = State Ends PlainHandle} (λ e. c.args.self.now.outgoing.link.pending ++ e.link.sent) f.same)
+    at_once f.flags f.is f.session (ap {A = State Ends PlainHandle} (λ e. c.args.self.now.outgoing.link.pending ++ e.link.sent) f.same) refl
 
 pub returns-in-Err-clause-refused : goal.returns-in-Err-clause-refused
 returns-in-Err-clause-refused c =
