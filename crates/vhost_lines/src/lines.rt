@@ -7,7 +7,7 @@ ghost use Rattle.vhost_lines.specs.Lines.{lines, bad_line, status_of, complaint_
 ghost use Rattle.vhost_lines.specs.Shown.{line_text};
 ghost use Rattle.vhost_frontend_calls.specs.Calls.{call_of};
 ghost use Rattle.vhost_lines.specs.Run.{ShowsLines, ShowsFront};
-ghost use Rattle.vhost_lines.specs.Session.{IsFresh, Answers, AnswersLines, AnswersFront, request_of, reply_of, stopped_of};
+ghost use Rattle.vhost_lines.specs.Session.{IsFresh, Answers, AnswersLines, AnswersFront};
 
 use crate::device::{Device, new_device};
 use crate::fault::{Fault, input_fault};
@@ -17,7 +17,9 @@ use std::io;
 use std::io::{BufRead, ErrorKind, Write};
 use vhost_answer_text::{Answer, Message};
 use vhost_call_words::call_of;
+use vhost_device::VhostUserBackendReqHandlerMut;
 use vhost_frontend_calls::{FrontendAnswer, FrontendCall};
+use vhost_link::MemLink;
 use vhost_pair::{Halt, Joined, Stop};
 
 /// A frontend joined to the example device.
@@ -143,9 +145,13 @@ fn show_call(session: &mut Session, call: &FrontendCall, shown: &mut Vec<u8>) ->
 
 /// Makes the line of an answered call, unless a link failed or memory was refused in its middle.
 #[inline(never)]
-fn show_answer(session: &Session, answer: &FrontendAnswer, shown: &mut Vec<u8>) -> Result<(), Fault>
-    ensures premises { OnOk result (stopped_of session.now ≢ Some Premise) }
-    ensures line { OnOk result (shown.new.items ≡ line_text (request_of session.now) (reply_of session.now) answer.now) }
+fn show_answer<D: VhostUserBackendReqHandlerMut<Link = MemLink>>(
+    session: &Joined<D>,
+    answer: &FrontendAnswer,
+    shown: &mut Vec<u8>,
+) -> Result<(), Fault>
+    ensures premises { OnOk result (session.now.stopped ≢ Some Premise) }
+    ensures line { OnOk result (shown.new.items ≡ line_text session.now.request session.now.reply answer.now) }
 {
     if session.stopped() == Some(Stop::Premise) {
         return Err(Fault::Link);
