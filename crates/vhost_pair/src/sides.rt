@@ -64,14 +64,12 @@ impl<D: VhostUserBackendReqHandlerMut<Link = MemLink>> Sides<D> {
         ensures fresh { IfOk result (λ sides. parts_of sides ≡ fresh_parts device max_queue_num budget asking.items serving.items) }
         ensures memory { IfErr result (λ e. e ≡ OutOfMemory) }
     {
-        let asking = MemLink::new(alloc, asking);
-        let serving = MemLink::new(alloc, serving);
-        let (Ok(request), Ok(reply)) = (Wire::new(alloc), Wire::new(alloc)) else {
+        let Ok((request, reply)) = Wire::pair(alloc) else {
             return Err(Error::OutOfMemory);
         };
         Ok(Sides {
-            frontend: new_asking(alloc, asking, max_queue_num, budget)?,
-            handler: new_serving(alloc, serving, budget)?,
+            frontend: new_asking(alloc, MemLink::new(alloc, asking), max_queue_num, budget)?,
+            handler: new_serving(alloc, MemLink::new(alloc, serving), budget)?,
             device,
             request,
             reply,

@@ -29,6 +29,14 @@ impl Wire {
         })
     }
 
+    /// Copies for both ways.
+    pub fn pair(alloc: Global) -> Result<(Wire, Wire), AllocError>
+        ensures { IfOk result (λ wires. (text_in wires.0 ≡ no_text) × (text_in wires.1 ≡ no_text)) }
+    {
+        let first = Wire::new(alloc)?;
+        Ok((first, Wire::new(alloc)?))
+    }
+
     /// The bytes.
     pub fn bytes(&self) -> &[u8]
         ensures { result.now ≡ (text_in self.now).bytes }

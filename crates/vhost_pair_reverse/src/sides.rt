@@ -53,14 +53,12 @@ impl<D: VhostUserFrontendReqHandlerMut<Handle = PlainHandle>> Sides<D> {
         ensures fresh { IfOk result (λ sides. parts_of sides ≡ fresh_parts device budget asking.items serving.items) }
         ensures memory { IfErr result (λ e. e ≡ OutOfMemory) }
     {
-        let asking = MemLink::new(alloc, asking);
-        let serving = MemLink::new(alloc, serving);
-        let (Ok(request), Ok(reply)) = (Wire::new(alloc), Wire::new(alloc)) else {
+        let Ok((request, reply)) = Wire::pair(alloc) else {
             return Err(Error::OutOfMemory);
         };
         Ok(Sides {
-            backend: BackendInternal::from_stream(alloc, asking, budget)?,
-            server: FrontendReqCore::new(alloc, serving, budget)?,
+            backend: BackendInternal::from_stream(alloc, MemLink::new(alloc, asking), budget)?,
+            server: FrontendReqCore::new(alloc, MemLink::new(alloc, serving), budget)?,
             device,
             request,
             reply,
