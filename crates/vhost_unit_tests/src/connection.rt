@@ -40,7 +40,7 @@ fn lends_and_goes_on(rt: HostRuntime) -> std::result::Result<(), Fail> {
     link.push(&[9, 8, 7], &[])?;
     relink(&mut end, link);
     let header = VhostUserMsgHeader::new(FrontendReq::SET_OWNER, 0, 0);
-    assert_eq!(rt; looks_and_sends(&mut end, &header)?, 9);
-    assert_eq!(rt; end.link().taken().len(), 12);
+    assert!(rt; looks_and_sends(&mut end, &header)? == 9);
+    assert!(rt; end.link().taken().len() == 12);
     Ok(())
 }

@@ -58,7 +58,7 @@ fn holds_regions(rt: HostRuntime) -> Result<(), Fail> {
         context.regions()[0].memory_size,
         context.regions()[1].memory_size,
     ];
-    assert_eq!(rt; sizes, [0x2000, 0x1000]);
-    assert_eq!(rt; (context.handles()[0].id, context.handles()[1].id), (5, 6));
+    assert!(rt; sizes == [0x2000, 0x1000]);
+    assert!(rt; (context.handles()[0].id, context.handles()[1].id) == (5, 6));
     Ok(())
 }

@@ -20,26 +20,20 @@ fn bytes(header: &Header) -> [u8; 12] {
 
 #[test]
 fn codes(rt: HostRuntime) {
-    assert_eq!(rt; GpuBackendReq::try_from(0), Err(()));
-    assert_eq!(rt;
-        GpuBackendReq::try_from(12),
-        Ok(GpuBackendReq::DMABUF_SCANOUT2)
-    );
-    assert_eq!(rt; GpuBackendReq::try_from(13), Err(()));
-    assert_eq!(rt; u32::from(GpuBackendReq::GET_EDID), 11);
+    assert!(rt; GpuBackendReq::try_from(0) == Err(()));
+    assert!(rt; GpuBackendReq::try_from(12) == Ok(GpuBackendReq::DMABUF_SCANOUT2));
+    assert!(rt; GpuBackendReq::try_from(13) == Err(()));
+    assert!(rt; u32::from(GpuBackendReq::GET_EDID) == 11);
     assert!(rt; GpuBackendReq::code(7).is_some_and(|code| code.number() == 7));
     assert!(rt; GpuBackendReq::CURSOR_POS < GpuBackendReq::CURSOR_POS_HIDE);
-    assert_eq!(rt; VhostUserGpuProtocolFeatures::EDID.bits(), 0);
-    assert_eq!(rt; VhostUserGpuProtocolFeatures::all().bits(), 1);
+    assert!(rt; VhostUserGpuProtocolFeatures::EDID.bits() == 0);
+    assert!(rt; VhostUserGpuProtocolFeatures::all().bits() == 1);
 }
 
 #[test]
 fn headers(rt: HostRuntime) -> Result<(), Fail> {
     let header = Header::new(GpuBackendReq::GET_EDID, 0xffff_ffff, 4);
-    assert_eq!(rt;
-        bytes(&header),
-        [0xb, 0, 0, 0, 0xff, 0xff, 0xff, 0xff, 4, 0, 0, 0]
-    );
+    assert!(rt; bytes(&header) == [0xb, 0, 0, 0, 0xff, 0xff, 0xff, 0xff, 4, 0, 0, 0]);
     assert!(rt; !header.is_valid());
     let cases: [(u8, u8, bool); 6] = [
         (1, 0, true),
@@ -51,8 +45,8 @@ fn headers(rt: HostRuntime) -> Result<(), Fail> {
     ];
     for (request, flags, valid) in cases {
         let header = Header::decode(&[request, 0, 0, 0, flags, 0, 0, 0, 0xff, 0xff, 0xff, 0xff]);
-        assert_eq!(rt; header.is_valid(), valid, "{request} {flags}");
-        assert_eq!(rt; header.get_size(), 0xffff_ffff);
+        assert!(rt; header.is_valid() == valid, "{request} {flags}");
+        assert!(rt; header.get_size() == 0xffff_ffff);
     }
     let request = Header::new(GpuBackendReq::GET_EDID, 0, 4);
     let mut reply = request;
@@ -60,13 +54,10 @@ fn headers(rt: HostRuntime) -> Result<(), Fail> {
     reply.set_reply(true);
     reply.set_size(1056);
     assert!(rt; reply.is_reply_for(&request) && !request.is_reply_for(&reply));
-    assert_eq!(rt; bytes(&Header::default()), [0; 12]);
-    assert_eq!(rt; <Header as MsgHeader>::MAX_MSG_SIZE, 0xffff_ffff);
+    assert!(rt; bytes(&Header::default()) == [0; 12]);
+    assert!(rt; <Header as MsgHeader>::MAX_MSG_SIZE == 0xffff_ffff);
     let shown = format!(in rt.alloc(); "{reply:?}")?;
-    assert_eq!(rt;
-        shown.as_str(),
-        "VhostUserGpuMsgHeader { request: 11, flags: 4, size: 1056 }"
-    );
+    assert!(rt; shown.as_str() == "VhostUserGpuMsgHeader { request: 11, flags: 4, size: 1056 }");
     Ok(())
 }
 
@@ -74,7 +65,7 @@ fn headers(rt: HostRuntime) -> Result<(), Fail> {
 fn requests(rt: HostRuntime) {
     let mut out = [0xff; 4];
     VhostUserGpuEdidRequest { scanout_id: 0x0102 }.encode_into(&mut out);
-    assert_eq!(rt; out, [2, 1, 0, 0]);
+    assert!(rt; out == [2, 1, 0, 0]);
     let scanout = VhostUserGpuScanout {
         scanout_id: 1,
         width: 2,
@@ -82,7 +73,7 @@ fn requests(rt: HostRuntime) {
     };
     let mut out = [0xff; 12];
     scanout.encode_into(&mut out);
-    assert_eq!(rt; out, [1, 0, 0, 0, 2, 0, 0, 0, 3, 0, 0, 0]);
+    assert!(rt; out == [1, 0, 0, 0, 2, 0, 0, 0, 3, 0, 0, 0]);
     assert!(rt; VhostUserGpuScanout::decode(&out) == scanout && scanout.is_valid());
     let update = VhostUserGpuUpdate {
         scanout_id: 1,
@@ -93,10 +84,7 @@ fn requests(rt: HostRuntime) {
     };
     let mut out = [0xff; 20];
     update.encode_into(&mut out);
-    assert_eq!(rt;
-        out,
-        [1, 0, 0, 0, 2, 0, 0, 0, 3, 0, 0, 0, 4, 0, 0, 0, 5, 0, 0, 0]
-    );
+    assert!(rt; out == [1, 0, 0, 0, 2, 0, 0, 0, 3, 0, 0, 0, 4, 0, 0, 0, 5, 0, 0, 0]);
     let pos = VhostUserGpuCursorPos {
         scanout_id: 6,
         x: 7,
@@ -108,11 +96,8 @@ fn requests(rt: HostRuntime) {
         hot_y: 10,
     }
     .encode_into(&mut out);
-    assert_eq!(rt;
-        out,
-        [6, 0, 0, 0, 7, 0, 0, 0, 8, 0, 0, 0, 9, 0, 0, 0, 10, 0, 0, 0]
-    );
-    assert_eq!(rt; VhostUserGpuCursorUpdate::decode(&out).pos, pos);
+    assert!(rt; out == [6, 0, 0, 0, 7, 0, 0, 0, 8, 0, 0, 0, 9, 0, 0, 0, 10, 0, 0, 0]);
+    assert!(rt; VhostUserGpuCursorUpdate::decode(&out).pos == pos);
 }
 
 #[test]
@@ -131,8 +116,8 @@ fn buffers(rt: HostRuntime) {
     expected[39] = 0x34;
     expected[40] = 2;
     expected[47] = 1;
-    assert_eq!(rt; out, expected);
-    assert_eq!(rt; VhostUserGpuDMABUFScanout2::decode(&out), scanout);
+    assert!(rt; out == expected);
+    assert!(rt; VhostUserGpuDMABUFScanout2::decode(&out) == scanout);
     assert!(rt; VhostUserGpuDMABUFScanout::default().is_valid());
 }
 

@@ -1,7 +1,8 @@
 //! What a script of lines can't say: readers and writers that fail, and many lines.
 
+use std::alloc::Global;
 use std::io;
-use std::io::{BufReader, ErrorKind, Read, Write};
+use std::io::{BufRead, BufReader, ErrorKind, Read, Write};
 use std::process::Abort;
 use std::test::Fail;
 use vhost_lines::run_lines;
@@ -49,6 +50,16 @@ impl Write for Narrow {
     }
 }
 
+/// Runs the lines of an input; the status.
+fn run<I: BufRead, W: Write, E: Write>(
+    alloc: Global,
+    input: &mut I,
+    output: &mut W,
+    errors: &mut E,
+) -> u8 {
+    run_lines(alloc, input, output, errors)
+}
+
 #[test]
 fn torn_input(rt: HostRuntime) -> Result<(), Fail> {
     let torn = Torn {
@@ -57,10 +68,10 @@ fn torn_input(rt: HostRuntime) -> Result<(), Fail> {
     let mut input = BufReader::new(rt.alloc(), torn)?;
     let mut output = Vec::new(rt.alloc());
     let mut errors = Vec::new(rt.alloc());
-    let status = run_lines(rt.alloc(), &mut input, &mut output, &mut errors);
-    assert_eq!(rt; status, 2);
-    assert_eq!(rt; output.as_slice(), FEATURES.as_bytes());
-    assert_eq!(rt; errors.as_slice(), b"input: connection reset\n".as_slice());
+    let status = run(rt.alloc(), &mut input, &mut output, &mut errors);
+    assert!(rt; status == 2);
+    assert!(rt; output.as_slice() == FEATURES.as_bytes());
+    assert!(rt; errors.as_slice() == b"input: connection reset\n".as_slice());
     Ok(())
 }
 
@@ -75,16 +86,16 @@ fn failing_outputs(rt: HostRuntime) -> Result<(), Fail> {
         let mut input: &[u8] = b"get_features\n";
         let mut output = Narrow { room, can_flush };
         let mut errors = Vec::new(rt.alloc());
-        let result = run_lines(rt.alloc(), &mut input, &mut output, &mut errors);
-        assert_eq!(rt; result, status, "room {room}");
-        assert_eq!(rt; errors.as_slice(), told.as_bytes());
+        let result = run(rt.alloc(), &mut input, &mut output, &mut errors);
+        assert!(rt; result == status, "room {room}");
+        assert!(rt; errors.as_slice() == told.as_bytes());
     }
     for (room, can_flush, status) in [(17, true, 1), (16, true, 2), (17, false, 2)] {
         let mut input: &[u8] = b"nonsense\n";
         let mut output = Vec::new(rt.alloc());
         let mut errors = Narrow { room, can_flush };
-        let result = run_lines(rt.alloc(), &mut input, &mut output, &mut errors);
-        assert_eq!(rt; result, status, "room {room}");
+        let result = run(rt.alloc(), &mut input, &mut output, &mut errors);
+        assert!(rt; result == status, "room {room}");
     }
     Ok(())
 }
@@ -131,15 +142,14 @@ fn nothing_after_a_fault(rt: HostRuntime) -> Result<(), Fail> {
             failed: false,
         };
         let mut errors = Vec::new(rt.alloc());
-        let status = run_lines(rt.alloc(), &mut input, &mut output, &mut errors);
-        assert_eq!(rt; status, 2, "room {room}");
-        assert_eq!(rt;
-            output.taken.as_slice(),
-            &whole.as_bytes()[..room],
+        let status = run(rt.alloc(), &mut input, &mut output, &mut errors);
+        assert!(rt; status == 2, "room {room}");
+        assert!(rt;
+            output.taken.as_slice() == &whole.as_bytes()[..room],
             "room {room}"
         );
         let told = b"output: broken pipe\n".as_slice();
-        assert_eq!(rt; errors.as_slice(), told, "room {room}");
+        assert!(rt; errors.as_slice() == told, "room {room}");
     }
     Ok(())
 }
@@ -175,10 +185,10 @@ fn interrupted_writes(rt: HostRuntime) -> Result<(), Fail> {
         is_ready: false,
     };
     let mut errors = Vec::new(rt.alloc());
-    let status = run_lines(rt.alloc(), &mut input, &mut output, &mut errors);
-    assert_eq!(rt; status, 0);
-    assert_eq!(rt; output.taken.as_slice(), FEATURES.as_bytes());
-    assert_eq!(rt; errors.as_slice(), b"".as_slice());
+    let status = run(rt.alloc(), &mut input, &mut output, &mut errors);
+    assert!(rt; status == 0);
+    assert!(rt; output.taken.as_slice() == FEATURES.as_bytes());
+    assert!(rt; errors.as_slice() == b"".as_slice());
     Ok(())
 }
 
@@ -241,9 +251,9 @@ fn rounds(rt: &(impl AllocGlobal + Abort), times: u32) -> Result<Vec<u8>, Fail> 
     let mut input = BufReader::new(rt.alloc(), repeated)?;
     let mut output = Vec::new(rt.alloc());
     let mut errors = Vec::new(rt.alloc());
-    let status = run_lines(rt.alloc(), &mut input, &mut output, &mut errors);
-    assert_eq!(rt; status, 0);
-    assert_eq!(rt; errors.as_slice(), b"".as_slice());
+    let status = run(rt.alloc(), &mut input, &mut output, &mut errors);
+    assert!(rt; status == 0);
+    assert!(rt; errors.as_slice() == b"".as_slice());
     Ok(output)
 }
 
@@ -252,7 +262,7 @@ fn ten_thousand_lines(rt: HostRuntime) -> Result<(), Fail> {
     let mut expected = rounds(&rt, 0)?;
     let one = rounds(&rt, 1)?;
     let round = one.as_slice().get(expected.len()..).unwrap_or_default();
-    assert_eq!(rt; round.iter().filter(|byte| **byte == b'\n').count(), 20);
+    assert!(rt; round.iter().filter(|byte| **byte == b'\n').count() == 20);
     for _ in 0..500 {
         expected.extend_from_slice(round)?;
     }

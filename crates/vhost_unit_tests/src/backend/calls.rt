@@ -136,7 +136,7 @@ fn behind_a_lock(rt: HostRuntime) {
     let device = RwLock::new(Device::default());
     let answers = call_each(&device, &rt);
     assert!(rt; matches!(answers, Ok((0x4000_0000, 77))));
-    assert_eq!(rt; device.into_inner().seen, GIVEN);
+    assert!(rt; device.into_inner().seen == GIVEN);
 }
 
 #[test]
@@ -144,7 +144,7 @@ fn in_a_cell(rt: HostRuntime) {
     let device = RefCell::new(Device::default());
     let answers = call_each(&device, &rt);
     assert!(rt; matches!(answers, Ok((0x4000_0000, 77))));
-    assert_eq!(rt; device.into_inner().seen, GIVEN);
+    assert!(rt; device.into_inner().seen == GIVEN);
 }
 
 // Whether the call was refused, since the device is in use.
@@ -175,7 +175,7 @@ fn in_a_cell_in_use(rt: HostRuntime) {
         is_refused(device.set_vring_kick(&rt, 7, &handle)),
         is_refused(device.set_vring_err(&rt, 8, &handle)),
     ];
-    assert_eq!(rt; refused, [true; 14]);
+    assert!(rt; refused == [true; 14]);
     drop(held);
     assert!(rt; device.set_owner(&rt).is_ok());
 }

@@ -38,7 +38,7 @@ fn texts(rt: HostRuntime) -> Result<(), Fail> {
     ];
     for (error, text) in &cases {
         let shown = format!(in rt.alloc(); "{error}")?;
-        assert_eq!(rt; shown.as_str(), *text);
+        assert!(rt; shown.as_str() == *text);
     }
     Ok(())
 }

@@ -92,8 +92,8 @@ fn added(
 #[test]
 fn numbers(rt: HostRuntime) -> Result<(), Fail> {
     let alloc: Global = rt.alloc();
-    assert_eq!(rt; added(alloc, &number(6, 8, 0), &[])?, Ok(0));
-    assert_eq!(rt; added(alloc, &number(6, 8, 1), &[])?, Err("frontend"));
+    assert!(rt; added(alloc, &number(6, 8, 0), &[])? == Ok(0));
+    assert!(rt; added(alloc, &number(6, 8, 1), &[])? == Err("frontend"));
     Ok(())
 }
 
@@ -102,7 +102,7 @@ fn unanswered(rt: HostRuntime) -> Result<(), Fail> {
     let mut channel = channel(rt.alloc(), &[], &[])?;
     agree(&mut channel, false);
     let answer = maps_memory(&mut channel, &VhostUserMMap::default(), &HANDLE);
-    assert_eq!(rt; shown(answer), Ok(0));
-    assert_eq!(rt; written(&mut channel).1, 1);
+    assert!(rt; shown(answer) == Ok(0));
+    assert!(rt; written(&mut channel).1 == 1);
     Ok(())
 }

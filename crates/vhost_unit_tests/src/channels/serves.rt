@@ -133,7 +133,7 @@ fn unserved(alloc: Global) -> Outcome<std::result::Result<u64, i32>> {
 
 #[test]
 fn broken(rt: HostRuntime) -> Outcome<()> {
-    assert_eq!(rt; unserved(rt.alloc())?, Err(5));
+    assert!(rt; unserved(rt.alloc())? == Err(5));
     Ok(())
 }
 
@@ -186,10 +186,10 @@ fn shared(rt: HostRuntime) -> Outcome<()> {
     let alloc: Global = rt.alloc();
     let link = coming(alloc, &CHANGE, &[])?;
     let mut handler = FrontendReqHandler::new(alloc, HANDLE, link, 0, Arc::new(alloc, Nothing)?)?;
-    assert_eq!(rt; handler.get_tx_raw_fd().id, 7);
+    assert!(rt; handler.get_tx_raw_fd().id == 7);
     handler.set_failed(5);
-    assert_eq!(rt; shown(handler.handle_request(&rt)), Err(5));
+    assert!(rt; shown(handler.handle_request(&rt)) == Err(5));
     handler.set_failed(0);
-    assert_eq!(rt; shown(handler.handle_request(&rt)), Err(38));
+    assert!(rt; shown(handler.handle_request(&rt)) == Err(38));
     Ok(())
 }

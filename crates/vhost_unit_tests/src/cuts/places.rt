@@ -118,54 +118,33 @@ fn stray_handles<R: Host>(rt: &R, alloc: Global, stream: &Stream) -> Result<[usi
 
 #[test]
 fn requests_between_threads(rt: HostRuntime) -> Result<(), Fail> {
-    assert_eq!(rt;
-        differs_in_pieces(&rt, rt.alloc(), Over::Shared, &SIX)?,
-        None
-    );
-    assert_eq!(rt; differs_in_two(&rt, rt.alloc(), Over::Shared, &SIX)?, None);
-    assert_eq!(rt;
-        ended_early(&rt, rt.alloc(), Over::Shared, &SIX)?,
-        [6, 66, 16, 0]
-    );
-    assert_eq!(rt; stray_handles(&rt, rt.alloc(), &SIX)?, [6, 66, 16, 0]);
+    assert!(rt; differs_in_pieces(&rt, rt.alloc(), Over::Shared, &SIX)? == None);
+    assert!(rt; differs_in_two(&rt, rt.alloc(), Over::Shared, &SIX)? == None);
+    assert!(rt; ended_early(&rt, rt.alloc(), Over::Shared, &SIX)? == [6, 66, 16, 0]);
+    assert!(rt; stray_handles(&rt, rt.alloc(), &SIX)? == [6, 66, 16, 0]);
     Ok(())
 }
 
 #[test]
 fn requests_over_a_socket(rt: HostRuntime) -> Result<(), Fail> {
-    assert_eq!(rt; differs_in_pieces(&rt, rt.alloc(), Over::Unix, &SIX)?, None);
-    assert_eq!(rt; differs_in_two(&rt, rt.alloc(), Over::Unix, &SIX)?, None);
-    assert_eq!(rt;
-        ended_early(&rt, rt.alloc(), Over::Unix, &SIX)?,
-        [6, 66, 16, 0]
-    );
+    assert!(rt; differs_in_pieces(&rt, rt.alloc(), Over::Unix, &SIX)? == None);
+    assert!(rt; differs_in_two(&rt, rt.alloc(), Over::Unix, &SIX)? == None);
+    assert!(rt; ended_early(&rt, rt.alloc(), Over::Unix, &SIX)? == [6, 66, 16, 0]);
     Ok(())
 }
 
 #[test]
 fn a_devices_requests_between_threads(rt: HostRuntime) -> Result<(), Fail> {
-    assert_eq!(rt;
-        differs_in_pieces(&rt, rt.alloc(), Over::Shared, &THREE)?,
-        None
-    );
-    assert_eq!(rt;
-        differs_in_two(&rt, rt.alloc(), Over::Shared, &THREE)?,
-        None
-    );
-    assert_eq!(rt;
-        ended_early(&rt, rt.alloc(), Over::Shared, &THREE)?,
-        [3, 33, 96, 0]
-    );
+    assert!(rt; differs_in_pieces(&rt, rt.alloc(), Over::Shared, &THREE)? == None);
+    assert!(rt; differs_in_two(&rt, rt.alloc(), Over::Shared, &THREE)? == None);
+    assert!(rt; ended_early(&rt, rt.alloc(), Over::Shared, &THREE)? == [3, 33, 96, 0]);
     Ok(())
 }
 
 #[test]
 fn a_devices_requests_over_a_socket(rt: HostRuntime) -> Result<(), Fail> {
-    assert_eq!(rt; differs_in_pieces(&rt, rt.alloc(), Over::Unix, &TWO)?, None);
-    assert_eq!(rt; differs_in_two(&rt, rt.alloc(), Over::Unix, &TWO)?, None);
-    assert_eq!(rt;
-        ended_early(&rt, rt.alloc(), Over::Unix, &TWO)?,
-        [2, 22, 56, 0]
-    );
+    assert!(rt; differs_in_pieces(&rt, rt.alloc(), Over::Unix, &TWO)? == None);
+    assert!(rt; differs_in_two(&rt, rt.alloc(), Over::Unix, &TWO)? == None);
+    assert!(rt; ended_early(&rt, rt.alloc(), Over::Unix, &TWO)? == [2, 22, 56, 0]);
     Ok(())
 }

@@ -5,6 +5,7 @@ ghost use Rattle.std.specs.Prelude.{⊤};
 use std::alloc::Global;
 use std::sync::Wait;
 use vhost_backend_req_handler::SessionCore;
+use vhost_device::VhostUserBackendReqHandlerMut;
 use vhost_dummy_backend::DummyBackendReqHandler;
 use vhost_frontend_req_handler::{FrontendReqCore, VhostUserFrontendReqHandlerMut};
 use vhost_link::{Link, SharedLink, UnixLink};
@@ -123,13 +124,12 @@ fn put<T: Drop>(letters: &mut Vec<u8>, answer: Result<T>) -> Result<bool> {
     Ok(!matches!(answer, Err(Error::Disconnected)))
 }
 
-fn take_requests<L: Link>(
+fn take_requests<L: Link, D: VhostUserBackendReqHandlerMut<Link = L>>(
     alloc: Global,
     link: L,
-    device: DummyBackendReqHandler<L>,
+    mut device: D,
     letters: &mut Vec<u8>,
 ) -> Result<()> {
-    let mut device = device;
     let mut core = SessionCore::new(alloc, link, BUDGET)?;
     for _ in 0..MOST {
         if !put(letters, core.handle_request(&mut device))? {

@@ -19,38 +19,29 @@ fn count_codes<R: Req>(numbers: u32) -> u32 {
 
 #[test]
 fn codes(rt: HostRuntime) {
-    assert_eq!(rt; FrontendReq::try_from(0), Err(()));
-    assert_eq!(rt;
-        FrontendReq::try_from(44),
-        Ok(FrontendReq::GET_SHMEM_CONFIG)
-    );
-    assert_eq!(rt; FrontendReq::try_from(45), Err(()));
-    assert_eq!(rt; BackendReq::try_from(0), Err(()));
-    assert_eq!(rt; BackendReq::try_from(10), Ok(BackendReq::SHMEM_UNMAP));
-    assert_eq!(rt; BackendReq::try_from(11), Err(()));
-    assert_eq!(rt; u32::from(FrontendReq::NET_SET_MTU), 20);
-    assert_eq!(rt; count_codes::<FrontendReq>(1000), 44);
-    assert_eq!(rt; count_codes::<BackendReq>(1000), 10);
+    assert!(rt; FrontendReq::try_from(0) == Err(()));
+    assert!(rt; FrontendReq::try_from(44) == Ok(FrontendReq::GET_SHMEM_CONFIG));
+    assert!(rt; FrontendReq::try_from(45) == Err(()));
+    assert!(rt; BackendReq::try_from(0) == Err(()));
+    assert!(rt; BackendReq::try_from(10) == Ok(BackendReq::SHMEM_UNMAP));
+    assert!(rt; BackendReq::try_from(11) == Err(()));
+    assert!(rt; u32::from(FrontendReq::NET_SET_MTU) == 20);
+    assert!(rt; count_codes::<FrontendReq>(1000) == 44);
+    assert!(rt; count_codes::<BackendReq>(1000) == 10);
     assert!(rt; FrontendReq::SET_OWNER < FrontendReq::RESET_OWNER);
 }
 
 #[test]
 fn transfers(rt: HostRuntime) {
-    assert_eq!(rt;
-        VhostTransferStateDirection::try_from(1),
-        Ok(VhostTransferStateDirection::LOAD)
-    );
-    assert_eq!(rt; VhostTransferStateDirection::try_from(2), Err(()));
-    assert_eq!(rt;
-        VhostTransferStatePhase::try_from(0),
-        Ok(VhostTransferStatePhase::STOPPED)
-    );
-    assert_eq!(rt; VhostTransferStatePhase::try_from(1), Err(()));
+    assert!(rt; VhostTransferStateDirection::try_from(1) == Ok(VhostTransferStateDirection::LOAD));
+    assert!(rt; VhostTransferStateDirection::try_from(2) == Err(()));
+    assert!(rt; VhostTransferStatePhase::try_from(0) == Ok(VhostTransferStatePhase::STOPPED));
+    assert!(rt; VhostTransferStatePhase::try_from(1) == Err(()));
     assert!(rt; VhostTransferStateDirection::SAVE < VhostTransferStateDirection::LOAD);
 }
 
 #[test]
 fn features(rt: HostRuntime) {
-    assert_eq!(rt; VhostUserProtocolFeatures::all().bits(), 0x7f_ffff);
+    assert!(rt; VhostUserProtocolFeatures::all().bits() == 0x7f_ffff);
     assert!(rt; VhostUserProtocolFeatures::from_bits(0x80_0000).is_none());
 }

@@ -5,31 +5,23 @@ use vhost_message::{DescStatePacked, DescStateSplit, QueueRegionPacked, QueueReg
 #[test]
 fn areas(rt: HostRuntime) {
     let split = QueueRegionSplit::new(3, 256);
-    assert_eq!(rt;
+    assert!(rt;
         (
             split.features,
             split.version,
             split.desc_num,
             split.used_idx
-        ),
-        (3, 1, 256, 0)
+        ) == (3, 1, 256, 0)
     );
     let packed = QueueRegionPacked::new(4, 16);
-    assert_eq!(rt;
+    assert!(rt;
         (
             packed.features,
             packed.version,
             packed.desc_num,
             packed.desc
-        ),
-        (4, 1, 16, 0)
+        ) == (4, 1, 16, 0)
     );
-    assert_eq!(rt;
-        DescStateSplit::new().counter,
-        DescStateSplit::default().counter
-    );
-    assert_eq!(rt;
-        DescStatePacked::new().addr,
-        DescStatePacked::default().addr
-    );
+    assert!(rt; DescStateSplit::new().counter == DescStateSplit::default().counter);
+    assert!(rt; DescStatePacked::new().addr == DescStatePacked::default().addr);
 }

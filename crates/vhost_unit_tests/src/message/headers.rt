@@ -14,17 +14,14 @@ fn bytes(header: &Header) -> [u8; 12] {
 #[test]
 fn made(rt: HostRuntime) {
     let header = Header::new(FrontendReq::GET_FEATURES, 0xffff_ffff, 0);
-    assert_eq!(rt; bytes(&header), [1, 0, 0, 0, 0xd, 0, 0, 0, 0, 0, 0, 0]);
+    assert!(rt; bytes(&header) == [1, 0, 0, 0, 0xd, 0, 0, 0, 0, 0, 0, 0]);
     let mut header = Header::new(FrontendReq::GET_FEATURES, 0, 0x100);
     header.set_need_reply(true);
     header.set_version(6);
     header.set_code(FrontendReq::SET_FEATURES);
-    assert_eq!(rt; bytes(&header), [2, 0, 0, 0, 0xa, 0, 0, 0, 0, 1, 0, 0]);
+    assert!(rt; bytes(&header) == [2, 0, 0, 0, 0xa, 0, 0, 0, 0, 1, 0, 0]);
     assert!(rt; !header.is_valid());
-    assert_eq!(rt;
-        bytes(&Header::default()),
-        [0, 0, 0, 0, 1, 0, 0, 0, 0, 0, 0, 0]
-    );
+    assert!(rt; bytes(&Header::default()) == [0, 0, 0, 0, 1, 0, 0, 0, 0, 0, 0, 0]);
 }
 
 #[test]
@@ -42,8 +39,11 @@ fn valid(rt: HostRuntime) {
     ];
     for (request, flags, low, high, valid) in cases {
         let header = Header::decode(&[request, 0, 0, 0, flags, 0, 0, 0, low, high, 0, 0]);
-        assert_eq!(rt; header.is_valid(), valid, "{request} {flags} {low} {high}");
-        assert_eq!(rt; header.get_code().is_ok(), request == 1);
+        assert!(rt;
+            header.is_valid() == valid,
+            "{request} {flags} {low} {high}"
+        );
+        assert!(rt; header.get_code().is_ok() == (request == 1));
     }
 }
 
@@ -56,13 +56,10 @@ fn calls(rt: HostRuntime) -> Result<(), Fail> {
     assert!(rt; reply.is_reply_for(&request) && !request.is_reply_for(&reply));
     assert!(rt; request.is_need_reply() && !reply.is_need_reply());
     reply.set_size(24);
-    assert_eq!(rt; reply.get_size(), 24);
-    assert_eq!(rt; reply.get_version(), 1);
+    assert!(rt; reply.get_size() == 24);
+    assert!(rt; reply.get_version() == 1);
     assert!(rt; reply == Header::decode(&bytes(&reply)));
     let shown = format!(in rt.alloc(); "{reply:?}")?;
-    assert_eq!(rt;
-        shown.as_str(),
-        "VhostUserMsgHeader { request: 1, flags: 5, size: 24 }"
-    );
+    assert!(rt; shown.as_str() == "VhostUserMsgHeader { request: 1, flags: 5, size: 24 }");
     Ok(())
 }

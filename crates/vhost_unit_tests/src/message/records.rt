@@ -19,15 +19,14 @@ fn regions(rt: HostRuntime) {
     ];
     for (start, size, valid) in cases {
         let region = VhostUserMemoryRegion::new(start, size, 0, 0);
-        assert_eq!(rt; region.is_valid(), valid, "{start} {size}");
+        assert!(rt; region.is_valid() == valid, "{start} {size}");
     }
     let single = VhostUserSingleMemoryRegion::new(1, 2, 3, 0x0102_0304_0506_0708);
-    assert_eq!(rt; single.region().user_addr, 3);
+    assert!(rt; single.region().user_addr == 3);
     let mut out = [0xff; 40];
     single.encode_into(&mut out);
-    assert_eq!(rt;
-        out,
-        [
+    assert!(rt;
+        out == [
             0, 0, 0, 0, 0, 0, 0, 0, 1, 0, 0, 0, 0, 0, 0, 0, 2, 0, 0, 0, 0, 0, 0, 0, 3, 0, 0, 0, 0,
             0, 0, 0, 8, 7, 6, 5, 4, 3, 2, 1,
         ]
@@ -46,9 +45,8 @@ fn mappings(rt: HostRuntime) {
     mapping.flags = 1;
     let mut out = [0xff; 40];
     mapping.encode_into(&mut out);
-    assert_eq!(rt;
-        out,
-        [
+    assert!(rt;
+        out == [
             0, 0, 0, 0, 0, 0, 0, 0, 0, 0, 0, 0, 0, 0, 0, 0, 4, 4, 0, 0, 0, 0, 0, 0, 0, 0x10, 0, 0,
             0, 0, 0, 0, 1, 0, 0, 0, 0, 0, 0, 0,
         ]
@@ -62,7 +60,7 @@ fn mappings(rt: HostRuntime) {
     mapping.flags = 2;
     assert!(rt; !mapping.is_valid());
     out[7] = 9;
-    assert_eq!(rt; VhostUserMMap::decode(&out).padding, [0, 0, 0, 0, 0, 0, 9]);
+    assert!(rt; VhostUserMMap::decode(&out).padding == [0, 0, 0, 0, 0, 0, 9]);
 }
 
 #[test]
@@ -70,9 +68,8 @@ fn inflight(rt: HostRuntime) {
     let area = VhostUserInflight::new(0x1000, 0, 2, 256);
     let mut out = [0xff; 24];
     area.encode_into(&mut out);
-    assert_eq!(rt;
-        out,
-        [
+    assert!(rt;
+        out == [
             0, 0x10, 0, 0, 0, 0, 0, 0, 0, 0, 0, 0, 0, 0, 0, 0, 2, 0, 0, 1, 0, 0, 0, 0,
         ]
     );
@@ -81,8 +78,8 @@ fn inflight(rt: HostRuntime) {
     out[22] = 0xff;
     out[23] = 0xff;
     let read = VhostUserInflight::decode(&out);
-    assert_eq!(rt; (read.mmap_size, read.mmap_offset), (0x1000, 0));
-    assert_eq!(rt; (read.num_queues, read.queue_size), (2, 256));
+    assert!(rt; (read.mmap_size, read.mmap_offset) == (0x1000, 0));
+    assert!(rt; (read.num_queues, read.queue_size) == (2, 256));
     assert!(rt; read.is_valid() && !VhostUserInflight::new(1, 1, 0, 1).is_valid());
 }
 
@@ -96,7 +93,7 @@ fn configuration(rt: HostRuntime) {
     ];
     for (offset, size, valid) in cases {
         let config = VhostUserConfig::new(offset, size, VhostUserConfigFlags::WRITABLE);
-        assert_eq!(rt; config.is_valid(), valid, "{offset} {size}");
+        assert!(rt; config.is_valid() == valid, "{offset} {size}");
     }
 }
 
@@ -111,12 +108,9 @@ fn shared_memory(rt: HostRuntime) {
     expected[26] = 2;
     assert!(rt; out == expected);
     let read = VhostUserShMemConfig::decode(&out);
-    assert_eq!(rt; (read.nregions, read.memory_sizes[2]), (2, 0x20000));
-    assert_eq!(rt;
-        VhostUserShMemConfig::new(1, &[7; 300]).memory_sizes[255],
-        7
-    );
-    assert_eq!(rt; VhostUserShMemConfig::default().memory_sizes[0], 0);
+    assert!(rt; (read.nregions, read.memory_sizes[2]) == (2, 0x20000));
+    assert!(rt; VhostUserShMemConfig::new(1, &[7; 300]).memory_sizes[255] == 7);
+    assert!(rt; VhostUserShMemConfig::default().memory_sizes[0] == 0);
     assert!(rt; read.is_valid());
 }
 
@@ -131,7 +125,7 @@ fn names(rt: HostRuntime) {
     };
     let mut out = [0xff; 16];
     name.encode_into(&mut out);
-    assert_eq!(rt; out, bytes);
+    assert!(rt; out == bytes);
     assert!(rt; name.is_valid());
 }
 
@@ -146,9 +140,8 @@ fn rings(rt: HostRuntime) {
     for (descriptor, used, available, valid) in cases {
         let flags = VhostUserVringAddrFlags::VHOST_VRING_F_LOG;
         let addresses = VhostUserVringAddr::new(0, flags, descriptor, used, available, 0);
-        assert_eq!(rt;
-            addresses.is_valid(),
-            valid,
+        assert!(rt;
+            addresses.is_valid() == valid,
             "{descriptor} {used} {available}"
         );
     }
@@ -156,7 +149,7 @@ fn rings(rt: HostRuntime) {
     assert!(rt; !VhostUserVringAddr::new(0, unknown, 0, 0, 0, 0).is_valid());
     let mut out = [0xff; 8];
     VhostUserVringState::new(1, 0x100).encode_into(&mut out);
-    assert_eq!(rt; out, [1, 0, 0, 0, 0, 1, 0, 0]);
+    assert!(rt; out == [1, 0, 0, 0, 0, 1, 0, 0]);
 }
 
 #[test]
@@ -171,12 +164,12 @@ fn others(rt: HostRuntime) {
     let transfer = VhostUserTransferDeviceState::new(direction, phase);
     let mut out = [0xff; 8];
     transfer.encode_into(&mut out);
-    assert_eq!(rt; out, [1, 0, 0, 0, 0, 0, 0, 0]);
+    assert!(rt; out == [1, 0, 0, 0, 0, 0, 0, 0]);
     assert!(rt; transfer.is_valid());
     assert!(rt; !VhostUserTransferDeviceState::decode(&[2, 0, 0, 0, 0, 0, 0, 0]).is_valid());
     assert!(rt; !VhostUserTransferDeviceState::decode(&[0, 0, 0, 0, 1, 0, 0, 0]).is_valid());
     VhostUserU64::new(0x0102_0304_0506_0708).encode_into(&mut out);
-    assert_eq!(rt; out, [8, 7, 6, 5, 4, 3, 2, 1]);
+    assert!(rt; out == [8, 7, 6, 5, 4, 3, 2, 1]);
     VhostUserEmpty.encode_into(&mut []);
     assert!(rt; VhostUserEmpty::decode(&[]).is_valid());
 }

@@ -8,12 +8,9 @@ use std::marker::Brand;
 use std::sync::Wait;
 use std::sync::ledger::{Blank, Ledger};
 use std::thread::{Threads, join};
-use vhost_dummy_backend::DummyBackendReqHandler;
+use vhost_device::VhostUserBackendReqHandlerMut;
 use vhost_link::{Cut, MemLink};
 use vhost_recorder::{FrontendCall, Halt, Log, Receipt, Recorder, Share};
-
-/// The example device, over links in memory.
-pub(crate) type Device = DummyBackendReqHandler<MemLink>;
 
 /// What a caller hands back: its share, which has counted its receipts, and why its last call was not done, if one was not.
 #[derive(Drop)]
@@ -27,8 +24,8 @@ struct Spent<L: Ledger> {
 
 /// The log of four callers, and the receipts of each.
 #[derive(Drop)]
-pub(crate) struct Crowd {
-    pub(crate) log: Log<Device>,
+pub(crate) struct Crowd<D: VhostUserBackendReqHandlerMut<Link = MemLink>> {
+    pub(crate) log: Log<D>,
     pub(crate) first: Vec<Receipt>,
     pub(crate) second: Vec<Receipt>,
     pub(crate) third: Vec<Receipt>,
@@ -37,8 +34,8 @@ pub(crate) struct Crowd {
 
 /// The log of one caller, its receipts, and why its last call was not done, if one was not.
 #[derive(Drop)]
-pub(crate) struct Alone {
-    pub(crate) log: Log<Device>,
+pub(crate) struct Alone<D: VhostUserBackendReqHandlerMut<Link = MemLink>> {
+    pub(crate) log: Log<D>,
     pub(crate) receipts: Vec<Receipt>,
     pub(crate) halt: Option<Halt>,
 }
@@ -63,10 +60,10 @@ fn fresh_share<L: Ledger>(all: &mut Share<L>, caller: u32) -> Fresh<L>
 }
 
 /// Makes these calls, one after another, and keeps the receipts.
-fn call_all<L: Ledger, R: Wait>(
+fn call_all<D: VhostUserBackendReqHandlerMut<Link = MemLink>, L: Ledger, R: Wait>(
     rt: &R,
     alloc: Global,
-    recorder: &Recorder<Device, L>,
+    recorder: &Recorder<D, L>,
     fresh: Fresh<L>,
     calls: &[FrontendCall],
 ) -> Spent<L> {
@@ -104,10 +101,14 @@ struct Both<L: Ledger> {
 }
 
 /// Two callers in threads of their own.
-fn two_ask<L: Ledger + Send + Sync, R: Threads + Wait + Sync>(
+fn two_ask<
+    D: VhostUserBackendReqHandlerMut<Link = MemLink> + Send,
+    L: Ledger + Send + Sync,
+    R: Threads + Wait + Sync,
+>(
     rt: &R,
     alloc: Global,
-    recorder: &Recorder<Device, L>,
+    recorder: &Recorder<D, L>,
     one: Fresh<L>,
     other: Fresh<L>,
     calls: &[FrontendCall],
@@ -120,37 +121,38 @@ fn two_ask<L: Ledger + Send + Sync, R: Threads + Wait + Sync>(
     Both { one, other }
 }
 
-/// A recorder over the example device, with a budget of retries and a script of the frontend's link, and the share of caller 0.
+/// A recorder over a device, with a budget of retries and a script of the frontend's link, and the share of caller 0.
 ///
 /// `Halt::OutOfMemory`: a growth was refused.
-fn open<L: Ledger>(
+fn open<D: VhostUserBackendReqHandlerMut<Link = MemLink>, L: Ledger>(
     alloc: Global,
     blank: Blank,
+    device: D,
     budget: u32,
     script: Vec<Cut>,
-) -> Result<(Recorder<Device, L>, Share<L>), Halt>
+) -> Result<(Recorder<D, L>, Share<L>), Halt>
     requires { (blank.name ≡ L.name) × (blank.parts ≡ L.parts) }
     ensures { IfOk result (λ opened. (parts_of opened.1 ≡ L.parts) × (count_of opened.1 ≡ 0)) }
 {
-    let device = DummyBackendReqHandler::new(alloc, Vec::new(alloc));
     let scripts = (script, Vec::new(alloc));
     Recorder::open(blank, alloc, device, 2, budget, scripts)
 }
 
 /// A caller makes its calls alone.
-fn one_calls<L: Ledger, R: Wait>(
+fn one_calls<D: VhostUserBackendReqHandlerMut<Link = MemLink>, L: Ledger, R: Wait>(
     rt: &R,
     alloc: Global,
     blank: Blank,
+    device: D,
     caller: u32,
     calls: &[FrontendCall],
     link: (u32, Vec<Cut>),
-) -> Result<Alone, Halt>
+) -> Result<Alone<D>, Halt>
     requires { (blank.name ≡ L.name) × (blank.parts ≡ L.parts) × (L.parts ≡ 2) }
     ensures { IfOk result (λ alone. length alone.log.entries ≡ length alone.receipts.items) }
 {
     let (budget, script) = link;
-    let (recorder, mut all) = open::<L>(alloc, blank, budget, script)?;
+    let (recorder, mut all) = open::<D, L>(alloc, blank, device, budget, script)?;
     let fresh = fresh_share(&mut all, caller);
     let Spent {
         share,
@@ -169,32 +171,32 @@ fn one_calls<L: Ledger, R: Wait>(
 /// entries as it has receipts.
 ///
 /// `Halt::OutOfMemory`: a growth was refused before the first call.
-pub(crate) fn call_alone<R: Wait>(
+pub(crate) fn call_alone<D: VhostUserBackendReqHandlerMut<Link = MemLink>, R: Wait>(
     rt: &R,
     alloc: Global,
+    device: D,
     caller: u32,
     calls: &[FrontendCall],
     link: (u32, Vec<Cut>),
-) -> Result<Alone, Halt>
+) -> Result<Alone<D>, Halt>
     ensures { IfOk result (λ alone. length alone.log.entries ≡ length alone.receipts.items) }
 {
-    one_calls::<Brand, R>(rt, alloc, Blank::new(2), caller, calls, link)
+    one_calls::<D, Brand, R>(rt, alloc, Blank::new(2), device, caller, calls, link)
 }
 
 /// Four callers, 1 to 4, in threads of their own, each of whom makes these calls. The log has as many entries as they have
 /// receipts.
 ///
 /// `Halt::OutOfMemory`: a growth was refused before the first call.
-fn four_ask<L: Ledger + Send + Sync, R: Threads + Wait + Sync>(
-    rt: &R,
-    alloc: Global,
-    blank: Blank,
-    calls: &[FrontendCall],
-) -> Result<Crowd, Halt>
+fn four_ask<
+    D: VhostUserBackendReqHandlerMut<Link = MemLink> + Send,
+    L: Ledger + Send + Sync,
+    R: Threads + Wait + Sync,
+>(rt: &R, alloc: Global, blank: Blank, device: D, calls: &[FrontendCall]) -> Result<Crowd<D>, Halt>
     requires { (blank.name ≡ L.name) × (blank.parts ≡ L.parts) × (L.parts ≡ 5) }
     ensures { IfOk result (λ crowd. length crowd.log.entries ≡ length crowd.first.items + length crowd.second.items + length crowd.third.items + length crowd.fourth.items) }
 {
-    let (recorder, mut all) = open::<L>(alloc, blank, 3, Vec::new(alloc))?;
+    let (recorder, mut all) = open::<D, L>(alloc, blank, device, 3, Vec::new(alloc))?;
     let first = fresh_share(&mut all, 1);
     let second = fresh_share(&mut all, 2);
     let third = fresh_share(&mut all, 3);
@@ -209,12 +211,12 @@ fn four_ask<L: Ledger + Send + Sync, R: Threads + Wait + Sync>(
 }
 
 /// Ends a recorder once all shares came back.
-fn gather<L: Ledger>(
-    recorder: Recorder<Device, L>,
+fn gather<D: VhostUserBackendReqHandlerMut<Link = MemLink>, L: Ledger>(
+    recorder: Recorder<D, L>,
     all: Share<L>,
     left: Both<L>,
     right: Both<L>,
-) -> Crowd
+) -> Crowd<D>
     requires { (parts_of all ≡ 1) × (count_of all ≡ 0) × (L.parts ≡ 5) }
     ensures { length result.log.entries ≡ length result.first.items + length result.second.items + length result.third.items + length result.fourth.items }
 {
@@ -261,12 +263,11 @@ fn gather<L: Ledger>(
 /// entries as they have receipts.
 ///
 /// `Halt::OutOfMemory`: a growth was refused before the first call.
-pub(crate) fn four_callers<R: Threads + Wait + Sync>(
-    rt: &R,
-    alloc: Global,
-    calls: &[FrontendCall],
-) -> Result<Crowd, Halt>
+pub(crate) fn four_callers<
+    D: VhostUserBackendReqHandlerMut<Link = MemLink> + Send,
+    R: Threads + Wait + Sync,
+>(rt: &R, alloc: Global, device: D, calls: &[FrontendCall]) -> Result<Crowd<D>, Halt>
     ensures { IfOk result (λ crowd. length crowd.log.entries ≡ length crowd.first.items + length crowd.second.items + length crowd.third.items + length crowd.fourth.items) }
 {
-    four_ask::<Brand, R>(rt, alloc, Blank::new(5), calls)
+    four_ask::<D, Brand, R>(rt, alloc, Blank::new(5), device, calls)
 }

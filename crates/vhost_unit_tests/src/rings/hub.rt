@@ -1,10 +1,10 @@
 //! Ends of links that travel as handles.
 
-use crate::rings::part::{handle, pair, receive, send};
+use crate::rings::part::{Part, handle, pair, receive, send};
 use std::alloc::{AllocError, Global};
 use std::sync::{Arc, Wait};
 use std::test::Fail;
-use vhost_link::{Hub, Link};
+use vhost_link::{Hub, Link, SharedLink};
 use vhost_message::IoCause;
 
 /// Why a handle opens no link, where a name says it.
@@ -23,28 +23,59 @@ fn no_duplicate<L: Link>(link: &L) -> &'static str {
     }
 }
 
-/// What comes over the second of two ends, once opened by its number; and what a second time and a number that is none answer.
-fn opens<R: Wait>(rt: &R, alloc: Global) -> Result<String, AllocError> {
-    let hub = Arc::new(alloc, Hub::new(alloc)).map_err(|_| AllocError)?;
-    let (near, _far) = pair(rt, alloc, &hub)?;
-    let (_first, other) = pair(rt, alloc, &hub)?;
-    let first = hub.register(rt, other.into_ends())?;
-    let (mut inner, other) = pair(rt, alloc, &hub)?;
+/// An end of a new link, and the number of its other end.
+fn registered<'a, R: Wait>(
+    rt: &'a R,
+    alloc: Global,
+    hub: &Arc<Hub, Global>,
+) -> Result<(SharedLink<&'a R>, u32), AllocError> {
+    let (near, other) = pair(rt, alloc, hub)?;
     let number = hub.register(rt, other.into_ends())?;
+    Ok((near, number))
+}
+
+/// What comes over the end of this number, once it is opened.
+fn comes<R: Wait>(
+    alloc: Global,
+    link: &SharedLink<&R>,
+    number: u32,
+) -> Result<Option<Part>, AllocError> {
+    match link.of_handle(handle(number)) {
+        Ok(mut opened) => receive(&mut opened, alloc, 64),
+        Err(_) => Ok(None),
+    }
+}
+
+/// What comes over the end of this number, and what a second time and a number that is none answer.
+fn opened<R: Wait>(
+    alloc: Global,
+    link: &SharedLink<&R>,
+    number: u32,
+) -> Result<String, AllocError> {
+    let part = comes(alloc, link, number)?;
+    let again = refusal(link, handle(number));
+    let none = refusal(link, handle(2));
+    format!(in alloc; "{part:?} {again}, {none}")
+}
+
+/// The numbers of two ends, what the second sends, and how it is opened.
+fn opens<R: Wait>(
+    rt: &R,
+    alloc: Global,
+) -> Result<(u32, u32, Result<usize, i32>, String), AllocError> {
+    let hub = Arc::new(alloc, Hub::new(alloc)).map_err(|_| AllocError)?;
+    let (_first, first) = registered(rt, alloc, &hub)?;
+    let (mut inner, number) = registered(rt, alloc, &hub)?;
     let sent = send(&mut inner, &[5], &[]);
-    let part = match near.of_handle(handle(number)) {
-        Ok(mut opened) => receive(&mut opened, alloc, 64)?,
-        Err(_) => None,
-    };
-    let again = refusal(&near, handle(number));
-    let none = refusal(&near, handle(2));
-    format!(in alloc; "{first} {number} {sent:?} {part:?} {again}, {none}")
+    Ok((first, number, sent, opened(alloc, &inner, number)?))
 }
 
 #[test]
 fn opens_each_end_once(rt: HostRuntime) -> Result<(), Fail> {
-    let want = "0 1 Ok(1) Some(Part { bytes: [5], handles: [] }) no such end, no such end";
-    assert_eq!(rt; opens(&rt, rt.alloc())?.as_str(), want);
+    let (first, number, sent, shown) = opens(&rt, rt.alloc())?;
+    assert!(rt; (first, number, sent) == (0, 1, Ok(1)));
+    let want = "Some(Part { bytes: [5], handles: [] }) no such end, no such end";
+    assert!(rt; shown.as_str() == want);
     Ok(())
 }
 
@@ -57,6 +88,6 @@ fn stays_one<R: Wait>(rt: &R, alloc: Global) -> Result<&'static str, AllocError>
 
 #[test]
 fn has_no_duplicate(rt: HostRuntime) -> Result<(), Fail> {
-    assert_eq!(rt; stays_one(&rt, rt.alloc())?, "link cannot be duplicated");
+    assert!(rt; stays_one(&rt, rt.alloc())? == "link cannot be duplicated");
     Ok(())
 }

@@ -2,12 +2,12 @@
 
 ghost use Rattle.std.specs.Prelude.{◌≡◌};
 
-use crate::rings::part::{handle, pair, receive, send};
+use crate::rings::part::{Part, handle, pair, receive, send};
 use crate::rings::script::{BYTES, Step, play};
 use std::alloc::{AllocError, Global};
 use std::sync::Arc;
 use std::test::Fail;
-use vhost_link::Hub;
+use vhost_link::{Hub, SharedLink};
 
 #[test]
 fn takes_what_there_is_room_for(rt: HostRuntime) -> Result<(), Fail> {
@@ -21,7 +21,7 @@ fn takes_what_there_is_room_for(rt: HostRuntime) -> Result<(), Fail> {
     let rest =
         "[6, 7, 8, 9, 10, 11, 12, 13, 14, 15, 16, 17, 18, 19, 20, 21, 22, 23, 24, 25, 26, 27, 28, 29, 30, 31, 32, 33, 34, 35, 36, 37, 38] []\n[] []\n[] []\n[] []\n";
     let shown = play(rt.alloc(), &steps)?;
-    assert_eq!(rt; shown.strip_prefix(want), Some(rest));
+    assert!(rt; shown.strip_prefix(want) == Some(rest));
     Ok(())
 }
 
@@ -38,10 +38,7 @@ fn takes_no_handle_without_a_byte(rt: HostRuntime) -> Result<(), Fail> {
     let want =
         "Ok(32)\nErr(11)\n[1, 2, 3, 4, 5, 6, 7, 8, 9, 10, 11, 12, 13, 14, 15, 16, 17, 18, 19, 20, 21, 22, 23, 24, 25, 26, 27, 28, 29, 30] []\n[31, 32] []\nnothing\nOk(1)\n";
     let shown = play(rt.alloc(), &steps)?;
-    assert_eq!(rt;
-        shown.strip_prefix(want),
-        Some("[33] [7]\n[] []\n[] []\n[] []\n")
-    );
+    assert!(rt; shown.strip_prefix(want) == Some("[33] [7]\n[] []\n[] []\n[] []\n"));
     Ok(())
 }
 
@@ -49,26 +46,38 @@ fn takes_no_handle_without_a_byte(rt: HostRuntime) -> Result<(), Fail> {
 fn ends_before_the_next_handles(rt: HostRuntime) -> Result<(), Fail> {
     let steps = [Step::Send(0, 1), Step::SendTwo(1, 3), Step::SendOne(3, 4)];
     let want = "Ok(1)\nOk(2)\nOk(1)\n[1] []\n[2, 3] [8, 9]\n[4] [7]\n[] []\n";
-    assert_eq!(rt; play(rt.alloc(), &steps)?.as_str(), want);
+    assert!(rt; play(rt.alloc(), &steps)?.as_str() == want);
     Ok(())
 }
 
-/// Sends ten bytes with one handle, receives four, and shows both what came and how many pieces are left.
-fn left_behind(alloc: Global) -> Result<String, AllocError> {
-    let hub = Arc::new(alloc, Hub::new(alloc)).map_err(|_| AllocError)?;
-    let (mut near, mut far) = pair((), alloc, &hub)?;
-    let sent = send(&mut near, &BYTES[..10], &[&handle(7)]);
+/// What four bytes are that came, and how many pieces are left behind them.
+fn left_behind<R: Copy + Drop>(
+    alloc: Global,
+    near: SharedLink<R>,
+    mut far: SharedLink<R>,
+) -> Result<(Option<Part>, usize), AllocError>
+    requires { near.output ≡ far.input }
+{
     let part = receive(&mut far, alloc, 4)?;
     let left = match near.finish() {
         Some(token) => far.compare(token),
         None => 99,
     };
+    Ok((part, left))
+}
+
+/// Sends ten bytes with one handle, receives four, and shows both what came and how many pieces are left.
+fn cut_short(alloc: Global) -> Result<String, AllocError> {
+    let hub = Arc::new(alloc, Hub::new(alloc)).map_err(|_| AllocError)?;
+    let (mut near, far) = pair((), alloc, &hub)?;
+    let sent = send(&mut near, &BYTES[..10], &[&handle(7)]);
+    let (part, left) = left_behind(alloc, near, far)?;
     format!(in alloc; "{sent:?} {part:?} {left}")
 }
 
 #[test]
 fn counts_what_is_left(rt: HostRuntime) -> Result<(), Fail> {
     let want = "Ok(10) Some(Part { bytes: [1, 2, 3, 4], handles: [7] }) 6";
-    assert_eq!(rt; left_behind(rt.alloc())?.as_str(), want);
+    assert!(rt; cut_short(rt.alloc())?.as_str() == want);
     Ok(())
 }

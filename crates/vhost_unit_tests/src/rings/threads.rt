@@ -52,7 +52,7 @@ fn loses_nothing(rt: HostRuntime) -> Result<(), Fail> {
     let carried = carries(&rt, rt.alloc(), &bytes, &[], 100_000)?;
     let left = carried.left.expect(&rt, "the receiver keeps its end");
     let received = pieces_received(&carried, &bytes).expect(&rt, "the bytes are in order");
-    assert_eq!(rt; received.saturating_add(left), pieces_sent(&carried, 0));
+    assert!(rt; received.saturating_add(left) == pieces_sent(&carried, 0));
     Ok(())
 }
 
@@ -62,7 +62,7 @@ fn loses_no_handle(rt: HostRuntime) -> Result<(), Fail> {
     let carried = carries(&rt, rt.alloc(), &bytes, &[&handle(7), &handle(8)], 100_000)?;
     let left = carried.left.expect(&rt, "the receiver keeps its end");
     let received = pieces_received(&carried, &bytes).expect(&rt, "the bytes are in order");
-    assert_eq!(rt; received.saturating_add(left), pieces_sent(&carried, 2));
+    assert!(rt; received.saturating_add(left) == pieces_sent(&carried, 2));
     Ok(())
 }
 
@@ -116,6 +116,6 @@ fn waits<R: Threads + Wait + Sync>(
 fn wakes_and_tells_the_end(rt: HostRuntime) -> Result<(), Fail> {
     let bytes = numbers(rt.alloc(), 1_000)?;
     let all = waits(&rt, rt.alloc(), &bytes)?;
-    assert_eq!(rt; all.as_slice() == bytes.as_slice(), true);
+    assert!(rt; all.as_slice() == bytes.as_slice());
     Ok(())
 }

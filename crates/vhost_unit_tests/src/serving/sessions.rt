@@ -1,32 +1,47 @@
 //! What is served, and how each session ends.
 
 use crate::serving::clients::{GET_FEATURES, REPLY, SET_OWNER, SET_VRING_KICK, exchange, receive};
+use std::alloc::{AllocError, Global};
+use std::fs::Files;
 use std::os::unix::net::UnixStream;
 use std::sync::Wait;
 use std::sync::atomic::{AtomicBool, Ordering};
 use std::test::Fail;
+use std::thread::Threads;
 use std::time::Duration;
 use std::{io, thread};
 use vhost_backend_req_handler::{Gate, Open};
 use vhost_connection::Listener;
 use vhost_serve::serve;
 
+/// Serves so many sessions; the status, and the lines.
+fn served<R: Threads + Wait + Sync, F: Files + Drop, G: Gate + Sync>(
+    rt: &R,
+    alloc: Global,
+    mut listener: Listener<F>,
+    count: u32,
+    gate: &G,
+) -> (u8, Vec<u8>) {
+    let (mut output, mut errors) = (Vec::new(alloc), Vec::new(alloc));
+    let status = serve(
+        rt,
+        alloc,
+        &mut listener,
+        count,
+        gate,
+        &mut output,
+        &mut errors,
+    );
+    (status, output)
+}
+
 #[test]
 fn ends(rt: HostRuntime) -> Result<(), Fail> {
     let path = "ends.sock";
-    let mut listener = Listener::new(&rt, rt.alloc(), path, true)?;
-    let (mut output, mut errors) = (Vec::new(rt.alloc()), Vec::new(rt.alloc()));
-    let (status, clients) = thread::join(
+    let listener = Listener::new(&rt, rt.alloc(), path, true)?;
+    let ((status, output), clients) = thread::join(
         &rt,
-        || serve(
-            &rt,
-            rt.alloc(),
-            &mut listener,
-            3,
-            &Open,
-            &mut output,
-            &mut errors,
-        ),
+        || served(&rt, rt.alloc(), listener, 3, &Open),
         || -> io::Result<()> {
             exchange(&rt, path, &[&GET_FEATURES, &SET_OWNER], REPLY)?;
             exchange(&rt, path, &[&SET_OWNER, &SET_OWNER], 0)?;
@@ -34,10 +49,9 @@ fn ends(rt: HostRuntime) -> Result<(), Fail> {
         },
     );
     clients?;
-    assert_eq!(rt; status, 0);
     let lines =
         "session 1: 2 requests, end Disconnected\nsession 2: 2 requests, end Disconnected\nsession 3: 0 requests, end InvalidMessage\n";
-    assert!(rt; output.as_slice() == lines.as_bytes());
+    assert!(rt; status == 0 && output.as_slice() == lines.as_bytes());
     Ok(())
 }
 
@@ -77,23 +91,14 @@ impl<'a> Gate for Held<'a> {
 #[test]
 fn side_by_side(rt: HostRuntime) -> Result<(), Fail> {
     let path = "side_by_side.sock";
-    let mut listener = Listener::new(&rt, rt.alloc(), path, true)?;
+    let listener = Listener::new(&rt, rt.alloc(), path, true)?;
     let gate = Held {
         rt: &rt,
         answered: AtomicBool::new(false),
     };
-    let (mut output, mut errors) = (Vec::new(rt.alloc()), Vec::new(rt.alloc()));
-    let (status, clients) = thread::join(
+    let ((status, output), clients) = thread::join(
         &rt,
-        || serve(
-            &rt,
-            rt.alloc(),
-            &mut listener,
-            2,
-            &gate,
-            &mut output,
-            &mut errors,
-        ),
+        || served(&rt, rt.alloc(), listener, 2, &gate),
         || -> io::Result<()> {
             let first = UnixStream::connect(&rt, path)?;
             exchange(&rt, path, &[&GET_FEATURES], REPLY)?;
@@ -103,10 +108,9 @@ fn side_by_side(rt: HostRuntime) -> Result<(), Fail> {
         },
     );
     clients?;
-    assert_eq!(rt; status, 0);
     let lines =
         "session 1: 1 requests, end Disconnected\nsession 2: 1 requests, end Disconnected\n";
-    assert!(rt; output.as_slice() == lines.as_bytes());
+    assert!(rt; status == 0 && output.as_slice() == lines.as_bytes());
     Ok(())
 }
 
@@ -125,28 +129,18 @@ impl Gate for Closing {
 #[test]
 fn ended_by_the_gate(rt: HostRuntime) -> Result<(), Fail> {
     let path = "ended_by_the_gate.sock";
-    let mut listener = Listener::new(&rt, rt.alloc(), path, true)?;
-    let (mut output, mut errors) = (Vec::new(rt.alloc()), Vec::new(rt.alloc()));
-    let (status, clients) = thread::join(
+    let listener = Listener::new(&rt, rt.alloc(), path, true)?;
+    let ((status, output), clients) = thread::join(
         &rt,
-        || serve(
-            &rt,
-            rt.alloc(),
-            &mut listener,
-            2,
-            &Closing,
-            &mut output,
-            &mut errors,
-        ),
+        || served(&rt, rt.alloc(), listener, 2, &Closing),
         || -> io::Result<()> {
             exchange(&rt, path, &[&GET_FEATURES, &GET_FEATURES], 2 * REPLY)?;
             exchange(&rt, path, &[], 0)
         },
     );
     clients?;
-    assert_eq!(rt; status, 0);
     let lines = "session 1: 2 requests, end Gate\nsession 2: 0 requests, end Gate\n";
-    assert!(rt; output.as_slice() == lines.as_bytes());
+    assert!(rt; status == 0 && output.as_slice() == lines.as_bytes());
     Ok(())
 }
 
@@ -155,46 +149,43 @@ const SESSIONS: u32 = 1024;
 
 const REQUESTS: usize = 100;
 
+/// Connects so often, and sends all requests over each connection before it receives a reply.
+fn ask_a_thousand(rt: &HostRuntime, path: &str) -> io::Result<()> {
+    let mut streams = Vec::new(rt.alloc());
+    for _ in 0..SESSIONS {
+        streams.push(UnixStream::connect(rt, path)?)?;
+    }
+    for stream in streams.iter_mut() {
+        for _ in 0..REQUESTS {
+            io::Write::write_all(stream, &GET_FEATURES)?;
+        }
+    }
+    for stream in streams.iter_mut() {
+        receive(stream, REQUESTS * REPLY)?;
+    }
+    Ok(())
+}
+
+/// The lines of so many sessions that were served to their end.
+fn thousand_lines(alloc: Global) -> Result<String, AllocError> {
+    let mut lines = String::new(alloc);
+    for session in 1..=SESSIONS {
+        writeln!(lines, "session {session}: 100 requests, end Disconnected")?;
+    }
+    Ok(lines)
+}
+
 #[test]
 fn a_thousand(rt: HostRuntime) -> Result<(), Fail> {
     let path = "a_thousand.sock";
-    let mut listener = Listener::new(&rt, rt.alloc(), path, true)?;
-    let (mut output, mut errors) = (Vec::new(rt.alloc()), Vec::new(rt.alloc()));
-    let (status, clients) = thread::join(
+    let listener = Listener::new(&rt, rt.alloc(), path, true)?;
+    let ((status, output), clients) = thread::join(
         &rt,
-        || serve(
-            &rt,
-            rt.alloc(),
-            &mut listener,
-            SESSIONS,
-            &Open,
-            &mut output,
-            &mut errors,
-        ),
-        || -> io::Result<()> {
-            let mut streams = Vec::new(rt.alloc());
-            for _ in 0..SESSIONS {
-                streams.push(UnixStream::connect(&rt, path)?)?;
-            }
-            for stream in streams.iter_mut() {
-                for _ in 0..REQUESTS {
-                    io::Write::write_all(stream, &GET_FEATURES)?;
-                }
-            }
-            for stream in streams.iter_mut() {
-                receive(stream, REQUESTS * REPLY)?;
-            }
-            Ok(())
-        },
+        || served(&rt, rt.alloc(), listener, SESSIONS, &Open),
+        || ask_a_thousand(&rt, path),
     );
     clients?;
-    assert_eq!(rt; status, 0);
-    let text = std::str::from_utf8(&output)?;
-    let mut lines = text.lines();
-    for session in 1..=SESSIONS {
-        let wanted = format!(in rt.alloc(); "session {session}: 100 requests, end Disconnected")?;
-        assert!(rt; lines.next() == Some(wanted.as_str()));
-    }
-    assert!(rt; lines.next().is_none());
+    let lines = thousand_lines(rt.alloc())?;
+    assert!(rt; status == 0 && output.as_slice() == lines.as_bytes());
     Ok(())
 }

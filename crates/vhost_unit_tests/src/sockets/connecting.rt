@@ -1,16 +1,19 @@
 //! Connecting.
 
 use crate::sockets::device::{BUDGET, QUEUES, TOO_LONG, new_device};
-use crate::sockets::outcome::{Outcome, outcome_of};
+use crate::sockets::outcome::{Outcome, outcome_of, outcome_of_error};
+use std::alloc::Global;
 use std::cell::Cell;
 use std::net::{Net, SocketAddr, TcpListener, TcpStream};
 use std::os::unix::net::{SocketAddr as UnixAddr, UnixListener, UnixStream};
 use std::rt::Clock;
+use std::sync::Arc;
 use std::test::Fail;
 use std::time::{Duration, Instant};
 use std::{fs, io};
 use vhost_backend_req_handler::BackendReqHandler;
 use vhost_connection::Endpoint;
+use vhost_device::VhostUserBackendReqHandler;
 use vhost_frontend::Frontend;
 use vhost_link::UnixLink;
 use vhost_message::{FrontendReq, VhostUserMsgHeader};
@@ -82,9 +85,8 @@ fn tries_until_somebody_listens(rt: HostRuntime) -> Result<(), Fail> {
     let _listener = UnixListener::bind(&rt, path)?;
     for (refused, slept) in [(0, 0), (3, 300), (5, 500)] {
         let (told, tries, waited) = connect_at(&rt, path, refused, 111);
-        assert_eq!(rt; told, Outcome::Given);
-        assert_eq!(rt; tries, refused + 1);
-        assert_eq!(rt; waited, Duration::from_millis(slept));
+        let want = (Outcome::Given, refused + 1, Duration::from_millis(slept));
+        assert!(rt; (told, tries, waited) == want);
     }
     Ok(())
 }
@@ -92,17 +94,15 @@ fn tries_until_somebody_listens(rt: HostRuntime) -> Result<(), Fail> {
 #[test]
 fn gives_up_after_six_tries(rt: HostRuntime) {
     let (told, tries, waited) = connect_at(&rt, "never.sock", 7, 111);
-    assert_eq!(rt; told, Outcome::Connect(111));
-    assert_eq!(rt; tries, 6);
-    assert_eq!(rt; waited, Duration::from_millis(500));
+    let want = (Outcome::Connect(111), 6, Duration::from_millis(500));
+    assert!(rt; (told, tries, waited) == want);
 }
 
 #[test]
 fn tries_once_where_it_fails_otherwise(rt: HostRuntime) {
     for number in [2, 4, 11, 13, 32, 104] {
         let (told, tries, _) = connect_at(&rt, "other.sock", 1, number);
-        assert_eq!(rt; told, Outcome::Connect(number));
-        assert_eq!(rt; tries, 1);
+        assert!(rt; (told, tries) == (Outcome::Connect(number), 1));
     }
 }
 
@@ -111,7 +111,7 @@ fn nobody_listens_on_a_left_over_path(rt: HostRuntime) -> Result<(), Fail> {
     let path = "left.sock";
     drop(UnixListener::bind(&rt, path)?);
     let start = Instant::now(&rt)?;
-    assert_eq!(rt; frontend_at(&rt, path), Outcome::Connect(111));
+    assert!(rt; frontend_at(&rt, path) == Outcome::Connect(111));
     assert!(rt; start.elapsed(&rt)? >= Duration::from_millis(500));
     fs::remove_file(&rt, path)?;
     Ok(())
@@ -121,11 +121,15 @@ fn endpoint_at(rt: &HostRuntime, path: &str) -> Outcome {
     outcome_of(Endpoint::<Header, UnixLink>::connect(rt, rt.alloc(), path, BUDGET))
 }
 
-fn handler_at(rt: &HostRuntime, path: &str) -> Outcome {
-    let Ok(device) = new_device(rt.alloc()) else {
-        return Outcome::Other;
-    };
-    outcome_of(BackendReqHandler::connect(rt, rt.alloc(), path, BUDGET, device))
+fn handler_at<S: VhostUserBackendReqHandler<Link = UnixLink>>(
+    rt: &HostRuntime,
+    path: &str,
+    device: Arc<S, Global>,
+) -> Outcome {
+    match BackendReqHandler::connect(rt, rt.alloc(), path, BUDGET, device) {
+        Ok(_) => Outcome::Given,
+        Err(error) => outcome_of_error(error),
+    }
 }
 
 fn frontend_at(rt: &HostRuntime, path: &str) -> Outcome {
@@ -133,14 +137,16 @@ fn frontend_at(rt: &HostRuntime, path: &str) -> Outcome {
 }
 
 #[test]
-fn no_way_leads_to_no_socket(rt: HostRuntime) {
+fn no_way_leads_to_no_socket(rt: HostRuntime) -> Result<(), Fail> {
     for (path, want) in [
         ("no_such.sock", Outcome::Connect(2)),
         (TOO_LONG, Outcome::ConnectUnnumbered),
         ("a\0zero.sock", Outcome::ConnectUnnumbered),
     ] {
-        assert_eq!(rt; endpoint_at(&rt, path), want);
-        assert_eq!(rt; handler_at(&rt, path), want);
-        assert_eq!(rt; frontend_at(&rt, path), want);
+        let device = new_device(rt.alloc())?;
+        assert!(rt; endpoint_at(&rt, path) == want);
+        assert!(rt; handler_at(&rt, path, device) == want);
+        assert!(rt; frontend_at(&rt, path) == want);
     }
+    Ok(())
 }

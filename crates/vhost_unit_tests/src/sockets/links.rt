@@ -3,9 +3,11 @@
 use crate::sockets::device::{BUDGET, new_device};
 use std::alloc::Global;
 use std::os::unix::net::UnixStream;
+use std::sync::Arc;
 use std::test::Fail;
 use vhost_backend_req_handler::BackendReqHandler;
 use vhost_connection::Endpoint;
+use vhost_device::VhostUserBackendReqHandler;
 use vhost_link::{Link, NoHandle, UnixLink};
 use vhost_message::{FrontendReq, IoCause, MAX_ATTACHED_FD_ENTRIES, VhostUserMsgHeader};
 
@@ -30,8 +32,8 @@ fn carries_bytes_and_an_end(rt: HostRuntime) -> Result<(), Fail> {
     assert!(rt; matches!(near.send(b"hello", &[]), Ok(5)));
     assert!(rt; matches!(receive(rt.alloc(), &mut far, &mut front), Ok(2)));
     assert!(rt; matches!(receive(rt.alloc(), &mut far, &mut rest), Ok(3)));
-    assert_eq!(rt; front.as_slice(), b"he".as_slice());
-    assert_eq!(rt; rest.as_slice(), b"llo".as_slice());
+    assert!(rt; front.as_slice() == b"he".as_slice());
+    assert!(rt; rest.as_slice() == b"llo".as_slice());
     drop(near);
     assert!(rt; matches!(receive(rt.alloc(), &mut far, &mut rest), Ok(0)));
     assert!(rt; matches!(far.send(b"x", &[]), Err(IoCause::Raw(32))));
@@ -76,8 +78,11 @@ fn duplicate_below_endpoint(alloc: Global, link: UnixLink) -> Option<UnixLink> {
 }
 
 /// A duplicate of a handler's link; the handler itself ends.
-fn duplicate_below_handler(alloc: Global, link: UnixLink) -> Option<UnixLink> {
-    let device = new_device(alloc).ok()?;
+fn duplicate_below_handler<S: VhostUserBackendReqHandler<Link = UnixLink>>(
+    alloc: Global,
+    link: UnixLink,
+    device: Arc<S, Global>,
+) -> Option<UnixLink> {
     let handler = BackendReqHandler::from_stream(alloc, link, BUDGET, device).ok()?;
     handler.try_clone_connection().ok()
 }
@@ -86,7 +91,8 @@ fn duplicate_below_handler(alloc: Global, link: UnixLink) -> Option<UnixLink> {
 fn duplicates_outlive_a_session(rt: HostRuntime) -> Result<(), Fail> {
     let (near, far) = UnixStream::pair(&rt)?;
     let near = duplicate_below_endpoint(rt.alloc(), UnixLink::from(near)).ok_or("no duplicate")?;
-    let mut near = duplicate_below_handler(rt.alloc(), near).ok_or("no duplicate")?;
+    let device = new_device(rt.alloc())?;
+    let mut near = duplicate_below_handler(rt.alloc(), near, device).ok_or("no duplicate")?;
     assert!(rt; matches!(near.send(b"abc", &[]), Ok(3)));
     let mut room = [0u8; 8];
     assert!(rt;

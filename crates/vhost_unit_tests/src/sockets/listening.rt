@@ -1,64 +1,86 @@
 //! Listening, and handing a device out.
 
 use crate::sockets::device::{BUDGET, QUEUES, TOO_LONG, new_device};
-use crate::sockets::outcome::{Outcome, outcome_if_any, outcome_of};
+use crate::sockets::outcome::{Outcome, outcome_if_any, outcome_of, outcome_of_error};
 use std::alloc::Global;
 use std::fs;
+use std::fs::Files;
 use std::net::Net;
 use std::os::unix::net::{UnixListener, UnixStream};
-use std::sync::Wait;
+use std::sync::{Arc, Wait};
 use std::test::Fail;
 use vhost_backend::VhostBackend;
 use vhost_backend_req_handler::{BackendListener, BackendReqHandler};
 use vhost_connection::Listener;
+use vhost_device::VhostUserBackendReqHandler;
 use vhost_frontend::Frontend;
+use vhost_link::UnixLink;
 use vhost_message::{Error, Result as Answer};
 
+/// How one call of `accept` goes.
+fn accept<F: Files + Drop, S: VhostUserBackendReqHandler<Link = UnixLink>>(
+    backend: &mut BackendListener<F, S>,
+) -> Outcome {
+    match backend.accept() {
+        Ok(Some(_)) => Outcome::Given,
+        Ok(None) => Outcome::Nothing,
+        Err(error) => outcome_of_error(error),
+    }
+}
+
 /// What four calls of `accept` answered, where a connection comes after the second, and another after the third.
-fn accept_four(
+fn accept_four<F: Files + Drop, S: VhostUserBackendReqHandler<Link = UnixLink>>(
     rt: &HostRuntime,
-    listener: &mut Listener<&HostRuntime>,
+    listener: &mut Listener<F>,
     path: &str,
+    device: Arc<S, Global>,
 ) -> Answer<[Outcome; 4]> {
-    let Ok(device) = new_device(rt.alloc()) else {
-        return Err(Error::OutOfMemory);
-    };
     let mut backend = BackendListener::new(rt.alloc(), listener, device, BUDGET)?;
     backend.set_nonblocking(true)?;
-    let first = outcome_if_any(backend.accept());
-    let second = outcome_if_any(backend.accept());
+    let first = accept(&mut backend);
+    let second = accept(&mut backend);
     let _near = Frontend::connect(rt, rt.alloc(), path, QUEUES, BUDGET);
-    let third = outcome_if_any(backend.accept());
+    let third = accept(&mut backend);
     let _far = UnixStream::connect(rt, path);
-    Ok([first, second, third, outcome_if_any(backend.accept())])
+    Ok([first, second, third, accept(&mut backend)])
+}
+
+/// What two more calls of `accept` answer.
+fn accept_two<F: Files + Drop>(listener: &Listener<F>) -> [Outcome; 2] {
+    [
+        outcome_if_any(listener.accept()),
+        outcome_if_any(listener.accept()),
+    ]
 }
 
 #[test]
 fn hands_the_device_out_once(rt: HostRuntime) -> Result<(), Fail> {
     let path = "once.sock";
     let mut listener = Listener::new(&rt, rt.alloc(), path, false)?;
-    let told = accept_four(&rt, &mut listener, path)?;
-    assert_eq!(rt; told[0], Outcome::Nothing);
-    assert_eq!(rt; told[1], Outcome::Nothing);
-    assert_eq!(rt; told[2], Outcome::Given);
-    assert_eq!(rt; told[3], Outcome::HandedOut);
+    let device = new_device(rt.alloc())?;
+    let told = accept_four(&rt, &mut listener, path, device)?;
+    assert!(rt;
+        told == [
+            Outcome::Nothing,
+            Outcome::Nothing,
+            Outcome::Given,
+            Outcome::HandedOut
+        ]
+    );
     // The second connection was not taken: it still waits, and no other.
-    assert_eq!(rt; outcome_if_any(listener.accept()), Outcome::Given);
-    assert_eq!(rt; outcome_if_any(listener.accept()), Outcome::Nothing);
+    assert!(rt; accept_two(&listener) == [Outcome::Given, Outcome::Nothing]);
     Ok(())
 }
 
 /// A frontend sets its owner, a device that connected to it serves the request, and the frontend ends: what the frontend's
 /// call answered, and the two calls of the handler.
-fn own_once<R: Net + Wait>(
+fn own_once<R: Net + Wait, F: Files + Drop, S: VhostUserBackendReqHandler<Link = UnixLink>>(
     rt: &R,
     alloc: Global,
-    listener: &Listener<&HostRuntime>,
+    listener: &Listener<F>,
     path: &str,
+    device: Arc<S, Global>,
 ) -> Answer<(bool, Answer<()>, Answer<()>)> {
-    let Ok(device) = new_device(alloc) else {
-        return Err(Error::OutOfMemory);
-    };
     let mut handler = BackendReqHandler::connect(rt, alloc, path, BUDGET, device)?;
     let Some(link) = listener.accept()? else {
         return Err(Error::Disconnected);
@@ -74,7 +96,8 @@ fn own_once<R: Net + Wait>(
 fn serves_where_the_device_connects(rt: HostRuntime) -> Result<(), Fail> {
     let path = "device.sock";
     let listener = Listener::new(&rt, rt.alloc(), path, false)?;
-    let (asked, served, last) = own_once(&rt, rt.alloc(), &listener, path)?;
+    let device = new_device(rt.alloc())?;
+    let (asked, served, last) = own_once(&rt, rt.alloc(), &listener, path, device)?;
     assert!(rt; asked);
     assert!(rt; served.is_ok());
     assert!(rt; matches!(last, Err(Error::Disconnected)));
@@ -90,16 +113,15 @@ fn listen_at(rt: &HostRuntime, path: &str, unlink: bool) -> Outcome {
 fn takes_a_left_over_path_over(rt: HostRuntime) -> Result<(), Fail> {
     let path = "over.sock";
     drop(UnixListener::bind(&rt, path)?);
-    assert_eq!(rt; listen_at(&rt, path, false), Outcome::Socket(98));
+    assert!(rt; listen_at(&rt, path, false) == Outcome::Socket(98));
     assert!(rt; fs::exists(&rt, path)?);
-    assert_eq!(rt; listen_at(&rt, path, true), Outcome::Given);
+    assert!(rt; listen_at(&rt, path, true) == Outcome::Given);
     assert!(rt; !fs::exists(&rt, path)?);
     Ok(())
 }
 
 /// How an `accept` of a listener went that has no path.
-fn accept_without_path(rt: &HostRuntime, socket: UnixListener) -> Outcome {
-    let listener: Listener<&HostRuntime> = Listener::from(socket);
+fn accept_without_path<F: Files + Drop>(listener: &Listener<F>) -> Outcome {
     match listener.set_nonblocking(true) {
         Ok(()) => outcome_if_any(listener.accept()),
         Err(_) => Outcome::Other,
@@ -110,7 +132,8 @@ fn accept_without_path(rt: &HostRuntime, socket: UnixListener) -> Outcome {
 fn leaves_the_path_that_it_was_not_made_at(rt: HostRuntime) -> Result<(), Fail> {
     let path = "kept.sock";
     let socket = UnixListener::bind(&rt, path)?;
-    assert_eq!(rt; accept_without_path(&rt, socket), Outcome::Nothing);
+    let listener: Listener<&HostRuntime> = Listener::from(socket);
+    assert!(rt; accept_without_path(&listener) == Outcome::Nothing);
     fs::remove_file(&rt, path)?;
     Ok(())
 }
@@ -126,7 +149,7 @@ fn listens_at_no_such_path(rt: HostRuntime) -> Result<(), Fail> {
         ("nothing_here/a\0zero.sock", Outcome::SocketUnnumbered),
         ("nothing_here/no_folder/a.sock", Outcome::Socket(2)),
     ] {
-        assert_eq!(rt; listen_at(&rt, path, true), want);
+        assert!(rt; listen_at(&rt, path, true) == want);
     }
     fs::remove_dir(&rt, FOLDER)?;
     Ok(())

@@ -24,7 +24,7 @@ pub(crate) enum Outcome {
 }
 
 /// The outcome that an error is.
-fn outcome_of_error(error: Error) -> Outcome {
+pub(crate) fn outcome_of_error(error: Error) -> Outcome {
     match error {
         Error::SocketConnect(IoCause::Raw(number)) => Outcome::Connect(number),
         Error::SocketConnect(IoCause::Named("io error")) => Outcome::ConnectUnnumbered,

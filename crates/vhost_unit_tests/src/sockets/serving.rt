@@ -7,8 +7,9 @@ use std::net::Shutdown;
 use std::os::unix::net::UnixStream;
 use std::test::Fail;
 use vhost_backend_req_handler::SessionCore;
+use vhost_device::VhostUserBackendReqHandlerMut;
 use vhost_dummy_backend::DummyBackendReqHandler;
-use vhost_link::UnixLink;
+use vhost_link::{Link, UnixLink};
 use vhost_message::{Error, Result as Answer};
 
 /// GET_FEATURES, SET_OWNER, SET_FEATURES of 0x40000001, GET_PROTOCOL_FEATURES, SET_PROTOCOL_FEATURES of REPLY_ACK, and SET_OWNER
@@ -30,8 +31,11 @@ const REPLIES: [u8; 60] = [
 ];
 
 /// The answers of seven calls of a handler over this link.
-fn run(alloc: Global, link: UnixLink) -> Answer<Vec<Answer<()>>> {
-    let mut device = DummyBackendReqHandler::new(alloc, Vec::new(alloc));
+fn run<L: Link, D: VhostUserBackendReqHandlerMut<Link = L>>(
+    alloc: Global,
+    link: L,
+    mut device: D,
+) -> Answer<Vec<Answer<()>>> {
     let mut core = SessionCore::new(alloc, link, BUDGET)?;
     let mut answers = Vec::new(alloc);
     core.run(7, &mut device, &mut answers)?;
@@ -43,13 +47,14 @@ fn serves_six_requests(rt: HostRuntime) -> Result<(), Fail> {
     let (mut near, far) = UnixStream::pair(&rt)?;
     near.write_all(&REQUESTS)?;
     near.shutdown(Shutdown::Write)?;
-    let answers = run(rt.alloc(), UnixLink::from(far))?;
-    assert_eq!(rt; answers.len(), 7);
+    let device = DummyBackendReqHandler::new(rt.alloc(), Vec::new(rt.alloc()));
+    let answers = run(rt.alloc(), UnixLink::from(far), device)?;
+    assert!(rt; answers.len() == 7);
     assert!(rt; answers[..5].iter().all(|answer| answer.is_ok()));
     assert!(rt; matches!(answers[5], Err(Error::InvalidOperation("already claimed"))));
     assert!(rt; matches!(answers[6], Err(Error::Disconnected)));
     let mut replies = [0; 61];
-    assert_eq!(rt; near.read(&mut replies)?, 60);
-    assert_eq!(rt; &replies[..60], REPLIES.as_slice());
+    assert!(rt; near.read(&mut replies)? == 60);
+    assert!(rt; &replies[..60] == REPLIES.as_slice());
     Ok(())
 }

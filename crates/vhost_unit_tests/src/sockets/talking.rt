@@ -2,9 +2,9 @@
 //!
 //! What is wanted of each call is what the joined run answers to it (`vhost-run`), on the same device.
 
-use crate::sockets::device::{BUDGET, QUEUES};
+use crate::sockets::device::{BUDGET, Device, QUEUES};
 use bitflags::Flags;
-use std::alloc::Global;
+use std::alloc::{AllocError, Global};
 use std::os::unix::net::UnixStream;
 use std::sync::{Arc, Mutex, Wait};
 use std::test::Fail;
@@ -12,9 +12,10 @@ use std::thread;
 use std::time::Duration;
 use vhost_backend::{Error, Result, VhostBackend, VhostUserMemoryRegionInfo, VringConfigData};
 use vhost_backend_req_handler::BackendReqHandler;
+use vhost_device::VhostUserBackendReqHandler;
 use vhost_dummy_backend::DummyBackendReqHandler;
 use vhost_frontend::{Frontend, VhostUserFrontend};
-use vhost_link::{NoHandle, UnixLink};
+use vhost_link::{Link, NoHandle, UnixLink};
 use vhost_message::{
     Error as ProtocolError, FrontendReq, VhostUserConfigFlags, VhostUserHeaderFlag,
     VhostUserProtocolFeatures, VhostUserShMemConfig,
@@ -169,10 +170,7 @@ fn end<F: VhostUserFrontend + VhostBackend<Handle = NoHandle>>(
 }
 
 /// Whether each call answers what it should.
-fn ask(rt: &impl Wait, alloc: Global, link: UnixLink) -> [bool; 4] {
-    let Ok(mut frontend) = Frontend::from_stream(alloc, link, QUEUES, BUDGET) else {
-        return [false; 4];
-    };
+fn ask<L: Link<Handle = NoHandle>>(rt: &impl Wait, mut frontend: Frontend<L>) -> [bool; 4] {
     let negotiated = negotiate(rt, &mut frontend) == NEGOTIATED;
     frontend.set_hdr_flags(rt, VhostUserHeaderFlag::NEED_REPLY);
     [
@@ -183,12 +181,23 @@ fn ask(rt: &impl Wait, alloc: Global, link: UnixLink) -> [bool; 4] {
     ]
 }
 
-/// Serves a session to its end; how many requests were served, and how many were refused. None: it failed.
-fn serve(rt: &impl Wait, alloc: Global, link: UnixLink) -> Option<(u32, u32)> {
+/// A device with two regions of shared memory.
+fn sharing_device(alloc: Global) -> std::result::Result<Arc<Device, Global>, AllocError> {
     let mut device = DummyBackendReqHandler::new(alloc, Vec::new(alloc));
     device.set_shmem_config(VhostUserShMemConfig::new(2, &[0x1000, 0x2000]));
-    let device = Arc::new(alloc, Mutex::new(device)).ok()?;
-    let mut handler = BackendReqHandler::from_stream(alloc, link, BUDGET, device).ok()?;
+    Ok(Arc::new(alloc, Mutex::new(device))?)
+}
+
+/// Serves a session to its end; how many requests were served, and how many were refused. None: it failed.
+fn serve<S: VhostUserBackendReqHandler<Link = UnixLink>>(
+    rt: &impl Wait,
+    alloc: Global,
+    link: UnixLink,
+    device: Arc<S, Global>,
+) -> Option<(u32, u32)> {
+    let Ok(mut handler) = BackendReqHandler::from_stream(alloc, link, BUDGET, device) else {
+        return None;
+    };
     let mut served: u32 = 0;
     for answered in 0..MOST {
         match handler.handle_request(rt) {
@@ -214,12 +223,14 @@ fn connection(rt: &HostRuntime) -> std::io::Result<(UnixLink, UnixLink)> {
 #[test]
 fn each_call_is_answered_as_in_a_joined_run(rt: HostRuntime) -> std::result::Result<(), Fail> {
     let (near, far) = connection(&rt)?;
+    let device = sharing_device(rt.alloc())?;
+    let frontend = Frontend::from_stream(rt.alloc(), near, QUEUES, BUDGET)?;
     let (served, asked) = thread::join(
         &rt,
-        || serve(&rt, rt.alloc(), far),
-        || ask(&rt, rt.alloc(), near),
+        || serve(&rt, rt.alloc(), far, device),
+        || ask(&rt, frontend),
     );
-    assert_eq!(rt; asked, [true; 4]);
-    assert_eq!(rt; served, Some((20, 3)));
+    assert!(rt; asked == [true; 4]);
+    assert!(rt; served == Some((20, 3)));
     Ok(())
 }

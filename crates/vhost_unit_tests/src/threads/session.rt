@@ -9,6 +9,7 @@ use std::sync::{Arc, Wait};
 use std::test::Fail;
 use std::thread::{Threads, join};
 use vhost_backend_req_handler::SessionCore;
+use vhost_device::VhostUserBackendReqHandlerMut;
 use vhost_dummy_backend::DummyBackendReqHandler;
 use vhost_frontend::Quiet;
 use vhost_link::{Hub, Kind, Link, PlainHandle, SharedLink};
@@ -17,17 +18,26 @@ use vhost_message::{Error, VhostUserShMemConfig};
 /// How many retries a message may take: a ring is full until the other side has taken something.
 pub(crate) const BUDGET: u32 = u32::MAX;
 
-/// Serves a frontend over the example device until the frontend is gone, or a request is refused; why it ended.
-pub(crate) fn serve<L: Link<Handle = PlainHandle>>(link: L, alloc: Global) -> Result<(), Error> {
+/// An example device with three handles to give out, and one region of shared memory.
+fn new_device<L: Link<Handle = PlainHandle>>(
+    alloc: Global,
+) -> Result<DummyBackendReqHandler<L>, AllocError> {
     let mut spares = Vec::new(alloc);
     for id in [102, 101, 100] {
         let kind = Kind::NoSocket;
-        if spares.push(PlainHandle { id, kind }).is_err() {
-            return Err(Error::OutOfMemory);
-        }
+        spares.push(PlainHandle { id, kind })?;
     }
     let mut device = DummyBackendReqHandler::new(alloc, spares);
     device.set_shmem_config(VhostUserShMemConfig::new(1, &[0x4000]));
+    Ok(device)
+}
+
+/// Serves a frontend until it is gone, or a request is refused; why it ended.
+fn serve_with<L: Link, D: VhostUserBackendReqHandlerMut<Link = L>>(
+    link: L,
+    alloc: Global,
+    mut device: D,
+) -> Result<(), Error> {
     let mut core = SessionCore::new(alloc, link, BUDGET)?;
     for _i in 0..1_000u32 {
         core.handle_request(&mut device)?;
@@ -35,24 +45,39 @@ pub(crate) fn serve<L: Link<Handle = PlainHandle>>(link: L, alloc: Global) -> Re
     Ok(())
 }
 
+/// The same over the example device.
+pub(crate) fn serve<L: Link<Handle = PlainHandle>>(link: L, alloc: Global) -> Result<(), Error> {
+    match new_device(alloc) {
+        Ok(device) => serve_with(link, alloc, device),
+        Err(_) => Err(Error::OutOfMemory),
+    }
+}
+
 /// Makes all calls, and shows what they answered.
 fn ask<L: Link<Handle = PlainHandle>>(
+    frontend: &mut Quiet<L>,
+    alloc: Global,
+    channel: PlainHandle,
+) -> Answers {
+    let mut out = Answers::new(alloc);
+    agree(frontend, &mut out);
+    set_ring(frontend, &mut out);
+    start_ring(frontend, &mut out);
+    share_memory(frontend, &mut out);
+    configure(frontend, &mut out);
+    exchange_handles(frontend, &mut out, channel);
+    leave(frontend, &mut out);
+    out
+}
+
+/// The same over a link.
+fn ask_over<L: Link<Handle = PlainHandle>>(
     link: L,
     alloc: Global,
     channel: PlainHandle,
-) -> Result<Answers, AllocError> {
-    let mut out = Answers::new(alloc);
-    let Ok(mut frontend) = Quiet::new(alloc, link, 2, BUDGET) else {
-        return Ok(out);
-    };
-    agree(&mut frontend, &mut out)?;
-    set_ring(&mut frontend, &mut out)?;
-    start_ring(&mut frontend, &mut out)?;
-    share_memory(&mut frontend, &mut out)?;
-    configure(&mut frontend, &mut out)?;
-    exchange_handles(&mut frontend, &mut out, channel)?;
-    leave(&mut frontend, &mut out)?;
-    Ok(out)
+) -> Result<Answers, Error> {
+    let mut frontend = Quiet::new(alloc, link, 2, BUDGET)?;
+    Ok(ask(&mut frontend, alloc, channel))
 }
 
 /// What the calls of one thread answer which another serves, and why the other ended.
@@ -69,10 +94,10 @@ fn answers<R: Threads + Wait + Sync>(
     };
     let (out, end) = join(
         rt,
-        move || ask(near, alloc, channel),
+        move || ask_over(near, alloc, channel),
         move || serve(far, alloc),
     );
-    Ok((out?, end))
+    Ok((out.map_err(|_| AllocError)?, end))
 }
 
 /// What these calls answer over the example device, by the page of its lines.
@@ -117,7 +142,7 @@ set_log_fd: partial message
 #[test]
 fn answers_as_a_joined_run(rt: HostRuntime) -> Result<(), Fail> {
     let (out, end) = answers(&rt, rt.alloc())?;
-    assert_eq!(rt; out.text(), ANSWERS);
-    assert_eq!(rt; matches!(end, Err(Error::InvalidMessage)), true);
+    assert!(rt; out.text() == ANSWERS);
+    assert!(rt; matches!(end, Err(Error::InvalidMessage)));
     Ok(())
 }
