@@ -1,6 +1,6 @@
 //! What each call becomes whose message is one record: the table of a frontend's requests.
 
-ghost use Rattle.std.specs.Prelude.{◌≡◌, IfOk, false, map};
+ghost use Rattle.std.specs.Prelude.{◌≡◌, ◌==◌, ◌&&◌, IfOk, false, map, not};
 ghost use Rattle.vhost_protocol.specs.declared.asked.Awaited.TheVariants.{Reply};
 ghost use Rattle.vhost_connection.specs.Asking.{request_with};
 ghost use Rattle.vhost_message.specs.Records.{single_region};
@@ -10,14 +10,14 @@ ghost use Rattle.vhost_frontend_core.specs.Plan.{planned as planned_as, record_i
 ghost use Rattle.vhost_frontend_core.specs.Session.{frontend_of};
 
 use crate::internal::FrontendInternal;
-use crate::session::{FrontendSession, param, protocol_in, valid};
+use crate::session::{FrontendSession, param, protocol_in};
 use bitflags::Flags;
 use vhost_link::Link;
 use vhost_message::{
     Error, FrontendReq, Result, VhostUserInflight, VhostUserLog, VhostUserMemoryRegion,
-    VhostUserProtocolFeatures, VhostUserSharedMsg, VhostUserSingleMemoryRegion,
-    VhostUserTransferDeviceState, VhostUserVringAddr, VhostUserVringState, VringConfigData,
-    protocol_bit,
+    VhostUserMsgValidator, VhostUserProtocolFeatures, VhostUserSharedMsg,
+    VhostUserSingleMemoryRegion, VhostUserTransferDeviceState, VhostUserVringAddr,
+    VhostUserVringState, VringConfigData, protocol_bit,
 };
 use vhost_protocol::{Awaited, Shape};
 
@@ -133,9 +133,17 @@ impl Plan {
 }
 
 impl<L: Link> FrontendInternal<L> {
-    ghost use Rattle.std.specs.Prelude.{[], ◌∷◌};
+    ghost use Rattle.std.specs.Prelude.{◌<◌, List, Ok, [], ◌∷◌, if◌then◌else◌};
+    ghost use Rattle.vhost_message.specs.declared.frontend_req.FrontendReq.TheVariants as code;
+    ghost use Rattle.vhost_protocol.specs.Ask.{Asked, ◌>>◌ as ◌and_then◌};
+    ghost use Rattle.vhost_protocol.specs.FrontendCall as calls;
+    ghost use Rattle.vhost_protocol.specs.Session.{is_listen};
+    ghost use Rattle.vhost_protocol.specs.Written as payload;
+    ghost use Rattle.vhost_protocol.specs.declared.asked.Shape.TheVariants as shape;
+    ghost use Rattle.vhost_frontend_core.specs.Asking.{tested};
     ghost use Rattle.vhost_frontend_core.specs.Frontend.{session_of};
     ghost use Rattle.vhost_frontend_core.specs.Plan.{call_in, call_with};
+    ghost use Rattle.vhost_frontend_core.specs.declared.internal.plan.RecordCall.TheVariants as record_call;
 
     /// What a call without a handle becomes.
     pub(crate) fn planned(&self, call: RecordCall) -> Result<Plan>
@@ -154,25 +162,27 @@ impl<L: Link> FrontendInternal<L> {
             }
             SetOwner => Ok(Plan::sends(session, SET_OWNER, Record::Empty)),
             ResetOwner => Ok(Plan::sends(session, RESET_OWNER, Record::Empty)),
-            GetProtocolFeatures => {
-                protocol_in(session.offered)?;
-                Ok(Plan::asks(session, GET_PROTOCOL_FEATURES, Record::Empty, Shape::U64))
-            }
+            GetProtocolFeatures => Self::once(
+                protocol_in(session.offered),
+                Plan::asks(session, GET_PROTOCOL_FEATURES, Record::Empty, Shape::U64),
+            ),
             SetProtocolFeatures(features) => {
-                protocol_in(session.offered)?;
                 let mut next = session;
                 next.acked_protocol_features = features.bits();
                 let body = Record::U64(features.bits());
-                Ok(Plan::sends(next, SET_PROTOCOL_FEATURES, body))
+                Self::once(
+                    protocol_in(session.offered),
+                    Plan::sends(next, SET_PROTOCOL_FEATURES, body),
+                )
             }
-            GetQueueNum => {
-                session.needs(protocol_bit::MQ)?;
-                Ok(Plan::asks(session, GET_QUEUE_NUM, Record::Empty, Shape::U64))
-            }
-            ResetDevice => {
-                session.needs(protocol_bit::RESET_DEVICE)?;
-                Ok(Plan::sends(session, RESET_DEVICE, Record::Empty))
-            }
+            GetQueueNum => Self::once(
+                session.needs(protocol_bit::MQ),
+                Plan::asks(session, GET_QUEUE_NUM, Record::Empty, Shape::U64),
+            ),
+            ResetDevice => Self::once(
+                session.needs(protocol_bit::RESET_DEVICE),
+                Plan::sends(session, RESET_DEVICE, Record::Empty),
+            ),
             SetLogBase(base) => Ok(Plan {
                 request: SET_LOG_BASE,
                 quiet: false,
@@ -180,106 +190,147 @@ impl<L: Link> FrontendInternal<L> {
                 awaited: Awaited::Nobody,
                 next: session,
             }),
-            SetVringNum(index, num) => {
-                let index = session.index(index)?;
-                let ring = VhostUserVringState::new(index, num.into());
-                Ok(Plan::sends(session, SET_VRING_NUM, Record::RingState(ring)))
-            }
-            SetVringBase(index, base) => {
-                let index = session.index(index)?;
-                let ring = VhostUserVringState::new(index, base.into());
-                Ok(Plan::sends(session, SET_VRING_BASE, Record::RingState(ring)))
-            }
-            SetVringAddr(index, config) => {
-                let index = session.index(index)?;
-                param(config.flags <= 1)?;
-                let ring = VhostUserVringAddr::from_config_data(index, &config);
-                Ok(Plan::sends(session, SET_VRING_ADDR, Record::RingAddr(ring)))
-            }
-            GetVringBase(index) => {
-                let index = session.index(index)?;
-                let ring = VhostUserVringState::new(index, 0);
-                Ok(Plan::asks(
-                    session,
-                    GET_VRING_BASE,
-                    Record::RingState(ring),
-                    Shape::VringState,
-                ))
-            }
-            SetVringEnable(index, enable) => {
-                protocol_in(session.acked)?;
-                let index = session.index(index)?;
-                let ring = VhostUserVringState::new(index, enable.into());
-                Ok(Plan::sends(session, SET_VRING_ENABLE, Record::RingState(ring)))
-            }
-            GetSharedObject(name) => {
-                session.needs(protocol_bit::SHARED_OBJECT)?;
-                valid(&name)?;
-                Ok(Plan::asks(
+            SetVringNum(index, num) => self.sends_ring(SET_VRING_NUM, index, num.into()),
+            SetVringBase(index, base) => self.sends_ring(SET_VRING_BASE, index, base.into()),
+            SetVringAddr(index, config) => self.sends_ring_addr(index, config),
+            GetVringBase(index) => self.asks_ring_base(index),
+            SetVringEnable(index, enable) => self.sends_ring_enable(index, enable),
+            GetSharedObject(name) => Self::once(
+                self.allows(protocol_bit::SHARED_OBJECT, name.is_valid()),
+                Plan::asks(
                     session,
                     GET_SHARED_OBJECT,
                     Record::ObjectName(name),
                     Shape::Empty,
-                ))
-            }
-            GetInflightFd(area) => {
-                session.needs(protocol_bit::INFLIGHT_SHMFD)?;
-                Ok(Plan::asks(
+                ),
+            ),
+            GetInflightFd(area) => Self::once(
+                session.needs(protocol_bit::INFLIGHT_SHMFD),
+                Plan::asks(
                     session,
                     GET_INFLIGHT_FD,
                     Record::InflightArea(area),
                     Shape::Inflight,
-                ))
-            }
-            GetMaxMemSlots => {
-                session.needs(protocol_bit::CONFIGURE_MEM_SLOTS)?;
-                Ok(Plan::asks(session, GET_MAX_MEM_SLOTS, Record::Empty, Shape::U64))
-            }
-            AddMemRegion(region) => {
-                session.needs(protocol_bit::CONFIGURE_MEM_SLOTS)?;
-                param(region.memory_size != 0)?;
-                Err(Error::InvalidParam)
-            }
-            RemoveMemRegion(region) => {
-                session.needs(protocol_bit::CONFIGURE_MEM_SLOTS)?;
-                param(region.memory_size != 0)?;
-                let body = Record::OneRegion(single(region));
-                Ok(Plan::sends(session, REM_MEM_REG, body))
-            }
-            GetShmemConfig => {
-                session.needs(protocol_bit::SHMEM)?;
-                Ok(Plan::asks(session, GET_SHMEM_CONFIG, Record::Empty, Shape::ShMemConfig))
-            }
-            CheckDeviceState => {
-                session.needs(protocol_bit::DEVICE_STATE)?;
-                Ok(Plan::asks(session, CHECK_DEVICE_STATE, Record::Empty, Shape::U64))
-            }
-            PostcopyAdvise => {
-                session.needs(protocol_bit::PAGEFAULT)?;
-                Ok(Plan::asks(session, POSTCOPY_ADVISE, Record::Empty, Shape::Empty))
-            }
-            PostcopyListen => {
-                session.needs(protocol_bit::PAGEFAULT)?;
-                Ok(Plan::sends(session, POSTCOPY_LISTEN, Record::Empty))
-            }
-            PostcopyEnd => {
-                session.needs(protocol_bit::PAGEFAULT)?;
-                Ok(Plan::sends(session, POSTCOPY_END, Record::Empty))
-            }
-            PostcopyAckMemRegions(code) => {
-                param(is_mapping(code))?;
-                Ok(Plan {
+                ),
+            ),
+            GetMaxMemSlots => Self::once(
+                session.needs(protocol_bit::CONFIGURE_MEM_SLOTS),
+                Plan::asks(session, GET_MAX_MEM_SLOTS, Record::Empty, Shape::U64),
+            ),
+            AddMemRegion(region) => self.bare_region(region),
+            RemoveMemRegion(region) => Self::once(
+                self.allows(protocol_bit::CONFIGURE_MEM_SLOTS, region.memory_size != 0),
+                Plan::sends(session, REM_MEM_REG, Record::OneRegion(single(region))),
+            ),
+            GetShmemConfig => Self::once(
+                session.needs(protocol_bit::SHMEM),
+                Plan::asks(session, GET_SHMEM_CONFIG, Record::Empty, Shape::ShMemConfig),
+            ),
+            CheckDeviceState => Self::once(
+                session.needs(protocol_bit::DEVICE_STATE),
+                Plan::asks(session, CHECK_DEVICE_STATE, Record::Empty, Shape::U64),
+            ),
+            PostcopyAdvise => Self::once(
+                session.needs(protocol_bit::PAGEFAULT),
+                Plan::asks(session, POSTCOPY_ADVISE, Record::Empty, Shape::Empty),
+            ),
+            PostcopyListen => Self::once(
+                session.needs(protocol_bit::PAGEFAULT),
+                Plan::sends(session, POSTCOPY_LISTEN, Record::Empty),
+            ),
+            PostcopyEnd => Self::once(
+                session.needs(protocol_bit::PAGEFAULT),
+                Plan::sends(session, POSTCOPY_END, Record::Empty),
+            ),
+            PostcopyAckMemRegions(code) => Self::once(
+                param(is_mapping(code)),
+                Plan {
                     request: code,
                     quiet: true,
                     body: Record::U64(0),
                     awaited: Awaited::Nobody,
                     next: session,
-                })
-            }
-            SetMtu(mtu) => {
-                session.needs(protocol_bit::MTU)?;
-                Ok(Plan::sends(session, NET_SET_MTU, Record::U64(mtu.into())))
-            }
+                },
+            ),
+            SetMtu(mtu) => Self::once(
+                session.needs(protocol_bit::MTU),
+                Plan::sends(session, NET_SET_MTU, Record::U64(mtu.into())),
+            ),
+        }
+    }
+
+    /// The plan, once a test has passed.
+    fn once(test: Result<()>, plan: Plan) -> Result<Plan>
+        ensures { (handles : List L.Handle) → planned_as handles result ≡ tested test and_then planned_as handles (Ok plan) }
+    {
+        match test {
+            Ok(()) => Ok(plan),
+            Err(error) => Err(error),
+        }
+    }
+
+    /// A number for a ring.
+    fn sends_ring(&self, request: FrontendReq, index: usize, num: u32) -> Result<Plan>
+        ensures { planned_as {H = L.Handle} [] result ≡ ask.index (session_of self.now) index and_then ask.sends (session_of self.now) request (payload.RingState (ask.ring_state index num)) [] }
+    {
+        let session = self.session;
+        let index = session.index(index)?;
+        let ring = VhostUserVringState::new(index, num);
+        Ok(Plan::sends(session, request, Record::RingState(ring)))
+    }
+
+    /// Where the parts of a ring lie.
+    fn sends_ring_addr(&self, index: usize, config: VringConfigData) -> Result<Plan>
+        ensures { planned_as {H = L.Handle} [] result ≡ ask.ask (session_of self.now) (calls.SetVringAddr index config) }
+    {
+        let session = self.session;
+        let index = session.index(index)?;
+        param(config.flags <= 1)?;
+        let ring = VhostUserVringAddr::from_config_data(index, &config);
+        Ok(Plan::sends(session, FrontendReq::SET_VRING_ADDR, Record::RingAddr(ring)))
+    }
+
+    /// Where a ring stopped.
+    fn asks_ring_base(&self, index: usize) -> Result<Plan>
+        ensures { planned_as {H = L.Handle} [] result ≡ ask.ask (session_of self.now) (calls.GetVringBase index) }
+    {
+        let session = self.session;
+        let index = session.index(index)?;
+        let ring = Record::RingState(VhostUserVringState::new(index, 0));
+        Ok(Plan::asks(
+            session,
+            FrontendReq::GET_VRING_BASE,
+            ring,
+            Shape::VringState,
+        ))
+    }
+
+    /// Whether a ring is on.
+    fn sends_ring_enable(&self, index: usize, enable: bool) -> Result<Plan>
+        ensures { planned_as {H = L.Handle} [] result ≡ ask.ask (session_of self.now) (calls.SetVringEnable index enable) }
+    {
+        let session = self.session;
+        protocol_in(session.acked)?;
+        self.sends_ring(FrontendReq::SET_VRING_ENABLE, index, enable.into())
+    }
+
+    /// The protocol feature of this bit is acknowledged, and the test of an argument holds.
+    fn allows(&self, bit: u32, holds: bool) -> Result<()>
+        requires { bit < 64 }
+        ensures { (rest : Asked L.Handle) → tested result and_then rest ≡ ask.frontend_feature (session_of self.now) bit and_then (ask.param holds and_then rest) }
+    {
+        let session = self.session;
+        session.needs(bit)?;
+        param(holds)
+    }
+
+    /// A region to add that has no handle.
+    fn bare_region(&self, region: VhostUserMemoryRegion) -> Result<Plan>
+        ensures { planned_as {H = L.Handle} [] result ≡ ask.ask (session_of self.now) (call_in (record_call.AddMemRegion region)) }
+    {
+        match self.allows(protocol_bit::CONFIGURE_MEM_SLOTS, region.memory_size != 0) {
+            Ok(()) => Err(Error::InvalidParam),
+            Err(error) => Err(error),
         }
     }
 
@@ -291,52 +342,61 @@ impl<L: Link> FrontendInternal<L> {
         use HandleCall::*;
         let session = self.session;
         match call {
-            SetLogFd => { Ok(Plan::sends(session, SET_LOG_FD, Record::Empty)) }
-            SetVringCall(index) => {
-                let index = session.small_index(index)?;
-                Ok(Plan::sends(session, SET_VRING_CALL, Record::U64(index)))
-            }
-            SetVringKick(index) => {
-                let index = session.small_index(index)?;
-                Ok(Plan::sends(session, SET_VRING_KICK, Record::U64(index)))
-            }
-            SetVringErr(index) => {
-                let index = session.small_index(index)?;
-                Ok(Plan::sends(session, SET_VRING_ERR, Record::U64(index)))
-            }
-            SetBackendRequestFd => {
-                session.needs(protocol_bit::BACKEND_REQ)?;
-                Ok(Plan::sends(session, SET_BACKEND_REQ_FD, Record::Empty))
-            }
-            SetInflightFd(area) => {
-                session.needs(protocol_bit::INFLIGHT_SHMFD)?;
-                param(area.mmap_size != 0 && area.num_queues != 0 && area.queue_size != 0)?;
-                Ok(Plan::sends(session, SET_INFLIGHT_FD, Record::InflightArea(area)))
-            }
-            AddMemRegion(region) => {
-                session.needs(protocol_bit::CONFIGURE_MEM_SLOTS)?;
-                param(region.memory_size != 0)?;
-                let body = Record::OneRegion(single(region));
-                if session.is_listening() {
-                    return Ok(Plan {
-                        request: ADD_MEM_REG,
-                        quiet: true,
-                        body,
-                        awaited: Awaited::Reply(Shape::SingleMemoryRegion),
-                        next: session,
-                    });
-                }
-                Ok(Plan::sends(session, ADD_MEM_REG, body))
-            }
-            SetDeviceStateFd(transfer) => {
-                session.needs(protocol_bit::DEVICE_STATE)?;
-                Ok(Plan::asks(
+            SetLogFd => Ok(Plan::sends(session, SET_LOG_FD, Record::Empty)),
+            SetVringCall(index) => self.sends_ring_handle(SET_VRING_CALL, index),
+            SetVringKick(index) => self.sends_ring_handle(SET_VRING_KICK, index),
+            SetVringErr(index) => self.sends_ring_handle(SET_VRING_ERR, index),
+            SetBackendRequestFd => Self::once(
+                session.needs(protocol_bit::BACKEND_REQ),
+                Plan::sends(session, SET_BACKEND_REQ_FD, Record::Empty),
+            ),
+            SetInflightFd(area) => Self::once(
+                self.allows(protocol_bit::INFLIGHT_SHMFD, is_area(&area)),
+                Plan::sends(session, SET_INFLIGHT_FD, Record::InflightArea(area)),
+            ),
+            AddMemRegion(region) => Self::once(
+                self.allows(protocol_bit::CONFIGURE_MEM_SLOTS, region.memory_size != 0),
+                self.added(region),
+            ),
+            SetDeviceStateFd(transfer) => Self::once(
+                session.needs(protocol_bit::DEVICE_STATE),
+                Plan::asks(
                     session,
                     SET_DEVICE_STATE_FD,
                     Record::DeviceState(transfer),
                     Shape::U64,
-                ))
+                ),
+            ),
+        }
+    }
+
+    /// A handle for a ring.
+    fn sends_ring_handle(&self, request: FrontendReq, index: usize) -> Result<Plan>
+        ensures { (handles : List L.Handle) → planned_as handles result ≡ ask.small_index (session_of self.now) index and_then ask.sends (session_of self.now) request (payload.U64 index) handles }
+    {
+        let session = self.session;
+        let index = session.small_index(index)?;
+        Ok(Plan::sends(session, request, Record::U64(index)))
+    }
+
+    /// A region to add, once it was tested.
+    fn added(&self, region: VhostUserMemoryRegion) -> Plan
+        ensures { (h : L.Handle) → planned_as (h ∷ []) (Ok result) ≡ (if is_listen (session_of self.now).postcopy
+            then ask.asks_quietly (session_of self.now) code.ADD_MEM_REG (payload.OneRegion (single_region region)) (h ∷ []) shape.SingleMemoryRegion
+            else ask.sends (session_of self.now) code.ADD_MEM_REG (payload.OneRegion (single_region region)) (h ∷ [])) }
+    {
+        let session = self.session;
+        let body = Record::OneRegion(single(region));
+        if session.is_listening() {
+            Plan {
+                request: FrontendReq::ADD_MEM_REG,
+                quiet: true,
+                body,
+                awaited: Awaited::Reply(Shape::SingleMemoryRegion),
+                next: session,
             }
+        } else {
+            Plan::sends(session, FrontendReq::ADD_MEM_REG, body)
         }
     }
 }
@@ -346,6 +406,13 @@ fn is_mapping(code: FrontendReq) -> bool
     ensures { result ≡ ask.is_mapping code }
 {
     matches!(code, FrontendReq::SET_MEM_TABLE | FrontendReq::ADD_MEM_REG)
+}
+
+/// Whether an area for descriptors in flight is not empty.
+fn is_area(area: &VhostUserInflight) -> bool
+    ensures { result ≡ (not (area.now.mmap_size == 0) && not (area.now.num_queues == 0) && not (area.now.queue_size == 0)) }
+{
+    area.mmap_size != 0 && area.num_queues != 0 && area.queue_size != 0
 }
 
 /// The region as a message of its own.
