@@ -6,3 +6,4 @@ pub mod OtherCounts
 pub mod RegionLaws
 pub mod LineLaws
 pub mod Rows
+pub mod Naming
