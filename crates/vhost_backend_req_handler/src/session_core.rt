@@ -122,8 +122,8 @@ impl<L: Link> SessionCore<L> {
         if let Some(number) = self.session.failed {
             return Err(Error::SocketBroken(IoCause::Raw(number)));
         }
-        let (request, handles) = self.endpoint.recv_request(&mut self.body[..])?;
-        self.answer(device, request, handles)
+        let (request, mut handles) = self.endpoint.recv_request(&mut self.body[..])?;
+        self.answer(device, request, &mut handles)
     }
 
     /// Reads and serves so many requests, one after another, and appends their answers to `out`. A failed session is
@@ -158,30 +158,30 @@ impl<L: Link> SessionCore<L> {
         &mut self.endpoint
     }
 
-    /// Answers a request that was read: the row of its code.
+    /// Answers a request that was read: the row of its code. It may take the handles.
     #[tactic(auto, using(crate::proofs::Arms::refused))]
     fn answer<D: VhostUserBackendReqHandlerMut<Link = L>>(
         &mut self,
         device: &mut D,
         request: Request,
-        handles: Option<Vec<L::Handle>>,
+        handles: &mut Option<Vec<L::Handle>>,
     ) -> Result<()>
-        ensures { MeetsRowWith L.event L.opens L.Handle.kinds D.gives request.code self.old device.old request handles result self.new device.new }
+        ensures { MeetsRowWith L.event L.opens L.Handle.kinds D.gives request.code self.old device.old request handles.old result self.new device.new }
     {
         match request.code {
             FrontendReq::GET_FEATURES => self.get_features(device, request),
             FrontendReq::SET_FEATURES => self.set_features(device, request),
             FrontendReq::SET_OWNER => self.set_owner(device, request),
             FrontendReq::RESET_OWNER => self.reset_owner(device, request),
-            FrontendReq::SET_MEM_TABLE => self.set_mem_table(device, request, handles),
-            FrontendReq::SET_LOG_BASE => self.set_log_base(device, request, handles),
+            FrontendReq::SET_MEM_TABLE => self.set_mem_table(device, request, handles.take()),
+            FrontendReq::SET_LOG_BASE => self.set_log_base(device, request, handles.take()),
             FrontendReq::SET_VRING_NUM => self.set_vring_num(device, request),
             FrontendReq::SET_VRING_ADDR => self.set_vring_addr(device, request),
             FrontendReq::SET_VRING_BASE => self.set_vring_base(device, request),
             FrontendReq::GET_VRING_BASE => self.get_vring_base(device, request),
-            FrontendReq::SET_VRING_KICK => self.set_vring_kick(device, request, handles),
-            FrontendReq::SET_VRING_CALL => self.set_vring_call(device, request, handles),
-            FrontendReq::SET_VRING_ERR => self.set_vring_err(device, request, handles),
+            FrontendReq::SET_VRING_KICK => self.set_vring_kick(device, request, handles.take()),
+            FrontendReq::SET_VRING_CALL => self.set_vring_call(device, request, handles.take()),
+            FrontendReq::SET_VRING_ERR => self.set_vring_err(device, request, handles.take()),
             FrontendReq::GET_PROTOCOL_FEATURES => self.get_protocol_features(device, request),
             FrontendReq::SET_PROTOCOL_FEATURES => self.set_protocol_features(device, request),
             FrontendReq::GET_QUEUE_NUM => self.get_queue_num(device, request),
@@ -193,15 +193,23 @@ impl<L: Link> SessionCore<L> {
             FrontendReq::POSTCOPY_LISTEN => self.postcopy_listen(device, request),
             FrontendReq::POSTCOPY_END => self.postcopy_end(device, request),
             FrontendReq::GET_INFLIGHT_FD => self.get_inflight_fd(device, request),
-            FrontendReq::SET_INFLIGHT_FD => self.set_inflight_fd(device, request, handles),
-            FrontendReq::SET_BACKEND_REQ_FD => self.set_backend_req_fd(device, request, handles),
-            FrontendReq::GPU_SET_SOCKET => self.gpu_set_socket(device, request, handles),
+            FrontendReq::SET_INFLIGHT_FD => self.set_inflight_fd(device, request, handles.take()),
+            FrontendReq::SET_BACKEND_REQ_FD => self.set_backend_req_fd(
+                device,
+                request,
+                handles.take(),
+            ),
+            FrontendReq::GPU_SET_SOCKET => self.gpu_set_socket(device, request, handles.take()),
             FrontendReq::RESET_DEVICE => self.reset_device(device, request),
             FrontendReq::GET_MAX_MEM_SLOTS => self.get_max_mem_slots(device, request),
-            FrontendReq::ADD_MEM_REG => self.add_mem_reg(device, request, handles),
+            FrontendReq::ADD_MEM_REG => self.add_mem_reg(device, request, handles.take()),
             FrontendReq::REM_MEM_REG => self.rem_mem_reg(device, request),
             FrontendReq::GET_SHARED_OBJECT => self.get_shared_object(device, request),
-            FrontendReq::SET_DEVICE_STATE_FD => self.set_device_state_fd(device, request, handles),
+            FrontendReq::SET_DEVICE_STATE_FD => self.set_device_state_fd(
+                device,
+                request,
+                handles.take(),
+            ),
             FrontendReq::CHECK_DEVICE_STATE => self.check_device_state(device, request),
             FrontendReq::GET_SHMEM_CONFIG => self.get_shmem_config(device, request),
             FrontendReq::SET_LOG_FD
