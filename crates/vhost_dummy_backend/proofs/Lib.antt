@@ -1,2 +1,4 @@
+pub mod Ends
 pub mod Handed
+pub mod Regions
 pub mod Rings
