@@ -1,6 +1,7 @@
 //! Asks a device as a hypervisor does, over a link in memory that holds the device's answers.
 
 use bitflags::Flags;
+use std::alloc::Global;
 use vhost_frontend::Quiet;
 use vhost_link::{Link, MemLink};
 use vhost_message::{Result, VhostUserConfigFlags, VhostUserHeaderFlag, VhostUserProtocolFeatures};
@@ -43,26 +44,46 @@ fn show<T: Drop>(rt: &HostRuntime, name: &str, answer: Result<T>) -> anyhow::Res
     Ok(())
 }
 
-pub(crate) fn run(rt: &HostRuntime) -> anyhow::Result<()> {
-    let mut link = MemLink::new(rt.alloc(), Vec::new(rt.alloc()));
+/// Owns the device, and sets up its rings.
+fn set_up<L: Link>(rt: &HostRuntime, frontend: &mut Quiet<L>) -> anyhow::Result<()> {
+    show(rt, "set_owner", frontend.set_owner())?;
+    let answer = frontend.set_vring_num(0, 1000);
+    show(rt, "set_vring_num of ring 0", answer)?;
+    let answer = frontend.set_vring_num(2, 256);
+    show(rt, "set_vring_num of ring 2", answer)
+}
+
+/// Prints four bytes of the configuration space.
+fn show_config<L: Link>(rt: &HostRuntime, frontend: &mut Quiet<L>) -> anyhow::Result<()> {
+    let (part, bytes) = frontend.get_config(0x100, 4, VhostUserConfigFlags::empty(), &[0; 4])?;
+    println!(rt; "get_config at {:#x}: {:?}", part.offset, bytes.as_slice())?;
+    Ok(())
+}
+
+/// Makes a few calls, and prints what each answered.
+fn ask<L: Link>(rt: &HostRuntime, frontend: &mut Quiet<L>) -> anyhow::Result<()> {
+    let features = negotiate(frontend)?;
+    println!(rt; "protocol features: {:#x}", features.bits())?;
+    set_up(rt, frontend)?;
+    show_config(rt, frontend)?;
+    show(rt, "get_vring_base of ring 1", frontend.get_vring_base(1))
+}
+
+/// A link that hands out the answers.
+fn link_of_answers(alloc: Global) -> anyhow::Result<MemLink> {
+    let mut link = MemLink::new(alloc, Vec::new(alloc));
     for answer in &ANSWERS {
         link.push(answer, &[])?;
     }
-    let mut frontend = Quiet::new(rt.alloc(), link, RINGS, BUDGET)?;
-    let features = negotiate(&mut frontend)?;
-    println!(rt; "protocol features: {:#x}", features.bits())?;
-    show(rt, "set_owner", frontend.set_owner())?;
-    show(
-        rt,
-        "set_vring_num of ring 0",
-        frontend.set_vring_num(0, 1000),
-    )?;
-    show(
-        rt,
-        "set_vring_num of ring 2",
-        frontend.set_vring_num(2, 256),
-    )?;
-    let (part, bytes) = frontend.get_config(0x100, 4, VhostUserConfigFlags::empty(), &[0; 4])?;
-    println!(rt; "get_config at {:#x}: {:?}", part.offset, bytes.as_slice())?;
-    show(rt, "get_vring_base of ring 1", frontend.get_vring_base(1))
+    Ok(link)
+}
+
+/// A session over that link.
+fn open(alloc: Global) -> anyhow::Result<Quiet<MemLink>> {
+    let link = link_of_answers(alloc)?;
+    Ok(Quiet::new(alloc, link, RINGS, BUDGET)?)
+}
+
+pub(crate) fn run(rt: &HostRuntime) -> anyhow::Result<()> {
+    ask(rt, &mut open(rt.alloc())?)
 }

@@ -1,6 +1,7 @@
 //! Serves a device of one's own over a link in memory.
 
 use crate::device::Device;
+use std::alloc::Global;
 use vhost_backend_req_handler::SessionCore;
 use vhost_link::MemLink;
 
@@ -21,13 +22,23 @@ const REQUESTS: [(&str, &[u8]); 4] = [
     ("a header cut short", &[3, 0, 0, 0, 1]),
 ];
 
-/// Prints how each request was answered, and what the device has become.
-pub(crate) fn run(rt: &HostRuntime) -> anyhow::Result<()> {
-    let mut link = MemLink::new(rt.alloc(), Vec::new(rt.alloc()));
+/// A link that hands out the requests.
+fn link_of_requests(alloc: Global) -> anyhow::Result<MemLink> {
+    let mut link = MemLink::new(alloc, Vec::new(alloc));
     for (_, bytes) in &REQUESTS {
         link.push(bytes, &[])?;
     }
-    let mut session = SessionCore::new(rt.alloc(), link, BUDGET)?;
+    Ok(link)
+}
+
+/// A session over that link.
+fn open(alloc: Global) -> anyhow::Result<SessionCore<MemLink>> {
+    let link = link_of_requests(alloc)?;
+    Ok(SessionCore::new(alloc, link, BUDGET)?)
+}
+
+/// Serves the requests, and prints how each was answered, and what the device has become.
+fn serve(rt: &HostRuntime, session: &mut SessionCore<MemLink>) -> anyhow::Result<()> {
     let mut device = Device {
         owned: false,
         features: 0,
@@ -40,4 +51,8 @@ pub(crate) fn run(rt: &HostRuntime) -> anyhow::Result<()> {
     }
     println!(rt; "owned: {}, features: {:#x}", device.owned, device.features)?;
     Ok(())
+}
+
+pub(crate) fn run(rt: &HostRuntime) -> anyhow::Result<()> {
+    serve(rt, &mut open(rt.alloc())?)
 }

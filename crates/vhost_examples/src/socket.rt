@@ -5,10 +5,12 @@ use std::net::Net;
 use std::rt::{Clock, Files};
 use std::sync::{Arc, Mutex, Wait};
 use vhost_backend::VhostBackend;
-use vhost_backend_req_handler::BackendListener;
+use vhost_backend_req_handler::{BackendListener, BackendReqHandler};
 use vhost_connection::Listener;
+use vhost_device::VhostUserBackendReqHandler;
 use vhost_dummy_backend::DummyBackendReqHandler;
 use vhost_frontend::{Frontend, VhostUserFrontend};
+use vhost_link::UnixLink;
 use vhost_message::{Error, Result, VhostUserProtocolFeatures};
 
 /// Where the device listens.
@@ -27,13 +29,39 @@ pub(crate) fn serve<R: Files + Drop>(
     mut listener: Listener<R>,
 ) -> Result<u64> {
     let device = DummyBackendReqHandler::new(alloc, Vec::new(alloc));
-    let Ok(device) = Arc::new(alloc, Mutex::new(device)) else {
+    serve_device(rt, alloc, &mut listener, Mutex::new(device))
+}
+
+/// Serves this device to the first frontend that connects.
+fn serve_device<R: Files + Drop, D: VhostUserBackendReqHandler<Link = UnixLink>>(
+    rt: &impl Wait,
+    alloc: Global,
+    listener: &mut Listener<R>,
+    device: D,
+) -> Result<u64> {
+    let Ok(device) = Arc::new(alloc, device) else {
         return Err(Error::OutOfMemory);
     };
-    let mut backend = BackendListener::new(alloc, &mut listener, device, BUDGET)?;
-    let Some(mut handler) = backend.accept()? else {
-        return Ok(0);
-    };
+    let mut backend = BackendListener::new(alloc, listener, device, BUDGET)?;
+    serve_first(rt, &mut backend)
+}
+
+/// Serves the first frontend that connects. None is there where it gave up before it was accepted.
+fn serve_first<R: Files + Drop, D: VhostUserBackendReqHandler<Link = UnixLink>>(
+    rt: &impl Wait,
+    backend: &mut BackendListener<'_, R, D>,
+) -> Result<u64> {
+    match backend.accept()? {
+        Some(mut handler) => serve_all(rt, &mut handler),
+        None => Ok(0),
+    }
+}
+
+/// Serves requests until the frontend is gone.
+fn serve_all<D: VhostUserBackendReqHandler<Link = UnixLink>>(
+    rt: &impl Wait,
+    handler: &mut BackendReqHandler<UnixLink, D>,
+) -> Result<u64> {
     for served in 0..u64::MAX {
         match handler.handle_request(rt) {
             Ok(()) => {}
