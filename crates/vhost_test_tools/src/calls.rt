@@ -18,21 +18,30 @@ const FIRST: u32 = 4_000_000_000;
 /// have `none` in the place of its handle, `set_hdr_flags` takes any flags, and `get_config` may end with `buffer BYTES`.
 pub fn call_in(alloc: Global, text: &str) -> Result<FrontendCall, Miss> {
     if let Some(flags) = text.strip_prefix("set_hdr_flags ") {
-        let flags = VhostUserHeaderFlag::from_bits_retain(narrow(alloc, flags)?);
-        return Ok(FrontendCall::SetHdrFlags(flags));
+        return flags_call(alloc, flags);
     }
     let (words, buffer) = text.split_once(" buffer ").unwrap_or((text, ""));
     let (words, handles) = replaced(alloc, words)?;
-    let Some(mut call) = call_of(alloc, words.as_bytes())? else {
-        return Err(unreadable(alloc, "a call", text));
-    };
-    if !buffer.is_empty() {
-        lend_buffer(alloc, &mut call, buffer)?;
-    }
+    let mut call = plain_call(alloc, words.as_bytes())?;
+    lend_buffer(alloc, &mut call, buffer)?;
     if put_back(&mut call, &handles) {
         return Ok(call);
     }
     Err(unreadable(alloc, "a handle", text))
+}
+
+/// The call that sets any flags.
+fn flags_call(alloc: Global, flags: &str) -> Result<FrontendCall, Miss> {
+    let flags = VhostUserHeaderFlag::from_bits_retain(narrow(alloc, flags)?);
+    Ok(FrontendCall::SetHdrFlags(flags))
+}
+
+/// The call of a line of `vhost-run`.
+fn plain_call(alloc: Global, words: &[u8]) -> Result<FrontendCall, Miss> {
+    match call_of(alloc, words)? {
+        Some(call) => Ok(call),
+        None => Err(unreadable(alloc, "a call", str::from_utf8(words).unwrap_or(""))),
+    }
 }
 
 /// The words of a line where a number stands for each handle with a kind and each `none`; and what these were.
@@ -59,8 +68,11 @@ fn replaced(alloc: Global, text: &str) -> Result<(String, Vec<Option<PlainHandle
     Ok((words, handles))
 }
 
-/// Puts a buffer in the place of the zeros of `get_config`.
+/// Puts a buffer, if any, in the place of the zeros of `get_config`.
 fn lend_buffer(alloc: Global, call: &mut FrontendCall, digits: &str) -> Result<(), Miss> {
+    if digits.is_empty() {
+        return Ok(());
+    }
     match call {
         FrontendCall::GetConfig(_, _, _, buffer) => *buffer = bytes_of(alloc, 0, digits)?,
         _ => return Err(unreadable(alloc, "a call with a buffer", digits)),

@@ -16,25 +16,52 @@ use vhost_message::{Error, HandlerResult, IoError, VhostUserMMap, VhostUserShare
 /// The call of a line: a flag and 0 or 1; or the call's name and its arguments, a handle as its number and its kind.
 pub fn reverse_call_in(alloc: Global, text: &str) -> Result<ReverseCall<PlainHandle>, Miss> {
     let (name, rest) = text.split_once(" ").unwrap_or((text, ""));
+    match name {
+        "handle_config_change" if rest.is_empty() => Ok(ReverseCall::HandleConfigChange),
+        "shared_object_add" => add_in(alloc, rest),
+        "shared_object_remove" => remove_in(alloc, rest),
+        "shared_object_lookup" => lookup_in(alloc, rest),
+        "shmem_map" => map_in(alloc, rest),
+        "shmem_unmap" => unmap_in(alloc, rest),
+        "set_reply_ack_flag"
+        | "set_shared_object_flag"
+        | "set_shmem_flag"
+        | "set_config_change_flag" => flag_call_in(alloc, name, rest),
+        _ => Err(unreadable(alloc, "a call of a device", text)),
+    }
+}
+
+/// A call that sets one of the four flags.
+fn flag_call_in(alloc: Global, name: &str, word: &str) -> Result<ReverseCall<PlainHandle>, Miss> {
+    let flag = flag_of(alloc, word)?;
     Ok(match name {
-        "set_reply_ack_flag" => ReverseCall::SetReplyAck(flag_of(alloc, rest)?),
-        "set_shared_object_flag" => ReverseCall::SetSharedObject(flag_of(alloc, rest)?),
-        "set_shmem_flag" => ReverseCall::SetShmem(flag_of(alloc, rest)?),
-        "set_config_change_flag" => ReverseCall::SetConfigChange(flag_of(alloc, rest)?),
-        "handle_config_change" if rest.is_empty() => ReverseCall::HandleConfigChange,
-        "shared_object_add" => ReverseCall::SharedObjectAdd(name_of(alloc, rest)?),
-        "shared_object_remove" => ReverseCall::SharedObjectRemove(name_of(alloc, rest)?),
-        "shared_object_lookup" => {
-            let (name, handle) = with_handle(alloc, rest)?;
-            ReverseCall::SharedObjectLookup(name_of(alloc, name)?, handle)
-        }
-        "shmem_map" => {
-            let (place, handle) = with_handle(alloc, rest)?;
-            ReverseCall::ShmemMap(mapping_of(alloc, place)?, handle)
-        }
-        "shmem_unmap" => ReverseCall::ShmemUnmap(mapping_of(alloc, rest)?),
-        _ => return Err(unreadable(alloc, "a call of a device", text)),
+        "set_reply_ack_flag" => ReverseCall::SetReplyAck(flag),
+        "set_shared_object_flag" => ReverseCall::SetSharedObject(flag),
+        "set_shmem_flag" => ReverseCall::SetShmem(flag),
+        _ => ReverseCall::SetConfigChange(flag),
     })
+}
+
+fn add_in(alloc: Global, text: &str) -> Result<ReverseCall<PlainHandle>, Miss> {
+    Ok(ReverseCall::SharedObjectAdd(name_of(alloc, text)?))
+}
+
+fn remove_in(alloc: Global, text: &str) -> Result<ReverseCall<PlainHandle>, Miss> {
+    Ok(ReverseCall::SharedObjectRemove(name_of(alloc, text)?))
+}
+
+fn lookup_in(alloc: Global, text: &str) -> Result<ReverseCall<PlainHandle>, Miss> {
+    let (name, handle) = with_handle(alloc, text)?;
+    Ok(ReverseCall::SharedObjectLookup(name_of(alloc, name)?, handle))
+}
+
+fn map_in(alloc: Global, text: &str) -> Result<ReverseCall<PlainHandle>, Miss> {
+    let (place, handle) = with_handle(alloc, text)?;
+    Ok(ReverseCall::ShmemMap(mapping_of(alloc, place)?, handle))
+}
+
+fn unmap_in(alloc: Global, text: &str) -> Result<ReverseCall<PlainHandle>, Miss> {
+    Ok(ReverseCall::ShmemUnmap(mapping_of(alloc, text)?))
 }
 
 /// The answer of such a call.

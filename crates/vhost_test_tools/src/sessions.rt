@@ -49,13 +49,26 @@ fn take<'a>(alloc: Global, sessions: &mut Vec<Session<'a>>, line: Line<'a>) -> R
         sessions.push(begin(alloc, line.number, rest)?)?;
         return Ok(());
     }
-    let Some(session) = sessions.last_mut() else {
-        return Err(unreadable(alloc, "a session", line.text));
-    };
-    if !session.steps.is_empty() || !session.settings.take(alloc, session.kind, word, rest)? {
-        session.steps.push(line)?;
+    match sessions.last_mut() {
+        Some(session) => session.take(alloc, line, word, rest),
+        None => Err(unreadable(alloc, "a session", line.text)),
     }
-    Ok(())
+}
+
+impl<'a> Session<'a> {
+    /// Takes a line as what the session is set to, where it is before the first step; else as a step.
+    fn take(
+        &mut self,
+        alloc: Global,
+        line: Line<'a>,
+        word: &'a str,
+        rest: &'a str,
+    ) -> Result<(), Miss> {
+        if !self.steps.is_empty() || !self.settings.take(alloc, self.kind, word, rest)? {
+            self.steps.push(line)?;
+        }
+        Ok(())
+    }
 }
 
 /// A session of a kind and a title.

@@ -15,6 +15,22 @@ struct Asked {
     value: Option<Value>,
 }
 
+impl Asked {
+    /// The device answers so.
+    fn give(&mut self, alloc: Global, text: &str) -> Result<(), Miss> {
+        if self.value.is_some() {
+            return Err(without_call(alloc, text));
+        }
+        self.value = Some(value_of(alloc, self.shape, text)?);
+        Ok(())
+    }
+}
+
+/// An answer stands where no call waits for one.
+fn without_call(alloc: Global, text: &str) -> Miss {
+    unreadable(alloc, "a call of the device before it", text)
+}
+
 /// The calls that are to come, in order, and the first difference that was met.
 #[derive(Drop)]
 pub struct Sheet {
@@ -52,11 +68,8 @@ impl Sheet {
     /// The device answers so to the last of the calls.
     pub fn give(&mut self, text: &str) -> Result<(), Miss> {
         match self.asked.back_mut() {
-            Some(asked) if asked.value.is_none() => {
-                asked.value = Some(value_of(self.alloc, asked.shape, text)?);
-                Ok(())
-            }
-            _ => Err(unreadable(self.alloc, "a call of the device before it", text)),
+            Some(asked) => asked.give(self.alloc, text),
+            None => Err(without_call(self.alloc, text)),
         }
     }
 

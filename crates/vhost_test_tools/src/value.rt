@@ -90,27 +90,72 @@ pub(crate) fn shape_of(name: &str) -> Option<Shape> {
 
 /// The value of a kind that words tell, or the error.
 pub(crate) fn value_of(alloc: Global, shape: Shape, text: &str) -> Result<Value, Miss> {
-    if shape == Shape::Back {
-        return Ok(Value::Back(back_of(alloc, text)?));
+    match text.strip_prefix("err ") {
+        Some(error) if shape != Shape::Back => failure_of(alloc, error),
+        _ => success_of(alloc, shape, text),
     }
-    if let Some(error) = text.strip_prefix("err ") {
-        return Ok(Value::Failed(error_of(alloc, error)?));
-    }
+}
+
+/// The value of a kind, where the call succeeds; a frontend's answer to its device in either case.
+fn success_of(alloc: Global, shape: Shape, text: &str) -> Result<Value, Miss> {
     match shape {
-        Shape::Nothing | Shape::Back => Err(unreadable(alloc, "an error", text)),
-        Shape::Number => Ok(Value::Number(number_of(alloc, text)?)),
-        Shape::Bases if text == "none" => Ok(Value::Bases(None)),
-        Shape::Bases => Ok(Value::Bases(Some(numbers_of(alloc, text)?))),
-        Shape::Base if text == "none" => Ok(Value::Base(None)),
-        Shape::Base => Ok(Value::Base(Some(number_of(alloc, text)?))),
+        Shape::Nothing => Err(unreadable(alloc, "an error", text)),
+        Shape::Number => plain_number_of(alloc, text),
+        Shape::Bases => bases_of(alloc, text),
+        Shape::Base => base_of(alloc, text),
         Shape::State => state_of(alloc, text),
-        Shape::Bytes => Ok(Value::Bytes(bytes_of(alloc, 0, text)?)),
-        Shape::Handle => Ok(Value::Handle(only_handle(alloc, text)?)),
+        Shape::Bytes => plain_bytes_of(alloc, text),
+        Shape::Handle => plain_handle_of(alloc, text),
         Shape::Area => area_of(alloc, text),
-        Shape::StateHandle if text == "none" => Ok(Value::StateHandle(None)),
-        Shape::StateHandle => Ok(Value::StateHandle(Some(only_handle(alloc, text)?))),
+        Shape::StateHandle => state_handle_of(alloc, text),
         Shape::Regions => regions_of(alloc, text),
+        Shape::Back => answer_of(alloc, text),
     }
+}
+
+fn failure_of(alloc: Global, text: &str) -> Result<Value, Miss> {
+    Ok(Value::Failed(error_of(alloc, text)?))
+}
+
+fn plain_number_of(alloc: Global, text: &str) -> Result<Value, Miss> {
+    Ok(Value::Number(number_of(alloc, text)?))
+}
+
+fn plain_bytes_of(alloc: Global, text: &str) -> Result<Value, Miss> {
+    Ok(Value::Bytes(bytes_of(alloc, 0, text)?))
+}
+
+fn plain_handle_of(alloc: Global, text: &str) -> Result<Value, Miss> {
+    Ok(Value::Handle(only_handle(alloc, text)?))
+}
+
+/// What a frontend answers to its device.
+fn answer_of(alloc: Global, text: &str) -> Result<Value, Miss> {
+    Ok(Value::Back(back_of(alloc, text)?))
+}
+
+/// Where regions are mapped, or `none`.
+fn bases_of(alloc: Global, text: &str) -> Result<Value, Miss> {
+    if text == "none" {
+        return Ok(Value::Bases(None));
+    }
+    Ok(Value::Bases(Some(numbers_of(alloc, text)?)))
+}
+
+/// Where one region is mapped, or `none`.
+fn base_of(alloc: Global, text: &str) -> Result<Value, Miss> {
+    if text == "none" {
+        return Ok(Value::Base(None));
+    }
+    Ok(Value::Base(Some(number_of(alloc, text)?)))
+}
+
+/// A handle, or `none`.
+fn state_handle_of(alloc: Global, text: &str) -> Result<Value, Miss> {
+    if text == "none" {
+        return Ok(Value::StateHandle(None));
+    }
+    Ok(Value::StateHandle(Some(only_handle(alloc, text)?)))
 }
 
 /// Numbers with commas between them.

@@ -2,7 +2,9 @@
 
 use crate::recorder::drive::{Alone, Crowd, call_alone, four_callers};
 use std::alloc::{AllocError, Global};
+use std::sync::Wait;
 use std::test::Fail;
+use std::thread::Threads;
 use vhost_device::VhostUserBackendReqHandlerMut;
 use vhost_dummy_backend::DummyBackendReqHandler;
 use vhost_link::{Cut, MemLink};
@@ -10,7 +12,9 @@ use vhost_message::Error;
 use vhost_recorder::{FrontendAnswer, FrontendCall, Halt, Log, Receipt, Stop};
 
 /// The example device, over links in memory.
-fn new_device(alloc: Global) -> DummyBackendReqHandler<MemLink> {
+type Device = DummyBackendReqHandler<MemLink>;
+
+fn new_device(alloc: Global) -> Device {
     DummyBackendReqHandler::new(alloc, Vec::new(alloc))
 }
 
@@ -51,15 +55,29 @@ fn are_nine<D: VhostUserBackendReqHandlerMut<Link = MemLink>>(alone: &Alone<D>) 
     }
 }
 
-#[test]
-fn one_caller_reads_what_it_set(rt: HostRuntime) -> Result<(), Fail> {
+/// What a caller alone sees over a new example device, with a budget of retries, and a link of the frontend that is cut by a script.
+fn alone<R: Wait>(
+    rt: &R,
+    alloc: Global,
+    caller: u32,
+    calls: &[FrontendCall],
+    link: (u32, Vec<Cut>),
+) -> Result<Alone<Device>, Halt> {
+    call_alone(rt, alloc, new_device(alloc), caller, calls, link)
+}
+
+fn reads_what_it_set<R: Wait>(rt: &R, alloc: Global) -> Result<bool, Halt> {
     let calls = [
         FrontendCall::SetVringBase(0, 9),
         FrontendCall::GetVringBase(0),
     ];
-    let (device, script) = (new_device(rt.alloc()), Vec::new(rt.alloc()));
-    let alone = call_alone(&rt, rt.alloc(), device, 7, &calls, (3, script))?;
-    assert!(rt; are_nine(&alone));
+    let seen = alone(rt, alloc, 7, &calls, (3, Vec::new(alloc)))?;
+    Ok(are_nine(&seen))
+}
+
+#[test]
+fn one_caller_reads_what_it_set(rt: HostRuntime) -> Result<(), Fail> {
+    assert!(rt; reads_what_it_set(&rt, rt.alloc())?);
     Ok(())
 }
 
@@ -97,11 +115,29 @@ fn asking(alloc: Global, count: u32) -> Result<Vec<FrontendCall>, AllocError> {
     Ok(calls)
 }
 
+/// What four callers see over a new example device who ask so often each.
+fn four<R: Threads + Wait + Sync>(
+    rt: &R,
+    alloc: Global,
+    count: u32,
+) -> Result<Crowd<Device>, Halt> {
+    let Ok(calls) = asking(alloc, count) else {
+        return Err(Halt::OutOfMemory);
+    };
+    four_callers(rt, alloc, new_device(alloc), &calls)
+}
+
+fn confirmed_of_four<R: Threads + Wait + Sync>(
+    rt: &R,
+    alloc: Global,
+) -> Result<(u64, usize), Halt> {
+    let crowd = four(rt, alloc, 100)?;
+    Ok(all_confirmed(&crowd))
+}
+
 #[test]
 fn four_callers_are_recorded(rt: HostRuntime) -> Result<(), Fail> {
-    let calls = asking(rt.alloc(), 100)?;
-    let crowd = four_callers(&rt, rt.alloc(), new_device(rt.alloc()), &calls)?;
-    assert!(rt; all_confirmed(&crowd) == (400, 400));
+    assert!(rt; confirmed_of_four(&rt, rt.alloc())? == (400, 400));
     Ok(())
 }
 
@@ -115,12 +151,15 @@ fn are_first_confirmed<D: VhostUserBackendReqHandlerMut<Link = MemLink>>(
         && receipts.iter().all(|receipt| log.confirms(receipt) == (receipt.serial() < 100))
 }
 
+fn confirms_no_other<R: Threads + Wait + Sync>(rt: &R, alloc: Global) -> Result<bool, Halt> {
+    let crowd = four(rt, alloc, 100)?;
+    let other = four(rt, alloc, 101)?;
+    Ok(are_first_confirmed(&crowd, &other))
+}
+
 #[test]
 fn another_recorders_receipt_is_not_confirmed(rt: HostRuntime) -> Result<(), Fail> {
-    let (calls, more) = (asking(rt.alloc(), 100)?, asking(rt.alloc(), 101)?);
-    let crowd = four_callers(&rt, rt.alloc(), new_device(rt.alloc()), &calls)?;
-    let other = four_callers(&rt, rt.alloc(), new_device(rt.alloc()), &more)?;
-    assert!(rt; are_first_confirmed(&crowd, &other));
+    assert!(rt; confirms_no_other(&rt, rt.alloc())?);
     Ok(())
 }
 
@@ -132,16 +171,24 @@ fn end_of<D: VhostUserBackendReqHandlerMut<Link = MemLink>>(
     (receipts, entries, alone.halt, alone.log.stopped())
 }
 
-#[test]
-fn a_halt_records_nothing(rt: HostRuntime) -> Result<(), Fail> {
+/// How a run ends whose second call is refused in silence.
+fn end_of_refused<R: Wait>(
+    rt: &R,
+    alloc: Global,
+) -> Result<(usize, usize, Option<Halt>, Option<Stop>), Halt> {
     let calls = [
         FrontendCall::SetOwner,
         FrontendCall::SetOwner,
         FrontendCall::GetFeatures,
     ];
-    let (device, script) = (new_device(rt.alloc()), Vec::new(rt.alloc()));
-    let alone = call_alone(&rt, rt.alloc(), device, 3, &calls, (3, script))?;
-    assert!(rt; end_of(&alone) == (2, 2, Some(Halt::Stopped), Some(Stop::Table)));
+    let seen = alone(rt, alloc, 3, &calls, (3, Vec::new(alloc)))?;
+    Ok(end_of(&seen))
+}
+
+#[test]
+fn a_halt_records_nothing(rt: HostRuntime) -> Result<(), Fail> {
+    let want = (2, 2, Some(Halt::Stopped), Some(Stop::Table));
+    assert!(rt; end_of_refused(&rt, rt.alloc())? == want);
     Ok(())
 }
 
@@ -173,14 +220,33 @@ fn has_spent<D: VhostUserBackendReqHandlerMut<Link = MemLink>>(alone: &Alone<D>)
     }
 }
 
+/// Asks for the features over four retries, of which so many are allowed.
+fn over_retries<R: Wait>(rt: &R, alloc: Global, budget: u32) -> Result<Alone<Device>, Halt> {
+    match four_retries(alloc) {
+        Ok(retries) => alone(
+            rt,
+            alloc,
+            0,
+            &[FrontendCall::GetFeatures],
+            (budget, retries),
+        ),
+        Err(_) => Err(Halt::OutOfMemory),
+    }
+}
+
+fn reads_after_four<R: Wait>(rt: &R, alloc: Global) -> Result<bool, Halt> {
+    let seen = over_retries(rt, alloc, 4)?;
+    Ok(has_features(&seen) && seen.log.stopped().is_none())
+}
+
+fn stops_after_three<R: Wait>(rt: &R, alloc: Global) -> Result<bool, Halt> {
+    let seen = over_retries(rt, alloc, 3)?;
+    Ok(has_spent(&seen) && seen.log.stopped() == Some(Stop::Premise))
+}
+
 #[test]
 fn a_budget_is_that_of_the_recorder(rt: HostRuntime) -> Result<(), Fail> {
-    let calls = [FrontendCall::GetFeatures];
-    let (device, retries) = (new_device(rt.alloc()), four_retries(rt.alloc())?);
-    let alone = call_alone(&rt, rt.alloc(), device, 0, &calls, (4, retries))?;
-    assert!(rt; has_features(&alone) && alone.log.stopped().is_none());
-    let (device, retries) = (new_device(rt.alloc()), four_retries(rt.alloc())?);
-    let alone = call_alone(&rt, rt.alloc(), device, 0, &calls, (3, retries))?;
-    assert!(rt; has_spent(&alone) && alone.log.stopped() == Some(Stop::Premise));
+    assert!(rt; reads_after_four(&rt, rt.alloc())?);
+    assert!(rt; stops_after_three(&rt, rt.alloc())?);
     Ok(())
 }
