@@ -101,10 +101,10 @@ impl Side for UnixLink {
 }
 
 /// Takes requests with this device, or those of the reverse channel.
-fn take<L: Link>(
+fn take<L: Link, D: VhostUserBackendReqHandlerMut<Link = L>>(
     alloc: Global,
     link: L,
-    device: DummyBackendReqHandler<L>,
+    device: D,
     is_reverse: bool,
 ) -> Result<Vec<u8>> {
     let mut letters = Vec::new(alloc);

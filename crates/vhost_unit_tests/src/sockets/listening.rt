@@ -72,6 +72,14 @@ fn hands_the_device_out_once(rt: HostRuntime) -> Result<(), Fail> {
     Ok(())
 }
 
+/// A frontend over the connection that waits.
+fn connected<F: Files + Drop>(alloc: Global, listener: &Listener<F>) -> Answer<Frontend<UnixLink>> {
+    match listener.accept()? {
+        Some(link) => Frontend::from_stream(alloc, link, QUEUES, BUDGET),
+        None => Err(Error::Disconnected),
+    }
+}
+
 /// A frontend sets its owner, a device that connected to it serves the request, and the frontend ends: what the frontend's
 /// call answered, and the two calls of the handler.
 fn own_once<R: Net + Wait, F: Files + Drop, S: VhostUserBackendReqHandler<Link = UnixLink>>(
@@ -82,10 +90,7 @@ fn own_once<R: Net + Wait, F: Files + Drop, S: VhostUserBackendReqHandler<Link =
     device: Arc<S, Global>,
 ) -> Answer<(bool, Answer<()>, Answer<()>)> {
     let mut handler = BackendReqHandler::connect(rt, alloc, path, BUDGET, device)?;
-    let Some(link) = listener.accept()? else {
-        return Err(Error::Disconnected);
-    };
-    let frontend = Frontend::from_stream(alloc, link, QUEUES, BUDGET)?;
+    let frontend = connected(alloc, listener)?;
     let asked = frontend.set_owner(rt).is_ok();
     let served = handler.handle_request(rt);
     drop(frontend);
