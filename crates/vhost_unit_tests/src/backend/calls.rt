@@ -127,7 +127,7 @@ fn call_each<B: VhostBackend<Handle = u32>>(backend: &B, rt: &impl Wait) -> Resu
 }
 
 // What `call_each` gave each call.
-const GIVEN: [u64; 14] = [
+static GIVEN: [u64; 14] = [
     1, 3, 1, 1, 0x2000, 0x7300, 9, 0x10100, 0x20000, 0x30004, 0x50000, 0x60009, 0x70009, 0x80009,
 ];
 

@@ -17,7 +17,7 @@ const HANDLE: PlainHandle = PlainHandle {
 };
 
 /// SHARED_OBJECT_ADD of this name, acknowledged.
-const ADD: [u8; 28] = [
+static ADD: [u8; 28] = [
     6, 0, 0, 0, 9, 0, 0, 0, 16, 0, 0, 0, 1, 2, 3, 4, 5, 6, 7, 8, 9, 10, 11, 12, 13, 14, 15, 16,
 ];
 

@@ -25,12 +25,12 @@ const HANDLE: PlainHandle = PlainHandle {
 };
 
 /// SHARED_OBJECT_ADD, which wants an acknowledgement.
-const ADD: [u8; 28] = [
+static ADD: [u8; 28] = [
     6, 0, 0, 0, 9, 0, 0, 0, 16, 0, 0, 0, 1, 2, 3, 4, 5, 6, 7, 8, 9, 10, 11, 12, 13, 14, 15, 16,
 ];
 
 /// CONFIG_CHANGE_MSG, which wants one, too.
-const CHANGE: [u8; 12] = [2, 0, 0, 0, 9, 0, 0, 0, 0, 0, 0, 0];
+static CHANGE: [u8; 12] = [2, 0, 0, 0, 9, 0, 0, 0, 0, 0, 0, 0];
 
 /// Keeps one name, and fails its other calls with a number.
 #[derive(Default, Drop)]

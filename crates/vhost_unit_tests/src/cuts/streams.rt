@@ -20,7 +20,7 @@ pub(crate) struct Stream {
 
 /// GET_FEATURES, SET_OWNER, SET_FEATURES of 0x40000001, GET_PROTOCOL_FEATURES, SET_PROTOCOL_FEATURES of REPLY_ACK, and SET_OWNER
 /// once more, which is refused and acknowledged so.
-pub(crate) const SIX: Stream = Stream {
+pub(crate) static SIX: Stream = Stream {
     bytes: &[
         1, 0, 0, 0, 1, 0, 0, 0, 0, 0, 0, 0, //
         3, 0, 0, 0, 1, 0, 0, 0, 0, 0, 0, 0, //
@@ -42,7 +42,7 @@ pub(crate) const SIX: Stream = Stream {
 };
 
 /// SHARED_OBJECT_ADD, SHMEM_MAP with a handle, and SHMEM_UNMAP, all to be acknowledged.
-pub(crate) const THREE: Stream = Stream {
+pub(crate) static THREE: Stream = Stream {
     bytes: &[
         6, 0, 0, 0, 9, 0, 0, 0, 16, 0, 0, 0, 1, 2, 3, 4, 5, 6, 7, 8, 9, 10, 11, 12, 13, 14, 15, 16, //
         9, 0, 0, 0, 9, 0, 0, 0, 40, 0, 0, 0, 1, 0, 0, 0, 0, 0, 0, 0, 0, 0x10, 0, 0, 0, 0, 0, 0, //
@@ -63,7 +63,7 @@ pub(crate) const THREE: Stream = Stream {
 };
 
 /// The first and the last of these, which bring no handle.
-pub(crate) const TWO: Stream = Stream {
+pub(crate) static TWO: Stream = Stream {
     bytes: &[
         6, 0, 0, 0, 9, 0, 0, 0, 16, 0, 0, 0, 1, 2, 3, 4, 5, 6, 7, 8, 9, 10, 11, 12, 13, 14, 15, 16, //
         10, 0, 0, 0, 9, 0, 0, 0, 40, 0, 0, 0, 1, 0, 0, 0, 0, 0, 0, 0, 0, 0x10, 0, 0, 0, 0, 0, 0, //

@@ -6,7 +6,7 @@ use std::sync::Arc;
 use vhost_link::{Hub, SharedLink};
 
 /// Forty bytes, each another.
-pub(crate) const BYTES: [u8; 40] = [
+pub(crate) static BYTES: [u8; 40] = [
     1, 2, 3, 4, 5, 6, 7, 8, 9, 10, 11, 12, 13, 14, 15, 16, 17, 18, 19, 20, 21, 22, 23, 24, 25, 26,
     27, 28, 29, 30, 31, 32, 33, 34, 35, 36, 37, 38, 39, 40,
 ];

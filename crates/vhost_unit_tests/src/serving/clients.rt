@@ -6,15 +6,15 @@ use std::net::Net;
 use std::os::unix::net::UnixStream;
 
 /// GET_FEATURES, and the length of its reply.
-pub(crate) const GET_FEATURES: [u8; 12] = [1, 0, 0, 0, 1, 0, 0, 0, 0, 0, 0, 0];
+pub(crate) static GET_FEATURES: [u8; 12] = [1, 0, 0, 0, 1, 0, 0, 0, 0, 0, 0, 0];
 
 pub(crate) const REPLY: usize = 20;
 
 /// SET_OWNER, without an acknowledgement.
-pub(crate) const SET_OWNER: [u8; 12] = [3, 0, 0, 0, 1, 0, 0, 0, 0, 0, 0, 0];
+pub(crate) static SET_OWNER: [u8; 12] = [3, 0, 0, 0, 1, 0, 0, 0, 0, 0, 0, 0];
 
 /// SET_VRING_KICK of ring 1 without its handle.
-pub(crate) const SET_VRING_KICK: [u8; 20] = [
+pub(crate) static SET_VRING_KICK: [u8; 20] = [
     12, 0, 0, 0, 1, 0, 0, 0, 8, 0, 0, 0, 1, 0, 0, 0, 0, 0, 0, 0,
 ];
 

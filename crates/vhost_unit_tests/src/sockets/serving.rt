@@ -14,7 +14,7 @@ use vhost_message::{Error, Result as Answer};
 
 /// GET_FEATURES, SET_OWNER, SET_FEATURES of 0x40000001, GET_PROTOCOL_FEATURES, SET_PROTOCOL_FEATURES of REPLY_ACK, and SET_OWNER
 /// once more, to be acknowledged.
-const REQUESTS: [u8; 88] = [
+static REQUESTS: [u8; 88] = [
     1, 0, 0, 0, 1, 0, 0, 0, 0, 0, 0, 0, //
     3, 0, 0, 0, 1, 0, 0, 0, 0, 0, 0, 0, //
     2, 0, 0, 0, 1, 0, 0, 0, 8, 0, 0, 0, 1, 0, 0, 0x40, 0, 0, 0, 0, //
@@ -24,7 +24,7 @@ const REQUESTS: [u8; 88] = [
 ];
 
 /// The features 0x40000003, the protocol features 0x7fffff, and a refusal.
-const REPLIES: [u8; 60] = [
+static REPLIES: [u8; 60] = [
     1, 0, 0, 0, 5, 0, 0, 0, 8, 0, 0, 0, 3, 0, 0, 0x40, 0, 0, 0, 0, //
     15, 0, 0, 0, 5, 0, 0, 0, 8, 0, 0, 0, 0xff, 0xff, 0x7f, 0, 0, 0, 0, 0, //
     3, 0, 0, 0, 5, 0, 0, 0, 8, 0, 0, 0, 1, 0, 0, 0, 0, 0, 0, 0,

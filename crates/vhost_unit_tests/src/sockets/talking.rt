@@ -76,7 +76,7 @@ fn negotiate<F: VhostUserFrontend>(rt: &impl Wait, frontend: &mut F) -> [Told; 5
     ]
 }
 
-const NEGOTIATED: [Told; 5] = [
+static NEGOTIATED: [Told; 5] = [
     Told::Number(0x4000_0003),
     Told::Done,
     Told::Done,
@@ -105,7 +105,7 @@ fn set_rings<F: VhostUserFrontend>(rt: &impl Wait, frontend: &mut F) -> [Told; 7
     ]
 }
 
-const RINGS_SET: [Told; 7] = [
+static RINGS_SET: [Told; 7] = [
     Told::Number(2),
     Told::Done,
     Told::Done,
@@ -146,7 +146,7 @@ fn configure<F: VhostUserFrontend + VhostBackend<Handle = NoHandle>>(
     ]
 }
 
-const CONFIGURED: [Told; 7] = [
+static CONFIGURED: [Told; 7] = [
     Told::Number(0xa5),
     Told::Done,
     Told::Number(509),
