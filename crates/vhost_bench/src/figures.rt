@@ -74,7 +74,7 @@ impl Work {
 }
 
 /// All figures.
-pub(crate) const FIGURES: [Figure; 24] = [
+pub(crate) static FIGURES: [Figure; 24] = [
     ("copy_message", 1_000_000, Work::CopyMessage, None),
     (
         "check_header",

@@ -84,12 +84,15 @@ fn asked_by(words: &[String]) -> Option<Asked> {
     match words {
         [] => Some(Asked::All),
         [word] if word.as_str() == "--try" => Some(Asked::Try),
-        [word, name, count] if word.as_str() == "--one" => {
-            let count = count.as_str().parse::<u64>().ok()?;
-            Some(Asked::One(figure_of(name.as_str())?, count))
-        }
+        [word, name, count] if word.as_str() == "--one" => one(name.as_str(), count.as_str()),
         _ => None,
     }
+}
+
+/// So often the work of the figure of this name.
+fn one(name: &str, count: &str) -> Option<Asked> {
+    let figure = figure_of(name)?;
+    Some(Asked::One(figure, count.parse::<u64>().ok()?))
 }
 
 fn usage<E: Write>(errors: &mut E) -> ExitCode {
@@ -99,7 +102,12 @@ fn usage<E: Write>(errors: &mut E) -> ExitCode {
 
 /// The figure of a name, if there is one.
 fn figure_of(name: &str) -> Option<Figure> {
-    FIGURES.iter().copied().find(|figure| figure.0 == name)
+    for figure in &FIGURES {
+        if figure.0 == name {
+            return Some(*figure);
+        }
+    }
+    None
 }
 
 /// Does the work of a figure so often, and shows how often it succeeded.
@@ -110,10 +118,9 @@ fn show_good<R: Threads + Wait + Clock + Net + Sync, O: Write>(
     count: u64,
     output: &mut O,
 ) -> Result<(), Failed> {
-    let (name, _, work, _) = figure;
+    let (name, _, work, _) = *figure;
     let good = work.take(rt, alloc, count)?.good;
-    writeln!(output, "{name} {good}")?;
-    Ok(())
+    Ok(writeln!(output, "{name} {good}")?)
 }
 
 /// Does the work of each figure a few times, and shows how often it succeeded.
@@ -125,8 +132,7 @@ fn attempt<R: Threads + Wait + Clock + Net + Sync, O: Write>(
     for figure in &FIGURES {
         show_good(rt, alloc, figure, TRIED, output)?;
     }
-    output.flush()?;
-    Ok(())
+    Ok(output.flush()?)
 }
 
 /// Measures all figures in turns, and shows the middle of each.

@@ -26,6 +26,27 @@ fn batch(alloc: Global, count: u64) -> Result<Vec<u8>, Failed> {
     Ok(all)
 }
 
+/// Measures a handler that serves so many messages, which are written so many at a time.
+fn time_queued(
+    clock: &impl Clock,
+    alloc: Global,
+    near: &mut UnixStream,
+    core: &mut SessionCore<UnixLink>,
+    count: u64,
+) -> Result<Taken, Failed> {
+    let mut device = Ready::new(alloc);
+    let messages = batch(alloc, QUEUED)?;
+    let mut good = 0u64;
+    let watch = Watch::start(clock)?;
+    for _ in 0..count / QUEUED {
+        near.write_all(&messages)?;
+        good = good.wrapping_add(serve(core, &mut device, QUEUED));
+    }
+    near.write_all(&batch(alloc, count % QUEUED)?)?;
+    good = good.wrapping_add(serve(core, &mut device, count % QUEUED));
+    watch.stop(clock, count, good)
+}
+
 /// Messages wait at a socket, and are served.
 pub(crate) fn serve_queued(
     rt: &(impl Net + Clock),
@@ -34,17 +55,7 @@ pub(crate) fn serve_queued(
 ) -> Result<Taken, Failed> {
     let (mut near, far) = UnixStream::pair(rt)?;
     let mut core = SessionCore::new(alloc, UnixLink::from(far), BUDGET)?;
-    let mut device = Ready::new(alloc);
-    let messages = batch(alloc, QUEUED)?;
-    let mut good = 0u64;
-    let watch = Watch::start(rt)?;
-    for _ in 0..count / QUEUED {
-        near.write_all(&messages)?;
-        good = good.wrapping_add(serve(&mut core, &mut device, QUEUED));
-    }
-    near.write_all(&batch(alloc, count % QUEUED)?)?;
-    good = good.wrapping_add(serve(&mut core, &mut device, count % QUEUED));
-    watch.stop(rt, count, good)
+    time_queued(rt, alloc, &mut near, &mut core, count)
 }
 
 /// Reads so many messages, each by one read.
@@ -56,6 +67,26 @@ fn read_each(stream: &mut UnixStream, count: u64) -> Result<u64, Failed> {
     Ok(count)
 }
 
+/// Measures how so many messages are read, each by one read, which are written so many at a time.
+fn time_reads(
+    clock: &impl Clock,
+    alloc: Global,
+    near: &mut UnixStream,
+    far: &mut UnixStream,
+    count: u64,
+) -> Result<Taken, Failed> {
+    let messages = batch(alloc, QUEUED)?;
+    let mut good = 0u64;
+    let watch = Watch::start(clock)?;
+    for _ in 0..count / QUEUED {
+        near.write_all(&messages)?;
+        good = good.wrapping_add(read_each(far, QUEUED)?);
+    }
+    near.write_all(&batch(alloc, count % QUEUED)?)?;
+    good = good.wrapping_add(read_each(far, count % QUEUED)?);
+    watch.stop(clock, count, good)
+}
+
 /// The same messages wait, and are read, each by one read.
 pub(crate) fn read_queued(
     rt: &(impl Net + Clock),
@@ -63,16 +94,26 @@ pub(crate) fn read_queued(
     count: u64,
 ) -> Result<Taken, Failed> {
     let (mut near, mut far) = UnixStream::pair(rt)?;
-    let messages = batch(alloc, QUEUED)?;
-    let mut good = 0u64;
-    let watch = Watch::start(rt)?;
-    for _ in 0..count / QUEUED {
-        near.write_all(&messages)?;
-        good = good.wrapping_add(read_each(&mut far, QUEUED)?);
+    time_reads(rt, alloc, &mut near, &mut far, count)
+}
+
+/// Measures how so many requests are written, served and answered, and their replies read.
+fn time_served(
+    clock: &impl Clock,
+    near: &mut UnixStream,
+    core: &mut SessionCore<UnixLink>,
+    device: &mut Ready<UnixLink>,
+    count: u64,
+) -> Result<Taken, Failed> {
+    let mut good: u64 = 0;
+    let mut room = [0u8; 20];
+    let watch = Watch::start(clock)?;
+    for _ in 0..count {
+        near.write_all(&FEATURES)?;
+        good = good.wrapping_add(serve(core, device, 1));
+        near.read_exact(&mut room)?;
     }
-    near.write_all(&batch(alloc, count % QUEUED)?)?;
-    good = good.wrapping_add(read_each(&mut far, count % QUEUED)?);
-    watch.stop(rt, count, good)
+    watch.stop(clock, count, good)
 }
 
 /// A request is written, served and answered, and the reply is read.
@@ -84,23 +125,19 @@ pub(crate) fn serve_trips(
     let (mut near, far) = UnixStream::pair(rt)?;
     let mut core = SessionCore::new(alloc, UnixLink::from(far), BUDGET)?;
     let mut device = Ready::new(alloc);
-    let mut good: u64 = 0;
-    let mut room = [0u8; 20];
-    let watch = Watch::start(rt)?;
-    for _ in 0..count {
-        near.write_all(&FEATURES)?;
-        good = good.wrapping_add(serve(&mut core, &mut device, 1));
-        near.read_exact(&mut room)?;
-    }
-    watch.stop(rt, count, good)
+    time_served(rt, &mut near, &mut core, &mut device, count)
 }
 
-/// The same bytes are written and read.
-pub(crate) fn trips(rt: &(impl Net + Clock), count: u64) -> Result<Taken, Failed> {
-    let (mut near, mut far) = UnixStream::pair(rt)?;
+/// Measures how the same bytes are written and read so often.
+fn time_trips(
+    clock: &impl Clock,
+    near: &mut UnixStream,
+    far: &mut UnixStream,
+    count: u64,
+) -> Result<Taken, Failed> {
     let mut good: u64 = 0;
     let mut room = [0u8; 20];
-    let watch = Watch::start(rt)?;
+    let watch = Watch::start(clock)?;
     for _ in 0..count {
         near.write_all(&FEATURES)?;
         far.read_exact(&mut room[..12])?;
@@ -108,5 +145,11 @@ pub(crate) fn trips(rt: &(impl Net + Clock), count: u64) -> Result<Taken, Failed
         near.read_exact(&mut room)?;
         good = good.wrapping_add(1);
     }
-    watch.stop(rt, count, good)
+    watch.stop(clock, count, good)
+}
+
+/// The same bytes are written and read.
+pub(crate) fn trips(rt: &(impl Net + Clock), count: u64) -> Result<Taken, Failed> {
+    let (mut near, mut far) = UnixStream::pair(rt)?;
+    time_trips(rt, &mut near, &mut far, count)
 }

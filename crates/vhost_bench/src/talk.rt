@@ -61,6 +61,23 @@ fn ask(frontend: &mut Quiet<UnixLink>, call: Call) -> bool {
     }
 }
 
+/// Measures how so often is asked.
+fn time(
+    clock: &impl Clock,
+    frontend: &mut Quiet<UnixLink>,
+    call: Call,
+    count: u64,
+) -> Result<Taken, Failed> {
+    let mut good: u64 = 0;
+    let watch = Watch::start(clock)?;
+    for _ in 0..count {
+        if ask(frontend, call) {
+            good = good.wrapping_add(1);
+        }
+    }
+    watch.stop(clock, count, good)
+}
+
 /// Asks so often, and leaves.
 fn ask_all(
     clock: &impl Clock,
@@ -71,14 +88,7 @@ fn ask_all(
 ) -> Result<Taken, Failed> {
     let mut frontend = Quiet::new(alloc, link, 2, BUDGET)?;
     negotiate(&mut frontend, call)?;
-    let mut good: u64 = 0;
-    let watch = Watch::start(clock)?;
-    for _ in 0..count {
-        if ask(&mut frontend, call) {
-            good = good.wrapping_add(1);
-        }
-    }
-    watch.stop(clock, count, good)
+    time(clock, &mut frontend, call, count)
 }
 
 /// A frontend asks, and a handler in another thread answers.
