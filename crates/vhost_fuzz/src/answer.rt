@@ -116,12 +116,16 @@ fn carried(error: &Error) -> Detail {
 impl fmt::Display for Answer {
     /// As a script of tests writes it.
     fn fmt<W: fmt::Write>(&self, f: &mut fmt::Formatter<W>) -> fmt::Result {
-        if !self.is("ok") {
-            f.write_str("err ")?;
-        }
-        f.write_str(self.within)?;
-        f.write_str(self.name)?;
-        match self.detail {
+        let (within, name, detail) = (self.within, self.name, self.detail);
+        let begin = if self.is("ok") { "" } else { "err " };
+        write!(f, "{begin}{within}{name}{detail}")
+    }
+}
+
+impl fmt::Display for Detail {
+    /// Behind a space, where there is anything.
+    fn fmt<W: fmt::Write>(&self, f: &mut fmt::Formatter<W>) -> fmt::Result {
+        match *self {
             Detail::Nothing => Ok(()),
             Detail::Number(number) => write!(f, " {number}"),
             Detail::Raw(number) => write!(f, " {number}"),

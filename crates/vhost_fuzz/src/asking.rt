@@ -30,6 +30,15 @@ pub(crate) struct Asking<C: Caller> {
     next: usize,
 }
 
+/// The calls of some lines.
+fn calls_in<C: Caller>(alloc: Global, lines: &[&'static str]) -> Result<Vec<C::Call>, NoMemory> {
+    let mut calls = Vec::new(alloc);
+    for line in lines {
+        calls.push(C::call_in(alloc, line)?)?;
+    }
+    Ok(calls)
+}
+
 impl<C: Caller> Asking<C> {
     pub(crate) fn new(
         alloc: Global,
@@ -37,12 +46,10 @@ impl<C: Caller> Asking<C> {
         budget: u32,
         lines: &[&'static str],
     ) -> Result<Asking<C>, NoMemory> {
-        let mut calls = Vec::new(alloc);
-        for line in lines {
-            calls.push(C::call_in(alloc, line)?)?;
-        }
+        let caller = C::open(alloc, MemLink::new(alloc, cuts), budget)?;
+        let calls = calls_in::<C>(alloc, lines)?;
         Ok(Asking {
-            caller: C::open(alloc, MemLink::new(alloc, cuts), budget)?,
+            caller,
             calls,
             next: 0,
         })

@@ -36,8 +36,14 @@ impl Caller for BackendInternal<MemLink> {
 fn answer_of(answer: HandlerResult<u64>) -> Answer {
     match answer {
         Ok(number) => Answer::number(number),
-        Err(IoError::Raw(number)) => Answer::raw(number),
-        Err(IoError::Named(name)) => Answer::named(name),
-        Err(IoError::Of(error)) | Err(IoError::In(_, error)) => Answer::of(&error),
+        Err(error) => failed(&error),
+    }
+}
+
+fn failed(error: &IoError) -> Answer {
+    match error {
+        IoError::Raw(number) => Answer::raw(*number),
+        IoError::Named(name) => Answer::named(name),
+        IoError::Of(error) | IoError::In(_, error) => Answer::of(error),
     }
 }

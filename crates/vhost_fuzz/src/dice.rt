@@ -4,7 +4,7 @@ use rand_core::{Rng, SeedableRng};
 use rand_xoshiro::Xoshiro256PlusPlus;
 
 /// Numbers at which something changes: bounds of fields, features, addresses that fit and that don't.
-const NOTABLE: [u64; 16] = [
+static NOTABLE: [u64; 16] = [
     0,
     1,
     2,

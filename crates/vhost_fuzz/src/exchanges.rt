@@ -4,7 +4,7 @@
 pub(crate) type Exchange = (&'static str, &'static str);
 
 /// Calls of a frontend. Most sessions begin with the first six, after which each request wants an answer.
-pub(crate) const OF_FRONTEND: [Exchange; 40] = [
+pub(crate) static OF_FRONTEND: [Exchange; 40] = [
     (
         "get_features",
         "01000000 05000000 08000000 0300004000000000",
@@ -147,7 +147,7 @@ pub(crate) const OF_FRONTEND: [Exchange; 40] = [
 pub(crate) const OPENING: usize = 6;
 
 /// Calls of a device. Most sessions begin with the first four, after which each call is made, and wants an answer.
-pub(crate) const OF_DEVICE: [Exchange; 17] = [
+pub(crate) static OF_DEVICE: [Exchange; 17] = [
     ("set_reply_ack_flag 1", "-"),
     ("set_shared_object_flag 1", "-"),
     ("set_shmem_flag 1", "-"),

@@ -19,9 +19,10 @@ mod side;
 mod tally;
 
 use crate::dice::Dice;
+use crate::judge::{Finding, Verdict};
 use crate::memory::NoMemory;
 use crate::script::write_script;
-use crate::session::make;
+use crate::session::{Session, make};
 use crate::tally::Tally;
 use std::alloc::Global;
 use std::io::Write;
@@ -67,6 +68,63 @@ fn main(rt: HostRuntime) -> ExitCode {
     }
 }
 
+impl Met {
+    fn new(alloc: Global) -> Met {
+        Met {
+            messages: 0,
+            sessions: 0,
+            findings: 0,
+            tally: Tally::new(alloc),
+        }
+    }
+
+    /// Counts a session, and what was answered in it.
+    fn count(&mut self, session: &Session, verdict: &Verdict) -> Result<(), NoMemory> {
+        for shown in &verdict.trace.shown {
+            self.tally.count(shown.answer.name)?;
+        }
+        if verdict.finding.is_some() {
+            self.findings = self.findings.saturating_add(1);
+        }
+        self.messages = self.messages.saturating_add(session.messages);
+        self.sessions = self.sessions.saturating_add(1);
+        Ok(())
+    }
+}
+
+/// Writes what was found of a session, if anything was, as a script.
+fn write_found<O: Write>(
+    alloc: Global,
+    (seed, number): (u64, u64),
+    session: &Session,
+    found: &Option<Finding>,
+    output: &mut O,
+) -> Result<(), NoMemory> {
+    let Some(finding) = found else {
+        return Ok(());
+    };
+    let title = format!(in alloc; "of seed {seed}, number {number}")?;
+    match write_script(alloc, session, finding, title.as_str(), output) {
+        Ok(()) => Ok(()),
+        Err(_) => Err(NoMemory),
+    }
+}
+
+/// Makes a session, and sends it.
+fn send<O: Write>(
+    alloc: Global,
+    seed: u64,
+    dice: &mut Dice,
+    met: &mut Met,
+    output: &mut O,
+) -> Result<(), NoMemory> {
+    let session = make(alloc, dice)?;
+    let verdict = session.judge(alloc, dice)?;
+    let number = met.sessions;
+    met.count(&session, &verdict)?;
+    write_found(alloc, (seed, number), &session, &verdict.finding, output)
+}
+
 /// Sends so many messages.
 fn fuzz<O: Write, E: Write>(
     alloc: Global,
@@ -76,32 +134,13 @@ fn fuzz<O: Write, E: Write>(
     errors: &mut E,
 ) -> Result<Met, NoMemory> {
     let mut dice = Dice::new(seed);
-    let mut met = Met {
-        messages: 0,
-        sessions: 0,
-        findings: 0,
-        tally: Tally::new(alloc),
-    };
+    let mut met = Met::new(alloc);
     for _ in 0..count {
         if met.messages >= count {
             break;
         }
-        let session = make(alloc, &mut dice)?;
-        let verdict = session.judge(alloc, &mut dice)?;
-        for shown in &verdict.trace.shown {
-            met.tally.count(shown.answer.name)?;
-        }
-        if let Some(finding) = &verdict.finding {
-            met.findings = met.findings.saturating_add(1);
-            let number = met.sessions;
-            let title = format!(in alloc; "of seed {seed}, number {number}")?;
-            if write_script(alloc, &session, finding, title.as_str(), output).is_err() {
-                return Err(NoMemory);
-            }
-        }
         let before = met.messages / PROGRESS;
-        met.messages = met.messages.saturating_add(session.messages);
-        met.sessions = met.sessions.saturating_add(1);
+        send(alloc, seed, &mut dice, &mut met, output)?;
         let messages = met.messages;
         if messages / PROGRESS != before {
             let _ = writeln!(errors, "vhost-fuzz: {messages} of {count} messages");

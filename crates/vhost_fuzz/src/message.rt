@@ -91,16 +91,11 @@ fn set_byte(bytes: &mut [u8], place: usize, byte: u8) {
     }
 }
 
-/// Spoils a message: a byte, its size, its flags or its code is another, it is cut short or longer, or its handles are others or come
-/// with a later byte. It becomes one piece or two.
-pub(crate) fn spoil(
-    alloc: Global,
-    dice: &mut Dice,
-    mut piece: Piece,
-    pieces: &mut Vec<Piece>,
-) -> Result<(), NoMemory> {
+/// Spoils a message, in one of seven ways: a byte, its size, its flags or its code is another, it is cut short or longer, or its handles
+/// are others.
+fn alter(alloc: Global, dice: &mut Dice, piece: &mut Piece, way: u64) -> Result<(), NoMemory> {
     let len = piece.bytes.len();
-    match dice.below(8) {
+    match way {
         0 => {
             let place = dice.place(len);
             set_byte(&mut piece.bytes, place, dice.byte());
@@ -110,20 +105,38 @@ pub(crate) fn spoil(
         3 => set_byte(&mut piece.bytes, 0, dice.byte() & 63),
         4 => piece.bytes.truncate(dice.place(len).max(1)),
         5 => piece.bytes.extend_from_slice(&dice.any().to_le_bytes())?,
-        6 => {
+        _ => {
             let count = dice.place(5);
             piece.handles = some_handles(alloc, dice, count)?;
         }
-        _ => {
-            let place = dice.place(len).max(1).min(len);
-            let rest = piece.bytes.split_off(place)?;
-            let count = dice.place(3);
-            pieces.push(piece)?;
-            piece = Piece {
-                bytes: rest,
-                handles: some_handles(alloc, dice, count)?,
-            };
-        }
+    }
+    Ok(())
+}
+
+/// Takes what follows some byte of a message from it, and gives it handles of its own.
+fn split_off(alloc: Global, dice: &mut Dice, piece: &mut Piece) -> Result<Piece, NoMemory> {
+    let len = piece.bytes.len();
+    let place = dice.place(len).max(1).min(len);
+    let bytes = piece.bytes.split_off(place)?;
+    let count = dice.place(3);
+    let handles = some_handles(alloc, dice, count)?;
+    Ok(Piece { bytes, handles })
+}
+
+/// Spoils a message: something of it is another, or its handles come with a later byte, too. It becomes one piece or two.
+pub(crate) fn spoil(
+    alloc: Global,
+    dice: &mut Dice,
+    mut piece: Piece,
+    pieces: &mut Vec<Piece>,
+) -> Result<(), NoMemory> {
+    let way = dice.below(8);
+    if way < 7 {
+        alter(alloc, dice, &mut piece, way)?;
+    } else {
+        let rest = split_off(alloc, dice, &mut piece)?;
+        pieces.push(piece)?;
+        piece = rest;
     }
     pieces.push(piece)?;
     Ok(())

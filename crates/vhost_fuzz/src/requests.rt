@@ -62,61 +62,71 @@ fn put_inflight(body: &mut Body, dice: &mut Dice) -> Result<(), NoMemory> {
     body.put(0, 4)
 }
 
+/// A ring's index, and a notable number.
+fn put_ring(body: &mut Body, dice: &mut Dice) -> Result<(), NoMemory> {
+    body.put(dice.below(3), 4)?;
+    body.put(dice.notable(), 4)
+}
+
+/// A number below 3, and one below a bound.
+fn put_pair(body: &mut Body, dice: &mut Dice, bound: u64) -> Result<(), NoMemory> {
+    body.put(dice.below(3), 4)?;
+    body.put(dice.below(bound), 4)
+}
+
+/// A ring's index, and whether a handle comes with it; how many.
+fn put_ring_handle(body: &mut Body, dice: &mut Dice) -> Result<usize, NoMemory> {
+    let handles = dice.place(2);
+    let unset = if handles == 0 { 0x100 } else { 0 };
+    body.put(dice.below(3).wrapping_add(unset), 8)?;
+    Ok(handles)
+}
+
+/// One region.
+fn put_single(body: &mut Body, dice: &mut Dice) -> Result<(), NoMemory> {
+    body.put(0, 8)?;
+    put_region(body, dice)
+}
+
+/// So many handles, for what was put.
+fn with(handles: usize, put: Result<(), NoMemory>) -> Result<usize, NoMemory> {
+    put?;
+    Ok(handles)
+}
+
+/// The body of a frontend's request, as its row wants it; how many handles come with it.
+fn put_request(body: &mut Body, dice: &mut Dice, request: FrontendReq) -> Result<usize, NoMemory> {
+    match request {
+        FrontendReq::SET_FEATURES | FrontendReq::SET_PROTOCOL_FEATURES | FrontendReq::NET_SET_MTU =>
+            with(0, body.put_notable(dice, 1)),
+        FrontendReq::SET_MEM_TABLE => put_table(body, dice),
+        FrontendReq::SET_LOG_BASE => with(1, body.put_notable(dice, 2)),
+        FrontendReq::SET_VRING_NUM | FrontendReq::SET_VRING_BASE | FrontendReq::GET_VRING_BASE =>
+            with(0, put_ring(body, dice)),
+        FrontendReq::SET_VRING_ENABLE => with(0, put_pair(body, dice, 3)),
+        FrontendReq::SET_VRING_ADDR => with(0, put_addresses(body, dice)),
+        FrontendReq::SET_VRING_KICK | FrontendReq::SET_VRING_CALL | FrontendReq::SET_VRING_ERR =>
+            put_ring_handle(body, dice),
+        FrontendReq::GET_CONFIG | FrontendReq::SET_CONFIG => with(0, put_config(body, dice)),
+        FrontendReq::SET_BACKEND_REQ_FD | FrontendReq::GPU_SET_SOCKET => Ok(1),
+        FrontendReq::GET_INFLIGHT_FD => with(0, put_inflight(body, dice)),
+        FrontendReq::SET_INFLIGHT_FD => with(1, put_inflight(body, dice)),
+        FrontendReq::ADD_MEM_REG => with(1, put_single(body, dice)),
+        FrontendReq::REM_MEM_REG => with(0, put_single(body, dice)),
+        FrontendReq::GET_SHARED_OBJECT => with(0, body.put_notable(dice, 2)),
+        FrontendReq::SET_DEVICE_STATE_FD => with(1, put_pair(body, dice, 2)),
+        _ => Ok(0),
+    }
+}
+
 /// A request of a frontend, and its handles, as its row wants them.
 pub(crate) fn request_of_frontend(alloc: Global, dice: &mut Dice) -> Result<Piece, NoMemory> {
     let code = dice.small(46);
     let mut body = Body::new(alloc);
-    let mut handles = 0;
-    let Ok(request) = FrontendReq::try_from(code) else {
-        let flags = flags(dice);
-        return body.message(alloc, dice, code, flags, 0);
+    let handles = match FrontendReq::try_from(code) {
+        Ok(request) => put_request(&mut body, dice, request)?,
+        Err(_) => 0,
     };
-    match request {
-        FrontendReq::SET_FEATURES | FrontendReq::SET_PROTOCOL_FEATURES | FrontendReq::NET_SET_MTU =>
-            body.put_notable(dice, 1)?,
-        FrontendReq::SET_MEM_TABLE => handles = put_table(&mut body, dice)?,
-        FrontendReq::SET_LOG_BASE => {
-            body.put_notable(dice, 2)?;
-            handles = 1;
-        }
-        FrontendReq::SET_VRING_NUM | FrontendReq::SET_VRING_BASE | FrontendReq::GET_VRING_BASE => {
-            body.put(dice.below(3), 4)?;
-            body.put(dice.notable(), 4)?;
-        }
-        FrontendReq::SET_VRING_ENABLE => {
-            body.put(dice.below(3), 4)?;
-            body.put(dice.below(3), 4)?;
-        }
-        FrontendReq::SET_VRING_ADDR => put_addresses(&mut body, dice)?,
-        FrontendReq::SET_VRING_KICK | FrontendReq::SET_VRING_CALL | FrontendReq::SET_VRING_ERR => {
-            handles = dice.place(2);
-            let unset = if handles == 0 { 0x100 } else { 0 };
-            body.put(dice.below(3).wrapping_add(unset), 8)?;
-        }
-        FrontendReq::GET_CONFIG | FrontendReq::SET_CONFIG => put_config(&mut body, dice)?,
-        FrontendReq::SET_BACKEND_REQ_FD | FrontendReq::GPU_SET_SOCKET => handles = 1,
-        FrontendReq::GET_INFLIGHT_FD => put_inflight(&mut body, dice)?,
-        FrontendReq::SET_INFLIGHT_FD => {
-            put_inflight(&mut body, dice)?;
-            handles = 1;
-        }
-        FrontendReq::ADD_MEM_REG | FrontendReq::REM_MEM_REG => {
-            body.put(0, 8)?;
-            put_region(&mut body, dice)?;
-            handles = if request == FrontendReq::ADD_MEM_REG {
-                1
-            } else {
-                0
-            };
-        }
-        FrontendReq::GET_SHARED_OBJECT => body.put_notable(dice, 2)?,
-        FrontendReq::SET_DEVICE_STATE_FD => {
-            body.put(dice.below(3), 4)?;
-            body.put(dice.below(2), 4)?;
-            handles = 1;
-        }
-        _ => {}
-    }
     let flags = flags(dice);
     body.message(alloc, dice, code, flags, handles)
 }
@@ -144,26 +154,32 @@ pub(crate) fn put_opening(
     Ok(())
 }
 
+/// The body of a device's request, as its row wants it; how many handles come with it.
+fn put_request_of_device(
+    body: &mut Body,
+    dice: &mut Dice,
+    request: BackendReq,
+) -> Result<usize, NoMemory> {
+    match request {
+        BackendReq::SHARED_OBJECT_ADD | BackendReq::SHARED_OBJECT_REMOVE => with(
+            0,
+            body.put_notable(dice, 2),
+        ),
+        BackendReq::SHARED_OBJECT_LOOKUP => with(1, body.put_notable(dice, 2)),
+        BackendReq::SHMEM_MAP => with(1, put_mapping(body, dice)),
+        BackendReq::SHMEM_UNMAP => with(0, put_mapping(body, dice)),
+        _ => Ok(0),
+    }
+}
+
 /// A request of a device, and its handles, as its row wants them.
 pub(crate) fn request_of_device(alloc: Global, dice: &mut Dice) -> Result<Piece, NoMemory> {
     let code = dice.small(12);
     let mut body = Body::new(alloc);
-    let mut handles = 0;
-    match BackendReq::try_from(code) {
-        Ok(BackendReq::SHARED_OBJECT_ADD | BackendReq::SHARED_OBJECT_REMOVE) => body.put_notable(
-            dice, 2,
-        )?,
-        Ok(BackendReq::SHARED_OBJECT_LOOKUP) => {
-            body.put_notable(dice, 2)?;
-            handles = 1;
-        }
-        Ok(BackendReq::SHMEM_MAP) => {
-            put_mapping(&mut body, dice)?;
-            handles = 1;
-        }
-        Ok(BackendReq::SHMEM_UNMAP) => put_mapping(&mut body, dice)?,
-        _ => {}
-    }
+    let handles = match BackendReq::try_from(code) {
+        Ok(request) => put_request_of_device(&mut body, dice, request)?,
+        Err(_) => 0,
+    };
     let flags = flags(dice);
     body.message(alloc, dice, code, flags, handles)
 }

@@ -33,12 +33,21 @@ pub(crate) enum Kind {
 }
 
 impl Kind {
-    /// The calls that a side makes, and those that open most of its sessions; none where it makes no calls.
-    fn exchanges(self) -> (&'static [Exchange], &'static [Exchange]) {
+    /// The calls that a side makes; none where it makes no calls.
+    fn exchanges(self) -> &'static [Exchange] {
         match self {
-            Kind::Served | Kind::Reverse => (&[], &[]),
-            Kind::Frontend => (&OF_FRONTEND, &OF_FRONTEND[..OPENING]),
-            Kind::Channel => (&OF_DEVICE, &OF_DEVICE[..FLAGS]),
+            Kind::Served | Kind::Reverse => &[],
+            Kind::Frontend => &OF_FRONTEND,
+            Kind::Channel => &OF_DEVICE,
+        }
+    }
+
+    /// How many of them open most of its sessions.
+    fn opening(self) -> usize {
+        match self {
+            Kind::Served | Kind::Reverse => 0,
+            Kind::Frontend => OPENING,
+            Kind::Channel => FLAGS,
         }
     }
 
@@ -104,8 +113,7 @@ impl Session {
             put_opening(alloc, dice, &mut self.pieces)?;
             self.messages = self.pieces.len() as u64;
         }
-        let (_, opening) = self.kind.exchanges();
-        for (call, reply) in opening {
+        for (call, reply) in self.kind.exchanges().iter().take(self.kind.opening()) {
             self.exchange(alloc, dice, call, reply)?;
         }
         Ok(())
@@ -117,7 +125,7 @@ impl Session {
             Kind::Served => request_of_frontend(alloc, dice)?,
             Kind::Reverse => request_of_device(alloc, dice)?,
             Kind::Frontend | Kind::Channel => {
-                let (all, _) = self.kind.exchanges();
+                let all = self.kind.exchanges();
                 let Some((call, reply)) = all.get(dice.place(all.len())) else {
                     return Ok(());
                 };
