@@ -16,7 +16,7 @@ returns-in_err-ring g c = let missing = c.in_err-ring.ensures.missing in fails _
 pub returns-then-num-eq0 : goal.returns-then-num-eq0
 returns-then-num-eq0 g c =
     let is : (nat_le 1 c.args.num && nat_le c.args.num MAX_VRING_NUM) ≡ false = elim c.then-num-eq0.branch [
-      then-num-eq0-via-then-num-eq0 w ↦ none c.args.num w.if-num-eq0.true
+      | then-num-eq0-via-then-num-eq0 w ↦ none c.args.num w.if-num-eq0.true
       | then-num-eq0-via-else-num-eq0+then-num-gt-MAX_VRING_NUM w ↦ great c.args.num w.if-num-gt-MAX_VRING_NUM.true
     ] in
     rw (c.in_ok-ring.ensures.found.0, is) (refl, refl)
