@@ -58,6 +58,35 @@ fn is_done(run: &mut Joined<Ready<MemLink>>, call: &FrontendCall) -> bool {
     }
 }
 
+/// Agrees on features, and wants each request acknowledged from then on.
+fn negotiate(run: &mut Joined<Ready<MemLink>>) {
+    let features = VhostUserProtocolFeatures::from_bits_retain(0x208);
+    is_done(run, &FrontendCall::GetFeatures);
+    is_done(run, &FrontendCall::SetFeatures(0x4000_0003));
+    is_done(run, &FrontendCall::SetProtocolFeatures(features));
+    is_done(
+        run,
+        &FrontendCall::SetHdrFlags(VhostUserHeaderFlag::NEED_REPLY),
+    );
+}
+
+/// Measures how a call is made so often.
+fn time(
+    clock: &impl Clock,
+    run: &mut Joined<Ready<MemLink>>,
+    call: &FrontendCall,
+    count: u64,
+) -> Result<Taken, Failed> {
+    let mut good: u64 = 0;
+    let watch = Watch::start(clock)?;
+    for _ in 0..count {
+        if is_done(run, call) {
+            good = good.wrapping_add(1);
+        }
+    }
+    watch.stop(clock, count, good)
+}
+
 /// Makes a call in a joined run, so often.
 pub(crate) fn steps(
     clock: &impl Clock,
@@ -65,23 +94,9 @@ pub(crate) fn steps(
     step: Step,
     count: u64,
 ) -> Result<Taken, Failed> {
+    let call = call_of(alloc, step)?;
     let scripts = (Vec::new(alloc), Vec::new(alloc));
     let mut run = Joined::new(alloc, Ready::new(alloc), 2, BUDGET, scripts)?;
-    let features = VhostUserProtocolFeatures::from_bits_retain(0x208);
-    is_done(&mut run, &FrontendCall::GetFeatures);
-    is_done(&mut run, &FrontendCall::SetFeatures(0x4000_0003));
-    is_done(&mut run, &FrontendCall::SetProtocolFeatures(features));
-    is_done(
-        &mut run,
-        &FrontendCall::SetHdrFlags(VhostUserHeaderFlag::NEED_REPLY),
-    );
-    let call = call_of(alloc, step)?;
-    let mut good: u64 = 0;
-    let watch = Watch::start(clock)?;
-    for _ in 0..count {
-        if is_done(&mut run, &call) {
-            good = good.wrapping_add(1);
-        }
-    }
-    watch.stop(clock, count, good)
+    negotiate(&mut run);
+    time(clock, &mut run, &call, count)
 }

@@ -143,22 +143,31 @@ fn measure<R: Threads + Wait + Clock + Net + Sync, O: Write>(
 ) -> Result<(), Failed> {
     let mut turns = Vec::new(alloc);
     for _ in 0..TURNS {
-        let mut turn = Vec::with_capacity(alloc, FIGURES.len())?;
-        for (_, count, work, _) in &FIGURES {
-            let taken = work.take(rt, alloc, *count)?;
-            if taken.good != *count {
-                return Err(Failed);
-            }
-            turn.push(taken.each_in_tenths())?;
+        turns.push(turn(rt, alloc)?)?;
+    }
+    show_all(alloc, &turns, output)
+}
+
+/// Measures all figures once.
+fn turn<R: Threads + Wait + Clock + Net + Sync>(rt: &R, alloc: Global) -> Result<Vec<u64>, Failed> {
+    let mut turn = Vec::with_capacity(alloc, FIGURES.len())?;
+    for (_, count, work, _) in &FIGURES {
+        let taken = work.take(rt, alloc, *count)?;
+        if taken.good != *count {
+            return Err(Failed);
         }
-        turns.push(turn)?;
+        turn.push(taken.each_in_tenths())?;
     }
+    Ok(turn)
+}
+
+/// Shows the middle of what the turns measured of each figure.
+fn show_all<O: Write>(alloc: Global, turns: &[Vec<u64>], output: &mut O) -> Result<(), Failed> {
     for (place, (name, _, _, limit)) in FIGURES.iter().enumerate() {
-        let each = middle(alloc, &turns, place)?;
-        show(name, each, limit_of(alloc, &turns, *limit)?, output)?;
+        let each = middle(alloc, turns, place)?;
+        show(name, each, limit_of(alloc, turns, *limit)?, output)?;
     }
-    output.flush()?;
-    Ok(())
+    Ok(output.flush()?)
 }
 
 /// The middle of what the turns measured of one figure.

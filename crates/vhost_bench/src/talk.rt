@@ -14,7 +14,7 @@ use std::thread::{Threads, join};
 use std::time::Clock;
 use vhost_backend_req_handler::SessionCore;
 use vhost_frontend::Quiet;
-use vhost_link::UnixLink;
+use vhost_link::{Link, UnixLink};
 use vhost_message::{
     Result as Answer, VhostUserConfigFlags, VhostUserHeaderFlag, VhostUserProtocolFeatures,
 };
@@ -40,7 +40,7 @@ fn serve_all(alloc: Global, link: UnixLink) -> Answer<()> {
     Ok(())
 }
 
-fn negotiate(frontend: &mut Quiet<UnixLink>, call: Call) -> Answer<()> {
+fn negotiate<L: Link>(frontend: &mut Quiet<L>, call: Call) -> Answer<()> {
     let features = frontend.get_features()?;
     frontend.set_features(features)?;
     frontend.set_protocol_features(VhostUserProtocolFeatures::from_bits_retain(0x208))?;
