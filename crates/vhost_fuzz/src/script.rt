@@ -1,6 +1,8 @@
 //! A session as a script of tests.
 
+use crate::answer::Answer;
 use crate::judge::Finding;
+use crate::message::Piece;
 use crate::session::{BUDGET, Kind, Session};
 use std::alloc::Global;
 use std::io;
@@ -16,40 +18,60 @@ pub(crate) fn write_script<W: Write>(
     title: &str,
     output: &mut W,
 ) -> io::Result<()> {
-    let what = finding.what;
-    let kind = match session.kind {
-        Kind::Served => "served",
-        Kind::Reverse => "reverse_served",
-        Kind::Frontend => "asking",
-        Kind::Channel => "reverse_asking",
-    };
-    writeln!(output, "# {what}\nsession {kind} {title}\nbudget {BUDGET}")?;
-    match session.kind {
-        Kind::Served => writeln!(output, "over dummy [0,1,2,3]")?,
-        Kind::Reverse => writeln!(output, "over scripted")?,
-        Kind::Frontend | Kind::Channel => {}
-    }
+    write_head(session.kind, finding.what, title, output)?;
     write_cuts(&finding.cuts, output)?;
     for piece in &session.pieces {
-        let mut handles = String::new(alloc);
-        push_handles(alloc, &mut handles, &piece.handles)?;
-        let bytes = bytes_text(alloc, &piece.bytes)?;
-        let word = if session.kind.makes_calls() {
-            "reply"
-        } else {
-            "request"
-        };
-        let space = if piece.handles.is_empty() { "" } else { " " };
-        writeln!(output, "{word} {handles}{space}{bytes}")?;
+        write_piece(alloc, session.kind, piece, output)?;
     }
     for (place, shown) in finding.shown.iter().enumerate() {
-        if let Some(call) = session.calls.get(place) {
-            writeln!(output, "call {call}")?;
-        }
-        let answer = shown.answer;
-        writeln!(output, "answer {answer}")?;
+        write_answer(session.calls.get(place), shown.answer, output)?;
     }
     Ok(())
+}
+
+/// Writes what was found, and which side the session has.
+fn write_head<W: Write>(kind: Kind, what: &str, title: &str, output: &mut W) -> io::Result<()> {
+    let (side, over) = match kind {
+        Kind::Served => ("served", "over dummy [0,1,2,3]\n"),
+        Kind::Reverse => ("reverse_served", "over scripted\n"),
+        Kind::Frontend => ("asking", ""),
+        Kind::Channel => ("reverse_asking", ""),
+    };
+    write!(
+        output,
+        "# {what}\nsession {side} {title}\nbudget {BUDGET}\n{over}"
+    )
+}
+
+/// Writes what a peer sends at a time.
+fn write_piece<W: Write>(
+    alloc: Global,
+    kind: Kind,
+    piece: &Piece,
+    output: &mut W,
+) -> io::Result<()> {
+    let word = if kind.makes_calls() {
+        "reply"
+    } else {
+        "request"
+    };
+    let space = if piece.handles.is_empty() { "" } else { " " };
+    let mut handles = String::new(alloc);
+    push_handles(alloc, &mut handles, &piece.handles)?;
+    let bytes = bytes_text(alloc, &piece.bytes)?;
+    writeln!(output, "{word} {handles}{space}{bytes}")
+}
+
+/// Writes what was answered, and to which call, where the side makes calls.
+fn write_answer<W: Write>(
+    call: Option<&&'static str>,
+    answer: Answer,
+    output: &mut W,
+) -> io::Result<()> {
+    if let Some(call) = call {
+        writeln!(output, "call {call}")?;
+    }
+    writeln!(output, "answer {answer}")
 }
 
 /// Writes how the link was cut.
