@@ -3,13 +3,14 @@
 use std::alloc::Global;
 use std::sync::Wait;
 use std::test::Fail;
-use vhost_link::Cut;
+use vhost_device::VhostUserBackendReqHandlerMut;
+use vhost_link::{Cut, MemLink};
 use vhost_message::{BackendReq, Error, FrontendReq, HandlerResult, IoError};
 use vhost_promises::{
     Device, finds_own, first_answer, names_request, records_two, runs_two_lines, serves_three_new,
     shares_twice, two_callers,
 };
-use vhost_recorder::{FrontendAnswer, FrontendCall, Log, Receipt, Recorded};
+use vhost_recorder::{FrontendAnswer, FrontendCall, Halt, Log, Receipt, Recorded};
 
 type Outcome<T> = std::result::Result<T, Fail>;
 
@@ -138,17 +139,25 @@ fn a_log_of_two_callers(rt: HostRuntime) {
 }
 
 /// The serials of two calls that are recorded for caller 7, and whether the receipt of a third is found.
-fn three_recorded(alloc: Global) -> Option<(u64, u64, bool)> {
+fn record_three<D: VhostUserBackendReqHandlerMut<Link = MemLink>>(
+    recorded: &mut Recorded<D>,
+) -> Result<(u64, u64, bool), Halt> {
+    let (get, own) = (FrontendCall::GetFeatures, FrontendCall::SetOwner);
+    let (one, two) = records_two(recorded, 7, &get, &own)?;
+    Ok((one.serial(), two.serial(), finds_own(recorded, 7, &get)?))
+}
+
+/// The same over a new example device.
+fn three_recorded(alloc: Global) -> Result<(u64, u64, bool), Halt> {
     let device = Device::new(alloc, Vec::new(alloc));
     let scripts = (Vec::new(alloc), Vec::new(alloc));
-    let mut recorded = Recorded::new(alloc, device, 2, 3, scripts).ok()?;
-    let (get, own) = (FrontendCall::GetFeatures, FrontendCall::SetOwner);
-    let (one, two) = records_two(&mut recorded, 7, &get, &own).ok()?;
-    let found = finds_own(&mut recorded, 7, &get).ok()?;
-    Some((one.serial(), two.serial(), found))
+    match Recorded::new(alloc, device, 2, 3, scripts) {
+        Ok(mut recorded) => record_three(&mut recorded),
+        Err(_) => Err(Halt::OutOfMemory),
+    }
 }
 
 #[test]
 fn one_caller_records(rt: HostRuntime) {
-    assert!(rt; three_recorded(rt.alloc()) == Some((0, 1, true)));
+    assert!(rt; three_recorded(rt.alloc()) == Ok((0, 1, true)));
 }
