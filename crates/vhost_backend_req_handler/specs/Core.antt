@@ -39,12 +39,12 @@ module _ {L H B G Dev : Type 0} (event : L → Event H → L → Type 0) (opens 
     (gives : Dev → (c : Call H B G) → Answer c → Dev → Type 0) where
   -- An arm meets the rest of a row: of the message that the request is, over an endpoint that can reply.
   abbrev pub MeetsStep : (Session → Message FrontendReq H → Step H B G) → FrontendReq → SessionCore L H → Dev → Request FrontendReq → Result ⊤ declared.Error → SessionCore L H → Dev → Type 0
-  MeetsStep step r old d request result new d' = (m : Message FrontendReq H) → Reads old.body request m → request.code ≡ r → IsReady (endpoint_of old)
+  MeetsStep step r old d request result new d' = (m : Message FrontendReq H) → Reads old.body.value request m → request.code ≡ r → IsReady (endpoint_of old)
       → Answers event gives (λ h o. OpensAs opens kinds h o) (λ h o. OpensAs opens kinds h o) r (step (session_in old) m) (endpoint_of old) (session_in old) d result (endpoint_of new) (session_in new) d'
 
   -- The same where it is given the handles of the message.
   abbrev pub MeetsStepWith : (Session → Message FrontendReq H → Step H B G) → FrontendReq → SessionCore L H → Dev → Request FrontendReq → Option (Vec H Global) → Result ⊤ declared.Error → SessionCore L H → Dev → Type 0
-  MeetsStepWith step r old d request handles result new d' = (m : Message FrontendReq H) → Reads old.body request m → HandsOver handles m.handles → request.code ≡ r → IsReady (endpoint_of old)
+  MeetsStepWith step r old d request handles result new d' = (m : Message FrontendReq H) → Reads old.body.value request m → HandsOver handles m.handles → request.code ≡ r → IsReady (endpoint_of old)
       → Answers event gives (λ h o. OpensAs opens kinds h o) (λ h o. OpensAs opens kinds h o) r (step (session_in old) m) (endpoint_of old) (session_in old) d result (endpoint_of new) (session_in new) d'
 
   -- An arm meets the row of its code.

@@ -7,7 +7,7 @@ use crate::session_core::{Header, SessionCore};
 use std::alloc::Global;
 use std::net::Net;
 use std::sync::{Arc, Wait};
-use vhost_connection::Endpoint;
+use vhost_connection::{Body, Endpoint, new_body};
 use vhost_device::{SharedDevice, VhostUserBackendReqHandler};
 use vhost_link::{Link, UnixLink};
 use vhost_message::{IoCause, Result};
@@ -46,6 +46,7 @@ impl<L: Link, S: VhostUserBackendReqHandler<Link = L>> BackendReqHandler<L, S> {
     pub(crate) fn over(
         alloc: Global,
         endpoint: Endpoint<Header, L>,
+        body: Body,
         backend: Arc<S, Global>,
     ) -> Self
         ensures endpoint { endpoint_of result.core ≡ state endpoint }
@@ -53,7 +54,7 @@ impl<L: Link, S: VhostUserBackendReqHandler<Link = L>> BackendReqHandler<L, S> {
         ensures device { result.backend ≡ backend }
     {
         BackendReqHandler {
-            core: SessionCore::over(alloc, endpoint),
+            core: SessionCore::over(alloc, endpoint, body),
             backend,
         }
     }
@@ -104,7 +105,8 @@ impl<S: VhostUserBackendReqHandler<Link = UnixLink>> BackendReqHandler<UnixLink,
         ensures device { IfOk result (λ h. h.backend ≡ backend) }
         ensures refused { IfErr result IsConnectError }
     {
+        let body = new_body(alloc)?;
         let endpoint = Endpoint::connect(rt, alloc, path, budget)?;
-        Ok(BackendReqHandler::over(alloc, endpoint, backend))
+        Ok(BackendReqHandler::over(alloc, endpoint, body, backend))
     }
 }

@@ -6,7 +6,7 @@ use crate::handler::BackendReqHandler;
 use std::alloc::Global;
 use std::fs::Files;
 use std::sync::Arc;
-use vhost_connection::{Buffers, Endpoint, Listener};
+use vhost_connection::{Body, Buffers, Endpoint, Listener, new_body};
 use vhost_device::VhostUserBackendReqHandler;
 use vhost_link::{NoHandle, UnixLink};
 use vhost_message::{Error, Result};
@@ -61,9 +61,9 @@ impl<'a, R: Files + Drop, S: VhostUserBackendReqHandler<Link = UnixLink>> Backen
             return Err(Error::InvalidOperation("backend already handed out"));
         };
         match self.next_connection() {
-            Ok(Some((buffers, link))) => {
+            Ok(Some((buffers, body, link))) => {
                 let endpoint = Endpoint::with_buffers(buffers, link, self.budget);
-                Ok(Some(BackendReqHandler::over(self.alloc, endpoint, backend)))
+                Ok(Some(BackendReqHandler::over(self.alloc, endpoint, body, backend)))
             }
             Ok(None) => {
                 self.backend = Some(backend);
@@ -77,12 +77,12 @@ impl<'a, R: Files + Drop, S: VhostUserBackendReqHandler<Link = UnixLink>> Backen
     }
 
     /// The next connection, and what a session allocates, which is made first.
-    fn next_connection(&self) -> Result<Option<(Buffers<NoHandle>, UnixLink)>>
+    fn next_connection(&self) -> Result<Option<(Buffers<NoHandle>, Body, UnixLink)>>
         ensures { IfErr result IsListenError }
     {
-        let buffers = Buffers::new(self.alloc)?;
+        let (buffers, body) = (Buffers::new(self.alloc)?, new_body(self.alloc)?);
         match self.listener.accept()? {
-            Some(link) => Ok(Some((buffers, link))),
+            Some(link) => Ok(Some((buffers, body, link))),
             None => Ok(None),
         }
     }

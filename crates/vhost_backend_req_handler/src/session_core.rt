@@ -8,10 +8,10 @@ ghost use Rattle.vhost_protocol.specs.Session.{fresh as new_session};
 use crate::request::Request;
 use crate::session::Session;
 use std::alloc::Global;
-use vhost_connection::Endpoint;
+use vhost_connection::{Body, Endpoint, new_body};
 use vhost_device::VhostUserBackendReqHandlerMut;
 use vhost_link::Link;
-use vhost_message::{Error, FrontendReq, IoCause, MAX_MSG_SIZE, Result, VhostUserMsgHeader};
+use vhost_message::{Error, FrontendReq, IoCause, Result, VhostUserMsgHeader};
 
 mod channels;
 mod checks;
@@ -39,7 +39,7 @@ pub struct SessionCore<L: Link> {
     endpoint: Endpoint<Header, L>,
     session: Session,
     /// The body of the request that is served lies at its front.
-    body: [u8; MAX_MSG_SIZE],
+    body: Body,
     alloc: Global,
 }
 
@@ -63,18 +63,20 @@ impl<L: Link> SessionCore<L> {
         ensures session { IfOk result (λ c. session_in c ≡ new_session) }
         ensures memory { IfErr result (λ e. e ≡ OutOfMemory) }
     {
-        Ok(SessionCore::over(alloc, Endpoint::from_stream(alloc, link, budget)?))
+        let body = new_body(alloc)?;
+        let endpoint = Endpoint::from_stream(alloc, link, budget)?;
+        Ok(SessionCore::over(alloc, endpoint, body))
     }
 
     /// A new session over an endpoint.
-    pub(crate) fn over(alloc: Global, endpoint: Endpoint<Header, L>) -> Self
+    pub(crate) fn over(alloc: Global, endpoint: Endpoint<Header, L>, body: Body) -> Self
         ensures endpoint { endpoint_of result ≡ state endpoint }
         ensures session { session_in result ≡ new_session }
     {
         SessionCore {
             endpoint,
             session: Session::new(),
-            body: [0; MAX_MSG_SIZE],
+            body,
             alloc,
         }
     }

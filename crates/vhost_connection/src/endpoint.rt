@@ -10,12 +10,12 @@ mod sends;
 mod sockets;
 
 use crate::buffer::Source;
-use crate::buffers::Buffers;
+use crate::buffers::{Buffers, Text};
 use crate::list::HandleList;
 use std::alloc::Global;
 use std::marker::PhantomData;
 use vhost_link::Link;
-use vhost_message::{Error, IoCause, MAX_MSG_TEXT, MsgHeader, Result};
+use vhost_message::{Error, IoCause, MsgHeader, Result};
 
 /// One end of a connection, by which whole messages go out and come in: the header type is `M`.
 ///
@@ -44,8 +44,8 @@ pub struct Endpoint<M, L: Link> {
     list: Option<HandleList<L::Handle>>,
     /// For handles that are dropped.
     spare: HandleList<L::Handle>,
-    /// The bytes of one message on their way out or in: a header and the greatest body.
-    text: [u8; MAX_MSG_TEXT],
+    /// A message on its way out or in.
+    text: Box<Text>,
     alloc: Global,
     of: PhantomData<M>,
 }
@@ -76,6 +76,7 @@ impl<M: MsgHeader, L: Link> Endpoint<M, L> {
     {
         let Buffers {
             ahead,
+            text,
             list,
             spare,
             alloc,
@@ -88,7 +89,7 @@ impl<M: MsgHeader, L: Link> Endpoint<M, L> {
             faulted: false,
             list: Some(list),
             spare,
-            text: [0; MAX_MSG_TEXT],
+            text,
             alloc,
             of: PhantomData,
         }

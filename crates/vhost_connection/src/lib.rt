@@ -12,7 +12,7 @@ mod pass;
 mod pieces;
 mod request;
 
-pub use buffers::Buffers;
+pub use buffers::{Body, Buffers, new_body};
 pub use endpoint::Endpoint;
 pub use fault::break_on_fault;
 pub use listener::Listener;

@@ -54,19 +54,19 @@ pub data Asks {H Dev : Type 0} (gives : Dev → ReverseCall H → Result ℕ IoE
 module _ {L H Dev : Type 0} (gives : Dev → ReverseCall H → Result ℕ IoError → Dev → Type 0) where
   -- An arm follows the row of its code so far: of the message that the request is.
   abbrev pub AsksRow : BackendReq → FrontendReqCore L H → Dev → Request BackendReq → Asked → Dev → Type 0
-  AsksRow r c d request asked d' = (m : Message BackendReq H) → Reads c.body request m → Asks gives (server_in c) m (reverse_row_of r (server_in c) m) d asked d'
+  AsksRow r c d request asked d' = (m : Message BackendReq H) → Reads c.body.value request m → Asks gives (server_in c) m (reverse_row_of r (server_in c) m) d asked d'
 
   -- The same where it is given the handles of the message.
   abbrev pub AsksRowWith : BackendReq → FrontendReqCore L H → Dev → Request BackendReq → Option (Vec H Global) → Asked → Dev → Type 0
-  AsksRowWith r c d request handles asked d' = (m : Message BackendReq H) → Reads c.body request m → HandsOver handles m.handles → Asks gives (server_in c) m (reverse_row_of r (server_in c) m) d asked d'
+  AsksRowWith r c d request handles asked d' = (m : Message BackendReq H) → Reads c.body.value request m → HandsOver handles m.handles → Asks gives (server_in c) m (reverse_row_of r (server_in c) m) d asked d'
 
 -- The number that stands for an answer goes back, where the message wants it.
 abbrev pub Acknowledges : {L H : Type 0} → (L → Event H → L → Type 0) → FrontendReqCore L H → Request BackendReq → ℕ → Result ⊤ declared.Error → FrontendReqCore L H → Type 0
-Acknowledges {H = H} event old request number result new = (m : Message BackendReq H) (answer : Result ℕ IoError) → Reads old.body request m → IsReady (endpoint_of old) → number ≡ result_number answer
+Acknowledges {H = H} event old request number result new = (m : Message BackendReq H) (answer : Result ℕ IoError) → Reads old.body.value request m → IsReady (endpoint_of old) → number ≡ result_number answer
     → Tells event (endpoint_of old) (cells_of backend_request_number (reply m.request (number_back (server_in old) m answer))) (Ok tt) result (endpoint_of new)
 
 -- A request meets its row: the message that it is, over an endpoint that can reply.
 abbrev pub MeetsRow : {L H Dev : Type 0} → (L → Event H → L → Type 0) → (Dev → ReverseCall H → Result ℕ IoError → Dev → Type 0)
     → FrontendReqCore L H → Dev → Request BackendReq → Option (Vec H Global) → Result ℕ declared.Error → FrontendReqCore L H → Dev → Type 0
-MeetsRow {H = H} event gives old d request handles result new d' = (m : Message BackendReq H) → Reads old.body request m → HandsOver handles m.handles → IsReady (endpoint_of old)
+MeetsRow {H = H} event gives old d request handles result new d' = (m : Message BackendReq H) → Reads old.body.value request m → HandsOver handles m.handles → IsReady (endpoint_of old)
     → Answers event (ReverseMeets (fitting gives) (server_in old) d m) (λ s. s) (endpoint_of old) result (endpoint_of new) (server_in new) d'

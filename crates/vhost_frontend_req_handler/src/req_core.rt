@@ -8,11 +8,9 @@ use crate::asked::Asked;
 use crate::device::VhostUserFrontendReqHandlerMut;
 use crate::numbers::{EINVAL, hand_on, number_of};
 use std::alloc::Global;
-use vhost_connection::Endpoint;
+use vhost_connection::{Body, Endpoint, new_body};
 use vhost_link::Link;
-use vhost_message::{
-    BackendReq, Error, IoCause, MAX_MSG_SIZE, Result, VhostUserMsgHeader, VhostUserU64,
-};
+use vhost_message::{BackendReq, Error, IoCause, Result, VhostUserMsgHeader, VhostUserU64};
 
 mod rows;
 
@@ -32,7 +30,7 @@ pub struct FrontendReqCore<L: Link> {
     /// The failure that marks it, if any.
     failed: Option<i32>,
     /// The body of the request that is served lies at its front.
-    body: [u8; MAX_MSG_SIZE],
+    body: Body,
 }
 
 impl<L: Link> FrontendReqCore<L> {
@@ -53,11 +51,12 @@ impl<L: Link> FrontendReqCore<L> {
         ensures server { IfOk result (λ c. server_in c ≡ record { reply_ack = false; failed = None }) }
         ensures memory { IfErr result (λ e. e ≡ OutOfMemory) }
     {
+        let body = new_body(alloc)?;
         Ok(FrontendReqCore {
             endpoint: Endpoint::from_stream(alloc, rx, budget)?,
             reply_ack: false,
             failed: None,
-            body: [0; MAX_MSG_SIZE],
+            body,
         })
     }
 

@@ -26,7 +26,7 @@ impl<L: Link> SessionCore<L> {
 
     /// InvalidMessage: the body has another size, or the message is a reply.
     pub(crate) fn bare(&self, request: Request, size: usize) -> Result<()>
-        ensures { (m : Message FrontendReq L.Handle) → Reads self.now.body request m → row.bare size m ≡ tested result }
+        ensures { (m : Message FrontendReq L.Handle) → Reads self.now.body.value request m → row.bare size m ≡ tested result }
     {
         if !request.is_bare(size) {
             return Err(Error::InvalidMessage);
@@ -37,7 +37,7 @@ impl<L: Link> SessionCore<L> {
     /// The one record that the body is. InvalidMessage: it is not that long, not valid, or the message is a reply.
     pub(crate) fn record<T: VhostUserMsgValidator + Drop>(&self, request: Request) -> Result<T>
         requires { T.SIZE ≤ MAX_MSG_SIZE }
-        ensures row { (m : Message FrontendReq L.Handle) → Reads self.now.body request m → row.body T.SIZE T.read T.valid m ≡ tested result }
+        ensures row { (m : Message FrontendReq L.Handle) → Reads self.now.body.value request m → row.body T.SIZE T.read T.valid m ≡ tested result }
         ensures valid { IfOk result (λ r. T.valid r ≡ true) }
     {
         if !request.is_bare(T::SIZE) {
@@ -52,7 +52,7 @@ impl<L: Link> SessionCore<L> {
 
     /// The one number that the body is. InvalidMessage: it is not that long, or the message is a reply.
     pub(crate) fn number(&self, request: Request) -> Result<u64>
-        ensures { (m : Message FrontendReq L.Handle) → Reads self.now.body request m → row.u64 m ≡ tested result }
+        ensures { (m : Message FrontendReq L.Handle) → Reads self.now.body.value request m → row.u64 m ≡ tested result }
     {
         let number: VhostUserU64 = self.record(request)?;
         Ok(number.value)

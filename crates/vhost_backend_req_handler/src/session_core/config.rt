@@ -62,7 +62,11 @@ impl<L: Link> SessionCore<L> {
             return self.send_ack(request, Err(Error::InvalidMessage));
         };
         let flags = VhostUserConfigFlags::from_bits_retain(config.flags);
-        let answer = device.set_config(config.offset, part(&self.body, RECORD, request.len), flags);
+        let answer = device.set_config(
+            config.offset,
+            part(&self.body[..], RECORD, request.len),
+            flags,
+        );
         self.send_ack(request, answer)
     }
 
@@ -90,7 +94,7 @@ impl<L: Link> SessionCore<L> {
 
     /// The same for a message that is no reply. InvalidMessage: it is one, or the area is not valid.
     fn whole_area(&self, request: Request) -> Result<VhostUserConfig>
-        ensures row { (m : Message FrontendReq L.Handle) → Reads self.now.body request m → (next : VhostUserConfig → Step L.Handle (Backend L L.Handle) (GpuBackend L L.Handle))
+        ensures row { (m : Message FrontendReq L.Handle) → Reads self.now.body.value request m → (next : VhostUserConfig → Step L.Handle (Backend L L.Handle) (GpuBackend L L.Handle))
             → (test (not m.reply && is_valid_area m) (silently InvalidMessage) then next (config_of m.body)) ≡ goes_on result next }
         ensures len { IfOk result (λ c. RECORD + c.size ≤ MAX_MSG_SIZE) }
     {
@@ -102,8 +106,8 @@ impl<L: Link> SessionCore<L> {
 
     /// The record at the front of the body, where it is valid and has as many bytes behind it as it says.
     fn area(&self, request: Request) -> Option<VhostUserConfig>
-        ensures valid { (m : Message FrontendReq L.Handle) → Reads self.now.body request m → is_valid_area m ≡ is_some result }
-        ensures record { (m : Message FrontendReq L.Handle) → Reads self.now.body request m → IfSome result (λ c. c ≡ config_of m.body) }
+        ensures valid { (m : Message FrontendReq L.Handle) → Reads self.now.body.value request m → is_valid_area m ≡ is_some result }
+        ensures record { (m : Message FrontendReq L.Handle) → Reads self.now.body.value request m → IfSome result (λ c. c ≡ config_of m.body) }
         ensures len { IfSome result (λ c. request.len ≡ RECORD + c.size) }
     {
         let config = VhostUserConfig::decode(&self.body[..RECORD]);

@@ -125,14 +125,14 @@ impl<L: Link> SessionCore<L> {
         places: &mut [VhostUserMemoryRegion],
     ) -> Option<(usize, Vec<L::Handle>)>
         requires { length places.old ≡ MAX_MEM_REGIONS }
-        ensures valid { (m : Message FrontendReq L.Handle) → Reads self.now.body request m → HandsOver handles m.handles → is_valid_table m ≡ is_some result }
-        ensures table { (m : Message FrontendReq L.Handle) → Reads self.now.body request m → HandsOver handles m.handles → IfSome result (λ t. (take t.0 places.new ≡ table m) × (t.1.items ≡ m.handles)) }
+        ensures valid { (m : Message FrontendReq L.Handle) → Reads self.now.body.value request m → HandsOver handles m.handles → is_valid_table m ≡ is_some result }
+        ensures table { (m : Message FrontendReq L.Handle) → Reads self.now.body.value request m → HandsOver handles m.handles → IfSome result (λ t. (take t.0 places.new ≡ table m) × (t.1.items ≡ m.handles)) }
         ensures count { IfSome result (λ t. t.0 ≤ MAX_MEM_REGIONS) }
     {
         let files = handles?;
         let count = self.table_len(request, files.len())?;
         if read_front(
-            part(&self.body, MEMORY_HEAD_SIZE, request.len),
+            part(&self.body[..], MEMORY_HEAD_SIZE, request.len),
             places,
             count,
         ) {
@@ -144,9 +144,9 @@ impl<L: Link> SessionCore<L> {
 
     /// How many regions the table of a request has, where it has as many bytes and handles as it says.
     fn table_len(&self, request: Request, handles: usize) -> Option<usize>
-        ensures valid { (m : Message FrontendReq L.Handle) → Reads self.now.body request m
+        ensures valid { (m : Message FrontendReq L.Handle) → Reads self.now.body.value request m
             → (not m.reply && nat_le MEMORY_HEAD_SIZE (length m.body) && is_valid_memory (memory_of m.body) && length m.body == MEMORY_HEAD_SIZE + MEMORY_REGION_SIZE * (memory_of m.body).num_regions && handles == (memory_of m.body).num_regions) ≡ is_some result }
-        ensures count { (m : Message FrontendReq L.Handle) → Reads self.now.body request m → IfSome result (λ n. n ≡ (memory_of m.body).num_regions) }
+        ensures count { (m : Message FrontendReq L.Handle) → Reads self.now.body.value request m → IfSome result (λ n. n ≡ (memory_of m.body).num_regions) }
         ensures len { IfSome result (λ n. (request.len ≡ MEMORY_HEAD_SIZE + MEMORY_REGION_SIZE * n) × (n ≤ MAX_MEM_REGIONS)) }
     {
         let head = VhostUserMemory::decode(&self.body[..MEMORY_HEAD_SIZE]);
@@ -178,7 +178,7 @@ impl<L: Link> SessionCore<L> {
         bases: Option<Vec<u64>>,
     ) -> Result<()>
         requires { length table.old ≤ MAX_MEM_REGIONS }
-        ensures sends { (m : Message FrontendReq L.Handle) → Reads self.old.body request m → request.code ≡ SET_MEM_TABLE → IsReady (endpoint_of self.old) → table.old ≡ row.table m
+        ensures sends { (m : Message FrontendReq L.Handle) → Reads self.old.body.value request m → request.code ≡ SET_MEM_TABLE → IsReady (endpoint_of self.old) → table.old ≡ row.table m
             → let outcome = with_bases (session_in self.old) m (seen_bases (Ok bases)) in Tells L.event (endpoint_of self.old) (reply_cells SET_MEM_TABLE outcome.served) outcome.answer result (endpoint_of self.new) }
         ensures session { (m : Message FrontendReq L.Handle) → session_in self.new ≡ (with_bases (session_in self.old) m (seen_bases (Ok bases))).session }
         ensures fits { IfSome bases (λ v. All (λ base. base < 2 ^ 64) v.items) }
@@ -251,7 +251,7 @@ impl<L: Link> SessionCore<L> {
 
     /// Whether a request says that the frontend has mapped the regions.
     fn is_mapped(&self, request: Request) -> bool
-        ensures { (m : Message FrontendReq L.Handle) → Reads self.now.body request m → is_mapped (session_in self.now) m ≡ result }
+        ensures { (m : Message FrontendReq L.Handle) → Reads self.now.body.value request m → is_mapped (session_in self.now) m ≡ result }
     {
         self.session.is_listening() && request.len == VhostUserU64::SIZE
     }

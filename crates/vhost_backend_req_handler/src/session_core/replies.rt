@@ -31,7 +31,7 @@ impl<L: Link> SessionCore<L> {
 
     /// Acknowledges a request that asks for it where acknowledgements are on, and answers the device's result.
     pub(crate) fn send_ack(&mut self, request: Request, answer: Result<()>) -> Result<()>
-        ensures sends { (r : FrontendReq) (m : Message FrontendReq L.Handle) → Reads self.old.body request m → request.code ≡ r → IsReady (endpoint_of self.old)
+        ensures sends { (r : FrontendReq) (m : Message FrontendReq L.Handle) → Reads self.old.body.value request m → request.code ≡ r → IsReady (endpoint_of self.old)
             → let outcome = with_ack (session_in self.old) m (seen_result answer) in Tells L.event (endpoint_of self.old) (reply_cells r outcome.served) outcome.answer result (endpoint_of self.new) }
         ensures session { session_in self.new ≡ session_in self.old }
     {

@@ -82,7 +82,7 @@ impl<L: Link> SessionCore<L> {
         request: Request,
         handles: Option<Vec<L::Handle>>,
     ) -> Result<(u8, Option<L::Handle>)>
-        ensures { (m : Message FrontendReq L.Handle) → Reads self.now.body request m → HandsOver handles m.handles
+        ensures { (m : Message FrontendReq L.Handle) → Reads self.now.body.value request m → HandsOver handles m.handles
             → (call : ℕ → Option L.Handle → Step L.Handle (Backend L L.Handle) (GpuBackend L L.Handle)) → ring_row m call ≡ goes_on result (λ x. call x.0 x.1) }
     {
         let number = self.number(request)?;

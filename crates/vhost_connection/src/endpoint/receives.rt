@@ -72,7 +72,7 @@ impl<M: MsgHeader, L: Link> Endpoint<M, L> {
     /// Receives bytes to the front of the text, up to so many or the end.
     fn read_data(&mut self, len: usize) -> Result<usize>
         requires { len ≤ MAX_MSG_SIZE }
-        ensures read { ReadsCount L.event (state self.old) len result self.new.text (state self.new) }
+        ensures read { ReadsCount L.event (state self.old) len result self.new.text.value (state self.new) }
         ensures memory { IfErr result (λ e. e ≢ OutOfMemory) }
     {
         self.faulted = false;
@@ -205,7 +205,7 @@ impl<M: MsgHeader, L: Link> Endpoint<M, L> {
     /// Receives at most so many bytes to the front of the text by one call of the link.
     fn read_once(&mut self, len: usize) -> Result<(usize, Option<Vec<L::Handle>>)>
         requires { len ≤ MAX_MSG_SIZE }
-        ensures { ReadsCountOnce L.event (state self.old) len result self.new.text (state self.new) }
+        ensures { ReadsCountOnce L.event (state self.old) len result self.new.text.value (state self.new) }
     {
         self.faulted = false;
         self.expect_sound()?;
@@ -228,7 +228,7 @@ impl<M: MsgHeader, L: Link> Endpoint<M, L> {
     pub(super) fn recv_front(&mut self, len: usize) -> Result<Front<L::Handle>>
         requires some { 0 < len }
         requires len { len ≤ MAX_MSG_TEXT }
-        ensures { ReadsFront L.event (state self.old) len result self.new.text (state self.new) }
+        ensures { ReadsFront L.event (state self.old) len result self.new.text.value (state self.new) }
     {
         self.recv_parts(len, &mut [])
     }
@@ -238,7 +238,7 @@ impl<M: MsgHeader, L: Link> Endpoint<M, L> {
     fn recv_parts(&mut self, len: usize, room: &mut [u8]) -> Result<Front<L::Handle>>
         requires some { 0 < len }
         requires len { len ≤ MAX_MSG_TEXT }
-        ensures { ReadsParts L.event (state self.old) len room.old result self.new.text room.new (state self.new) }
+        ensures { ReadsParts L.event (state self.old) len room.old result self.new.text.value room.new (state self.new) }
     {
         self.faulted = false;
         self.expect_sound()?;
@@ -307,7 +307,7 @@ impl<M: MsgHeader, L: Link> Endpoint<M, L> {
     pub(super) fn put_back(&mut self, mut list: Vec<L::Handle>)
         requires { MAX_ATTACHED_FD_ENTRIES ≤ vec_capacity list }
         ensures state { state self.new ≡ record (state self.old) { list = true } }
-        ensures text { self.new.text ≡ self.old.text }
+        ensures text { self.new.text.value ≡ self.old.text.value }
     {
         list.clear();
         self.list = Some(HandleList { list });
@@ -319,7 +319,7 @@ impl<M: MsgHeader, L: Link> Endpoint<M, L> {
         requires { MAX_ATTACHED_FD_ENTRIES ≤ vec_capacity list }
         ensures given { HandsOver result list.items }
         ensures state { state self.new ≡ gives (state self.old) list.items }
-        ensures text { self.new.text ≡ self.old.text }
+        ensures text { self.new.text.value ≡ self.old.text.value }
     {
         if list.is_empty() {
             self.put_back(list);

@@ -5,6 +5,7 @@ ghost use Rattle.vhost_message.specs.declared.limits.TheConstants.{MAX_ATTACHED_
 ghost use Rattle.vhost_protocol.specs.Stream.{carrying};
 ghost use Rattle.vhost_connection.specs.Pass.{joined};
 
+use crate::buffers::Text;
 use crate::endpoint::Endpoint;
 use crate::pass::{send_once, send_pieces, send_whole};
 use crate::pieces::{gather, total_len};
@@ -35,6 +36,40 @@ fn put_all<M: ByteValued, T: ByteValued>(out: &mut [u8], header: &M, body: &T, p
     rest.copy_from_slice(payload);
 }
 
+/// Writes a header to the front of a text.
+fn put_header<M: ByteValued>(text: &mut Text, header: &M)
+    requires { M.SIZE ≤ MAX_MSG_TEXT }
+    ensures { take M.SIZE text.new ≡ M.text header.now }
+{
+    header.encode_into(&mut text[..M::SIZE]);
+}
+
+/// Writes a header and the body behind it to the front of a text.
+fn put_message<M: ByteValued, T: ByteValued>(text: &mut Text, header: &M, body: &T)
+    requires { M.SIZE + T.SIZE ≤ MAX_MSG_TEXT }
+    ensures text { take (M.SIZE + T.SIZE) text.new ≡ M.text header.now ++ T.text body.now }
+    ensures fits { T.fits body.now }
+{
+    put(&mut text[..M::SIZE + T::SIZE], header, body);
+}
+
+/// Writes a header, the body behind it and a payload behind both to the front of a text; the answer is how many bytes.
+fn put_whole<M: ByteValued, T: ByteValued>(
+    text: &mut Text,
+    header: &M,
+    body: &T,
+    payload: &[u8],
+) -> usize
+    requires { M.SIZE + T.SIZE + length payload.now ≤ MAX_MSG_TEXT }
+    ensures count { result ≡ M.SIZE + T.SIZE + length payload.now }
+    ensures text { take result text.new ≡ M.text header.now ++ T.text body.now ++ payload.now }
+    ensures fits { T.fits body.now }
+{
+    let len = M::SIZE + T::SIZE + payload.len();
+    put_all(&mut text[..len], header, body, payload);
+    len
+}
+
 impl<M: MsgHeader, L: Link> Endpoint<M, L> {
     ghost use Rattle.vhost_message.specs.declared.error.Error.TheVariants.{OversizedMsg, IncorrectFds, OutOfMemory};
     ghost use Rattle.vhost_connection.specs.Talk.{Refuses};
@@ -54,7 +89,7 @@ impl<M: MsgHeader, L: Link> Endpoint<M, L> {
         if handles.len() > MAX_ATTACHED_FD_ENTRIES {
             return Err(Error::IncorrectFds);
         }
-        header.encode_into(&mut self.text[..M::SIZE]);
+        put_header(&mut *self.text, header);
         self.send_text(M::SIZE, handles)
     }
 
@@ -83,9 +118,8 @@ impl<M: MsgHeader, L: Link> Endpoint<M, L> {
         if handles.len() > MAX_ATTACHED_FD_ENTRIES {
             return Err(Error::IncorrectFds);
         }
-        let len = M::SIZE + T::SIZE;
-        put(&mut self.text[..len], header, body);
-        self.send_text(len, handles)
+        put_message(&mut *self.text, header, body);
+        self.send_text(M::SIZE + T::SIZE, handles)
     }
 
     /// Sends a header, a body and a payload, with the handles on the first byte: as one piece where they have at most
@@ -123,11 +157,10 @@ impl<M: MsgHeader, L: Link> Endpoint<M, L> {
         }
         let len = M::SIZE + T::SIZE;
         if payload.len() > MAX_MSG_TEXT - len {
-            put(&mut self.text[..len], header, body);
+            put_message(&mut *self.text, header, body);
             return self.send_with_behind(len, payload, handles);
         }
-        let whole = len + payload.len();
-        put_all(&mut self.text[..whole], header, body, payload);
+        let whole = put_whole(&mut *self.text, header, body, payload);
         self.send_text(whole, handles)
     }
 
@@ -135,8 +168,8 @@ impl<M: MsgHeader, L: Link> Endpoint<M, L> {
     fn send_text(&mut self, len: usize, handles: &[&L::Handle]) -> Result<()>
         requires len { len ≤ MAX_MSG_TEXT }
         requires handles { length handles.now ≤ MAX_ATTACHED_FD_ENTRIES }
-        ensures sent { Sends L.event (state self.old) (carrying (map (λ h. h.now) handles.now) (take len self.old.text)) result (state self.new) }
-        ensures once { 0 < len → L.takes_all (state self.old).link → ByOneCall L.event (state self.old) (carrying (map (λ h. h.now) handles.now) (take len self.old.text)) result (state self.new) }
+        ensures sent { Sends L.event (state self.old) (carrying (map (λ h. h.now) handles.now) (take len self.old.text.value)) result (state self.new) }
+        ensures once { 0 < len → L.takes_all (state self.old).link → ByOneCall L.event (state self.old) (carrying (map (λ h. h.now) handles.now) (take len self.old.text.value)) result (state self.new) }
         ensures memory { IfErr result (λ e. e ≢ OutOfMemory) }
     {
         self.faulted = false;
@@ -157,7 +190,7 @@ impl<M: MsgHeader, L: Link> Endpoint<M, L> {
     fn send_with_behind(&mut self, len: usize, payload: &[u8], handles: &[&L::Handle]) -> Result<()>
         requires len { len ≤ MAX_MSG_TEXT }
         requires handles { length handles.now ≤ MAX_ATTACHED_FD_ENTRIES }
-        ensures sent { Sends L.event (state self.old) (carrying (map (λ h. h.now) handles.now) (take len self.old.text ++ payload.now)) result (state self.new) }
+        ensures sent { Sends L.event (state self.old) (carrying (map (λ h. h.now) handles.now) (take len self.old.text.value ++ payload.now)) result (state self.new) }
         ensures memory { IfErr result (λ e. e ≢ OutOfMemory) }
     {
         self.faulted = false;

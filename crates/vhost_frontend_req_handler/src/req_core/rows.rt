@@ -138,8 +138,8 @@ impl<L: Link> FrontendReqCore<L> {
     /// The one record that the body is; none where it is not that long, not valid, or the message is a reply.
     fn record<T: VhostUserMsgValidator + Drop>(&self, request: Request) -> Option<T>
         requires { T.SIZE ≤ MAX_MSG_SIZE }
-        ensures none { IfNone result ((m : Message BackendReq L.Handle) → Reads self.now.body request m → (is_bare T.SIZE m && T.valid (T.read m.body)) ≡ false) }
-        ensures some { IfSome result (λ x. (m : Message BackendReq L.Handle) → Reads self.now.body request m → ((is_bare T.SIZE m && T.valid (T.read m.body)) ≡ true) × (x ≡ T.read m.body)) }
+        ensures none { IfNone result ((m : Message BackendReq L.Handle) → Reads self.now.body.value request m → (is_bare T.SIZE m && T.valid (T.read m.body)) ≡ false) }
+        ensures some { IfSome result (λ x. (m : Message BackendReq L.Handle) → Reads self.now.body.value request m → ((is_bare T.SIZE m && T.valid (T.read m.body)) ≡ true) × (x ≡ T.read m.body)) }
     {
         if !request.is_bare(T::SIZE) {
             return None;

@@ -19,7 +19,7 @@ returns-in_default g c m reads over is ready =
 pub returns-in-Ok : goal.returns-in-Ok
 returns-in-Ok g c m reads over is ready =
     let same = c.in-Ok.ensures.same in
-    let reads_on = subst (λ (x : SessionCore _ _). Reads x.body c.args.request m) (sym same) reads in
+    let reads_on = subst (λ (x : SessionCore _ _). Reads x.body.value c.args.request m) (sym same) reads in
     let ready_on = subst (λ (x : SessionCore _ _). IsReady (endpoint_of x)) (sym same) ready in
     let tells = subst (λ (x : SessionCore _ _). let o = with_ack {A = ⊤} (session_in x) m (seen_result c.set_gpu_socket-answer.result) in Tells g.L.Link.event (endpoint_of x) (reply_cells GPU_SET_SOCKET o.served) o.answer c.send_ack-in-Ok.result (endpoint_of c.send_ack-in-Ok.new.self)) same (c.send_ack-in-Ok.ensures.sends GPU_SET_SOCKET m reads_on is ready_on) in
     let kept = c.send_ack-in-Ok.ensures.session ∙ ap (λ (x : SessionCore _ _). session_in x) same in
@@ -28,7 +28,7 @@ returns-in-Ok g c m reads over is ready =
 pub returns-in-Err : goal.returns-in-Err
 returns-in-Err g c m reads over is ready =
     let same = c.in-Err.ensures.same in
-    let reads_on = subst (λ (x : SessionCore _ _). Reads x.body c.args.request m) (sym same) reads in
+    let reads_on = subst (λ (x : SessionCore _ _). Reads x.body.value c.args.request m) (sym same) reads in
     let ready_on = subst (λ (x : SessionCore _ _). IsReady (endpoint_of x)) (sym same) ready in
     let tells = subst (λ (x : SessionCore _ _). let o = with_ack {A = ⊤} (session_in x) m (Err (seen c.in-Err.error)) in Tells g.L.Link.event (endpoint_of x) (reply_cells GPU_SET_SOCKET o.served) o.answer c.send_ack-in-Err.result (endpoint_of c.send_ack-in-Err.new.self)) same (c.send_ack-in-Err.ensures.sends GPU_SET_SOCKET m reads_on is ready_on) in
     let kept = c.send_ack-in-Err.ensures.session ∙ ap (λ (x : SessionCore _ _). session_in x) same in

@@ -31,7 +31,7 @@ pub returns : goal.returns
 returns g c m reads is ready =
     let kept = c.send_ack-2.ensures.session in
     let area : c.in-Some.config ≡ config_of m.body = c.in-Some.ensures.record m reads in
-    let bytes : c.part.result.now ≡ drop 12 m.body = c.part.ensures.bytes ∙ ap (λ bs. drop 12 bs) reads.body in
+    let bytes : c.part.result.now ≡ drop 12 m.body = (rw c.deref.ensures at c.part.ensures.bytes) ∙ ap (λ bs. drop 12 bs) reads.body in
     let flags : config_bits c.from_bits_retain-flags.result ≡ c.in-Some.config.flags = c.from_bits_retain-flags.ensures tt in
     let gave1 = subst (λ n. g.D.VhostUserBackendReqHandlerMut.gives c.args.device.now (SetConfig c.in-Some.config.offset c.part.result.now n) (seen_result c.set_config-answer.result) c.set_config-answer.new.self) flags c.set_config-answer.ensures in
     let gave2 = subst (λ bs. g.D.VhostUserBackendReqHandlerMut.gives c.args.device.now (SetConfig c.in-Some.config.offset bs c.in-Some.config.flags) (seen_result c.set_config-answer.result) c.set_config-answer.new.self) bytes gave1 in

@@ -14,16 +14,16 @@ pub returns-in-Fault-clause-read : goal.returns-in-Fault-clause-read
 unfolding ahead_of
 returns-in-Fault-clause-read g c =
     data-fault g.L.Link.event (state c.args.self.now) _ (way c.args.self.now.source) (way c.recv_bytes-got.new.source) _ _ _ c.recv_bytes-got.result c.args.len c.in-Fault.cause c.fail.result (refl, refl) c.fail.ensures.state
-    c.in_default.is c.fail.ensures.error c.recv_bytes-got.ensures.got c.in-Fault.is (length-take-le _ c.args.self.now.text (search rules))
+    c.in_default.is c.fail.ensures.error c.recv_bytes-got.ensures.got c.in-Fault.is (length-take-le _ c.deref_mut.result.now (search rules))
 
 pub returns-then-got-clause-read : goal.returns-then-got-clause-read
 unfolding ahead_of
 returns-then-got-clause-read g c =
     data-surplus g.L.Link.event (state c.args.self.now) _ (way c.args.self.now.source) (way c.recv_bytes-got.new.source) _ _ c.recv_bytes-got.result c.args.len (refl, refl) refl
-    c.in_default.is c.recv_bytes-got.ensures.got c.in_default-stop.not-Fault (length-take-le _ c.args.self.now.text (search rules)) c.if-got.true
+    c.in_default.is c.recv_bytes-got.ensures.got c.in_default-stop.not-Fault (length-take-le _ c.deref_mut.result.now (search rules)) c.if-got.true
 
 pub returns-clause-read : goal.returns-clause-read
 unfolding ahead_of
 returns-clause-read g c =
     data-plain g.L.Link.event (state c.args.self.now) _ (way c.args.self.now.source) (way c.recv_bytes-got.new.source) _ _ _ c.recv_bytes-got.result c.args.len (refl, refl) refl
-    c.in_default.is c.recv_bytes-got.ensures.got c.in_default-stop.not-Fault (length-take-le _ c.args.self.now.text (search rules)) (search rules) c.if-got.false
+    c.in_default.is c.recv_bytes-got.ensures.got c.in_default-stop.not-Fault (length-take-le _ c.deref_mut.result.now (search rules)) (search rules) c.if-got.false

@@ -18,7 +18,7 @@ returns-in_err-expect_sound g c =
 
 pub returns-then-len-eq0 : goal.returns-then-len-eq0
 unfolding ahead_of
-returns-then-len-eq0 g c = unasked g.L.Link.event (state c.args.self.now) c.args.len c.args.self.now.text c.if-len-eq0.true c.in_ok-expect_sound.ensures.sound
+returns-then-len-eq0 g c = unasked g.L.Link.event (state c.args.self.now) c.args.len c.args.self.now.text.value c.if-len-eq0.true c.in_ok-expect_sound.ensures.sound
 
 pub returns-in_default : goal.returns-in_default
 unfolding ahead_of
@@ -30,8 +30,8 @@ returns-in_default g c =
 pub returns-in-Ok-recv_once : goal.returns-in-Ok-recv_once
 unfolding ahead_of
 returns-in-Ok-recv_once g c =
-    once-came g.L.Link.event (state c.args.self.now) _ (state c.give.new.self) (way c.args.self.now.source) (way c.recv_once.new.source) _ _ c.give.new.self.text c.args.len c.in-Ok-recv_once.count _ c.give.result (omega arith)
-    (length-take-le c.args.len c.args.self.now.text (search rules)) (refl, refl)
+    once-came g.L.Link.event (state c.args.self.now) _ (state c.give.new.self) (way c.args.self.now.source) (way c.recv_once.new.source) _ _ c.give.new.self.text.value c.args.len c.in-Ok-recv_once.count _ c.give.result (omega arith)
+    (length-take-le c.args.len c.deref_mut.result.now (search rules)) (refl, refl)
     (ap (λ (b : Bool). record (state c.args.self.now) { link = c.recv_once.new.source.link; ahead = plain (waiting c.recv_once.new.source.ahead); list = b; faulted = false }) c.take_list.ensures.left)
     c.in_ok-expect_sound.ensures.sound c.in-Ok-recv_once.ensures.got (ap (take c.args.len) c.give.ensures.text) c.give.ensures.given c.give.ensures.state
 

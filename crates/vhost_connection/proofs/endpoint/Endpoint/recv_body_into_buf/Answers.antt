@@ -13,10 +13,10 @@ returns-then-count-len g c = ended c.in_ok-count.ensures _ _ (search rules) c.if
 
 pub returns-then-not-is_valid : goal.returns-then-not-is_valid
 returns-then-not-is_valid g c =
-    into-bad g.L.Link.event g.M.ByteValued.read g.M.VhostUserMsgValidator.valid (state c.args.self.now) (state c.recv_parts.new.self) _ _ _ _ _ _ _ _ c.decode-header.result (search rules) c.in_ok-count.ensures c.if-count-len.false c.decode-header.ensures.read
+    into-bad g.L.Link.event g.M.ByteValued.read g.M.VhostUserMsgValidator.valid (state c.args.self.now) (state c.recv_parts.new.self) _ _ _ _ _ _ _ _ c.decode-header.result (search rules) c.in_ok-count.ensures c.if-count-len.false (rw c.deref.ensures at c.decode-header.ensures.read)
     (sym c.is_valid.ensures ∙ c.if-not-is_valid.true) c.put_back-then-not-is_valid.ensures.state
 
 pub returns : goal.returns
 returns g c =
     into-whole g.L.Link.event g.M.ByteValued.read g.M.VhostUserMsgValidator.valid (state c.args.self.now) (state c.recv_parts.new.self) _ _ _ _ _ _ _ (c.decode-header.result, c.in_ok-count.field-0.more, c.give.result) (search rules) c.in_ok-count.ensures c.if-count-len.false
-    c.decode-header.ensures.read (sym c.is_valid.ensures ∙ c.if-not-is_valid.false) c.give.ensures.given c.give.ensures.state
+    (rw c.deref.ensures at c.decode-header.ensures.read) (sym c.is_valid.ensures ∙ c.if-not-is_valid.false) c.give.ensures.given c.give.ensures.state

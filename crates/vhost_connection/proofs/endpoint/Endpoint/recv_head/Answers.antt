@@ -22,4 +22,4 @@ returns-then-front-len g c =
 pub returns-then-not-is_valid : goal.returns-then-not-is_valid
 returns-then-not-is_valid g c =
     header-bad g.L.Link.event g.M.ByteValued.read g.M.VhostUserMsgValidator.valid (state c.args.self.now) (state c.recv_front.new.self) _ c.SIZE-len.result _ _ _ c.decode-header.result
-    (search rules) c.in_ok-front.ensures c.if-front-len.false c.decode-header.ensures.read (sym c.is_valid.ensures ∙ c.if-not-is_valid.true) c.put_back-then-not-is_valid.ensures.state
+    (search rules) c.in_ok-front.ensures c.if-front-len.false (rw c.deref.ensures at c.decode-header.ensures.read) (sym c.is_valid.ensures ∙ c.if-not-is_valid.true) c.put_back-then-not-is_valid.ensures.state

@@ -18,12 +18,12 @@ returns-then-count-lt24 g c =
 pub returns-then-is_bare : goal.returns-then-is_bare
 returns-then-is_bare g c =
     bare-comes g.L.Link.event g.R.Req.code (fields_of c.args.request.now) (state c.args.self.now) (state c.recv_front.new.self) _ _ _ c.in_ok-count.ensures c.if-count-lt24.false c.decode-header.result c.decode-part.result
-    c.decode-header.ensures.read c.decode-part.ensures.read c.deref.result.now c.deref.ensures.value c.args.buf.now (state c.put_back-then-is_bare.new.self) (sym c.is_bare.ensures ∙ c.if-is_bare.true) c.put_back-then-is_bare.ensures.state
+    (rw c.deref.ensures at c.decode-header.ensures.read) (rw c.deref-2.ensures at c.decode-part.ensures.read) c.deref-3.result.now c.deref-3.ensures.value c.args.buf.now (state c.put_back-then-is_bare.new.self) (sym c.is_bare.ensures ∙ c.if-is_bare.true) c.put_back-then-is_bare.ensures.state
 
 pub returns-then-not-is_valid : goal.returns-then-not-is_valid
 returns-then-not-is_valid g c =
     bad-comes g.L.Link.event g.R.Req.code (fields_of c.args.request.now) (state c.args.self.now) (state c.recv_front.new.self) _ _ _ c.in_ok-count.ensures c.if-count-lt24.false c.decode-header.result c.decode-part.result
-    c.decode-header.ensures.read c.decode-part.ensures.read c.deref.result.now c.deref.ensures.value c.args.buf.now c.recv_more.new.room (state c.recv_more.new.self) (state c.put_back-then-not-is_valid.new.self) c.in-Ok.more
+    (rw c.deref.ensures at c.decode-header.ensures.read) (rw c.deref-2.ensures at c.decode-part.ensures.read) c.deref-3.result.now c.deref-3.ensures.value c.args.buf.now c.recv_more.new.room (state c.recv_more.new.self) (state c.put_back-then-not-is_valid.new.self) c.in-Ok.more
     (sym c.is_bare.ensures ∙ c.if-is_bare.false) c.in-Ok.ensures
     (elim c.then-not-is_valid.branch [
       | then-not-is_valid-via-then-not-is_valid w ↦ bad-left _ _ (sym c.is_valid.ensures ∙ w.if-not-is_valid.true)
@@ -34,11 +34,11 @@ returns-then-not-is_valid g c =
 pub returns-else-not-is_valid-2 : goal.returns-else-not-is_valid-2
 returns-else-not-is_valid-2 g c =
     whole-comes g.L.Link.event g.R.Req.code (fields_of c.args.request.now) (state c.args.self.now) (state c.recv_front.new.self) _ _ _ c.in_ok-count.ensures c.if-count-lt24.false c.decode-header.result c.decode-part.result
-    c.decode-header.ensures.read c.decode-part.ensures.read c.deref.result.now c.deref.ensures.value c.args.buf.now c.recv_more.new.room (state c.recv_more.new.self) (state c.give.new.self) c.in-Ok.more c.give.result
+    (rw c.deref.ensures at c.decode-header.ensures.read) (rw c.deref-2.ensures at c.decode-part.ensures.read) c.deref-3.result.now c.deref-3.ensures.value c.args.buf.now c.recv_more.new.room (state c.recv_more.new.self) (state c.give.new.self) c.in-Ok.more c.give.result
     (sym c.is_bare.ensures ∙ c.if-is_bare.false) c.in-Ok.ensures (sym c.is_valid.ensures ∙ c.if-not-is_valid.false) (sym c.is_valid-else-not-is_valid.ensures ∙ c.if-not-is_valid-2.false) c.give.ensures.given c.give.ensures.state
 
 pub returns-in-Err : goal.returns-in-Err
 returns-in-Err g c =
     rest-fails g.L.Link.event g.R.Req.code (fields_of c.args.request.now) (state c.args.self.now) (state c.recv_front.new.self) _ _ _ c.in_ok-count.ensures c.if-count-lt24.false c.decode-header.result c.decode-part.result
-    c.decode-header.ensures.read c.decode-part.ensures.read c.deref.result.now c.deref.ensures.value c.args.buf.now c.recv_more.new.room (state c.recv_more.new.self) (state c.put_back-in-Err.new.self) c.in-Err.error
+    (rw c.deref.ensures at c.decode-header.ensures.read) (rw c.deref-2.ensures at c.decode-part.ensures.read) c.deref-3.result.now c.deref-3.ensures.value c.args.buf.now c.recv_more.new.room (state c.recv_more.new.self) (state c.put_back-in-Err.new.self) c.in-Err.error
     (sym c.is_bare.ensures ∙ c.if-is_bare.false) c.in-Err.ensures c.put_back-in-Err.ensures.state

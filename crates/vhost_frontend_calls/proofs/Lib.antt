@@ -1,4 +1,0 @@
-pub mod Halves
-pub mod Tables
-pub mod Plain
-pub mod Taken
