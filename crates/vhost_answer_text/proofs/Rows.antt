@@ -1,5 +1,5 @@
 -- Worked examples, which hold by computing.
-use Rattle.std.proofs.Common.{◌≡◌, ℕ, [], ◌∷◌, ◌++◌, map, Some, None, Vec, refl, ap, codes}
+use Rattle.std.proofs.Common.{◌≡◌, ℕ, [], ◌∷◌, ◌++◌, map, Some, None, Vec, Box, refl, ap, codes}
 use Rattle.std.specs.Borrow.{Bor}
 use Rattle.std.specs.Prelude.{List}
 use Rattle.std.specs.Fmt.{digits}
@@ -9,9 +9,10 @@ use Rattle.vhost_link.specs.declared.handle.Kind.TheVariants.{NoSocket}
 use Rattle.vhost_message.specs.declared.cause.IoCause.{IoCause}
 use Rattle.vhost_message.specs.declared.error.Error.TheVariants.{InvalidParam, InvalidOperation, InactiveFeature, InactiveOperation, InvalidMessage, InvalidSocketFd, NotUnixSocket, NotStreamSocket, PartialMessage, Disconnected, OversizedMsg, IncorrectFds, SocketError, SocketConnect, SocketBroken, SocketRetry, BackendInternalError, FrontendInternalError, FeatureMismatch, ReqHandlerError, MemFdCreateError, FileTruncateError, MemFdSealError, OutOfMemory}
 use Rattle.vhost_message.specs.declared.records.config.VhostUserConfig.{VhostUserConfig}
-use Rattle.vhost_frontend_calls.specs.declared.answer.FrontendAnswer.TheVariants.{Failed, Done, Number, Bases, Base, Config, Handle, Inflight, StateHandle, ShmemConfig}
+use Rattle.vhost_frontend_core.specs.declared.values.answer.FrontendAnswer.TheVariants.{Failed, Done, Number, Bases, Base, Config, Handle, Inflight, StateHandle, ShmemConfig}
 use Rattle.vhost_answer_text.specs.Numbers.{numbers_text}
-use Rattle.vhost_answer_text.specs.Text.{message_text, part_text, answer_text}
+use Rattle.vhost_message.specs.declared.records.shmem.VhostUserShMemConfig.{VhostUserShMemConfig}
+use Rattle.vhost_answer_text.specs.Text.{message_text, part_text, regions_text, answer_text}
 
 -- a handle by its number
 abbrev pub plain : ℕ → PlainHandle
@@ -102,9 +103,9 @@ pub inflight-area : answer_text (Inflight (record { mmap_size = 0x1000; mmap_off
 unfolding digits
 inflight-area = refl
 
-pub shmem_config-two : answer_text (ShmemConfig (record { nregions = 2; padding = 0; memory_sizes = 0x1000 ∷ 0 ∷ 0xa_0000 ∷ [] })) ≡ codes "ok 0x2 0x1000,0x0,0xa0000"
+pub shmem_config-two : (place : Box VhostUserShMemConfig Global) → place.value ≡ record { nregions = 2; padding = 0; memory_sizes = 0x1000 ∷ 0 ∷ 0xa_0000 ∷ [] } → answer_text (ShmemConfig place) ≡ codes "ok 0x2 0x1000,0x0,0xa0000"
 unfolding digits
-shmem_config-two = refl
+shmem_config-two place is = ap (λ (c : VhostUserShMemConfig). codes "ok " ++ regions_text c) is
 
 -- errors without a value
 pub errors-bare : map (λ e. answer_text (Failed e)) (InvalidParam ∷ InvalidMessage ∷ NotUnixSocket ∷ NotStreamSocket ∷ PartialMessage ∷ Disconnected ∷ OversizedMsg ∷ IncorrectFds ∷ BackendInternalError ∷ FrontendInternalError ∷ FeatureMismatch ∷ MemFdCreateError ∷ FileTruncateError ∷ MemFdSealError ∷ OutOfMemory ∷ [])

@@ -5,8 +5,8 @@ use Rattle.vhost_link.specs.declared.plain.PlainHandle.{PlainHandle}
 use Rattle.vhost_message.specs.declared.records.config.VhostUserConfig.{VhostUserConfig}
 use Rattle.vhost_message.specs.declared.records.inflight.VhostUserInflight.{VhostUserInflight}
 use Rattle.vhost_message.specs.declared.records.shmem.VhostUserShMemConfig.{VhostUserShMemConfig}
-use Rattle.vhost_frontend_calls.specs.declared.answer.FrontendAnswer.{FrontendAnswer}
-use Rattle.vhost_frontend_calls.specs.declared.answer.FrontendAnswer.TheVariants.{Failed, Done, Number, Bases, Base, Config, Handle, Inflight, StateHandle, ShmemConfig}
+use Rattle.vhost_frontend_core.specs.declared.values.answer.FrontendAnswer.{FrontendAnswer}
+use Rattle.vhost_frontend_core.specs.declared.values.answer.FrontendAnswer.TheVariants.{Failed, Done, Number, Bases, Base, Config, Handle, Inflight, StateHandle, ShmemConfig}
 use Rattle.vhost_answer_text.specs.Numbers.{hex_text, numbers_text, bytes_text}
 use Rattle.vhost_answer_text.specs.Errors.{error_text}
 
@@ -59,4 +59,4 @@ answer_text (Config part bytes) = codes "ok " ++ part_text part bytes.items
 answer_text (Handle handle) = codes "ok " ++ handle_text handle
 answer_text (Inflight area handle) = codes "ok " ++ area_text area handle
 answer_text (StateHandle handle) = codes "ok " ++ option_text handle_text handle
-answer_text (ShmemConfig config) = codes "ok " ++ regions_text config
+answer_text (ShmemConfig place) = codes "ok " ++ regions_text place.value

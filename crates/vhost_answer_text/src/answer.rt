@@ -9,7 +9,7 @@ use crate::error::show_error;
 use crate::lists::{show_bytes, show_numbers};
 use std::fmt;
 use std::fmt::Formatter;
-use vhost_frontend_calls::FrontendAnswer;
+use vhost_frontend_core::FrontendAnswer;
 use vhost_link::PlainHandle;
 use vhost_message::{VhostUserConfig, VhostUserInflight, VhostUserShMemConfig};
 

@@ -6,7 +6,7 @@ use crate::watch::{Failed, Taken, Watch};
 use bitflags::Flags;
 use std::alloc::Global;
 use std::time::Clock;
-use vhost_frontend_calls::RegionInfo;
+use vhost_frontend_core::RegionInfo;
 use vhost_link::{Kind, MemLink, PlainHandle};
 use vhost_message::{
     VhostUserConfigFlags, VhostUserHeaderFlag, VhostUserMemoryRegion, VhostUserProtocolFeatures,

@@ -2,7 +2,7 @@
 use Rattle.std.proofs.Common.{◌≡◌, ℕ, List, ◌∷◌, Option, Result, sym, subst}
 use Rattle.std.specs.Prelude.{IfOk}
 use Rattle.std.specs.declared.alloc.AllocError.{AllocError}
-use Rattle.vhost_frontend_calls.specs.declared.call.FrontendCall as code
+use Rattle.vhost_frontend_core.specs.declared.values.call.FrontendCall as code
 use Rattle.vhost_call_words.specs.Calls.{Call, call_named}
 use Rattle.vhost_call_words.specs.Read.{called, read_for}
 

@@ -3,8 +3,8 @@ use Rattle.std.proofs.Common.{◌≡◌, ℕ, List, [], ◌∷◌, ◌++◌, map
 use Rattle.std.proofs.lemmas.List.{map-append}
 use Rattle.vhost_link.specs.declared.plain.PlainHandle.{PlainHandle}
 use Rattle.vhost_protocol.specs.FrontendCall.{Info}
-use Rattle.vhost_frontend_calls.specs.Calls.{info_of}
-use Rattle.vhost_frontend_calls.specs.declared.call.RegionInfo.{RegionInfo}
+use Rattle.vhost_frontend_core.specs.Values.{info_of}
+use Rattle.vhost_frontend_core.specs.declared.values.call.RegionInfo.{RegionInfo}
 use Rattle.vhost_call_words.specs.Arguments.{◌>>=◌}
 use Rattle.vhost_call_words.specs.Calls.{region, regions}
 

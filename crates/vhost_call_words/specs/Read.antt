@@ -5,9 +5,9 @@ use Rattle.std.specs.Borrow.{Bor}
 use Rattle.std.specs.Global.{Global}
 use Rattle.vhost_link.specs.declared.plain.PlainHandle.{PlainHandle}
 use Rattle.vhost_protocol.specs.FrontendCall.{Info}
-use Rattle.vhost_frontend_calls.specs.declared.call.FrontendCall as code
-use Rattle.vhost_frontend_calls.specs.declared.call.RegionInfo.{RegionInfo}
-use Rattle.vhost_frontend_calls.specs.Calls.{call_of, info_of}
+use Rattle.vhost_frontend_core.specs.declared.values.call.FrontendCall as code
+use Rattle.vhost_frontend_core.specs.declared.values.call.RegionInfo.{RegionInfo}
+use Rattle.vhost_frontend_core.specs.Values.{call_of, info_of}
 use Rattle.vhost_call_words.specs.Calls.{Call}
 use Rattle.vhost_call_words.specs.Words.{words}
 

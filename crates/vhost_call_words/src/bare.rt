@@ -3,9 +3,9 @@
 ghost use Rattle.std.specs.Prelude.{◌≡◌};
 ghost use Rattle.vhost_call_words.specs.Read.{called, texts};
 ghost use Rattle.vhost_call_words.specs.Shapes.{bare};
-ghost use Rattle.vhost_frontend_calls.specs.Calls.{call_of};
+ghost use Rattle.vhost_frontend_core.specs.Values.{call_of};
 
-use vhost_frontend_calls::FrontendCall;
+use vhost_frontend_core::FrontendCall;
 
 /// A call that has no argument. None where there is one.
 pub(crate) fn bare(call: FrontendCall, args: &[&str]) -> Option<FrontendCall>

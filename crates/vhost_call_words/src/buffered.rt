@@ -8,7 +8,7 @@ use crate::argument::{byte_string, config_flags};
 use crate::number::number_32;
 use crate::region::first_region;
 use std::alloc::{AllocError, Global};
-use vhost_frontend_calls::{FrontendCall, RegionInfo};
+use vhost_frontend_core::{FrontendCall, RegionInfo};
 
 /// The greatest buffer for a part of configuration space, in bytes.
 const MAX_BUFFER: u32 = 4096;

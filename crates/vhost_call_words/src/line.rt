@@ -8,7 +8,7 @@ ghost use Rattle.vhost_call_words.specs.Words.{words};
 use crate::table::call_named;
 use crate::words::{first_word, first_words};
 use std::alloc::{AllocError, Global};
-use vhost_frontend_calls::FrontendCall;
+use vhost_frontend_core::FrontendCall;
 
 /// The call that a text asks for. AllocError: a growth was refused.
 fn call_of_text(alloc: Global, text: &str) -> Result<Option<FrontendCall>, AllocError>

@@ -4,12 +4,12 @@ ghost use Rattle.std.specs.Prelude.{◌≡◌, ◌∷◌, ◌<◌, length, IfSom
 ghost use Rattle.vhost_call_words.specs.Calls.{region, only_region, regions};
 ghost use Rattle.vhost_call_words.specs.Read.{texts, words_of};
 ghost use Rattle.vhost_call_words.specs.Words.{words};
-ghost use Rattle.vhost_frontend_calls.specs.Calls.{info_of};
+ghost use Rattle.vhost_frontend_core.specs.Values.{info_of};
 
 use crate::argument::handle;
 use crate::number::number;
 use crate::words::first_word;
-use vhost_frontend_calls::RegionInfo;
+use vhost_frontend_core::RegionInfo;
 use vhost_message::VhostUserMemoryRegion;
 
 /// A region of guest memory and its handle, each number in a word of its own.

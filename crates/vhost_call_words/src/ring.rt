@@ -10,7 +10,7 @@ ghost use Rattle.vhost_call_words.specs.Shapes.{two};
 
 use crate::argument::{handle, switch};
 use crate::number::{index, number_16};
-use vhost_frontend_calls::FrontendCall;
+use vhost_frontend_core::FrontendCall;
 
 /// A ring and its size, in descriptors.
 pub(crate) fn set_vring_num(args: &[&str]) -> Option<FrontendCall>

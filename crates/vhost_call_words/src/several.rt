@@ -9,7 +9,7 @@ ghost use Rattle.vhost_call_words.specs.Shapes.{optional};
 use crate::argument::{area, direction, handle, phase};
 use crate::number::{index, number, number_32};
 use crate::region::only_region;
-use vhost_frontend_calls::{FrontendCall, LogRegion};
+use vhost_frontend_core::{FrontendCall, LogRegion};
 use vhost_message::VringConfigData;
 
 /// The log's base, and where the log is kept.

@@ -9,7 +9,7 @@ ghost use Rattle.vhost_call_words.specs.Shapes.{one};
 
 use crate::argument::{handle, header_flags, object_name, protocol_features, request};
 use crate::number::{index, number, number_16};
-use vhost_frontend_calls::FrontendCall;
+use vhost_frontend_core::FrontendCall;
 
 /// Virtio features to acknowledge.
 #[tactic(auto, using(crate::proofs::OtherCounts::not_one))]

@@ -18,7 +18,7 @@ use crate::single::{
     set_features, set_hdr_flags, set_log_fd, set_mtu, set_protocol_features,
 };
 use std::alloc::{AllocError, Global};
-use vhost_frontend_calls::FrontendCall;
+use vhost_frontend_core::FrontendCall;
 
 /// The call of a name and its arguments: a table of memory has those of a text, any other call the first words of it.
 /// AllocError: a growth was refused.

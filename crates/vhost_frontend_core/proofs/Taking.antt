@@ -33,6 +33,15 @@ use Rattle.vhost_frontend_core.specs.Taking.Takes.{taken, stopped}
 use Rattle.vhost_connection.proofs.Replies.{hears-by}
 use Rattle.vhost_connection.proofs.Handed.{hands-none, hands-some, nonzero}
 
+-- an answer that was taken, in another form
+module _ {L H A B : Type 0} {event : L → Event H → L → Type 0} {call : FrontendCall H} {value : A → Value H} {other : B → Value H} {asked : Awaited} {sent : Header} {old : State L H} {f : Frontend} where
+  pub shown-as : {new : State L H} {f' : Frontend} {a : A} (b : B) → value a ≡ other b → Takes event call value asked sent old f (Ok a) new f' → Takes event call other asked sent old f (Ok b) new f'
+  shown-as {new} {f'} b is (taken reads) = taken (subst (λ (v : Value H). Reads event call asked sent f old (Some (answered f' (Ok v))) new) is reads)
+
+  pub missing-as : {new : State L H} {f' : Frontend} {e : declared.Error} → Takes event call value asked sent old f (Err e) new f' → Takes event call other asked sent old f (Err e) new f'
+  missing-as (taken reads) = taken reads
+  missing-as (stopped fails) = stopped fails
+
 module _ {T L H : Type 0} {event : L → Event H → L → Type 0} {size : ℕ} {decode : List ℕ → T} {valid : T → Bool} where
   -- a reply that was received has no handle, or some
   pub alone-comes : {old new : State L H} {sent : Header} {t : T} (hs : Option (Vec H Global)) → Awaits event size decode valid old sent (Ok (t, hs)) new → is_some hs ≡ false → AwaitsAlone event size decode valid old sent (Ok t) new

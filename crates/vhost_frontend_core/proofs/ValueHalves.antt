@@ -15,10 +15,10 @@ use Rattle.vhost_connection.specs.Talk.{State}
 use Rattle.vhost_frontend_core.specs.Kept.{IsKeptFor}
 use Rattle.vhost_frontend_core.specs.declared.asked.Kept.{Kept}
 use Rattle.vhost_message.specs.declared.flags.header.VhostUserHeaderFlag.{VhostUserHeaderFlag}
-use Rattle.vhost_frontend_calls.specs.declared.call.FrontendCall as code
-use Rattle.vhost_frontend_calls.specs.declared.call.FrontendCall.TheVariants as call
-use Rattle.vhost_frontend_calls.specs.Calls.{call_of}
-use Rattle.vhost_frontend_calls.specs.Halves.{IsSent, TakesResult}
+use Rattle.vhost_frontend_core.specs.declared.values.call.FrontendCall as code
+use Rattle.vhost_frontend_core.specs.declared.values.call.FrontendCall.TheVariants as call
+use Rattle.vhost_frontend_core.specs.Values.{call_of}
+use Rattle.vhost_frontend_core.specs.ValueHalves.{IsSent, TakesResult}
 
 abbrev End : Type 0
 End = State Ends PlainHandle

@@ -2,7 +2,7 @@
 use Rattle.std.proofs.Common.{◌≡◌, Bool, true, false, Result, Ok, Err, IfOk, sym, subst}
 use Rattle.vhost_message.specs.declared.error.Error as declared
 use Rattle.vhost_protocol.specs.Ask.{Asked, ask}
-use Rattle.vhost_protocol.specs.FrontendCall.{FrontendCall, SetFeatures, SetProtocolFeatures, SetMemTable, SetLogBase, GetConfig, GetSharedObject, AddMemRegion, SetHdrFlags}
+use Rattle.vhost_protocol.specs.FrontendCall.{FrontendCall, SetFeatures, SetProtocolFeatures, SetMemTable, SetLogBase, GetConfig, GetSharedObject, AddMemRegion, GetShmemConfig, SetHdrFlags}
 use Rattle.vhost_protocol.specs.declared.asked.Awaited.{Awaited}
 use Rattle.vhost_link.specs.declared.plain.PlainHandle.{PlainHandle}
 use Rattle.vhost_link.specs.Ends.{Ends}
@@ -13,7 +13,7 @@ use Rattle.vhost_frontend_core.specs.Kept.{IsKeptFor}
 use Rattle.vhost_frontend_core.specs.declared.asked.Kept.{Kept}
 use Rattle.vhost_frontend_core.specs.declared.asked.Sent.{Sent}
 use Rattle.vhost_frontend_core.specs.declared.internal.FrontendInternal.{FrontendInternal}
-use Rattle.vhost_frontend_calls.specs.Halves.{IsProper, AsksWell}
+use Rattle.vhost_frontend_core.specs.ValueHalves.{IsProper, AsksWell}
 
 abbrev pub is_plain : FrontendCall PlainHandle → Bool
 is_plain (SetFeatures n) = false
@@ -23,6 +23,7 @@ is_plain (SetLogBase base region) = false
 is_plain (GetConfig offset size flags buffer) = false
 is_plain (GetSharedObject name) = false
 is_plain (AddMemRegion info) = false
+is_plain GetShmemConfig = false
 is_plain (SetHdrFlags flags) = false
 is_plain _ = true
 
@@ -30,6 +31,7 @@ kept-plain : (call : FrontendCall PlainHandle) (a : Awaited) (k : Kept) → is_p
 kept-plain (SetMemTable infos) a k e = cc e
 kept-plain (GetConfig offset size flags buffer) a k e = cc e
 kept-plain (AddMemRegion info) a k e = cc e
+kept-plain GetShmemConfig a k e = cc e
 kept-plain _ a k e = tt
 
 proper-plain : (call : FrontendCall PlainHandle) → is_plain call ≡ true → IsProper call
@@ -39,6 +41,7 @@ proper-plain (SetMemTable infos) e = cc e
 proper-plain (SetLogBase base region) e = cc e
 proper-plain (GetSharedObject name) e = cc e
 proper-plain (AddMemRegion info) e = cc e
+proper-plain GetShmemConfig e = cc e
 proper-plain _ e = record { named = tt; bits = tt; small = tt }
 
 all-ok : {A E : Type 0} {P : A → Type 0} (r : Result A E) → ((a : A) → P a) → IfOk r P

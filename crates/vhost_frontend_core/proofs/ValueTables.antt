@@ -10,8 +10,8 @@ use Rattle.vhost_message.specs.RecordLaws.{RegionFits}
 use Rattle.vhost_protocol.specs.Ask.{ask, Refuses, is_usable, regions_in}
 use Rattle.vhost_protocol.specs.Error.{InvalidParam}
 use Rattle.vhost_protocol.specs.FrontendCall.{SetMemTable, Frontend, Info}
-use Rattle.vhost_frontend_calls.specs.Calls.{info_of}
-use Rattle.vhost_frontend_calls.specs.declared.call.RegionInfo.{RegionInfo}
+use Rattle.vhost_frontend_core.specs.Values.{info_of}
+use Rattle.vhost_frontend_core.specs.declared.values.call.RegionInfo.{RegionInfo}
 
 -- a table has no more regions than it may have
 pub too-many : {H : Type 0} (f : Frontend) (infos : List (Info H)) → MAX_MEM_REGIONS < length infos → ask f (SetMemTable infos) ≡ Refuses InvalidParam

@@ -15,10 +15,10 @@ use Rattle.vhost_frontend_core.specs.Taking.{IsAck, Takes, valued}
 use Rattle.vhost_frontend_core.specs.declared.asked.Sent.{Sent}
 use Rattle.vhost_frontend_core.specs.declared.internal.FrontendInternal.{FrontendInternal}
 use Rattle.vhost_frontend_core.proofs.Awaiting.{replies, awaits-reply}
-use Rattle.vhost_frontend_calls.specs.declared.answer.FrontendAnswer.{FrontendAnswer}
-use Rattle.vhost_frontend_calls.specs.Calls.{answer_of}
-use Rattle.vhost_frontend_calls.specs.Halves.{TakesWell}
-use Rattle.vhost_frontend_calls.proofs.Halves.{took-reply}
+use Rattle.vhost_frontend_core.specs.declared.values.answer.FrontendAnswer.{FrontendAnswer}
+use Rattle.vhost_frontend_core.specs.Values.{answer_of}
+use Rattle.vhost_frontend_core.specs.ValueHalves.{TakesWell}
+use Rattle.vhost_frontend_core.proofs.ValueHalves.{took-reply}
 
 abbrev Core : Type 0
 Core = FrontendInternal Ends PlainHandle

@@ -8,3 +8,5 @@ pub mod Awaiting
 pub mod Kept
 pub mod TakingConfig
 pub mod Plan
+pub mod Values
+pub mod ValueHalves

@@ -22,8 +22,8 @@ use Rattle.vhost_frontend_core.specs.Kept.{IsKeptFor}
 use Rattle.vhost_frontend_core.specs.Taking.{Reads}
 use Rattle.vhost_frontend_core.specs.declared.asked.Sent.{Sent}
 use Rattle.vhost_frontend_core.specs.declared.internal.FrontendInternal.{FrontendInternal}
-use Rattle.vhost_frontend_calls.specs.declared.answer.FrontendAnswer.{FrontendAnswer}
-use Rattle.vhost_frontend_calls.specs.Calls.{answer_of}
+use Rattle.vhost_frontend_core.specs.declared.values.answer.FrontendAnswer.{FrontendAnswer}
+use Rattle.vhost_frontend_core.specs.Values.{answer_of}
 
 -- every call but the one for which nothing is sent
 abbrev pub IsSent : {H : Type 0} → FrontendCall H → Type 0

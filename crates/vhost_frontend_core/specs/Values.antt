@@ -6,12 +6,12 @@ use Rattle.vhost_protocol.specs.Error.{Error, seen}
 use Rattle.vhost_protocol.specs.FrontendCall as calls
 use Rattle.vhost_protocol.specs.FrontendCall.{FrontendCall, Info, Value}
 use Rattle.vhost_link.specs.declared.plain.PlainHandle.{PlainHandle}
-use Rattle.vhost_frontend_calls.specs.declared.call.FrontendCall as code
-use Rattle.vhost_frontend_calls.specs.declared.call.FrontendCall.TheVariants as call
-use Rattle.vhost_frontend_calls.specs.declared.call.LogRegion.{LogRegion}
-use Rattle.vhost_frontend_calls.specs.declared.call.RegionInfo.{RegionInfo}
-use Rattle.vhost_frontend_calls.specs.declared.answer.FrontendAnswer.{FrontendAnswer}
-use Rattle.vhost_frontend_calls.specs.declared.answer.FrontendAnswer.TheVariants as answer
+use Rattle.vhost_frontend_core.specs.declared.values.call.FrontendCall as code
+use Rattle.vhost_frontend_core.specs.declared.values.call.FrontendCall.TheVariants as call
+use Rattle.vhost_frontend_core.specs.declared.values.call.LogRegion.{LogRegion}
+use Rattle.vhost_frontend_core.specs.declared.values.call.RegionInfo.{RegionInfo}
+use Rattle.vhost_frontend_core.specs.declared.values.answer.FrontendAnswer.{FrontendAnswer}
+use Rattle.vhost_frontend_core.specs.declared.values.answer.FrontendAnswer.TheVariants as answer
 
 -- a region, and the handle that maps it
 abbrev pub info_of : RegionInfo → Info PlainHandle
@@ -78,4 +78,4 @@ answer_of (answer.Config part bytes) = Ok (calls.ConfigOf part bytes.items)
 answer_of (answer.Handle h) = Ok (calls.HandleOf h)
 answer_of (answer.Inflight area h) = Ok (calls.InflightOf area h)
 answer_of (answer.StateHandle h) = Ok (calls.StateHandle h)
-answer_of (answer.ShmemConfig c) = Ok (calls.ShmemOf c)
+answer_of (answer.ShmemConfig c) = Ok (calls.ShmemOf c.value)

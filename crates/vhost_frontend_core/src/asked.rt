@@ -3,7 +3,9 @@
 ghost use Rattle.std.specs.Prelude.{◌≡◌, ◌≤◌, [], length, vec_capacity};
 ghost use Rattle.vhost_message.specs.declared.limits.TheConstants.{MAX_MEM_REGIONS};
 
-use vhost_message::{FrontendReq, VhostUserConfig, VhostUserMemoryRegion, VhostUserMsgHeader};
+use vhost_message::{
+    FrontendReq, VhostUserConfig, VhostUserMemoryRegion, VhostUserMsgHeader, VhostUserShMemConfig,
+};
 use vhost_protocol::Awaited;
 
 /// A memory table that was sent, and an empty list with room for where its regions are mapped.
@@ -30,6 +32,8 @@ pub enum Kept {
     Table(KeptTable),
     /// The part of the configuration space that it asked for, and the buffer for its bytes.
     Config(VhostUserConfig, Vec<u8>),
+    /// A place for the regions of shared memory.
+    Place(Box<VhostUserShMemConfig>),
 }
 
 /// A request that was sent. Only the half of a call that asks makes one, and the half that takes uses it up.

@@ -1,11 +1,13 @@
-//! The side that asks: a frontend's session over a link, each call in two halves.
+//! The side that asks: a frontend's session over a link, each call in two halves; and its calls as values.
 #![tactic(auto)]
 
 mod asked;
 mod internal;
 mod regions;
 mod session;
+mod values;
 
 pub use asked::Sent;
 pub use internal::FrontendInternal;
+pub use values::{FrontendAnswer, FrontendCall, LogRegion, RegionInfo, ask, take};
 pub use vhost_protocol::{Awaited, Shape};

@@ -4,8 +4,7 @@ use crate::answer::Answer;
 use crate::asking::Caller;
 use crate::memory::NoMemory;
 use std::alloc::Global;
-use vhost_frontend_calls::{FrontendAnswer, FrontendCall, ask, take};
-use vhost_frontend_core::FrontendInternal;
+use vhost_frontend_core::{FrontendAnswer, FrontendCall, FrontendInternal, ask, take};
 use vhost_link::MemLink;
 use vhost_test_tools::call_in;
 

@@ -6,7 +6,7 @@ use Rattle.vhost_message.specs.Bits.{has_bit}
 use Rattle.vhost_protocol.specs.Error.{Error}
 use Rattle.vhost_protocol.specs.Features.{PROTOCOL_FEATURES}
 use Rattle.vhost_dummy_backend.specs.Dummy.{DummyGives, fresh}
-use Rattle.vhost_frontend_calls.specs.Calls.{answer_of}
+use Rattle.vhost_frontend_core.specs.Values.{answer_of}
 use Rattle.vhost_pair.proofs.Lockstep.{begins, next-ready}
 use Rattle.vhost_pair.specs.Joined.{IsReady, Offers, Keeps}
 use Rattle.vhost_pair.specs.Device.{Gives}

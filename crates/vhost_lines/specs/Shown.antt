@@ -1,7 +1,7 @@
 -- What is shown of lines that are answered one after another.
 use Rattle.std.specs.Prelude.{◌≡◌, ◌≢◌, ℕ, List, [], ◌∷◌, ◌++◌, Option, Some, Result, Ok, Err, is_some, if◌then◌else◌, codes}
 use Rattle.vhost_pair.specs.Text.{Text}
-use Rattle.vhost_frontend_calls.specs.declared.answer.FrontendAnswer.{FrontendAnswer}
+use Rattle.vhost_frontend_core.specs.declared.values.answer.FrontendAnswer.{FrontendAnswer}
 use Rattle.vhost_pair.specs.declared.halt.Halt.{Halt}
 use Rattle.vhost_pair.specs.declared.halt.Halt.TheVariants.{Stopped, OutOfMemory}
 use Rattle.vhost_pair.specs.declared.halt.Stop.{Stop}

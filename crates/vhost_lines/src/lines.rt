@@ -5,7 +5,7 @@ ghost use Rattle.vhost_pair.specs.declared.halt.Stop.TheVariants.{Premise};
 ghost use Rattle.std.specs.Io.KnownBytes.{Appends};
 ghost use Rattle.vhost_lines.specs.Lines.{lines, bad_line, status_of, complaint_of, GivesLine};
 ghost use Rattle.vhost_lines.specs.Shown.{line_text};
-ghost use Rattle.vhost_frontend_calls.specs.Calls.{call_of};
+ghost use Rattle.vhost_frontend_core.specs.Values.{call_of};
 ghost use Rattle.vhost_lines.specs.Run.{ShowsLines, ShowsFront};
 ghost use Rattle.vhost_lines.specs.Session.{IsFresh, Answers, AnswersLines, AnswersFront};
 
@@ -18,7 +18,7 @@ use std::io::{BufRead, ErrorKind, Write};
 use vhost_answer_text::{Answer, Message};
 use vhost_call_words::call_of;
 use vhost_device::VhostUserBackendReqHandlerMut;
-use vhost_frontend_calls::{FrontendAnswer, FrontendCall};
+use vhost_frontend_core::{FrontendAnswer, FrontendCall};
 use vhost_link::MemLink;
 use vhost_pair::{Halt, Joined, Stop};
 

@@ -30,9 +30,9 @@ use Rattle.vhost_frontend_core.specs.declared.asked.Sent.{Sent}
 use Rattle.vhost_pair.specs.declared.halt.Stop.{Stop}
 use Rattle.vhost_pair.specs.declared.halt.Stop.TheVariants.{Premise}
 use Rattle.vhost_pair.specs.declared.sides.Exchanged.{Exchanged}
-use Rattle.vhost_frontend_calls.specs.Calls.{answer_of}
+use Rattle.vhost_frontend_core.specs.Values.{answer_of}
 use Rattle.vhost_pair.specs.Device.{Gives, opens_backend, opens_gpu}
-use Rattle.vhost_frontend_calls.specs.Halves.{IsProper, TakesResult}
+use Rattle.vhost_frontend_core.specs.ValueHalves.{IsProper, TakesResult}
 use Rattle.vhost_pair.specs.OnWay.{incoming, outgoing}
 use Rattle.vhost_pair.specs.Text.{text_of, no_text}
 use Rattle.vhost_pair.specs.Joined as joined

@@ -18,9 +18,9 @@ use Rattle.vhost_frontend_core.specs.Halves.{AsksHalfWithRoom}
 use Rattle.vhost_frontend_core.specs.declared.asked.Sent.{Sent}
 use Rattle.vhost_frontend_core.specs.declared.internal.FrontendInternal.{FrontendInternal}
 use Rattle.vhost_frontend_core.proofs.Awaiting.{awaits-allowed}
-use Rattle.vhost_frontend_calls.specs.Calls.{answer_of}
-use Rattle.vhost_frontend_calls.specs.Halves as halves
-use Rattle.vhost_frontend_calls.specs.Halves.{IsSent, IsProper, AsksCall}
+use Rattle.vhost_frontend_core.specs.Values.{answer_of}
+use Rattle.vhost_frontend_core.specs.ValueHalves as halves
+use Rattle.vhost_frontend_core.specs.ValueHalves.{IsSent, IsProper, AsksCall}
 use Rattle.vhost_pair.specs.declared.halt.Halt.TheVariants as halt
 use Rattle.vhost_pair.specs.declared.sides.Exchanged.{Exchanged}
 use Rattle.vhost_pair.specs.Device.{Gives}

@@ -13,7 +13,7 @@ use Rattle.vhost_link.specs.declared.plain.PlainHandle.{PlainHandle}
 use Rattle.vhost_link.specs.Mem.{event}
 use Rattle.vhost_backend_req_handler.specs.Serving.{HandlesOne}
 use Rattle.vhost_frontend_core.specs.declared.asked.Sent.{Sent}
-use Rattle.vhost_frontend_calls.specs.Halves.{TakesResult}
+use Rattle.vhost_frontend_core.specs.ValueHalves.{TakesResult}
 use Rattle.vhost_pair.specs.declared.halt.Stop.{Stop}
 use Rattle.vhost_pair.specs.declared.halt.Stop.TheVariants.{Premise}
 use Rattle.vhost_pair.specs.declared.sides.Exchanged.{Exchanged}

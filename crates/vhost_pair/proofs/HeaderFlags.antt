@@ -8,7 +8,7 @@ use Rattle.vhost_protocol.specs.declared.asked.Awaited.TheVariants.{Nobody, Ack,
 use Rattle.vhost_protocol.specs.Error.{Error, InvalidMessage}
 use Rattle.vhost_protocol.specs.FrontendCall.{FrontendCall, GetFeatures, GetProtocolFeatures, GetQueueNum, SetMemTable, SetLogBase, GetVringBase, GetConfig, GetSharedObject, GetInflightFd, GetMaxMemSlots, AddMemRegion, GetShmemConfig, SetDeviceStateFd, CheckDeviceState, PostcopyAdvise, PostcopyListen, PostcopyEnd, SetHdrFlags, Value, Number, HandleOf, Frontend}
 use Rattle.vhost_protocol.specs.Served.{Served, Silent, Acknowledged, Replied}
-use Rattle.vhost_frontend_calls.specs.Halves.{IsSent}
+use Rattle.vhost_frontend_core.specs.ValueHalves.{IsSent}
 use Rattle.vhost_protocol.specs.Written.{Payload, Empty, U64, Regions, OneRegion, Shmem, RingState, ConfigBytes, InflightArea, LogArea}
 
 module _ (H : Type 0) (flags : ℕ) where

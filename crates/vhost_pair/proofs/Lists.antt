@@ -26,8 +26,8 @@ use Rattle.vhost_link.specs.declared.plain.PlainHandle.{PlainHandle}
 use Rattle.vhost_link.specs.Ends.{Ends}
 use Rattle.vhost_connection.specs.Talk.{State}
 use Rattle.vhost_frontend_core.specs.Taking.{unread, read}
-use Rattle.vhost_frontend_calls.specs.Halves.{TakesResult}
-use Rattle.vhost_pair.specs.Lists.{bases_in, bytes_in, IsListedFor}
+use Rattle.vhost_frontend_core.specs.ValueHalves.{TakesResult}
+use Rattle.vhost_pair.specs.Lists.{bases_in, bytes_in, records_in, IsListedFor}
 
 second : (a b : Bool) → (a && b) ≡ true → b ≡ true
 second true b e = e
@@ -49,11 +49,11 @@ module _ (H : Type 0) (call : FrontendCall H) where
   Listed o = IfSome o (λ a. IsListedFor call a.result)
 
   -- an answer without a list
-  pub without : (r : Result (Value H) Error) → bases_in r ≡ 0 → bytes_in r ≡ 0 → IsListedFor call r
-  without r e k = (omega (arith, e), omega (arith, k))
+  pub without : (r : Result (Value H) Error) → bases_in r ≡ 0 → bytes_in r ≡ 0 → records_in r ≡ 0 → IsListedFor call r
+  without r e k n = (omega (arith, e), omega (arith, k), omega (arith, n))
 
   failed : (e : Error) → IsListedFor call (Err e)
-  failed e = without (Err e) refl refl
+  failed e = without (Err e) refl refl refl
 
   listed-alone : (hs : List H) (r : Result (Value H) Error) → IsListedFor call r → IsListedFor call (alone hs r)
   listed-alone [] r l = l
@@ -80,8 +80,8 @@ module _ (H : Type 0) (call : FrontendCall H) where
       go false = failed InvalidMessage
 
   listed-state : (n : ℕ) (hs : List H) → IsListedFor call (state_reply n hs)
-  listed-state n [] = listed-only (n == 0x100) BackendInternalError (StateHandle None) (λ _. without (Ok (StateHandle None)) refl refl)
-  listed-state n (h ∷ []) = listed-only (n == 0) BackendInternalError (StateHandle (Some h)) (λ _. without (Ok (StateHandle (Some h))) refl refl)
+  listed-state n [] = listed-only (n == 0x100) BackendInternalError (StateHandle None) (λ _. without (Ok (StateHandle None)) refl refl refl)
+  listed-state n (h ∷ []) = listed-only (n == 0) BackendInternalError (StateHandle (Some h)) (λ _. without (Ok (StateHandle (Some h))) refl refl refl)
   listed-state n (h ∷ g ∷ hs) = failed (cond (n == 0) IncorrectFds BackendInternalError)
 
   listed-if : (b : Bool) (x y : Option (Answered H)) → (b ≡ true → Listed x) → Listed y → Listed (cond b x y)
@@ -99,12 +99,12 @@ Fills _ _ = ⊤
 
 module _ (H : Type 0) where
   number : (call : FrontendCall H) (n : ℕ) → IsListedFor call (Ok (Number n))
-  number call n = without H call (Ok (Number n)) refl refl
+  number call n = without H call (Ok (Number n)) refl refl refl
 
   table-listed : (infos : List (Info H)) (f : Frontend) (rs : List VhostUserMemoryRegion) (hs : List H) → Listed H (SetMemTable infos) (from_reply (SetMemTable infos) f (Regions rs) hs)
   table-listed infos f rs hs =
       listed-alone H (SetMemTable infos) hs _ (listed-only H (SetMemTable infos) (are_same_ranges (ranges_in infos) rs) InvalidMessage (Bases (Some (bases_of rs)))
-      (λ e. let same = same-long (ranges_in infos) rs e in let all = long-map (λ (i : Info H). i.region) infos in let places = long-map (λ (r : VhostUserMemoryRegion). r.user_addr) rs in (omega (arith, same, all, places), omega arith)))
+      (λ e. let same = same-long (ranges_in infos) rs e in let all = long-map (λ (i : Info H). i.region) infos in let places = long-map (λ (r : VhostUserMemoryRegion). r.user_addr) rs in (omega (arith, same, all, places), omega arith, omega arith)))
 
   abbrev part : (offset size flags : ℕ) (buffer : List ℕ) → FrontendCall H
   part offset size flags buffer = GetConfig offset size flags buffer
@@ -116,30 +116,30 @@ module _ (H : Type 0) where
     where
       go : (t : Bool) → IsListedFor (part offset size flags (b ∷ buffer)) (cond t (Err BackendInternalError) (only_if (c.offset == offset && c.size == size && c.size == length (b ∷ buffer)) InvalidMessage (ConfigOf c bytes)))
       go true = failed H (part offset size flags (b ∷ buffer)) BackendInternalError
-      go false = listed-only H (part offset size flags (b ∷ buffer)) _ InvalidMessage (ConfigOf c bytes) (λ _. (omega arith, omega (arith, e)))
+      go false = listed-only H (part offset size flags (b ∷ buffer)) _ InvalidMessage (ConfigOf c bytes) (λ _. (omega arith, omega (arith, e), omega arith))
 
   from-listed : (call : FrontendCall H) (f : Frontend) (p : Payload) (hs : List H) → Fills call p → Listed H call (from_reply call f p hs)
   from-listed GetFeatures f (U64 n) hs fits = listed-changed H GetFeatures f (record f { offered = n }) (alone hs (Ok (Number n))) (listed-alone H GetFeatures hs _ (number GetFeatures n))
   from-listed GetProtocolFeatures f (U64 n) hs fits = listed-alone H GetProtocolFeatures hs _ (number GetProtocolFeatures (bit_and n 0x7FFFFF))
   from-listed GetQueueNum f (U64 n) hs fits = listed-queues H GetQueueNum f n (alone hs (Ok (Number n))) (listed-alone H GetQueueNum hs _ (number GetQueueNum n))
   from-listed (SetMemTable infos) f (Regions rs) hs fits = table-listed infos f rs hs
-  from-listed (SetLogBase base region) f (LogArea l) hs fits = listed-alone H (SetLogBase base region) hs _ (listed-only H (SetLogBase base region) _ InvalidMessage Nothing (λ _. without H (SetLogBase base region) (Ok Nothing) refl refl))
+  from-listed (SetLogBase base region) f (LogArea l) hs fits = listed-alone H (SetLogBase base region) hs _ (listed-only H (SetLogBase base region) _ InvalidMessage Nothing (λ _. without H (SetLogBase base region) (Ok Nothing) refl refl refl))
   from-listed (GetVringBase i) f (RingState v) hs fits = listed-alone H (GetVringBase i) hs _ (number (GetVringBase i) v.num)
   from-listed (GetConfig offset size flags buffer) f (ConfigBytes c bytes) hs fits = config-listed offset size flags buffer f c bytes hs fits
-  from-listed (GetSharedObject name) f Empty hs fits = listed-one H (GetSharedObject name) hs (HandleOf) (λ h. without H (GetSharedObject name) (Ok (HandleOf h)) refl refl)
-  from-listed (GetInflightFd asked) f (InflightArea i) hs fits = listed-valid H (GetInflightFd asked) _ _ InvalidMessage (listed-one H (GetInflightFd asked) hs (InflightOf i) (λ h. without H (GetInflightFd asked) (Ok (InflightOf i h)) refl refl))
+  from-listed (GetSharedObject name) f Empty hs fits = listed-one H (GetSharedObject name) hs (HandleOf) (λ h. without H (GetSharedObject name) (Ok (HandleOf h)) refl refl refl)
+  from-listed (GetInflightFd asked) f (InflightArea i) hs fits = listed-valid H (GetInflightFd asked) _ _ InvalidMessage (listed-one H (GetInflightFd asked) hs (InflightOf i) (λ h. without H (GetInflightFd asked) (Ok (InflightOf i h)) refl refl refl))
   from-listed GetMaxMemSlots f (U64 n) hs fits = listed-alone H GetMaxMemSlots hs _ (number GetMaxMemSlots n)
-  from-listed (AddMemRegion info) f (OneRegion r) hs fits = listed-alone H (AddMemRegion info) hs _ (listed-only H (AddMemRegion info) _ InvalidMessage _ (λ _. without H (AddMemRegion info) (Ok (Base (Some (r.region.user_addr)))) refl refl))
-  from-listed GetShmemConfig f (Shmem c) hs fits = listed-alone H GetShmemConfig hs _ (without H GetShmemConfig (Ok (ShmemOf c)) refl refl)
+  from-listed (AddMemRegion info) f (OneRegion r) hs fits = listed-alone H (AddMemRegion info) hs _ (listed-only H (AddMemRegion info) _ InvalidMessage _ (λ _. without H (AddMemRegion info) (Ok (Base (Some (r.region.user_addr)))) refl refl refl))
+  from-listed GetShmemConfig f (Shmem c) hs fits = listed-alone H GetShmemConfig hs _ (omega arith, omega arith, omega arith)
   from-listed (SetDeviceStateFd t h) f (U64 n) hs fits = listed-state H (SetDeviceStateFd t h) n hs
-  from-listed CheckDeviceState f (U64 n) hs fits = listed-alone H CheckDeviceState hs _ (listed-only H CheckDeviceState (n == 0) BackendInternalError Nothing (λ _. without H CheckDeviceState (Ok Nothing) refl refl))
-  from-listed PostcopyAdvise f Empty hs fits = listed-changed H PostcopyAdvise f _ (with_one hs HandleOf) (listed-one H PostcopyAdvise hs HandleOf (λ h. without H PostcopyAdvise (Ok (HandleOf h)) refl refl))
+  from-listed CheckDeviceState f (U64 n) hs fits = listed-alone H CheckDeviceState hs _ (listed-only H CheckDeviceState (n == 0) BackendInternalError Nothing (λ _. without H CheckDeviceState (Ok Nothing) refl refl refl))
+  from-listed PostcopyAdvise f Empty hs fits = listed-changed H PostcopyAdvise f _ (with_one hs HandleOf) (listed-one H PostcopyAdvise hs HandleOf (λ h. without H PostcopyAdvise (Ok (HandleOf h)) refl refl refl))
   from-listed _ f _ hs fits = tt
 
   plain-listed : (call : FrontendCall H) → IsListedFor call (Ok (plain_value call))
-  plain-listed (SetMemTable infos) = without H (SetMemTable infos) (Ok (Bases None)) refl refl
-  plain-listed (AddMemRegion info) = without H (AddMemRegion info) (Ok (Base None)) refl refl
-  plain-listed call = without H call (Ok (plain_value call)) refl refl
+  plain-listed (SetMemTable infos) = without H (SetMemTable infos) (Ok (Bases None)) refl refl refl
+  plain-listed (AddMemRegion info) = without H (AddMemRegion info) (Ok (Base None)) refl refl refl
+  plain-listed call = without H call (Ok (plain_value call)) refl refl refl
 
   fills : (call : FrontendCall H) (s : Shape) (r : Received H) → is_sized call r ≡ true → Fills call (payload_of s r.body r.payload)
   fills (GetConfig offset size flags buffer) shape.Config r e = eqb-true (length r.payload) (length buffer) (second (r.header.size == 12 + length buffer) (length r.payload == length buffer) e)
@@ -195,7 +195,7 @@ result-listed call awaited sent old f result new f' (inr (same, e, is, fails)) =
 
 -- nothing was sent for the call, or its half that asks failed
 pub nothing-listed : (call : FrontendCall PlainHandle) (result : Result (Value PlainHandle) Error) → result ≡ Ok Nothing → IsListedFor call result
-nothing-listed call result is = subst (λ (r : Result (Value PlainHandle) Error). IsListedFor call r) (sym is) (without PlainHandle call (Ok Nothing) refl refl)
+nothing-listed call result is = subst (λ (r : Result (Value PlainHandle) Error). IsListedFor call r) (sym is) (without PlainHandle call (Ok Nothing) refl refl refl)
 
 pub error-listed : (call : FrontendCall PlainHandle) (result : Result (Value PlainHandle) Error) (e : Error) → result ≡ Err e → IsListedFor call result
 error-listed call result e is = subst (λ (r : Result (Value PlainHandle) Error). IsListedFor call r) (sym is) (failed PlainHandle call e)

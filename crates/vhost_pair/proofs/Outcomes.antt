@@ -39,7 +39,7 @@ use Rattle.vhost_link.specs.declared.plain.PlainHandle.{PlainHandle}
 use Rattle.vhost_link.proofs.Cells.{length-carrying}
 use Rattle.vhost_backend_req_handler.specs.Serving.{fitting}
 use Rattle.vhost_pair.specs.Device.{Gives, opens_backend, opens_gpu}
-use Rattle.vhost_frontend_calls.specs.Halves.{IsProper}
+use Rattle.vhost_frontend_core.specs.ValueHalves.{IsProper}
 
 -- ---- messages are short
 

@@ -21,7 +21,7 @@ use Rattle.vhost_protocol.specs.Session.{Session}
 use Rattle.vhost_protocol.specs.Step.{Outcome}
 use Rattle.vhost_protocol.proofs.NegotiationLaws.{calls-negotiate, replies-negotiate}
 use Rattle.vhost_link.specs.declared.plain.PlainHandle.{PlainHandle}
-use Rattle.vhost_frontend_calls.specs.Halves.{IsSent}
+use Rattle.vhost_frontend_core.specs.ValueHalves.{IsSent}
 use Rattle.vhost_pair.specs.Device.{Gives, opens_backend, opens_gpu}
 use Rattle.vhost_pair.specs.Joined.{Offers}
 use Rattle.vhost_pair.specs.Lockstep.{IsPlain}

@@ -16,7 +16,7 @@ use Rattle.vhost_frontend_core.specs.declared.asked.Sent.{Sent}
 use Rattle.vhost_pair.specs.declared.halt.Stop.{Stop}
 use Rattle.vhost_pair.specs.declared.sides.Exchanged.{Exchanged}
 use Rattle.vhost_pair.specs.Device.{Gives}
-use Rattle.vhost_frontend_calls.specs.Halves.{TakesResult}
+use Rattle.vhost_frontend_core.specs.ValueHalves.{TakesResult}
 use Rattle.vhost_pair.specs.OnWay.{outgoing}
 use Rattle.vhost_pair.specs.Text.{no_text}
 use Rattle.vhost_pair.specs.Sides as sides

@@ -25,9 +25,9 @@ use Rattle.vhost_link.specs.declared.cut.Cut.{Cut}
 use Rattle.vhost_link.specs.Cuts.{retry, failure}
 use Rattle.vhost_pair.specs.Device.{Gives, opens_backend, opens_gpu}
 use Rattle.vhost_pair.specs.Text.{Text, text_of}
-use Rattle.vhost_frontend_calls.specs.declared.call.FrontendCall as code
-use Rattle.vhost_frontend_calls.specs.declared.answer.FrontendAnswer.{FrontendAnswer}
-use Rattle.vhost_frontend_calls.specs.Calls.{call_of, answer_of}
+use Rattle.vhost_frontend_core.specs.declared.values.call.FrontendCall as code
+use Rattle.vhost_frontend_core.specs.declared.values.answer.FrontendAnswer.{FrontendAnswer}
+use Rattle.vhost_frontend_core.specs.Values.{call_of, answer_of}
 use Rattle.vhost_pair.specs.declared.halt.Halt.{Halt}
 use Rattle.vhost_pair.specs.declared.halt.Halt.TheVariants as halt
 use Rattle.vhost_pair.specs.declared.halt.Stop.{Stop}

@@ -8,7 +8,7 @@ use crate::sides::Sides;
 use std::alloc::Global;
 use std::marker::Model;
 use vhost_device::VhostUserBackendReqHandlerMut;
-use vhost_frontend_calls::{FrontendAnswer, FrontendCall};
+use vhost_frontend_core::{FrontendAnswer, FrontendCall};
 use vhost_link::{Cut, MemLink, PlainHandle};
 
 /// A frontend and a handler joined over two links in memory, with a device behind the handler.
@@ -31,7 +31,7 @@ impl<D: Drop> Model for Joined<D> {
 }
 
 impl<D: VhostUserBackendReqHandlerMut<Link = MemLink>> Joined<D> {
-    ghost use Rattle.vhost_frontend_calls.specs.Calls.{call_of, answer_of};
+    ghost use Rattle.vhost_frontend_core.specs.Values.{call_of, answer_of};
     ghost use Rattle.vhost_pair.specs.Joined.{IsReady, Steps};
     ghost use Rattle.vhost_pair.specs.Lists.{IsListedFor};
     ghost use Rattle.vhost_pair.specs.Lockstep.{RunsCalls};

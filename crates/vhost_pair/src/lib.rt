@@ -10,6 +10,6 @@ mod wire;
 
 pub use halt::{Halt, Stop};
 pub use joined::Joined;
-pub use vhost_frontend_calls::{FrontendAnswer, FrontendCall, LogRegion, RegionInfo};
+pub use vhost_frontend_core::{FrontendAnswer, FrontendCall, LogRegion, RegionInfo};
 pub use ways::{carry, copy};
 pub use wire::Wire;

@@ -2,7 +2,7 @@
 
 ghost use Rattle.std.specs.Prelude.{◌≡◌, ◌||◌, Some, None, Ok, IfOk, IfErr};
 ghost use Rattle.vhost_message.specs.declared.error.Error.TheVariants.{OutOfMemory};
-ghost use Rattle.vhost_frontend_calls.specs.Calls.{call_of, answer_of};
+ghost use Rattle.vhost_frontend_core.specs.Values.{call_of, answer_of};
 ghost use Rattle.vhost_pair.specs.Lists.{IsListedFor};
 ghost use Rattle.vhost_pair.specs.Sides.{ends};
 ghost use Rattle.vhost_pair.specs.declared.halt.Stop.TheVariants.{Premise};
@@ -16,8 +16,7 @@ use crate::wire::Wire;
 use std::alloc::Global;
 use vhost_backend_req_handler::SessionCore;
 use vhost_device::VhostUserBackendReqHandlerMut;
-use vhost_frontend_calls::{FrontendAnswer, FrontendCall, ask, take};
-use vhost_frontend_core::{FrontendInternal, Sent};
+use vhost_frontend_core::{FrontendAnswer, FrontendCall, FrontendInternal, Sent, ask, take};
 use vhost_link::{Cut, MemLink};
 use vhost_message::{Error, Result};
 
@@ -43,7 +42,7 @@ impl<D: VhostUserBackendReqHandlerMut<Link = MemLink>> Sides<D> {
     ghost use Rattle.vhost_frontend_core.specs.Awaiting.{MayAwait};
     ghost use Rattle.vhost_frontend_core.specs.Frontend.{endpoint_of as asking_end};
     ghost use Rattle.vhost_frontend_core.specs.Kept.{IsKeptFor};
-    ghost use Rattle.vhost_frontend_calls.specs.Halves.{IsSent};
+    ghost use Rattle.vhost_frontend_core.specs.ValueHalves.{IsSent};
     ghost use Rattle.vhost_pair.specs.Sides.{parts_of, fresh_parts, HaveLists, Exchanges, Serves, HandsOver, EndsUnsent, stop_of};
     ghost use Rattle.vhost_pair.specs.Text.{no_text};
     ghost use Rattle.vhost_pair.specs.Wire.{text_in};

@@ -22,9 +22,9 @@ use Rattle.vhost_dummy_backend.specs.Dummy.{DummyGives, Does, refusal}
 use Rattle.vhost_link.specs.declared.cut.Cut.{Cut}
 use Rattle.vhost_link.specs.declared.plain.PlainHandle.{PlainHandle}
 use Rattle.vhost_pair.specs.Device.{Gives, opens_backend, opens_gpu}
-use Rattle.vhost_frontend_calls.specs.Calls.{answer_of}
-use Rattle.vhost_frontend_calls.specs.declared.answer.FrontendAnswer.{FrontendAnswer}
-use Rattle.vhost_frontend_calls.specs.declared.call.FrontendCall.TheVariants as call
+use Rattle.vhost_frontend_core.specs.Values.{answer_of}
+use Rattle.vhost_frontend_core.specs.declared.values.answer.FrontendAnswer.{FrontendAnswer}
+use Rattle.vhost_frontend_core.specs.declared.values.call.FrontendCall.TheVariants as call
 use Rattle.vhost_pair.specs.Joined.{View, IsReady, Offers, Answers, Steps, StepsAll}
 use Rattle.vhost_pair.specs.Lockstep.{ArePlain, InLockstep, Lockstep}
 use Rattle.vhost_pair.specs.Sides.{as_view, fresh_parts}

@@ -4,9 +4,9 @@ use Rattle.std.specs.Prelude.{sum_by, if◌then◌else◌}
 use Rattle.vhost_message.specs.Cause.{is_retry}
 use Rattle.vhost_message.specs.declared.cause.IoCause.{IoCause}
 use Rattle.vhost_link.specs.Cuts.{retry, failure}
-use Rattle.vhost_frontend_calls.specs.Calls.{call_of}
-use Rattle.vhost_frontend_calls.specs.declared.answer.FrontendAnswer.{FrontendAnswer}
-use Rattle.vhost_frontend_calls.specs.declared.call.FrontendCall.{FrontendCall}
+use Rattle.vhost_frontend_core.specs.Values.{call_of}
+use Rattle.vhost_frontend_core.specs.declared.values.answer.FrontendAnswer.{FrontendAnswer}
+use Rattle.vhost_frontend_core.specs.declared.values.call.FrontendCall.{FrontendCall}
 use Rattle.vhost_pair.specs.Device.{Gives}
 use Rattle.vhost_pair.specs.Joined.{View, Cuts, Passes, PassesBoth, Stops, Breaks, unsent, lost, unread, unanswered, starved}
 use Rattle.vhost_pair.specs.Lockstep.{KeepsAll, Lockstep}

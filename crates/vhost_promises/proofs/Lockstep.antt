@@ -1,8 +1,8 @@
 -- The lockstep of a run from two new sides.
 use Rattle.std.proofs.Common.{◌≡◌, ℕ, List, ◌++◌, Bool, Some, None, Result, inl, inr, subst}
 use Rattle.vhost_link.specs.declared.cut.Cut.{Cut}
-use Rattle.vhost_frontend_calls.specs.declared.answer.FrontendAnswer.{FrontendAnswer}
-use Rattle.vhost_frontend_calls.specs.declared.call.FrontendCall.{FrontendCall}
+use Rattle.vhost_frontend_core.specs.declared.values.answer.FrontendAnswer.{FrontendAnswer}
+use Rattle.vhost_frontend_core.specs.declared.values.call.FrontendCall.{FrontendCall}
 use Rattle.vhost_pair.specs.Device.{Gives}
 use Rattle.vhost_pair.specs.Joined.{View}
 use Rattle.vhost_pair.specs.Lockstep.{InLockstep, Lockstep}

@@ -16,9 +16,9 @@ use Rattle.vhost_protocol.specs.Session.{Session, fresh}
 use Rattle.vhost_link.specs.declared.plain.PlainHandle.{PlainHandle}
 use Rattle.vhost_dummy_backend.specs.Dummy as dummy
 use Rattle.vhost_dummy_backend.specs.Dummy.{DummyGives}
-use Rattle.vhost_frontend_calls.specs.Calls.{answer_of}
-use Rattle.vhost_frontend_calls.specs.declared.answer.FrontendAnswer.{FrontendAnswer}
-use Rattle.vhost_frontend_calls.specs.declared.answer.FrontendAnswer.TheVariants as answer
+use Rattle.vhost_frontend_core.specs.Values.{answer_of}
+use Rattle.vhost_frontend_core.specs.declared.values.answer.FrontendAnswer.{FrontendAnswer}
+use Rattle.vhost_frontend_core.specs.declared.values.answer.FrontendAnswer.TheVariants as answer
 use Rattle.vhost_pair.specs.Device.{opens_backend, opens_gpu}
 use Rattle.vhost_pair.specs.Text.{text_of}
 use Rattle.vhost_call_words.specs.Calls.{call_in}

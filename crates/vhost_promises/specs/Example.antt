@@ -3,8 +3,8 @@ use Rattle.std.specs.Prelude.{◌≡◌, ℕ, List, [], ◌∷◌, map, true, So
 use Rattle.vhost_protocol.specs.FrontendCall.{Frontend, Nothing, Number, new_frontend}
 use Rattle.vhost_protocol.specs.Session.{Session, fresh}
 use Rattle.vhost_dummy_backend.specs.declared.dummy.DummyBackendReqHandler.{DummyBackendReqHandler}
-use Rattle.vhost_frontend_calls.specs.Calls.{answer_of}
-use Rattle.vhost_frontend_calls.specs.declared.answer.FrontendAnswer.{FrontendAnswer}
+use Rattle.vhost_frontend_core.specs.Values.{answer_of}
+use Rattle.vhost_frontend_core.specs.declared.values.answer.FrontendAnswer.{FrontendAnswer}
 use Rattle.vhost_link.specs.Ends.{Ends}
 use Rattle.vhost_link.specs.declared.plain.PlainHandle.{PlainHandle}
 use Rattle.vhost_pair.specs.Joined.{View, IsReady}

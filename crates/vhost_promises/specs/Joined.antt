@@ -11,8 +11,8 @@ use Rattle.vhost_backend_req.specs.declared.call.ReverseCall.{ReverseCall}
 use Rattle.vhost_link.specs.declared.plain.PlainHandle.{PlainHandle}
 use Rattle.vhost_pair_reverse.specs.Joined as back
 use Rattle.vhost_pair_reverse.specs.Lockstep as back_lockstep
-use Rattle.vhost_frontend_calls.specs.declared.answer.FrontendAnswer.{FrontendAnswer}
-use Rattle.vhost_frontend_calls.specs.declared.call.FrontendCall.{FrontendCall}
+use Rattle.vhost_frontend_core.specs.declared.values.answer.FrontendAnswer.{FrontendAnswer}
+use Rattle.vhost_frontend_core.specs.declared.values.call.FrontendCall.{FrontendCall}
 use Rattle.vhost_pair.specs.Device.{Gives, opens_backend, opens_gpu}
 use Rattle.vhost_pair.specs.Joined.{View, Starves}
 use Rattle.vhost_pair.specs.Lockstep.{entries}

@@ -8,7 +8,7 @@ ghost use Rattle.vhost_promises.specs.Joined.{AnswersFresh, AnswersFreshBack, Wa
 
 use std::alloc::Global;
 use vhost_device::VhostUserBackendReqHandlerMut;
-use vhost_frontend_calls::{FrontendAnswer, FrontendCall};
+use vhost_frontend_core::{FrontendAnswer, FrontendCall};
 use vhost_frontend_req_handler::VhostUserFrontendReqHandlerMut;
 use vhost_link::{Cut, MemLink, PlainHandle};
 use vhost_message::HandlerResult;

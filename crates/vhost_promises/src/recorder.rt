@@ -1,7 +1,7 @@
 //! Callers that share both sides joined, with the log of their calls.
 
 ghost use Rattle.std.specs.Prelude.{◌≡◌, ◌≢◌, [], IfOk, IfSome, None, Some, Ok, true, length};
-ghost use Rattle.vhost_frontend_calls.specs.Calls.{call_of, answer_of};
+ghost use Rattle.vhost_frontend_core.specs.Values.{call_of, answer_of};
 ghost use Rattle.vhost_pair.specs.declared.halt.Stop.TheVariants.{Premise};
 ghost use Rattle.vhost_promises.specs.Recorder.{RecordsTwo, Begins};
 ghost use Rattle.vhost_protocol.specs.FrontendCall.{GetFeatures, SetOwner, Number};
@@ -13,7 +13,7 @@ use std::sync::Wait;
 use std::sync::ledger::{Blank, Ledger};
 use vhost_device::VhostUserBackendReqHandlerMut;
 use vhost_dummy_backend::DummyBackendReqHandler;
-use vhost_frontend_calls::{FrontendAnswer, FrontendCall};
+use vhost_frontend_core::{FrontendAnswer, FrontendCall};
 use vhost_link::MemLink;
 use vhost_recorder::{Halt, Log, Receipt, Recorded, Recorder};
 

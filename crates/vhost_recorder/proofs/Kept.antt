@@ -10,8 +10,8 @@ use Rattle.vhost_protocol.specs.Joined.{Shown, JoinedRun}
 use Rattle.vhost_protocol.specs.Log.{Entry, calls_of, AreNumbered, is_plain_call, is_same_bit, first_bit, offered_bit, plain_entries, kept_entries}
 use Rattle.vhost_protocol.specs.Session.{Session, fresh}
 use Rattle.vhost_link.specs.declared.plain.PlainHandle.{PlainHandle}
-use Rattle.vhost_frontend_calls.specs.declared.answer.FrontendAnswer.{FrontendAnswer}
-use Rattle.vhost_frontend_calls.specs.Calls.{answer_of}
+use Rattle.vhost_frontend_core.specs.declared.values.answer.FrontendAnswer.{FrontendAnswer}
+use Rattle.vhost_frontend_core.specs.Values.{answer_of}
 use Rattle.vhost_pair.specs.declared.halt.Stop.TheVariants.{Table, Premise}
 use Rattle.vhost_pair.specs.Device.{Gives, opens_backend, opens_gpu}
 use Rattle.vhost_pair.specs.Joined.{View, IsReady, Keeps, Answers, Steps}

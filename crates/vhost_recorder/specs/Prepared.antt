@@ -2,7 +2,7 @@
 use Rattle.std.specs.Prelude.{◌≡◌}
 use Rattle.vhost_protocol.specs.FrontendCall.{FrontendCall}
 use Rattle.vhost_link.specs.declared.plain.PlainHandle.{PlainHandle}
-use Rattle.vhost_frontend_calls.specs.Calls.{call_of}
+use Rattle.vhost_frontend_core.specs.Values.{call_of}
 use Rattle.vhost_recorder.specs.Room.{HasRoomFor}
 use Rattle.vhost_recorder.specs.declared.recorded.Prepared.{Prepared}
 

@@ -1,7 +1,7 @@
 //! What a log has of one call.
 
 ghost use Rattle.std.specs.Prelude.{◌≡◌, ◌↔◌, IsTrue};
-ghost use Rattle.vhost_frontend_calls.specs.Calls.{call_of, answer_of};
+ghost use Rattle.vhost_frontend_core.specs.Values.{call_of, answer_of};
 
 use crate::comparing::{is_same_answer, is_same_call};
 use std::marker::Model;
@@ -19,7 +19,7 @@ pub struct Entry {
 impl Model for Entry {
     ghost use Rattle.vhost_link.specs.declared.plain.PlainHandle.{PlainHandle};
     ghost use Rattle.vhost_protocol.specs.Log.{Entry as Logged};
-    ghost use Rattle.vhost_frontend_calls.specs.Calls.{call_of, answer_of};
+    ghost use Rattle.vhost_frontend_core.specs.Values.{call_of, answer_of};
 
     ghost Value = { Logged PlainHandle };
 

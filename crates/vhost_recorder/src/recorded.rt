@@ -1,7 +1,7 @@
 //! A joined run with the log of its calls, and the receipts that only its steps make.
 
 ghost use Rattle.std.specs.Prelude.{◌≡◌, ◌↔◌, [], IfOk, IfErr, IsTrue, None, Contains, length};
-ghost use Rattle.vhost_frontend_calls.specs.Calls.{call_of, answer_of};
+ghost use Rattle.vhost_frontend_core.specs.Values.{call_of, answer_of};
 ghost use Rattle.vhost_pair.specs.declared.halt.Halt.TheVariants.{OutOfMemory};
 ghost use Rattle.vhost_protocol.specs.Log.{calls_of};
 ghost use Rattle.vhost_recorder.specs.Prepared.{IsPreparedFor};

@@ -4,7 +4,7 @@ use crate::errors::carried_text;
 use crate::handles::handle_text;
 use std::alloc::{AllocError, Global};
 use vhost_answer_text::Answer;
-use vhost_frontend_calls::FrontendAnswer;
+use vhost_frontend_core::FrontendAnswer;
 use vhost_message::Result as Outcome;
 
 /// The answer of a frontend's call: as `vhost-run` shows it, and moreover what an error carries, and the kinds of handles.

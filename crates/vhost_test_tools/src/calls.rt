@@ -7,7 +7,7 @@ use crate::numbers::narrow;
 use bitflags::Flags;
 use std::alloc::Global;
 use vhost_call_words::call_of;
-use vhost_frontend_calls::FrontendCall;
+use vhost_frontend_core::FrontendCall;
 use vhost_link::PlainHandle;
 use vhost_message::VhostUserHeaderFlag;
 

@@ -9,7 +9,7 @@ use hex::FromHex;
 use std::alloc::{AllocError, Global};
 use uuid::Uuid;
 use vhost_backend_req::ReverseCall;
-use vhost_frontend_calls::FrontendAnswer;
+use vhost_frontend_core::FrontendAnswer;
 use vhost_link::PlainHandle;
 use vhost_message::{Error, HandlerResult, IoError, VhostUserMMap, VhostUserSharedMsg};
 

@@ -6,7 +6,7 @@ mod whole;
 use crate::asking::side::Side;
 use std::alloc::Global;
 use std::sync::Wait;
-use vhost_frontend_calls::FrontendCall;
+use vhost_frontend_core::FrontendCall;
 use vhost_test_tools::{
     Miss, Settings, Traffic, answer_text, call_in, cuts_of, expect, number_of, unreadable,
 };

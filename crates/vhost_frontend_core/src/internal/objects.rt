@@ -1,21 +1,24 @@
 //! Shared objects, shared memory and the reverse channel.
 
-ghost use Rattle.std.specs.Prelude.{◌≡◌};
+ghost use Rattle.std.specs.Prelude.{◌≡◌, [], Ok, IfOk};
 ghost use Rattle.vhost_protocol.specs.FrontendCall as call;
 ghost use Rattle.vhost_message.specs.declared.records.shared.VhostUserSharedMsg.{VhostUserSharedMsg};
 ghost use Rattle.vhost_protocol.specs.declared.asked.Awaited.TheVariants.{Nobody, Reply};
 ghost use Rattle.vhost_protocol.specs.declared.asked.Shape.TheVariants as shape;
 
-use crate::asked::Sent;
+use crate::asked::{Kept, Sent};
 use crate::internal::FrontendInternal;
-use crate::internal::plan::{HandleCall, RecordCall};
+use crate::internal::plan::{HandleCall, Plan, RecordCall};
 use vhost_link::Link;
-use vhost_message::{Result, VhostUserEmpty, VhostUserShMemConfig, VhostUserSharedMsg};
-use vhost_protocol::Shape;
+use vhost_message::{Error, Result, VhostUserEmpty, VhostUserShMemConfig, VhostUserSharedMsg};
+use vhost_protocol::Awaited;
 
 impl<L: Link> FrontendInternal<L> {
-    ghost use Rattle.vhost_frontend_core.specs.Frontend.{awaits};
-    ghost use Rattle.vhost_frontend_core.specs.Halves.{AsksHalf, TakesHalf, TakesAck};
+    ghost use Rattle.vhost_frontend_core.specs.Asking.{AsksWithRoom};
+    ghost use Rattle.vhost_frontend_core.specs.Frontend.{endpoint_of, session_of, awaits};
+    ghost use Rattle.vhost_frontend_core.specs.Plan.{planned as planned_as};
+    ghost use Rattle.vhost_frontend_core.specs.Halves.{AsksHalf, AsksHalfWithRoom, TakesHalf, TakesAck};
+    ghost use Rattle.vhost_frontend_core.specs.Kept.{KeepsPlace};
 
     /// Asks for the handle of a shared object.
     ///
@@ -55,6 +58,65 @@ impl<L: Link> FrontendInternal<L> {
     {
         match self.take_plain_reply::<VhostUserShMemConfig>(sent) {
             Ok(config) => Ok(config),
+            Err(error) => Err(error),
+        }
+    }
+
+    /// Asks for the regions of shared memory, with a place made that they can be taken to.
+    ///
+    /// InactiveOperation: SHMEM is not acknowledged. OutOfMemory: a growth was refused, and nothing changed.
+    #[inline(never)]
+    pub fn ask_get_shmem_config_with_place(&mut self) -> Result<Sent>
+        ensures asked { AsksHalfWithRoom L.event call.GetShmemConfig self.old result self.new }
+        ensures kept { IfOk result (λ sent. KeepsPlace sent.kept) }
+    {
+        match self.asks_shmem() {
+            Ok(plan) => self.ask_with_place(plan),
+            Err(error) => Err(error),
+        }
+    }
+
+    /// Carries a plan out, with a place made for the reply.
+    fn ask_with_place(&mut self, plan: Plan) -> Result<Sent>
+        requires { plan.awaited ≡ Reply shape.ShMemConfig }
+        ensures asked { AsksWithRoom L.event (planned_as [] (Ok plan)) (endpoint_of self.old) (session_of self.old) (awaits self.old) result (endpoint_of self.new) (session_of self.new) (awaits self.new) }
+        ensures kept { IfOk result (λ sent. KeepsPlace sent.kept) }
+    {
+        let Ok(place) = Box::new(self.alloc, VhostUserShMemConfig::default()) else {
+            return Err(Error::OutOfMemory);
+        };
+        match self.carry_out(plan, &[]) {
+            Ok(mut sent) => {
+                sent.kept = Kept::Place(place);
+                Ok(sent)
+            }
+            Err(error) => Err(error),
+        }
+    }
+
+    /// Takes the regions to the place that was made for them.
+    #[inline(never)]
+    pub fn take_get_shmem_config_to_place(
+        &mut self,
+        sent: Sent,
+    ) -> Result<Box<VhostUserShMemConfig>>
+        ensures taken { KeepsPlace sent.kept → TakesHalf L.event call.GetShmemConfig (λ place. call.ShmemOf place.value) (Reply shape.ShMemConfig) sent self.old result self.new }
+        ensures quiet { awaits self.new ≡ Nobody }
+    {
+        self.awaited = Awaited::Nobody;
+        let Sent {
+            request,
+            awaited,
+            kept,
+        } = sent;
+        let Kept::Place(mut place) = kept else {
+            return Err(Error::InvalidMessage);
+        };
+        match self.take_get_shmem_config(Sent::new(request, awaited)) {
+            Ok(config) => {
+                *place = config;
+                Ok(place)
+            }
             Err(error) => Err(error),
         }
     }

@@ -222,10 +222,7 @@ impl<L: Link> FrontendInternal<L> {
                 self.allows(protocol_bit::CONFIGURE_MEM_SLOTS, region.memory_size != 0),
                 Plan::sends(session, REM_MEM_REG, Record::OneRegion(single(region))),
             ),
-            GetShmemConfig => Self::once(
-                session.needs(protocol_bit::SHMEM),
-                Plan::asks(session, GET_SHMEM_CONFIG, Record::Empty, Shape::ShMemConfig),
-            ),
+            GetShmemConfig => self.asks_shmem(),
             CheckDeviceState => Self::once(
                 session.needs(protocol_bit::DEVICE_STATE),
                 Plan::asks(session, CHECK_DEVICE_STATE, Record::Empty, Shape::U64),
@@ -302,6 +299,21 @@ impl<L: Link> FrontendInternal<L> {
             FrontendReq::GET_VRING_BASE,
             ring,
             Shape::VringState,
+        ))
+    }
+
+    /// The regions of shared memory.
+    pub(crate) fn asks_shmem(&self) -> Result<Plan>
+        ensures becomes { planned_as {H = L.Handle} [] result ≡ ask.ask (session_of self.now) calls.GetShmemConfig }
+        ensures awaited { IfOk result (λ plan. plan.awaited ≡ Reply shape.ShMemConfig) }
+    {
+        let session = self.session;
+        session.needs(protocol_bit::SHMEM)?;
+        Ok(Plan::asks(
+            session,
+            FrontendReq::GET_SHMEM_CONFIG,
+            Record::Empty,
+            Shape::ShMemConfig,
         ))
     }
 

@@ -3,7 +3,7 @@
 ghost use Rattle.std.specs.Prelude.{◌≡◌};
 ghost use Rattle.vhost_protocol.specs.FrontendCall as value;
 ghost use Rattle.vhost_frontend_core.specs.Taking.{valued};
-ghost use Rattle.vhost_frontend_calls.specs.Calls.{answer_of, bases_of};
+ghost use Rattle.vhost_frontend_core.specs.Values.{answer_of, bases_of};
 
 use bitflags::Flags;
 use vhost_link::PlainHandle;
@@ -32,7 +32,8 @@ pub enum FrontendAnswer {
     Inflight(VhostUserInflight, PlainHandle),
     /// The handle over which the device's state goes, if the device gives another one.
     StateHandle(Option<PlainHandle>),
-    ShmemConfig(VhostUserShMemConfig),
+    /// The regions of shared memory, which are too large to be moved about.
+    ShmemConfig(Box<VhostUserShMemConfig>),
 }
 
 /// The answer of a call that shows nothing.
@@ -136,8 +137,8 @@ pub(crate) fn state_handle(outcome: Result<Option<PlainHandle>>) -> FrontendAnsw
 }
 
 /// The answer of a call that shows the regions of shared memory.
-pub(crate) fn shmem_config(outcome: Result<VhostUserShMemConfig>) -> FrontendAnswer
-    ensures { answer_of result ≡ valued (value.ShmemOf) outcome }
+pub(crate) fn shmem_config(outcome: Result<Box<VhostUserShMemConfig>>) -> FrontendAnswer
+    ensures { answer_of result ≡ valued (λ place. value.ShmemOf place.value) outcome }
 {
     match outcome {
         Ok(config) => FrontendAnswer::ShmemConfig(config),

@@ -5,13 +5,14 @@ ghost use Rattle.vhost_link.specs.Mem.{event};
 ghost use Rattle.vhost_protocol.specs.FrontendCall as calls;
 ghost use Rattle.vhost_frontend_core.specs.Halves.{AsksHalf, AsksHalfWithRoom};
 ghost use Rattle.vhost_frontend_core.specs.Kept.{IsKeptFor};
-ghost use Rattle.vhost_frontend_calls.specs.Calls.{call_of, info_of, log_region_of};
-ghost use Rattle.vhost_frontend_calls.specs.Halves.{IsSent, IsProper, AsksCall, AsksWell};
+ghost use Rattle.vhost_frontend_core.specs.Values.{call_of, info_of, log_region_of};
+ghost use Rattle.vhost_frontend_core.specs.ValueHalves.{IsSent, IsProper, AsksCall, AsksWell};
 
-use crate::call::{FrontendCall, LogRegion, RegionInfo};
-use crate::table::table_of;
+use crate::asked::Sent;
+use crate::internal::FrontendInternal;
+use crate::values::call::{FrontendCall, LogRegion, RegionInfo};
+use crate::values::table::table_of;
 use bitflags::Flags;
-use vhost_frontend_core::{FrontendInternal, Sent};
 use vhost_link::MemLink;
 use vhost_message::{
     ByteValued, Error, MAX_MEM_REGIONS, Result, VhostUserHeaderFlag, VhostUserSharedMsg,
@@ -38,7 +39,7 @@ pub fn ask(frontend: &mut FrontendInternal<MemLink>, call: &FrontendCall) -> Res
 }
 
 /// Asks by the half of the call's name, where something is sent for it.
-#[tactic(auto, using(crate::proofs::Plain::plain))]
+#[tactic(auto, using(crate::proofs::ValuePlain::plain))]
 fn ask_half(frontend: &mut FrontendInternal<MemLink>, call: &FrontendCall) -> Result<Sent>
     requires { IsSent (call_of call.now) }
     ensures { AsksWell (call_of call.now) frontend.old result frontend.new }
@@ -80,7 +81,7 @@ fn ask_half(frontend: &mut FrontendInternal<MemLink>, call: &FrontendCall) -> Re
         FrontendCall::GetMaxMemSlots => frontend.ask_get_max_mem_slots(),
         FrontendCall::AddMemRegion(info) => frontend.ask_add_mem_region(&info.lent()),
         FrontendCall::RemoveMemRegion(info) => frontend.ask_remove_mem_region(&info.lent()),
-        FrontendCall::GetShmemConfig => frontend.ask_get_shmem_config(),
+        FrontendCall::GetShmemConfig => frontend.ask_get_shmem_config_with_place(),
         FrontendCall::SetDeviceStateFd(direction, phase, handle) =>
             frontend.ask_set_device_state_fd(*direction, *phase, handle),
         FrontendCall::CheckDeviceState => frontend.ask_check_device_state(),

@@ -4,7 +4,7 @@ ghost use Rattle.std.specs.Prelude.{◌≡◌, ◌<◌, ◌^◌, Some};
 ghost use Rattle.vhost_message.specs.RecordLaws.{RegionFits};
 ghost use Rattle.vhost_backend.specs.Region.{region_in};
 ghost use Rattle.vhost_frontend_core.specs.Regions.{info_in, log_region_in};
-ghost use Rattle.vhost_frontend_calls.specs.Calls.{info_of, log_region_of};
+ghost use Rattle.vhost_frontend_core.specs.Values.{info_of, log_region_of};
 
 use vhost_backend::{VhostUserDirtyLogRegion, VhostUserMemoryRegionInfo};
 use vhost_link::PlainHandle;

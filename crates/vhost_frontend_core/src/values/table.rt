@@ -4,9 +4,9 @@ ghost use Rattle.std.specs.Prelude.{◌≡◌, ◌≤◌, length, map, take, All
 ghost use Rattle.vhost_message.specs.declared.limits.TheConstants.{MAX_MEM_REGIONS};
 ghost use Rattle.vhost_message.specs.RecordLaws.{RegionFits};
 ghost use Rattle.vhost_frontend_core.specs.Regions.{info_in};
-ghost use Rattle.vhost_frontend_calls.specs.Calls.{info_of};
+ghost use Rattle.vhost_frontend_core.specs.Values.{info_of};
 
-use crate::call::RegionInfo;
+use crate::values::call::RegionInfo;
 use vhost_backend::VhostUserMemoryRegionInfo;
 use vhost_link::PlainHandle;
 use vhost_message::MAX_MEM_REGIONS;

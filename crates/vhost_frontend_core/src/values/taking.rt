@@ -1,21 +1,22 @@
 //! The half of each call that takes the answer.
 
-ghost use Rattle.vhost_frontend_calls.specs.Calls.{call_of};
-ghost use Rattle.vhost_frontend_calls.specs.Halves.{TakesWell};
+ghost use Rattle.vhost_frontend_core.specs.Values.{call_of};
+ghost use Rattle.vhost_frontend_core.specs.ValueHalves.{TakesWell};
 
-use crate::answer::{
+use crate::asked::Sent;
+use crate::internal::FrontendInternal;
+use crate::values::answer::{
     FrontendAnswer, base, bases, config, done, features, handle, inflight, number, ring_base,
     shmem_config, state_handle,
 };
-use crate::call::FrontendCall;
-use vhost_frontend_core::{FrontendInternal, Sent};
+use crate::values::call::FrontendCall;
 use vhost_link::MemLink;
 
 /// Takes the answer by the half of the call's name, of what [`ask`](crate::ask) answered for the same call; a call that is
 /// only acknowledged has its acknowledgement taken.
 ///
 /// Errors are those of that half.
-#[tactic(auto, using(crate::proofs::Taken::replied))]
+#[tactic(auto, using(crate::proofs::ValueTaken::replied))]
 pub fn take(
     frontend: &mut FrontendInternal<MemLink>,
     call: &FrontendCall,
@@ -35,7 +36,9 @@ pub fn take(
         FrontendCall::GetInflightFd(..) => inflight(frontend.take_get_inflight_fd(sent)),
         FrontendCall::GetMaxMemSlots => number(frontend.take_get_max_mem_slots(sent)),
         FrontendCall::AddMemRegion(..) => base(frontend.take_add_mem_region(sent)),
-        FrontendCall::GetShmemConfig => shmem_config(frontend.take_get_shmem_config(sent)),
+        FrontendCall::GetShmemConfig => {
+            shmem_config(frontend.take_get_shmem_config_to_place(sent))
+        },
         FrontendCall::SetDeviceStateFd(..) => state_handle(frontend.take_set_device_state_fd(sent)),
         FrontendCall::CheckDeviceState => done(frontend.take_check_device_state(sent)),
         FrontendCall::PostcopyAdvise => handle(frontend.take_postcopy_advise(sent)),

@@ -1,7 +1,7 @@
 //! Whether two answers are the same.
 
 ghost use Rattle.std.specs.Prelude.{◌≡◌, ◌↔◌, IsTrue};
-ghost use Rattle.vhost_frontend_calls.specs.Calls.{answer_of, bases_of};
+ghost use Rattle.vhost_frontend_core.specs.Values.{answer_of, bases_of};
 
 use crate::comparing::errors::is_same_error;
 use crate::comparing::records::{is_same_config, is_same_inflight};

@@ -1,7 +1,7 @@
 //! Whether two calls are the same.
 
 ghost use Rattle.std.specs.Prelude.{◌≡◌, ◌↔◌, IsTrue};
-ghost use Rattle.vhost_frontend_calls.specs.Calls.{call_of};
+ghost use Rattle.vhost_frontend_core.specs.Values.{call_of};
 
 use crate::comparing::records::{
     are_same_infos, is_same_inflight, is_same_info, is_same_log_region, is_same_name, is_same_ring,

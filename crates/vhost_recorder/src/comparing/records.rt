@@ -1,7 +1,7 @@
 //! Whether two records are the same: all their fields are.
 
 ghost use Rattle.std.specs.Prelude.{◌≡◌, ◌↔◌, IsTrue, map};
-ghost use Rattle.vhost_frontend_calls.specs.Calls.{info_of, log_region_of};
+ghost use Rattle.vhost_frontend_core.specs.Values.{info_of, log_region_of};
 
 use vhost_message::{
     VhostUserConfig, VhostUserInflight, VhostUserMemoryRegion, VhostUserSharedMsg, VringConfigData,

@@ -1,19 +1,21 @@
 //! Copies of answers, for which there is room beforehand.
 
 ghost use Rattle.std.specs.Prelude.{◌≡◌, ◌≤◌, [], IfOk, length, vec_len, vec_capacity};
-ghost use Rattle.vhost_frontend_calls.specs.Calls.{answer_of, call_of};
-ghost use Rattle.vhost_pair.specs.Lists.{regions_in, buffer_in};
-ghost use Rattle.vhost_recorder.specs.Room.{HasRoomFor, Holds};
+ghost use Rattle.vhost_frontend_core.specs.Values.{answer_of, call_of};
+ghost use Rattle.vhost_pair.specs.Lists.{regions_in, buffer_in, records_for};
+ghost use Rattle.vhost_recorder.specs.Room.{HasRoomFor, Holds, places_in};
 
 use crate::copying::errors::copy_error;
 use std::alloc::{AllocError, Global};
+use vhost_message::VhostUserShMemConfig;
 use vhost_pair::{FrontendAnswer, FrontendCall};
 
-/// Room for the lists of one answer.
+/// Room for one answer: its lists, and the regions of shared memory.
 #[derive(Drop)]
 pub struct Room {
     bases: Vec<u64>,
     bytes: Vec<u8>,
+    place: Option<Box<VhostUserShMemConfig>>,
 }
 
 impl Room {
@@ -23,7 +25,12 @@ impl Room {
     {
         let bases = Vec::with_capacity(alloc, bases_of_call(call))?;
         let bytes = Vec::with_capacity(alloc, bytes_of_call(call))?;
-        Ok(Room { bases, bytes })
+        let place = place_of_call(alloc, call)?;
+        Ok(Room {
+            bases,
+            bytes,
+            place,
+        })
     }
 }
 
@@ -47,6 +54,39 @@ fn bytes_of_call(call: &FrontendCall) -> usize
     }
 }
 
+/// A place for the regions of shared memory, where the call asks for them.
+fn place_of_call(
+    alloc: Global,
+    call: &FrontendCall,
+) -> Result<Option<Box<VhostUserShMemConfig>>, AllocError>
+    ensures { IfOk result (λ place. records_for (call_of call.now) ≤ places_in place) }
+{
+    match call {
+        FrontendCall::GetShmemConfig => match Box::new(alloc, VhostUserShMemConfig::default()) {
+            Ok(place) => Ok(Some(place)),
+            Err(_) => Err(AllocError),
+        },
+        _ => Ok(None),
+    }
+}
+
+/// The same regions, in their place.
+fn placed(
+    place: Option<Box<VhostUserShMemConfig>>,
+    config: &VhostUserShMemConfig,
+) -> Box<VhostUserShMemConfig>
+    requires { 1 ≤ places_in place }
+    ensures { result.value ≡ config.now }
+{
+    match place {
+        Some(mut place) => {
+            *place = *config;
+            place
+        }
+        None => unreachable!(),
+    }
+}
+
 /// The same items, in a list that has room for them.
 fn filled<T: Copy + Drop>(room: Vec<T>, items: &[T]) -> Vec<T>
     requires empty { (vec_len room ≡ 0) × (room.items ≡ []) }
@@ -58,7 +98,7 @@ fn filled<T: Copy + Drop>(room: Vec<T>, items: &[T]) -> Vec<T>
     list
 }
 
-/// The same answer, with its lists in the room.
+/// The same answer, with what it needs of the room.
 pub fn copy_answer(answer: &FrontendAnswer, room: Room) -> FrontendAnswer
     requires { Holds room (answer_of answer.now) }
     ensures { answer_of result ≡ answer_of answer.now }
@@ -78,6 +118,8 @@ pub fn copy_answer(answer: &FrontendAnswer, room: Room) -> FrontendAnswer
         FrontendAnswer::Handle(handle) => FrontendAnswer::Handle(*handle),
         FrontendAnswer::Inflight(area, handle) => FrontendAnswer::Inflight(*area, *handle),
         FrontendAnswer::StateHandle(handle) => FrontendAnswer::StateHandle(*handle),
-        FrontendAnswer::ShmemConfig(config) => FrontendAnswer::ShmemConfig(*config),
+        FrontendAnswer::ShmemConfig(config) => {
+            FrontendAnswer::ShmemConfig(placed(room.place, config))
+        }
     }
 }

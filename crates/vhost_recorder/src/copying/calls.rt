@@ -1,7 +1,7 @@
 //! Copies of calls.
 
 ghost use Rattle.std.specs.Prelude.{◌≡◌, IfOk};
-ghost use Rattle.vhost_frontend_calls.specs.Calls.{call_of};
+ghost use Rattle.vhost_frontend_core.specs.Values.{call_of};
 
 use bitflags::Flags;
 use std::alloc::{AllocError, Global};

@@ -9,8 +9,7 @@ use std::rc::Rc;
 use std::sync::Wait;
 use vhost_backend::Error;
 use vhost_frontend::Frontend;
-use vhost_frontend_calls::{FrontendAnswer, FrontendCall, ask, take};
-use vhost_frontend_core::FrontendInternal;
+use vhost_frontend_core::{FrontendAnswer, FrontendCall, FrontendInternal, ask, take};
 use vhost_link::{Cut, MemLink};
 use vhost_message::VhostUserHeaderFlag;
 use vhost_test_tools::{

@@ -7,8 +7,9 @@ use vhost_backend::{
     Error, Result, VhostBackend, VhostUserDirtyLogRegion, VhostUserMemoryRegionInfo,
 };
 use vhost_frontend::VhostUserFrontend;
-use vhost_frontend_calls::{FrontendAnswer, FrontendCall, LogRegion, RegionInfo};
+use vhost_frontend_core::{FrontendAnswer, FrontendCall, LogRegion, RegionInfo};
 use vhost_link::PlainHandle;
+use vhost_message::VhostUserShMemConfig;
 
 /// A region, with its handle lent.
 fn lent(info: &RegionInfo) -> VhostUserMemoryRegionInfo<'_, PlainHandle> {
@@ -45,6 +46,14 @@ fn set_table<B: VhostBackend<Handle = PlainHandle>>(
         }
     }
     Ok(FrontendAnswer::Bases(backend.set_mem_table(rt, &table)?))
+}
+
+/// The regions of shared memory as an answer.
+fn boxed(alloc: Global, config: VhostUserShMemConfig) -> Result<FrontendAnswer> {
+    match Box::new(alloc, config) {
+        Ok(place) => Ok(FrontendAnswer::ShmemConfig(place)),
+        Err(_) => Err(Error::VhostUserProtocol(vhost_message::Error::OutOfMemory)),
+    }
 }
 
 /// Says where the log is kept.
@@ -165,9 +174,7 @@ pub(crate) fn ask_whole<F: VhostUserFrontend + VhostBackend<Handle = PlainHandle
         FrontendCall::AddMemRegion(info) => {
             FrontendAnswer::Base(frontend.add_mem_region(rt, &lent(info))?)
         }
-        FrontendCall::GetShmemConfig => {
-            FrontendAnswer::ShmemConfig(frontend.get_shmem_config(rt)?)
-        }
+        FrontendCall::GetShmemConfig => boxed(alloc, frontend.get_shmem_config(rt)?)?,
         FrontendCall::SetDeviceStateFd(way, time, handle) => {
             FrontendAnswer::StateHandle(frontend.set_device_state_fd(rt, *way, *time, *handle)?)
         }

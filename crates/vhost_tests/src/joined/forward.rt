@@ -6,7 +6,7 @@ use std::cell::RefCell;
 use std::rc::Rc;
 use vhost_device::VhostUserBackendReqHandlerMut;
 use vhost_dummy_backend::DummyBackendReqHandler;
-use vhost_frontend_calls::FrontendCall;
+use vhost_frontend_core::FrontendCall;
 use vhost_link::{Cut, MemLink, PlainHandle};
 use vhost_pair::{Halt, Joined, Stop};
 use vhost_test_tools::{

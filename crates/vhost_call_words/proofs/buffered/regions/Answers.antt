@@ -1,5 +1,5 @@
 use Rattle.std.proofs.Common.{map, ap, sym, ◌∙◌}
-use Rattle.vhost_frontend_calls.specs.Calls.{info_of}
+use Rattle.vhost_frontend_core.specs.Values.{info_of}
 use Rattle.vhost_call_words.specs.Calls.{regions}
 use Rattle.vhost_call_words.specs.Read.{words_of}
 use Rattle.vhost_call_words.specs.Words.{words}

@@ -1,9 +1,9 @@
 use Rattle.std.proofs.Common.{ap, sym, ◌∙◌}
 use Rattle.vhost_protocol.specs.FrontendCall.{SetHdrFlags}
-use Rattle.vhost_frontend_calls.specs.Calls.{call_of}
-use Rattle.vhost_frontend_calls.specs.Halves.{half, refused, at_once}
-use Rattle.vhost_frontend_calls.proofs.Halves.{is-sent}
-use Rattle.vhost_frontend_calls.proofs.asking.ask.Goals as goal
+use Rattle.vhost_frontend_core.specs.Values.{call_of}
+use Rattle.vhost_frontend_core.specs.ValueHalves.{half, refused, at_once}
+use Rattle.vhost_frontend_core.proofs.ValueHalves.{is-sent}
+use Rattle.vhost_frontend_core.proofs.values.asking.ask.Goals as goal
 
 pub ask_half-requires : goal.ask_half-requires
 ask_half-requires c = is-sent c.args.call.now c.in_default.not-SetHdrFlags

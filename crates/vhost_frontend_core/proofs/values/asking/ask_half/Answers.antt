@@ -4,10 +4,10 @@ use Rattle.vhost_message.specs.RecordLaws.{RegionFits}
 use Rattle.vhost_protocol.specs.FrontendCall.{SetMemTable, GetConfig, AddMemRegion, Info}
 use Rattle.vhost_link.specs.declared.plain.PlainHandle.{PlainHandle}
 use Rattle.vhost_frontend_core.specs.Asking.{roomy}
-use Rattle.vhost_frontend_calls.specs.Calls.{call_of, info_of}
-use Rattle.vhost_frontend_calls.proofs.Plain.{ok-so, renamed}
+use Rattle.vhost_frontend_core.specs.Values.{call_of, info_of}
+use Rattle.vhost_frontend_core.proofs.ValuePlain.{ok-so, renamed}
 use Rattle.vhost_frontend_core.proofs.Exits.{if-ok}
-use Rattle.vhost_frontend_calls.proofs.asking.ask_half.Goals as goal
+use Rattle.vhost_frontend_core.proofs.values.asking.ask_half.Goals as goal
 
 pub returns-in-SetFeatures : goal.returns-in-SetFeatures
 returns-in-SetFeatures c = renamed (ap call_of c.in-SetFeatures.is) (record {
@@ -50,6 +50,13 @@ returns-in-GetSharedObject c = renamed (ap call_of c.in-GetSharedObject.is) (rec
   asked = roomy c.ask_object.ensures.asked;
   kept = if-ok c.ask_object.result tt;
   proper = if-ok c.ask_object.result (record { named = c.ask_object.ensures.named; bits = tt; small = tt });
+})
+
+pub returns-in-GetShmemConfig : goal.returns-in-GetShmemConfig
+returns-in-GetShmemConfig c = renamed (ap call_of c.in-GetShmemConfig.is) (record {
+  asked = c.ask_get_shmem_config_with_place.ensures.asked;
+  kept = c.ask_get_shmem_config_with_place.ensures.kept;
+  proper = if-ok c.ask_get_shmem_config_with_place.result (record { named = tt; bits = tt; small = tt });
 })
 
 pub returns-in-AddMemRegion : goal.returns-in-AddMemRegion

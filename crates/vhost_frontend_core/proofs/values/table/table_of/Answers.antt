@@ -3,10 +3,10 @@ use Rattle.std.proofs.Common.{◌≡◌, ◌∙◌, ap, sym, subst, arith, map, 
 use Rattle.std.proofs.lemmas.List.{take_all, length-set}
 use Rattle.vhost_message.specs.RecordLaws.{RegionFits}
 use Rattle.vhost_frontend_core.specs.Regions.{info_in}
-use Rattle.vhost_frontend_calls.specs.Calls.{info_of}
-use Rattle.vhost_frontend_calls.specs.declared.call.RegionInfo.{RegionInfo}
-use Rattle.vhost_frontend_calls.proofs.Tables.{filled-more, fitting-more}
-use Rattle.vhost_frontend_calls.proofs.table.table_of.Goals as goal
+use Rattle.vhost_frontend_core.specs.Values.{info_of}
+use Rattle.vhost_frontend_core.specs.declared.values.call.RegionInfo.{RegionInfo}
+use Rattle.vhost_frontend_core.proofs.ValueTables.{filled-more, fitting-more}
+use Rattle.vhost_frontend_core.proofs.values.table.table_of.Goals as goal
 
 pub loop-i-preserved : goal.loop-i-preserved
 loop-i-preserved c = record {

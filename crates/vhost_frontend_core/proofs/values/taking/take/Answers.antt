@@ -3,10 +3,10 @@ use Rattle.std.proofs.Common.{◌≡◌, true, ap, refl, arith}
 use Rattle.vhost_message.specs.Transfer.{direction_number, phase_number}
 use Rattle.vhost_protocol.specs.FrontendCall.{SetDeviceStateFd}
 use Rattle.vhost_frontend_core.specs.Awaiting.{IsAcked}
-use Rattle.vhost_frontend_calls.specs.Calls.{call_of}
-use Rattle.vhost_frontend_calls.proofs.Halves.{took, took-reply, took-either, kept-reply, unsent}
-use Rattle.vhost_frontend_calls.proofs.Taken.{renamed, replied, is_acked, acked}
-use Rattle.vhost_frontend_calls.proofs.taking.take.Goals as goal
+use Rattle.vhost_frontend_core.specs.Values.{call_of}
+use Rattle.vhost_frontend_core.proofs.ValueHalves.{took, took-reply, took-either, kept-reply, unsent}
+use Rattle.vhost_frontend_core.proofs.ValueTaken.{renamed, replied, is_acked, acked}
+use Rattle.vhost_frontend_core.proofs.values.taking.take.Goals as goal
 
 pub returns-in_default : goal.returns-in_default
 returns-in_default c =
@@ -54,6 +54,12 @@ pub returns-in-GetConfig : goal.returns-in-GetConfig
 returns-in-GetConfig c = renamed (ap call_of c.in-GetConfig.is) (record {
   taken = λ is_sent may kept. took-reply _ _ _ _ may c.config.ensures (c.take_get_config.ensures.taken _ _ _ _ kept);
   quiet = λ is_sent. c.take_get_config.ensures.quiet;
+})
+
+pub returns-in-GetShmemConfig : goal.returns-in-GetShmemConfig
+returns-in-GetShmemConfig c = renamed (ap call_of c.in-GetShmemConfig.is) (record {
+  taken = λ is_sent may kept. took-reply _ _ _ _ may c.shmem_config.ensures (c.take_get_shmem_config_to_place.ensures.taken kept);
+  quiet = λ is_sent. c.take_get_shmem_config_to_place.ensures.quiet;
 })
 
 pub returns-in-SetHdrFlags : goal.returns-in-SetHdrFlags

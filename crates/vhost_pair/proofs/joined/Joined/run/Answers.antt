@@ -1,6 +1,6 @@
 use Rattle.std.proofs.Common.{◌∙◌, sym, subst, arith, take, [], Ok, Err, ◌+◌}
 use Rattle.std.proofs.lemmas.List.{take_all}
-use Rattle.vhost_frontend_calls.specs.Calls.{call_of}
+use Rattle.vhost_frontend_core.specs.Values.{call_of}
 use Rattle.vhost_pair.proofs.Running.{Ran, ran-none, runs-none, ran-all, ran-one, ran-to, found}
 use Rattle.vhost_pair.specs.declared.halt.Halt.TheVariants.{OutOfMemory}
 use Rattle.vhost_pair.specs.Joined.{Steps}

@@ -1,6 +1,6 @@
 use Rattle.std.proofs.Common.{◌∙◌, sym, subst}
 use Rattle.std.specs.Prelude.{Ok, Err}
-use Rattle.vhost_frontend_calls.specs.Calls.{call_of}
+use Rattle.vhost_frontend_core.specs.Values.{call_of}
 use Rattle.vhost_pair.specs.Joined.{Steps}
 use Rattle.vhost_pair.specs.Sides.{parts_of, as_view}
 use Rattle.vhost_pair.proofs.Running.{not-stopped, held}

@@ -1,5 +1,5 @@
 use Rattle.std.proofs.Common.{refl}
-use Rattle.vhost_frontend_calls.specs.Calls.{call_of}
+use Rattle.vhost_frontend_core.specs.Values.{call_of}
 use Rattle.vhost_pair.specs.Sides as sides
 use Rattle.vhost_pair.specs.Sides.{parts_of}
 use Rattle.vhost_pair.proofs.Handing.{same-asked, served-copied, lost-copied}

@@ -1,5 +1,5 @@
 use Rattle.std.proofs.Common.{◌∙◌, ◌++◌, ◌∷◌, [], ap, subst}
-use Rattle.vhost_frontend_calls.specs.Calls.{call_of}
+use Rattle.vhost_frontend_core.specs.Values.{call_of}
 use Rattle.vhost_protocol.specs.Log.{calls_of}
 use Rattle.vhost_recorder.specs.Recording.{Appends}
 use Rattle.vhost_recorder.proofs.Kept.{kept-recorded, appends-recorded}

@@ -1,0 +1,75 @@
+#!/usr/bin/env python3
+"""grows.py PROGRAM: how the cost of a line grows with its message, with its regions, and with how many lines there are.
+
+PROGRAM is vhost_run. A line is given so often and twice as often; the difference, divided, is what one more costs, in nanoseconds: the middle of
+nine. Beside it stand how much memory the longer run held at most, in kilobytes, and how many bytes a line has and its answer.
+
+Status 0; 2 where the program is not there, or a run failed.
+"""
+import os
+import statistics
+import subprocess
+import sys
+import tempfile
+import time
+
+BEGIN = "get_features\nset_features 0x40000000\nset_protocol_features 0x8208\nset_hdr_flags 8\n"
+REGION = " 0x{0:x}000 0x1000 0x{0:x}000 0 {0}"
+
+
+def stop(why):
+    print(f"grows: {why}", file=sys.stderr)
+    sys.exit(2)
+
+
+def run(program, room, line, count):
+    """Returns the seconds, the kilobytes held at most, and how many bytes were written."""
+    with open(f"{room}/lines", "w", encoding="utf-8") as it:
+        it.write(BEGIN + (line + "\n") * count)
+    with open(f"{room}/lines", "rb") as given, open(f"{room}/answers", "wb") as wrote:
+        began = time.perf_counter()
+        child = subprocess.Popen([program], stdin=given, stdout=wrote)
+        _, status, used = os.wait4(child.pid, 0)
+        seconds = time.perf_counter() - began
+    child.returncode = os.waitstatus_to_exitcode(status)
+    if child.returncode:
+        stop(f"{program} ended with status {child.returncode}")
+    return seconds, used.ru_maxrss, os.path.getsize(f"{room}/answers")
+
+
+def last(room):
+    with open(f"{room}/answers", "rb") as it:
+        return it.read().splitlines()[-1]
+
+
+def show(program, room, name, line, count):
+    seconds = []
+    for _ in range(9):
+        once = run(program, room, line, count)
+        twice = run(program, room, line, 2 * count)
+        seconds.append(twice[0] - once[0])
+    if b" ok" not in last(room):
+        stop(f"{line[:40]} answered {last(room)[-40:]}")
+    each = 1e9 * statistics.median(seconds) / count
+    print(f"{name} {each:.0f} {twice[1]} {len(line) + 1} {(twice[2] - once[2]) // count}", flush=True)
+
+
+def main():
+    if len(sys.argv) != 2:
+        stop("usage: grows.py PROGRAM")
+    program = os.path.abspath(sys.argv[1])
+    if not os.access(program, os.X_OK):
+        stop(f"there is no program {sys.argv[1]}")
+    print("line nanoseconds memory bytes_in bytes_out")
+    with tempfile.TemporaryDirectory() as room:
+        for size in (1, 16, 64, 256, 1024, 4084):
+            show(program, room, f"get_config_{size}", f"get_config 0 {size} 0", 20_000)
+        for regions in (1, 2, 4, 8, 16, 32):
+            line = "set_mem_table" + "".join(REGION.format(at + 1) for at in range(regions))
+            show(program, room, f"set_mem_table_{regions}", line, 20_000)
+        for count in (1_000, 10_000, 100_000, 1_000_000):
+            show(program, room, f"get_features_{count}", "get_features", count)
+
+
+if __name__ == "__main__":
+    main()
