@@ -1,6 +1,7 @@
 /*
- * What the same bytes cost a program in C: figures of the names of vhost_bench, for './bench --limits'. One more, socket_recvmsg, is a queued
- * message received with room for 32 descriptors. Nanoseconds each; the middle of nine.
+ * What the same bytes cost a program in C: figures of the names of vhost_bench, for './bench --limits'. Two more are of a queued
+ * message: socket_recvmsg receives it with room for 32 descriptors, socket_read_apart reads its header and its body by a read each. Nanoseconds
+ * each; the middle of nine.
  */
 #define _GNU_SOURCE
 #include <pthread.h>
@@ -16,6 +17,7 @@
 #define TURNS 9
 #define QUEUED 100
 #define MESSAGE 20
+#define HEADER 12
 
 static void fail(const char *what)
 {
@@ -46,6 +48,12 @@ static void get(int end, char *bytes, size_t count)
 {
     if (read(end, bytes, count) != (ssize_t)count)
         fail("read");
+}
+
+static void get_apart(int end, char *bytes, size_t count)
+{
+    get(end, bytes, HEADER);
+    get(end, bytes + HEADER, count - HEADER);
 }
 
 static void get_with_room(int end, char *bytes, size_t count)
@@ -89,6 +97,11 @@ static double queued(long count, void (*receive)(int, char *, size_t))
 static double socket_read(long count)
 {
     return queued(count, get);
+}
+
+static double socket_read_apart(long count)
+{
+    return queued(count, get_apart);
 }
 
 static double socket_recvmsg(long count)
@@ -165,6 +178,7 @@ int main(void)
         double (*work)(long);
     } figures[] = {
         {"copy_message", 1000000, copy_message}, {"socket_read", 50000, socket_read},    {"socket_recvmsg", 50000, socket_recvmsg},
+        {"socket_read_apart", 50000, socket_read_apart},
         {"socket_trip", 20000, socket_trip},     {"threads_trip", 5000, threads_trip},
     };
     enum { FIGURES = sizeof figures / sizeof figures[0] };
