@@ -1,14 +1,15 @@
 -- What became of a call that was asked.
-use Rattle.std.proofs.Common.{◌≡◌, ℕ, List, [], ◌++◌, append_assoc, Some, None, Ok, Err, refl, sym, ap, subst, ◌∙◌}
+use Rattle.std.proofs.Common.{◌≡◌, ℕ, false, List, [], ◌++◌, append_assoc, Some, None, Ok, Err, refl, sym, ap, subst, ◌∙◌}
 use Rattle.std.proofs.lemmas.List.{append-nil}
 use Rattle.vhost_message.specs.declared.error.Error as declared
 use Rattle.vhost_message.specs.declared.frontend_req.FrontendReq.{FrontendReq}
 use Rattle.vhost_message.specs.FrontendReq.{request_number}
-use Rattle.vhost_protocol.specs.Ask.{ask, Asked, Sends}
+use Rattle.vhost_message.specs.MsgHeader.{fields_of}
+use Rattle.vhost_protocol.specs.Ask.{ask, Sends}
 use Rattle.vhost_protocol.specs.declared.asked.Awaited.{Awaited}
 use Rattle.vhost_protocol.specs.FrontendCall.{FrontendCall, SetHdrFlags, Frontend}
 use Rattle.vhost_protocol.specs.Stream.{Cell}
-use Rattle.vhost_protocol.specs.Written.{Written, written_cells}
+use Rattle.vhost_protocol.specs.Written.{Written, written_cells, head_of}
 use Rattle.vhost_link.specs.Ends.{Ends}
 use Rattle.vhost_link.specs.Mem.{event, StreamLaw}
 use Rattle.vhost_link.specs.declared.plain.PlainHandle.{PlainHandle}
@@ -19,32 +20,57 @@ use Rattle.vhost_frontend_core.specs.Frontend.{endpoint_of, session_of, awaits}
 use Rattle.vhost_frontend_core.specs.Halves.{AsksHalfWithRoom}
 use Rattle.vhost_frontend_core.specs.declared.asked.Sent.{Sent}
 use Rattle.vhost_frontend_core.specs.declared.internal.FrontendInternal.{FrontendInternal}
-use Rattle.vhost_frontend_calls.specs.Halves.{AsksCall, half, refused, at_once}
-use Rattle.vhost_c.specs.Session.{Asks, sent, Stays, Fails, unsent, no_memory, queued, remembers}
+use Rattle.vhost_frontend_core.specs.Awaiting.{MayAwait}
+use Rattle.vhost_frontend_core.specs.ValueHalves.{IsSent, AsksCall, half, refused, at_once}
+use Rattle.vhost_frontend_core.proofs.Awaiting.{awaits-allowed}
+use Rattle.vhost_c.specs.Session.{Asks, sent, Stays, Rests, Fails, want, queued, remembers}
 use Rattle.vhost_c.specs.declared.session.Session.{Session}
 use Rattle.vhost_c.specs.Session as session
+use Rattle.vhost_c.proofs.Wants.{IsUncut, failed}
 
-abbrev Front : Type 0
+abbrev pub Front : Type 0
 Front = FrontendInternal Ends PlainHandle
 
 abbrev pub cells : Written FrontendReq PlainHandle → List (Cell PlainHandle)
 cells w = written_cells request_number w
 
--- A request that went out is behind what was sent before.
-pub record Went (asked : Asked PlainHandle) (old new : State Ends PlainHandle) (after : Awaited) (f' : Frontend) : Type 0 where
+-- A request that went out is behind what was sent before, and this was kept of it.
+pub record Went (call : FrontendCall PlainHandle) (f : Frontend) (s : Sent) (old new : State Ends PlainHandle) (after : Awaited) (f' : Frontend) : Type 0 where
   pub w : Written FrontendReq PlainHandle
-  pub is : asked ≡ Sends w after f'
+  pub is : ask f call ≡ Sends w after f'
   pub text : new.link.sent ≡ old.link.sent ++ cells w
+  pub header : fields_of s.request ≡ head_of request_number w
+  pub awaited : s.awaited ≡ after
 
-pub went : StreamLaw → (asked : Asked PlainHandle) (old new : State Ends PlainHandle) (f f' : Frontend) (before after : Awaited) (s : Sent) → AsksWithRoom event asked old f before (Ok s) new f' after → Went asked old new after f'
-went law asked old new f f' before after s (roomy (goes {w = w} is g)) =
-    let t = g.serves.talks in record { w = w; is = is; text = (law old.link new.link t.below t.moved).taken ∙ ap (λ xs. old.link.sent ++ xs) t.taken }
+pub went : StreamLaw → (call : FrontendCall PlainHandle) (old new : State Ends PlainHandle) (f f' : Frontend) (before after : Awaited) (s : Sent) → AsksWithRoom event (ask f call) old f before (Ok s) new f' after → Went call f s old new after f'
+went law call old new f f' before after s (roomy (goes {w = w} is g)) = let t = g.serves.talks in record {
+  w = w;
+  is = is;
+  text = (law old.link new.link t.below t.moved).taken ∙ ap (λ xs. old.link.sent ++ xs) t.taken;
+  header = g.header;
+  awaited = g.awaits;
+}
+
+-- something was sent for it
+sends-something : (f : Frontend) (call : FrontendCall PlainHandle) (w : Written FrontendReq PlainHandle) (a : Awaited) (g : Frontend) → ask f call ≡ Sends w a g → IsSent call
+sends-something f (SetHdrFlags flags) w a g is = cc is
+sends-something f _ w a g is = tt
+
+module _ (law : StreamLaw) (call : FrontendCall PlainHandle) (old new : Front) (s : Sent) (half : AsksHalfWithRoom event call old (Ok s) new) where
+  pub asked-so : Went call (session_of old) s (endpoint_of old) (endpoint_of new) (awaits new) (session_of new)
+  asked-so = went law call (endpoint_of old) (endpoint_of new) (session_of old) (session_of new) (awaits old) (awaits new) s half
+
+  pub sent-so : IsSent call
+  sent-so = sends-something (session_of old) call asked-so.w (awaits new) (session_of new) asked-so.is
+
+  pub awaited-so : MayAwait call s.awaited
+  awaited-so = subst (λ a. MayAwait call a) (sym asked-so.awaited) (awaits-allowed (session_of old) call asked-so.w (awaits new) (session_of new) asked-so.is)
 
 -- A call that was not asked leaves what is remembered, and this is why.
-pub stayed : (call : FrontendCall PlainHandle) (old new : State Ends PlainHandle) (f f' : Frontend) (before after : Awaited) (e : declared.Error) → AsksWithRoom event (ask f call) old f before (Err e) new f' after → (f' ≡ f) × Fails call f e
-stayed call old new f f' before after e (roomy (core.refuses is)) = (refl, session.refused is)
-stayed call old new f f' before after e (roomy (fails {w = w} {awaited = a} {f' = g} is why)) = (refl, unsent w a g is)
-stayed call old new f f' before after e (no_room is) = (refl, no_memory)
+pub stayed : StreamLaw → (call : FrontendCall PlainHandle) (old new : State Ends PlainHandle) (f f' : Frontend) (before after : Awaited) (e : declared.Error) → IsUncut old → AsksWithRoom event (ask f call) old f before (Err e) new f' after → (f' ≡ f) × Fails call f e
+stayed law call old new f f' before after e uncut (roomy (core.refuses is)) = (refl, session.refused is)
+stayed law call old new f f' before after e uncut (roomy (fails is why)) = (refl, want (failed law old new false e why uncut).1)
+stayed law call old new f f' before after e uncut (no_room is) = (refl, want tt)
 
 pub by-half : (call : FrontendCall PlainHandle) (old new : Front) (s : Sent) → AsksCall call old (Ok (Some s)) new → AsksHalfWithRoom event call old (Ok s) new
 by-half call old new s (half h) = h
@@ -71,9 +97,13 @@ pub collected : (before taken pending now : List (Cell PlainHandle)) → pending
 collected before taken pending now is gone = ap (λ xs. pending ++ xs) gone ∙ append-nil pending ∙ is
 
 -- what was asked of a session in between was asked of the one before, where nothing but its places changed
-pub asks-since : (call : FrontendCall PlainHandle) (old mid new : Session) → queued mid ≡ queued old → remembers mid ≡ remembers old → mid.asked ≡ old.asked → Asks call mid new → Asks call old new
-asks-since call old mid new queue memory asked (sent w is text kept at same) = sent w (subst (λ f. ask f call ≡ Sends w (awaits new.frontend) (remembers new)) memory is) (text ∙ ap (λ xs. xs ++ cells w) queue) kept at same
-asks-since call old mid new queue memory asked (session.at_once flags is f q at) = session.at_once flags is (f ∙ ap {A = Frontend} (λ g. record g { header_flags = flags }) memory) (q ∙ queue) (at ∙ asked)
+pub asks-since : (call : FrontendCall PlainHandle) (old mid new : Session) → queued mid ≡ queued old → Rests old mid → Asks call mid new → Asks call old new
+asks-since call old mid new queue rest (sent w is text keeps answer) = sent w (subst (λ f. ask f call ≡ Sends w (awaits new.frontend) (remembers new)) rest.memory is) (text ∙ ap (λ xs. xs ++ cells w) queue) keeps (answer ∙ rest.answer)
+asks-since call old mid new queue rest (session.at_once flags is f q at came answer) =
+    session.at_once flags is (f ∙ ap {A = Frontend} (λ g. record g { header_flags = flags }) rest.memory) (q ∙ queue) (at ∙ rest.asked) (came ∙ rest.incoming) (answer ∙ rest.answer)
 
-pub stays-since : (old mid new : Session) → queued mid ≡ queued old → remembers mid ≡ remembers old → mid.asked ≡ old.asked → Stays mid new → Stays old new
-stays-since old mid new queue memory asked s = record { queue = s.queue ∙ queue; memory = s.memory ∙ memory; asked = s.asked ∙ asked }
+pub rests-since : (old mid new : Session) → Rests old mid → Rests mid new → Rests old new
+rests-since old mid new r s = record { memory = s.memory ∙ r.memory; asked = s.asked ∙ r.asked; incoming = s.incoming ∙ r.incoming; answer = s.answer ∙ r.answer }
+
+pub stays-since : (old mid new : Session) → queued mid ≡ queued old → Rests old mid → Stays mid new → Stays old new
+stays-since old mid new queue rest s = record { queue = s.queue ∙ queue; rest = rests-since old mid new rest s.rest }

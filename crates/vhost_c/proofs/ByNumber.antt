@@ -1,8 +1,8 @@
 -- What C calls, by the number that it is answered.
-use Rattle.std.proofs.Common.{◌≡◌, ℕ, Option, Some, None, Result, Ok, Err, IfOk, refl, sym, subst, ◌∙◌}
+use Rattle.std.proofs.Common.{◌≡◌, ℕ, Option, Some, None, Result, refl, sym, subst}
 use Rattle.std.specs.Prelude.{⊤}
 use Rattle.vhost_c.specs.Number.{outcome_number}
-use Rattle.vhost_frontend_calls.specs.declared.answer.FrontendAnswer.{FrontendAnswer}
+use Rattle.vhost_frontend_core.specs.declared.values.answer.FrontendAnswer.{FrontendAnswer}
 use Rattle.vhost_c.specs.Session.{By, none, some, Reading}
 use Rattle.vhost_c.specs.declared.refusal.Refusal.{Refusal}
 use Rattle.vhost_c.specs.declared.session.Session.{Session}
@@ -20,7 +20,6 @@ module _ (does : Session → Result ⊤ Refusal → Session → Type 0) (old new
 pub as-said : (P : Option Session → ℕ → Option Session → Type 0) (old new old' new' : Option Session) (n n' : ℕ) → old ≡ old' → n ≡ n' → new ≡ new' → P old' n' new' → P old n new
 as-said P old new old' new' n n' at_old is at_new p = subst (λ o. P o n new) (sym at_old) (subst (λ m. P old' m new) (sym is) (subst (λ o. P old' n' o) (sym at_new) p))
 
--- an answer that was read, where it has its form
-pub reading : (a answer : FrontendAnswer) (s : Session) (outcome : Result ⊤ Refusal) → a ≡ s.answer → IfOk outcome (λ _. a ≡ answer) → Reading answer s outcome s
-reading a answer s (Ok t) same is = (sym same ∙ is, refl)
-reading a answer s (Err r) same is = refl
+-- an answer that was read
+pub reading : (reads : FrontendAnswer → Result ⊤ Refusal → Type 0) (a : FrontendAnswer) (s : Session) (outcome : Result ⊤ Refusal) → a ≡ s.answer → reads a outcome → Reading reads s outcome s
+reading reads a s outcome same read = (subst (λ x. reads x outcome) same read, refl)

@@ -1,4 +1,6 @@
+pub mod Answers
 pub mod Holder
+pub mod Incoming
 pub mod Moving
 pub mod Number
 pub mod Records

@@ -1,5 +1,6 @@
 -- Records of C, as the definitions see them.
 use Rattle.std.specs.Prelude.{ℤ, pos, negsuc, nat_lt, int_lt, unsigned_abs, Option, Some, None, if◌then◌else◌}
+use Rattle.vhost_message.specs.declared.records.config.VhostUserConfig.{VhostUserConfig}
 use Rattle.vhost_message.specs.declared.records.inflight.VhostUserInflight.{VhostUserInflight}
 use Rattle.vhost_message.specs.declared.vring_config.VringConfigData.{VringConfigData}
 use Rattle.vhost_protocol.specs.FrontendCall as calls
@@ -9,6 +10,7 @@ use Rattle.vhost_link.specs.declared.plain.PlainHandle.{PlainHandle}
 use Rattle.vhost_message.specs.Transfer.{direction_number, phase_number}
 use Rattle.vhost_c.specs.declared.fd_asks.FdAsk.{FdAsk}
 use Rattle.vhost_c.specs.declared.fd_asks.FdAsk.TheVariants as asks
+use Rattle.vhost_c.specs.declared.records.Config.{Config}
 use Rattle.vhost_c.specs.declared.records.Inflight.{Inflight}
 use Rattle.vhost_c.specs.declared.records.Region.{Region}
 use Rattle.vhost_c.specs.declared.records.Vring.{Vring}
@@ -36,6 +38,10 @@ vring_in v = record { queue_max_size = v.queue_max_size; queue_size = v.queue_si
 -- the buffer for descriptors in flight
 abbrev pub inflight_in : Inflight → VhostUserInflight
 inflight_in i = record { mmap_size = i.mmap_size; mmap_offset = i.mmap_offset; num_queues = i.num_queues; queue_size = i.queue_size }
+
+-- a part of the configuration space
+abbrev pub config_in : Config → VhostUserConfig
+config_in c = record { offset = c.offset; size = c.size; flags = c.flags }
 
 -- a call that gives a descriptor
 abbrev pub call_with : FdAsk → PlainHandle → FrontendCall PlainHandle

@@ -1,25 +1,30 @@
 -- What the calls of a session do.
-use Rattle.std.specs.Prelude.{◌≡◌, ℕ, ℤ, List, [], ◌++◌, Option, Some, None, Result, Ok, Err, ⊤, is_some, true}
+use Rattle.std.specs.Prelude.{◌≡◌, ◌<◌, ◌≤◌, ℕ, ℤ, List, [], ◌++◌, length, Option, Some, None, Result, Ok, Err, ⊤, is_some, true}
 use Rattle.vhost_message.specs.declared.error.Error as declared
-use Rattle.vhost_message.specs.declared.error.Error.TheVariants.{OutOfMemory}
+use Rattle.vhost_message.specs.declared.error.Error.TheVariants.{OutOfMemory, SocketRetry, SocketBroken}
+use Rattle.vhost_message.specs.declared.cause.IoCause.TheVariants.{Raw}
+use Rattle.vhost_message.specs.declared.errno.TheConstants.{ENOMEM}
 use Rattle.vhost_message.specs.declared.frontend_req.FrontendReq.{FrontendReq}
 use Rattle.vhost_message.specs.FrontendReq.{request_number}
+use Rattle.vhost_message.specs.MsgHeader.{fields_of}
 use Rattle.vhost_protocol.specs.Ask.{ask, Sends, Refuses}
-use Rattle.vhost_protocol.specs.declared.asked.Awaited.{Awaited}
+use Rattle.vhost_protocol.specs.declared.asked.Awaited.TheVariants.{Nobody}
 use Rattle.vhost_protocol.specs.Error.{seen}
-use Rattle.vhost_protocol.specs.FrontendCall.{FrontendCall, SetHdrFlags, PostcopyAckMemRegions, Frontend, new_frontend}
+use Rattle.vhost_protocol.specs.FrontendCall.{FrontendCall, SetHdrFlags, Frontend, new_frontend}
 use Rattle.vhost_protocol.specs.Stream.{Cell}
-use Rattle.vhost_protocol.specs.Written.{Written, written_cells}
+use Rattle.vhost_protocol.specs.Written.{Written, written_cells, head_of}
 use Rattle.vhost_link.specs.Ends.{Ends}
 use Rattle.vhost_link.specs.declared.plain.PlainHandle.{PlainHandle}
 use Rattle.vhost_connection.specs.Talk.{State}
 use Rattle.vhost_frontend_core.specs.Frontend.{endpoint_of, session_of, awaits}
-use Rattle.vhost_frontend_calls.specs.Calls.{call_of}
-use Rattle.vhost_frontend_calls.specs.Halves.{TakesWell}
-use Rattle.vhost_frontend_calls.specs.declared.answer.FrontendAnswer.{FrontendAnswer}
-use Rattle.vhost_frontend_calls.specs.declared.answer.FrontendAnswer.TheVariants.{Failed}
+use Rattle.vhost_frontend_core.specs.Values.{call_of, answer_of}
+use Rattle.vhost_frontend_core.specs.ValueHalves.{TakesResult}
+use Rattle.vhost_frontend_core.specs.declared.values.answer.FrontendAnswer.{FrontendAnswer}
+use Rattle.vhost_frontend_core.specs.declared.values.answer.FrontendAnswer.TheVariants.{Done, Failed}
+use Rattle.vhost_c.specs.Incoming.{missing_from, Adds}
 use Rattle.vhost_c.specs.Number.{outcome_number}
 use Rattle.vhost_c.specs.Moving.{HandsOut, TakesIn}
+use Rattle.vhost_c.specs.declared.incoming.Incoming.{Incoming}
 use Rattle.vhost_c.specs.declared.refusal.Refusal.{Refusal}
 use Rattle.vhost_c.specs.declared.refusal.Refusal.TheVariants.{NotTaken, Protocol, NothingAsked, NotYet}
 use Rattle.vhost_c.specs.declared.session.Asked.{Asked as CallAsked}
@@ -33,32 +38,72 @@ queued s = s.outgoing.link.pending ++ (endpoint_of s.frontend).link.sent
 abbrev pub arrived : Session → List (Cell PlainHandle)
 arrived s = (endpoint_of s.frontend).link.pending
 
+-- the frontend's end of the connection, but for what is to be sent and what came
+abbrev pub end_of : Session → State Ends PlainHandle
+end_of s = record (endpoint_of s.frontend) { link = record (endpoint_of s.frontend).link { pending = []; sent = [] } }
+
 -- what is remembered of the device
 abbrev pub remembers : Session → Frontend
 remembers s = session_of s.frontend
+
+-- how many bytes can be told to be missing of an answer: none where nothing is asked
+abbrev pub missing_for : Option CallAsked → Incoming → ℕ
+missing_for None i = 0
+missing_for (Some asked) i = missing_from asked.sent.awaited i
+
+-- the same of a session
+abbrev pub missing_of : Session → ℕ
+missing_of s = missing_for s.asked s.incoming
+
+-- the same where there may be none
+abbrev pub missing_at : Option Session → ℕ
+missing_at None = 0
+missing_at (Some s) = missing_of s
 
 -- What an endpoint sent is behind what is to be sent, and nothing else changed.
 pub record Collects (old new : State Ends PlainHandle) (before after : List (Cell PlainHandle)) : Type 0 where
   pub given : new ≡ record old { link = record old.link { sent = [] } }
   pub got : after ≡ before ++ old.link.sent
 
--- A call was asked: its request is behind what was to be sent before, what is remembered and awaited is the definitions', and it is the call that is kept until it is taken; or nothing is sent for it, and it was done.
+-- A call that was sent is kept until its answer is taken, with the header of its request and with what is awaited, of which nothing came yet.
+pub record Keeps (call : FrontendCall PlainHandle) (w : Written FrontendReq PlainHandle) (s : Session) : Type 0 where
+  pub kept : CallAsked
+  pub is : s.asked ≡ Some kept
+  pub same : call_of kept.call ≡ call
+  pub header : fields_of kept.sent.request ≡ head_of request_number w
+  pub awaited : kept.sent.awaited ≡ awaits s.frontend
+  pub nothing_came : s.incoming.count ≡ 0
+
+-- A call was asked: its request is behind what was to be sent before, what is remembered and awaited is the definitions', and it is the call that is kept; or nothing is sent for it, and it was done.
 pub data Asks (call : FrontendCall PlainHandle) (old new : Session) : Type 0 where
   sent : (w : Written FrontendReq PlainHandle) → ask (remembers old) call ≡ Sends w (awaits new.frontend) (remembers new)
-      → queued new ≡ queued old ++ written_cells request_number w → (kept : CallAsked) → new.asked ≡ Some kept → call_of kept.call ≡ call → Asks call old new
-  at_once : (flags : ℕ) → call ≡ SetHdrFlags flags → remembers new ≡ record (remembers old) { header_flags = flags } → queued new ≡ queued old → new.asked ≡ old.asked → Asks call old new
+      → queued new ≡ queued old ++ written_cells request_number w → Keeps call w new → new.answer ≡ old.answer → Asks call old new
+  at_once : (flags : ℕ) → call ≡ SetHdrFlags flags → remembers new ≡ record (remembers old) { header_flags = flags } → queued new ≡ queued old → new.asked ≡ old.asked → new.incoming ≡ old.incoming → new.answer ≡ old.answer
+      → Asks call old new
 
--- Why a call was not asked: its own tests say so; or memory was refused, before or on its way.
+-- memory was refused: now, or before on the link, which broke the session
+abbrev pub IsWant : declared.Error → Type 0
+IsWant OutOfMemory = ⊤
+IsWant (SocketRetry c) = c ≡ Raw ENOMEM
+IsWant (SocketBroken c) = c ≡ Raw ENOMEM
+IsWant _ = ⊥
+
+-- Why a call was not asked: its own tests say so; or memory was refused.
 pub data Fails (call : FrontendCall PlainHandle) (f : Frontend) : declared.Error → Type 0 where
   refused : {e : declared.Error} → ask f call ≡ Refuses (seen e) → Fails call f e
-  no_memory : Fails call f OutOfMemory
-  unsent : {e : declared.Error} (w : Written FrontendReq PlainHandle) (a : Awaited) (f' : Frontend) → ask f call ≡ Sends w a f' → Fails call f e
+  want : {e : declared.Error} → IsWant e → Fails call f e
 
--- A call was not asked: nothing more is to be sent, and what is remembered and asked is as before.
-pub record Stays (old new : Session) : Type 0 where
-  pub queue : queued new ≡ queued old
+-- What is remembered, what is asked, what came of its answer and the answer that was taken last are as before.
+pub record Rests (old new : Session) : Type 0 where
   pub memory : remembers new ≡ remembers old
   pub asked : new.asked ≡ old.asked
+  pub incoming : new.incoming ≡ old.incoming
+  pub answer : new.answer ≡ old.answer
+
+-- A call was not asked: nothing more is to be sent, and the rest is as before.
+pub record Stays (old new : Session) : Type 0 where
+  pub queue : queued new ≡ queued old
+  pub rest : Rests old new
 
 -- Why a session refused to ask: the answer before is still to be taken; or the call failed.
 pub data Refused (call : FrontendCall PlainHandle) (s : Session) : Refusal → Type 0 where
@@ -84,35 +129,50 @@ abbrev pub AsksWith : Option PlainHandle → (PlainHandle → FrontendCall Plain
 AsksWith (Some h) call old n new = AsksBy (call h) old n new
 AsksWith None call old n new = (n ≡ 1) × (new ≡ old)
 
--- The answer of the call that was asked was taken, of what came: this is the answer, and nothing is asked any more.
+-- An ask with an argument that a number names: where it names none, the call is refused as one with an argument that is not allowed.
+abbrev pub AsksNamed : {A : Type 0} → Result A ⊤ → (A → Option Session → ℕ → Option Session → Type 0) → Option Session → ℕ → Option Session → Type 0
+AsksNamed (Ok a) asks old n new = asks a old n new
+AsksNamed (Err unnamed) asks old n new = (n ≡ 1) × (new ≡ old)
+
+-- The answer of the call that was asked was taken, of what came: this is the answer, by what was awaited and the header of the request, and nothing is asked or awaited any more.
 pub record TakesOne (old : Session) (answer : FrontendAnswer) (new : Session) : Type 0 where
   pub asked : CallAsked
   pub was : old.asked ≡ Some asked
-  pub taken : TakesWell (call_of asked.call) asked.sent old.frontend answer new.frontend
+  pub taken : TakesResult (call_of asked.call) asked.sent.awaited (fields_of asked.sent.request) (endpoint_of old.frontend) (remembers old) (answer_of answer) (endpoint_of new.frontend) (remembers new)
   pub now : new.asked ≡ None
+  pub quiet : awaits new.frontend ≡ Nobody
+  pub outgoing : new.outgoing ≡ old.outgoing
 
--- What taking answers: the answer is kept, or it is this error; or nothing was asked, or the answer has not come whole, and nothing changed.
+-- What taking answers: the answer is kept, and is no error; or it is this error; or nothing was asked, or bytes of the answer are missing, and nothing changed.
 pub data Takes (old new : Session) : Result ⊤ Refusal → Type 0 where
-  kept : TakesOne old new.answer new → Takes old new (Ok tt)
-  failed : {e : declared.Error} → TakesOne old (Failed e) new → Takes old new (Err (Protocol e))
+  kept : missing_of old ≡ 0 → TakesOne old new.answer new → ((e : declared.Error) → ¬ (new.answer ≡ Failed e)) → Takes old new (Ok tt)
+  failed : {e : declared.Error} → missing_of old ≡ 0 → TakesOne old (Failed e) new → new.answer ≡ Done → Takes old new (Err (Protocol e))
   nothing_asked : old.asked ≡ None → new ≡ old → Takes old new (Err NothingAsked)
-  not_yet : new ≡ old → Takes old new (Err NotYet)
+  not_yet : 0 < missing_of old → new ≡ old → Takes old new (Err NotYet)
 
 -- A part of the answer came, or nothing did; nothing else changed.
 pub record Waits (old new : Session) : Type 0 where
   pub queue : queued new ≡ queued old
+  pub end : end_of new ≡ end_of old
   pub memory : remembers new ≡ remembers old
   pub asked : new.asked ≡ old.asked
+  pub answer : new.answer ≡ old.answer
 
--- what a session answers to bytes of its answer
+-- what a session answers to bytes of its answer: no more may come than are missing
 abbrev pub Receiving : List ℕ → List ℤ → Session → Result ⊤ Refusal → Session → Type 0
-Receiving bytes fds s (Ok done) s' = TakesIn bytes fds (arrived s) (arrived s') × Waits s s'
-Receiving bytes fds s (Err r) s' = (arrived s' ≡ arrived s) × Waits s s'
+Receiving bytes fds s (Ok done) s' = (length bytes ≤ missing_of s) × TakesIn bytes fds (arrived s) (arrived s') × Adds bytes s.incoming s'.incoming × Waits s s'
+Receiving bytes fds s (Err r) s' = (arrived s' ≡ arrived s) × (s'.incoming ≡ s.incoming) × Waits s s'
+
+-- A piece of what is to be sent went out, or nothing did; nothing else changed.
+pub record Hands (old new : Session) : Type 0 where
+  pub came : arrived new ≡ arrived old
+  pub end : end_of new ≡ end_of old
+  pub rest : Rests old new
 
 -- what it answers where it is to hand out what is to be sent
 abbrev pub Sending : List ℕ → List ℤ → ℕ × ℕ → Session → Result ⊤ Refusal → Session → Type 0
-Sending bytes fds count s (Ok done) s' = HandsOut (queued s) (queued s') bytes fds count × (remembers s' ≡ remembers s) × (s'.asked ≡ s.asked)
-Sending bytes fds count s (Err r) s' = (queued s' ≡ queued s) × (remembers s' ≡ remembers s) × (s'.asked ≡ s.asked)
+Sending bytes fds count s (Ok done) s' = HandsOut (queued s) (queued s') bytes fds count × Hands s s'
+Sending bytes fds count s (Err r) s' = (queued s' ≡ queued s) × Hands s s'
 
 -- An ask of C whose arguments may be such that no call can be made of them: then it is refused, 1. Else it is asked; or memory was refused before, 24.
 pub data AsksUnless (bad : Type 0) (call : FrontendCall PlainHandle) (old : Option Session) (n : ℕ) (new : Option Session) : Type 0 where
@@ -133,12 +193,6 @@ pub data Opens (max_queue_num : ℕ) : Option Session → ℕ → Option Session
   was_open : {s : Session} → Opens max_queue_num (Some s) 102 (Some s)
   no_room : Opens max_queue_num None 24 None
 
--- an ask that names a request by its number
-abbrev pub AcksBy : Result FrontendReq ⊤ → Option Session → ℕ → Option Session → Type 0
-AcksBy (Ok code) old n new = AsksBy (PostcopyAckMemRegions code) old n new
-AcksBy (Err none_of_it) old n new = (n ≡ 1) × (new ≡ old)
-
--- what it answers where its answer is read: where that has the form that is asked for, this was read; nothing changed
-abbrev pub Reading : FrontendAnswer → Session → Result ⊤ Refusal → Session → Type 0
-Reading answer s (Ok done) s' = (s.answer ≡ answer) × (s' ≡ s)
-Reading answer s (Err r) s' = s' ≡ s
+-- what it answers where its answer is read: so it was read, and nothing changed
+abbrev pub Reading : (FrontendAnswer → Result ⊤ Refusal → Type 0) → Session → Result ⊤ Refusal → Session → Type 0
+Reading reads s outcome s' = reads s.answer outcome × (s' ≡ s)

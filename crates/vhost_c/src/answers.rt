@@ -1,14 +1,13 @@
 //! The answer that was taken last is read, by its form.
 
-ghost use Rattle.std.specs.Prelude.{◌≡◌, IfOk};
-ghost use Rattle.vhost_frontend_calls.specs.declared.answer.FrontendAnswer.TheVariants.{Number};
+ghost use Rattle.vhost_c.specs.Answers.{Puts, ReadsNumber, ReadsBases, ReadsConfig, ReadsFd, ReadsInflight, ReadsShmem};
 ghost use Rattle.vhost_c.specs.Session.{By, Reading};
 
 use crate::holder::Holder;
 use crate::records::{Config, Inflight, fd_of};
 use crate::refusal::{Refusal, number_of};
 use std::alloc::Global;
-use vhost_frontend_calls::FrontendAnswer;
+use vhost_frontend_core::FrontendAnswer;
 
 type Outcome = Result<(), Refusal>;
 
@@ -19,7 +18,7 @@ pub extern "C" fn covretin_answer_number(
     session: &mut Holder,
     number: &mut u64,
 ) -> u32
-    ensures { By (Reading (Number number.new)) session.old.session result session.new.session }
+    ensures { By (Reading (ReadsNumber number.new)) session.old.session result session.new.session }
 {
     match session.take(alloc) {
         None => number_of(Err(Refusal::NoSession)),
@@ -39,14 +38,16 @@ pub extern "C" fn covretin_answer_bases(
     bases: &mut [u64],
     count: &mut usize,
 ) -> u32
-    ensures { session.new.session ≡ session.old.session }
+    ensures { By (Reading (ReadsBases bases.old bases.new count.new)) session.old.session result session.new.session }
 {
-    let Some(held) = session.take(alloc) else {
-        return number_of(Err(Refusal::NoSession));
-    };
-    let outcome = read_bases(held.answer(), bases, count);
-    session.put(held);
-    number_of(outcome)
+    match session.take(alloc) {
+        None => number_of(Err(Refusal::NoSession)),
+        Some(held) => {
+            let outcome = read_bases(held.answer(), bases, count);
+            session.put(held);
+            number_of(outcome)
+        }
+    }
 }
 
 /// Reads a part of the configuration space, and its bytes.
@@ -58,27 +59,31 @@ pub extern "C" fn covretin_answer_config(
     bytes: &mut [u8],
     count: &mut usize,
 ) -> u32
-    ensures { session.new.session ≡ session.old.session }
+    ensures { By (Reading (ReadsConfig config.new bytes.old bytes.new count.new)) session.old.session result session.new.session }
 {
-    let Some(held) = session.take(alloc) else {
-        return number_of(Err(Refusal::NoSession));
-    };
-    let outcome = read_config(held.answer(), config, bytes, count);
-    session.put(held);
-    number_of(outcome)
+    match session.take(alloc) {
+        None => number_of(Err(Refusal::NoSession)),
+        Some(held) => {
+            let outcome = read_config(held.answer(), config, bytes, count);
+            session.put(held);
+            number_of(outcome)
+        }
+    }
 }
 
 /// Reads a descriptor; -1 is none, where the call may do without.
 #[unsafe(no_mangle)]
 pub extern "C" fn covretin_answer_fd(alloc: Global, session: &mut Holder, fd: &mut i32) -> u32
-    ensures { session.new.session ≡ session.old.session }
+    ensures { By (Reading (ReadsFd fd.new)) session.old.session result session.new.session }
 {
-    let Some(held) = session.take(alloc) else {
-        return number_of(Err(Refusal::NoSession));
-    };
-    let outcome = read_fd(held.answer(), fd);
-    session.put(held);
-    number_of(outcome)
+    match session.take(alloc) {
+        None => number_of(Err(Refusal::NoSession)),
+        Some(held) => {
+            let outcome = read_fd(held.answer(), fd);
+            session.put(held);
+            number_of(outcome)
+        }
+    }
 }
 
 /// Reads the buffer for descriptors in flight, and the descriptor that maps it.
@@ -89,14 +94,16 @@ pub extern "C" fn covretin_answer_inflight(
     inflight: &mut Inflight,
     fd: &mut i32,
 ) -> u32
-    ensures { session.new.session ≡ session.old.session }
+    ensures { By (Reading (ReadsInflight inflight.new fd.new)) session.old.session result session.new.session }
 {
-    let Some(held) = session.take(alloc) else {
-        return number_of(Err(Refusal::NoSession));
-    };
-    let outcome = read_inflight(held.answer(), inflight, fd);
-    session.put(held);
-    number_of(outcome)
+    match session.take(alloc) {
+        None => number_of(Err(Refusal::NoSession)),
+        Some(held) => {
+            let outcome = read_inflight(held.answer(), inflight, fd);
+            session.put(held);
+            number_of(outcome)
+        }
+    }
 }
 
 /// Reads the sizes of the regions of shared memory, in bytes, 0 where there is none; `count` is how many regions there are.
@@ -107,18 +114,20 @@ pub extern "C" fn covretin_answer_shmem(
     sizes: &mut [u64],
     count: &mut usize,
 ) -> u32
-    ensures { session.new.session ≡ session.old.session }
+    ensures { By (Reading (ReadsShmem sizes.old sizes.new count.new)) session.old.session result session.new.session }
 {
-    let Some(held) = session.take(alloc) else {
-        return number_of(Err(Refusal::NoSession));
-    };
-    let outcome = read_shmem(held.answer(), sizes, count);
-    session.put(held);
-    number_of(outcome)
+    match session.take(alloc) {
+        None => number_of(Err(Refusal::NoSession)),
+        Some(held) => {
+            let outcome = read_shmem(held.answer(), sizes, count);
+            session.put(held);
+            number_of(outcome)
+        }
+    }
 }
 
 fn read_number(answer: &FrontendAnswer, number: &mut u64) -> Outcome
-    ensures { IfOk result (λ _. answer.now ≡ Number number.new) }
+    ensures { ReadsNumber number.new answer.now result }
 {
     match answer {
         FrontendAnswer::Number(value) => {
@@ -129,7 +138,9 @@ fn read_number(answer: &FrontendAnswer, number: &mut u64) -> Outcome
     }
 }
 
-fn read_bases(answer: &FrontendAnswer, places: &mut [u64], count: &mut usize) -> Outcome {
+fn read_bases(answer: &FrontendAnswer, places: &mut [u64], count: &mut usize) -> Outcome
+    ensures { ReadsBases places.old places.new count.new answer.now result }
+{
     match answer {
         FrontendAnswer::Bases(Some(bases)) => put(bases, places, count),
         FrontendAnswer::Base(Some(base)) => put(&[*base], places, count),
@@ -143,7 +154,9 @@ fn read_config(
     place: &mut Config,
     room: &mut [u8],
     count: &mut usize,
-) -> Outcome {
+) -> Outcome
+    ensures { ReadsConfig place.new room.old room.new count.new answer.now result }
+{
     match answer {
         FrontendAnswer::Config(part, bytes) => {
             put(bytes, room, count)?;
@@ -158,7 +171,9 @@ fn read_config(
     }
 }
 
-fn read_fd(answer: &FrontendAnswer, fd: &mut i32) -> Outcome {
+fn read_fd(answer: &FrontendAnswer, fd: &mut i32) -> Outcome
+    ensures { ReadsFd fd.new answer.now result }
+{
     match answer {
         FrontendAnswer::Handle(handle) | FrontendAnswer::StateHandle(Some(handle)) => {
             *fd = fd_of(*handle);
@@ -172,7 +187,9 @@ fn read_fd(answer: &FrontendAnswer, fd: &mut i32) -> Outcome {
     }
 }
 
-fn read_inflight(answer: &FrontendAnswer, place: &mut Inflight, fd: &mut i32) -> Outcome {
+fn read_inflight(answer: &FrontendAnswer, place: &mut Inflight, fd: &mut i32) -> Outcome
+    ensures { ReadsInflight place.new fd.new answer.now result }
+{
     match answer {
         FrontendAnswer::Inflight(data, handle) => {
             *place = Inflight::of(data);
@@ -183,7 +200,9 @@ fn read_inflight(answer: &FrontendAnswer, place: &mut Inflight, fd: &mut i32) ->
     }
 }
 
-fn read_shmem(answer: &FrontendAnswer, sizes: &mut [u64], count: &mut usize) -> Outcome {
+fn read_shmem(answer: &FrontendAnswer, sizes: &mut [u64], count: &mut usize) -> Outcome
+    ensures { ReadsShmem sizes.old sizes.new count.new answer.now result }
+{
     match answer {
         FrontendAnswer::ShmemConfig(config) => {
             put(&config.memory_sizes, sizes, count)?;
@@ -197,7 +216,9 @@ fn read_shmem(answer: &FrontendAnswer, sizes: &mut [u64], count: &mut usize) -> 
 /// Copies a list to the front of a place; `count` is how long it is.
 ///
 /// NoRoom: the place is too small, and nothing changed.
-fn put<T: Copy>(list: &[T], place: &mut [T], count: &mut usize) -> Outcome {
+fn put<T: Copy>(list: &[T], place: &mut [T], count: &mut usize) -> Outcome
+    ensures { Puts list.now place.old place.new count.new result }
+{
     if list.len() > place.len() {
         return Err(Refusal::NoRoom);
     }

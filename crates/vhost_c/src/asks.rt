@@ -4,9 +4,9 @@ ghost use Rattle.std.specs.Prelude.{◌≡◌, ◌≢◌, ◌<◌, length, map, 
 ghost use Rattle.vhost_message.specs.declared.limits.TheConstants.{MAX_MSG_SIZE, MAX_MEM_REGIONS};
 ghost use Rattle.vhost_c.specs.Number.{error_number};
 ghost use Rattle.vhost_protocol.specs.FrontendCall as calls;
-ghost use Rattle.vhost_frontend_calls.specs.Calls.{call_of};
+ghost use Rattle.vhost_frontend_core.specs.Values.{call_of};
 ghost use Rattle.vhost_c.specs.Records.{vring_in, inflight_in, info_in};
-ghost use Rattle.vhost_c.specs.Session.{AcksBy, AsksBy, AsksUnless};
+ghost use Rattle.vhost_c.specs.Session.{AsksBy, AsksNamed, AsksUnless};
 ghost use Rattle.vhost_message.specs.FrontendReq.{request_at};
 
 use crate::holder::Holder;
@@ -15,7 +15,7 @@ use crate::refusal::{Refusal, number_of};
 use bitflags::Flags;
 use std::alloc::Global;
 use uuid::Uuid;
-use vhost_frontend_calls::FrontendCall;
+use vhost_frontend_core::FrontendCall;
 use vhost_message::{
     Error, FrontendReq, MAX_MSG_SIZE, VhostUserConfigFlags, VhostUserHeaderFlag,
     VhostUserProtocolFeatures, VhostUserSharedMsg,
@@ -379,7 +379,7 @@ pub extern "C" fn covretin_ask_postcopy_ack_mem_regions(
     session: &mut Holder,
     request: u32,
 ) -> u32
-    ensures { AcksBy (request_at request) session.old.session result session.new.session }
+    ensures { AsksNamed (request_at request) (λ code. AsksBy (calls.PostcopyAckMemRegions code)) session.old.session result session.new.session }
 {
     match FrontendReq::try_from(request) {
         Ok(code) => asked(alloc, session, FrontendCall::PostcopyAckMemRegions(code)),

@@ -2,16 +2,17 @@
 
 ghost use Rattle.std.specs.Prelude.{◌≡◌, Some, None};
 ghost use Rattle.vhost_protocol.specs.FrontendCall as calls;
-ghost use Rattle.vhost_frontend_calls.specs.Calls.{call_of};
+ghost use Rattle.vhost_frontend_core.specs.Values.{call_of};
 ghost use Rattle.vhost_c.specs.Records.{handle_in, log_in, call_with};
-ghost use Rattle.vhost_c.specs.Session.{AsksBy, AsksWith};
-ghost use Rattle.vhost_c.specs.declared.fd_asks.FdAsk.TheVariants.{SetLogFd, SetVringCall, SetVringKick, SetVringErr, SetBackendRequestFd, SetInflightFd};
+ghost use Rattle.vhost_c.specs.Session.{AsksBy, AsksWith, AsksNamed};
+ghost use Rattle.vhost_message.specs.Transfer.{direction_at, phase_at};
+ghost use Rattle.vhost_c.specs.declared.fd_asks.FdAsk.TheVariants.{SetLogFd, SetVringCall, SetVringKick, SetVringErr, SetBackendRequestFd, SetInflightFd, SetDeviceStateFd};
 
 use crate::asks::{asked, refused};
 use crate::holder::Holder;
 use crate::records::{Inflight, Region, handle_of};
 use std::alloc::Global;
-use vhost_frontend_calls::FrontendCall;
+use vhost_frontend_core::FrontendCall;
 use vhost_link::PlainHandle;
 use vhost_message::{Error, VhostTransferStateDirection, VhostTransferStatePhase};
 
@@ -164,11 +165,13 @@ pub extern "C" fn covretin_ask_set_device_state_fd(
     direction: u32,
     phase: u32,
     fd: i32,
-) -> u32 {
-    let (Ok(direction), Ok(phase)) = (
-        VhostTransferStateDirection::try_from(direction),
-        VhostTransferStatePhase::try_from(phase),
-    ) else {
+) -> u32
+    ensures { AsksNamed (direction_at direction) (λ d. AsksNamed (phase_at phase) (λ p. AsksWith (handle_in fd) (call_with (SetDeviceStateFd d p)))) session.old.session result session.new.session }
+{
+    let Ok(direction) = VhostTransferStateDirection::try_from(direction) else {
+        return refused(Error::InvalidParam);
+    };
+    let Ok(phase) = VhostTransferStatePhase::try_from(phase) else {
         return refused(Error::InvalidParam);
     };
     asked_with(

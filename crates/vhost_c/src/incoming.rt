@@ -1,9 +1,6 @@
 //! How much came of the reply that is awaited.
 
-ghost use Rattle.std.specs.Prelude.{◌≡◌, ◌<◌, ◌≤◌, ◌-◌};
-ghost use Rattle.vhost_message.specs.declared.limits.TheConstants.{MAX_MSG_TEXT, MSG_HEADER_SIZE};
-
-use vhost_message::{MAX_MSG_SIZE, MSG_HEADER_SIZE};
+use vhost_message::{ByteValued, FrontendReq, MAX_MSG_SIZE, MSG_HEADER_SIZE, VhostUserMsgHeader};
 
 /// How much came of the reply that is awaited: its header, as far as that came, and how many bytes in all.
 #[derive(Drop, Clone, Copy)]
@@ -13,6 +10,10 @@ pub(crate) struct Incoming {
 }
 
 impl Incoming {
+    ghost use Rattle.std.specs.Prelude.{◌≡◌, ◌≤◌};
+    ghost use Rattle.vhost_message.specs.declared.limits.TheConstants.{MAX_MSG_TEXT};
+    ghost use Rattle.vhost_c.specs.Incoming.{missing_in, Adds};
+
     /// Nothing came yet.
     pub(crate) fn new() -> Incoming
         ensures { result.count ≡ 0 }
@@ -26,14 +27,13 @@ impl Incoming {
     /// How many bytes can be told to be missing: those of the header, and then those of the body that the header
     /// announces. The body of a reply that is longer than a message may be is not waited for.
     pub(crate) fn missing(&self) -> usize
-        ensures header { self.now.count < MSG_HEADER_SIZE → result ≡ MSG_HEADER_SIZE - self.now.count }
+        ensures missing { result ≡ missing_in self.now }
         ensures within { result ≤ MAX_MSG_TEXT }
     {
         if self.count < MSG_HEADER_SIZE {
             return MSG_HEADER_SIZE - self.count;
         }
-        let [_, _, _, _, _, _, _, _, a, b, c, d] = self.head;
-        let size = u32::from_le_bytes([a, b, c, d]) as usize;
+        let size = VhostUserMsgHeader::<FrontendReq>::decode(&self.head).get_size() as usize;
         if size > MAX_MSG_SIZE {
             return 0;
         }
@@ -41,12 +41,13 @@ impl Incoming {
     }
 
     /// These bytes came.
-    pub(crate) fn add(&mut self, bytes: &[u8]) {
-        for byte in bytes {
-            if self.count < MSG_HEADER_SIZE {
-                self.head[self.count] = *byte;
-            }
-            self.count = self.count.saturating_add(1);
+    pub(crate) fn add(&mut self, bytes: &[u8])
+        ensures { Adds bytes.now self.old self.new }
+    {
+        if self.count < MSG_HEADER_SIZE {
+            let more = bytes.len().min(MSG_HEADER_SIZE - self.count);
+            self.head[self.count..self.count + more].copy_from_slice(&bytes[..more]);
         }
+        self.count = self.count.saturating_add(bytes.len());
     }
 }

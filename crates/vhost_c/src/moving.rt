@@ -1,7 +1,7 @@
 //! What a session sends goes out, what came for it is taken in, and its answers are taken.
 
 ghost use Rattle.std.specs.Prelude.{◌≡◌};
-ghost use Rattle.vhost_c.specs.Session.{By, Sending, Receiving, Takes};
+ghost use Rattle.vhost_c.specs.Session.{By, Sending, Receiving, Takes, missing_at};
 
 use crate::holder::Holder;
 use crate::refusal::{Refusal, number_of};
@@ -39,7 +39,8 @@ pub extern "C" fn covretin_to_send(
 /// How many bytes can be told to be missing of the answer: 0 where it may be taken.
 #[unsafe(no_mangle)]
 pub extern "C" fn covretin_missing(alloc: Global, session: &mut Holder) -> usize
-    ensures { session.new.session ≡ session.old.session }
+    ensures missing { result ≡ missing_at session.old.session }
+    ensures same { session.new.session ≡ session.old.session }
 {
     let Some(held) = session.take(alloc) else {
         return 0;

@@ -3,11 +3,11 @@
 ghost use Rattle.std.specs.Prelude.{◌≡◌, ◌<◌, ◌≤◌, ◌⊎◌, length, take, map, Some, IfOk, IfErr};
 ghost use Rattle.vhost_message.specs.declared.error.Error.TheVariants.{OutOfMemory, InvalidParam};
 ghost use Rattle.vhost_message.specs.declared.limits.TheConstants.{MAX_MEM_REGIONS};
-ghost use Rattle.vhost_frontend_calls.specs.Calls.{info_of, log_region_of};
+ghost use Rattle.vhost_frontend_core.specs.Values.{info_of, log_region_of};
 ghost use Rattle.vhost_c.specs.Records.{handle_in, fd_in, info_in, log_in, vring_in, inflight_in};
 
 use std::alloc::Global;
-use vhost_frontend_calls::{LogRegion, RegionInfo};
+use vhost_frontend_core::{LogRegion, RegionInfo};
 use vhost_link::{Kind, PlainHandle};
 use vhost_message::{
     Error, MAX_MEM_REGIONS, Result, VhostUserInflight, VhostUserMemoryRegion, VringConfigData,
@@ -132,12 +132,14 @@ impl Inflight {
     }
 
     /// The buffer of an answer.
-    pub(crate) fn of(data: &VhostUserInflight) -> Inflight {
+    pub(crate) fn of(area: &VhostUserInflight) -> Inflight
+        ensures { inflight_in result ≡ area.now }
+    {
         Inflight {
-            mmap_size: data.mmap_size,
-            mmap_offset: data.mmap_offset,
-            num_queues: data.num_queues,
-            queue_size: data.queue_size,
+            mmap_size: area.mmap_size,
+            mmap_offset: area.mmap_offset,
+            num_queues: area.num_queues,
+            queue_size: area.queue_size,
         }
     }
 }

@@ -1,13 +1,24 @@
 //! A frontend's session whose link is its caller's.
 
+ghost use Rattle.std.specs.Prelude.{◌≡◌, ◌≤◌, [], IfOk, IfErr};
+ghost use Rattle.std.specs.Option.{ForSome};
+ghost use Rattle.vhost_message.specs.declared.cause.IoCause.TheVariants.{Raw};
+ghost use Rattle.vhost_message.specs.declared.errno.TheConstants.{ENOMEM};
+ghost use Rattle.vhost_frontend_core.specs.Awaiting.{MayAwait};
+ghost use Rattle.vhost_frontend_core.specs.Frontend.{endpoint_of};
+ghost use Rattle.vhost_frontend_core.specs.Kept.{IsKeptFor};
+ghost use Rattle.vhost_frontend_core.specs.ValueHalves.{IsSent};
+ghost use Rattle.vhost_frontend_core.specs.Values.{call_of};
+
 use crate::carrying::{collect, forget, give};
 use crate::incoming::Incoming;
 use crate::outgoing::Outgoing;
 use crate::records::handles_of;
 use crate::refusal::Refusal;
 use std::alloc::Global;
-use vhost_frontend_calls::{FrontendAnswer, FrontendCall, ask, take};
-use vhost_frontend_core::{Awaited, FrontendInternal, Sent};
+use vhost_frontend_core::{
+    Awaited, FrontendAnswer, FrontendCall, FrontendInternal, Sent, ask, take,
+};
 use vhost_link::{MemLink, stream_law};
 use vhost_message::{Error, MAX_ATTACHED_FD_ENTRIES};
 
@@ -16,14 +27,18 @@ type Outcome<T> = std::result::Result<T, Refusal>;
 /// A link in memory is asked once: what it can't do it will not do.
 const BUDGET: u32 = 0;
 
-/// A call whose answer is still to be taken.
+/// A call whose answer is still to be taken: it was sent, and what is awaited and kept of its request is the call's.
 #[derive(Drop)]
 struct Asked {
     call: FrontendCall,
     sent: Sent,
+    ghost sent_out: { ∥ IsSent (call_of call) ∥₁ },
+    ghost awaited: { ∥ MayAwait (call_of call) sent.awaited ∥₁ },
+    ghost kept: { ∥ IsKeptFor (call_of call) sent.awaited sent.kept ∥₁ },
 }
 
-/// A session: the frontend, what is to be sent, and what is awaited.
+/// A session: the frontend, what is to be sent, and what is awaited. No call of its link is cut, so nothing breaks it but a
+/// want of memory.
 #[derive(Drop)]
 pub struct Session {
     frontend: FrontendInternal<MemLink>,
@@ -32,15 +47,14 @@ pub struct Session {
     incoming: Incoming,
     answer: FrontendAnswer,
     alloc: Global,
+    ghost uncut: { (endpoint_of frontend).link.script ≡ [] },
+    ghost broken: { ForSome (endpoint_of frontend).broken (λ c. c ≡ Raw ENOMEM) },
 }
 
 impl Session {
-    ghost use Rattle.std.specs.Prelude.{◌≡◌, ◌≤◌, [], None, IfOk, IfErr};
     ghost use Rattle.vhost_message.specs.declared.limits.TheConstants.{MAX_MSG_TEXT};
-    ghost use Rattle.vhost_frontend_core.specs.Frontend.{endpoint_of};
-    ghost use Rattle.vhost_frontend_calls.specs.Calls.{call_of};
     ghost use Rattle.vhost_c.specs.Moving.{HandsOut};
-    ghost use Rattle.vhost_c.specs.Session.{IsNew, Asks, Asking, Stays, Fails, Receiving, Takes, queued, remembers};
+    ghost use Rattle.vhost_c.specs.Session.{IsNew, Asks, Asking, Stays, Hands, Fails, Receiving, Takes, queued, remembers, missing_of};
 
     /// A new session with a device of at most so many queues.
     ///
@@ -67,8 +81,9 @@ impl Session {
 
     /// Asks. What is to be sent then waits to be handed out.
     ///
-    /// NotTaken: the answer of the call before is still to be taken. The errors of the call. After each, nothing more is to
-    /// be sent than before.
+    /// NotTaken: the answer of the call before is still to be taken. The errors of the call's own tests. OutOfMemory: a growth
+    /// was refused; SocketRetry, SocketBroken: one was refused to the link, now or before. After each, nothing more is to be
+    /// sent than before.
     pub(crate) fn ask(&mut self, call: FrontendCall) -> Outcome<()>
         ensures { Asking (call_of call) self.old result self.new }
     {
@@ -95,7 +110,8 @@ impl Session {
         match ask(&mut self.frontend, &call) {
             Ok(Some(sent)) => {
                 self.incoming = Incoming::new();
-                self.asked = Some(Asked { call, sent });
+                let asked = Asked { call, sent };
+                self.asked = Some(asked);
                 Ok(())
             }
             Ok(None) => Ok(()),
@@ -114,7 +130,7 @@ impl Session {
     pub(crate) fn hand_out(&mut self, bytes: &mut [u8], fds: &mut [i32]) -> Outcome<(usize, usize)>
         ensures out { IfOk result (λ n. HandsOut (queued self.old) (queued self.new) bytes.new fds.new n) }
         ensures refused { IfErr result (λ _. queued self.new ≡ queued self.old) }
-        ensures rest { (remembers self.new ≡ remembers self.old) × (self.new.asked ≡ self.old.asked) }
+        ensures rest { Hands self.old self.new }
     {
         if bytes.is_empty() || fds.len() < MAX_ATTACHED_FD_ENTRIES {
             return Err(Refusal::NoRoom);
@@ -130,8 +146,8 @@ impl Session {
 
     /// How many bytes can be told to be missing of the answer.
     pub(crate) fn missing(&self) -> usize
+        ensures missing { result ≡ missing_of self.now }
         ensures within { result ≤ MAX_MSG_TEXT }
-        ensures unasked { self.now.asked ≡ None → result ≡ 0 }
     {
         match &self.asked {
             None => 0,
@@ -171,13 +187,15 @@ impl Session {
 
     /// Takes the answer of the call that was asked.
     ///
-    /// NothingAsked, NotYet: nothing changed. The errors of the call; after these, nothing is asked any more.
+    /// NothingAsked: no call awaits to be taken. NotYet: bytes are missing. After both, nothing changed. The errors of the
+    /// call; after these, nothing is asked any more.
     pub(crate) fn take(&mut self) -> Outcome<()>
         ensures { Takes self.old self.new result }
     {
         if self.missing() > 0 {
             return Err(Refusal::NotYet);
         }
+        stream_law();
         match self.asked.take() {
             Some(Asked { call, sent }) => {
                 match take(&mut self.frontend, &call, sent) {

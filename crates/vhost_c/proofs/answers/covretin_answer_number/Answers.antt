@@ -1,4 +1,5 @@
 use Rattle.std.proofs.Common.{ap, ◌∙◌}
+use Rattle.vhost_c.specs.Answers.{ReadsNumber}
 use Rattle.vhost_c.specs.declared.session.Session.{Session}
 use Rattle.vhost_c.proofs.ByNumber.{by-none, by-some, reading}
 use Rattle.vhost_c.proofs.answers.covretin_answer_number.Goals as goal
@@ -8,4 +9,4 @@ returns-in-None c = by-none _ _ _ _ c.in-None.ensures.taken c.in-None.ensures.le
 
 pub returns-in-Some : goal.returns-in-Some
 returns-in-Some c = by-some _ _ _ _ c.in-Some.held.value c.in-Some.held.value c.read_number-outcome.result c.in-Some.ensures.taken c.put.ensures c.number_of-in-Some.ensures
-    (reading _ _ c.in-Some.held.value c.read_number-outcome.result (c.answer.ensures ∙ ap (λ (s : Session). s.answer) c.deref.ensures) c.read_number-outcome.ensures)
+    (reading (ReadsNumber c.read_number-outcome.new.number) _ c.in-Some.held.value c.read_number-outcome.result (c.answer.ensures ∙ ap (λ (s : Session). s.answer) c.deref.ensures) c.read_number-outcome.ensures)

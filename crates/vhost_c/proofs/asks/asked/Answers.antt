@@ -1,5 +1,5 @@
 use Rattle.std.proofs.Common.{Some, sym, ap, ◌∙◌}
-use Rattle.vhost_frontend_calls.specs.Calls.{call_of}
+use Rattle.vhost_frontend_core.specs.Values.{call_of}
 use Rattle.vhost_c.specs.Session.{Asking}
 use Rattle.vhost_c.specs.declared.session.Session.{Session}
 use Rattle.vhost_c.proofs.ByNumber.{by-none, by-some}

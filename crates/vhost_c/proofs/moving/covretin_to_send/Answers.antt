@@ -8,8 +8,8 @@ returns-in-None c = by-none _ _ _ _ c.in-None.ensures.taken c.in-None.ensures.le
 
 pub returns-in-Ok : goal.returns-in-Ok
 returns-in-Ok c = by-some _ _ _ _ c.deref_mut.result.now c.hand_out-outcome.new.self (Ok tt)
-    (c.in-Some.ensures.taken ∙ ap {A = Session} Some (sym c.deref_mut.ensures.value)) c.put.ensures c.number_of-in-Ok.ensures (c.in-Ok.ensures.out, c.in-Ok.ensures.rest.0, c.in-Ok.ensures.rest.1)
+    (c.in-Some.ensures.taken ∙ ap {A = Session} Some (sym c.deref_mut.ensures.value)) c.put.ensures c.number_of-in-Ok.ensures (c.in-Ok.ensures.out, c.in-Ok.ensures.rest)
 
 pub returns-in-Err : goal.returns-in-Err
 returns-in-Err c = by-some _ _ _ _ c.deref_mut.result.now c.hand_out-outcome.new.self (Err c.in-Err.refusal)
-    (c.in-Some.ensures.taken ∙ ap {A = Session} Some (sym c.deref_mut.ensures.value)) c.put.ensures c.number_of-in-Err.ensures (c.in-Err.ensures.refused, c.in-Err.ensures.rest.0, c.in-Err.ensures.rest.1)
+    (c.in-Some.ensures.taken ∙ ap {A = Session} Some (sym c.deref_mut.ensures.value)) c.put.ensures c.number_of-in-Err.ensures (c.in-Err.ensures.refused, c.in-Err.ensures.rest)

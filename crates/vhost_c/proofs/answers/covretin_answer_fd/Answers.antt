@@ -1,0 +1,12 @@
+use Rattle.std.proofs.Common.{ap, ◌∙◌}
+use Rattle.vhost_c.specs.Answers.{ReadsFd}
+use Rattle.vhost_c.specs.declared.session.Session.{Session}
+use Rattle.vhost_c.proofs.ByNumber.{by-none, by-some, reading}
+use Rattle.vhost_c.proofs.answers.covretin_answer_fd.Goals as goal
+
+pub returns-in-None : goal.returns-in-None
+returns-in-None c = by-none _ _ _ _ c.in-None.ensures.taken c.in-None.ensures.left c.number_of.ensures
+
+pub returns-in-Some : goal.returns-in-Some
+returns-in-Some c = by-some _ _ _ _ c.in-Some.held.value c.in-Some.held.value c.read_fd-outcome.result c.in-Some.ensures.taken c.put.ensures c.number_of-in-Some.ensures
+    (reading (ReadsFd c.read_fd-outcome.new.fd) _ c.in-Some.held.value c.read_fd-outcome.result (c.answer.ensures ∙ ap (λ (s : Session). s.answer) c.deref.ensures) c.read_fd-outcome.ensures)
