@@ -4,6 +4,7 @@
 mod answers;
 mod asks;
 mod carrying;
+mod clients;
 mod fd_asks;
 mod holder;
 mod incoming;

@@ -1,0 +1,34 @@
+//! Clients of the exports: what follows of their contracts alone.
+
+ghost use Rattle.std.specs.Prelude.{◌≡◌, ◌∷◌, [], None};
+ghost use Rattle.std.specs.Option.{IsSomeAnd};
+ghost use Rattle.vhost_protocol.specs.Stream.{bytes};
+ghost use Rattle.vhost_c.specs.Number.{number};
+ghost use Rattle.vhost_c.specs.Session.{queued};
+ghost use Rattle.vhost_c.specs.declared.refusal.Refusal.TheVariants.{NotYet};
+
+use crate::asks::covretin_ask_get_features;
+use crate::holder::Holder;
+use crate::moving::covretin_take;
+use crate::opening::covretin_open;
+use std::alloc::Global;
+
+/// A session is opened, and asked for the device's features. Where both are answered 0, exactly the bytes of this request are to be
+/// sent.
+pub fn opens_and_asks(alloc: Global, session: &mut Holder) -> (u32, u32)
+    ensures { session.old.session ≡ None → result ≡ (0, 0) → IsSomeAnd session.new.session (λ s. bytes (queued s) ≡ 1 ∷ 0 ∷ 0 ∷ 0 ∷ 1 ∷ 0 ∷ 0 ∷ 0 ∷ 0 ∷ 0 ∷ 0 ∷ 0 ∷ []) }
+{
+    let opened = covretin_open(alloc, session, 2);
+    let asked = covretin_ask_get_features(alloc, session);
+    (opened, asked)
+}
+
+/// The same, and its answer is taken before anything came: that is too early.
+pub fn takes_too_early(alloc: Global, session: &mut Holder) -> (u32, u32, u32)
+    ensures { session.old.session ≡ None → result.0 ≡ 0 → result.1 ≡ 0 → result.2 ≡ number NotYet }
+{
+    let opened = covretin_open(alloc, session, 2);
+    let asked = covretin_ask_get_features(alloc, session);
+    let taken = covretin_take(alloc, session);
+    (opened, asked, taken)
+}
