@@ -1,4 +1,4 @@
--- What is kept of a request, for the answer that is compared with it.
+-- What is kept of a request, for its answer.
 use Rattle.std.specs.Prelude.{◌≡◌, ℕ, List, length, take, ⊤}
 use Rattle.vhost_message.specs.declared.records.config.VhostUserConfig.{VhostUserConfig}
 use Rattle.vhost_message.specs.declared.records.memory.VhostUserMemoryRegion.{VhostUserMemoryRegion}

@@ -21,7 +21,7 @@ pub struct KeptTable {
     ghost room: { count ≤ vec_capacity bases },
 }
 
-/// What is kept of a request, since its reply is compared with it.
+/// What is kept of a request for its answer: what the reply is compared with, or a place for what it brings.
 #[derive(Drop)]
 pub enum Kept {
     /// Nothing.

@@ -8,7 +8,7 @@ use std::thread::Threads;
 use vhost_device::VhostUserBackendReqHandlerMut;
 use vhost_dummy_backend::DummyBackendReqHandler;
 use vhost_link::{Cut, MemLink};
-use vhost_message::Error;
+use vhost_message::{Error, VhostUserProtocolFeatures, VhostUserShMemConfig};
 use vhost_recorder::{FrontendAnswer, FrontendCall, Halt, Log, Receipt, Stop};
 
 /// The example device, over links in memory.
@@ -55,7 +55,19 @@ fn are_nine<D: VhostUserBackendReqHandlerMut<Link = MemLink>>(alone: &Alone<D>) 
     }
 }
 
-/// What a caller alone sees over a new example device, with a budget of retries, and a link of the frontend that is cut by a script.
+/// What a caller alone sees over an example device, with a budget of retries, and a link of the frontend that is cut by a script.
+fn alone_over<R: Wait>(
+    rt: &R,
+    alloc: Global,
+    device: Device,
+    caller: u32,
+    calls: &[FrontendCall],
+    link: (u32, Vec<Cut>),
+) -> Result<Alone<Device>, Halt> {
+    call_alone(rt, alloc, device, caller, calls, link)
+}
+
+/// The same over a new one.
 fn alone<R: Wait>(
     rt: &R,
     alloc: Global,
@@ -63,7 +75,7 @@ fn alone<R: Wait>(
     calls: &[FrontendCall],
     link: (u32, Vec<Cut>),
 ) -> Result<Alone<Device>, Halt> {
-    call_alone(rt, alloc, new_device(alloc), caller, calls, link)
+    alone_over(rt, alloc, new_device(alloc), caller, calls, link)
 }
 
 fn reads_what_it_set<R: Wait>(rt: &R, alloc: Global) -> Result<bool, Halt> {
@@ -78,6 +90,39 @@ fn reads_what_it_set<R: Wait>(rt: &R, alloc: Global) -> Result<bool, Halt> {
 #[test]
 fn one_caller_reads_what_it_set(rt: HostRuntime) -> Result<(), Fail> {
     assert!(rt; reads_what_it_set(&rt, rt.alloc())?);
+    Ok(())
+}
+
+/// Whether the last of three receipts is confirmed, and has the sizes of these two regions of shared memory.
+fn has_regions<D: VhostUserBackendReqHandlerMut<Link = MemLink>>(
+    alone: &Alone<D>,
+    sizes: &[u64],
+) -> bool {
+    match alone.receipts.as_slice() {
+        [_, _, last] => {
+            alone.log.confirms(last)
+                && matches!(last.answer(), FrontendAnswer::ShmemConfig(config) if config.nregions == 2 && config.memory_sizes[..2] == sizes[..])
+        }
+        _ => false,
+    }
+}
+
+fn reads_what_is_shared<R: Wait>(rt: &R, alloc: Global) -> Result<bool, Halt> {
+    let sizes = [0x1000, 0x2000];
+    let mut device = new_device(alloc);
+    device.set_shmem_config(VhostUserShMemConfig::new(2, &sizes));
+    let calls = [
+        FrontendCall::GetFeatures,
+        FrontendCall::SetProtocolFeatures(VhostUserProtocolFeatures::SHMEM),
+        FrontendCall::GetShmemConfig,
+    ];
+    let seen = alone_over(rt, alloc, device, 7, &calls, (3, Vec::new(alloc)))?;
+    Ok(has_regions(&seen, &sizes))
+}
+
+#[test]
+fn one_caller_reads_what_is_shared(rt: HostRuntime) -> Result<(), Fail> {
+    assert!(rt; reads_what_is_shared(&rt, rt.alloc())?);
     Ok(())
 }
 
