@@ -1,14 +1,14 @@
 -- A link that takes in all that it is given takes in a text by one call.
-use Rattle.std.proofs.Common.{◌≡◌, ℕ, ◌+◌, ◌<◌, ◌≤◌, List, [], length, take, drop, true, false, Bool, Option, Some, None, Ok, Err, Result, ◌⊎◌, inl, inr, refl, sym, ap, subst, ◌∙◌, arith, add-zero, zero-add}
+use Rattle.std.proofs.Common.{◌≡◌, ℕ, ◌+◌, ◌<◌, ◌≤◌, List, [], length, take, drop, true, false, Bool, ◌⊎◌, inl, inr, ap, subst, ◌∙◌, arith}
 use Rattle.std.specs.Prelude.{if◌then◌else◌}
 use Rattle.std.proofs.lemmas.List.{take_all}
 use Rattle.vhost_message.specs.declared.cause.IoCause.{IoCause}
 use Rattle.vhost_message.specs.Cause.{is_retry}
 use Rattle.vhost_protocol.specs.Stream.{Cell}
-use Rattle.vhost_link.specs.Law.{Event, Taken, Refused, Moved, move, ◌then◌, refused}
+use Rattle.vhost_link.specs.Law.{Event, Taken, Refused, Moved, move, ◌then◌}
 use Rattle.vhost_link.specs.Law.Moved.{still, more}
 use Rattle.vhost_link.proofs.Moves.{Moved-as}
-use Rattle.vhost_connection.specs.Pass.{sends, WentAtOnce, WentNot, AtOnce}
+use Rattle.vhost_connection.specs.Pass.{sends, WentAtOnce, WentNot}
 
 -- so far nothing went, and the link takes in all; or all went by one call
 abbrev pub SoFar : {S H : Type 0} → (S → Event H → S → Type 0) → (S → Type 0) → S → List (Cell H) → ℕ → S → Type 0

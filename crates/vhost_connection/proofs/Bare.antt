@@ -1,9 +1,9 @@
 -- A reply with configuration bytes comes in, or a bare one.
-use Rattle.std.proofs.Common.{◌≡◌, ℕ, ◌+◌, ◌-◌, ◌<◌, ◌≤◌, List, [], ◌++◌, length, take, drop, refl, sym, ap, subst, ◌∙◌, arith, Bool, true, false, ◌&&◌, Option, Some, None, Ok, Err, Vec, ◌∷◌, suc}
+use Rattle.std.proofs.Common.{◌≡◌, ℕ, ◌-◌, ◌<◌, ◌≤◌, List, [], ◌++◌, length, take, drop, refl, sym, ap, ◌∙◌, arith, Bool, true, false, ◌&&◌, Option, Some, None, Ok, Err, Vec, ◌∷◌, suc, inl, inr}
 use Rattle.std.specs.Prelude.{not, is_some, ◌==◌}
 use Rattle.std.specs.Global.{Global}
 use Rattle.std.proofs.lemmas.Bool.Decides.{nat_tests}
-use Rattle.std.proofs.lemmas.List.{take-map, drop-map, take-take, take-append-le, drop-append-le, drop-take, take_all, drop_all, length-drop}
+use Rattle.std.proofs.lemmas.List.{take-map, drop-map, take-append-le, drop-append-le, drop_all, length-drop}
 use Rattle.vhost_message.specs.declared.error.Error.{Error}
 use Rattle.vhost_message.specs.declared.error.Error.TheVariants.{InvalidMessage, PartialMessage}
 use Rattle.vhost_message.specs.declared.header.VhostUserMsgHeader.{VhostUserMsgHeader}
@@ -12,20 +12,18 @@ use Rattle.vhost_message.specs.Header.{Header, header_of, is_valid_header, is_re
 use Rattle.vhost_message.specs.MsgHeader.{fields_of, of_fields}
 use Rattle.vhost_message.specs.Records.{config_of}
 use Rattle.vhost_message.specs.Valid.{is_valid_config}
-use Rattle.vhost_protocol.specs.Stream.{Cell, bytes, first_handles, has_some, items, heard}
+use Rattle.vhost_protocol.specs.Stream.{Cell, bytes, first_handles, has_some}
 use Rattle.vhost_link.specs.Law.{Event}
 use Rattle.vhost_link.proofs.Cells.{length-bytes}
-use Rattle.vhost_connection.specs.Pass.{receives}
-use Rattle.vhost_connection.specs.Talk.{State, Serves}
+use Rattle.vhost_connection.specs.Talk.{State}
+use Rattle.vhost_connection.specs.Came.{Came}
 use Rattle.vhost_connection.specs.Calls.{HandsOver}
-use Rattle.vhost_connection.specs.Front.{FrontCame, FrontFails, MoreCame, MoreFails, gives}
+use Rattle.vhost_connection.specs.Front.{IsFront, ReadsFront, ReadsMore, gives}
 use Rattle.vhost_connection.specs.Bare.{is_bare, ReadsOrBare}
-use Rattle.vhost_connection.specs.Bare.ReadsOrBare.{bare, whole, ends, invalid, fails}
-use Rattle.vhost_connection.proofs.Fronts.{Serves-list}
-use Rattle.vhost_connection.proofs.Messages.{all-came, some-came}
-use Rattle.vhost_connection.proofs.Bodies.{payload-bad, payload-whole}
+use Rattle.vhost_connection.proofs.Came.{came-listed, came-given, came-early, cut-few, cut-only}
+use Rattle.vhost_connection.proofs.Bodies.{front-short, front-more, front-of-text, part-of, message-bad, message-whole}
 use Rattle.vhost_connection.proofs.Receiving.{first-append}
-use Rattle.vhost_connection.proofs.More.{more-parts, more-fails}
+use Rattle.vhost_connection.proofs.More.{came-then, cut-then, room-then, front-then}
 
 -- the test of a bare reply, as the code makes it
 abbrev pub bare_test : {R : Type 0} → (ℕ → Option R) → Header → Header → ℕ → VhostUserConfig → Bool
@@ -55,78 +53,81 @@ module _ {R H : Type 0} (code : ℕ → Option R) (request : Header) where
       let body : take 12 (drop 12 (cs ++ ds)) ≡ take 12 (drop 12 cs) = ap (take 12) tail ∙ take-append-le 12 (drop 12 cs) ds (omega (arith, length-drop 12 cs)) in
       rw (take-append-le 12 cs ds (omega arith), body, first-append cs ds (omega arith)) refl
 
-module _ {R L H : Type 0} (event : L → Event H → L → Type 0) (code : ℕ → Option R) (request : Header) (old mid : State L H) (count : ℕ) (hs : List H) (text : List ℕ) where
-  -- the end comes first
-  pub ended-bare : (before : List ℕ) (new : State L H) → FrontCame event old 24 count hs text mid → count < 24 → new ≡ record mid { list = true } → ReadsOrBare event code request old before (Err PartialMessage) before new
-  ended-bare before new f short s = ends (record {
-    cs = f.cs;
-    retries = f.retries;
-    serves = subst (λ x. Serves event old old.budget (receives (heard f.cs true) f.retries) x) (sym s) (Serves-list true (some-came f short));
-    short = omega (arith, f.counted);
-    room = refl;
-    list = ap (λ (x : State _ _). x.list) s;
-  })
+module _ {R L H : Type 0} (event : L → Event H → L → Type 0) (code : ℕ → Option R) (request : Header) (old : State L H) where
+  -- there was trouble in header and record
+  pub front-fails : (before : List ℕ) (new : State L H) (error : Error) → ReadsFront event old 24 (Err error) [] new → ReadsOrBare event code request old before (Err error) before new
+  front-fails before new error (cs, p) =
+      let f = cut-only p in
+      let few = cut-few f (omega arith) in
+      let none : drop 24 (bytes cs) ≡ [] = drop_all 24 (bytes cs) (omega (arith, length-bytes cs)) in
+      let zero : length cs - 24 ≡ 0 = omega arith in
+      ((cs, rw (none, zero) refl, inr (record { retries = f.retries; short = λ b. omega (arith, f.short b); trouble = f.trouble })), λ le. absurd (omega arith))
 
-  -- header and record came, and were read so
-  module _ (f : FrontCame event old 24 count hs text mid) (most : 24 ≤ count) (h : VhostUserMsgHeader R) (part : VhostUserConfig)
-      (is_h : h ≡ of_fields (header_of (take 12 text))) (is_part : part ≡ config_of (take 12 (drop 12 text))) (lent : List H) (is_lent : lent ≡ hs) where
-    all : length f.cs ≡ 24
-    all = omega (arith, f.counted, f.within)
+  module _ (mid : State L H) {cs : List (Cell H)} {count extra : ℕ} {hs : List H} {text : List ℕ} (m : Came event old true 24 cs false mid) (f : IsFront 24 cs count extra hs text) where
+    -- the end comes first
+    pub ended-bare : (before : List ℕ) (new : State L H) → count < 24 → new ≡ record mid { list = true } → ReadsOrBare event code request old before (Err PartialMessage) before new
+    ended-bare before new short s =
+        let few : length cs < 24 = omega (arith, f.counted) in
+        let none : drop 24 (bytes cs) ≡ [] = drop_all 24 (bytes cs) (omega (arith, length-bytes cs)) in
+        let zero : length cs - 24 ≡ 0 = omega arith in
+        ((cs, rw (none, zero) refl, inl (came-early (came-listed m s) few (length before), front-short f short)), λ le. absurd (omega arith))
 
-    begins : take 24 text ≡ bytes f.cs
-    begins = let is : count ≡ 24 = omega (arith, f.counted, f.within) in ap (λ n. take n text) (sym is) ∙ f.bytes
+    -- header and record came, and were read so
+    module _ (most : 24 ≤ count) (h : VhostUserMsgHeader R) (part : VhostUserConfig)
+        (is_h : h ≡ of_fields (header_of (take 12 text))) (is_part : part ≡ config_of (take 12 (drop 12 text))) (lent : List H) (is_lent : lent ≡ hs) where
+      all : length cs ≡ 24
+      all = omega (arith, f.counted, m.within)
 
-    head : take 12 text ≡ take 12 (bytes f.cs)
-    head = sym (take-take 12 24 text (omega arith)) ∙ ap (take 12) begins
+      whole : 24 ≤ length cs
+      whole = omega (arith, all)
 
-    body : take 12 (drop 12 text) ≡ take 12 (drop 12 (bytes f.cs))
-    body = sym (drop-take 12 12 text) ∙ ap (drop 12) begins ∙ sym (take_all 12 (drop 12 (bytes f.cs)) (omega (arith, all, length-drop 12 (bytes f.cs), length-bytes f.cs)))
+      test-is : is_bare code request cs ≡ bare_test code request (fields_of h) (length lent) part
+      test-is = bare-is code request cs h part (is_h ∙ ap (λ bs. of_fields (header_of bs)) (front-of-text f most 12 (omega arith))) (is_part ∙ ap config_of (part-of f most 12 12 refl))
+          ∙ ap (λ (xs : List H). bare_test code request (fields_of h) (length xs) part) (sym (is_lent ∙ f.first))
 
-    test-is : is_bare code request f.cs ≡ bare_test code request (fields_of h) (length lent) part
-    test-is = bare-is code request f.cs h part (is_h ∙ ap (λ bs. of_fields (header_of bs)) head) (is_part ∙ ap config_of body) ∙ ap (λ (xs : List H). bare_test code request (fields_of h) (length xs) part) (sym (is_lent ∙ f.first))
+      -- they are a bare reply
+      pub bare-comes : (before : List ℕ) (new : State L H) → bare_test code request (fields_of h) (length lent) part ≡ true → new ≡ record mid { list = true } → ReadsOrBare event code request old before (Ok None) before new
+      bare-comes before new e s = (cs, came-listed m s, all, test-is ∙ e, refl)
 
-    -- they are a bare reply
-    pub bare-comes : (before : List ℕ) (new : State L H) → bare_test code request (fields_of h) (length lent) part ≡ true → new ≡ record mid { list = true } → ReadsOrBare event code request old before (Ok None) before new
-    bare-comes before new e s =
-        bare f.cs f.retries (subst (λ x. Serves event old old.budget (receives (items f.cs) f.retries) x) (sym s) (Serves-list true (all-came f most))) all (test-is ∙ e)
-        (ap (λ (x : State _ _). x.list) s) (ap (λ (x : State _ _). x.left + f.retries) s ∙ f.left)
+      -- they are no bare reply, and what came is none
+      not-bare : (ds : List (Cell H)) → bare_test code request (fields_of h) (length lent) part ≡ false → is_bare code request (cs ++ ds) ≡ false
+      not-bare ds e = bare-front code request cs ds whole ∙ test-is ∙ e
 
-    -- they are no bare reply, and what came is none
-    not-bare : (ds : List (Cell H)) → bare_test code request (fields_of h) (length lent) part ≡ false → is_bare code request (f.cs ++ ds) ≡ false
-    not-bare ds e = bare-front code request f.cs ds (omega (arith, all)) ∙ test-is ∙ e
+      -- a reply came
+      pub whole-comes : (before after : List ℕ) (end new : State L H) (more : ℕ) (handles : Option (Vec H Global)) → bare_test code request (fields_of h) (length lent) part ≡ false → ReadsMore event mid before (Ok more) after end
+          → (is_some (code (fields_of h).code) && is_valid_header (fields_of h)) ≡ true → is_valid_config part ≡ true → HandsOver handles hs → new ≡ gives end hs
+          → ReadsOrBare event code request old before (Ok (Some (h, part, more, handles))) after new
+      whole-comes before after end new more handles e (ds, room, (d, counted)) ok_h ok_part over s =
+          let i = front-then cs ds all (omega arith) f more counted in (
+            (
+              cs ++ ds,
+              room-then cs ds all before after room,
+              (
+                came-given (came-then m whole d) hs m.listed s i.first,
+                (
+                  front-more i most,
+                  message-whole (λ bs. of_fields (header_of bs)) (λ x. is_some (code (fields_of x).code) && is_valid_header (fields_of x)) 12 config_of is_valid_config i most h part is_h is_part handles ok_h ok_part over,
+                ),
+              ),
+            ),
+            not-bare ds e,
+          )
 
-    -- a reply came
-    pub whole-comes : (before after : List ℕ) (end new : State L H) (more : ℕ) (handles : Option (Vec H Global)) → bare_test code request (fields_of h) (length lent) part ≡ false → MoreCame event mid more before after end
-        → (is_some (code (fields_of h).code) && is_valid_header (fields_of h)) ≡ true → is_valid_config part ≡ true → HandsOver handles hs → new ≡ gives end hs
-        → ReadsOrBare event code request old before (Ok (Some (h, part, more, handles))) after new
-    unfolding payload-whole more-parts
-    whole-comes before after end new more handles e m ok_h ok_part over s =
-        let p = more-parts f (omega arith) most m in
-        whole (payload-whole event (λ bs. of_fields (header_of bs)) (λ x. is_some (code (fields_of x).code) && is_valid_header (fields_of x)) 12 config_of is_valid_config old end new 12 24 count hs text before after (h, part, more, handles)
-        refl refl p most is_h is_part ok_h ok_part over s)
-        (not-bare m.cs e)
+      -- it is not valid
+      pub bad-comes : (before after : List ℕ) (end new : State L H) (more : ℕ) → bare_test code request (fields_of h) (length lent) part ≡ false → ReadsMore event mid before (Ok more) after end
+          → ((is_some (code (fields_of h).code) && is_valid_header (fields_of h)) && is_valid_config part) ≡ false → new ≡ record end { list = true }
+          → ReadsOrBare event code request old before (Err InvalidMessage) after new
+      bad-comes before after end new more e (ds, room, (d, counted)) bad s =
+          let i = front-then cs ds all (omega arith) f more counted in (
+            (
+              cs ++ ds,
+              room-then cs ds all before after room,
+              inl (came-listed (came-then m whole d) s, message-bad (λ bs. of_fields (header_of bs)) (λ x. is_some (code (fields_of x).code) && is_valid_header (fields_of x)) 12 config_of is_valid_config i most h part is_h is_part bad),
+            ),
+            λ _. not-bare ds e,
+          )
 
-    -- it is not valid
-    pub bad-comes : (before after : List ℕ) (end new : State L H) (more : ℕ) → bare_test code request (fields_of h) (length lent) part ≡ false → MoreCame event mid more before after end
-        → ((is_some (code (fields_of h).code) && is_valid_header (fields_of h)) && is_valid_config part) ≡ false → new ≡ record end { list = true }
-        → ReadsOrBare event code request old before (Err InvalidMessage) after new
-    unfolding payload-bad more-parts
-    bad-comes before after end new more e m bad s =
-        let p = more-parts f (omega arith) most m in
-        invalid (payload-bad event (λ bs. of_fields (header_of bs)) (λ x. is_some (code (fields_of x).code) && is_valid_header (fields_of x)) 12 config_of is_valid_config old end new 12 24 count more hs text before after h part
-        refl refl p most is_h is_part bad s)
-        (not-bare m.cs e)
-
-    -- there was trouble behind header and record
-    pub rest-fails : (before after : List ℕ) (end new : State L H) (error : Error) → bare_test code request (fields_of h) (length lent) part ≡ false → MoreFails event mid before after error end → new ≡ record end { list = true }
-        → ReadsOrBare event code request old before (Err error) after new
-    unfolding more-fails
-    rest-fails before after end new error e m s = fails (more-fails f (omega arith) most m s) (λ _. not-bare m.cs e)
-
--- there was trouble in header and record
-pub front-fails : {R L H : Type 0} (event : L → Event H → L → Type 0) (code : ℕ → Option R) (request : Header) (old new : State L H) (before : List ℕ) (error : Error) → FrontFails event old 24 error new
-    → ReadsOrBare event code request old before (Err error) before new
-front-fails event code request old new before error f =
-    let none : drop 24 (bytes f.cs) ≡ [] = drop_all 24 (bytes f.cs) (omega (arith, f.short, length-bytes f.cs)) in
-    let zero : length f.cs - 24 ≡ 0 = omega (arith, f.short) in
-    fails (record { cs = f.cs; retries = f.retries; short = omega (arith, f.short); trouble = f.trouble; room = rw (none, zero) refl }) (λ le. absurd (omega (arith, f.short)))
+      -- there was trouble behind header and record
+      pub rest-fails : (before after : List ℕ) (end new : State L H) (error : Error) → bare_test code request (fields_of h) (length lent) part ≡ false → ReadsMore event mid before (Err error) after end → new ≡ record end { list = true }
+          → ReadsOrBare event code request old before (Err error) after new
+      rest-fails before after end new error e (ds, room, p) s = ((cs ++ ds, room-then cs ds all before after room, inr (cut-then m whole (omega arith) (cut-only p) s)), λ _. not-bare ds e)

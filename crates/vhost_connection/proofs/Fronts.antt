@@ -1,22 +1,21 @@
 -- The first bytes of a message come in.
-use Rattle.std.proofs.Common.{◌≡◌, ℕ, ◌+◌, ◌-◌, ◌<◌, ◌≤◌, List, [], ◌∷◌, ◌++◌, length, drop, min, add-zero, refl, subst, sym, ap, ◌∙◌, arith, Bool, true, false, ◌||◌, Some, None, nat_lt, Result, Ok, Err}
+use Rattle.std.proofs.Common.{◌≡◌, ℕ, ◌+◌, ◌-◌, ◌<◌, ◌≤◌, List, [], ◌∷◌, ◌++◌, length, drop, min, add-zero, refl, subst, sym, ap, ◌∙◌, arith, true, false, ◌||◌, Some, None, nat_lt, Result, Err, inr}
 use Rattle.std.proofs.lemmas.Bool.{lt-ltb, le-ltb}
-use Rattle.std.specs.Prelude.{if◌then◌else◌, not}
-use Rattle.std.proofs.lemmas.List.{take_all, drop_all}
+use Rattle.std.specs.Prelude.{if◌then◌else◌}
+use Rattle.std.proofs.lemmas.List.{drop_all}
 use Rattle.vhost_message.specs.declared.cause.IoCause.{IoCause}
 use Rattle.vhost_message.specs.declared.error.Error.{Error}
 use Rattle.vhost_message.specs.Cause.{error_of}
 use Rattle.vhost_protocol.specs.Stream.{Cell, bytes, has_some, items, heard, plain}
-use Rattle.vhost_link.specs.Law.{Event, Move, Moved, nothing, ◌then◌}
-use Rattle.vhost_link.proofs.Cells.{length-bytes}
+use Rattle.vhost_link.specs.Law.{Event, Moved, nothing}
 use Rattle.vhost_link.proofs.Moves.{Moved-as}
 use Rattle.vhost_connection.specs.declared.pass.Parts.{Parts}
 use Rattle.vhost_connection.specs.declared.pass.PassEnd.{PassEnd}
 use Rattle.vhost_connection.specs.declared.pass.PassEnd.TheVariants.{Whole, AtEnd, Fault}
 use Rattle.vhost_connection.specs.Pass.{receives, GotAs, GetsParts}
-use Rattle.vhost_connection.specs.Talk.{State, Serves, Trouble}
-use Rattle.vhost_connection.specs.Calls.{MessageFails}
-use Rattle.vhost_connection.specs.Front.{FrontCame, FrontFails, PartsCame, ReadsParts, ReadsFront, gives}
+use Rattle.vhost_connection.specs.Talk.{State, Trouble}
+use Rattle.vhost_connection.specs.Came.{Came, TakesIn, behind}
+use Rattle.vhost_connection.specs.Front.{IsFront, ReadsParts, ReadsFront}
 use Rattle.vhost_connection.specs.declared.list.Front.{Front}
 use Rattle.vhost_connection.specs.Ahead.{Way, reads_ahead}
 use Rattle.vhost_connection.proofs.Talking.{At, went-from, down-from, served, serves, failed, gave-up}
@@ -33,23 +32,25 @@ heard-as event old new room budget left (Fault c) cs miss p = absurd (miss c ref
 
 pub parts-came : {L H : Type 0} (event : L → Event H → L → Type 0) (old new : State L H) (from to : Way L) (before after text : List ℕ) (got : Parts) (hs : List H) (len : ℕ)
     → At old from → new ≡ served old to.link (plain to.ahead) false got.left → old.broken ≡ None → GetsParts (reads_ahead event) from len before old.budget got text after hs to
-    → ((c : IoCause) → got.stop ≡ Fault c → ⊥) → PartsCame event old len got.count got.more hs text before after new
+    → ((c : IoCause) → got.stop ≡ Fault c → ⊥)
+    → (cs : List (Cell H)) × (after ≡ behind len cs before) × (Came event old true (len + length before) cs false new × IsFront len cs got.count got.more hs text)
 parts-came event old new from to before after text got hs len a s broken g miss =
     let q = heard-as (reads_ahead event) from to (len + length before) old.budget got.left got.stop g.cs miss g.ended in
     let r = old.budget - got.left in
-    record {
-      cs = g.cs;
-      retries = r;
-      serves = serves old new to.link (plain to.ahead) false got.left old.budget (receives (heard g.cs (nat_lt (length g.cs) (len + length before))) r) s broken refl (omega arith) (went-from old from to (receives (heard g.cs (nat_lt (length g.cs) (len + length before))) r) a q.1);
-      within = q.0;
-      counted = g.count;
-      rest = g.more;
-      first = g.handles;
-      bytes = g.text;
-      room = g.room;
-      left = ap (λ (x : State _ _). x.left + r) s ∙ omega (arith, g.left);
-      list = ap (λ (x : State _ _). x.list) s;
-    }
+    let m = receives (heard g.cs (nat_lt (length g.cs) (len + length before))) r in (
+      g.cs,
+      g.room ∙ ap (λ n. drop len (bytes g.cs) ++ drop n before) g.more,
+      (
+        record {
+          retries = r;
+          serves = serves old new to.link (plain to.ahead) false got.left old.budget m s broken refl (omega arith) (went-from old from to m a q.1);
+          within = q.0;
+          left = ap (λ (x : State _ _). x.left + r) s ∙ omega (arith, g.left);
+          listed = ap (λ (x : State _ _). x.list) s;
+        },
+        record { counted = g.count; rest = g.more; first = g.handles; bytes = g.text },
+      ),
+    )
 
 pub moved-some : {H : Type 0} (cs : List (Cell H)) (n len : ℕ) → 0 < len → n ≡ min len (length cs) → nat_lt 0 n ≡ (has_some (items cs) || false)
 moved-some [] n len pos e = le-ltb 0 n (omega (arith, e))
@@ -61,73 +62,30 @@ none-moved (c ∷ cs) n len e none = absurd (cc none)
 
 pub parts-fail : {L H : Type 0} (event : L → Event H → L → Type 0) (old new : State L H) (from to : Way L) (left : ℕ) (before after text : List ℕ) (got : Parts) (hs : List H) (len : ℕ) (c : IoCause) (e : Error)
     → 0 < len → At old from → new ≡ failed old to.link (plain to.ahead) true left (if nat_lt 0 got.count then Some c else old.broken) → (got.count ≡ 0 → left ≡ old.left) → old.broken ≡ None → e ≡ error_of c
-    → GetsParts (reads_ahead event) from len before old.budget got text after hs to → got.stop ≡ Fault c → MessageFails event old len before after e new
+    → GetsParts (reads_ahead event) from len before old.budget got text after hs to → got.stop ≡ Fault c → ReadsParts event old len before (Err e) text after new
 parts-fail event old new from to left before after text got hs len c e pos a s same broken is g fault =
     let q = rw fault at g.ended in
-    let r = old.budget - got.left in
-    record {
-      cs = g.cs;
-      retries = r;
-      short = q.0;
-      trouble = gave-up event old new to.link (plain to.ahead) true left (if nat_lt 0 got.count then Some c else old.broken) old.budget true false (receives (items g.cs) r) c e s broken is
-          (rw (broken, moved-some g.cs got.count len pos g.count) refl) (λ h. refl) (λ h. same (none-moved g.cs got.count len g.count h)) refl (omega arith) (λ h. let z = q.1 h in omega arith) (down-from old from to (receives (items g.cs) r) c a q.2);
-      room = g.room ∙ ap (λ n. drop len (bytes g.cs) ++ drop n before) g.more;
-    }
+    let r = old.budget - got.left in (
+      g.cs,
+      g.room ∙ ap (λ n. drop len (bytes g.cs) ++ drop n before) g.more,
+      inr (record {
+        retries = r;
+        short = λ _. q.0;
+        trouble = gave-up event old new to.link (plain to.ahead) true left (if nat_lt 0 got.count then Some c else old.broken) old.budget true false (receives (items g.cs) r) c e s broken is
+            (rw (broken, moved-some g.cs got.count len pos g.count) refl) (λ h. refl) (λ h. same (none-moved g.cs got.count len g.count h)) refl (omega arith) (λ h. let z = q.1 h in omega arith) (down-from old from to (receives (items g.cs) r) c a q.2);
+      }),
+    )
 
 -- nothing moved, and nothing came
-pub nothing-comes : {L H : Type 0} {event : L → Event H → L → Type 0} {old new : State L H} {e : Error} (len : ℕ) (before : List ℕ) → 0 < len → Trouble event old old.budget true false nothing e new → MessageFails event old len before before e new
-nothing-comes len before pos t = record { cs = []; retries = 0; short = omega arith; trouble = t; room = let none : drop {A = ℕ} len [] ≡ [] = drop_all len [] (omega arith) in let zero : 0 - len ≡ 0 = omega arith in rw (none, zero) refl }
+pub nothing-comes : {L H : Type 0} {event : L → Event H → L → Type 0} {old new : State L H} {e : Error} (len : ℕ) (before text : List ℕ) → 0 < len → Trouble event old old.budget true false nothing e new
+    → ReadsParts event old len before (Err e) text before new
+nothing-comes len before text pos t =
+    let none : drop {A = ℕ} len [] ≡ [] = drop_all len [] (omega arith) in
+    let zero : 0 - len ≡ 0 = omega arith in
+    ([], rw (none, zero) refl, inr (record { retries = 0; short = λ _. omega arith; trouble = t }))
 
 -- ---- without a room
 
-pub front-came : {L H : Type 0} {event : L → Event H → L → Type 0} {old new : State L H} {len count more : ℕ} {hs : List H} {text after : List ℕ} → PartsCame event old len count more hs text [] after new → FrontCame event old len count hs text new
-front-came {event = event} {old} {new} {len} f = record {
-  cs = f.cs;
-  retries = f.retries;
-  serves = subst (λ n. Serves event old old.budget (receives (heard f.cs (nat_lt (length f.cs) n)) f.retries) new) (add-zero len) f.serves;
-  within = omega (arith, f.within);
-  counted = omega (arith, f.counted, f.within);
-  first = f.first;
-  bytes = f.bytes ∙ take_all len (bytes f.cs) (omega (arith, f.within, length-bytes f.cs));
-  left = f.left;
-  list = f.list;
-}
-
-pub front-fails : {L H : Type 0} {event : L → Event H → L → Type 0} {old new : State L H} {len : ℕ} {after : List ℕ} {e : Error} → MessageFails event old len [] after e new → FrontFails event old len e new
-front-fails f = record { cs = f.cs; retries = f.retries; short = omega (arith, f.short); trouble = f.trouble }
-
 pub front-reads : {L H : Type 0} (event : L → Event H → L → Type 0) (old new : State L H) (len : ℕ) (r : Result (Front H) Error) (text after : List ℕ) → ReadsParts event old len [] r text after new → ReadsFront event old len r text new
-front-reads event old new len (Ok x) text after p = front-came p
-front-reads event old new len (Err e) text after p = front-fails p
-
--- ---- what becomes of the list of handles
-
-pub Serves-list : {L H : Type 0} {event : L → Event H → L → Type 0} {old mid : State L H} {limit : ℕ} {m : Move H} (list : Bool) → Serves event old limit m mid → Serves event old limit m (record mid { list = list })
-Serves-list list p = record {
-  talks = record {
-    below = p.talks.below;
-    moved = p.talks.moved;
-    handed = p.talks.handed;
-    taken = p.talks.taken;
-    retries = p.talks.retries;
-    failures = p.talks.failures;
-    budget = p.talks.budget;
-  };
-  retries = p.retries;
-  failures = p.failures;
-  before = p.before;
-  after = p.after;
-  faulted = p.faulted;
-}
-
-pub Serves-gives : {L H : Type 0} {event : L → Event H → L → Type 0} {old mid : State L H} {limit : ℕ} {m : Move H} (hs : List H) → Serves event old limit m mid → Serves event old limit m (gives mid hs)
-Serves-gives [] p = Serves-list true p
-Serves-gives (h ∷ hs) p = p
-
-pub list-gives : {L H : Type 0} (mid : State L H) (hs : List H) → mid.list ≡ false → (gives mid hs).list ≡ not (has_some hs)
-list-gives mid [] e = refl
-list-gives mid (h ∷ hs) e = e
-
-pub left-gives : {L H : Type 0} (mid : State L H) (hs : List H) → (gives mid hs).left ≡ mid.left
-left-gives mid [] = refl
-left-gives mid (h ∷ hs) = refl
+front-reads {H = H} event old new len r text after (cs, room, p) =
+    (cs, subst (λ n. TakesIn event old true n cs false (λ (x : Front H). IsFront len cs x.count x.more x.list.items text) (λ e. ⊥) r new) (add-zero len) p)

@@ -6,6 +6,7 @@ pub mod Sending
 pub mod AtOnce
 pub mod Receiving
 pub mod Talking
+pub mod Came
 pub mod Fronts
 pub mod Messages
 pub mod Data

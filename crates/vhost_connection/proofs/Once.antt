@@ -19,7 +19,7 @@ use Rattle.vhost_connection.specs.Front.{ReadsCountOnce, gives}
 use Rattle.vhost_connection.specs.Ahead.{Way, reads_ahead}
 use Rattle.vhost_connection.proofs.Adding.{went-silent}
 use Rattle.vhost_connection.proofs.Talking.{At, went-from, down-from, served, serves, failed, gave-up}
-use Rattle.vhost_connection.proofs.Fronts.{Serves-gives, list-gives, left-gives}
+use Rattle.vhost_connection.proofs.Came.{Serves-gives, list-gives, left-gives}
 
 alone-first : {H : Type 0} (hs : List H) (bs : List ℕ) → brings_handles (drop 1 (carrying hs bs)) ≡ false
 alone-first hs [] = refl

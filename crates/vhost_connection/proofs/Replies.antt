@@ -17,9 +17,12 @@ use Rattle.vhost_link.specs.Law.{Event}
 use Rattle.vhost_link.proofs.Cells.{length-bytes}
 use Rattle.vhost_connection.specs.Pass.{receives}
 use Rattle.vhost_connection.specs.Talk.{State}
-use Rattle.vhost_connection.specs.Calls.{ReadsPayload, MessageCame}
+use Rattle.vhost_connection.specs.Came.{Came}
+use Rattle.vhost_connection.specs.Calls.{ReadsPayload, IsNoMessage, is_sound}
+use Rattle.vhost_connection.specs.Calls.IsNoMessage.{too_few, not_valid}
 use Rattle.vhost_connection.specs.Hearing.{Hears, broken_on}
 use Rattle.vhost_connection.proofs.Failing.{trouble-breaks}
+use Rattle.vhost_connection.proofs.Came.{came-ended}
 use Rattle.vhost_connection.proofs.Receiving.{first-append}
 use Rattle.vhost_connection.specs.Asking.{is_known_by, Missing, RecvsReply}
 use Rattle.vhost_connection.specs.Asking.Missing.{unfit, none, failed}
@@ -122,14 +125,14 @@ module _ {M R T L H : Type 0} (event : L → Event H → L → Type 0) (is_known
   abbrev pub ReadsReply : State L H → List ℕ → Result (M × T × ℕ × Option (Vec H Global)) declared.Error → List ℕ → State L H → Type 0
   ReadsReply = ReadsPayload event (λ bs. of_head (header_of bs)) valid_head size read valid
 
-  hears-came : (old new : State L H) (before after : List ℕ) (cs : List (Cell H)) (o : Result (Received H) Error) → MessageCame event old (12 + size) before after cs new
-      → outcome is_known size (length before) (λ bs. valid (read bs)) cs ≡ o → Hears event (reply_split is_known size (λ bs. valid (read bs)) (length before)) old o new
-  hears-came old new before after cs o m e = record {
+  hears-came : {old new : State L H} (room : ℕ) {cs : List (Cell H)} {list : Bool} (o : Result (Received H) Error) → Came event old true (12 + size + room) cs list new → 12 + size ≤ length cs
+      → outcome is_known size room (λ bs. valid (read bs)) cs ≡ o → Hears event (reply_split is_known size (λ bs. valid (read bs)) room) old o new
+  hears-came room {cs} o m whole e = record {
     cells = cs;
-    ended = nat_lt (length cs) (12 + size + length before);
+    ended = nat_lt (length cs) (12 + size + room);
     retries = m.retries;
     serves = m.serves;
-    splits = splits is_known size (length before) (λ bs. valid (read bs)) cs o m.whole m.within e;
+    splits = splits is_known size room (λ bs. valid (read bs)) cs o whole m.within e;
   }
 
   -- what the header in the code's form says
@@ -145,20 +148,20 @@ module _ {M R T L H : Type 0} (event : L → Event H → L → Type 0) (is_known
   pub reply-comes : (old new : State L H) (sent : Header) (before after : List ℕ) (h : M) (t : T) (n : ℕ) (hs : Option (Vec H Global)) (s : ℕ) → ReadsReply old before (Ok (h, t, n, hs)) after new
       → is_reply_for request_of (fields h) sent ≡ true → s ≡ (fields h).size → RecvsReply event is_known request_of size read valid old sent before (Ok (s, t, n, hs)) after new
   unfolding reply_in
-  reply-comes old new sent before after h t n hs s (cs, m, is_h, ok, is_t, ok_t, count, over, list) answered said =
+  reply-comes old new sent before after h t n hs s (cs, room, (m, (count, (is_h, ok, is_t, ok_t, over)))) answered said =
       let head = head-is cs h is_h in
       let long : length (drop (12 + size) (bytes cs)) ≡ n = length-drop (12 + size) (bytes cs) ∙ omega (arith, length-bytes cs, count) in (
         reply_in is_known size (length before) (λ bs. valid (read bs)) cs,
         record {
-          hears = hears-came old new before after cs (Ok (reply_in is_known size (length before) (λ bs. valid (read bs)) cs)) m (whole-when cs (length before) h t head ok is_t ok_t);
+          hears = hears-came (length before) (Ok (reply_in is_known size (length before) (λ bs. valid (read bs)) cs)) m (omega (arith, count)) (whole-when cs (length before) h t head ok is_t ok_t);
           answers = ap (λ x. is_reply_for request_of x sent) (sym head) ∙ answered;
-          list = list;
+          list = m.listed;
         },
         said ∙ ap (λ (x : Header). x.size) head,
         is_t,
         ok_t,
         sym long,
-        m.room ∙ ap (λ k. drop (12 + size) (bytes cs) ++ drop k before) (omega (arith, count)),
+        room ∙ ap (λ k. drop (12 + size) (bytes cs) ++ drop k before) (omega (arith, count)),
         over,
       )
 
@@ -166,21 +169,24 @@ module _ {M R T L H : Type 0} (event : L → Event H → L → Type 0) (is_known
   pub reply-unfit : (old new : State L H) (sent : Header) (before after : List ℕ) (h : M) (t : T) (n : ℕ) (hs : Option (Vec H Global)) → ReadsReply old before (Ok (h, t, n, hs)) after new
       → is_reply_for request_of (fields h) sent ≡ false → Missing event is_known request_of size (λ bs. valid (read bs)) (length before) old sent code.InvalidMessage new
   unfolding reply_in
-  reply-unfit old new sent before after h t n hs (cs, m, is_h, ok, is_t, ok_t, count, over, list) bad =
+  reply-unfit old new sent before after h t n hs (cs, room, (m, (count, (is_h, ok, is_t, ok_t, over)))) bad =
       let head = head-is cs h is_h in
       unfit (reply_in is_known size (length before) (λ bs. valid (read bs)) cs)
-      (hears-came old new before after cs (Ok (reply_in is_known size (length before) (λ bs. valid (read bs)) cs)) m (whole-when cs (length before) h t head ok is_t ok_t))
+      (hears-came (length before) (Ok (reply_in is_known size (length before) (λ bs. valid (read bs)) cs)) m (omega (arith, count)) (whole-when cs (length before) h t head ok is_t ok_t))
       (ap (λ x. is_reply_for request_of x sent) (sym head) ∙ bad)
 
   -- there is none
   pub reply-fails : (old new : State L H) (sent : Header) (before after : List ℕ) (e : declared.Error) → ReadsReply old before (Err e) after new
       → Missing event is_known request_of size (λ bs. valid (read bs)) (length before) old sent e (broken_on e new)
-  reply-fails old new sent before after code.PartialMessage m =
-      none (record { cells = m.cs; ended = true; retries = m.retries; serves = m.serves; splits = reply-short is_known size (length before) (λ bs. valid (read bs)) m.cs m.short })
-  reply-fails old new sent before after code.InvalidMessage (cs, m, bad, list) =
-      none (hears-came old new before after cs (Err InvalidMessage) m (is-invalid is_known size (length before) (λ bs. valid (read bs)) cs
-      (ap (λ b. b && valid (read (take size (drop 12 (bytes cs))))) (ap is_known (sym (same (header_of (take 12 (bytes cs))))) ∙ known (of_head (header_of (take 12 (bytes cs))))) ∙ bad)))
-  reply-fails old new sent before after e m = failed (trouble-breaks event old true false (receives (items m.cs) m.retries) e new m.trouble (lit≤ tt))
+  reply-fails old new sent before after e (cs, room, inr f) = failed (trouble-breaks event old true false (receives (items cs) f.retries) e new f.trouble (lit≤ tt))
+  reply-fails old new sent before after e (cs, room, inl (m, bad)) = go e bad
+    where
+      go : (y : declared.Error) → IsNoMessage (12 + size) (is_sound (λ bs. of_head (header_of bs)) valid_head size read valid) cs y → Missing event is_known request_of size (λ bs. valid (read bs)) (length before) old sent y (broken_on y new)
+      go y (too_few short) =
+          none (record { cells = cs; ended = true; retries = m.retries; serves = came-ended m (omega (arith, short)); splits = reply-short is_known size (length before) (λ bs. valid (read bs)) cs short })
+      go y (not_valid whole wrong) =
+          none (hears-came (length before) (Err InvalidMessage) m whole (is-invalid is_known size (length before) (λ bs. valid (read bs)) cs
+          (ap (λ b. b && valid (read (take size (drop 12 (bytes cs))))) (ap is_known (sym (same (header_of (take 12 (bytes cs))))) ∙ known (of_head (header_of (take 12 (bytes cs))))) ∙ wrong)))
 
 module _ {L H : Type 0} {event : L → Event H → L → Type 0} where
   -- the same cells, read as more

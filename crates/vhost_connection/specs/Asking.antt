@@ -1,5 +1,5 @@
 -- The side that asks: a request goes out, and the reply for it comes in.
-use Rattle.std.specs.Prelude.{◌≡◌, ℕ, ◌+◌, List, length, drop, Option, Bool, true, false, not, ◌++◌, ◌&&◌, Result, Ok, Err, is_some, Vec}
+use Rattle.std.specs.Prelude.{◌≡◌, ℕ, List, length, drop, Option, Bool, true, false, not, ◌++◌, Result, Ok, Err, is_some, Vec}
 use Rattle.std.specs.Global.{Global}
 use Rattle.vhost_message.specs.declared.error.Error.{Error}
 use Rattle.vhost_message.specs.declared.error.Error.TheVariants as code

@@ -1,15 +1,16 @@
 -- What each call of an endpoint does, by its result.
-use Rattle.std.specs.Prelude.{◌≡◌, ℕ, ◌+◌, ◌-◌, ◌<◌, ◌≤◌, List, [], ◌++◌, length, take, drop, min, Option, Some, None, Bool, true, false, ◌&&◌, not, nat_lt, Result, Ok, Err, Vec}
+use Rattle.std.specs.Prelude.{◌≡◌, ℕ, ◌+◌, ◌<◌, ◌≤◌, List, [], length, take, drop, min, Option, Some, None, Bool, true, false, ◌&&◌, not, nat_lt, Result, Ok, Err, Vec}
 use Rattle.std.specs.Global.{Global}
 use Rattle.std.specs.Borrow.{Bor}
 use Rattle.vhost_message.specs.declared.cause.IoCause.{IoCause}
 use Rattle.vhost_message.specs.Cause.{error_of}
 use Rattle.vhost_message.specs.declared.error.Error.{Error}
 use Rattle.vhost_message.specs.declared.error.Error.TheVariants.{InvalidMessage, PartialMessage, Disconnected}
-use Rattle.vhost_protocol.specs.Stream.{Cell, carrying, bytes, first_handles, has_some, brings_handles, items, heard}
+use Rattle.vhost_protocol.specs.Stream.{Cell, carrying, bytes, first_handles, has_some, brings_handles, heard}
 use Rattle.vhost_link.specs.Law.{Event, Taken, Refused, nothing}
 use Rattle.vhost_connection.specs.Pass.{sends, receives, WentAtOnce, WentNot}
 use Rattle.vhost_connection.specs.Talk.{State, Serves, Trouble}
+use Rattle.vhost_connection.specs.Came.{TakesIn, keeps, behind}
 
 -- A text goes out, all of it; or a front of it, and then trouble.
 abbrev pub Sends : {L H : Type 0} → (L → Event H → L → Type 0) → State L H → List (Cell H) → Result (Unit {0}) Error → State L H → Type 0
@@ -38,89 +39,63 @@ abbrev pub HandsOver : {H : Type 0} → Option (Vec H Global) → List H → Typ
 HandsOver None handles = handles ≡ []
 HandsOver (Some v) handles = (v.items ≡ handles) × (has_some handles ≡ true)
 
--- A header comes in: 12 cells, with the handles of the first; or fewer and then the end; or trouble. The body may take the retries that are left.
+-- A message is refused: the end came within its head of so many bytes, or the head does not pass its test.
+pub data IsNoMessage {H : Type 0} (head : ℕ) (test : List ℕ → Bool) (cs : List (Cell H)) : Error → Type 0 where
+  too_few : length cs < head → IsNoMessage head test cs PartialMessage
+  not_valid : head ≤ length cs → test (bytes cs) ≡ false → IsNoMessage head test cs InvalidMessage
+
+-- So is a header, and an end before its first byte is told from others.
+pub data IsNoHeader {H : Type 0} (test : List ℕ → Bool) (cs : List (Cell H)) : Error → Type 0 where
+  no_cell : cs ≡ [] → IsNoHeader test cs Disconnected
+  no_header : {e : Error} → 0 < length cs → IsNoMessage 12 test cs e → IsNoHeader test cs e
+
+-- A header is read from 12 cells, is valid, and comes with the handles of the first.
+abbrev pub IsHeader : {M X H : Type 0} → (List ℕ → M) → (M → Bool) → (X → List H → Type 0) → List (Cell H) → M × X → Type 0
+IsHeader read valid hands cs x = (length cs ≡ 12) × (x.0 ≡ read (bytes cs)) × (valid x.0 ≡ true) × hands x.1 (first_handles cs)
+
+-- A header comes in. The body may take the retries that are left.
 abbrev pub ReadsHeader : {M L H : Type 0} → (L → Event H → L → Type 0) → (List ℕ → M) → (M → Bool) → State L H → Result (M × Option (Vec H Global)) Error → State L H → Type 0
-ReadsHeader {H} event read valid old (Ok x) new = (cs : List (Cell H)) × (r : ℕ) × Serves event old old.budget (receives (items cs) r) new
-    × (length cs ≡ 12) × (x.0 ≡ read (bytes cs)) × (valid x.0 ≡ true) × HandsOver x.1 (first_handles cs)
-    × (new.list ≡ not (has_some (first_handles cs))) × (new.left + r ≡ old.budget)
-ReadsHeader {H} event read valid old (Err Disconnected) new = (r : ℕ) × Serves event old old.budget (receives (heard [] true) r) new × (new.list ≡ true)
-ReadsHeader {H} event read valid old (Err PartialMessage) new = (cs : List (Cell H)) × (r : ℕ) × Serves event old old.budget (receives (heard cs true) r) new
-    × (0 < length cs) × (length cs < 12) × (new.list ≡ true)
-ReadsHeader {H} event read valid old (Err InvalidMessage) new = (cs : List (Cell H)) × (r : ℕ) × Serves event old old.budget (receives (items cs) r) new
-    × (length cs ≡ 12) × (valid (read (bytes cs)) ≡ false) × (new.list ≡ true)
-ReadsHeader {H} event read valid old (Err e) new = (cs : List (Cell H)) × (r : ℕ) × (length cs < 12) × Trouble event old old.budget true false (receives (items cs) r) e new
+ReadsHeader {H} event read valid old r new = (cs : List (Cell H)) × TakesIn event old true 12 cs (keeps cs r) (IsHeader read valid HandsOver cs) (IsNoHeader (λ bs. valid (read bs)) cs) r new
 
--- The body's bytes come in: so many, or fewer and then the end. They are known where none of them brought handles.
-pub record ReadsBytes {L H : Type 0} (event : L → Event H → L → Type 0) (old : State L H) (len : ℕ) (cs : List (Cell H)) (new : State L H) : Type 0 where
-  pub retries : ℕ
-  pub serves : Serves event old old.left (receives (heard cs (nat_lt (length cs) len)) retries) new
-  pub within : length cs ≤ len
-  pub left : new.left + retries ≡ old.left
-  pub list : new.list ≡ old.list
+-- bytes of a body are refused where one of them brought handles
+abbrev pub BroughtHandles : {H : Type 0} → List (Cell H) → Error → Type 0
+BroughtHandles cs e = (e ≡ InvalidMessage) × (brings_handles cs ≡ true)
 
--- `recv_data`: a fault breaks the endpoint, since it is always in the middle of a message
+-- `recv_data`: so many bytes of a body come in, or fewer and then the end
 abbrev pub ReadsData : {L H : Type 0} → (L → Event H → L → Type 0) → State L H → ℕ → Result (ℕ × Bor (List ℕ)) Error → State L H → Type 0
-ReadsData {H} event old len (Ok x) new = (cs : List (Cell H)) × ReadsBytes event old len cs new × (brings_handles cs ≡ false) × (x.0 ≡ length cs) × (x.1.now ≡ bytes cs)
-ReadsData {H} event old len (Err InvalidMessage) new = (cs : List (Cell H)) × ReadsBytes event old len cs new × (brings_handles cs ≡ true)
-ReadsData {H} event old len (Err e) new = (cs : List (Cell H)) × (r : ℕ) × (old.broken ≡ None → length cs < len) × Trouble event old old.left false true (receives (items cs) r) e new
+ReadsData {H} event old len r new = (cs : List (Cell H)) × TakesIn event old false len cs old.list (λ x. (brings_handles cs ≡ false) × (x.0 ≡ length cs) × (x.1.now ≡ bytes cs)) (BroughtHandles cs) r new
 
--- A header and a record of so many bytes come in, whatever the size in the header; or fewer and then the end; or trouble.
+-- the test of a header and of a record of so many bytes behind it
+abbrev pub is_sound : {M T : Type 0} → (List ℕ → M) → (M → Bool) → ℕ → (List ℕ → T) → (T → Bool) → List ℕ → Bool
+is_sound read valid size read_body valid_body bs = valid (read (take 12 bs)) && valid_body (read_body (take size (drop 12 bs)))
+
+-- Header and record are read from the cells, are valid, and come with the handles of the first.
+abbrev pub IsMessage : {M T H : Type 0} → (List ℕ → M) → (M → Bool) → ℕ → (List ℕ → T) → (T → Bool) → List (Cell H) → M → T → Option (Vec H Global) → Type 0
+IsMessage read valid size read_body valid_body cs h t handles =
+    (h ≡ read (take 12 (bytes cs))) × (valid h ≡ true) × (t ≡ read_body (take size (drop 12 (bytes cs)))) × (valid_body t ≡ true) × HandsOver handles (first_handles cs)
+
+-- A header and a record of so many bytes come in, whatever the size in the header.
 abbrev pub ReadsBody : {M T L H : Type 0} → (L → Event H → L → Type 0) → (List ℕ → M) → (M → Bool) → ℕ → (List ℕ → T) → (T → Bool) → State L H
     → Result (M × T × Option (Vec H Global)) Error → State L H → Type 0
-ReadsBody {H} event read valid size read_body valid_body old (Ok x) new = (cs : List (Cell H)) × (r : ℕ) × Serves event old old.budget (receives (items cs) r) new
-    × (length cs ≡ 12 + size) × (x.0 ≡ read (take 12 (bytes cs))) × (valid x.0 ≡ true) × (x.1 ≡ read_body (drop 12 (bytes cs))) × (valid_body x.1 ≡ true)
-    × HandsOver x.2 (first_handles cs) × (new.list ≡ not (has_some (first_handles cs))) × (new.left + r ≡ old.budget)
-ReadsBody {H} event read valid size read_body valid_body old (Err PartialMessage) new = (cs : List (Cell H)) × (r : ℕ) × Serves event old old.budget (receives (heard cs true) r) new
-    × (length cs < 12 + size) × (new.list ≡ true)
-ReadsBody {H} event read valid size read_body valid_body old (Err InvalidMessage) new = (cs : List (Cell H)) × (r : ℕ) × Serves event old old.budget (receives (items cs) r) new
-    × (length cs ≡ 12 + size) × ((valid (read (take 12 (bytes cs))) && valid_body (read_body (drop 12 (bytes cs)))) ≡ false) × (new.list ≡ true)
-ReadsBody {H} event read valid size read_body valid_body old (Err e) new = (cs : List (Cell H)) × (r : ℕ) × (length cs < 12 + size) × Trouble event old old.budget true false (receives (items cs) r) e new
-
--- The head of a message came in, of so many bytes, and what fits of the rest lies in the room.
-pub record MessageCame {L H : Type 0} (event : L → Event H → L → Type 0) (old : State L H) (head : ℕ) (before after : List ℕ) (cs : List (Cell H)) (new : State L H) : Type 0 where
-  pub retries : ℕ
-  pub serves : Serves event old old.budget (receives (heard cs (nat_lt (length cs) (head + length before))) retries) new
-  pub whole : head ≤ length cs
-  pub within : length cs ≤ head + length before
-  pub room : after ≡ drop head (bytes cs) ++ drop (length cs - head) before
-  pub left : new.left + retries ≡ old.budget
-
--- The stream ended before or within the head.
-pub record MessageEnds {L H : Type 0} (event : L → Event H → L → Type 0) (old : State L H) (head : ℕ) (before after : List ℕ) (new : State L H) : Type 0 where
-  pub cs : List (Cell H)
-  pub retries : ℕ
-  pub serves : Serves event old old.budget (receives (heard cs true) retries) new
-  pub short : length cs < head
-  pub room : after ≡ before
-  pub list : new.list ≡ true
-
--- There was trouble before all of it came.
-pub record MessageFails {L H : Type 0} (event : L → Event H → L → Type 0) (old : State L H) (head : ℕ) (before after : List ℕ) (e : Error) (new : State L H) : Type 0 where
-  pub cs : List (Cell H)
-  pub retries : ℕ
-  pub short : length cs < head + length before
-  pub trouble : Trouble event old old.budget true false (receives (items cs) retries) e new
-  pub room : after ≡ drop head (bytes cs) ++ drop (length cs - head) before
+ReadsBody {H} event read valid size read_body valid_body old r new = (cs : List (Cell H)) × TakesIn event old true (12 + size) cs (keeps cs r)
+    (λ x. (length cs ≡ 12 + size) × IsMessage read valid size read_body valid_body cs x.0 x.1 x.2) (IsNoMessage (12 + size) (is_sound read valid size read_body valid_body) cs) r new
 
 -- A header comes in, and then what fits into the room, up to the end.
 abbrev pub ReadsInto : {M L H : Type 0} → (L → Event H → L → Type 0) → (List ℕ → M) → (M → Bool) → State L H → List ℕ → Result (M × ℕ × Option (Vec H Global)) Error → List ℕ → State L H → Type 0
-ReadsInto {H} event read valid old before (Ok x) after new = (cs : List (Cell H)) × MessageCame event old 12 before after cs new
-    × (x.0 ≡ read (take 12 (bytes cs))) × (valid x.0 ≡ true) × (length cs ≡ 12 + x.1) × HandsOver x.2 (first_handles cs) × (new.list ≡ not (has_some (first_handles cs)))
-ReadsInto {H} event read valid old before (Err PartialMessage) after new = MessageEnds event old 12 before after new
-ReadsInto {H} event read valid old before (Err InvalidMessage) after new = (cs : List (Cell H)) × MessageCame event old 12 before after cs new
-    × (valid (read (take 12 (bytes cs))) ≡ false) × (new.list ≡ true)
-ReadsInto {H} event read valid old before (Err e) after new = MessageFails event old 12 before after e new
+ReadsInto {H} event read valid old before r after new = (cs : List (Cell H)) × (after ≡ behind 12 cs before) × TakesIn event old true (12 + length before) cs (keeps cs r)
+    (λ x. (length cs ≡ 12 + x.1) × (x.0 ≡ read (take 12 (bytes cs))) × (valid x.0 ≡ true) × HandsOver x.2 (first_handles cs)) (IsNoMessage 12 (λ bs. valid (read (take 12 bs))) cs) r new
+
+-- what a header, a record and so many bytes behind them do, of the cells that came
+abbrev pub TakesPayload : {M T L H : Type 0} → (L → Event H → L → Type 0) → (List ℕ → M) → (M → Bool) → ℕ → (List ℕ → T) → (T → Bool) → State L H → (room : ℕ) → List (Cell H)
+    → Result (M × T × ℕ × Option (Vec H Global)) Error → State L H → Type 0
+TakesPayload event read valid size read_body valid_body old room cs r = TakesIn event old true (12 + size + room) cs (keeps cs r)
+    (λ x. (length cs ≡ 12 + size + x.2) × IsMessage read valid size read_body valid_body cs x.0 x.1 x.3) (IsNoMessage (12 + size) (is_sound read valid size read_body valid_body) cs) r
 
 -- A header and a record of so many bytes come in, whatever the size in the header, and then what fits into the room, up to the end.
 abbrev pub ReadsPayload : {M T L H : Type 0} → (L → Event H → L → Type 0) → (List ℕ → M) → (M → Bool) → ℕ → (List ℕ → T) → (T → Bool) → State L H → List ℕ
     → Result (M × T × ℕ × Option (Vec H Global)) Error → List ℕ → State L H → Type 0
-ReadsPayload {H} event read valid size read_body valid_body old before (Ok x) after new = (cs : List (Cell H)) × MessageCame event old (12 + size) before after cs new
-    × (x.0 ≡ read (take 12 (bytes cs))) × (valid x.0 ≡ true) × (x.1 ≡ read_body (take size (drop 12 (bytes cs)))) × (valid_body x.1 ≡ true)
-    × (length cs ≡ 12 + size + x.2) × HandsOver x.3 (first_handles cs) × (new.list ≡ not (has_some (first_handles cs)))
-ReadsPayload {H} event read valid size read_body valid_body old before (Err PartialMessage) after new = MessageEnds event old (12 + size) before after new
-ReadsPayload {H} event read valid size read_body valid_body old before (Err InvalidMessage) after new = (cs : List (Cell H)) × MessageCame event old (12 + size) before after cs new
-    × ((valid (read (take 12 (bytes cs))) && valid_body (read_body (take size (drop 12 (bytes cs))))) ≡ false) × (new.list ≡ true)
-ReadsPayload {H} event read valid size read_body valid_body old before (Err e) after new = MessageFails event old (12 + size) before after e new
+ReadsPayload {H} event read valid size read_body valid_body old before r after new =
+    (cs : List (Cell H)) × (after ≡ behind (12 + size) cs before) × TakesPayload event read valid size read_body valid_body old (length before) cs r new
 
 -- One call of the link handed out these cells, or told the end; of no bytes it was not asked.
 pub record CameOnce {L H : Type 0} (event : L → Event H → L → Type 0) (old : State L H) (len : ℕ) (cs : List (Cell H)) (new : State L H) : Type 0 where

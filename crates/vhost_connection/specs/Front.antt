@@ -1,61 +1,37 @@
 -- What the calls that receive a message have in common.
-use Rattle.std.specs.Prelude.{◌≡◌, ℕ, ◌+◌, ◌-◌, ◌<◌, ◌≤◌, List, ◌++◌, length, take, drop, min, None, true, false, if◌then◌else◌, nat_lt, Option, Vec, Result, Ok, Err}
+use Rattle.std.specs.Prelude.{◌≡◌, ℕ, ◌+◌, ◌-◌, List, ◌++◌, length, take, drop, min, Bool, true, false, if◌then◌else◌, Option, Vec, Result, Ok, Err, is_err}
 use Rattle.std.specs.Global.{Global}
 use Rattle.vhost_message.specs.declared.error.Error.{Error}
-use Rattle.vhost_message.specs.declared.error.Error.TheVariants.{InvalidMessage}
-use Rattle.vhost_protocol.specs.Stream.{Cell, bytes, first_handles, brings_handles, has_some, items, heard}
+use Rattle.vhost_protocol.specs.Stream.{Cell, bytes, first_handles, brings_handles, has_some}
 use Rattle.vhost_link.specs.Law.{Event, nothing}
-use Rattle.vhost_connection.specs.Pass.{receives}
-use Rattle.vhost_connection.specs.Talk.{State, Serves, Trouble}
-use Rattle.vhost_connection.specs.Calls.{ReadsBytes, MessageFails, CameOnce, HandsOver}
+use Rattle.vhost_connection.specs.Talk.{State, Trouble}
+use Rattle.vhost_connection.specs.Calls.{BroughtHandles, IsHeader, IsNoHeader, CameOnce, HandsOver}
+use Rattle.vhost_connection.specs.Came.{TakesIn, behind}
 use Rattle.vhost_connection.specs.declared.list.Front.{Front}
 
--- So many bytes came, or fewer and then the end, with the handles of the first; the list of handles is given away.
-pub record FrontCame {L H : Type 0} (event : L → Event H → L → Type 0) (old : State L H) (len count : ℕ) (hs : List H) (text : List ℕ) (new : State L H) : Type 0 where
-  pub cs : List (Cell H)
-  pub retries : ℕ
-  pub serves : Serves event old old.budget (receives (heard cs (nat_lt (length cs) len)) retries) new
-  pub within : length cs ≤ len
-  pub counted : count ≡ length cs
-  pub first : hs ≡ first_handles cs
-  pub bytes : take count text ≡ bytes cs
-  pub left : new.left + retries ≡ old.budget
-  pub list : new.list ≡ false
-
--- Fewer came, and then trouble.
-pub record FrontFails {L H : Type 0} (event : L → Event H → L → Type 0) (old : State L H) (len : ℕ) (e : Error) (new : State L H) : Type 0 where
-  pub cs : List (Cell H)
-  pub retries : ℕ
-  pub short : length cs < len
-  pub trouble : Trouble event old old.budget true false (receives (items cs) retries) e new
-
--- So many bytes came to the front of the text, and more into the room, with the handles of the first; the list of handles is given away.
-pub record PartsCame {L H : Type 0} (event : L → Event H → L → Type 0) (old : State L H) (len count more : ℕ) (hs : List H) (text before after : List ℕ) (new : State L H) : Type 0 where
-  pub cs : List (Cell H)
-  pub retries : ℕ
-  pub serves : Serves event old old.budget (receives (heard cs (nat_lt (length cs) (len + length before))) retries) new
-  pub within : length cs ≤ len + length before
+-- Of these cells so many bytes lie at the front of the text, and so many are behind them; the handles are those of the first.
+pub record IsFront {H : Type 0} (len : ℕ) (cs : List (Cell H)) (count more : ℕ) (hs : List H) (text : List ℕ) : Type 0 where
   pub counted : count ≡ min len (length cs)
   pub rest : more ≡ length cs - len
   pub first : hs ≡ first_handles cs
-  pub room : after ≡ drop len (bytes cs) ++ drop more before
   pub bytes : take count text ≡ take len (bytes cs)
-  pub left : new.left + retries ≡ old.budget
-  pub list : new.list ≡ false
 
+-- The front of a message comes in, and then what fits into the room. The list of handles is given away.
 abbrev pub ReadsParts : {L H : Type 0} → (L → Event H → L → Type 0) → State L H → ℕ → List ℕ → Result (Front H) Error → List ℕ → List ℕ → State L H → Type 0
-ReadsParts event old len before (Ok x) text after new = PartsCame event old len x.count x.more x.list.items text before after new
-ReadsParts event old len before (Err e) text after new = MessageFails event old len before after e new
+ReadsParts {H} event old len before r text after new =
+    (cs : List (Cell H)) × (after ≡ behind len cs before) × TakesIn event old true (len + length before) cs false (λ x. IsFront len cs x.count x.more x.list.items text) (λ e. ⊥) r new
 
 abbrev pub ReadsFront : {L H : Type 0} → (L → Event H → L → Type 0) → State L H → ℕ → Result (Front H) Error → List ℕ → State L H → Type 0
-ReadsFront event old len (Ok x) text new = FrontCame event old len x.count x.list.items text new
-ReadsFront event old len (Err e) text new = FrontFails event old len e new
+ReadsFront {H} event old len r text new = (cs : List (Cell H)) × TakesIn event old true len cs false (λ x. IsFront len cs x.count x.more x.list.items text) (λ e. ⊥) r new
+
+-- `recv_header`, before its handles are given
+abbrev pub ReadsHead : {M L H : Type 0} → (L → Event H → L → Type 0) → (List ℕ → M) → (M → Bool) → State L H → Result (M × Front H) Error → State L H → Type 0
+ReadsHead {H} event read valid old r new =
+    (cs : List (Cell H)) × TakesIn event old true 12 cs (is_err r) (IsHeader read valid (λ front hs. front.list.items ≡ hs) cs) (IsNoHeader (λ bs. valid (read bs)) cs) r new
 
 -- `recv_data`, whose bytes lie at the front of the text
 abbrev pub ReadsCount : {L H : Type 0} → (L → Event H → L → Type 0) → State L H → ℕ → Result ℕ Error → List ℕ → State L H → Type 0
-ReadsCount {H} event old len (Ok n) text new = (cs : List (Cell H)) × ReadsBytes event old len cs new × (brings_handles cs ≡ false) × (n ≡ length cs) × (take n text ≡ bytes cs)
-ReadsCount {H} event old len (Err InvalidMessage) text new = (cs : List (Cell H)) × ReadsBytes event old len cs new × (brings_handles cs ≡ true)
-ReadsCount {H} event old len (Err e) text new = (cs : List (Cell H)) × (r : ℕ) × (old.broken ≡ None → length cs < len) × Trouble event old old.left false true (receives (items cs) r) e new
+ReadsCount {H} event old len r text new = (cs : List (Cell H)) × TakesIn event old false len cs old.list (λ n. (brings_handles cs ≡ false) × (n ≡ length cs) × (take n text ≡ bytes cs)) (BroughtHandles cs) r new
 
 -- `recv_into_buf`, likewise
 abbrev pub ReadsCountOnce : {L H : Type 0} → (L → Event H → L → Type 0) → State L H → ℕ → Result (ℕ × Option (Vec H Global)) Error → List ℕ → State L H → Type 0
@@ -66,25 +42,6 @@ ReadsCountOnce event old len (Err e) text new = Trouble event old 0 true false n
 abbrev pub gives : {L H : Type 0} → State L H → List H → State L H
 gives old hs = if has_some hs then old else record old { list = true }
 
--- Behind the front of a message more came into the room, or the end, with the retries that were left.
-pub record MoreCame {L H : Type 0} (event : L → Event H → L → Type 0) (old : State L H) (more : ℕ) (before after : List ℕ) (new : State L H) : Type 0 where
-  pub cs : List (Cell H)
-  pub retries : ℕ
-  pub serves : Serves event old old.left (receives (heard cs (nat_lt (length cs) (length before))) retries) new
-  pub within : length cs ≤ length before
-  pub counted : more ≡ length cs
-  pub room : after ≡ bytes cs ++ drop (length cs) before
-  pub left : new.left + retries ≡ old.left
-  pub list : new.list ≡ old.list
-
--- Less came, and then trouble.
-pub record MoreFails {L H : Type 0} (event : L → Event H → L → Type 0) (old : State L H) (before after : List ℕ) (e : Error) (new : State L H) : Type 0 where
-  pub cs : List (Cell H)
-  pub retries : ℕ
-  pub short : length cs < length before
-  pub trouble : Trouble event old old.left false true (receives (items cs) retries) e new
-  pub room : after ≡ bytes cs ++ drop (length cs) before
-
+-- Behind the front of a message more comes into the room, with the retries that were left.
 abbrev pub ReadsMore : {L H : Type 0} → (L → Event H → L → Type 0) → State L H → List ℕ → Result ℕ Error → List ℕ → State L H → Type 0
-ReadsMore event old before (Ok n) after new = MoreCame event old n before after new
-ReadsMore event old before (Err e) after new = MoreFails event old before after e new
+ReadsMore {H} event old before r after new = (cs : List (Cell H)) × (after ≡ bytes cs ++ drop (length cs) before) × TakesIn event old false (length before) cs old.list (λ n. n ≡ length cs) (λ e. ⊥) r new

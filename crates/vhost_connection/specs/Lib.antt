@@ -1,6 +1,7 @@
 pub mod Ahead
 pub mod Pass
 pub mod Talk
+pub mod Came
 pub mod Calls
 pub mod State
 pub mod Front

@@ -1,5 +1,5 @@
 -- A request is read, and answered.
-use Rattle.std.specs.Prelude.{◌≡◌, ℕ, ◌+◌, ◌<◌, ◌≤◌, List, ◌++◌, take, length, Some, None, Option, Bool, true, false, ◌&&◌, ◌⊎◌, not, is_some, IsTrue, Result, Ok, Err, Vec, ⊤}
+use Rattle.std.specs.Prelude.{◌≡◌, ℕ, ◌<◌, ◌≤◌, List, ◌++◌, take, length, Some, None, Option, Bool, true, false, ◌&&◌, ◌⊎◌, not, is_some, IsTrue, Result, Ok, Err, Vec, ⊤}
 use Rattle.std.specs.Global.{Global}
 use Rattle.vhost_message.specs.declared.cause.IoCause.{IoCause}
 use Rattle.vhost_message.specs.Cause.{is_retry, error_of}
@@ -10,13 +10,13 @@ use Rattle.vhost_message.specs.Header.{header_of, header_text, is_valid_header}
 use Rattle.vhost_message.specs.MsgHeader.{fields_of, of_fields}
 use Rattle.vhost_protocol.specs.Error.{Error, seen, seen_result}
 use Rattle.vhost_protocol.specs.Split.{Message, Splits, split}
-use Rattle.vhost_protocol.specs.Stream.{Cell, bytes, carrying, first_handles, has_some, items}
+use Rattle.vhost_protocol.specs.Stream.{Cell, bytes, carrying, has_some, items}
 use Rattle.vhost_link.specs.Law.{Event}
 use Rattle.vhost_connection.specs.declared.request.Request.{Request}
 use Rattle.vhost_connection.specs.Pass.{receives, sends}
 use Rattle.vhost_connection.specs.Talk.{State, Fell, Serves, Trouble}
-use Rattle.vhost_connection.specs.Calls.{HandsOver, ReadsHeader}
-use Rattle.vhost_connection.specs.declared.list.Front.{Front}
+use Rattle.vhost_connection.specs.Calls.{HandsOver, IsHeader}
+use Rattle.vhost_connection.specs.Came.{Came}
 use Rattle.vhost_connection.specs.Hearing.{Hears}
 
 -- ---- in
@@ -56,26 +56,10 @@ module _ {R L H : Type 0} (event : L → Event H → L → Type 0) (request_of :
   ReadsRequest old (Ok x) bytes new = ReadsMessage old x.0 x.1 bytes new
   ReadsRequest old (Err e) bytes new = ReadsNone old (seen e) new ⊎ ReadsInPart old e new
 
--- The header of a message came, with these handles; the list of handles is away.
-pub record HeadCame {M L H : Type 0} (event : L → Event H → L → Type 0) (read : List ℕ → M) (valid : M → Bool) (old : State L H) (header : M) (hs : List H) (new : State L H) : Type 0 where
-  pub cells : List (Cell H)
-  pub retries : ℕ
-  pub serves : Serves event old old.budget (receives (items cells) retries) new
-  pub long : length cells ≡ 12
-  pub decoded : header ≡ read (bytes cells)
-  pub accepted : valid header ≡ true
-  pub handles : hs ≡ first_handles cells
-  pub list : new.list ≡ false
-  pub left : new.left + retries ≡ old.budget
-
--- a header is received, or why not
-abbrev pub ReadsHead : {M L H : Type 0} → (L → Event H → L → Type 0) → (List ℕ → M) → (M → Bool) → State L H → Result (M × Front H) declared.Error → State L H → Type 0
-ReadsHead event read valid old (Ok x) new = HeadCame event read valid old x.0 x.1.list.items new
-ReadsHead event read valid old (Err e) new = ReadsHeader event read valid old (Err e) new
-
--- the header of a request came
+-- The header of a request came, with these handles; the list of handles is away.
 abbrev pub RequestHead : {R L H : Type 0} → (L → Event H → L → Type 0) → (ℕ → Option R) → State L H → VhostUserMsgHeader R → List H → State L H → Type 0
-RequestHead event request_of = HeadCame event (λ bs. of_fields (header_of bs)) (λ h. is_some (request_of (fields_of h).code) && is_valid_header (fields_of h))
+RequestHead {H} event request_of old header hs new = (cs : List (Cell H)) × (Came event old true 12 cs false new
+    × IsHeader (λ bs. of_fields (header_of bs)) (λ h. is_some (request_of (fields_of h).code) && is_valid_header (fields_of h)) (λ given first. given ≡ first) cs (header, hs))
 
 module _ {R L H : Type 0} (event : L → Event H → L → Type 0) (request_of : ℕ → Option R) (allowed : R → ℕ → Bool) where
   -- Behind the header of a request its body is read, while the list of handles is away.

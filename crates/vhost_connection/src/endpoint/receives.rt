@@ -17,8 +17,7 @@ impl<M: MsgHeader, L: Link> Endpoint<M, L> {
     ghost use Rattle.vhost_message.specs.declared.error.Error.TheVariants.{OversizedMsg, OutOfMemory};
     ghost use Rattle.vhost_connection.specs.Talk.{Refuses};
     ghost use Rattle.vhost_connection.specs.Calls.{ReadsHeader, ReadsData, ReadsBody, ReadsInto, ReadsPayload, ReadsOnce, HandsOver};
-    ghost use Rattle.vhost_connection.specs.Front.{ReadsFront, ReadsParts, ReadsCount, ReadsCountOnce, ReadsMore, gives};
-    ghost use Rattle.vhost_connection.specs.Requests.{ReadsHead};
+    ghost use Rattle.vhost_connection.specs.Front.{ReadsFront, ReadsParts, ReadsHead, ReadsCount, ReadsCountOnce, ReadsMore, gives};
     ghost use Rattle.vhost_connection.specs.State.{state};
 
     /// Receives a header, with the handles of its first byte.

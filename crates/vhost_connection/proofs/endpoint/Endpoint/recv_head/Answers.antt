@@ -1,25 +1,43 @@
-use Rattle.std.proofs.Common.{rules, sym, ◌∙◌}
-use Rattle.vhost_connection.specs.State.{state}
-use Rattle.vhost_connection.proofs.Messages.{header-fails, header-none, header-part, header-bad}
+use Rattle.std.proofs.Common.{rules, sym, ◌∙◌, inl, inr, ◌≡◌, ap, take, arith}
+use Rattle.vhost_connection.proofs.Came.{came-as, cut-as, front-as, cut-only}
+use Rattle.vhost_connection.proofs.Messages.{header-none, header-part, header-bad, head-whole}
 use Rattle.vhost_connection.proofs.Errors.{passed-on}
 use Rattle.vhost_connection.proofs.endpoint.Endpoint.recv_head.Goals as goal
 
 pub returns-in_err-front : goal.returns-in_err-front
 returns-in_err-front g c =
-    rw (passed-on c.from_residual.result c.from_residual.ensures.1) (header-fails g.L.Link.event g.M.ByteValued.read g.M.VhostUserMsgValidator.valid (state c.args.self.now) (state c.recv_front.new.self) c.SIZE-len.result _
-    (search rules) c.in_err-front.ensures)
+    let twelve : c.SIZE-len.result ≡ 12 = search rules in
+    let p = c.in_err-front.ensures in
+    rw (passed-on c.from_residual.result c.from_residual.ensures.1) (p.0, inr (cut-as twelve (cut-only p.1)))
 
 pub returns-then-front-eq0 : goal.returns-then-front-eq0
 returns-then-front-eq0 g c =
-    header-none g.L.Link.event g.M.ByteValued.read g.M.VhostUserMsgValidator.valid (state c.args.self.now) (state c.recv_front.new.self) _ c.SIZE-len.result _ _ _
-    (search rules) c.in_ok-front.ensures c.if-front-eq0.true c.put_back.ensures.state
+    let twelve : c.SIZE-len.result ≡ 12 = search rules in
+    let p = c.in_ok-front.ensures in
+    let m = came-as twelve p.1.0 in
+    let f = front-as twelve p.1.1 in
+    (p.0, inl (header-none m f c.if-front-eq0.true c.put_back.ensures.state))
 
 pub returns-then-front-len : goal.returns-then-front-len
 returns-then-front-len g c =
-    header-part g.L.Link.event g.M.ByteValued.read g.M.VhostUserMsgValidator.valid (state c.args.self.now) (state c.recv_front.new.self) _ c.SIZE-len.result _ _ _
-    (search rules) c.in_ok-front.ensures c.if-front-len.true c.if-front-eq0.false c.put_back.ensures.state
+    let twelve : c.SIZE-len.result ≡ 12 = search rules in
+    let p = c.in_ok-front.ensures in
+    let m = came-as twelve p.1.0 in
+    let f = front-as twelve p.1.1 in
+    (p.0, inl (header-part m f (omega (arith, twelve, c.if-front-len.true)) c.if-front-eq0.false c.put_back.ensures.state))
 
 pub returns-then-not-is_valid : goal.returns-then-not-is_valid
 returns-then-not-is_valid g c =
-    header-bad g.L.Link.event g.M.ByteValued.read g.M.VhostUserMsgValidator.valid (state c.args.self.now) (state c.recv_front.new.self) _ c.SIZE-len.result _ _ _ c.decode-header.result
-    (search rules) c.in_ok-front.ensures c.if-front-len.false (rw c.deref.ensures at c.decode-header.ensures.read) (sym c.is_valid.ensures ∙ c.if-not-is_valid.true) c.put_back-then-not-is_valid.ensures.state
+    let twelve : c.SIZE-len.result ≡ 12 = search rules in
+    let p = c.in_ok-front.ensures in
+    let m = came-as twelve p.1.0 in
+    let f = front-as twelve p.1.1 in
+    (p.0, inl (header-bad m f g.M.ByteValued.read g.M.VhostUserMsgValidator.valid c.decode-header.result (omega (arith, twelve, c.if-front-len.false)) ((rw c.deref.ensures at c.decode-header.ensures.read) ∙ ap (λ n. g.M.ByteValued.read (take n c.recv_front.new.self.text.value)) twelve) (sym c.is_valid.ensures ∙ c.if-not-is_valid.true) c.put_back-then-not-is_valid.ensures.state))
+
+pub returns : goal.returns
+returns g c =
+    let twelve : c.SIZE-len.result ≡ 12 = search rules in
+    let p = c.in_ok-front.ensures in
+    let m = came-as twelve p.1.0 in
+    let f = front-as twelve p.1.1 in
+    (p.0, (m, head-whole m f g.M.ByteValued.read g.M.VhostUserMsgValidator.valid c.decode-header.result (omega (arith, twelve, c.if-front-len.false)) ((rw c.deref.ensures at c.decode-header.ensures.read) ∙ ap (λ n. g.M.ByteValued.read (take n c.recv_front.new.self.text.value)) twelve) (λ front hs. front.list.items ≡ hs) c.in_ok-front.front (sym c.is_valid.ensures ∙ c.if-not-is_valid.false) p.1.1.first))

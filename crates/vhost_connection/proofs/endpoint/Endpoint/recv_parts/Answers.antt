@@ -14,14 +14,14 @@ use Rattle.vhost_connection.proofs.endpoint.Endpoint.recv_parts.Goals as goal
 pub returns-in_err-expect_sound : goal.returns-in_err-expect_sound
 unfolding ahead_of
 returns-in_err-expect_sound g c =
-    rw (passed-on c.from_residual.result c.from_residual.ensures.1) (nothing-comes c.args.len c.args.room.now c.requires.some (broken g.L.Link.event (state c.args.self.now) _ true false _ c.in_err-expect_sound.ensures.broken))
+    rw (passed-on c.from_residual.result c.from_residual.ensures.1) (nothing-comes c.args.len c.args.room.now c.args.self.now.text.value c.requires.some (broken g.L.Link.event (state c.args.self.now) _ true false _ c.in_err-expect_sound.ensures.broken))
 
 pub returns-in_default : goal.returns-in_default
 unfolding ahead_of
 returns-in_default g c =
     let none : is_some c.args.self.now.list ≡ false = c.in_default.ensures.memory in
     let same : is_some c.take_list.new.place ≡ is_some c.args.self.now.list = c.take_list.ensures.left ∙ sym none in
-    nothing-comes c.args.len c.args.room.now c.requires.some (no_memory refl c.in_ok-expect_sound.ensures.sound none refl (ap (λ (b : Bool). record (state c.args.self.now) { list = b; faulted = false }) same))
+    nothing-comes c.args.len c.args.room.now c.args.self.now.text.value c.requires.some (no_memory refl c.in_ok-expect_sound.ensures.sound none refl (ap (λ (b : Bool). record (state c.args.self.now) { list = b; faulted = false }) same))
 
 pub returns-in-Fault : goal.returns-in-Fault
 unfolding ahead_of

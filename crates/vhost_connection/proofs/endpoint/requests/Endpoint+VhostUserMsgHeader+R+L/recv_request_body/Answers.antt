@@ -19,9 +19,9 @@ returns-in_err-recv_rest_of_message g c before hs h count =
     let came = request-came g.L.Link.event g.R.Req.code g.R.RequestCode.allowed h c.in_ok-code.code _ c.args.handles c.allows_handles.result c.in_ok-code.ensures count c.allows_handles.ensures c.if-not-allows_handles.false in
     let small = valid-size _ c.args.header.now c.requires.valid in
     let room = length-take-le c.get_size-len.result c.args.body.now (omega (arith, c.requires.room, c.get_size-len.ensures, small)) in
+    let p = c.in_err-recv_rest_of_message.ensures in
     rw (passed-on c.from_residual-in_err-recv_rest_of_message.result c.from_residual-in_err-recv_rest_of_message.ensures.1)
-    (body-failed g.L.Link.event g.R.Req.code g.R.RequestCode.allowed before (state c.args.self.now) _ h.cells c.in_ok-code.code _ _ _ came
-    (room ∙ c.get_size-len.ensures ∙ head-size g.L.Link.event g.R.Req.code g.R.RequestCode.allowed h) c.in_err-recv_rest_of_message.ensures)
+    (body-failed g.L.Link.event g.R.Req.code g.R.RequestCode.allowed before (state c.args.self.now) _ h.0 p.0 c.in_ok-code.code _ came (room ∙ c.get_size-len.ensures ∙ head-size h.0 h.1.1.1) _ p.1)
 
 pub returns-then-branch-len : goal.returns-then-branch-len
 returns-then-branch-len g c before hs h count =
@@ -29,8 +29,8 @@ returns-then-branch-len g c before hs h count =
     let small = valid-size _ c.args.header.now c.requires.valid in
     let room = length-take-le c.get_size-len.result c.args.body.now (omega (arith, c.requires.room, c.get_size-len.ensures, small)) in
     let p = c.in_ok-recv_rest_of_message.ensures in
-    body-cut g.L.Link.event g.R.Req.code g.R.RequestCode.allowed before (state c.args.self.now) _ h.cells p.0 c.in_ok-code.code _ came
-    (room ∙ c.get_size-len.ensures ∙ head-size g.L.Link.event g.R.Req.code g.R.RequestCode.allowed h) p.1 (omega (arith, c.if-branch-len.true, p.3, room))
+    body-cut g.L.Link.event g.R.Req.code g.R.RequestCode.allowed before (state c.args.self.now) _ h.0 p.0 c.in_ok-code.code _ came
+    (room ∙ c.get_size-len.ensures ∙ head-size h.0 h.1.1.1) p.1.0 (omega (arith, c.if-branch-len.true, p.1.1.1, room))
 
 pub returns : goal.returns
 returns g c before hs h count =
@@ -39,20 +39,20 @@ returns g c before hs h count =
     let len = c.get_size-len.result in
     let room = length-take-le len c.args.body.now (omega (arith, c.requires.room, c.get_size-len.ensures, small)) in
     let p = c.in_ok-recv_rest_of_message.ensures in
-    let all : length p.0 ≡ len = omega (arith, p.1.within, p.3, room, c.if-branch-len.false) in
-    let count : c.in_ok-recv_rest_of_message.field-0 ≡ len = p.3 ∙ all in
+    let all : length p.0 ≡ len = omega (arith, p.1.0.within, p.1.1.1, room, c.if-branch-len.false) in
+    let count : c.in_ok-recv_rest_of_message.field-0 ≡ len = p.1.1.1 ∙ all in
     let now = c.recv_rest_of_message.new.room in
     let size : length now ≡ len = c.recv_rest_of_message.auto.room ∙ room in (
-      message_in c.in_ok-code.code h.cells p.0,
+      message_in c.in_ok-code.code h.0 p.0,
       record {
         code = refl;
-        reply = c.is_reply.ensures ∙ ap (λ (x : VhostUserMsgHeader _). has_bit (fields_of x).flags 2) h.decoded;
-        need_reply = c.is_need_reply.ensures ∙ ap (λ (x : VhostUserMsgHeader _). has_bit (fields_of x).flags 3) h.decoded;
+        reply = c.is_reply.ensures ∙ ap (λ (x : VhostUserMsgHeader _). has_bit (fields_of x).flags 2) h.1.1.1;
+        need_reply = c.is_need_reply.ensures ∙ ap (λ (x : VhostUserMsgHeader _). has_bit (fields_of x).flags 3) h.1.1.1;
         len = body-length len p.0 (sym all);
-        body = take_at now (drop len c.args.body.now) len size ∙ sym (take_all len now (omega (arith, size))) ∙ ap (λ n. take n now) (sym count) ∙ p.4;
+        body = take_at now (drop len c.args.body.now) len size ∙ sym (take_all len now (omega (arith, size))) ∙ ap (λ n. take n now) (sym count) ∙ p.1.1.2;
       },
-      sym h.handles,
-      message-came g.L.Link.event g.R.Req.code g.R.RequestCode.allowed before (state c.args.self.now) _ h.cells p.0 c.in_ok-code.code _ came
-          (room ∙ c.get_size-len.ensures ∙ head-size g.L.Link.event g.R.Req.code g.R.RequestCode.allowed h) p.1 (omega (arith, all, room)) p.2,
-      p.1.list ∙ h.list,
+      sym h.1.1.3,
+      message-came g.L.Link.event g.R.Req.code g.R.RequestCode.allowed before (state c.args.self.now) _ h.0 p.0 c.in_ok-code.code _ came
+          (room ∙ c.get_size-len.ensures ∙ head-size h.0 h.1.1.1) p.1.0 (omega (arith, all, room)) p.1.1.0,
+      p.1.0.listed ∙ h.1.0.listed,
     )
