@@ -1,5 +1,5 @@
 -- A reply with configuration bytes comes in, or a bare one.
-use Rattle.std.proofs.Common.{◌≡◌, ℕ, ◌+◌, ◌<◌, ◌≤◌, List, [], ◌∷◌, ◌++◌, length, take, drop, refl, sym, ap, ◌∙◌, arith, lit≤, Bool, true, false, ◌&&◌, Option, Some, None, Result, Ok, Err, Vec, eqb-true}
+use Rattle.std.proofs.Common.{◌≡◌, ℕ, ◌+◌, ◌<◌, ◌≤◌, List, [], ◌∷◌, ◌++◌, length, take, drop, refl, sym, ap, ◌∙◌, arith, lit≤, Bool, true, false, ◌&&◌, Option, Some, None, Result, Ok, Err, Vec, eqb-true, inl, inr}
 use Rattle.std.specs.Prelude.{not, is_some, nat_lt, ◌==◌}
 use Rattle.std.specs.Global.{Global}
 use Rattle.std.proofs.lemmas.List.{drop_all, drop_at, length-append, length-drop, append-nil}
@@ -10,7 +10,7 @@ use Rattle.vhost_message.specs.declared.header.VhostUserMsgHeader.{VhostUserMsgH
 use Rattle.vhost_message.specs.declared.records.config.VhostUserConfig.{VhostUserConfig}
 use Rattle.vhost_message.specs.FrontendReq.{request_of}
 use Rattle.vhost_message.specs.Header.{Header, header_of, is_valid_header, is_reply_for}
-use Rattle.vhost_message.specs.MsgHeader.{fields_of}
+use Rattle.vhost_message.specs.MsgHeader.{fields_of, of_fields}
 use Rattle.vhost_message.specs.Records.{config_of}
 use Rattle.vhost_message.specs.Text.{number_at}
 use Rattle.vhost_message.specs.Valid.{is_valid_config}
@@ -25,10 +25,12 @@ use Rattle.vhost_link.specs.Law.{Event}
 use Rattle.vhost_link.proofs.Cells.{length-bytes}
 use Rattle.vhost_connection.specs.Pass.{receives}
 use Rattle.vhost_connection.specs.Talk.{State}
-use Rattle.vhost_connection.specs.Calls.{MessageCame, HandsOver}
+use Rattle.vhost_connection.specs.Came.{Came}
+use Rattle.vhost_connection.specs.Calls.{HandsOver, IsNoMessage, is_sound}
+use Rattle.vhost_connection.specs.Calls.IsNoMessage.{too_few, not_valid}
 use Rattle.vhost_connection.specs.Bare.{is_bare, ReadsOrBare}
-use Rattle.vhost_connection.specs.Bare.ReadsOrBare.{bare as was_bare, whole as was_whole, ends, invalid, fails}
 use Rattle.vhost_connection.specs.Hearing.{Hears, broken_on}
+use Rattle.vhost_connection.proofs.Came.{came-all, came-ended}
 use Rattle.vhost_connection.proofs.Bare.{bare-front}
 use Rattle.vhost_connection.proofs.Failing.{trouble-breaks}
 use Rattle.vhost_frontend_core.specs.Taking.{reply_cut}
@@ -90,26 +92,31 @@ module _ {H : Type 0} (sent : Header) (room : ℕ) where
   config-splits cs false o le no_bare s = λ rest. config-whole cs rest rest o le no_bare (s rest)
 
 module _ {L H : Type 0} (event : L → Event H → L → Type 0) (sent : Header) (old : State L H) (before : List ℕ) where
-  config-came : (new : State L H) (after : List ℕ) (cs : List (Cell H)) (o : Result (Received H) Error) → MessageCame event old 24 before after cs new → outcome is_known 12 (length before) valid cs ≡ o → is_bare request_of sent cs ≡ false
+  config-came : (new : State L H) (cs : List (Cell H)) (o : Result (Received H) Error) {list : Bool} → Came event old true (24 + length before) cs list new → 24 ≤ length cs → outcome is_known 12 (length before) valid cs ≡ o → is_bare request_of sent cs ≡ false
       → Hears event (config_cut sent (length before)) old (some_reply o) new
-  config-came new after cs o m is no_bare = record {
+  config-came new cs o m whole is no_bare = record {
     cells = cs;
     ended = nat_lt (length cs) (24 + length before);
     retries = m.retries;
     serves = m.serves;
-    splits = config-splits sent (length before) cs (nat_lt (length cs) (24 + length before)) o m.whole no_bare (splits is_known 12 (length before) valid cs o m.whole m.within is);
+    splits = config-splits sent (length before) cs (nat_lt (length cs) (24 + length before)) o whole no_bare (splits is_known 12 (length before) valid cs o whole m.within is);
   }
 
   -- it is bare
   pub config-none : (new : State L H) (after : List ℕ) → ReadsOrBare event request_of sent old before (Ok None) after new → RecvsConfig event (length before) old sent (Err code.BackendInternalError) after new
-  config-none new after (was_bare cs r serves len is list left) =
-      bare (record { cells = cs; ended = false; retries = r; serves = serves; splits = λ rest. config-bare sent (length before) cs rest len is })
+  config-none new after (cs, m, len, is, room) =
+      bare (record { cells = cs; ended = false; retries = m.retries; serves = came-all m (omega (arith, len)); splits = λ rest. config-bare sent (length before) cs rest len is })
 
   -- there is none
   pub config-fails : (new : State L H) (after : List ℕ) (e : declared.Error) → ReadsOrBare event request_of sent old before (Err e) after new → RecvsConfig event (length before) old sent (Err e) after (broken_on e new)
-  config-fails new after e (ends m) = none (record { cells = m.cs; ended = true; retries = m.retries; serves = m.serves; splits = config-short sent (length before) m.cs m.short })
-  config-fails new after e (invalid p no_bare) = none (config-came new after p.0 (Err InvalidMessage) p.1 (is-invalid is_known 12 (length before) valid p.0 (ap (λ b. b && valid (take 12 (drop 12 (bytes p.0)))) (known-is request_of (header_of (take 12 (bytes p.0)))) ∙ p.2)) no_bare)
-  config-fails new after e (fails p no_bare) = failed (trouble-breaks event old true false (receives (items p.cs) p.retries) e new p.trouble (lit≤ tt))
+  config-fails new after e ((cs, room, inr f), no_bare) = failed (trouble-breaks event old true false (receives (items cs) f.retries) e new f.trouble (lit≤ tt))
+  config-fails new after e ((cs, room, inl (m, bad)), no_bare) = go e bad
+    where
+      go : (y : declared.Error) → IsNoMessage 24 (is_sound (λ bs. of_fields (header_of bs)) (λ (h : VhostUserMsgHeader FrontendReq). is_some (request_of (fields_of h).code) && is_valid_header (fields_of h)) 12 config_of is_valid_config) cs y
+          → RecvsConfig event (length before) old sent (Err y) after (broken_on y new)
+      go y (too_few short) = none (record { cells = cs; ended = true; retries = m.retries; serves = came-ended m (omega (arith, short)); splits = config-short sent (length before) cs short })
+      go y (not_valid whole wrong) =
+          none (config-came new cs (Err InvalidMessage) m whole (is-invalid is_known 12 (length before) valid cs (ap (λ b. b && valid (take 12 (drop 12 (bytes cs)))) (known-is request_of (header_of (take 12 (bytes cs)))) ∙ wrong)) (no_bare whole))
 
   -- the test of a reply, as the code makes it
   abbrev pub whole_test : VhostUserMsgHeader FrontendReq → ℕ → Bool
@@ -120,15 +127,15 @@ module _ {L H : Type 0} (event : L → Event H → L → Type 0) (sent : Header)
         → (reply : Received H) × Hears event (config_cut sent (length before)) old (Ok (Some reply)) new × (is_reply_of sent (length before) reply ≡ whole_test h n) × (part ≡ config_of reply.body)
         × (n ≡ length reply.payload) × (after ≡ reply.payload ++ drop n before) × HandsOver hs reply.handles
     unfolding reply_in
-    config-reply (was_whole (cs, m, is_h, ok, is_part, ok_part, count, over, list) no_bare) =
+    config-reply ((cs, room, (m, (count, (is_h, ok, is_part, ok_part, over)))), no_bare) =
         let head = ap (λ (x : VhostUserMsgHeader FrontendReq). fields_of x) is_h in
         let len : length (drop 24 (bytes cs)) ≡ n = length-drop 24 (bytes cs) ∙ omega (arith, length-bytes cs, count) in (
           reply_in is_known 12 (length before) valid cs,
-          config-came new after cs (Ok (reply_in is_known 12 (length before) valid cs)) m (is-whole is_known 12 (length before) valid cs (known-is request_of (header_of (take 12 (bytes cs))) ∙ ap (λ (x : Header). is_some (request_of x.code) && is_valid_header x) (sym head) ∙ ok) (ap is_valid_config (sym is_part) ∙ ok_part)) no_bare,
+          config-came new cs (Ok (reply_in is_known 12 (length before) valid cs)) m (omega (arith, count)) (is-whole is_known 12 (length before) valid cs (known-is request_of (header_of (take 12 (bytes cs))) ∙ ap (λ (x : Header). is_some (request_of x.code) && is_valid_header x) (sym head) ∙ ok) (ap is_valid_config (sym is_part) ∙ ok_part)) no_bare,
           (λ j. is_reply_for request_of (sym head j) sent && ((sym head j).size == 12 + length before && len j == length before)),
           is_part,
           sym len,
-          m.room ∙ ap (λ k. drop 24 (bytes cs) ++ drop k before) (omega (arith, count)),
+          room ∙ ap (λ k. drop 24 (bytes cs) ++ drop k before) (omega (arith, count)),
           over,
         )
 

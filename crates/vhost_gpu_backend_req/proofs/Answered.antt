@@ -1,5 +1,5 @@
 -- What a call of the channel does, step by step.
-use Rattle.std.proofs.Common.{◌≡◌, ℕ, ℤ, ◌+◌, ◌++◌, List, [], length, take, drop, Bool, true, false, Option, Some, None, Result, Ok, Err, Vec, refl, sym, ap, subst, ◌∙◌, lit≤}
+use Rattle.std.proofs.Common.{◌≡◌, ℕ, ℤ, ◌+◌, ◌++◌, List, [], length, take, drop, Bool, true, false, Option, Some, None, Result, Ok, Err, Vec, refl, sym, ap, subst, ◌∙◌, lit≤, ◌≤◌, arith, inl, inr}
 use Rattle.std.specs.Prelude.{◌≢◌, ◌&&◌, is_some, is_ok, not, codes, if◌then◌else◌, nat_lt}
 use Rattle.std.specs.Global.{Global}
 use Rattle.vhost_message.specs.declared.error.Error as declared
@@ -19,8 +19,11 @@ use Rattle.vhost_protocol.specs.Stream.{Cell, bytes, carrying, first_handles, ha
 use Rattle.vhost_link.specs.Law.{Event}
 use Rattle.vhost_connection.specs.Pass.{receives}
 use Rattle.vhost_connection.specs.Talk.{State}
-use Rattle.vhost_connection.specs.Calls.{Sends, HandsOver, ReadsPayload, MessageCame}
+use Rattle.vhost_connection.specs.Came.{Came}
+use Rattle.vhost_connection.specs.Calls.{Sends, HandsOver, ReadsPayload, IsNoMessage, is_sound}
+use Rattle.vhost_connection.specs.Calls.IsNoMessage.{too_few, not_valid}
 use Rattle.vhost_connection.specs.Hearing.{Hears, broken_on}
+use Rattle.vhost_connection.proofs.Came.{came-ended}
 use Rattle.vhost_connection.proofs.Failing.{trouble-breaks}
 use Rattle.vhost_connection.proofs.Replies.{hears-by, reply_in, outcome, splits, is-whole, is-invalid, reply-short}
 use Rattle.vhost_gpu_backend_req.specs.Asking.{unexpected, RecvsRecord, Takes, Asks, read_as}
@@ -80,14 +83,14 @@ module _ {L H T : Type 0} (event : L → Event H → L → Type 0) (size : ℕ) 
       ∙ ap (λ (n : ℕ). (gpu_understood sent (reply_split is_known_gpu n (λ bs. valid (read bs)) 0 cells).0, (reply_split is_known_gpu n (λ bs. valid (read bs)) 0 cells).1)) sized
 
   module _ (old new : State L H) (sent : Header) (after : List ℕ) where
-    came : (cs : List (Cell H)) (o : Result (Received H) Error) → MessageCame event old (12 + size) [] after cs new → outcome is_known_gpu size 0 (λ bs. valid (read bs)) cs ≡ o
+    came : (cs : List (Cell H)) (o : Result (Received H) Error) {list : Bool} → Came event old true (12 + size + 0) cs list new → 12 + size ≤ length cs → outcome is_known_gpu size 0 (λ bs. valid (read bs)) cs ≡ o
         → Hears event (reply_split is_known_gpu size (λ bs. valid (read bs)) 0) old o new
-    came cs o m e = record {
+    came cs o m whole e = record {
       cells = cs;
       ended = nat_lt (length cs) (12 + size + 0);
       retries = m.retries;
       serves = m.serves;
-      splits = splits is_known_gpu size 0 (λ bs. valid (read bs)) cs o m.whole m.within e;
+      splits = splits is_known_gpu size 0 (λ bs. valid (read bs)) cs o whole m.within e;
     }
 
     heard-as : (o : Result (Received H) Error) {result : Result T IoError} → Hears event (reply_split is_known_gpu size (λ bs. valid (read bs)) 0) old o new → result ≡ read_as read (gpu_understood sent o)
@@ -109,26 +112,30 @@ module _ {L H T : Type 0} (event : L → Event H → L → Type 0) (size : ℕ) 
     pub record-comes : (h : VhostUserGpuMsgHeader GpuBackendReq) (t : T) (n : ℕ) (hs : Option (Vec H Global)) {result : Result T IoError} → ReadsGpu event size read valid old (Ok (h, t, n, hs)) after new
         → result ≡ (if is_reply_for gpu_request_of (gpu_fields_of h) sent && not (is_some hs) then Ok t else Err unexpected) → RecvsRecord event read (gpu_take (Some shape) sent) old result new
     unfolding reply_in
-    record-comes h t n hs (cs, m, is_h, ok, is_t, ok_t, count, over, list) e =
+    record-comes h t n hs (cs, room, (m, (count, (is_h, ok, is_t, ok_t, over)))) e =
         let head : gpu_fields_of h ≡ header_of (take 12 (bytes cs)) = ap gpu_fields_of is_h in
         heard-as (Ok (reply_in is_known_gpu size 0 (λ bs. valid (read bs)) cs))
-        (came cs _ m (is-whole is_known_gpu size 0 (λ bs. valid (read bs)) cs (ap is_known_gpu (sym head) ∙ ok) (ap valid (sym is_t) ∙ ok_t)))
+        (came cs _ m (omega (arith, count)) (is-whole is_known_gpu size 0 (λ bs. valid (read bs)) cs (ap is_known_gpu (sym head) ∙ ok) (ap valid (sym is_t) ∙ ok_t)))
         (e ∙ ap (λ (b : Bool). if is_reply_for gpu_request_of (gpu_fields_of h) sent && not b then Ok t else Err unexpected) (hands-is hs (first_handles cs) over)
         ∙ ap (λ (x : Header). if is_reply_for gpu_request_of x sent && not (has_some (first_handles cs)) then Ok t else Err unexpected) head
         ∙ by-tests (is_reply_for gpu_request_of (header_of (take 12 (bytes cs))) sent && not (has_some (first_handles cs))) t (take size (drop 12 (bytes cs))) is_t)
-        (λ good. list ∙ ap not (sym (hands-is hs (first_handles cs) over)) ∙ none-came (is_reply_for gpu_request_of (gpu_fields_of h) sent) (is_some hs) t e good)
+        (λ good. m.listed ∙ ap not (sym (hands-is hs (first_handles cs) over)) ∙ none-came (is_reply_for gpu_request_of (gpu_fields_of h) sent) (is_some hs) t e good)
 
   -- none came, or the link failed
   pub record-fails : (old new : State L H) (sent : Header) (after : List ℕ) (e : declared.Error) → ReadsGpu event size read valid old (Err e) after new
       → RecvsRecord event read (gpu_take (Some shape) sent) old (Err (In (codes "recv_body") (seen e))) (broken_on e new)
-  record-fails old new sent after code.PartialMessage m =
-      heard-as old new sent after (Err PartialMessage)
-      (record { cells = m.cs; ended = true; retries = m.retries; serves = m.serves; splits = reply-short is_known_gpu size 0 (λ bs. valid (read bs)) m.cs m.short }) refl
-      (λ good. m.list)
-  record-fails old new sent after code.InvalidMessage (cs, m, bad, list) =
-      heard-as old new sent after (Err InvalidMessage) (came old new sent after cs (Err InvalidMessage) m (is-invalid is_known_gpu size 0 (λ bs. valid (read bs)) cs bad)) refl
-      (λ good. list)
-  record-fails old new sent after e m = stopped (trouble-breaks event old true false (receives (items m.cs) m.retries) e new m.trouble (lit≤ tt))
+  record-fails old new sent after e (cs, room, inr f) = stopped (trouble-breaks event old true false (receives (items cs) f.retries) e new f.trouble (lit≤ tt))
+  record-fails old new sent after e (cs, room, inl (m, bad)) = go e bad
+    where
+      go : (y : declared.Error) → IsNoMessage (12 + size) (is_sound (λ bs. of_gpu_fields (header_of bs)) valid_head size read valid) cs y
+          → RecvsRecord event read (gpu_take (Some shape) sent) old (Err (In (codes "recv_body") (seen y))) (broken_on y new)
+      go y (too_few short) =
+          heard-as old new sent after (Err PartialMessage)
+          (record { cells = cs; ended = true; retries = m.retries; serves = came-ended m (omega (arith, short)); splits = reply-short is_known_gpu size 0 (λ bs. valid (read bs)) cs short }) refl
+          (λ good. m.listed)
+      go y (not_valid whole wrong) =
+          heard-as old new sent after (Err InvalidMessage) (came old new sent after cs (Err InvalidMessage) m whole (is-invalid is_known_gpu size 0 (λ bs. valid (read bs)) cs wrong)) refl
+          (λ good. m.listed)
 
 -- another form of the same answer
 abbrev as_another : {A B : Type 0} → (A → B) → Result A IoError → Result B IoError
