@@ -77,8 +77,8 @@ module _ (law : StreamLaw) where
   served old new limit m s u = record { uncut = still old.link new.link s.talks.below s.talks.moved u.uncut; broken = never new.broken s.after }
 
   pub failed : (old new : End) (between : Bool) (e : declared.Error) → Fails event old between e new → IsUncut old → IsUncut new × IsWant e
-  failed old new between e (was_broken {c = c} is at list) u = (alike old new (ap {A = End} (λ s. s.link.script) at) (ap {A = End} (λ s. s.broken) at) u, u.broken c is)
-  failed old new between e (no_memory is at) u = (alike old new (ap {A = End} (λ s. s.link.script) at) (ap {A = End} (λ s. s.broken) at) u, tt)
+  failed old new between e (was_broken {c = c} is at) u = (alike old new (ap {A = End} (λ s. s.link.script) at) (ap {A = End} (λ s. s.broken) at) u, u.broken c is)
+  failed old new between e (no_memory sound is at) u = (alike old new (ap {A = End} (λ s. s.link.script) at) (ap {A = End} (λ s. s.broken) at) u, tt)
   failed old new between e (fault c m unbroken fell failures retries retry short broken faulted rest) u =
       let l = last fell.before new.link c fell.last (still old.link fell.before fell.talks.below fell.talks.moved u.uncut) in
       (record { uncut = l.1; broken = chosen (between || has_moved m) c new.broken broken l.0 }, error-want c l.0)

@@ -1,5 +1,5 @@
 -- A request goes out whole, its list of handles made before.
-use Rattle.std.proofs.Common.{◌≡◌, ℕ, zero, suc, ◌+◌, ◌*◌, ◌/◌, ◌%◌, ◌<◌, ◌≤◌, List, ◌++◌, length, take, refl, sym, ap, subst, ◌∙◌, arith, Bool, true, false, Result, Ok, Err, length-take}
+use Rattle.std.proofs.Common.{◌≡◌, ℕ, None, zero, suc, ◌+◌, ◌*◌, ◌/◌, ◌%◌, ◌<◌, ◌≤◌, List, ◌++◌, length, take, refl, sym, ap, subst, ◌∙◌, arith, Bool, true, false, Result, Ok, Err, length-take}
 use Rattle.std.specs.Prelude.{◌==◌, IfOk, IfErr, is_err}
 use Rattle.std.proofs.lemmas.List.{length-append}
 use Rattle.vhost_message.specs.declared.limits.TheConstants.{MAX_MSG_SIZE, MAX_MSG_TEXT}
@@ -43,15 +43,19 @@ pub at-ok : {A E : Type 0} {P : A → Type 0} (r : Result A E) → IfOk r P → 
 at-ok (Ok a) p is = (a, p)
 at-ok (Err e) p is = absurd cc
 
-module _ {L H : Type 0} (event : L → Event H → L → Type 0) where
-  -- what an endpoint does does not look at its list
-  talks-listed : (old new : State L H) {m : _} → Talks event (record old { list = true }) m new → Talks event old m new
-  talks-listed old new t = record { below = t.below; moved = t.moved; handed = t.handed; taken = t.taken; retries = t.retries; failures = t.failures; budget = t.budget }
+-- an endpoint that is to send a request: it has its list of handles
+abbrev begun : {L H : Type 0} → State L H → State L H
+begun old = record old { list = true; faulted = false }
 
-  pub fails-listed : (old : State L H) (between : Bool) (e : declared.Error) (new : State L H) → Fails event (record old { list = true }) between e new → Fails event old between e new
-  fails-listed old between e new (was_broken b s kept) = was_broken b s (λ _. kept refl)
-  fails-listed old between e new (no_memory l s) = absurd cc
-  fails-listed old between e new (fault c m b t none most spent few broken faulted kept) = fault c m b (record { before = t.before; talks = talks-listed old (record new { link = t.before }) t.talks; last = t.last }) none most spent few broken faulted ((λ _. kept.0 refl), kept.1)
+module _ {L H : Type 0} (event : L → Event H → L → Type 0) where
+  -- what an endpoint does looks neither at its list nor at whether its last call met a fault
+  talks-begun : (old new : State L H) {m : _} → Talks event (begun old) m new → Talks event old m new
+  talks-begun old new t = record { below = t.below; moved = t.moved; handed = t.handed; taken = t.taken; retries = t.retries; failures = t.failures; budget = t.budget }
+
+  fails-begun : (old : State L H) (between : Bool) (e : declared.Error) (new : State L H) → old.broken ≡ None → Fails event (begun old) between e new → Fails event old between e new
+  fails-begun old between e new sound (was_broken b s) = absurd (cc (sound, b))
+  fails-begun old between e new sound (no_memory b l s) = absurd cc
+  fails-begun old between e new sound (fault c m b t none most spent few broken faulted kept) = fault c m b (record { before = t.before; talks = talks-begun old (record new { link = t.before }) t.talks; last = t.last }) none most spent few broken faulted ((λ _. kept.0 refl), kept.1)
 
   module _ {R : Type 0} (number : R → ℕ) (code : R) (flags : ℕ) (p : Payload) (handles : List H) (body payload : List ℕ) (size : ℕ) (text : payload_text p ≡ body ++ payload) (long : length body ≡ size) where
     w : Written R H
@@ -69,25 +73,25 @@ module _ {L H : Type 0} (event : L → Event H → L → Type 0) where
     unfolding w
     cells-are header head = ap (λ (x : Header). carrying handles (header_text x ++ (body ++ payload))) head ∙ ap (λ xs. carrying handles (header_text (head_of number w) ++ xs)) (sym text)
 
-    pub whole-goes : (old mid new : State L H) (header : VhostUserMsgHeader R) → mid ≡ record old { list = true }
+    pub whole-goes : (old mid new : State L H) (header : VhostUserMsgHeader R) → mid ≡ begun old
         → fields_of header ≡ record { code = number code; flags = with_version flags; size = size + length payload }
         → Sends event mid (carrying handles (header_text (fields_of header) ++ (body ++ payload))) (Ok tt) new → GoesOut event number (request_with flags code p handles) old header new
     unfolding w
     whole-goes old mid new header is fields (r, q, list, left) =
         let head = head-is (fields_of header) fields in
-        let s : Serves event (record old { list = true }) old.budget (sends (written_cells number w) r) new =
-        subst (λ xs. Serves event (record old { list = true }) old.budget (sends xs r) new) (cells-are (fields_of header) head)
+        let s : Serves event (begun old) old.budget (sends (written_cells number w) r) new =
+        subst (λ xs. Serves event (begun old) old.budget (sends xs r) new) (cells-are (fields_of header) head)
         (subst (λ (x : State L H). Serves event x x.budget (sends (carrying handles (header_text (fields_of header) ++ (body ++ payload))) r) new) is q) in
         record {
           retries = r;
-          serves = record { talks = talks-listed old new s.talks; retries = s.retries; failures = s.failures; before = s.before; after = s.after; faulted = s.faulted };
+          serves = record { talks = talks-begun old new s.talks; retries = s.retries; failures = s.failures; before = s.before; after = s.after; faulted = s.faulted };
           header = head;
           list = list ∙ ap (λ (x : State L H). x.list) is;
         }
 
-  pub front-fails : (handles : List H) (header : Header) (text : List ℕ) (old mid new : State L H) (e : declared.Error) → length text ≤ MAX_MSG_SIZE → mid ≡ record old { list = true }
+  pub front-fails : (handles : List H) (header : Header) (text : List ℕ) (old mid new : State L H) (e : declared.Error) → length text ≤ MAX_MSG_SIZE → old.broken ≡ None → mid ≡ begun old
       → Sends event mid (carrying handles (header_text header ++ text)) (Err e) new → Fails event old false e new
-  front-fails handles header text old mid new e most is (n, r, t, short) =
+  front-fails handles header text old mid new e most sound is (n, r, t, short) =
       let sent = carrying handles (header_text header ++ text) in
       let few : length (take n sent) ≤ MAX_MSG_TEXT = omega (arith, length-take n sent, length-carrying handles (header_text header ++ text), length-append (header_text header) text, most) in
-      fails-listed old false e new (subst (λ (x : State L H). Fails event x false e new) is (trouble-fails event mid false false (sends (take n sent) r) e new t refl few))
+      fails-begun old false e new sound (subst (λ (x : State L H). Fails event x false e new) is (trouble-fails event mid false false (sends (take n sent) r) e new t refl few))

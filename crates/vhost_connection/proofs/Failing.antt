@@ -5,13 +5,13 @@ use Rattle.std.proofs.lemmas.List.{append-nil}
 use Rattle.vhost_message.specs.declared.limits.TheConstants.{MAX_MSG_TEXT}
 use Rattle.vhost_message.specs.declared.cause.IoCause.{IoCause}
 use Rattle.vhost_message.specs.declared.error.Error.{Error}
-use Rattle.vhost_message.specs.declared.error.Error.TheVariants.{SocketError, SocketConnect, SocketBroken, SocketRetry}
+use Rattle.vhost_message.specs.declared.error.Error.TheVariants.{SocketError, SocketConnect, SocketBroken, SocketRetry, OutOfMemory}
 use Rattle.vhost_message.specs.Cause.{is_retry, is_break, is_denial, error_of}
 use Rattle.vhost_protocol.specs.Stream.{items}
 use Rattle.vhost_link.specs.Law.{Event, Refused, Move, more, move, ◌then◌, refused}
 use Rattle.vhost_connection.proofs.Adding.{refused-handed}
 use Rattle.vhost_connection.specs.State.{first_cause}
-use Rattle.vhost_connection.specs.Talk.{State, Talks, Fell, Trouble, has_moved}
+use Rattle.vhost_connection.specs.Talk.{State, Talks, Fell, IsBroken, Trouble, has_moved}
 use Rattle.vhost_connection.specs.Talk.Trouble.{was_broken as trouble_broken, no_memory as trouble_memory, fault as trouble_fault}
 use Rattle.vhost_connection.specs.Hearing.{Spends, Fails, broken_on}
 use Rattle.vhost_connection.specs.Hearing.Fails.{was_broken, no_memory, fault}
@@ -61,19 +61,16 @@ fell-talks {H = H} {old = old} {new} {m} c f =
 module _ {L H : Type 0} (event : L → Event H → L → Type 0) (old : State L H) (grows breaks : Bool) (m : Move H) where
   -- an endpoint's trouble is a failure of the side
   pub trouble-fails : (e : Error) (new : State L H) → Trouble event old old.budget grows breaks m e new → breaks ≡ false → length m.taken ≤ MAX_MSG_TEXT → Fails event old false e new
-  trouble-fails e new (trouble_broken b n s) whole few =
-      was_broken b (s ∙ ap (λ (l : Bool). record old { list = l; faulted = false }) (sym (ap (λ (x : State L H). x.list) s))) (λ l. ap (λ (x : State L H). x.list) s ∙ l)
-  trouble-fails e new (trouble_memory w b l n s) whole few = no_memory l (s ∙ ap (λ (f : Bool). record old { faulted = f }) (sym (ap (λ (x : State L H). x.faulted) s)))
+  trouble-fails e new (trouble_broken b n s) whole few = was_broken b s
+  trouble-fails e new (trouble_memory w b l n s) whole few = no_memory b l s
   trouble-fails e new (trouble_fault c b t f r most k y l) whole few = fault c m b t f r most few (k ∙ rw whole refl) y (l.0, (λ h. l.1 (rw whole h)))
 
   -- between a request and the end of its answer it breaks the endpoint, too
   pub trouble-breaks : (e : Error) (new : State L H) → Trouble event old old.budget grows breaks m e new → length m.taken ≤ MAX_MSG_TEXT → Fails event old true e (broken_on e new)
   trouble-breaks e new (trouble_broken {c = c} b n s) few = was_broken b
       (ap (λ (x : State L H). record x { broken = first_cause x.broken c }) s ∙ ap (λ (x : Option IoCause). record old { broken = first_cause x c; faulted = false }) b
-      ∙ ap (λ (x : Option IoCause). record old { broken = x; faulted = false }) (sym b)
-      ∙ ap (λ (l : Bool). record old { list = l; faulted = false }) (sym (ap (λ (x : State L H). x.list) s)))
-      (λ l. ap (λ (x : State L H). x.list) s ∙ l)
-  trouble-breaks e new (trouble_memory w b l n s) few = no_memory l (s ∙ ap (λ (f : Bool). record old { faulted = f }) (sym (ap (λ (x : State L H). x.faulted) s)))
+      ∙ ap (λ (x : Option IoCause). record old { broken = x; faulted = false }) (sym b))
+  trouble-breaks e new (trouble_memory w b l n s) few = no_memory b l s
   trouble-breaks e new (trouble_fault c b t f r most k y l) few =
       let after : broken_on (error_of c) new ≡ record new { broken = Some c } =
       broken-socket c new (is_retry c) (is_break c) (is_denial c) ∙ ap (λ (x : Option IoCause). record new { broken = x }) (ap (λ (x : Option IoCause). first_cause x c) k ∙ first-is c (breaks || has_moved m)) in
@@ -86,3 +83,10 @@ module _ {L H : Type 0} (event : L → Event H → L → Type 0) (old : State L 
       })
       f r most few refl y (l.0, (λ h. absurd (cc h))) in
       subst (λ (x : State L H). Fails event old true (error_of c) x) (sym after) failed
+
+-- before a request: an endpoint that was broken, or lacks memory
+pub broken_fails : {L H : Type 0} {event : L → Event H → L → Type 0} {old new : State L H} {e : Error} → IsBroken old e → new ≡ record old { faulted = false } → Fails event old false e new
+broken_fails {event = event} {old} {new} {e} (c, b, is) same = subst (λ y. Fails event old false y new) (sym is) (was_broken b same)
+
+pub memory_fails : {L H : Type 0} {event : L → Event H → L → Type 0} {old new : State L H} {e : Error} → e ≡ OutOfMemory → old.broken ≡ None → old.list ≡ false → new ≡ record old { faulted = false } → Fails event old false e new
+memory_fails {event = event} {old} {new} is b l same = subst (λ y. Fails event old false y new) (sym is) (no_memory b l same)

@@ -26,10 +26,10 @@ Spends budget m = (0 < m.failures) ⊎ (budget < m.retries)
 
 -- A call of a side failed: so much of one message had moved, and this is why. Between a request and the end of its answer each fault breaks the endpoint.
 pub data Fails {L H : Type 0} (event : L → Event H → L → Type 0) (old : State L H) (between : Bool) : Error → State L H → Type 0 where
-  -- the endpoint was broken before
-  was_broken : {c : IoCause} {new : State L H} → old.broken ≡ Some c → new ≡ record old { list = new.list; faulted = false } → (old.list ≡ true → new.list ≡ true) → Fails event old between (SocketBroken c) new
-  -- there is no memory for another list of handles
-  no_memory : {new : State L H} → old.list ≡ false → new ≡ record old { faulted = new.faulted } → Fails event old between OutOfMemory new
+  -- the endpoint was broken before, and nothing changed
+  was_broken : {c : IoCause} {new : State L H} → old.broken ≡ Some c → new ≡ record old { faulted = false } → Fails event old between (SocketBroken c) new
+  -- its list had been given away, there is no memory for another, and nothing changed
+  no_memory : {new : State L H} → old.broken ≡ None → old.list ≡ false → new ≡ record old { faulted = false } → Fails event old between OutOfMemory new
   -- the link failed last with this cause, or retried once more than a message may; what had moved is at most one message
   fault : (c : IoCause) (m : Move H) {new : State L H} → old.broken ≡ None → Fell event old m c new → m.failures ≡ 0 → m.retries ≤ old.budget
       → (IsTrue (is_retry c) → m.retries ≡ old.budget) → length m.taken ≤ MAX_MSG_TEXT

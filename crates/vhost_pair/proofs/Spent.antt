@@ -92,8 +92,8 @@ pub record Faults (old new : State Ends PlainHandle) (e : declared.Error) : Type
   pub faulted : new.faulted ≡ true
 
 pub faults : (old new : State Ends PlainHandle) (between : Bool) (e : declared.Error) → Fails event old between e new → old.broken ≡ None → old.list ≡ true → Faults old new e
-faults old new between _ (was_broken b same kept) whole list = let h = sym b ∙ whole in absurd (cc h)
-faults old new between _ (no_memory b same) whole list = let h = sym b ∙ list in absurd (cc h)
+faults old new between _ (was_broken b same) whole list = let h = sym b ∙ whole in absurd (cc h)
+faults old new between _ (no_memory b away same) whole list = let h = sym away ∙ list in absurd (cc h)
 faults old new between _ (fault c m b fell none most spent few broken faulted kept) whole list = record {
   cause = c;
   error = refl;
@@ -106,6 +106,6 @@ faults old new between _ (fault c m b fell none most spent few broken faulted ke
 
 -- an endpoint that has its list of handles lacks no memory
 pub no-memory : (old new : State Ends PlainHandle) (between : Bool) (e : declared.Error) → Fails event old between e new → old.list ≡ true → e ≡ error.OutOfMemory → ⊥
-no-memory old new between _ (was_broken b same kept) list is = absurd (cc is)
-no-memory old new between _ (no_memory b same) list is = let h = sym b ∙ list in absurd (cc h)
+no-memory old new between _ (was_broken b same) list is = absurd (cc is)
+no-memory old new between _ (no_memory b away same) list is = let h = sym away ∙ list in absurd (cc h)
 no-memory old new between _ (fault c m b talks none most spent few broken faulted kept) list is = no_memory_error _ c refl is

@@ -46,14 +46,14 @@ module _ {L H : Type 0} (event : L → Event H → L → Type 0) where
 
   -- a failure of the first message has its reason
   pub fails-reason : (old : State L H) (e : declared.Error) (new : State L H) → Fails event old false e new → HasReason event old e new
-  fails-reason old e new (fails_broken b s k) = was_broken b (ap (λ x. x.broken) s ∙ b)
-  fails-reason old e new (fails_memory l s) = no_list l (ap (λ x. x.broken) s)
+  fails-reason old e new (fails_broken b s) = was_broken b (ap (λ x. x.broken) s ∙ b)
+  fails-reason old e new (fails_memory b l s) = no_list l (ap (λ x. x.broken) s)
   fails-reason old e new (fails_fault c m b fell none most spent few broken faulted kept) = failed c (not-yet old old.list) refl b fell none spent broken
 
   -- behind a message that went out it is the link's
   pub behind-reason : (old mid : State L H) {m : Move H} (e : declared.Error) (new : State L H) → Serves event old old.budget m mid → has_moved m ≡ true → mid.list ≡ true → Fails event mid true e new → HasReason event old e new
-  behind-reason old mid e new s moved listed (fails_broken b same k) = let sound = s.after in absurd cc
-  behind-reason old mid e new s moved listed (fails_memory l same) = absurd cc
+  behind-reason old mid e new s moved listed (fails_broken b same) = let sound = s.after in absurd cc
+  behind-reason old mid e new s moved listed (fails_memory b l same) = absurd cc
   behind-reason old mid e new s moved listed (fails_fault c m b fell none most spent few broken faulted kept) =
       failed c s.talks s.failures s.before fell none (λ is. spent is ∙ s.talks.budget) (broken ∙ ap (λ x. if x || has_moved m then Some c else None) (sym moved))
 

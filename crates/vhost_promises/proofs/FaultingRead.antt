@@ -1,11 +1,10 @@
 -- A fault of the link in a frontend's call.
-use Rattle.std.proofs.Common.{◌≡◌, ◌≢◌, ℕ, Bool, true, false, Option, Some, None, Result, Ok, Err, refl, sym, ap, ◌∙◌}
+use Rattle.std.proofs.Common.{◌≡◌, ℕ, Bool, true, false, Option, Some, None, Result, Ok, Err, refl, sym, ap, ◌∙◌}
 use Rattle.std.specs.Prelude.{◌||◌, if◌then◌else◌}
 use Rattle.vhost_message.specs.FrontendReq.{request_number}
 use Rattle.vhost_message.specs.MsgHeader.{fields_of}
 use Rattle.vhost_message.specs.Header.{Header}
 use Rattle.vhost_message.specs.declared.error.Error as declared
-use Rattle.vhost_message.specs.declared.error.Error.TheVariants.{OutOfMemory}
 use Rattle.vhost_protocol.specs.AnswerTable.{Answered}
 use Rattle.vhost_protocol.specs.Ask as asks
 use Rattle.vhost_protocol.specs.FrontendCall.{Frontend, GetFeatures, Number}
@@ -35,18 +34,18 @@ unmet met not_met = let found : true ≡ false = sym met ∙ not_met in absurd c
 
 module _ {L H : Type 0} (event : L → Event H → L → Type 0) where
   -- a fault of the request
-  met-first : {A : Type 0} (old : State L H) (e : declared.Error) (new : State L H) → Fails event old false e new → new.faulted ≡ true → e ≢ OutOfMemory → MeetsFault {A = A} event old (Err e) new
-  met-first old e new (was_broken b same kept) met found = absurd (unmet met (ap (λ s. s.faulted) same))
-  met-first old e new (no_memory away same) met found = absurd (found refl)
-  met-first old e new (fault c m b fell none most spent few broken faulted kept) met found =
+  met-first : {A : Type 0} (old : State L H) (e : declared.Error) (new : State L H) → Fails event old false e new → new.faulted ≡ true → MeetsFault {A = A} event old (Err e) new
+  met-first old e new (was_broken b same) met = absurd (unmet met (ap (λ s. s.faulted) same))
+  met-first old e new (no_memory b away same) met = absurd (unmet met (ap (λ s. s.faulted) same))
+  met-first old e new (fault c m b fell none most spent few broken faulted kept) met =
       record { cause = c; answered = refl; before = nothing; moved = m; mid = old; talks = not-yet event old; fell = fell; spent = spent; broken = broken }
 
   -- a fault of the reply, behind a request that went out
-  met-later : {A : Type 0} (old mid : State L H) (m : Move H) (e : declared.Error) (new : State L H) → Serves event old old.budget m mid → has_moved m ≡ true → Fails event mid true e new → new.faulted ≡ true → e ≢ OutOfMemory
+  met-later : {A : Type 0} (old mid : State L H) (m : Move H) (e : declared.Error) (new : State L H) → Serves event old old.budget m mid → has_moved m ≡ true → Fails event mid true e new → new.faulted ≡ true
       → MeetsFault {A = A} event old (Err e) new
-  met-later old mid m e new s moved (was_broken b same kept) met found = absurd (unmet met (ap (λ s. s.faulted) same))
-  met-later old mid m e new s moved (no_memory away same) met found = absurd (found refl)
-  met-later old mid m e new s moved (fault c n b fell none most spent few broken faulted kept) met found = record {
+  met-later old mid m e new s moved (was_broken b same) met = absurd (unmet met (ap (λ s. s.faulted) same))
+  met-later old mid m e new s moved (no_memory b away same) met = absurd (unmet met (ap (λ s. s.faulted) same))
+  met-later old mid m e new s moved (fault c n b fell none most spent few broken faulted kept) met = record {
     cause = c;
     answered = refl;
     before = m;
@@ -60,9 +59,9 @@ module _ {L H : Type 0} (event : L → Event H → L → Type 0) where
 
   -- where the request failed
   met-asking : {A : Type 0} (old : State L H) (f : Frontend) (before : Awaited) (e : declared.Error) (new : State L H) (f' : Frontend) (after : Awaited) → core.Asks event (asks.ask f GetFeatures) old f before (Err e) new f' after
-      → new.faulted ≡ true → e ≢ OutOfMemory → MeetsFault {A = A} event old (Err e) new
-  met-asking old f before e new f' after (refuses is) met found = absurd cc
-  met-asking old f before e new f' after (fails is x) met found = met-first old e new x met found
+      → new.faulted ≡ true → MeetsFault {A = A} event old (Err e) new
+  met-asking old f before e new f' after (refuses is) met = absurd cc
+  met-asking old f before e new f' after (fails is x) met = met-first old e new x met
 
   -- where it went out
   went : (old : State L H) (f : Frontend) (before : Awaited) (sent : Sent) (new : State L H) (f' : Frontend) (after : Awaited) → core.Asks event (asks.ask f GetFeatures) old f before (Ok sent) new f' after
@@ -75,14 +74,14 @@ module _ {L H : Type 0} (event : L → Event H → L → Type 0) where
   read-unmet asked sent f old x new (read h) sound = h.serves.faulted
 
   met-taking : (asked : Awaited) (sent : Header) (old mid : State L H) (f : Frontend) (m : Move H) (result : Result ℕ declared.Error) (new : State L H) (f' : Frontend) → Serves event old old.budget m mid → has_moved m ≡ true
-      → Takes event GetFeatures Number asked sent mid f result new f' → new.faulted ≡ true → result ≢ Err OutOfMemory → MeetsFault event old result new
-  met-taking asked sent old mid f m result new f' s moved (taken reads) met found = absurd (unmet met (read-unmet asked sent f mid _ new reads s.faulted))
-  met-taking asked sent old mid f m (Err e) new f' s moved (stopped x) met found = met-later old mid m e new s moved x met (λ is. found (ap (λ y. Err y) is))
+      → Takes event GetFeatures Number asked sent mid f result new f' → new.faulted ≡ true → MeetsFault event old result new
+  met-taking asked sent old mid f m result new f' s moved (taken reads) met = absurd (unmet met (read-unmet asked sent f mid _ new reads s.faulted))
+  met-taking asked sent old mid f m (Err e) new f' s moved (stopped x) met = met-later old mid m e new s moved x met
 
   pub met-fault : (old : FrontendInternal L H) (result : Result ℕ declared.Error) (new : FrontendInternal L H) → Whole event GetFeatures Number old result new
-      → (endpoint_of new).faulted ≡ true → result ≢ Err OutOfMemory → MeetsFault event (endpoint_of old) result (endpoint_of new)
-  met-fault old (Err e) new (ended a) met found =
-      met-asking (endpoint_of old) (session_of old) (awaits old) e (endpoint_of new) (session_of new) (awaits new) a met (λ is. found (ap (λ y. Err y) is))
-  met-fault old result new (answered {sent} {middle} a takes) met found =
+      → (endpoint_of new).faulted ≡ true → MeetsFault event (endpoint_of old) result (endpoint_of new)
+  met-fault old (Err e) new (ended a) met =
+      met-asking (endpoint_of old) (session_of old) (awaits old) e (endpoint_of new) (session_of new) (awaits new) a met
+  met-fault old result new (answered {sent} {middle} a takes) met =
       let (m, s, moved) = went (endpoint_of old) (session_of old) (awaits old) sent (endpoint_of middle) (session_of middle) (awaits middle) a in
-      met-taking sent.awaited (fields_of sent.request) (endpoint_of old) (endpoint_of middle) (session_of middle) m result (endpoint_of new) (session_of new) s moved takes met found
+      met-taking sent.awaited (fields_of sent.request) (endpoint_of old) (endpoint_of middle) (session_of middle) m result (endpoint_of new) (session_of new) s moved takes met

@@ -1,11 +1,11 @@
 //! A side that asks over a broken endpoint.
 
-ghost use Rattle.std.specs.Prelude.{◌≡◌, ◌≢◌, None, Some, true, Err, IfOk, map, codes};
+ghost use Rattle.std.specs.Prelude.{◌≡◌, None, Some, true, IfOk, map, codes};
 ghost use Rattle.vhost_backend_req.specs.Channel.{channel};
 ghost use Rattle.vhost_frontend_core.specs.Frontend.{endpoint_of, session_of};
 ghost use Rattle.vhost_gpu_backend_req.specs.Channel.{channel as display_channel};
 ghost use Rattle.vhost_message.specs.declared.cause.IoCause.{IoCause};
-ghost use Rattle.vhost_message.specs.declared.error.Error.TheVariants.{OutOfMemory as NoMemory, SocketBroken};
+ghost use Rattle.vhost_message.specs.declared.error.Error.TheVariants.{SocketBroken};
 ghost use Rattle.vhost_message.specs.declared.io_error.IoError.TheVariants.{Of};
 ghost use Rattle.vhost_promises.specs.Faults.{MeetsFault, StaysBroken};
 ghost use Rattle.vhost_protocol.specs.Error.{seen};
@@ -18,22 +18,22 @@ use vhost_gpu_backend_req::BackendInternal as Display;
 use vhost_link::Link;
 use vhost_message::{HandlerResult, Result as VhostResult, VhostUserSharedMsg, VhostUserU64};
 
-/// Asks for the features of a device. Where the endpoint says that it met a fault, and memory was found, the answer is the error of the
-/// link's last event, and that broke the endpoint if a byte of request or reply had moved before, and only then.
+/// Asks for the features of a device. Where the endpoint says that it met a fault, the answer is the error of the link's last event,
+/// and that broke the endpoint if a byte of request or reply had moved before, and only then.
 pub fn meets_fault_asking<L: Link>(frontend: &mut Quiet<L>) -> VhostResult<u64>
-    ensures { (endpoint_of frontend.new.inner).faulted ≡ true → result ≢ Err NoMemory → MeetsFault L.event (endpoint_of frontend.old.inner) result (endpoint_of frontend.new.inner) }
+    ensures { (endpoint_of frontend.new.inner).faulted ≡ true → MeetsFault L.event (endpoint_of frontend.old.inner) result (endpoint_of frontend.new.inner) }
 {
     frontend.get_features()
 }
 
-/// Asks so many times over an endpoint that a fault has broken and that has its list of handles: each answer is SocketBroken with
+/// Asks so many times over an endpoint that a fault has broken: each answer is SocketBroken with
 /// its cause, and neither the endpoint nor the session changes.
 pub fn asks_broken<L: Link>(
     alloc: Global,
     frontend: &mut Quiet<L>,
     count: usize,
 ) -> Result<Vec<VhostResult<u64>>, AllocError>
-    ensures { IfOk result (λ answers. (endpoint_of frontend.old.inner).list ≡ true → (c : IoCause) → (endpoint_of frontend.old.inner).broken ≡ Some c
+    ensures { IfOk result (λ answers. (c : IoCause) → (endpoint_of frontend.old.inner).broken ≡ Some c
         → StaysBroken c (SocketBroken c) count (endpoint_of frontend.old.inner) answers.items (endpoint_of frontend.new.inner) × (session_of frontend.new.inner ≡ session_of frontend.old.inner)) }
 {
     let mut answers = Vec::new(alloc);
@@ -51,7 +51,7 @@ pub fn adds_broken<L: Link>(
     name: &VhostUserSharedMsg,
     count: usize,
 ) -> Result<Vec<HandlerResult<u64>>, AllocError>
-    ensures { IfOk result (λ answers. (channel frontend.old).failed ≡ None → (channel frontend.old).shared_object ≡ true → (channel frontend.old).endpoint.list ≡ true
+    ensures { IfOk result (λ answers. (channel frontend.old).failed ≡ None → (channel frontend.old).shared_object ≡ true
         → (c : IoCause) → (channel frontend.old).endpoint.broken ≡ Some c
         → StaysBroken c (Of (SocketBroken c)) count (channel frontend.old).endpoint answers.items (channel frontend.new).endpoint
         × (channel frontend.new ≡ record (channel frontend.old) { endpoint = (channel frontend.new).endpoint })) }
@@ -64,7 +64,8 @@ pub fn adds_broken<L: Link>(
     Ok(answers)
 }
 
-/// The same of a device that asks a display for its features, over a channel that is not marked as failed.
+/// The same of a device that asks a display for its features, over a channel that is not marked as failed and whose endpoint has its
+/// list of handles.
 pub fn displays_broken<L: Link>(
     alloc: Global,
     display: &mut Display<L>,

@@ -1,6 +1,6 @@
 //! Asking: a request goes out, and the reply for it comes in.
 
-ghost use Rattle.std.specs.Prelude.{◌≡◌, ◌≤◌, ◌+◌, ◌++◌, length, map};
+ghost use Rattle.std.specs.Prelude.{◌≡◌, ◌≤◌, ◌+◌, ◌++◌, IfOk, IfErr, length, map};
 ghost use Rattle.vhost_message.specs.MsgHeader.{fields_of};
 ghost use Rattle.vhost_message.specs.declared.limits.TheConstants.{MAX_ATTACHED_FD_ENTRIES, MAX_MSG_SIZE};
 ghost use Rattle.vhost_protocol.specs.Written.{Payload, payload_text};
@@ -11,8 +11,23 @@ use vhost_link::Link;
 use vhost_message::{ByteValued, Error, Req, Result, VhostUserMsgHeader, VhostUserMsgValidator};
 
 impl<R: Req, L: Link> Endpoint<VhostUserMsgHeader<R>, L> {
+    ghost use Rattle.std.specs.Prelude.{None, true, false};
     ghost use Rattle.vhost_connection.specs.State.{state};
+    ghost use Rattle.vhost_connection.specs.Hearing.{Fails};
     ghost use Rattle.vhost_connection.specs.Asking.{SendsRequest, RecvsReply, request_with, is_known_by};
+
+    /// What comes before a request: the endpoint is sound, and has a list of handles for the reply.
+    ///
+    /// SocketBroken: the endpoint is broken. OutOfMemory: it had given its list away, and no memory for another was found.
+    #[tactic(auto, using(crate::proofs::Failing::broken_fails, crate::proofs::Failing::memory_fails), unfolding(crate::specs::State::ahead_of))]
+    fn begin_request(&mut self) -> Result<()>
+        ensures begun { IfOk result (λ _. ((state self.old).broken ≡ None) × (state self.new ≡ record (state self.old) { list = true; faulted = false })) }
+        ensures fails { IfErr result (λ e. Fails L.event (state self.old) false e (state self.new)) }
+    {
+        self.faulted = false;
+        self.expect_sound()?;
+        self.make_list()
+    }
 
     /// Sends a request of this code and with these flags: a record, the bytes behind it, and the handles on the first byte.
     /// Its header is what the reply is compared with. The list of handles for the reply is made first.
@@ -32,9 +47,7 @@ impl<R: Req, L: Link> Endpoint<VhostUserMsgHeader<R>, L> {
         ensures { (p : Payload) → payload_text p ≡ T.text body.now ++ payload.now
             → SendsRequest L.event R.number (request_with flags code p (map (λ h. h.now) handles.now)) (state self.old) result (state self.new) }
     {
-        if self.make_list().is_err() {
-            return Err(Error::OutOfMemory);
-        }
+        self.begin_request()?;
         let header = VhostUserMsgHeader::new(code, flags, (T::SIZE + payload.len()) as u32);
         match self.send_message_with_payload(&header, body, payload, handles) {
             Ok(()) => Ok(header),
