@@ -22,10 +22,10 @@ use Rattle.vhost_link.specs.Law.{Event}
 use Rattle.vhost_connection.specs.Talk.{State}
 use Rattle.vhost_connection.specs.Asking.{request_with, is_known_by, Comes, Missing}
 use Rattle.vhost_connection.specs.Asking.Missing.{unfit, none, failed}
-use Rattle.vhost_connection.specs.Hearing.{Hears}
-use Rattle.vhost_connection.proofs.Replies.{hears-by}
+use Rattle.vhost_connection.specs.Hearing.{HearsReply}
+use Rattle.vhost_connection.proofs.Replies.{replies-by}
 use Rattle.vhost_backend_req.specs.Asking as asking
-use Rattle.vhost_backend_req.specs.Asking.{RecvsNumber, Takes, Asks, AsksFor}
+use Rattle.vhost_backend_req.specs.Asking.{RecvsNumber, says_number, Takes, Asks, AsksFor}
 use Rattle.vhost_backend_req.specs.Channel.{Channel}
 use Rattle.vhost_backend_req.specs.Halves as halves
 use Rattle.vhost_backend_req.specs.Halves.{Head, AsksHalf, AsksHalfFor, TakesHalf}
@@ -75,24 +75,24 @@ module _ {L H : Type 0} (event : L → Event H → L → Type 0) (asked : Revers
   by-halves mid result new sent (h, same) kept takes = (both-halves mid.endpoint result new.endpoint sent h takes, kept ∙ ap (λ (c : Channel L H). record c { endpoint = new.endpoint }) same)
 
 module _ {L H : Type 0} (event : L → Event H → L → Type 0) (sent : Header) (old new : State L H) where
-  number-heard : (o : Result (Received H) Error) {result : Result ℕ IoError} → Hears event numbers old o new → reverse_understood sent o ≡ seen_io_result result → ((n : ℕ) → result ≡ Ok n → new.list ≡ true) → RecvsNumber event sent old result new
-  number-heard o h e listed = asking.heard (subst (λ x. Hears event (reverse_take true sent) old x new) e (hears-by (λ r. reverse_understood sent r) o (λ cells. refl) h)) listed
+  number-heard : (o : Result (Received H) Error) {result : Result ℕ IoError} → HearsReply event numbers old o new → reverse_understood sent o ≡ seen_io_result result → (says_number result ≡ true → new.list ≡ true) → RecvsNumber event sent old result new
+  number-heard o h e listed = asking.heard (subst (λ x. HearsReply event (reverse_take true sent) old x new) e (replies-by (λ r. reverse_understood sent r) o (λ cells. refl) h)) listed
 
   module _ (r : Received H) (x : Comes event (is_known_by backend_request_of) backend_request_of 8 (λ bs. true) 0 old sent r new) where
     -- 0 came
     pub number-zero : u64_at 0 r.body ≡ 0 → r.handles ≡ [] → RecvsNumber event sent old (Ok 0) new
-    number-zero zero none_came = number-heard (Ok r) x.hears (rw (x.answers, none_came, zero) refl) (λ n is. x.list ∙ ap (λ hs. not (has_some hs)) none_came)
+    number-zero zero none_came = number-heard (Ok r) x.hears (rw (x.answers, none_came, zero) refl) (λ is. x.list ∙ ap (λ hs. not (has_some hs)) none_came)
 
     -- another number came
     pub number-other : (u64_at 0 r.body == 0) ≡ false → r.handles ≡ [] → RecvsNumber event sent old (Err (Of code.FrontendInternalError)) new
-    number-other some none_came = number-heard (Ok r) x.hears (rw (x.answers, none_came, some) refl) (λ n is. absurd cc)
+    number-other some none_came = number-heard (Ok r) x.hears (rw (x.answers, none_came, some) refl) (λ is. x.list ∙ ap (λ hs. not (has_some hs)) none_came)
 
     -- it came with handles
     pub number-crowded : has_some r.handles ≡ true → RecvsNumber event sent old (Err (Of code.InvalidMessage)) new
-    number-crowded many = number-heard (Ok r) x.hears (rw (x.answers, many) refl) (λ n is. absurd cc)
+    number-crowded many = number-heard (Ok r) x.hears (rw (x.answers, many) refl) (λ is. absurd cc)
 
   -- none came
   pub number-missing : {e : declared.Error} → Missing event (is_known_by backend_request_of) backend_request_of 8 (λ bs. true) 0 old sent e new → RecvsNumber event sent old (Err (Of e)) new
-  number-missing (unfit r h bad) = number-heard (Ok r) h (rw bad refl) (λ n is. absurd cc)
-  number-missing {e} (none h) = number-heard (Err (seen e)) h refl (λ n is. absurd cc)
+  number-missing (unfit r h bad) = number-heard (Ok r) h (rw bad refl) (λ is. absurd cc)
+  number-missing {e} (none h listed) = number-heard (Err (seen e)) h refl (λ is. listed)
   number-missing (failed f) = asking.stopped f

@@ -4,6 +4,7 @@ use Rattle.vhost_message.specs.BackendReq.{backend_request_number}
 use Rattle.vhost_message.specs.declared.backend_req.BackendReq.{BackendReq}
 use Rattle.vhost_message.specs.declared.header.VhostUserMsgHeader.{VhostUserMsgHeader}
 use Rattle.vhost_message.specs.declared.error.Error.{Error}
+use Rattle.vhost_message.specs.declared.error.Error.TheVariants.{FrontendInternalError}
 use Rattle.vhost_message.specs.declared.io_error.IoError.{IoError}
 use Rattle.vhost_message.specs.declared.io_error.IoError.TheVariants.{Of}
 use Rattle.vhost_message.specs.Header.{Header}
@@ -13,14 +14,20 @@ use Rattle.vhost_protocol.specs.Reverse.{ReverseCall, ReverseAsked, Refuses, Sen
 use Rattle.vhost_protocol.specs.Written.{Written}
 use Rattle.vhost_link.specs.Law.{Event}
 use Rattle.vhost_connection.specs.Talk.{State}
-use Rattle.vhost_connection.specs.Hearing.{Hears, Fails}
+use Rattle.vhost_connection.specs.Hearing.{HearsReply, Fails}
 use Rattle.vhost_connection.specs.Asking.{GoesOut}
 use Rattle.vhost_backend_req.specs.Channel.{Channel, backend_of}
 
+-- a reply came with a number and without a handle: 0, or another, which is a refusal
+abbrev pub says_number : Result ℕ IoError → Bool
+says_number (Ok n) = true
+says_number (Err (Of FrontendInternalError)) = true
+says_number _ = false
+
 module _ {L H : Type 0} (event : L → Event H → L → Type 0) where
-  -- A number is received: the answer is that of what came, and where it is success the list of handles is there again; or the link failed, and the endpoint is broken.
+  -- A number is received: the answer is that of what came, and where that was a number the list of handles is there again; or the link failed, and the endpoint is broken.
   pub data RecvsNumber (sent : Header) (old : State L H) : Result ℕ IoError → State L H → Type 0 where
-    heard : {result : Result ℕ IoError} {new : State L H} → Hears event (reverse_take true sent) old (seen_io_result result) new → ((n : ℕ) → result ≡ Ok n → new.list ≡ true) → RecvsNumber sent old result new
+    heard : {result : Result ℕ IoError} {new : State L H} → HearsReply event (reverse_take true sent) old (seen_io_result result) new → (says_number result ≡ true → new.list ≡ true) → RecvsNumber sent old result new
     stopped : {e : Error} {new : State L H} → Fails event old true e new → RecvsNumber sent old (Err (Of e)) new
 
   -- The answer is taken: where none is awaited nothing is read for it.

@@ -96,5 +96,5 @@ module _ (law : StreamLaw) where
 
   pub takes : (call : FrontendCall PlainHandle) (awaited : Awaited) (sent : Header) (old : End) (f : Frontend) (result : Result (Value PlainHandle) Error) (new : End) (f' : Frontend) → TakesResult call awaited sent old f result new f' → IsUncut old → IsUncut new
   takes call awaited sent old f result new f' (inl (unread is)) u = u
-  takes call awaited sent old f result new f' (inl (read h)) u = served old new _ _ h.serves u
+  takes call awaited sent old f result new f' (inl (read h)) u = served old new _ _ h.hears.serves u
   takes call awaited sent old f result new f' (inr x) u = (failed old new true x.1 x.3 u).0

@@ -1,13 +1,13 @@
 -- A reply comes in: its header, a record, and what fits of the payload.
 use Rattle.std.proofs.Common.{◌≡◌, ℕ, zero, suc, ◌+◌, ◌-◌, ◌<◌, ◌≤◌, List, [], ◌∷◌, ◌++◌, length, take, drop, refl, sym, ap, ◌∙◌, arith, lit≤, Bool, true, false, ◌⊎◌, inl, inr, Option, Some, None, Result, Ok, Err, Vec}
-use Rattle.std.specs.Prelude.{if◌then◌else◌, ◌&&◌, is_some, nat_lt}
+use Rattle.std.specs.Prelude.{if◌then◌else◌, ◌&&◌, is_some, nat_lt, not}
 use Rattle.std.specs.Global.{Global}
 use Rattle.std.proofs.lemmas.List.{take-append-le, drop-append-le, take_all, drop_all, take_at, drop_at, length-append, length-drop, append-nil, drop-drop}
 use Rattle.std.proofs.lemmas.Bool.Decides.{nat_tests}
 use Rattle.vhost_message.specs.declared.error.Error as declared
 use Rattle.vhost_message.specs.declared.error.Error.TheVariants as code
 use Rattle.vhost_message.specs.Header.{Header, header_of, is_valid_header, is_reply_for}
-use Rattle.vhost_protocol.specs.Stream.{Cell, bytes, first_handles, items}
+use Rattle.vhost_protocol.specs.Stream.{Cell, bytes, first_handles, has_some, items}
 use Rattle.vhost_protocol.specs.Error.{Error, PartialMessage, InvalidMessage}
 use Rattle.vhost_protocol.specs.ReplySplit.{Received, reply_split, received}
 use Rattle.vhost_protocol.specs.Split.{Splits}
@@ -20,7 +20,7 @@ use Rattle.vhost_connection.specs.Talk.{State}
 use Rattle.vhost_connection.specs.Came.{Came}
 use Rattle.vhost_connection.specs.Calls.{ReadsPayload, IsNoMessage, is_sound}
 use Rattle.vhost_connection.specs.Calls.IsNoMessage.{too_few, not_valid}
-use Rattle.vhost_connection.specs.Hearing.{Hears, broken_on}
+use Rattle.vhost_connection.specs.Hearing.{Hears, HearsReply, broken_on}
 use Rattle.vhost_connection.proofs.Failing.{trouble-breaks}
 use Rattle.vhost_connection.proofs.Came.{came-ended}
 use Rattle.vhost_connection.proofs.Receiving.{first-append}
@@ -125,14 +125,17 @@ module _ {M R T L H : Type 0} (event : L → Event H → L → Type 0) (is_known
   abbrev pub ReadsReply : State L H → List ℕ → Result (M × T × ℕ × Option (Vec H Global)) declared.Error → List ℕ → State L H → Type 0
   ReadsReply = ReadsPayload event (λ bs. of_head (header_of bs)) valid_head size read valid
 
-  hears-came : {old new : State L H} (room : ℕ) {cs : List (Cell H)} {list : Bool} (o : Result (Received H) Error) → Came event old true (12 + size + room) cs list new → 12 + size ≤ length cs
-      → outcome is_known size room (λ bs. valid (read bs)) cs ≡ o → Hears event (reply_split is_known size (λ bs. valid (read bs)) room) old o new
-  hears-came room {cs} o m whole e = record {
-    cells = cs;
-    ended = nat_lt (length cs) (12 + size + room);
-    retries = m.retries;
-    serves = m.serves;
-    splits = splits is_known size room (λ bs. valid (read bs)) cs o whole m.within e;
+  hears-came : {old new : State L H} (room : ℕ) {cs : List (Cell H)} {list : Bool} (o : Result (Received H) Error) → Came event old true (12 + size + room) cs list new → (has_some (first_handles cs) ≡ false → list ≡ true) → 12 + size ≤ length cs
+      → outcome is_known size room (λ bs. valid (read bs)) cs ≡ o → HearsReply event (reply_split is_known size (λ bs. valid (read bs)) room) old o new
+  hears-came room {cs} o m kept whole e = record {
+    hears = record {
+      cells = cs;
+      ended = nat_lt (length cs) (12 + size + room);
+      retries = m.retries;
+      serves = m.serves;
+      splits = splits is_known size room (λ bs. valid (read bs)) cs o whole m.within e;
+    };
+    list = λ none. m.listed ∙ kept none;
   }
 
   -- what the header in the code's form says
@@ -153,7 +156,7 @@ module _ {M R T L H : Type 0} (event : L → Event H → L → Type 0) (is_known
       let long : length (drop (12 + size) (bytes cs)) ≡ n = length-drop (12 + size) (bytes cs) ∙ omega (arith, length-bytes cs, count) in (
         reply_in is_known size (length before) (λ bs. valid (read bs)) cs,
         record {
-          hears = hears-came (length before) (Ok (reply_in is_known size (length before) (λ bs. valid (read bs)) cs)) m (omega (arith, count)) (whole-when cs (length before) h t head ok is_t ok_t);
+          hears = hears-came (length before) (Ok (reply_in is_known size (length before) (λ bs. valid (read bs)) cs)) m (λ none. ap not none) (omega (arith, count)) (whole-when cs (length before) h t head ok is_t ok_t);
           answers = ap (λ x. is_reply_for request_of x sent) (sym head) ∙ answered;
           list = m.listed;
         },
@@ -172,7 +175,7 @@ module _ {M R T L H : Type 0} (event : L → Event H → L → Type 0) (is_known
   reply-unfit old new sent before after h t n hs (cs, room, (m, (count, (is_h, ok, is_t, ok_t, over)))) bad =
       let head = head-is cs h is_h in
       unfit (reply_in is_known size (length before) (λ bs. valid (read bs)) cs)
-      (hears-came (length before) (Ok (reply_in is_known size (length before) (λ bs. valid (read bs)) cs)) m (omega (arith, count)) (whole-when cs (length before) h t head ok is_t ok_t))
+      (hears-came (length before) (Ok (reply_in is_known size (length before) (λ bs. valid (read bs)) cs)) m (λ none. ap not none) (omega (arith, count)) (whole-when cs (length before) h t head ok is_t ok_t))
       (ap (λ x. is_reply_for request_of x sent) (sym head) ∙ bad)
 
   -- there is none
@@ -183,10 +186,13 @@ module _ {M R T L H : Type 0} (event : L → Event H → L → Type 0) (is_known
     where
       go : (y : declared.Error) → IsNoMessage (12 + size) (is_sound (λ bs. of_head (header_of bs)) valid_head size read valid) cs y → Missing event is_known request_of size (λ bs. valid (read bs)) (length before) old sent y (broken_on y new)
       go y (too_few short) =
-          none (record { cells = cs; ended = true; retries = m.retries; serves = came-ended m (omega (arith, short)); splits = reply-short is_known size (length before) (λ bs. valid (read bs)) cs short })
+          none (record {
+            hears = record { cells = cs; ended = true; retries = m.retries; serves = came-ended m (omega (arith, short)); splits = reply-short is_known size (length before) (λ bs. valid (read bs)) cs short };
+            list = λ _. m.listed;
+          }) m.listed
       go y (not_valid whole wrong) =
-          none (hears-came (length before) (Err InvalidMessage) m whole (is-invalid is_known size (length before) (λ bs. valid (read bs)) cs
-          (ap (λ b. b && valid (read (take size (drop 12 (bytes cs))))) (ap is_known (sym (same (header_of (take 12 (bytes cs))))) ∙ known (of_head (header_of (take 12 (bytes cs))))) ∙ wrong)))
+          none (hears-came (length before) (Err InvalidMessage) m (λ _. refl) whole (is-invalid is_known size (length before) (λ bs. valid (read bs)) cs
+          (ap (λ b. b && valid (read (take size (drop 12 (bytes cs))))) (ap is_known (sym (same (header_of (take 12 (bytes cs))))) ∙ known (of_head (header_of (take 12 (bytes cs))))) ∙ wrong))) m.listed
 
 module _ {L H : Type 0} {event : L → Event H → L → Type 0} where
   -- the same cells, read as more
@@ -197,3 +203,8 @@ module _ {L H : Type 0} {event : L → Event H → L → Type 0} where
       go : (ended : Bool) → Splits cut h.cells ended o → Splits of h.cells ended (read_as o)
       go true e = (by h.cells ∙ ap (λ x. (read_as x.0, x.1)) e.0, λ next. ap (λ x. x.1) (by (h.cells ++ next ∷ [])) ∙ e.1 next)
       go false e = λ rest. by (h.cells ++ rest) ∙ ap (λ x. (read_as x.0, x.1)) (e rest)
+
+  pub replies-by : {A B : Type 0} {cut : List (Cell H) → A × List (Cell H)} {of : List (Cell H) → B × List (Cell H)} (read_as : A → B) {old new : State L H} (o : A)
+      → ((cells : List (Cell H)) → of cells ≡ (read_as (cut cells).0, (cut cells).1)) → HearsReply event cut old o new → HearsReply event of old (read_as o) new
+  unfolding hears-by
+  replies-by read_as o by h = record { hears = hears-by read_as o by h.hears; list = h.list }

@@ -16,7 +16,7 @@ use Rattle.vhost_link.specs.Law.{Event}
 use Rattle.vhost_connection.specs.Pass.{sends}
 use Rattle.vhost_connection.specs.Talk.{State, Serves}
 use Rattle.vhost_connection.specs.Calls.{HandsOver}
-use Rattle.vhost_connection.specs.Hearing.{Hears, Fails}
+use Rattle.vhost_connection.specs.Hearing.{HearsReply, Fails}
 
 -- a request with these flags
 abbrev pub request_with : {R H : Type 0} → (flags : ℕ) → R → Payload → List H → Written R H
@@ -41,15 +41,15 @@ SendsRequest event number w old (Err e) new = Fails event old false e new
 module _ {R L H : Type 0} (event : L → Event H → L → Type 0) (is_known : Header → Bool) (request_of : ℕ → Option R) where
   -- The reply for a request came, with a record of so many bytes and room for so much payload.
   pub record Comes (size : ℕ) (valid : List ℕ → Bool) (room : ℕ) (old : State L H) (sent : Header) (reply : Received H) (new : State L H) : Type 0 where
-    pub hears : Hears event (reply_split is_known size valid room) old (Ok reply) new
+    pub hears : HearsReply event (reply_split is_known size valid room) old (Ok reply) new
     pub answers : is_reply_for request_of reply.header sent ≡ true
     -- the endpoint has given its list of handles away only where there were some
     pub list : new.list ≡ not (has_some reply.handles)
 
   -- None came: what came is no reply for the request; or there is no valid reply; or the link failed.
   pub data Missing (size : ℕ) (valid : List ℕ → Bool) (room : ℕ) (old : State L H) (sent : Header) : Error → State L H → Type 0 where
-    unfit : (r : Received H) {new : State L H} → Hears event (reply_split is_known size valid room) old (Ok r) new → is_reply_for request_of r.header sent ≡ false → Missing size valid room old sent code.InvalidMessage new
-    none : {e : Error} {new : State L H} → Hears event (reply_split is_known size valid room) old (Err (seen e)) new → Missing size valid room old sent e new
+    unfit : (r : Received H) {new : State L H} → HearsReply event (reply_split is_known size valid room) old (Ok r) new → is_reply_for request_of r.header sent ≡ false → Missing size valid room old sent code.InvalidMessage new
+    none : {e : Error} {new : State L H} → HearsReply event (reply_split is_known size valid room) old (Err (seen e)) new → new.list ≡ true → Missing size valid room old sent e new
     failed : {e : Error} {new : State L H} → Fails event old true e new → Missing size valid room old sent e new
 
   -- A reply is received: the size that its header says, its record, how many bytes of payload lie in the room, and its handles.

@@ -5,7 +5,7 @@ use Rattle.vhost_message.specs.declared.cause.IoCause.{IoCause}
 use Rattle.vhost_message.specs.Cause.{is_retry, error_of}
 use Rattle.vhost_message.specs.declared.error.Error.{Error}
 use Rattle.vhost_message.specs.declared.error.Error.TheVariants.{SocketError, SocketConnect, SocketBroken, SocketRetry, OutOfMemory}
-use Rattle.vhost_protocol.specs.Stream.{Cell, heard}
+use Rattle.vhost_protocol.specs.Stream.{Cell, first_handles, has_some, heard}
 use Rattle.vhost_protocol.specs.Split.{Splits}
 use Rattle.vhost_link.specs.Law.{Event, Move}
 use Rattle.vhost_connection.specs.Pass.{receives}
@@ -19,6 +19,11 @@ pub record Hears {L H A : Type 0} (event : L → Event H → L → Type 0) (cut 
   pub retries : ℕ
   pub serves : Serves event old old.budget (receives (heard cells ended) retries) new
   pub splits : Splits cut cells ended outcome
+
+-- What came for a request that was sent has this outcome. The endpoint has its list of handles then, unless a handle came.
+pub record HearsReply {L H A : Type 0} (event : L → Event H → L → Type 0) (cut : List (Cell H) → A × List (Cell H)) (old : State L H) (outcome : A) (new : State L H) : Type 0 where
+  pub hears : Hears event cut old outcome new
+  pub list : has_some (first_handles hears.cells) ≡ false → new.list ≡ true
 
 -- more than the link may do: it failed, or retried more often than one message may
 abbrev pub Spends : {H : Type 0} → ℕ → Move H → Type 0

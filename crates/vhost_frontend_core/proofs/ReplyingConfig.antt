@@ -29,7 +29,7 @@ use Rattle.vhost_connection.specs.Came.{Came}
 use Rattle.vhost_connection.specs.Calls.{HandsOver, IsNoMessage, is_sound}
 use Rattle.vhost_connection.specs.Calls.IsNoMessage.{too_few, not_valid}
 use Rattle.vhost_connection.specs.Bare.{is_bare, ReadsOrBare}
-use Rattle.vhost_connection.specs.Hearing.{Hears, broken_on}
+use Rattle.vhost_connection.specs.Hearing.{HearsReply, broken_on}
 use Rattle.vhost_connection.proofs.Came.{came-all, came-ended}
 use Rattle.vhost_connection.proofs.Bare.{bare-front}
 use Rattle.vhost_connection.proofs.Failing.{trouble-breaks}
@@ -92,20 +92,23 @@ module _ {H : Type 0} (sent : Header) (room : ℕ) where
   config-splits cs false o le no_bare s = λ rest. config-whole cs rest rest o le no_bare (s rest)
 
 module _ {L H : Type 0} (event : L → Event H → L → Type 0) (sent : Header) (old : State L H) (before : List ℕ) where
-  config-came : (new : State L H) (cs : List (Cell H)) (o : Result (Received H) Error) {list : Bool} → Came event old true (24 + length before) cs list new → 24 ≤ length cs → outcome is_known 12 (length before) valid cs ≡ o → is_bare request_of sent cs ≡ false
-      → Hears event (config_cut sent (length before)) old (some_reply o) new
-  config-came new cs o m whole is no_bare = record {
-    cells = cs;
-    ended = nat_lt (length cs) (24 + length before);
-    retries = m.retries;
-    serves = m.serves;
-    splits = config-splits sent (length before) cs (nat_lt (length cs) (24 + length before)) o whole no_bare (splits is_known 12 (length before) valid cs o whole m.within is);
+  config-came : (new : State L H) (cs : List (Cell H)) (o : Result (Received H) Error) {list : Bool} → Came event old true (24 + length before) cs list new → (has_some (first_handles cs) ≡ false → list ≡ true) → 24 ≤ length cs → outcome is_known 12 (length before) valid cs ≡ o
+      → is_bare request_of sent cs ≡ false → HearsReply event (config_cut sent (length before)) old (some_reply o) new
+  config-came new cs o m kept whole is no_bare = record {
+    hears = record {
+      cells = cs;
+      ended = nat_lt (length cs) (24 + length before);
+      retries = m.retries;
+      serves = m.serves;
+      splits = config-splits sent (length before) cs (nat_lt (length cs) (24 + length before)) o whole no_bare (splits is_known 12 (length before) valid cs o whole m.within is);
+    };
+    list = λ none_came. m.listed ∙ kept none_came;
   }
 
   -- it is bare
   pub config-none : (new : State L H) (after : List ℕ) → ReadsOrBare event request_of sent old before (Ok None) after new → RecvsConfig event (length before) old sent (Err code.BackendInternalError) after new
   config-none new after (cs, m, len, is, room) =
-      bare (record { cells = cs; ended = false; retries = m.retries; serves = came-all m (omega (arith, len)); splits = λ rest. config-bare sent (length before) cs rest len is })
+      bare (record { hears = record { cells = cs; ended = false; retries = m.retries; serves = came-all m (omega (arith, len)); splits = λ rest. config-bare sent (length before) cs rest len is }; list = λ _. m.listed })
 
   -- there is none
   pub config-fails : (new : State L H) (after : List ℕ) (e : declared.Error) → ReadsOrBare event request_of sent old before (Err e) after new → RecvsConfig event (length before) old sent (Err e) after (broken_on e new)
@@ -114,9 +117,9 @@ module _ {L H : Type 0} (event : L → Event H → L → Type 0) (sent : Header)
     where
       go : (y : declared.Error) → IsNoMessage 24 (is_sound (λ bs. of_fields (header_of bs)) (λ (h : VhostUserMsgHeader FrontendReq). is_some (request_of (fields_of h).code) && is_valid_header (fields_of h)) 12 config_of is_valid_config) cs y
           → RecvsConfig event (length before) old sent (Err y) after (broken_on y new)
-      go y (too_few short) = none (record { cells = cs; ended = true; retries = m.retries; serves = came-ended m (omega (arith, short)); splits = config-short sent (length before) cs short })
+      go y (too_few short) = none (record { hears = record { cells = cs; ended = true; retries = m.retries; serves = came-ended m (omega (arith, short)); splits = config-short sent (length before) cs short }; list = λ _. m.listed })
       go y (not_valid whole wrong) =
-          none (config-came new cs (Err InvalidMessage) m whole (is-invalid is_known 12 (length before) valid cs (ap (λ b. b && valid (take 12 (drop 12 (bytes cs)))) (known-is request_of (header_of (take 12 (bytes cs)))) ∙ wrong)) (no_bare whole))
+          none (config-came new cs (Err InvalidMessage) m (λ _. refl) whole (is-invalid is_known 12 (length before) valid cs (ap (λ b. b && valid (take 12 (drop 12 (bytes cs)))) (known-is request_of (header_of (take 12 (bytes cs)))) ∙ wrong)) (no_bare whole))
 
   -- the test of a reply, as the code makes it
   abbrev pub whole_test : VhostUserMsgHeader FrontendReq → ℕ → Bool
@@ -124,14 +127,14 @@ module _ {L H : Type 0} (event : L → Event H → L → Type 0) (sent : Header)
 
   module _ (new : State L H) (after : List ℕ) (h : VhostUserMsgHeader FrontendReq) (part : VhostUserConfig) (n : ℕ) (hs : Option (Vec H Global)) where
     config-reply : ReadsOrBare event request_of sent old before (Ok (Some (h, part, n, hs))) after new
-        → (reply : Received H) × Hears event (config_cut sent (length before)) old (Ok (Some reply)) new × (is_reply_of sent (length before) reply ≡ whole_test h n) × (part ≡ config_of reply.body)
+        → (reply : Received H) × HearsReply event (config_cut sent (length before)) old (Ok (Some reply)) new × (is_reply_of sent (length before) reply ≡ whole_test h n) × (part ≡ config_of reply.body)
         × (n ≡ length reply.payload) × (after ≡ reply.payload ++ drop n before) × HandsOver hs reply.handles
     unfolding reply_in
     config-reply ((cs, room, (m, (count, (is_h, ok, is_part, ok_part, over)))), no_bare) =
         let head = ap (λ (x : VhostUserMsgHeader FrontendReq). fields_of x) is_h in
         let len : length (drop 24 (bytes cs)) ≡ n = length-drop 24 (bytes cs) ∙ omega (arith, length-bytes cs, count) in (
           reply_in is_known 12 (length before) valid cs,
-          config-came new cs (Ok (reply_in is_known 12 (length before) valid cs)) m (omega (arith, count)) (is-whole is_known 12 (length before) valid cs (known-is request_of (header_of (take 12 (bytes cs))) ∙ ap (λ (x : Header). is_some (request_of x.code) && is_valid_header x) (sym head) ∙ ok) (ap is_valid_config (sym is_part) ∙ ok_part)) no_bare,
+          config-came new cs (Ok (reply_in is_known 12 (length before) valid cs)) m (λ none_came. ap not none_came) (omega (arith, count)) (is-whole is_known 12 (length before) valid cs (known-is request_of (header_of (take 12 (bytes cs))) ∙ ap (λ (x : Header). is_some (request_of x.code) && is_valid_header x) (sym head) ∙ ok) (ap is_valid_config (sym is_part) ∙ ok_part)) no_bare,
           (λ j. is_reply_for request_of (sym head j) sent && ((sym head j).size == 12 + length before && len j == length before)),
           is_part,
           sym len,

@@ -20,7 +20,7 @@ use Rattle.vhost_protocol.specs.Take.{is_sized, understood, payload_of, take, ta
 use Rattle.vhost_link.specs.Law.{Event}
 use Rattle.vhost_connection.specs.Talk.{State}
 use Rattle.vhost_connection.specs.Calls.{HandsOver}
-use Rattle.vhost_connection.specs.Hearing.{Hears}
+use Rattle.vhost_connection.specs.Hearing.{HearsReply}
 use Rattle.vhost_frontend_core.specs.Taking.{reply_cut, valued, Comes, Missing, Awaits, AwaitsAlone, AwaitsOne, Acks, IsAck, Reads, Takes}
 use Rattle.vhost_connection.specs.Asking.Missing.{unfit, none, failed}
 use Rattle.vhost_frontend_core.specs.Taking.Awaits.{is_reply, is_request}
@@ -30,7 +30,7 @@ use Rattle.vhost_frontend_core.specs.Taking.RecvsAck.{agreed, refused, crowded_a
 use Rattle.vhost_frontend_core.specs.Taking.Acks.{unasked, asked_for}
 use Rattle.vhost_frontend_core.specs.Taking.Reads.{unread, read}
 use Rattle.vhost_frontend_core.specs.Taking.Takes.{taken, stopped}
-use Rattle.vhost_connection.proofs.Replies.{hears-by}
+use Rattle.vhost_connection.proofs.Replies.{replies-by}
 use Rattle.vhost_connection.proofs.Handed.{hands-none, hands-some, nonzero}
 
 -- an answer that was taken, in another form
@@ -73,8 +73,8 @@ module _ {L H : Type 0} {event : L → Event H → L → Type 0} where
   acks-as {old} {new} {sent} {result = result} e x = subst (λ (a : Awaited). Acks event old sent a result new) e x
 
   module _ (call : FrontendCall H) {sent : Header} {f : Frontend} {old : State L H} where
-    reads-ack : {new : State L H} (o : Result (Received H) Error) {x : Answered H} → Hears event (reply_cut 8 (λ bs. true) 0) old o new → understood call Ack sent f o ≡ Some x → Reads event call Ack sent f old (Some x) new
-    reads-ack {new} o h e = read (subst (λ y. Hears event (take call Ack sent f) old y new) e (hears-by (λ r. understood call Ack sent f r) o (λ cells. refl) h))
+    reads-ack : {new : State L H} (o : Result (Received H) Error) {x : Answered H} → HearsReply event (reply_cut 8 (λ bs. true) 0) old o new → understood call Ack sent f o ≡ Some x → Reads event call Ack sent f old (Some x) new
+    reads-ack {new} o h e = read (subst (λ y. HearsReply event (take call Ack sent f) old y new) e (replies-by (λ r. understood call Ack sent f r) o (λ cells. refl) h))
 
     -- the call succeeded
     acked-ok : {new : State L H} (asked : Awaited) → IsAck asked → Acks event old sent asked (Ok tt) new → Reads event call asked sent f old (Some (answered (after_success f call) (Ok (plain_value call)))) new
@@ -94,7 +94,7 @@ module _ {L H : Type 0} {event : L → Event H → L → Type 0} where
         many [] e = absurd cc
         many (h ∷ hs) e = rw (nonzero (length (h ∷ hs)) (λ e. cc)) refl
     acked-err Ack is (asked_for waits (unacked (unfit r x bad))) = taken (reads-ack (Ok r) x (rw bad refl))
-    acked-err {e = e} Ack is (asked_for waits (unacked (none x))) = taken (reads-ack (Err (seen e)) x refl)
+    acked-err {e = e} Ack is (asked_for waits (unacked (none x listed))) = taken (reads-ack (Err (seen e)) x refl)
     acked-err Ack is (asked_for waits (unacked (failed x))) = stopped x
     acked-err (Reply shape) is x = absurd is
 
@@ -118,11 +118,11 @@ module _ {L H : Type 0} {event : L → Event H → L → Type 0} where
 
   module _ (call : FrontendCall H) (shape : Shape) (size room : ℕ) (valid : List ℕ → Bool) {sent : Header} {f : Frontend} {old : State L H}
       (by : (cells : List (Cell H)) → take_reply call shape sent f cells ≡ (understood call (Reply shape) sent f (reply_cut size valid room cells).0, (reply_cut {H = H} size valid room cells).1)) where
-    pub reads-reply : {new : State L H} (o : Result (Received H) Error) {x : Answered H} → has_bit sent.flags 2 ≡ false → Hears event (reply_cut size valid room) old o new → understood call (Reply shape) sent f o ≡ Some x
+    pub reads-reply : {new : State L H} (o : Result (Received H) Error) {x : Answered H} → has_bit sent.flags 2 ≡ false → HearsReply event (reply_cut size valid room) old o new → understood call (Reply shape) sent f o ≡ Some x
         → Reads event call (Reply shape) sent f old (Some x) new
     reads-reply {new} o plain h e =
-        read (subst (λ y. Hears event (take call (Reply shape) sent f) old y new) e
-        (hears-by (λ r. understood call (Reply shape) sent f r) o (λ cells. ap (λ b. if b then (Some (answered f (Err InvalidParam)), cells) else take_reply call shape sent f cells) plain ∙ by cells) h))
+        read (subst (λ y. HearsReply event (take call (Reply shape) sent f) old y new) e
+        (replies-by (λ r. understood call (Reply shape) sent f r) o (λ cells. ap (λ b. if b then (Some (answered f (Err InvalidParam)), cells) else take_reply call shape sent f cells) plain ∙ by cells) h))
 
     -- the reply decides
     pub replied : {new : State L H} {x : Answered H} (r : Received H) → has_bit sent.flags 2 ≡ false → Comes event size valid room old sent r new → is_sized call r ≡ true
@@ -132,7 +132,7 @@ module _ {L H : Type 0} {event : L → Event H → L → Type 0} where
     -- there is none
     pub reads-missing : {new : State L H} {A : Type 0} {value : A → Value H} {e : declared.Error} → has_bit sent.flags 2 ≡ false → Missing event size valid room old sent e new → Takes event call value (Reply shape) sent old f (Err e) new f
     reads-missing plain (unfit r x bad) = taken (reads-reply (Ok r) plain x (rw bad refl))
-    reads-missing {e = e} plain (none x) = taken (reads-reply (Err (seen e)) plain x refl)
+    reads-missing {e = e} plain (none x listed) = taken (reads-reply (Err (seen e)) plain x refl)
     reads-missing plain (failed x) = stopped x
 
     -- a request that was sent as a reply has none

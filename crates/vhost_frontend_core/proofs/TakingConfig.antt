@@ -19,14 +19,14 @@ use Rattle.vhost_protocol.specs.Stream.{has_some}
 use Rattle.vhost_protocol.specs.Take.{understood_config, take, answers}
 use Rattle.vhost_link.specs.Law.{Event}
 use Rattle.vhost_connection.specs.Talk.{State}
-use Rattle.vhost_connection.specs.Hearing.{Hears}
+use Rattle.vhost_connection.specs.Hearing.{HearsReply}
 use Rattle.vhost_frontend_core.specs.Taking.{Reads, Takes}
 use Rattle.vhost_frontend_core.specs.Taking.Reads.{unread, read}
 use Rattle.vhost_frontend_core.specs.Taking.Takes.{taken, stopped}
 use Rattle.vhost_frontend_core.specs.TakingConfig.{config_cut, is_part, is_reply_of, is_asked, RecvsConfig}
 use Rattle.vhost_frontend_core.specs.TakingConfig.RecvsConfig.{came, unfit, crowded, bare, none, failed}
 use Rattle.vhost_connection.proofs.Handed.{nonzero}
-use Rattle.vhost_connection.proofs.Replies.{hears-by}
+use Rattle.vhost_connection.proofs.Replies.{replies-by}
 
 -- what the call answers
 abbrev pub shown : {H : Type 0} → VhostUserConfig × Vec ℕ Global → Value H
@@ -64,11 +64,11 @@ module _ {L H : Type 0} {event : L → Event H → L → Type 0} (offset size fl
   config-for-none (b ∷ buffer) plain e = absurd cc
 
   module _ (b : ℕ) (bs : List ℕ) (plain : has_bit sent.flags 2 ≡ false) {new : State L H} {f' : Frontend} (same_session : f' ≡ f) where
-    hears-reply : (o : Result (Option (Received H)) Error) {x : Answered H} → Hears event (config_cut sent (length (b ∷ bs))) old o new → understood_config (GetConfig offset size flags (b ∷ bs)) sent f o ≡ Some x
+    hears-reply : (o : Result (Option (Received H)) Error) {x : Answered H} → HearsReply event (config_cut sent (length (b ∷ bs))) old o new → understood_config (GetConfig offset size flags (b ∷ bs)) sent f o ≡ Some x
         → Reads event (GetConfig offset size flags (b ∷ bs)) (Reply shape.Config) sent f old (Some x) new
     hears-reply o h e =
-        read (subst (λ y. Hears event (take (GetConfig offset size flags (b ∷ bs)) (Reply shape.Config) sent f) old y new) e
-        (hears-by (λ r. understood_config (GetConfig offset size flags (b ∷ bs)) sent f r) o (λ cells. rw plain refl) h))
+        read (subst (λ y. HearsReply event (take (GetConfig offset size flags (b ∷ bs)) (Reply shape.Config) sent f) old y new) e
+        (replies-by (λ r. understood_config (GetConfig offset size flags (b ∷ bs)) sent f r) o (λ cells. rw plain refl) h))
 
     -- the part came
     taken-part : (part : VhostUserConfig) (v : Vec ℕ Global) (after : List ℕ) → RecvsConfig event (length (b ∷ bs)) old sent (Ok part) after new → v.items ≡ after → is_asked (config offset size flags) (length (b ∷ bs)) part ≡ true

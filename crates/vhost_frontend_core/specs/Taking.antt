@@ -21,7 +21,7 @@ use Rattle.vhost_link.specs.Law.{Event}
 use Rattle.vhost_connection.specs.Talk.{State}
 use Rattle.vhost_connection.specs.Asking as asking
 use Rattle.vhost_connection.specs.Calls.{HandsOver}
-use Rattle.vhost_connection.specs.Hearing.{Hears, Fails}
+use Rattle.vhost_connection.specs.Hearing.{HearsReply, Fails}
 
 -- a reply on a stream, with a record of so many bytes and room for so much payload
 abbrev pub reply_cut : {H : Type 0} → (size : ℕ) → (List ℕ → Bool) → (room : ℕ) → List (Cell H) → Result (Received H) Error × List (Cell H)
@@ -100,10 +100,10 @@ IsAck Ack = ⊤
 IsAck _ = ⊥
 
 module _ {L H : Type 0} (event : L → Event H → L → Type 0) (call : FrontendCall H) where
-  -- An answer is taken: nothing is read for it, or what is read decides.
+  -- An answer is taken: nothing is read for it, or what is read decides; then the endpoint has its list of handles unless a handle came.
   pub data Reads (asked : Awaited) (sent : Header) (f : Frontend) (old : State L H) : Option (Answered H) → State L H → Type 0 where
     unread : {x : Option (Answered H)} → ((cells : List (Cell H)) → take call asked sent f cells ≡ (x, cells)) → Reads asked sent f old x old
-    read : {x : Option (Answered H)} {new : State L H} → Hears event (take call asked sent f) old x new → Reads asked sent f old x new
+    read : {x : Option (Answered H)} {new : State L H} → HearsReply event (take call asked sent f) old x new → Reads asked sent f old x new
 
   -- The half that takes: the answer by the stream; or the link failed, and the session is as before.
   pub data Takes {A : Type 0} (value : A → Value H) (asked : Awaited) (sent : Header) (old : State L H) (f : Frontend) : Result A declared.Error → State L H → Frontend → Type 0 where

@@ -12,7 +12,7 @@ use Rattle.vhost_protocol.specs.ReplySplit.{Received, bare_or_reply}
 use Rattle.vhost_protocol.specs.Take.{is_known, answers}
 use Rattle.vhost_link.specs.Law.{Event}
 use Rattle.vhost_connection.specs.Talk.{State}
-use Rattle.vhost_connection.specs.Hearing.{Hears, Fails}
+use Rattle.vhost_connection.specs.Hearing.{HearsReply, Fails}
 
 -- the reply to a request for so many configuration bytes, or a bare one
 abbrev pub config_cut : {H : Type 0} → (sent : Header) → (room : ℕ) → List (Cell H) → Result (Option (Received H)) Error × List (Cell H)
@@ -33,12 +33,12 @@ is_asked asked count part = part.offset == asked.offset && part.size == asked.si
 module _ {L H : Type 0} (event : L → Event H → L → Type 0) where
   -- A reply with so many configuration bytes and without a handle is received, and they lie in the room; or another reply comes, or a bare one, or none.
   pub data RecvsConfig (room : ℕ) (old : State L H) (sent : Header) : Result VhostUserConfig declared.Error → List ℕ → State L H → Type 0 where
-    came : (reply : Received H) {part : VhostUserConfig} {after : List ℕ} {new : State L H} → Hears event (config_cut sent room) old (Ok (Some reply)) new → is_reply_of sent room reply ≡ true
+    came : (reply : Received H) {part : VhostUserConfig} {after : List ℕ} {new : State L H} → HearsReply event (config_cut sent room) old (Ok (Some reply)) new → is_reply_of sent room reply ≡ true
         → reply.handles ≡ [] → part ≡ config_of reply.body → after ≡ reply.payload → RecvsConfig room old sent (Ok part) after new
-    unfit : (reply : Received H) {after : List ℕ} {new : State L H} → Hears event (config_cut sent room) old (Ok (Some reply)) new → is_reply_of sent room reply ≡ false
+    unfit : (reply : Received H) {after : List ℕ} {new : State L H} → HearsReply event (config_cut sent room) old (Ok (Some reply)) new → is_reply_of sent room reply ≡ false
         → RecvsConfig room old sent (Err code.InvalidMessage) after new
-    crowded : (reply : Received H) {after : List ℕ} {new : State L H} → Hears event (config_cut sent room) old (Ok (Some reply)) new → is_reply_of sent room reply ≡ true
+    crowded : (reply : Received H) {after : List ℕ} {new : State L H} → HearsReply event (config_cut sent room) old (Ok (Some reply)) new → is_reply_of sent room reply ≡ true
         → has_some reply.handles ≡ true → RecvsConfig room old sent (Err code.InvalidMessage) after new
-    bare : {after : List ℕ} {new : State L H} → Hears event (config_cut sent room) old (Ok None) new → RecvsConfig room old sent (Err code.BackendInternalError) after new
-    none : {e : declared.Error} {after : List ℕ} {new : State L H} → Hears event (config_cut sent room) old (Err (seen e)) new → RecvsConfig room old sent (Err e) after new
+    bare : {after : List ℕ} {new : State L H} → HearsReply event (config_cut sent room) old (Ok None) new → RecvsConfig room old sent (Err code.BackendInternalError) after new
+    none : {e : declared.Error} {after : List ℕ} {new : State L H} → HearsReply event (config_cut sent room) old (Err (seen e)) new → RecvsConfig room old sent (Err e) after new
     failed : {e : declared.Error} {after : List ℕ} {new : State L H} → Fails event old true e new → RecvsConfig room old sent (Err e) after new

@@ -130,7 +130,7 @@ module _ (call : FrontendCall PlainHandle) (awaited : Awaited) (sent : Header) (
     faulted = sound;
     budget = refl;
   }
-  is-taken {fe' = fe'} whole sound (read h) = record {
+  is-taken {fe' = fe'} whole sound (read came) = let h = came.hears in record {
     cut = incoming-cut fe fe' _ h.serves.talks (take call awaited sent f) h.cells h.ended x refl h.splits;
     outgoing = outgoing-taken fe fe' _ h.serves.talks ∙ append-nil (outgoing fe);
     passed = passes fe fe' _ _ h.serves;

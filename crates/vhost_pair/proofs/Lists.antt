@@ -190,7 +190,7 @@ module _ (H : Type 0) where
 pub result-listed : (call : FrontendCall PlainHandle) (awaited : Awaited) (sent : Header) (old : State Ends PlainHandle) (f : Frontend) (result : Result (Value PlainHandle) Error) (new : State Ends PlainHandle) (f' : Frontend)
     → TakesResult call awaited sent old f result new f' → IsListedFor call result
 result-listed call awaited sent old f result new f' (inl (unread here)) = subst (λ (r : Option (Answered PlainHandle) × List (Cell PlainHandle)). Listed PlainHandle call r.0) (here []) (taken-listed PlainHandle call awaited sent f [])
-result-listed call awaited sent old f result new f' (inl (read h)) = split-listed PlainHandle call awaited sent f h.cells h.ended _ h.splits
+result-listed call awaited sent old f result new f' (inl (read h)) = split-listed PlainHandle call awaited sent f h.hears.cells h.hears.ended _ h.hears.splits
 result-listed call awaited sent old f result new f' (inr (same, e, is, fails)) = subst (λ (r : Result (Value PlainHandle) Error). IsListedFor call r) (sym is) (failed PlainHandle call (seen e))
 
 -- nothing was sent for the call, or its half that asks failed

@@ -35,7 +35,7 @@ module _ (head : Head) (fe : End) where
   Lost answer fe' = (e : Error) × (answer ≡ Err (Of e)) × Fails event fe true e fe'
 
   heard-or-lost : (answer : Result ℕ io.IoError) (fe' : End) → RecvsNumber event (fields_of head) fe answer fe' → IsTaken true answer fe' ⊎ Lost answer fe'
-  heard-or-lost answer fe' (asking.heard h listed) = inl (record {
+  heard-or-lost answer fe' (asking.heard came listed) = let h = came.hears in inl (record {
     cut = incoming-cut fe fe' _ h.serves.talks (reverse_take true (fields_of head)) h.cells h.ended (seen_io_result answer) refl h.splits;
     outgoing = outgoing-taken fe fe' _ h.serves.talks ∙ append-nil (outgoing fe);
     passed = passes fe fe' _ _ h.serves;

@@ -71,7 +71,7 @@ module _ {L H : Type 0} (event : L → Event H → L → Type 0) where
   -- what was read met none
   read-unmet : (asked : Awaited) (sent : Header) (f : Frontend) (old : State L H) (x : Option (Answered H)) (new : State L H) → Reads event GetFeatures asked sent f old x new → old.faulted ≡ false → new.faulted ≡ false
   read-unmet asked sent f old x new (unread same) sound = sound
-  read-unmet asked sent f old x new (read h) sound = h.serves.faulted
+  read-unmet asked sent f old x new (read h) sound = h.hears.serves.faulted
 
   met-taking : (asked : Awaited) (sent : Header) (old mid : State L H) (f : Frontend) (m : Move H) (result : Result ℕ declared.Error) (new : State L H) (f' : Frontend) → Serves event old old.budget m mid → has_moved m ≡ true
       → Takes event GetFeatures Number asked sent mid f result new f' → new.faulted ≡ true → MeetsFault event old result new

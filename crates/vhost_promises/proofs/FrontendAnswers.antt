@@ -76,7 +76,8 @@ module _ {L H : Type 0} (event : L → Event H → L → Type 0) (call : Reverse
       told = subst (λ (s : State L H). IsTold event false w old.endpoint s) (sym same) (out.retries, out.serves);
       others = refl;
     }
-    done true n asked (heard h listed) =
+    done true n asked (heard came listed) =
+        let h = came.hears in
         let cut : reverse_take true (fields_of sent) h.cells ≡ (Ok n, []) = splits-all (reverse_take true (fields_of sent)) h.cells h.ended (Ok n) h.splits in
         let said = says-zero (fields_of sent) h.cells (numbers h.cells).0 n (both refl (ap (λ (x : Result ℕ IoError × List (Cell H)). x.1) cut)) (ap (λ (x : Result ℕ IoError × List (Cell H)). x.0) cut) in
         record {
@@ -84,14 +85,15 @@ module _ {L H : Type 0} (event : L → Event H → L → Type 0) (call : Reverse
           message = w;
           awaited = true;
           asked = asked;
-          told = (h.cells, h.ended, exchange event old.endpoint mid after _ _ out.retries h.retries out.serves h.serves, subst (λ (x : Header). SaysZero x h.cells) out.header said.1, listed n refl);
+          told = (h.cells, h.ended, exchange event old.endpoint mid after _ _ out.retries h.retries out.serves h.serves, subst (λ (x : Header). SaysZero x h.cells) out.header said.1, listed refl);
           others = refl;
         }
 
     -- and no success
     not-done : (awaited : Bool) (e : declared.IoError) → reverse_ask (backend_of old) call ≡ Sends w awaited → Takes event awaited (fields_of sent) mid (Err e) after → IsNotDone event call old e (record old { endpoint = after })
     not-done false e asked (is, same) = absurd cc
-    not-done true e asked (heard h listed) =
+    not-done true e asked (heard came listed) =
+        let h = came.hears in
         let cut : reverse_take true (fields_of sent) h.cells ≡ (Err (seen_io e), []) = splits-all (reverse_take true (fields_of sent)) h.cells h.ended (Err (seen_io e)) h.splits in
         answered w asked h.cells h.ended (exchange event old.endpoint mid after _ _ out.retries h.retries out.serves h.serves)
         (subst (λ (x : Header). reverse_take true x h.cells ≡ (Err (seen_io e), [])) out.header cut)
