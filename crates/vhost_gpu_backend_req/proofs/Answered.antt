@@ -3,7 +3,6 @@ use Rattle.std.proofs.Common.{◌≡◌, ℕ, ℤ, ◌+◌, ◌++◌, List, [], 
 use Rattle.std.specs.Prelude.{◌≢◌, ◌&&◌, is_some, is_ok, not, codes, if◌then◌else◌, nat_lt}
 use Rattle.std.specs.Global.{Global}
 use Rattle.vhost_message.specs.declared.error.Error as declared
-use Rattle.vhost_message.specs.declared.error.Error.TheVariants as code
 use Rattle.vhost_message.specs.declared.io_error.IoError as declared_io
 use Rattle.vhost_message.specs.Header.{Header, header_of, header_text, is_reply_for}
 use Rattle.vhost_gpu_message.specs.declared.gpu_backend_req.GpuBackendReq.{GpuBackendReq}

@@ -1,8 +1,6 @@
-use Rattle.std.proofs.Common.{◌≡◌, ℕ, arith, ◌∙◌}
+use Rattle.std.proofs.Common.{arith, ◌∙◌}
 use Rattle.std.proofs.lemmas.Str.{IsUtf8-from_ascii}
-use Rattle.std.specs.List.{flat_map}
 use Rattle.hex.specs.Hex.{IsBytes}
-use Rattle.vhost_answer_text.specs.Numbers.{byte_text}
 use Rattle.vhost_answer_text.proofs.Digits.{IsAscii-encode_lower, encode_lower-bytes}
 use Rattle.vhost_answer_text.proofs.lists.digits_of.Goals as goal
 

@@ -1,5 +1,5 @@
 -- ADD_MEM_REG: its row, with a region.
-use Rattle.std.proofs.Common.{◌≡◌, refl, ap, Ok, Err, sym, ◌∙◌, subst, Option, Some, None, true}
+use Rattle.std.proofs.Common.{◌≡◌, ap, Ok, Err, sym, ◌∙◌, subst, Option, Some, None, true}
 use Rattle.vhost_message.specs.declared.frontend_req.FrontendReq.TheVariants.{ADD_MEM_REG}
 use Rattle.vhost_protocol.specs.Error.{seen}
 use Rattle.vhost_protocol.specs.Written.{OneRegion}

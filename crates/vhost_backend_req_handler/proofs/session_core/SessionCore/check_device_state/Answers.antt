@@ -1,5 +1,5 @@
 -- CHECK_DEVICE_STATE: its row.
-use Rattle.std.proofs.Common.{refl, ap, Ok, Err}
+use Rattle.std.proofs.Common.{ap, Ok, Err}
 use Rattle.vhost_message.specs.declared.frontend_req.FrontendReq.TheVariants.{CHECK_DEVICE_STATE}
 use Rattle.vhost_protocol.specs.Written.{U64}
 use Rattle.vhost_backend_req_handler.proofs.Arms.{called}

@@ -4,7 +4,6 @@ use Rattle.vhost_message.specs.declared.frontend_req.FrontendReq.TheVariants.{GE
 use Rattle.vhost_protocol.specs.Error.{seen}
 use Rattle.vhost_protocol.specs.Written.{Shmem}
 use Rattle.vhost_backend_req_handler.proofs.Arms.{called, ends, fails_plain, passes_plain, unanswered}
-use Rattle.vhost_message.specs.LongRecords.{shmem_config-length}
 use Rattle.vhost_backend_req_handler.proofs.session_core.SessionCore.get_shmem_config.Goals as goal
 
 pub returns-in_err-operation : goal.returns-in_err-operation

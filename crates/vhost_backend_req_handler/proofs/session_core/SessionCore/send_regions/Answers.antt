@@ -1,5 +1,5 @@
 -- A table of regions is the reply.
-use Rattle.std.proofs.Common.{◌≡◌, ◌++◌, length, ap, ◌∙◌, arith}
+use Rattle.std.proofs.Common.{◌≡◌, ◌++◌, length, ap, ◌∙◌}
 use Rattle.vhost_message.specs.Records.{memory_text}
 use Rattle.vhost_message.specs.declared.frontend_req.FrontendReq.TheVariants.{SET_MEM_TABLE}
 use Rattle.vhost_message.specs.declared.records.memory.VhostUserMemory.{VhostUserMemory}

@@ -1,5 +1,5 @@
 -- The reply of a transfer where the device agreed.
-use Rattle.std.proofs.Common.{refl, ap}
+use Rattle.std.proofs.Common.{ap}
 use Rattle.vhost_message.specs.Text.{digits}
 use Rattle.vhost_message.specs.declared.frontend_req.FrontendReq.TheVariants.{SET_DEVICE_STATE_FD}
 use Rattle.vhost_message.specs.declared.records.plain.VhostUserU64.{VhostUserU64}
