@@ -17,6 +17,15 @@ use vhost_pair::Joined;
 use vhost_pair_reverse::JoinedReverse;
 use vhost_test_tools::{Miss, Over, PlainLink, Scripted, ScriptedFrontend, Session, unreadable};
 
+/// Who plays the lines of a session.
+pub(crate) trait Player: Drop {
+    /// Does what a line says, or compares it.
+    fn step(&mut self, rt: &impl Wait, line: &str) -> Result<(), Miss>;
+
+    /// Tests that nothing is wanted any more, and nothing is left.
+    fn end(&mut self, rt: &impl Wait) -> Result<(), Miss>;
+}
+
 /// A session of one of the kinds.
 #[derive(Drop)]
 pub(crate) enum Actor {
@@ -61,9 +70,10 @@ impl Actor {
             kind => Err(unreadable(alloc, "a kind of session", kind)),
         }
     }
+}
 
-    /// Does what a line says, or compares it.
-    pub(crate) fn step(&mut self, rt: &impl Wait, line: &str) -> Result<(), Miss> {
+impl Player for Actor {
+    fn step(&mut self, rt: &impl Wait, line: &str) -> Result<(), Miss> {
         let (word, rest) = line.split_once(" ").unwrap_or((line, ""));
         match self {
             Actor::Served(player) => player.step(rt, word, rest),
@@ -79,8 +89,7 @@ impl Actor {
         }
     }
 
-    /// Tests that nothing is wanted any more, and nothing is left.
-    pub(crate) fn end(&mut self, rt: &impl Wait) -> Result<(), Miss> {
+    fn end(&mut self, rt: &impl Wait) -> Result<(), Miss> {
         match self {
             Actor::Served(player) => player.end(rt),
             Actor::Asking(player) => player.end(rt),

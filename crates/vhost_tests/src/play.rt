@@ -1,6 +1,6 @@
 //! Playing a session, line by line.
 
-use crate::actor::Actor;
+use crate::actor::{Actor, Player};
 use std::alloc::Global;
 use std::fmt;
 use std::sync::Wait;
@@ -55,7 +55,7 @@ fn play_once(
 ) -> Result<(), Refusal> {
     tally.sessions = tally.sessions.wrapping_add(1);
     match Actor::new(alloc, session, n, is_whole) {
-        Ok(mut actor) => play_whole(rt, alloc, &mut actor, session, tally),
+        Ok(actor) => play_whole(rt, alloc, actor, session, tally),
         Err(miss) => Err(Refusal {
             number: session.number,
             miss,
@@ -67,12 +67,12 @@ fn play_once(
 fn play_whole(
     rt: &impl Wait,
     alloc: Global,
-    actor: &mut Actor,
+    mut player: impl Player,
     session: &Session<'_>,
     tally: &mut Tally,
 ) -> Result<(), Refusal> {
-    let number = play_steps(rt, alloc, actor, session, tally)?;
-    match actor.end(rt) {
+    let number = play_steps(rt, alloc, &mut player, session, tally)?;
+    match player.end(rt) {
         Ok(()) => Ok(()),
         Err(miss) => Err(Refusal { number, miss }),
     }
@@ -82,7 +82,7 @@ fn play_whole(
 fn play_steps(
     rt: &impl Wait,
     alloc: Global,
-    actor: &mut Actor,
+    player: &mut impl Player,
     session: &Session<'_>,
     tally: &mut Tally,
 ) -> Result<u64, Refusal> {
@@ -90,7 +90,7 @@ fn play_steps(
     for line in &session.steps {
         number = line.number;
         tally.steps = tally.steps.wrapping_add(1);
-        if let Err(miss) = play_line(rt, alloc, actor, *line) {
+        if let Err(miss) = play_line(rt, alloc, player, *line) {
             return Err(Refusal { number, miss });
         }
     }
@@ -98,20 +98,25 @@ fn play_steps(
 }
 
 /// Plays a line. One after `not` must find a difference, one after `bad` can't be read.
-fn play_line(rt: &impl Wait, alloc: Global, actor: &mut Actor, line: Line<'_>) -> Result<(), Miss> {
+fn play_line(
+    rt: &impl Wait,
+    alloc: Global,
+    player: &mut impl Player,
+    line: Line<'_>,
+) -> Result<(), Miss> {
     if let Some(step) = line.text.strip_prefix("not ") {
-        return match actor.step(rt, step) {
+        return match player.step(rt, step) {
             Ok(()) => Err(differs(alloc, "a difference", step)),
             Err(Miss::Differs(_)) => Ok(()),
             Err(miss) => Err(miss),
         };
     }
     if let Some(step) = line.text.strip_prefix("bad ") {
-        return match actor.step(rt, step) {
+        return match player.step(rt, step) {
             Ok(()) => Err(differs(alloc, "a line that can't be read", step)),
             Err(Miss::Unreadable(_)) => Ok(()),
             Err(miss) => Err(miss),
         };
     }
-    actor.step(rt, line.text)
+    player.step(rt, line.text)
 }
