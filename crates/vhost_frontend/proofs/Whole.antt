@@ -1,44 +1,30 @@
 -- What both halves give of a call as a whole.
-use Rattle.std.proofs.Common.{◌≡◌, ◌⊎◌, inl, inr, Result, Ok, Err, Some, refl, sym, subst}
+use Rattle.std.proofs.Common.{◌≡◌, ◌⊎◌, inl, inr, Result, Ok, Err, Some, sym, subst, ◌∙◌}
 use Rattle.vhost_message.specs.declared.error.Error as declared
 use Rattle.vhost_message.specs.Header.{Header}
 use Rattle.vhost_message.specs.MsgHeader.{fields_of}
-use Rattle.vhost_protocol.specs.Ask.{Asked, ask}
+use Rattle.vhost_protocol.specs.Ask.{Asked}
 use Rattle.vhost_protocol.specs.FrontendCall.{FrontendCall, Frontend, Value}
 use Rattle.vhost_protocol.specs.declared.asked.Awaited.{Awaited}
-use Rattle.vhost_protocol.specs.declared.asked.Awaited.TheVariants.{Reply}
+use Rattle.vhost_protocol.specs.declared.asked.Awaited.TheVariants.{Nobody, Reply}
 use Rattle.vhost_protocol.specs.declared.asked.Shape.{Shape}
 use Rattle.vhost_link.specs.Law.{Event}
 use Rattle.vhost_connection.specs.Talk.{State}
 use Rattle.vhost_frontend_core.specs.declared.asked.Sent.{Sent}
-use Rattle.vhost_frontend_core.specs.Asking as asking
-use Rattle.vhost_frontend_core.specs.Asking.{Asks, AsksWithRoom}
-use Rattle.vhost_frontend_core.specs.Awaiting.{MayAwait}
+use Rattle.vhost_frontend_core.specs.Asking.{Asks}
 use Rattle.vhost_frontend_core.specs.Frontend.{endpoint_of, session_of}
 use Rattle.vhost_frontend_core.specs.Halves.{AsksHalf}
 use Rattle.vhost_frontend_core.specs.Taking.{Takes}
 use Rattle.vhost_frontend_core.specs.declared.internal.FrontendInternal.{FrontendInternal}
-use Rattle.vhost_frontend_core.proofs.Awaiting.{awaits-allowed, replies, awaits-reply}
-use Rattle.vhost_frontend.specs.Whole.{Calls}
+use Rattle.vhost_frontend_core.proofs.Awaiting.{replies, awaits-reply, sent-awaits, still-awaits, may-await}
+use Rattle.vhost_frontend.specs.Whole.{Calls, awaited_of}
 use Rattle.vhost_frontend.specs.Whole.Calls.{ended, answered}
 
 module _ {L H : Type 0} {event : L → Event H → L → Type 0} where
-  -- whoever could not ask awaits what was awaited before
-  pub still-awaits : {asked : Asked H} {old new : State L H} {f f' : Frontend} {before after : Awaited} {e : declared.Error} → Asks event asked old f before (Err e) new f' after → after ≡ before
-  still-awaits (asking.refuses x) = refl
-  still-awaits (asking.fails x y) = refl
-
-  pub still-awaits-with-room : {asked : Asked H} {old new : State L H} {f f' : Frontend} {before after : Awaited} {e : declared.Error} → AsksWithRoom event asked old f before (Err e) new f' after → after ≡ before
-  still-awaits-with-room (asking.roomy x) = still-awaits x
-  still-awaits-with-room (asking.no_room x) = refl
-
-  -- what was sent awaits what its call may await
-  pub may-await : (call : FrontendCall H) {old new : State L H} {f f' : Frontend} {before after : Awaited} {sent : Sent} → Asks event (ask f call) old f before (Ok sent) new f' after → MayAwait call sent.awaited
-  may-await call (asking.goes is g) = subst (MayAwait call) (sym g.awaits) (awaits-allowed _ call _ _ _ is)
-
-  pub may-await-with-room : (call : FrontendCall H) {old new : State L H} {f f' : Frontend} {before after : Awaited} {sent : Sent} → AsksWithRoom event (ask f call) old f before (Ok sent) new f' after
-      → MayAwait call sent.awaited
-  may-await-with-room call (asking.roomy x) = may-await call x
+  -- what was asked of a frontend that awaited nothing is what it awaits
+  pub asked_awaits : {asked : Asked H} {old new : State L H} {f f' : Frontend} {before after : Awaited} {result : Result Sent declared.Error} → Asks event asked old f before result new f' after → before ≡ Nobody → after ≡ awaited_of result
+  asked_awaits {result = Ok sent} asks nobody = sym (sent-awaits asks)
+  asked_awaits {result = Err e} asks nobody = still-awaits asks ∙ nobody
 
   -- a call that could not ask is whole
   pub unasked : {call : FrontendCall H} {A : Type 0} {asks : FrontendInternal L H → Result Sent declared.Error → FrontendInternal L H → Type 0} {value : A → Value H} {old new : FrontendInternal L H} {e : declared.Error}

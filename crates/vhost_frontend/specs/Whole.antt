@@ -2,10 +2,17 @@
 use Rattle.std.specs.Prelude.{Result, Ok, Err}
 use Rattle.vhost_message.specs.declared.error.Error as declared
 use Rattle.vhost_protocol.specs.FrontendCall.{FrontendCall, Value}
+use Rattle.vhost_protocol.specs.declared.asked.Awaited.{Awaited}
+use Rattle.vhost_protocol.specs.declared.asked.Awaited.TheVariants.{Nobody}
 use Rattle.vhost_link.specs.Law.{Event}
 use Rattle.vhost_frontend_core.specs.declared.asked.Sent.{Sent}
 use Rattle.vhost_frontend_core.specs.declared.internal.FrontendInternal.{FrontendInternal}
 use Rattle.vhost_frontend_core.specs.Halves.{AsksHalf, AsksHalfWithRoom, TakesHalf}
+
+-- what a frontend awaits that awaited nothing, and was asked
+abbrev pub awaited_of : Result Sent declared.Error → Awaited
+awaited_of (Ok sent) = sent.awaited
+awaited_of (Err e) = Nobody
 
 module _ {L H : Type 0} (event : L → Event H → L → Type 0) (call : FrontendCall H) where
   -- It ended where it asked; or its message went out, and then its answer was taken, which is shown as this value.

@@ -3,17 +3,13 @@
 ghost use Rattle.std.specs.Prelude.{◌≡◌, IfOk, IfErr};
 ghost use Rattle.vhost_message.specs.declared.error.Error.TheVariants.{OutOfMemory};
 ghost use Rattle.vhost_connection.specs.State.{fresh};
-ghost use Rattle.vhost_connection.specs.Talk.{State};
-ghost use Rattle.vhost_frontend_core.specs.Asking.{Asks};
 ghost use Rattle.vhost_frontend_core.specs.Awaiting.{IsAcked};
-ghost use Rattle.vhost_protocol.specs.FrontendCall.{Frontend as Remembers, FrontendCall, Nothing, new_frontend};
-ghost use Rattle.vhost_protocol.specs.Ask.{Asked};
-ghost use Rattle.vhost_protocol.specs.declared.asked.Awaited.{Awaited};
+ghost use Rattle.vhost_protocol.specs.FrontendCall.{FrontendCall, Nothing, new_frontend};
 ghost use Rattle.vhost_protocol.specs.declared.asked.Awaited.TheVariants.{Nobody};
 ghost use Rattle.vhost_frontend_core.specs.Frontend.{endpoint_of, session_of, awaits};
 ghost use Rattle.vhost_frontend_core.specs.Halves.{AsksHalf};
 ghost use Rattle.vhost_frontend_core.specs.declared.internal.FrontendInternal.{FrontendInternal as Session};
-ghost use Rattle.vhost_frontend.specs.Whole.{Whole};
+ghost use Rattle.vhost_frontend.specs.Whole.{Whole, awaited_of};
 
 use std::alloc::Global;
 use vhost_frontend_core::{FrontendInternal, Sent};
@@ -77,12 +73,13 @@ impl<L: Link> Quiet<L> {
     }
 }
 
-/// Takes the acknowledgement of a call that was asked, where its request went out.
+/// Takes the acknowledgement of a call that was asked just now, where its request went out.
 ///
 /// Errors are those of both halves.
 fn acknowledged<L: Link>(inner: &mut FrontendInternal<L>, asked: Result<Sent>) -> Result<()>
+    requires { awaits inner.old ≡ awaited_of asked }
     ensures whole { (call : FrontendCall L.Handle) (old : Session L L.Handle) → IsAcked call → AsksHalf L.event call old asked inner.old → Whole L.event call (λ _. Nothing) old result inner.new }
-    ensures quiet { (becomes : Asked L.Handle) (end : State L L.Handle) (session : Remembers) (before : Awaited) → Asks L.event becomes end session before asked (endpoint_of inner.old) (session_of inner.old) (awaits inner.old) → before ≡ Nobody → awaits inner.new ≡ Nobody }
+    ensures quiet { awaits inner.new ≡ Nobody }
 {
     match asked {
         Ok(sent) => inner.take_done(sent),

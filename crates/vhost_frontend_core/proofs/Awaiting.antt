@@ -1,5 +1,6 @@
 -- Each call awaits what it may await.
-use Rattle.std.proofs.Common.{◌≡◌, Bool, true, false, cond, ◌⊎◌, Option, Some, None, Result, Ok, Err, refl, subst, inl, inr}
+use Rattle.std.proofs.Common.{◌≡◌, Bool, true, false, cond, ◌⊎◌, Option, Some, None, Result, Ok, Err, refl, sym, subst, inl, inr}
+use Rattle.vhost_message.specs.declared.error.Error as declared
 use Rattle.vhost_message.specs.declared.frontend_req.FrontendReq.{FrontendReq}
 use Rattle.vhost_protocol.specs.Error.{Error}
 use Rattle.vhost_protocol.specs.FrontendCall.{FrontendCall, Frontend, SetLogBase, GetFeatures, GetProtocolFeatures, GetQueueNum, GetVringBase, GetSharedObject, GetInflightFd, GetMaxMemSlots, GetShmemConfig, SetDeviceStateFd, CheckDeviceState, PostcopyAdvise}
@@ -9,7 +10,12 @@ use Rattle.vhost_protocol.specs.declared.asked.Awaited.{Awaited}
 use Rattle.vhost_protocol.specs.declared.asked.Awaited.TheVariants.{Ack, Nobody, Reply}
 use Rattle.vhost_protocol.specs.declared.asked.Shape.{Shape}
 use Rattle.vhost_protocol.specs.declared.asked.Shape.TheVariants as shape
+use Rattle.vhost_link.specs.Law.{Event}
+use Rattle.vhost_connection.specs.Talk.{State}
+use Rattle.vhost_frontend_core.specs.Asking as asking
+use Rattle.vhost_frontend_core.specs.Asking.{Asks, AsksWithRoom}
 use Rattle.vhost_frontend_core.specs.Taking.{IsAck}
+use Rattle.vhost_frontend_core.specs.declared.asked.Sent.{Sent}
 use Rattle.vhost_frontend_core.specs.Awaiting.{MayAwait, AwaitsAllowed}
 
 is-ack : (b : Bool) → IsAck (cond b Ack Nobody)
@@ -81,3 +87,28 @@ awaits-reply (SetDeviceStateFd t h) a s e may = cc
 awaits-reply CheckDeviceState a s e may = cc
 awaits-reply PostcopyAdvise a s e may = cc
 awaits-reply _ a s e may = cc e
+
+module _ {L H : Type 0} {event : L → Event H → L → Type 0} where
+  -- what was sent is what is awaited
+  pub sent-awaits : {asked : Asked H} {old new : State L H} {f f' : Frontend} {before after : Awaited} {sent : Sent} → Asks event asked old f before (Ok sent) new f' after → sent.awaited ≡ after
+  sent-awaits (asking.goes is g) = g.awaits
+
+  pub sent-awaits-with-room : {asked : Asked H} {old new : State L H} {f f' : Frontend} {before after : Awaited} {sent : Sent} → AsksWithRoom event asked old f before (Ok sent) new f' after → sent.awaited ≡ after
+  sent-awaits-with-room (asking.roomy x) = sent-awaits x
+
+  -- whoever could not ask awaits what was awaited before
+  pub still-awaits : {asked : Asked H} {old new : State L H} {f f' : Frontend} {before after : Awaited} {e : declared.Error} → Asks event asked old f before (Err e) new f' after → after ≡ before
+  still-awaits (asking.refuses x) = refl
+  still-awaits (asking.fails x y) = refl
+
+  pub still-awaits-with-room : {asked : Asked H} {old new : State L H} {f f' : Frontend} {before after : Awaited} {e : declared.Error} → AsksWithRoom event asked old f before (Err e) new f' after → after ≡ before
+  still-awaits-with-room (asking.roomy x) = still-awaits x
+  still-awaits-with-room (asking.no_room x) = refl
+
+  -- what was sent awaits what its call may await
+  pub may-await : (call : FrontendCall H) {old new : State L H} {f f' : Frontend} {before after : Awaited} {sent : Sent} → Asks event (ask f call) old f before (Ok sent) new f' after → MayAwait call sent.awaited
+  may-await call (asking.goes is g) = subst (MayAwait call) (sym g.awaits) (awaits-allowed _ call _ _ _ is)
+
+  pub may-await-with-room : (call : FrontendCall H) {old new : State L H} {f f' : Frontend} {before after : Awaited} {sent : Sent} → AsksWithRoom event (ask f call) old f before (Ok sent) new f' after
+      → MayAwait call sent.awaited
+  may-await-with-room call (asking.roomy x) = may-await call x

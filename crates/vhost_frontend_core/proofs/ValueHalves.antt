@@ -1,12 +1,12 @@
 -- The halves of a call that is a value, from those of its name.
-use Rattle.std.proofs.Common.{◌≡◌, ℕ, ◌⊎◌, inl, inr, List, Result, refl, sym, subst}
+use Rattle.std.proofs.Common.{◌≡◌, ◌⊎◌, inl, inr, List, Result, refl, sym, subst}
 use Rattle.vhost_message.specs.declared.error.Error as declared
 use Rattle.vhost_message.specs.Header.{Header}
 use Rattle.vhost_protocol.specs.declared.asked.Awaited.{Awaited}
 use Rattle.vhost_protocol.specs.declared.asked.Awaited.TheVariants.{Reply}
 use Rattle.vhost_protocol.specs.declared.asked.Shape.TheVariants as shape
 use Rattle.vhost_protocol.specs.Error.{Error}
-use Rattle.vhost_protocol.specs.FrontendCall.{FrontendCall, SetMemTable, SetHdrFlags, Info, Frontend, Value}
+use Rattle.vhost_protocol.specs.FrontendCall.{FrontendCall, SetMemTable, Info, Frontend, Value}
 use Rattle.vhost_link.specs.declared.plain.PlainHandle.{PlainHandle}
 use Rattle.vhost_link.specs.Mem.{event}
 use Rattle.vhost_frontend_core.specs.Taking.{Takes, valued, taken, stopped}
@@ -52,7 +52,3 @@ took-either (inr q) one other = other q
 -- what is kept of a table whose reply is awaited
 pub kept-reply : (infos : List (Info PlainHandle)) (a : Awaited) (k : Kept) → a ≡ Reply shape.Memory → IsKeptFor (SetMemTable infos) a k → IsKeptFor (SetMemTable infos) (Reply shape.Memory) k
 kept-reply infos a k is p = subst (λ x. IsKeptFor (SetMemTable infos) x k) is p
-
--- nothing is taken of a call for which nothing is sent
-pub unsent : {call : FrontendCall PlainHandle} {flags : ℕ} → call ≡ SetHdrFlags flags → IsSent call → ⊥
-unsent is sent = subst IsSent is sent

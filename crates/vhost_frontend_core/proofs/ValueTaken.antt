@@ -2,7 +2,7 @@
 use Rattle.std.proofs.Common.{◌≡◌, Bool, true, false, Some, Result, refl, sym, subst}
 use Rattle.vhost_message.specs.declared.error.Error as declared
 use Rattle.vhost_message.specs.MsgHeader.{fields_of}
-use Rattle.vhost_protocol.specs.FrontendCall.{FrontendCall, Value, GetFeatures, GetProtocolFeatures, GetQueueNum, SetMemTable, SetLogBase, GetVringBase, GetConfig, GetSharedObject, GetInflightFd, GetMaxMemSlots, AddMemRegion, GetShmemConfig, SetDeviceStateFd, CheckDeviceState, PostcopyAdvise, PostcopyListen, PostcopyEnd, PostcopyAckMemRegions, SetHdrFlags}
+use Rattle.vhost_protocol.specs.FrontendCall.{FrontendCall, Value, GetFeatures, GetProtocolFeatures, GetQueueNum, SetMemTable, SetLogBase, GetVringBase, GetConfig, GetSharedObject, GetInflightFd, GetMaxMemSlots, AddMemRegion, GetShmemConfig, SetDeviceStateFd, CheckDeviceState, PostcopyAdvise, PostcopyListen, PostcopyEnd, PostcopyAckMemRegions}
 use Rattle.vhost_protocol.specs.declared.asked.Awaited.{Awaited}
 use Rattle.vhost_protocol.specs.declared.asked.Awaited.TheVariants.{Nobody, Reply}
 use Rattle.vhost_protocol.specs.declared.asked.Shape.{Shape}
@@ -32,8 +32,8 @@ pub replied : {call call' : FrontendCall PlainHandle} {A : Type 0} {value : A �
     → answer_of answer ≡ valued value outcome → awaits new ≡ Nobody
     → Takes event call' value (Reply shape) (fields_of sent.request) (endpoint_of old) (session_of old) outcome (endpoint_of new) (session_of new) → TakesWell call sent old answer new
 replied {call' = call'} {value = value} {shape} {outcome} {sent} {answer = answer} is replying shown nobody takes = renamed is (record {
-  taken = λ is_sent may kept. took-reply value (Reply shape) outcome (answer_of answer) (awaits-reply call' sent.awaited shape replying may) shown takes;
-  quiet = λ is_sent. nobody;
+  taken = λ may kept. took-reply value (Reply shape) outcome (answer_of answer) (awaits-reply call' sent.awaited shape replying may) shown takes;
+  quiet = nobody;
 })
 
 -- which calls are only acknowledged, and leave the session as it is
@@ -55,7 +55,6 @@ is_acked CheckDeviceState = false
 is_acked PostcopyAdvise = false
 is_acked PostcopyListen = false
 is_acked PostcopyEnd = false
-is_acked (SetHdrFlags flags) = false
 is_acked _ = true
 
 nobody-acked : (a : Awaited) → a ≡ Nobody → IsAck a
@@ -79,6 +78,5 @@ acked CheckDeviceState e = cc e
 acked PostcopyAdvise e = cc e
 acked PostcopyListen e = cc e
 acked PostcopyEnd e = cc e
-acked (SetHdrFlags flags) e = cc e
 acked (PostcopyAckMemRegions r) e = record { awaits = nobody-acked; shows = refl; keeps = λ f. refl }
 acked _ e = record { awaits = λ a may. may; shows = refl; keeps = λ f. refl }

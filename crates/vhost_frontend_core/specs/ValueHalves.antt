@@ -36,6 +36,11 @@ pub record IsProper {H : Type 0} (call : FrontendCall H) : Type 0 where
   pub bits : Fits call
   pub small : CallFits call
 
+-- what is awaited from then on: what was sent, or else what was awaited before
+abbrev pub awaited_after : Result (Option Sent) declared.Error → Awaited → Awaited
+awaited_after (Ok (Some sent)) before = sent.awaited
+awaited_after _ before = before
+
 -- A call was asked by its half: what is kept is what its answer needs, and where it was sent, it is made of numbers that fit.
 pub record AsksWell (call : FrontendCall PlainHandle) (old : FrontendInternal Ends PlainHandle) (result : Result Sent declared.Error) (new : FrontendInternal Ends PlainHandle) : Type 0 where
   pub asked : AsksHalfWithRoom event call old result new
@@ -50,9 +55,9 @@ TakesResult call awaited sent old f result new f' =
 
 -- The answer of a call was taken, of what its half that asks sent: this is the answer, and nothing is awaited.
 pub record TakesWell (call : FrontendCall PlainHandle) (sent : Sent) (old : FrontendInternal Ends PlainHandle) (answer : FrontendAnswer) (new : FrontendInternal Ends PlainHandle) : Type 0 where
-  pub taken : IsSent call → MayAwait call sent.awaited → IsKeptFor call sent.awaited sent.kept
+  pub taken : MayAwait call sent.awaited → IsKeptFor call sent.awaited sent.kept
       → TakesResult call sent.awaited (fields_of sent.request) (endpoint_of old) (session_of old) (answer_of answer) (endpoint_of new) (session_of new)
-  pub quiet : IsSent call → awaits new ≡ Nobody
+  pub quiet : awaits new ≡ Nobody
 
 module _ (call : FrontendCall PlainHandle) (old : FrontendInternal Ends PlainHandle) where
   -- A call was asked by its half; or nothing is sent for it, and it was done.

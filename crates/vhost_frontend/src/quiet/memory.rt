@@ -8,7 +8,7 @@ use vhost_backend::VhostUserMemoryRegionInfo;
 use vhost_link::Link;
 use vhost_message::Result;
 
-#[tactic(auto, using(crate::proofs::Whole::unasked))]
+#[tactic(auto, using(crate::proofs::Whole::unasked, crate::proofs::Whole::asked_awaits))]
 impl<L: Link> Quiet<L> {
     ghost use Rattle.vhost_frontend.specs.Whole.{Whole, WholeWithRoom};
 

@@ -18,7 +18,7 @@ use vhost_message::{
 };
 
 impl<L: Link> FrontendInternal<L> {
-    ghost use Rattle.vhost_frontend_core.specs.Frontend.{awaits};
+    ghost use Rattle.vhost_frontend_core.specs.Frontend.{awaits, MayAsk, IsAwaited};
     ghost use Rattle.vhost_frontend_core.specs.Halves.{AsksHalf, TakesAck};
 
     /// Changes the configuration space from this byte on.
@@ -30,6 +30,7 @@ impl<L: Link> FrontendInternal<L> {
         flags: VhostUserConfigFlags,
         buffer: &[u8],
     ) -> Result<Sent>
+        requires { MayAsk self.old }
         ensures { AsksHalf L.event (call.SetConfig offset (config_bits flags) buffer.now) self.old result self.new }
     {
         param(buffer.len() <= MAX_MSG_SIZE)?;
@@ -46,6 +47,7 @@ impl<L: Link> FrontendInternal<L> {
 
     /// Takes the acknowledgement, where there is one.
     pub fn take_set_config(&mut self, sent: Sent) -> Result<()>
+        requires { IsAwaited sent self.old }
         ensures taken { (offset flags : ℕ) (buffer : List ℕ) → TakesAck L.event (call.SetConfig offset flags buffer) sent self.old result self.new }
         ensures quiet { awaits self.new ≡ Nobody }
     {

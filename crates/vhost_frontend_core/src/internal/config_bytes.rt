@@ -32,7 +32,7 @@ const RECORD: usize = VhostUserConfig::SIZE;
 
 impl<L: Link> FrontendInternal<L> {
     ghost use Rattle.vhost_frontend_core.specs.Asking.{AsksWithRoom};
-    ghost use Rattle.vhost_frontend_core.specs.Frontend.{endpoint_of, session_of, awaits};
+    ghost use Rattle.vhost_frontend_core.specs.Frontend.{endpoint_of, session_of, awaits, MayAsk, IsAwaited};
     ghost use Rattle.vhost_frontend_core.specs.TakingConfig.{RecvsConfig};
     ghost use Rattle.vhost_frontend_core.specs.Halves.{AsksHalfWithRoom, TakesHalf};
 
@@ -47,6 +47,7 @@ impl<L: Link> FrontendInternal<L> {
         flags: VhostUserConfigFlags,
         buffer: &[u8],
     ) -> Result<Sent>
+        requires { MayAsk self.old }
         ensures asked { AsksHalfWithRoom L.event (call.GetConfig offset size (config_bits flags) buffer.now) self.old result self.new }
         ensures kept { IfOk result (λ sent. IsKeptFor {H = L.Handle} (call.GetConfig offset size (config_bits flags) buffer.now) sent.awaited sent.kept) }
     {
@@ -86,6 +87,7 @@ impl<L: Link> FrontendInternal<L> {
     /// BackendInternalError: the reply is bare, since the device has no such bytes. InvalidMessage: the reply is of another
     /// part, or has a handle.
     pub fn take_get_config(&mut self, sent: Sent) -> Result<(VhostUserConfig, Vec<u8>)>
+        requires { IsAwaited sent self.old }
         ensures taken { (offset size flags : ℕ) (buffer : List ℕ) → IsKeptFor {H = L.Handle} (call.GetConfig offset size flags buffer) (Reply shape.Config) sent.kept
             → TakesHalf L.event (call.GetConfig offset size flags buffer) (λ part. call.ConfigOf part.0 part.1.items) (Reply shape.Config) sent self.old result self.new }
         ensures quiet { awaits self.new ≡ Nobody }

@@ -19,11 +19,12 @@ use vhost_protocol::Shape;
 const KNOWN_FEATURES: u64 = 0x7f_ffff;
 
 impl<L: Link> FrontendInternal<L> {
-    ghost use Rattle.vhost_frontend_core.specs.Frontend.{awaits};
+    ghost use Rattle.vhost_frontend_core.specs.Frontend.{awaits, MayAsk, IsAwaited};
     ghost use Rattle.vhost_frontend_core.specs.Halves.{AsksHalf, TakesHalf, TakesAck};
 
     /// Asks for the virtio features that the device offers.
     pub fn ask_get_features(&mut self) -> Result<Sent>
+        requires { MayAsk self.old }
         ensures { AsksHalf L.event call.GetFeatures self.old result self.new }
     {
         self.ask(RecordCall::GetFeatures)
@@ -31,6 +32,7 @@ impl<L: Link> FrontendInternal<L> {
 
     /// Takes the features, and remembers them as offered.
     pub fn take_get_features(&mut self, sent: Sent) -> Result<u64>
+        requires { IsAwaited sent self.old }
         ensures taken { TakesHalf L.event call.GetFeatures call.Number (Reply shape.U64) sent self.old result self.new }
         ensures quiet { awaits self.new ≡ Nobody }
     {
@@ -45,6 +47,7 @@ impl<L: Link> FrontendInternal<L> {
 
     /// Acknowledges virtio features.
     pub fn ask_set_features(&mut self, features: u64) -> Result<Sent>
+        requires { MayAsk self.old }
         ensures asked { AsksHalf L.event (call.SetFeatures features) self.old result self.new }
         ensures fits { IfOk result (λ _. features < 2 ^ 64) }
     {
@@ -53,6 +56,7 @@ impl<L: Link> FrontendInternal<L> {
 
     /// Takes the acknowledgement, where there is one.
     pub fn take_set_features(&mut self, sent: Sent) -> Result<()>
+        requires { IsAwaited sent self.old }
         ensures taken { (features : ℕ) → TakesAck L.event (call.SetFeatures features) sent self.old result self.new }
         ensures quiet { awaits self.new ≡ Nobody }
     {
@@ -63,6 +67,7 @@ impl<L: Link> FrontendInternal<L> {
     ///
     /// InactiveFeature: it offers none.
     pub fn ask_get_protocol_features(&mut self) -> Result<Sent>
+        requires { MayAsk self.old }
         ensures { AsksHalf L.event call.GetProtocolFeatures self.old result self.new }
     {
         self.ask(RecordCall::GetProtocolFeatures)
@@ -70,6 +75,7 @@ impl<L: Link> FrontendInternal<L> {
 
     /// Takes the features; bits without a meaning are dropped.
     pub fn take_get_protocol_features(&mut self, sent: Sent) -> Result<VhostUserProtocolFeatures>
+        requires { IsAwaited sent self.old }
         ensures taken { TakesHalf L.event call.GetProtocolFeatures (λ features. call.Number features.bits) (Reply shape.U64) sent self.old result self.new }
         ensures quiet { awaits self.new ≡ Nobody }
     {
@@ -83,6 +89,7 @@ impl<L: Link> FrontendInternal<L> {
     ///
     /// InactiveFeature: the device offers none.
     pub fn ask_set_protocol_features(&mut self, features: VhostUserProtocolFeatures) -> Result<Sent>
+        requires { MayAsk self.old }
         ensures asked { AsksHalf L.event (call.SetProtocolFeatures features.bits) self.old result self.new }
         ensures fits { IfOk result (λ _. features.bits < 2 ^ 64) }
     {
@@ -91,6 +98,7 @@ impl<L: Link> FrontendInternal<L> {
 
     /// Takes the acknowledgement, where there is one.
     pub fn take_set_protocol_features(&mut self, sent: Sent) -> Result<()>
+        requires { IsAwaited sent self.old }
         ensures taken { (features : ℕ) → TakesAck L.event (call.SetProtocolFeatures features) sent self.old result self.new }
         ensures quiet { awaits self.new ≡ Nobody }
     {
@@ -101,6 +109,7 @@ impl<L: Link> FrontendInternal<L> {
     ///
     /// InactiveOperation: MQ is not acknowledged.
     pub fn ask_get_queue_num(&mut self) -> Result<Sent>
+        requires { MayAsk self.old }
         ensures { AsksHalf L.event call.GetQueueNum self.old result self.new }
     {
         self.ask(RecordCall::GetQueueNum)
@@ -110,6 +119,7 @@ impl<L: Link> FrontendInternal<L> {
     ///
     /// InvalidMessage: it is greater than 0x8000; the old number stays.
     pub fn take_get_queue_num(&mut self, sent: Sent) -> Result<u64>
+        requires { IsAwaited sent self.old }
         ensures taken { TakesHalf L.event call.GetQueueNum call.Number (Reply shape.U64) sent self.old result self.new }
         ensures quiet { awaits self.new ≡ Nobody }
     {

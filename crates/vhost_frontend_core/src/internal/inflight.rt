@@ -15,13 +15,14 @@ use vhost_message::{Result, VhostUserInflight};
 use vhost_protocol::Shape;
 
 impl<L: Link> FrontendInternal<L> {
-    ghost use Rattle.vhost_frontend_core.specs.Frontend.{awaits};
+    ghost use Rattle.vhost_frontend_core.specs.Frontend.{awaits, MayAsk, IsAwaited};
     ghost use Rattle.vhost_frontend_core.specs.Halves.{AsksHalf, TakesHalf, TakesAck};
 
     /// Asks for the buffer.
     ///
     /// InactiveOperation: INFLIGHT_SHMFD is not acknowledged.
     pub fn ask_get_inflight_fd(&mut self, inflight: &VhostUserInflight) -> Result<Sent>
+        requires { MayAsk self.old }
         ensures { AsksHalf L.event (call.GetInflightFd inflight.now) self.old result self.new }
     {
         self.ask(RecordCall::GetInflightFd(*inflight))
@@ -31,6 +32,7 @@ impl<L: Link> FrontendInternal<L> {
     ///
     /// InvalidMessage: no handle came. IncorrectFds: several did.
     pub fn take_get_inflight_fd(&mut self, sent: Sent) -> Result<(VhostUserInflight, L::Handle)>
+        requires { IsAwaited sent self.old }
         ensures taken { (asked : VhostUserInflight) → TakesHalf L.event (call.GetInflightFd asked) (λ buffer. call.InflightOf buffer.0 buffer.1) (Reply shape.Inflight) sent self.old result self.new }
         ensures quiet { awaits self.new ≡ Nobody }
     {
@@ -49,6 +51,7 @@ impl<L: Link> FrontendInternal<L> {
         inflight: &VhostUserInflight,
         handle: &L::Handle,
     ) -> Result<Sent>
+        requires { MayAsk self.old }
         ensures { AsksHalf L.event (call.SetInflightFd inflight.now handle.now) self.old result self.new }
     {
         self.ask_with(HandleCall::SetInflightFd(*inflight), handle)
@@ -56,6 +59,7 @@ impl<L: Link> FrontendInternal<L> {
 
     /// Takes the acknowledgement, where there is one.
     pub fn take_set_inflight_fd(&mut self, sent: Sent) -> Result<()>
+        requires { IsAwaited sent self.old }
         ensures taken { (inflight : VhostUserInflight) (handle : L.Handle) → TakesAck L.event (call.SetInflightFd inflight handle) sent self.old result self.new }
         ensures quiet { awaits self.new ≡ Nobody }
     {

@@ -16,7 +16,7 @@ use vhost_message::{Error, FrontendReq, Result, VhostUserLog, has_bit, protocol_
 use vhost_protocol::{Awaited, Shape};
 
 impl<L: Link> FrontendInternal<L> {
-    ghost use Rattle.vhost_frontend_core.specs.Frontend.{awaits};
+    ghost use Rattle.vhost_frontend_core.specs.Frontend.{awaits, MayAsk, IsAwaited};
     ghost use Rattle.vhost_frontend_core.specs.Halves.{AsksHalf, TakesHalf, TakesAck};
 
     /// Says where the log lies: at this base, or in this region where shared memory is agreed on.
@@ -27,6 +27,7 @@ impl<L: Link> FrontendInternal<L> {
         base: u64,
         region: Option<VhostUserDirtyLogRegion<L::Handle>>,
     ) -> Result<Sent>
+        requires { MayAsk self.old }
         ensures { AsksHalf L.event (call.SetLogBase base (log_region_in region.entry)) self.old result self.new }
     {
         let Some(area) = region else {
@@ -49,6 +50,7 @@ impl<L: Link> FrontendInternal<L> {
     ///
     /// InvalidMessage: the area in the reply is not valid.
     pub fn take_set_log_base(&mut self, sent: Sent) -> Result<()>
+        requires { IsAwaited sent self.old }
         ensures area { (base : ℕ) (region : Option (LogRegion L.Handle)) → sent.awaited ≡ Reply shape.Log
             → TakesHalf L.event (call.SetLogBase base region) (λ _. call.Nothing) (Reply shape.Log) sent self.old result self.new }
         ensures base { (base : ℕ) (region : Option (LogRegion L.Handle)) → sent.awaited ≡ Nobody
@@ -66,6 +68,7 @@ impl<L: Link> FrontendInternal<L> {
 
     /// Gives the handle by which the device tells that it logged.
     pub fn ask_set_log_fd(&mut self, handle: &L::Handle) -> Result<Sent>
+        requires { MayAsk self.old }
         ensures { AsksHalf L.event (call.SetLogFd handle.now) self.old result self.new }
     {
         self.ask_with(HandleCall::SetLogFd, handle)
@@ -73,6 +76,7 @@ impl<L: Link> FrontendInternal<L> {
 
     /// Takes the acknowledgement, where there is one.
     pub fn take_set_log_fd(&mut self, sent: Sent) -> Result<()>
+        requires { IsAwaited sent self.old }
         ensures taken { (handle : L.Handle) → TakesAck L.event (call.SetLogFd handle) sent self.old result self.new }
         ensures quiet { awaits self.new ≡ Nobody }
     {

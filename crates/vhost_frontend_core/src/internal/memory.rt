@@ -25,7 +25,7 @@ use vhost_message::{
 use vhost_protocol::{Awaited, Shape};
 
 impl<L: Link> FrontendInternal<L> {
-    ghost use Rattle.vhost_frontend_core.specs.Frontend.{awaits};
+    ghost use Rattle.vhost_frontend_core.specs.Frontend.{awaits, MayAsk, IsAwaited};
     ghost use Rattle.vhost_frontend_core.specs.Taking.{IsAck};
     ghost use Rattle.vhost_frontend_core.specs.Halves.{AsksHalf, TakesHalf, TakesAck};
 
@@ -33,6 +33,7 @@ impl<L: Link> FrontendInternal<L> {
     ///
     /// InactiveOperation: CONFIGURE_MEM_SLOTS is not acknowledged.
     pub fn ask_get_max_mem_slots(&mut self) -> Result<Sent>
+        requires { MayAsk self.old }
         ensures { AsksHalf L.event call.GetMaxMemSlots self.old result self.new }
     {
         self.ask(RecordCall::GetMaxMemSlots)
@@ -40,6 +41,7 @@ impl<L: Link> FrontendInternal<L> {
 
     /// Takes the number.
     pub fn take_get_max_mem_slots(&mut self, sent: Sent) -> Result<u64>
+        requires { IsAwaited sent self.old }
         ensures taken { TakesHalf L.event call.GetMaxMemSlots call.Number (Reply shape.U64) sent self.old result self.new }
         ensures quiet { awaits self.new ≡ Nobody }
     {
@@ -57,6 +59,7 @@ impl<L: Link> FrontendInternal<L> {
         &mut self,
         region: &VhostUserMemoryRegionInfo<L::Handle>,
     ) -> Result<Sent>
+        requires { MayAsk self.old }
         ensures asked { AsksHalf L.event (call.AddMemRegion (info_in region.now)) self.old result self.new }
         ensures kept { IfOk result (λ sent. sent.kept ≡ Region (region_in region.now)) }
     {
@@ -83,6 +86,7 @@ impl<L: Link> FrontendInternal<L> {
     ///
     /// InvalidMessage: the reply is of another region.
     pub fn take_add_mem_region(&mut self, sent: Sent) -> Result<Option<u64>>
+        requires { IsAwaited sent self.old }
         ensures mapped { (info : call.Info L.Handle) → sent.kept ≡ Region info.region → sent.awaited ≡ Reply shape.SingleMemoryRegion
             → TakesHalf L.event (call.AddMemRegion info) call.Base (Reply shape.SingleMemoryRegion) sent self.old result self.new }
         ensures acked { (info : call.Info L.Handle) → IsAck sent.awaited → TakesHalf L.event (call.AddMemRegion info) call.Base sent.awaited sent self.old result self.new }
@@ -120,6 +124,7 @@ impl<L: Link> FrontendInternal<L> {
         &mut self,
         region: &VhostUserMemoryRegionInfo<L::Handle>,
     ) -> Result<Sent>
+        requires { MayAsk self.old }
         ensures { AsksHalf L.event (call.RemoveMemRegion (info_in region.now)) self.old result self.new }
     {
         self.ask(RecordCall::RemoveMemRegion(region.to_region()))
@@ -127,6 +132,7 @@ impl<L: Link> FrontendInternal<L> {
 
     /// Takes the acknowledgement, where there is one.
     pub fn take_remove_mem_region(&mut self, sent: Sent) -> Result<()>
+        requires { IsAwaited sent self.old }
         ensures taken { (info : call.Info L.Handle) → TakesAck L.event (call.RemoveMemRegion info) sent self.old result self.new }
         ensures quiet { awaits self.new ≡ Nobody }
     {

@@ -11,13 +11,14 @@ use vhost_link::Link;
 use vhost_message::Result;
 
 impl<L: Link> FrontendInternal<L> {
-    ghost use Rattle.vhost_frontend_core.specs.Frontend.{awaits};
+    ghost use Rattle.vhost_frontend_core.specs.Frontend.{awaits, MayAsk, IsAwaited};
     ghost use Rattle.vhost_frontend_core.specs.Halves.{AsksHalf, TakesAck};
 
     /// Tells the greatest size of a packet, in bytes.
     ///
     /// InactiveOperation: MTU is not acknowledged.
     pub fn ask_set_mtu(&mut self, mtu: u16) -> Result<Sent>
+        requires { MayAsk self.old }
         ensures { AsksHalf L.event (call.SetMtu mtu) self.old result self.new }
     {
         self.ask(RecordCall::SetMtu(mtu))
@@ -25,6 +26,7 @@ impl<L: Link> FrontendInternal<L> {
 
     /// Takes the acknowledgement, where there is one.
     pub fn take_set_mtu(&mut self, sent: Sent) -> Result<()>
+        requires { IsAwaited sent self.old }
         ensures taken { (mtu : ℕ) → TakesAck L.event (call.SetMtu mtu) sent self.old result self.new }
         ensures quiet { awaits self.new ≡ Nobody }
     {

@@ -15,7 +15,7 @@ use vhost_protocol::Awaited;
 
 impl<L: Link> FrontendInternal<L> {
     ghost use Rattle.vhost_frontend_core.specs.Asking.{AsksWithRoom};
-    ghost use Rattle.vhost_frontend_core.specs.Frontend.{endpoint_of, session_of, awaits};
+    ghost use Rattle.vhost_frontend_core.specs.Frontend.{endpoint_of, session_of, awaits, MayAsk, IsAwaited};
     ghost use Rattle.vhost_frontend_core.specs.Plan.{planned as planned_as};
     ghost use Rattle.vhost_frontend_core.specs.Halves.{AsksHalf, AsksHalfWithRoom, TakesHalf, TakesAck};
     ghost use Rattle.vhost_frontend_core.specs.Kept.{KeepsPlace};
@@ -24,6 +24,7 @@ impl<L: Link> FrontendInternal<L> {
     ///
     /// InactiveOperation: SHARED_OBJECT is not acknowledged. InvalidParam: the name is not valid.
     pub fn ask_get_shared_object(&mut self, name: &VhostUserSharedMsg) -> Result<Sent>
+        requires { MayAsk self.old }
         ensures { AsksHalf L.event (call.GetSharedObject name.now) self.old result self.new }
     {
         self.ask(RecordCall::GetSharedObject(*name))
@@ -33,6 +34,7 @@ impl<L: Link> FrontendInternal<L> {
     ///
     /// InvalidMessage: none came. IncorrectFds: several did.
     pub fn take_get_shared_object(&mut self, sent: Sent) -> Result<L::Handle>
+        requires { IsAwaited sent self.old }
         ensures taken { (name : VhostUserSharedMsg) → TakesHalf L.event (call.GetSharedObject name) call.HandleOf (Reply shape.Empty) sent self.old result self.new }
         ensures quiet { awaits self.new ≡ Nobody }
     {
@@ -46,6 +48,7 @@ impl<L: Link> FrontendInternal<L> {
     ///
     /// InactiveOperation: SHMEM is not acknowledged.
     pub fn ask_get_shmem_config(&mut self) -> Result<Sent>
+        requires { MayAsk self.old }
         ensures { AsksHalf L.event call.GetShmemConfig self.old result self.new }
     {
         self.ask(RecordCall::GetShmemConfig)
@@ -53,6 +56,7 @@ impl<L: Link> FrontendInternal<L> {
 
     /// Takes the regions.
     pub fn take_get_shmem_config(&mut self, sent: Sent) -> Result<VhostUserShMemConfig>
+        requires { IsAwaited sent self.old }
         ensures taken { TakesHalf L.event call.GetShmemConfig call.ShmemOf (Reply shape.ShMemConfig) sent self.old result self.new }
         ensures quiet { awaits self.new ≡ Nobody }
     {
@@ -67,6 +71,7 @@ impl<L: Link> FrontendInternal<L> {
     /// InactiveOperation: SHMEM is not acknowledged. OutOfMemory: a growth was refused, and nothing changed.
     #[inline(never)]
     pub fn ask_get_shmem_config_with_place(&mut self) -> Result<Sent>
+        requires { MayAsk self.old }
         ensures asked { AsksHalfWithRoom L.event call.GetShmemConfig self.old result self.new }
         ensures kept { IfOk result (λ sent. KeepsPlace sent.kept) }
     {
@@ -100,16 +105,17 @@ impl<L: Link> FrontendInternal<L> {
         &mut self,
         sent: Sent,
     ) -> Result<Box<VhostUserShMemConfig>>
+        requires { IsAwaited sent self.old }
         ensures taken { KeepsPlace sent.kept → TakesHalf L.event call.GetShmemConfig (λ place. call.ShmemOf place.value) (Reply shape.ShMemConfig) sent self.old result self.new }
         ensures quiet { awaits self.new ≡ Nobody }
     {
-        self.awaited = Awaited::Nobody;
         let Sent {
             request,
             awaited,
             kept,
         } = sent;
         let Kept::Place(mut place) = kept else {
+            self.awaited = Awaited::Nobody;
             return Err(Error::InvalidMessage);
         };
         match self.take_get_shmem_config(Sent::new(request, awaited)) {
@@ -125,6 +131,7 @@ impl<L: Link> FrontendInternal<L> {
     ///
     /// InactiveOperation: BACKEND_REQ is not acknowledged.
     pub fn ask_set_backend_request_fd(&mut self, handle: &L::Handle) -> Result<Sent>
+        requires { MayAsk self.old }
         ensures { AsksHalf L.event (call.SetBackendRequestFd handle.now) self.old result self.new }
     {
         self.ask_with(HandleCall::SetBackendRequestFd, handle)
@@ -132,6 +139,7 @@ impl<L: Link> FrontendInternal<L> {
 
     /// Takes the acknowledgement, where there is one.
     pub fn take_set_backend_request_fd(&mut self, sent: Sent) -> Result<()>
+        requires { IsAwaited sent self.old }
         ensures taken { (handle : L.Handle) → TakesAck L.event (call.SetBackendRequestFd handle) sent self.old result self.new }
         ensures quiet { awaits self.new ≡ Nobody }
     {

@@ -11,11 +11,12 @@ use vhost_link::Link;
 use vhost_message::Result;
 
 impl<L: Link> FrontendInternal<L> {
-    ghost use Rattle.vhost_frontend_core.specs.Frontend.{awaits};
+    ghost use Rattle.vhost_frontend_core.specs.Frontend.{awaits, MayAsk, IsAwaited};
     ghost use Rattle.vhost_frontend_core.specs.Halves.{AsksHalf, TakesAck};
 
     /// Asks to become the owner of the session.
     pub fn ask_set_owner(&mut self) -> Result<Sent>
+        requires { MayAsk self.old }
         ensures { AsksHalf L.event call.SetOwner self.old result self.new }
     {
         self.ask(RecordCall::SetOwner)
@@ -23,6 +24,7 @@ impl<L: Link> FrontendInternal<L> {
 
     /// Takes the acknowledgement, where there is one.
     pub fn take_set_owner(&mut self, sent: Sent) -> Result<()>
+        requires { IsAwaited sent self.old }
         ensures taken { TakesAck L.event call.SetOwner sent self.old result self.new }
         ensures quiet { awaits self.new ≡ Nobody }
     {
@@ -31,6 +33,7 @@ impl<L: Link> FrontendInternal<L> {
 
     /// Gives the session up.
     pub fn ask_reset_owner(&mut self) -> Result<Sent>
+        requires { MayAsk self.old }
         ensures { AsksHalf L.event call.ResetOwner self.old result self.new }
     {
         self.ask(RecordCall::ResetOwner)
@@ -38,6 +41,7 @@ impl<L: Link> FrontendInternal<L> {
 
     /// Takes the acknowledgement, where there is one.
     pub fn take_reset_owner(&mut self, sent: Sent) -> Result<()>
+        requires { IsAwaited sent self.old }
         ensures taken { TakesAck L.event call.ResetOwner sent self.old result self.new }
         ensures quiet { awaits self.new ≡ Nobody }
     {
@@ -48,6 +52,7 @@ impl<L: Link> FrontendInternal<L> {
     ///
     /// InactiveOperation: RESET_DEVICE is not acknowledged.
     pub fn ask_reset_device(&mut self) -> Result<Sent>
+        requires { MayAsk self.old }
         ensures { AsksHalf L.event call.ResetDevice self.old result self.new }
     {
         self.ask(RecordCall::ResetDevice)
@@ -55,6 +60,7 @@ impl<L: Link> FrontendInternal<L> {
 
     /// Takes the acknowledgement, where there is one.
     pub fn take_reset_device(&mut self, sent: Sent) -> Result<()>
+        requires { IsAwaited sent self.old }
         ensures taken { TakesAck L.event call.ResetDevice sent self.old result self.new }
         ensures quiet { awaits self.new ≡ Nobody }
     {

@@ -15,13 +15,14 @@ use vhost_message::{FrontendReq, PostcopyState, Result, VhostUserEmpty};
 use vhost_protocol::{Awaited, Shape};
 
 impl<L: Link> FrontendInternal<L> {
-    ghost use Rattle.vhost_frontend_core.specs.Frontend.{awaits};
+    ghost use Rattle.vhost_frontend_core.specs.Frontend.{awaits, MayAsk, IsAwaited};
     ghost use Rattle.vhost_frontend_core.specs.Halves.{AsksHalf, TakesHalf, TakesAck};
 
     /// Tells that postcopy is going to begin, and asks for the handle of page faults.
     ///
     /// InactiveOperation: PAGEFAULT is not acknowledged.
     pub fn ask_postcopy_advise(&mut self) -> Result<Sent>
+        requires { MayAsk self.old }
         ensures { AsksHalf L.event call.PostcopyAdvise self.old result self.new }
     {
         self.ask(RecordCall::PostcopyAdvise)
@@ -31,6 +32,7 @@ impl<L: Link> FrontendInternal<L> {
     ///
     /// InvalidMessage: none came. IncorrectFds: several did.
     pub fn take_postcopy_advise(&mut self, sent: Sent) -> Result<L::Handle>
+        requires { IsAwaited sent self.old }
         ensures taken { TakesHalf L.event call.PostcopyAdvise call.HandleOf (Reply shape.Empty) sent self.old result self.new }
         ensures quiet { awaits self.new ≡ Nobody }
     {
@@ -47,6 +49,7 @@ impl<L: Link> FrontendInternal<L> {
     ///
     /// InactiveOperation: PAGEFAULT is not acknowledged.
     pub fn ask_postcopy_listen(&mut self) -> Result<Sent>
+        requires { MayAsk self.old }
         ensures { AsksHalf L.event call.PostcopyListen self.old result self.new }
     {
         self.ask(RecordCall::PostcopyListen)
@@ -54,6 +57,7 @@ impl<L: Link> FrontendInternal<L> {
 
     /// Takes the acknowledgement, where there is one. The device listens from now on.
     pub fn take_postcopy_listen(&mut self, sent: Sent) -> Result<()>
+        requires { IsAwaited sent self.old }
         ensures taken { TakesAck L.event call.PostcopyListen sent self.old result self.new }
         ensures quiet { awaits self.new ≡ Nobody }
     {
@@ -70,6 +74,7 @@ impl<L: Link> FrontendInternal<L> {
     ///
     /// InactiveOperation: PAGEFAULT is not acknowledged.
     pub fn ask_postcopy_end(&mut self) -> Result<Sent>
+        requires { MayAsk self.old }
         ensures { AsksHalf L.event call.PostcopyEnd self.old result self.new }
     {
         self.ask(RecordCall::PostcopyEnd)
@@ -77,6 +82,7 @@ impl<L: Link> FrontendInternal<L> {
 
     /// Takes the acknowledgement, where there is one. Postcopy has ended from now on.
     pub fn take_postcopy_end(&mut self, sent: Sent) -> Result<()>
+        requires { IsAwaited sent self.old }
         ensures taken { TakesAck L.event call.PostcopyEnd sent self.old result self.new }
         ensures quiet { awaits self.new ≡ Nobody }
     {
@@ -94,6 +100,7 @@ impl<L: Link> FrontendInternal<L> {
     ///
     /// InvalidParam: it is another request.
     pub fn ask_postcopy_ack_mem_regions(&mut self, code: FrontendReq) -> Result<Sent>
+        requires { MayAsk self.old }
         ensures { AsksHalf L.event (call.PostcopyAckMemRegions code) self.old result self.new }
     {
         self.ask(RecordCall::PostcopyAckMemRegions(code))
@@ -101,6 +108,7 @@ impl<L: Link> FrontendInternal<L> {
 
     /// Nothing is to be taken.
     pub fn take_postcopy_ack_mem_regions(&mut self, sent: Sent) -> Result<()>
+        requires { IsAwaited sent self.old }
         ensures taken { (code : FrontendReq) → sent.awaited ≡ Nobody → TakesHalf L.event (call.PostcopyAckMemRegions code) (λ _. call.Nothing) Nobody sent self.old result self.new }
         ensures quiet { awaits self.new ≡ Nobody }
     {

@@ -11,13 +11,14 @@ use vhost_link::Link;
 use vhost_message::Result;
 
 impl<L: Link> FrontendInternal<L> {
-    ghost use Rattle.vhost_frontend_core.specs.Frontend.{awaits};
+    ghost use Rattle.vhost_frontend_core.specs.Frontend.{awaits, MayAsk, IsAwaited};
     ghost use Rattle.vhost_frontend_core.specs.Halves.{AsksHalf, TakesAck};
 
     /// Gives the handle by which the device tells that it used descriptors.
     ///
     /// InvalidParam: the device has no queue of this index, or the index is greater than 255.
     pub fn ask_set_vring_call(&mut self, index: usize, handle: &L::Handle) -> Result<Sent>
+        requires { MayAsk self.old }
         ensures { AsksHalf L.event (call.SetVringCall index handle.now) self.old result self.new }
     {
         self.ask_with(HandleCall::SetVringCall(index), handle)
@@ -25,6 +26,7 @@ impl<L: Link> FrontendInternal<L> {
 
     /// Takes the acknowledgement, where there is one.
     pub fn take_set_vring_call(&mut self, sent: Sent) -> Result<()>
+        requires { IsAwaited sent self.old }
         ensures taken { (index : ℕ) (handle : L.Handle) → TakesAck L.event (call.SetVringCall index handle) sent self.old result self.new }
         ensures quiet { awaits self.new ≡ Nobody }
     {
@@ -35,6 +37,7 @@ impl<L: Link> FrontendInternal<L> {
     ///
     /// InvalidParam: the device has no queue of this index, or the index is greater than 255.
     pub fn ask_set_vring_kick(&mut self, index: usize, handle: &L::Handle) -> Result<Sent>
+        requires { MayAsk self.old }
         ensures { AsksHalf L.event (call.SetVringKick index handle.now) self.old result self.new }
     {
         self.ask_with(HandleCall::SetVringKick(index), handle)
@@ -42,6 +45,7 @@ impl<L: Link> FrontendInternal<L> {
 
     /// Takes the acknowledgement, where there is one.
     pub fn take_set_vring_kick(&mut self, sent: Sent) -> Result<()>
+        requires { IsAwaited sent self.old }
         ensures taken { (index : ℕ) (handle : L.Handle) → TakesAck L.event (call.SetVringKick index handle) sent self.old result self.new }
         ensures quiet { awaits self.new ≡ Nobody }
     {
@@ -52,6 +56,7 @@ impl<L: Link> FrontendInternal<L> {
     ///
     /// InvalidParam: the device has no queue of this index, or the index is greater than 255.
     pub fn ask_set_vring_err(&mut self, index: usize, handle: &L::Handle) -> Result<Sent>
+        requires { MayAsk self.old }
         ensures { AsksHalf L.event (call.SetVringErr index handle.now) self.old result self.new }
     {
         self.ask_with(HandleCall::SetVringErr(index), handle)
@@ -59,6 +64,7 @@ impl<L: Link> FrontendInternal<L> {
 
     /// Takes the acknowledgement, where there is one.
     pub fn take_set_vring_err(&mut self, sent: Sent) -> Result<()>
+        requires { IsAwaited sent self.old }
         ensures taken { (index : ℕ) (handle : L.Handle) → TakesAck L.event (call.SetVringErr index handle) sent self.old result self.new }
         ensures quiet { awaits self.new ≡ Nobody }
     {

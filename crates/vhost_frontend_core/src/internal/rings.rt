@@ -14,13 +14,14 @@ use vhost_message::{Result, VhostUserVringState, VringConfigData};
 use vhost_protocol::Shape;
 
 impl<L: Link> FrontendInternal<L> {
-    ghost use Rattle.vhost_frontend_core.specs.Frontend.{awaits};
+    ghost use Rattle.vhost_frontend_core.specs.Frontend.{awaits, MayAsk, IsAwaited};
     ghost use Rattle.vhost_frontend_core.specs.Halves.{AsksHalf, TakesHalf, TakesAck};
 
     /// Sets a ring's size, in descriptors.
     ///
     /// InvalidParam: the device has no queue of this index, or the index has more than 32 bits.
     pub fn ask_set_vring_num(&mut self, index: usize, num: u16) -> Result<Sent>
+        requires { MayAsk self.old }
         ensures { AsksHalf L.event (call.SetVringNum index num) self.old result self.new }
     {
         self.ask(RecordCall::SetVringNum(index, num))
@@ -28,6 +29,7 @@ impl<L: Link> FrontendInternal<L> {
 
     /// Takes the acknowledgement, where there is one.
     pub fn take_set_vring_num(&mut self, sent: Sent) -> Result<()>
+        requires { IsAwaited sent self.old }
         ensures taken { (index num : ℕ) → TakesAck L.event (call.SetVringNum index num) sent self.old result self.new }
         ensures quiet { awaits self.new ≡ Nobody }
     {
@@ -38,6 +40,7 @@ impl<L: Link> FrontendInternal<L> {
     ///
     /// InvalidParam: the device has no queue of this index, or the index has more than 32 bits.
     pub fn ask_set_vring_base(&mut self, index: usize, base: u16) -> Result<Sent>
+        requires { MayAsk self.old }
         ensures { AsksHalf L.event (call.SetVringBase index base) self.old result self.new }
     {
         self.ask(RecordCall::SetVringBase(index, base))
@@ -45,6 +48,7 @@ impl<L: Link> FrontendInternal<L> {
 
     /// Takes the acknowledgement, where there is one.
     pub fn take_set_vring_base(&mut self, sent: Sent) -> Result<()>
+        requires { IsAwaited sent self.old }
         ensures taken { (index base : ℕ) → TakesAck L.event (call.SetVringBase index base) sent self.old result self.new }
         ensures quiet { awaits self.new ≡ Nobody }
     {
@@ -59,6 +63,7 @@ impl<L: Link> FrontendInternal<L> {
         index: usize,
         config_data: &VringConfigData,
     ) -> Result<Sent>
+        requires { MayAsk self.old }
         ensures { AsksHalf L.event (call.SetVringAddr index config_data.now) self.old result self.new }
     {
         self.ask(RecordCall::SetVringAddr(index, *config_data))
@@ -66,6 +71,7 @@ impl<L: Link> FrontendInternal<L> {
 
     /// Takes the acknowledgement, where there is one.
     pub fn take_set_vring_addr(&mut self, sent: Sent) -> Result<()>
+        requires { IsAwaited sent self.old }
         ensures taken { (index : ℕ) (config : VringConfigData) → TakesAck L.event (call.SetVringAddr index config) sent self.old result self.new }
         ensures quiet { awaits self.new ≡ Nobody }
     {
@@ -76,6 +82,7 @@ impl<L: Link> FrontendInternal<L> {
     ///
     /// InvalidParam: the device has no queue of this index, or the index has more than 32 bits.
     pub fn ask_get_vring_base(&mut self, index: usize) -> Result<Sent>
+        requires { MayAsk self.old }
         ensures { AsksHalf L.event (call.GetVringBase index) self.old result self.new }
     {
         self.ask(RecordCall::GetVringBase(index))
@@ -83,6 +90,7 @@ impl<L: Link> FrontendInternal<L> {
 
     /// Takes the ring's next descriptor.
     pub fn take_get_vring_base(&mut self, sent: Sent) -> Result<u32>
+        requires { IsAwaited sent self.old }
         ensures taken { (index : ℕ) → TakesHalf L.event (call.GetVringBase index) call.Number (Reply shape.VringState) sent self.old result self.new }
         ensures quiet { awaits self.new ≡ Nobody }
     {
@@ -96,6 +104,7 @@ impl<L: Link> FrontendInternal<L> {
     ///
     /// InactiveFeature: the protocol features are not acknowledged. InvalidParam: the device has no queue of this index, or the index has more than 32 bits.
     pub fn ask_set_vring_enable(&mut self, index: usize, enable: bool) -> Result<Sent>
+        requires { MayAsk self.old }
         ensures { AsksHalf L.event (call.SetVringEnable index enable) self.old result self.new }
     {
         self.ask(RecordCall::SetVringEnable(index, enable))
@@ -103,6 +112,7 @@ impl<L: Link> FrontendInternal<L> {
 
     /// Takes the acknowledgement, where there is one.
     pub fn take_set_vring_enable(&mut self, sent: Sent) -> Result<()>
+        requires { IsAwaited sent self.old }
         ensures taken { (index : ℕ) (enable : Bool) → TakesAck L.event (call.SetVringEnable index enable) sent self.old result self.new }
         ensures quiet { awaits self.new ≡ Nobody }
     {

@@ -26,7 +26,7 @@ use vhost_protocol::{Awaited, Shape};
 impl<L: Link> FrontendInternal<L> {
     ghost use Rattle.vhost_connection.specs.Asking.{request_with};
     ghost use Rattle.vhost_frontend_core.specs.Asking.{AsksWithRoom, Tries};
-    ghost use Rattle.vhost_frontend_core.specs.Frontend.{endpoint_of, session_of, awaits};
+    ghost use Rattle.vhost_frontend_core.specs.Frontend.{endpoint_of, session_of, awaits, MayAsk, IsAwaited};
     ghost use Rattle.vhost_frontend_core.specs.Taking.{IsAck, RecvsTable};
     ghost use Rattle.vhost_frontend_core.specs.Halves.{AsksHalfWithRoom, TakesHalf};
 
@@ -38,6 +38,7 @@ impl<L: Link> FrontendInternal<L> {
         &mut self,
         regions: &[VhostUserMemoryRegionInfo<L::Handle>],
     ) -> Result<Sent>
+        requires { MayAsk self.old }
         ensures asked { AsksHalfWithRoom L.event (call.SetMemTable (infos_in regions.now)) self.old result self.new }
         ensures kept { IfOk result (λ sent. IsKeptFor {H = L.Handle} (call.SetMemTable (infos_in regions.now)) sent.awaited sent.kept) }
     {
@@ -111,6 +112,7 @@ impl<L: Link> FrontendInternal<L> {
     ///
     /// InvalidMessage: the reply is of other regions.
     pub fn take_set_mem_table(&mut self, sent: Sent) -> Result<Option<Vec<u64>>>
+        requires { IsAwaited sent self.old }
         ensures mapped { (infos : List (call.Info L.Handle)) → IsKeptFor {H = L.Handle} (call.SetMemTable infos) (Reply shape.Memory) sent.kept → sent.awaited ≡ Reply shape.Memory
             → TakesHalf L.event (call.SetMemTable infos) (λ bases. call.Bases (bases_seen bases)) (Reply shape.Memory) sent self.old result self.new }
         ensures acked { (infos : List (call.Info L.Handle)) → IsAck sent.awaited

@@ -22,7 +22,7 @@ use vhost_message::{
 use vhost_protocol::Shape;
 
 impl<L: Link> FrontendInternal<L> {
-    ghost use Rattle.vhost_frontend_core.specs.Frontend.{awaits};
+    ghost use Rattle.vhost_frontend_core.specs.Frontend.{awaits, MayAsk, IsAwaited};
     ghost use Rattle.vhost_frontend_core.specs.Halves.{AsksHalf, TakesHalf};
 
     /// Begins a transfer over this handle.
@@ -34,6 +34,7 @@ impl<L: Link> FrontendInternal<L> {
         phase: VhostTransferStatePhase,
         handle: &L::Handle,
     ) -> Result<Sent>
+        requires { MayAsk self.old }
         ensures { AsksHalf L.event (call.SetDeviceStateFd (record { direction = direction_number direction; phase = phase_number phase }) handle.now) self.old result self.new }
     {
         let transfer = VhostUserTransferDeviceState::new(direction, phase);
@@ -44,6 +45,7 @@ impl<L: Link> FrontendInternal<L> {
     ///
     /// BackendInternalError: the device failed. IncorrectFds: several handles came.
     pub fn take_set_device_state_fd(&mut self, sent: Sent) -> Result<Option<L::Handle>>
+        requires { IsAwaited sent self.old }
         ensures taken { (transfer : VhostUserTransferDeviceState) (handle : L.Handle) → TakesHalf L.event (call.SetDeviceStateFd transfer handle) call.StateHandle (Reply shape.U64) sent self.old result self.new }
         ensures quiet { awaits self.new ≡ Nobody }
     {
@@ -57,6 +59,7 @@ impl<L: Link> FrontendInternal<L> {
     ///
     /// InactiveOperation: DEVICE_STATE is not acknowledged.
     pub fn ask_check_device_state(&mut self) -> Result<Sent>
+        requires { MayAsk self.old }
         ensures { AsksHalf L.event call.CheckDeviceState self.old result self.new }
     {
         self.ask(RecordCall::CheckDeviceState)
@@ -66,6 +69,7 @@ impl<L: Link> FrontendInternal<L> {
     ///
     /// BackendInternalError: it failed.
     pub fn take_check_device_state(&mut self, sent: Sent) -> Result<()>
+        requires { IsAwaited sent self.old }
         ensures taken { TakesHalf L.event call.CheckDeviceState (λ _. call.Nothing) (Reply shape.U64) sent self.old result self.new }
         ensures quiet { awaits self.new ≡ Nobody }
     {

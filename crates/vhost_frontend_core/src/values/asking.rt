@@ -3,10 +3,11 @@
 ghost use Rattle.std.specs.Prelude.{◌≡◌, ◌<◌, IfOk, IfSome, map, length};
 ghost use Rattle.vhost_link.specs.Mem.{event};
 ghost use Rattle.vhost_protocol.specs.FrontendCall as calls;
+ghost use Rattle.vhost_frontend_core.specs.Frontend.{MayAsk, awaits};
 ghost use Rattle.vhost_frontend_core.specs.Halves.{AsksHalf, AsksHalfWithRoom};
 ghost use Rattle.vhost_frontend_core.specs.Kept.{IsKeptFor};
 ghost use Rattle.vhost_frontend_core.specs.Values.{call_of, info_of, log_region_of};
-ghost use Rattle.vhost_frontend_core.specs.ValueHalves.{IsSent, IsProper, AsksCall, AsksWell};
+ghost use Rattle.vhost_frontend_core.specs.ValueHalves.{IsSent, IsProper, AsksCall, AsksWell, awaited_after};
 
 use crate::asked::Sent;
 use crate::internal::FrontendInternal;
@@ -22,7 +23,9 @@ use vhost_message::{
 ///
 /// Errors are those of that half.
 pub fn ask(frontend: &mut FrontendInternal<MemLink>, call: &FrontendCall) -> Result<Option<Sent>>
+    requires { MayAsk frontend.old }
     ensures asked { AsksCall (call_of call.now) frontend.old result frontend.new }
+    ensures awaited { awaits frontend.new ≡ awaited_after result (awaits frontend.old) }
     ensures kept { IfOk result (λ asked. IfSome asked (λ sent. IsKeptFor (call_of call.now) sent.awaited sent.kept)) }
     ensures proper { IfOk result (λ asked. IfSome asked (λ sent. IsProper (call_of call.now))) }
 {
@@ -41,7 +44,8 @@ pub fn ask(frontend: &mut FrontendInternal<MemLink>, call: &FrontendCall) -> Res
 /// Asks by the half of the call's name, where something is sent for it.
 #[tactic(auto, using(crate::proofs::ValuePlain::plain))]
 fn ask_half(frontend: &mut FrontendInternal<MemLink>, call: &FrontendCall) -> Result<Sent>
-    requires { IsSent (call_of call.now) }
+    requires sent { IsSent (call_of call.now) }
+    requires quiet { MayAsk frontend.old }
     ensures { AsksWell (call_of call.now) frontend.old result frontend.new }
 {
     match call {
@@ -96,6 +100,7 @@ fn ask_half(frontend: &mut FrontendInternal<MemLink>, call: &FrontendCall) -> Re
 
 /// The half of GET_SHARED_OBJECT. A name has sixteen bytes.
 fn ask_object(frontend: &mut FrontendInternal<MemLink>, name: &VhostUserSharedMsg) -> Result<Sent>
+    requires { MayAsk frontend.old }
     ensures asked { AsksHalf event (calls.GetSharedObject name.now) frontend.old result frontend.new }
     ensures named { length name.now.uuid ≡ 16 }
 {
@@ -110,6 +115,7 @@ fn ask_log_base(
     base: u64,
     region: &Option<LogRegion>,
 ) -> Result<Sent>
+    requires { MayAsk frontend.old }
     ensures asked { AsksHalf event (calls.SetLogBase base (log_region_of region.now)) frontend.old result frontend.new }
     ensures proper { IfOk result (λ _. IsProper (calls.SetLogBase base (log_region_of region.now))) }
 {
@@ -121,6 +127,7 @@ fn ask_log_base(
 
 /// The half of SET_MEM_TABLE. More regions than a table may have are refused.
 fn ask_table(frontend: &mut FrontendInternal<MemLink>, regions: &[RegionInfo]) -> Result<Sent>
+    requires { MayAsk frontend.old }
     ensures asked { AsksHalfWithRoom event (calls.SetMemTable (map info_of regions.now)) frontend.old result frontend.new }
     ensures kept { IfOk result (λ sent. IsKeptFor (calls.SetMemTable (map info_of regions.now)) sent.awaited sent.kept) }
     ensures proper { IfOk result (λ _. IsProper (calls.SetMemTable (map info_of regions.now))) }

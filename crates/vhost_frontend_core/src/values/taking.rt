@@ -1,5 +1,6 @@
 //! The half of each call that takes the answer.
 
+ghost use Rattle.vhost_frontend_core.specs.Frontend.{IsAwaited};
 ghost use Rattle.vhost_frontend_core.specs.Values.{call_of};
 ghost use Rattle.vhost_frontend_core.specs.ValueHalves.{TakesWell};
 
@@ -22,6 +23,7 @@ pub fn take(
     call: &FrontendCall,
     sent: Sent,
 ) -> FrontendAnswer
+    requires { IsAwaited sent frontend.old }
     ensures { TakesWell (call_of call.now) sent frontend.old result frontend.new }
 {
     match call {
@@ -44,7 +46,6 @@ pub fn take(
         FrontendCall::PostcopyAdvise => handle(frontend.take_postcopy_advise(sent)),
         FrontendCall::PostcopyListen => done(frontend.take_postcopy_listen(sent)),
         FrontendCall::PostcopyEnd => done(frontend.take_postcopy_end(sent)),
-        FrontendCall::SetHdrFlags(..) => FrontendAnswer::Done,
         _ => done(frontend.take_done(sent)),
     }
 }

@@ -1,12 +1,10 @@
 -- A call that is only acknowledged.
-use Rattle.std.proofs.Common.{subst, ◌∙◌, Result}
+use Rattle.std.proofs.Common.{subst, Result}
 use Rattle.vhost_message.specs.declared.error.Error as declared
-use Rattle.vhost_frontend_core.specs.Asking.{Asks}
-use Rattle.vhost_frontend_core.specs.Frontend.{endpoint_of, session_of, awaits}
 use Rattle.vhost_frontend_core.specs.Halves.{AsksHalf}
 use Rattle.vhost_frontend_core.specs.declared.asked.Sent.{Sent}
 use Rattle.vhost_frontend.specs.Whole.Calls.{ended, answered}
-use Rattle.vhost_frontend.proofs.Whole.{may-await, still-awaits}
+use Rattle.vhost_frontend_core.proofs.Awaiting.{may-await}
 use Rattle.vhost_frontend.proofs.quiet.acknowledged.Goals as goal
 
 pub returns-in-Ok-clause-whole : goal.returns-in-Ok-clause-whole
@@ -16,6 +14,3 @@ returns-in-Ok-clause-whole g c call old is asks =
 
 pub returns-in-Err-clause-whole : goal.returns-in-Err-clause-whole
 returns-in-Err-clause-whole g c call old is asks = ended (subst (λ (r : Result Sent declared.Error). AsksHalf g.L.Link.event call old r c.args.inner.now) c.in-Err.is asks)
-
-pub returns-in-Err-clause-quiet : goal.returns-in-Err-clause-quiet
-returns-in-Err-clause-quiet g c becomes end session before asks nobody = still-awaits (subst (λ (r : Result Sent declared.Error). Asks g.L.Link.event becomes end session before r (endpoint_of c.args.inner.now) (session_of c.args.inner.now) (awaits c.args.inner.now)) c.in-Err.is asks) ∙ nobody

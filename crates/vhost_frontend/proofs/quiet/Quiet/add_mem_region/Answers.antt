@@ -3,7 +3,8 @@ use Rattle.std.proofs.Common.{◌∙◌}
 use Rattle.vhost_protocol.specs.FrontendCall.{AddMemRegion}
 use Rattle.vhost_frontend_core.specs.Regions.{info_in}
 use Rattle.vhost_frontend.specs.Whole.Calls.{answered}
-use Rattle.vhost_frontend.proofs.Whole.{either, may-await, still-awaits, taken-as, unasked}
+use Rattle.vhost_frontend_core.proofs.Awaiting.{may-await, still-awaits}
+use Rattle.vhost_frontend.proofs.Whole.{either, taken-as, unasked}
 use Rattle.vhost_frontend.proofs.quiet.Quiet.add_mem_region.Goals as goal
 
 pub returns-in-Ok : goal.returns-in-Ok

@@ -1,6 +1,7 @@
 -- GET_SHARED_OBJECT whole.
 use Rattle.std.proofs.Common.{refl, ◌∙◌}
-use Rattle.vhost_frontend.proofs.Whole.{replied, still-awaits, unasked}
+use Rattle.vhost_frontend_core.proofs.Awaiting.{still-awaits}
+use Rattle.vhost_frontend.proofs.Whole.{replied, unasked}
 use Rattle.vhost_frontend.proofs.quiet.Quiet.get_shared_object.Goals as goal
 
 pub returns-in-Ok : goal.returns-in-Ok

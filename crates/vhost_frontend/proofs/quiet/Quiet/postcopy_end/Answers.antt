@@ -1,7 +1,7 @@
 -- POSTCOPY_END whole.
 use Rattle.vhost_protocol.specs.FrontendCall.{PostcopyEnd}
 use Rattle.vhost_frontend.specs.Whole.Calls.{answered}
-use Rattle.vhost_frontend.proofs.Whole.{may-await}
+use Rattle.vhost_frontend_core.proofs.Awaiting.{may-await}
 use Rattle.vhost_frontend.proofs.quiet.Quiet.postcopy_end.Goals as goal
 
 pub returns-in-Ok : goal.returns-in-Ok

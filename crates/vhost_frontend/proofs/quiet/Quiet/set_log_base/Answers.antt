@@ -2,7 +2,8 @@
 use Rattle.vhost_protocol.specs.FrontendCall.{SetLogBase}
 use Rattle.vhost_frontend_core.specs.Regions.{log_region_in}
 use Rattle.vhost_frontend.specs.Whole.Calls.{answered}
-use Rattle.vhost_frontend.proofs.Whole.{either, may-await, taken-as}
+use Rattle.vhost_frontend_core.proofs.Awaiting.{may-await}
+use Rattle.vhost_frontend.proofs.Whole.{either, taken-as}
 use Rattle.vhost_frontend.proofs.quiet.Quiet.set_log_base.Goals as goal
 
 pub returns-in-Ok : goal.returns-in-Ok

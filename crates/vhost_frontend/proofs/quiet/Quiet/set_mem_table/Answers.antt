@@ -4,8 +4,12 @@ use Rattle.vhost_protocol.specs.FrontendCall.{SetMemTable}
 use Rattle.vhost_frontend_core.specs.Regions.{infos_in}
 use Rattle.vhost_frontend_core.specs.Kept.{IsKeptFor}
 use Rattle.vhost_frontend.specs.Whole.Calls.{answered}
-use Rattle.vhost_frontend.proofs.Whole.{either, may-await-with-room, still-awaits-with-room, taken-as}
+use Rattle.vhost_frontend_core.proofs.Awaiting.{may-await-with-room, still-awaits-with-room, sent-awaits-with-room}
+use Rattle.vhost_frontend.proofs.Whole.{either, taken-as}
 use Rattle.vhost_frontend.proofs.quiet.Quiet.set_mem_table.Goals as goal
+
+pub take_set_mem_table-requires : goal.take_set_mem_table-requires
+take_set_mem_table-requires g c = sent-awaits-with-room c.in-Ok.ensures.asked
 
 pub invariant_of-self-in-Err-1 : goal.invariant_of-self-in-Err-1
 invariant_of-self-in-Err-1 g c = record { quiet = still-awaits-with-room c.in-Err.ensures.asked ∙ c.args.self.now.quiet }

@@ -2,11 +2,12 @@ use Rattle.std.proofs.Common.{ap, sym, ◌∙◌}
 use Rattle.vhost_protocol.specs.FrontendCall.{SetHdrFlags}
 use Rattle.vhost_frontend_core.specs.Values.{call_of}
 use Rattle.vhost_frontend_core.specs.ValueHalves.{half, refused, at_once}
+use Rattle.vhost_frontend_core.proofs.Awaiting.{sent-awaits-with-room, still-awaits-with-room}
 use Rattle.vhost_frontend_core.proofs.ValueHalves.{is-sent}
 use Rattle.vhost_frontend_core.proofs.values.asking.ask.Goals as goal
 
-pub ask_half-requires : goal.ask_half-requires
-ask_half-requires c = is-sent c.args.call.now c.in_default.not-SetHdrFlags
+pub ask_half-requires-clause-sent : goal.ask_half-requires-clause-sent
+ask_half-requires-clause-sent c = is-sent c.args.call.now c.in_default.not-SetHdrFlags
 
 pub returns-in-SetHdrFlags-clause-asked : goal.returns-in-SetHdrFlags-clause-asked
 returns-in-SetHdrFlags-clause-asked c = at_once _ (ap call_of c.in-SetHdrFlags.is ∙ ap SetHdrFlags (sym (c.from_bits_retain.ensures tt ∙ c.bits.ensures tt))) c.set_hdr_flags.ensures.endpoint c.set_hdr_flags.ensures.session c.set_hdr_flags.ensures.awaited
@@ -16,3 +17,9 @@ returns-in-Ok-clause-asked c = half c.in-Ok.ensures.asked
 
 pub returns-in-Err-clause-asked : goal.returns-in-Err-clause-asked
 returns-in-Err-clause-asked c = refused c.in-Err.ensures.asked
+
+pub returns-in-Ok-clause-awaited : goal.returns-in-Ok-clause-awaited
+returns-in-Ok-clause-awaited c = sym (sent-awaits-with-room c.in-Ok.ensures.asked)
+
+pub returns-in-Err-clause-awaited : goal.returns-in-Err-clause-awaited
+returns-in-Err-clause-awaited c = still-awaits-with-room c.in-Err.ensures.asked
