@@ -12,12 +12,11 @@ use Rattle.vhost_protocol.specs.contracts.asked.Awaited as awaited
 use Rattle.vhost_protocol.specs.declared.asked.Awaited.{Awaited}
 use Rattle.vhost_protocol.specs.declared.asked.Awaited.TheVariants.{Nobody, Ack, Reply}
 use Rattle.vhost_protocol.specs.declared.asked.Shape.{Shape}
-use Rattle.vhost_protocol.specs.FrontendCall.{FrontendCall, SetHdrFlags, GetFeatures, GetProtocolFeatures, GetQueueNum, SetMemTable, SetLogBase, GetVringBase, GetConfig, GetSharedObject, GetInflightFd, GetMaxMemSlots, AddMemRegion, GetShmemConfig, SetDeviceStateFd, CheckDeviceState, PostcopyAdvise, PostcopyAckMemRegions}
+use Rattle.vhost_protocol.specs.FrontendCall.{FrontendCall, GetFeatures, GetProtocolFeatures, GetQueueNum, SetMemTable, SetLogBase, GetVringBase, GetConfig, GetSharedObject, GetInflightFd, GetMaxMemSlots, AddMemRegion, GetShmemConfig, SetDeviceStateFd, CheckDeviceState, PostcopyAdvise, PostcopyAckMemRegions}
 use Rattle.vhost_link.specs.declared.plain.PlainHandle.{PlainHandle}
 use Rattle.vhost_frontend_core.specs.Awaiting.{MayAwait}
 use Rattle.vhost_frontend_core.specs.Kept.{IsKeptFor, KeepsTable, KeepsConfig, KeepsPlace}
 use Rattle.vhost_frontend_core.specs.Taking.{IsAck}
-use Rattle.vhost_frontend_core.specs.ValueHalves.{IsSent}
 use Rattle.vhost_frontend_core.specs.contracts.asked.Kept as keeping
 use Rattle.vhost_frontend_core.specs.declared.asked.Kept.{Kept}
 use Rattle.vhost_frontend_core.specs.declared.asked.Kept.TheVariants as kept
@@ -25,11 +24,7 @@ use Rattle.vhost_frontend_core.specs.declared.asked.Kept.TheVariants as kept
 abbrev Call : Type 0
 Call = FrontendCall PlainHandle
 
-IsSent-prop : (call : Call) → IsProp (IsSent call)
-IsSent-prop (SetHdrFlags flags) = ⊥_prop
-IsSent-prop _ = Unit-prop
-
-awaited-set : (a b : Awaited) → IsProp (a ≡ b)
+pub awaited-set : (a b : Awaited) → IsProp (a ≡ b)
 awaited-set = Coded-set awaited.the_row.coded
 
 -- two facts of which one holds at most
@@ -89,9 +84,6 @@ IsKeptFor-prop GetShmemConfig a k = KeepsPlace-prop k
 IsKeptFor-prop _ a k = Unit-prop
 
 module _ (call : Call) where
-  pub is-sent : ∥ IsSent call ∥₁ → IsSent call
-  is-sent e = ∥∥₁_elim e (IsSent-prop call) (λ x. x)
-
   pub may-await : (a : Awaited) → ∥ MayAwait call a ∥₁ → MayAwait call a
   may-await a e = ∥∥₁_elim e (MayAwait-prop call a) (λ x. x)
 

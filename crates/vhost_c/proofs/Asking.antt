@@ -20,9 +20,7 @@ use Rattle.vhost_frontend_core.specs.Frontend.{endpoint_of, session_of, awaits}
 use Rattle.vhost_frontend_core.specs.Halves.{AsksHalfWithRoom}
 use Rattle.vhost_frontend_core.specs.declared.asked.Sent.{Sent}
 use Rattle.vhost_frontend_core.specs.declared.internal.FrontendInternal.{FrontendInternal}
-use Rattle.vhost_frontend_core.specs.Awaiting.{MayAwait}
-use Rattle.vhost_frontend_core.specs.ValueHalves.{IsSent, AsksCall, half, refused, at_once}
-use Rattle.vhost_frontend_core.proofs.Awaiting.{awaits-allowed}
+use Rattle.vhost_frontend_core.specs.ValueHalves.{AsksCall, half, refused, at_once}
 use Rattle.vhost_c.specs.Session.{Asks, sent, Stays, Rests, Fails, want, queued, remembers}
 use Rattle.vhost_c.specs.declared.session.Session.{Session}
 use Rattle.vhost_c.specs.Session as session
@@ -51,20 +49,9 @@ went law call old new f f' before after s (roomy (goes {w = w} is g)) = let t = 
   awaited = g.awaits;
 }
 
--- something was sent for it
-sends-something : (f : Frontend) (call : FrontendCall PlainHandle) (w : Written FrontendReq PlainHandle) (a : Awaited) (g : Frontend) → ask f call ≡ Sends w a g → IsSent call
-sends-something f (SetHdrFlags flags) w a g is = cc is
-sends-something f _ w a g is = tt
-
 module _ (law : StreamLaw) (call : FrontendCall PlainHandle) (old new : Front) (s : Sent) (half : AsksHalfWithRoom event call old (Ok s) new) where
   pub asked-so : Went call (session_of old) s (endpoint_of old) (endpoint_of new) (awaits new) (session_of new)
   asked-so = went law call (endpoint_of old) (endpoint_of new) (session_of old) (session_of new) (awaits old) (awaits new) s half
-
-  pub sent-so : IsSent call
-  sent-so = sends-something (session_of old) call asked-so.w (awaits new) (session_of new) asked-so.is
-
-  pub awaited-so : MayAwait call s.awaited
-  awaited-so = subst (λ a. MayAwait call a) (sym asked-so.awaited) (awaits-allowed (session_of old) call asked-so.w (awaits new) (session_of new) asked-so.is)
 
 -- A call that was not asked leaves what is remembered, and this is why.
 pub stayed : StreamLaw → (call : FrontendCall PlainHandle) (old new : State Ends PlainHandle) (f f' : Frontend) (before after : Awaited) (e : declared.Error) → IsUncut old → AsksWithRoom event (ask f call) old f before (Err e) new f' after → (f' ≡ f) × Fails call f e

@@ -1,4 +1,5 @@
 pub mod Answers
+pub mod Awaiting
 pub mod Holder
 pub mod Incoming
 pub mod Moving

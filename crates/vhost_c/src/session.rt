@@ -1,14 +1,14 @@
 //! A frontend's session whose link is its caller's.
 
-ghost use Rattle.std.specs.Prelude.{◌≡◌, ◌≤◌, [], IfOk, IfErr};
+ghost use Rattle.std.specs.Prelude.{◌≡◌, ◌≤◌, [], None, IfOk, IfErr};
 ghost use Rattle.std.specs.Option.{ForSome};
 ghost use Rattle.vhost_message.specs.declared.cause.IoCause.TheVariants.{Raw};
 ghost use Rattle.vhost_message.specs.declared.errno.TheConstants.{ENOMEM};
 ghost use Rattle.vhost_frontend_core.specs.Awaiting.{MayAwait};
-ghost use Rattle.vhost_frontend_core.specs.Frontend.{endpoint_of};
+ghost use Rattle.vhost_frontend_core.specs.Frontend.{endpoint_of, awaits};
 ghost use Rattle.vhost_frontend_core.specs.Kept.{IsKeptFor};
-ghost use Rattle.vhost_frontend_core.specs.ValueHalves.{IsSent};
 ghost use Rattle.vhost_frontend_core.specs.Values.{call_of};
+ghost use Rattle.vhost_c.specs.Awaiting.{awaited_of};
 
 use crate::carrying::{collect, forget, give};
 use crate::incoming::Incoming;
@@ -32,12 +32,11 @@ const BUDGET: u32 = 0;
 struct Asked {
     call: FrontendCall,
     sent: Sent,
-    ghost sent_out: { ∥ IsSent (call_of call) ∥₁ },
     ghost awaited: { ∥ MayAwait (call_of call) sent.awaited ∥₁ },
     ghost kept: { ∥ IsKeptFor (call_of call) sent.awaited sent.kept ∥₁ },
 }
 
-/// A session: the frontend, what is to be sent, and what is awaited. No call of its link is cut, so nothing breaks it but a
+/// A session: the frontend, what is to be sent, and the call whose answer the frontend awaits. No call of its link is cut, so nothing breaks it but a
 /// want of memory.
 #[derive(Drop)]
 pub struct Session {
@@ -49,6 +48,7 @@ pub struct Session {
     alloc: Global,
     ghost uncut: { (endpoint_of frontend).link.script ≡ [] },
     ghost broken: { ForSome (endpoint_of frontend).broken (λ c. c ≡ Raw ENOMEM) },
+    ghost awaited: { awaits frontend ≡ awaited_of (λ a. a.sent.awaited) asked },
 }
 
 impl Session {
@@ -99,8 +99,9 @@ impl Session {
         }
     }
 
-    /// Asks where the frontend's link has nothing that is to be sent.
+    /// Asks where nothing is asked, and the frontend's link has nothing that is to be sent.
     fn ask_now(&mut self, call: FrontendCall) -> std::result::Result<(), Error>
+        requires free { self.old.asked ≡ None }
         requires unsent { (endpoint_of self.old.frontend).link.sent ≡ [] }
         ensures asked { IfOk result (λ _. Asks (call_of call) self.old self.new) }
         ensures refused { IfErr result (λ _. Stays self.old self.new) }

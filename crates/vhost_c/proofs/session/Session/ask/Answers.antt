@@ -1,4 +1,5 @@
-use Rattle.std.proofs.Common.{refl, sym, ap, subst, ◌∙◌, ◌++◌}
+use Rattle.std.proofs.Common.{◌≡◌, false, Option, Some, None, refl, sym, ap, subst, ◌∙◌, ◌++◌}
+use Rattle.std.specs.Prelude.{is_some}
 use Rattle.vhost_frontend_core.specs.Values.{call_of}
 use Rattle.vhost_frontend_core.specs.Frontend.{endpoint_of}
 use Rattle.vhost_message.specs.declared.error.Error as declared
@@ -9,6 +10,14 @@ use Rattle.vhost_connection.specs.Talk.{State}
 use Rattle.vhost_c.specs.Session.{Fails, want, busy, fails, remembers}
 use Rattle.vhost_c.proofs.Asking.{asks-since, stays-since, collected}
 use Rattle.vhost_c.proofs.session.Session.ask.Goals as goal
+
+-- nothing is there where it is not something
+none-of : {A : Type 0} (o : Option A) → is_some o ≡ false → o ≡ None
+none-of None is = refl
+none-of (Some a) is = absurd (cc is)
+
+pub ask_now-requires-clause-free : goal.ask_now-requires-clause-free
+ask_now-requires-clause-free c = none-of c.args.self.now.asked (sym c.is_some.ensures ∙ c.if-is_some.false)
 
 pub returns-then-is_some : goal.returns-then-is_some
 returns-then-is_some c = (busy (sym c.is_some.ensures ∙ c.if-is_some.true), record { queue = refl; rest = record { memory = refl; asked = refl; incoming = refl; answer = refl } })

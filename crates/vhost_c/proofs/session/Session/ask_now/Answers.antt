@@ -3,7 +3,7 @@ use Rattle.std.specs.Prelude.{IfSome}
 use Rattle.vhost_frontend_core.specs.Halves.{AsksHalfWithRoom}
 use Rattle.vhost_frontend_core.specs.Kept.{IsKeptFor}
 use Rattle.vhost_frontend_core.specs.declared.asked.Sent.{Sent}
-use Rattle.vhost_frontend_core.specs.ValueHalves.{AsksCall}
+use Rattle.vhost_frontend_core.specs.ValueHalves.{AsksCall, awaited_after}
 use Rattle.vhost_link.specs.Ends.{Ends}
 use Rattle.vhost_link.specs.Mem.{event}
 use Rattle.vhost_link.specs.declared.plain.PlainHandle.{PlainHandle}
@@ -12,8 +12,11 @@ use Rattle.vhost_protocol.specs.FrontendCall.{FrontendCall}
 use Rattle.vhost_connection.specs.Talk.{State}
 use Rattle.vhost_frontend_core.specs.Frontend.{endpoint_of, session_of, awaits}
 use Rattle.vhost_frontend_core.specs.Values.{call_of}
+use Rattle.vhost_frontend_core.proofs.Awaiting.{may-await-with-room}
+use Rattle.vhost_c.specs.Awaiting.{awaited_of}
 use Rattle.vhost_c.specs.Session.{sent, at_once}
-use Rattle.vhost_c.proofs.Asking.{Front, cells, asked-so, sent-so, awaited-so, stayed, by-half, by-refusal, by-flags, behind}
+use Rattle.vhost_c.specs.declared.session.Asked.{Asked}
+use Rattle.vhost_c.proofs.Asking.{Front, cells, asked-so, stayed, by-half, by-refusal, by-flags, behind}
 use Rattle.vhost_c.proofs.Wants.{alike, asks-call}
 use Rattle.vhost_c.proofs.session.Session.ask_now.Goals as goal
 
@@ -21,31 +24,33 @@ use Rattle.vhost_c.proofs.session.Session.ask_now.Goals as goal
 half-of : (call : FrontendCall PlainHandle) (old new : Front) (o : Option Sent) (s : Sent) → o ≡ Some s → AsksCall call old (Ok o) new → AsksHalfWithRoom event call old (Ok s) new
 half-of call old new o s is asked = by-half call old new s (subst {A = Option Sent} (λ x. AsksCall call old (Ok x) new) is asked)
 
+pub ask-requires : goal.ask-requires
+ask-requires c broken = c.args.self.now.awaited ∙ ap (awaited_of (λ (a : Asked). a.sent.awaited)) c.requires.free
+
 pub invariant_of-asked : goal.invariant_of-asked
 invariant_of-asked c =
     let call = call_of c.args.call in let s = c.in-Ok-Some.sent in
     let half = half-of call c.args.self.now.frontend c.ask.new.frontend c.in-Ok-Some.field-0 s c.in-Ok-Some.field-0-is c.in-Ok-Some.ensures.asked in
     record {
-      sent_out = ∣ sent-so c.stream_law.ensures.stream call c.args.self.now.frontend c.ask.new.frontend s half ∣₁;
-      awaited = ∣ awaited-so c.stream_law.ensures.stream call c.args.self.now.frontend c.ask.new.frontend s half ∣₁;
+      awaited = ∣ may-await-with-room call half ∣₁;
       kept = ∣ subst {A = Option Sent} (λ o. IfSome o (λ x. IsKeptFor call x.awaited x.kept)) c.in-Ok-Some.field-0-is c.in-Ok-Some.ensures.kept ∣₁;
     }
 
 pub invariant_of-self : goal.invariant_of-self
 invariant_of-self c =
     let u = asks-call c.stream_law.ensures.stream (call_of c.args.call) c.args.self.now.frontend c.ask.new.frontend c.ask.result c.ask.ensures.asked (record { uncut = c.args.self.now.uncut; broken = c.args.self.now.broken }) in
-    record { uncut = u.uncut; broken = u.broken }
+    record { uncut = u.uncut; broken = u.broken; awaited = c.in-Ok-Some.ensures.awaited ∙ ap {A = Option Sent} (λ o. awaited_after (Ok o) (awaits c.args.self.now.frontend)) c.in-Ok-Some.field-0-is }
 
 pub invariant_of-self-in-Ok-None : goal.invariant_of-self-in-Ok-None
 invariant_of-self-in-Ok-None c =
     let u = asks-call c.stream_law.ensures.stream (call_of c.args.call) c.args.self.now.frontend c.ask.new.frontend c.ask.result c.ask.ensures.asked (record { uncut = c.args.self.now.uncut; broken = c.args.self.now.broken }) in
-    record { uncut = u.uncut; broken = u.broken }
+    record { uncut = u.uncut; broken = u.broken; awaited = c.in-Ok-None.ensures.awaited ∙ ap {A = Option Sent} (λ o. awaited_after (Ok o) (awaits c.args.self.now.frontend)) c.in-Ok-None.field-0-is ∙ c.args.self.now.awaited }
 
 pub invariant_of-self-in-Err : goal.invariant_of-self-in-Err
 invariant_of-self-in-Err c =
     let u = alike (endpoint_of c.ask.new.frontend) (endpoint_of c.forget.new.frontend) (ap {A = State Ends PlainHandle} (λ e. e.link.script) c.forget.ensures.forgotten) (ap {A = State Ends PlainHandle} (λ e. e.broken) c.forget.ensures.forgotten)
     (asks-call c.stream_law.ensures.stream (call_of c.args.call) c.args.self.now.frontend c.ask.new.frontend c.ask.result c.ask.ensures.asked (record { uncut = c.args.self.now.uncut; broken = c.args.self.now.broken })) in
-    record { uncut = u.uncut; broken = u.broken }
+    record { uncut = u.uncut; broken = u.broken; awaited = c.forget.ensures.rest.1 ∙ c.in-Err.ensures.awaited ∙ c.args.self.now.awaited }
 
 pub returns-in-Ok-Some-clause-asked : goal.returns-in-Ok-Some-clause-asked
 returns-in-Ok-Some-clause-asked c =

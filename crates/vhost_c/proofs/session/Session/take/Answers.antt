@@ -1,12 +1,14 @@
-use Rattle.std.proofs.Common.{◌≡◌, ℕ, ◌<◌, ◌≤◌, arith, [], Option, refl, sym, ◌∙◌}
+use Rattle.std.proofs.Common.{◌≡◌, ℕ, ◌<◌, ◌≤◌, arith, [], Option, refl, sym, ap, subst, ◌∙◌}
 use Rattle.vhost_message.specs.MsgHeader.{fields_of}
 use Rattle.vhost_link.specs.Ends.{Ends}
 use Rattle.vhost_link.specs.declared.plain.PlainHandle.{PlainHandle}
-use Rattle.vhost_frontend_core.specs.Frontend.{endpoint_of, session_of}
+use Rattle.vhost_frontend_core.specs.Frontend.{endpoint_of, session_of, awaits}
 use Rattle.vhost_frontend_core.specs.Values.{call_of, answer_of}
 use Rattle.vhost_frontend_core.specs.ValueHalves.{TakesWell, TakesResult}
 use Rattle.vhost_frontend_core.specs.declared.internal.FrontendInternal.{FrontendInternal}
 use Rattle.vhost_frontend_core.specs.declared.values.answer.FrontendAnswer.{FrontendAnswer}
+use Rattle.vhost_protocol.specs.declared.asked.Awaited.{Awaited}
+use Rattle.vhost_c.specs.Awaiting.{awaited_of}
 use Rattle.vhost_c.specs.Session.{kept, failed, nothing_asked, not_yet}
 use Rattle.vhost_c.specs.declared.session.Asked.{Asked}
 use Rattle.std.specs.Option.{ForSome}
@@ -14,12 +16,16 @@ use Rattle.vhost_message.specs.declared.cause.IoCause.TheVariants.{Raw}
 use Rattle.vhost_message.specs.declared.errno.TheConstants.{ENOMEM}
 use Rattle.vhost_link.specs.Mem.{StreamLaw}
 use Rattle.vhost_c.specs.declared.session.Session.{Session}
-use Rattle.vhost_c.proofs.Answerable.{is-sent, may-await, is-kept}
+use Rattle.vhost_c.proofs.Answerable.{awaited-set, may-await, is-kept}
 use Rattle.vhost_c.proofs.Wants.{IsUncut, takes, uncut-prop, broken-prop}
 use Rattle.vhost_c.proofs.session.Session.take.Goals as goal
 
 abbrev Front : Type 0
 Front = FrontendInternal Ends PlainHandle
+
+-- what is awaited of a call that is asked
+abbrev of-asked : Option Asked → Awaited
+of-asked = awaited_of (λ (a : Asked). a.sent.awaited)
 
 some_missing : (m n : ℕ) → m ≡ n → 0 < m → 0 < n
 some_missing m n is some = omega arith
@@ -33,21 +39,24 @@ returns-then-missing-gt0 c = not_yet (some_missing _ _ c.missing.ensures.missing
 -- the promise of taking, of a call that is kept
 taken : (asked : Asked) (old : Front) (answer : FrontendAnswer) (new : Front) → TakesWell (call_of asked.call) asked.sent old answer new
     → TakesResult (call_of asked.call) asked.sent.awaited (fields_of asked.sent.request) (endpoint_of old) (session_of old) (answer_of answer) (endpoint_of new) (session_of new)
-taken asked old answer new t = t.taken (is-sent (call_of asked.call) asked.sent_out) (may-await (call_of asked.call) asked.sent.awaited asked.awaited) (is-kept (call_of asked.call) asked.sent.awaited asked.sent.kept asked.kept)
+taken asked old answer new t = t.taken (may-await (call_of asked.call) asked.sent.awaited asked.awaited) (is-kept (call_of asked.call) asked.sent.awaited asked.sent.kept asked.kept)
 
 -- the session after that
 uncut-after : (asked : Asked) (old : Front) (answer : FrontendAnswer) (new : Front) → StreamLaw → TakesWell (call_of asked.call) asked.sent old answer new → IsUncut (endpoint_of old) → IsUncut (endpoint_of new)
 uncut-after asked old answer new law t = takes law (call_of asked.call) asked.sent.awaited (fields_of asked.sent.request) (endpoint_of old) (session_of old) (answer_of answer) (endpoint_of new) (session_of new) (taken asked old answer new t)
 
+pub take-requires-in-Some : goal.take-requires-in-Some
+take-requires-in-Some c = sym (c.args.self.now.awaited ∙ ap of-asked (sym c.in-Some.ensures.value))
+
 pub invariant_of-self : goal.invariant_of-self
 invariant_of-self c =
     let u = uncut-after c.in-Some.field-0 c.args.self.now.frontend _ c.take-in-Some.new.frontend c.stream_law.ensures.stream c.in-Failed.ensures (record { uncut = c.args.self.now.uncut; broken = c.args.self.now.broken }) in
-    record { uncut = u.uncut; broken = u.broken }
+    record { uncut = u.uncut; broken = u.broken; awaited = c.in-Failed.ensures.quiet ∙ ap of-asked (sym c.take.ensures.after) }
 
 pub invariant_of-self-in_default : goal.invariant_of-self-in_default
 invariant_of-self-in_default c =
     let u = uncut-after c.in-Some.field-0 c.args.self.now.frontend _ c.take-in-Some.new.frontend c.stream_law.ensures.stream c.take-in-Some.ensures (record { uncut = c.args.self.now.uncut; broken = c.args.self.now.broken }) in
-    record { uncut = u.uncut; broken = u.broken }
+    record { uncut = u.uncut; broken = u.broken; awaited = c.take-in-Some.ensures.quiet ∙ ap of-asked (sym c.take.ensures.after) }
 
 pub returns-in-Failed : goal.returns-in-Failed
 returns-in-Failed c = failed (none_missing _ _ c.missing.ensures.missing c.if-missing-gt0.false) (record {
@@ -55,7 +64,7 @@ returns-in-Failed c = failed (none_missing _ _ c.missing.ensures.missing c.if-mi
   was = sym c.in-Some.ensures.value;
   taken = taken c.in-Some.field-0 _ _ _ c.in-Failed.ensures;
   now = c.take.ensures.after;
-  quiet = c.in-Failed.ensures.quiet (is-sent (call_of c.in-Some.field-0.call) c.in-Some.field-0.sent_out);
+  quiet = c.in-Failed.ensures.quiet;
   outgoing = refl;
 }) refl
 
@@ -65,13 +74,15 @@ returns-in-Some c = kept (none_missing _ _ c.missing.ensures.missing c.if-missin
   was = sym c.in-Some.ensures.value;
   taken = taken c.in-Some.field-0 _ _ _ c.take-in-Some.ensures;
   now = c.take.ensures.after;
-  quiet = c.take-in-Some.ensures.quiet (is-sent (call_of c.in-Some.field-0.call) c.in-Some.field-0.sent_out);
+  quiet = c.take-in-Some.ensures.quiet;
   outgoing = refl;
 }) c.in_default.not-Failed
 
 -- a session with the same call
-same : (s : Session) (a : Option Asked) (u : (endpoint_of s.frontend).link.script ≡ []) (b : ForSome (endpoint_of s.frontend).broken (λ c. c ≡ Raw ENOMEM)) → a ≡ s.asked → record s { asked = a; uncut = u; broken = b } ≡ s
-same s a u b is = λ i. record s { asked = is i; uncut = uncut-prop (endpoint_of s.frontend) u s.uncut i; broken = broken-prop (endpoint_of s.frontend) b s.broken i }
+same : (s : Session) (a : Option Asked) (u : (endpoint_of s.frontend).link.script ≡ []) (b : ForSome (endpoint_of s.frontend).broken (λ c. c ≡ Raw ENOMEM)) (w : awaits s.frontend ≡ of-asked a) → a ≡ s.asked
+    → record s { asked = a; uncut = u; broken = b; awaited = w } ≡ s
+same s a u b w is = subst (λ (x : Option Asked). (v : awaits s.frontend ≡ of-asked x) → record s { asked = x; uncut = u; broken = b; awaited = v } ≡ s) (sym is)
+    (λ v i. record s { uncut = uncut-prop (endpoint_of s.frontend) u s.uncut i; broken = broken-prop (endpoint_of s.frontend) b s.broken i; awaited = awaited-set (awaits s.frontend) (of-asked s.asked) v s.awaited i }) w
 
 pub returns : goal.returns
-returns c = nothing_asked (sym c.in-None.ensures.value) (same c.args.self.now _ _ _ (c.take.ensures.after ∙ c.in-None.ensures.value))
+returns c = nothing_asked (sym c.in-None.ensures.value) (same c.args.self.now _ _ _ _ (c.take.ensures.after ∙ c.in-None.ensures.value))
