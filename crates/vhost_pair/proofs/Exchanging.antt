@@ -3,11 +3,9 @@ use Rattle.std.proofs.Common.{◌≡◌, Option, Some, None, Result, Ok, Err, tr
 use Rattle.std.specs.Prelude.{IfSome}
 use Rattle.vhost_message.specs.declared.error.Error as declared
 use Rattle.vhost_message.specs.declared.error.Error.TheVariants as error
-use Rattle.vhost_message.specs.declared.frontend_req.FrontendReq.{FrontendReq}
-use Rattle.vhost_protocol.specs.Ask.{Sends, ask}
+use Rattle.vhost_protocol.specs.Ask.{ask}
 use Rattle.vhost_protocol.specs.declared.asked.Awaited.{Awaited}
-use Rattle.vhost_protocol.specs.FrontendCall.{FrontendCall, SetHdrFlags, Nothing, Frontend}
-use Rattle.vhost_protocol.specs.Written.{Written}
+use Rattle.vhost_protocol.specs.FrontendCall.{FrontendCall, Nothing, Frontend}
 use Rattle.vhost_link.specs.declared.plain.PlainHandle.{PlainHandle}
 use Rattle.vhost_link.specs.Ends.{Ends}
 use Rattle.vhost_link.specs.Mem.{event}
@@ -17,10 +15,10 @@ use Rattle.vhost_frontend_core.specs.Frontend.{endpoint_of, session_of, awaits}
 use Rattle.vhost_frontend_core.specs.Halves.{AsksHalfWithRoom}
 use Rattle.vhost_frontend_core.specs.declared.asked.Sent.{Sent}
 use Rattle.vhost_frontend_core.specs.declared.internal.FrontendInternal.{FrontendInternal}
-use Rattle.vhost_frontend_core.proofs.Awaiting.{awaits-allowed}
+use Rattle.vhost_frontend_core.proofs.Awaiting.{may-await-with-room}
 use Rattle.vhost_frontend_core.specs.Values.{answer_of}
 use Rattle.vhost_frontend_core.specs.ValueHalves as halves
-use Rattle.vhost_frontend_core.specs.ValueHalves.{IsSent, IsProper, AsksCall}
+use Rattle.vhost_frontend_core.specs.ValueHalves.{IsProper, AsksCall}
 use Rattle.vhost_pair.specs.declared.halt.Halt.TheVariants as halt
 use Rattle.vhost_pair.specs.declared.sides.Exchanged.{Exchanged}
 use Rattle.vhost_pair.specs.Device.{Gives}
@@ -33,11 +31,6 @@ use Rattle.vhost_pair.proofs.Handing.{same-asked}
 abbrev Core : Type 0
 Core = FrontendInternal Ends PlainHandle
 
--- something was sent for the call
-sends-something : (f : Frontend) (call : FrontendCall PlainHandle) (w : Written FrontendReq PlainHandle) (awaited : Awaited) (g : Frontend) → ask f call ≡ Sends w awaited g → IsSent call
-sends-something f (SetHdrFlags flags) w awaited g is = cc is
-sends-something f _ w awaited g is = tt
-
 module _ (call : FrontendCall PlainHandle) (old new : Core) where
   half-of : (sent : Sent) → AsksCall call old (Ok (Some sent)) new → AsksHalfWithRoom event call old (Ok sent) new
   half-of sent (halves.half h) = h
@@ -45,16 +38,12 @@ module _ (call : FrontendCall PlainHandle) (old new : Core) where
   refusal-of : (e : declared.Error) → AsksCall call old (Err e) new → AsksHalfWithRoom event call old (Err e) new
   refusal-of e (halves.refused h) = h
 
-  sent-half : (sent : Sent) → AsksHalfWithRoom event call old (Ok sent) new → IsSent call × MayAwait call sent.awaited
-  sent-half sent (asking.roomy (asking.goes {w = w} {awaited = awaited} {f' = g} is goes)) =
-      (sends-something (session_of old) call w awaited g is, subst (λ a. MayAwait call a) (sym goes.awaits) (awaits-allowed (session_of old) call w awaited g is))
-
   -- of the result's field, where it is some request
   sent-in : (o : Option Sent) (sent : Sent) → o ≡ Some sent → AsksCall call old (Ok o) new → AsksHalfWithRoom event call old (Ok sent) new
   sent-in o sent is h = half-of sent (subst (λ (x : Option Sent). AsksCall call old (Ok x) new) is h)
 
-  pub sent-so : (o : Option Sent) (sent : Sent) → o ≡ Some sent → AsksCall call old (Ok o) new → IsSent call × MayAwait call sent.awaited
-  sent-so o sent is h = sent-half sent (sent-in o sent is h)
+  pub sent-so : (o : Option Sent) (sent : Sent) → o ≡ Some sent → AsksCall call old (Ok o) new → MayAwait call sent.awaited
+  sent-so o sent is h = may-await-with-room call (sent-in o sent is h)
 
   module _ {Dev : Type 0} (gives : Gives Dev) (before : Parts Dev) (asks : before.asking ≡ endpoint_of old) (frontend : before.frontend ≡ session_of old) (awaited : before.awaited ≡ awaits old) where
     -- both sides, once the frontend asked

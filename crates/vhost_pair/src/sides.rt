@@ -5,6 +5,7 @@ ghost use Rattle.vhost_message.specs.declared.error.Error.TheVariants.{OutOfMemo
 ghost use Rattle.vhost_frontend_core.specs.Values.{call_of, answer_of};
 ghost use Rattle.vhost_pair.specs.Lists.{IsListedFor};
 ghost use Rattle.vhost_pair.specs.Sides.{ends};
+ghost use Rattle.vhost_protocol.specs.declared.asked.Awaited.TheVariants.{Nobody};
 ghost use Rattle.vhost_pair.specs.declared.halt.Stop.TheVariants.{Premise};
 
 use crate::begin::{new_asking, new_serving};
@@ -40,9 +41,8 @@ pub struct Sides<D: Drop> {
 impl<D: VhostUserBackendReqHandlerMut<Link = MemLink>> Sides<D> {
     ghost use Rattle.vhost_backend_req_handler.specs.Core.{endpoint_of as serving_end};
     ghost use Rattle.vhost_frontend_core.specs.Awaiting.{MayAwait};
-    ghost use Rattle.vhost_frontend_core.specs.Frontend.{endpoint_of as asking_end};
+    ghost use Rattle.vhost_frontend_core.specs.Frontend.{endpoint_of as asking_end, awaits, IsAwaited};
     ghost use Rattle.vhost_frontend_core.specs.Kept.{IsKeptFor};
-    ghost use Rattle.vhost_frontend_core.specs.ValueHalves.{IsSent};
     ghost use Rattle.vhost_pair.specs.Sides.{parts_of, fresh_parts, HaveLists, Exchanges, Serves, HandsOver, EndsUnsent, stop_of};
     ghost use Rattle.vhost_pair.specs.Text.{no_text};
     ghost use Rattle.vhost_pair.specs.Wire.{text_in};
@@ -107,7 +107,8 @@ impl<D: VhostUserBackendReqHandlerMut<Link = MemLink>> Sides<D> {
     /// `Halt::OutOfMemory`: there was no room for its answer; nothing changed.
     #[inline(never)]
     pub fn exchange(&mut self, call: &FrontendCall) -> std::result::Result<Exchanged, Halt>
-        requires { HaveLists (parts_of self.old) }
+        requires lists { HaveLists (parts_of self.old) }
+        requires quiet { (parts_of self.old).awaited ≡ Nobody }
         ensures done { Exchanges D.gives (call_of call.now) (parts_of self.old) result (parts_of self.new) }
         ensures listed { IfOk result (λ done. IsListedFor (call_of call.now) (answer_of done.answer)) }
     {
@@ -154,7 +155,7 @@ impl<D: VhostUserBackendReqHandlerMut<Link = MemLink>> Sides<D> {
     /// Has a request served that was sent, and takes its answer.
     #[inline(never)]
     fn serve(&mut self, call: &FrontendCall, sent: Sent) -> Exchanged
-        requires sent { IsSent (call_of call.now) }
+        requires last { IsAwaited sent self.old.frontend }
         requires awaited { MayAwait (call_of call.now) sent.awaited }
         requires kept { IsKeptFor (call_of call.now) sent.awaited sent.kept }
         ensures served { Serves D.gives (call_of call.now) sent (parts_of self.old) result (parts_of self.new) }
@@ -177,7 +178,8 @@ impl<D: VhostUserBackendReqHandlerMut<Link = MemLink>> Sides<D> {
     /// found no room on its way.
     #[inline(never)]
     fn hand_over(&mut self) -> Option<Result<()>>
-        ensures { HandsOver D.gives (parts_of self.old) result (parts_of self.new) }
+        ensures handed { HandsOver D.gives (parts_of self.old) result (parts_of self.new) }
+        ensures awaited { awaits self.new.frontend ≡ awaits self.old.frontend }
     {
         self.reply.clear();
         if carry_request(&mut self.frontend, &mut self.handler).is_err() {

@@ -4,8 +4,13 @@ use Rattle.vhost_frontend_core.specs.Values.{call_of}
 use Rattle.vhost_pair.specs.Joined.{Steps}
 use Rattle.vhost_pair.specs.Sides.{parts_of, as_view}
 use Rattle.vhost_pair.proofs.Running.{not-stopped, held}
-use Rattle.vhost_pair.proofs.Stepping.{steps-so, sound-so, halts-so, sound-halted}
+use Rattle.vhost_pair.proofs.Stepping.{still-sound, steps-so, sound-so, halts-so, sound-halted}
 use Rattle.vhost_pair.proofs.joined.Joined.step.Goals as goal
+
+pub exchange-requires-clause-quiet : goal.exchange-requires-clause-quiet
+exchange-requires-clause-quiet g c =
+    let none = not-stopped (c.self.inside.stopped) (sym c.is_some.ensures ∙ c.if-is_some.false) in
+    (still-sound g.D.VhostUserBackendReqHandlerMut.gives (call_of c.args.call.now) (parts_of c.self.inside.sides) (parts_of c.prepare.new.self) c.prepare.ensures.asking c.prepare.ensures.serving c.prepare.ensures.rest (c.self.invariant none)).nobody
 
 pub returns-in-Ok : goal.returns-in-Ok
 returns-in-Ok g c =

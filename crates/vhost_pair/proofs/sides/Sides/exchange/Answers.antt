@@ -5,11 +5,8 @@ use Rattle.vhost_pair.proofs.Exchanging.{sent-so, sent-exchange, done-exchange, 
 use Rattle.vhost_pair.proofs.Lists.{nothing-listed, error-listed}
 use Rattle.vhost_pair.proofs.sides.Sides.exchange.Goals as goal
 
-pub serve-requires-clause-sent : goal.serve-requires-clause-sent
-serve-requires-clause-sent g c = (sent-so (call_of c.args.call.now) c.args.self.now.frontend c.ask.new.frontend c.in-Ok-Some.field-0 c.in-Ok-Some.sent c.in-Ok-Some.field-0-is c.in-Ok-Some.ensures.asked).0
-
 pub serve-requires-clause-awaited : goal.serve-requires-clause-awaited
-serve-requires-clause-awaited g c = (sent-so (call_of c.args.call.now) c.args.self.now.frontend c.ask.new.frontend c.in-Ok-Some.field-0 c.in-Ok-Some.sent c.in-Ok-Some.field-0-is c.in-Ok-Some.ensures.asked).1
+serve-requires-clause-awaited g c = sent-so (call_of c.args.call.now) c.args.self.now.frontend c.ask.new.frontend c.in-Ok-Some.field-0 c.in-Ok-Some.sent c.in-Ok-Some.field-0-is c.in-Ok-Some.ensures.asked
 
 pub returns-in-Ok-Some : goal.returns-in-Ok-Some
 returns-in-Ok-Some g c =
@@ -33,7 +30,7 @@ pub returns-in-OutOfMemory : goal.returns-in-OutOfMemory
 returns-in-OutOfMemory g c =
     record {
       done =
-          roomless-exchange (call_of c.args.call.now) c.args.self.now.frontend c.ask.new.frontend g.D.VhostUserBackendReqHandlerMut.gives (parts_of c.args.self.now) refl refl refl c.in-Err.error c.in-OutOfMemory.is c.requires.0 c.in-Err.ensures.asked;
+          roomless-exchange (call_of c.args.call.now) c.args.self.now.frontend c.ask.new.frontend g.D.VhostUserBackendReqHandlerMut.gives (parts_of c.args.self.now) refl refl refl c.in-Err.error c.in-OutOfMemory.is c.requires.lists.0 c.in-Err.ensures.asked;
       listed = tt;
     }
 

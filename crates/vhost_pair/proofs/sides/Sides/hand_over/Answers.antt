@@ -13,16 +13,16 @@ use Rattle.vhost_pair.proofs.Handing.{blocked, same-but}
 use Rattle.vhost_pair.proofs.Running.{found}
 use Rattle.vhost_pair.proofs.sides.Sides.hand_over.Goals as goal
 
-pub returns-then-is_err : goal.returns-then-is_err
-returns-then-is_err g c = sides.no_room_there (blocked _ _ (sym c.is_err.ensures.value ∙ c.if-is_err.true) c.carry_request.ensures.succeeds)
+pub returns-then-is_err-clause-handed : goal.returns-then-is_err-clause-handed
+returns-then-is_err-clause-handed g c = sides.no_room_there (blocked _ _ (sym c.is_err.ensures.value ∙ c.if-is_err.true) c.carry_request.ensures.succeeds)
 
-pub returns-then-is_err-2 : goal.returns-then-is_err-2
-returns-then-is_err-2 g c =
+pub returns-then-is_err-2-clause-handed : goal.returns-then-is_err-2-clause-handed
+returns-then-is_err-2-clause-handed g c =
     sides.no_room_back (asking c.carry_request.new.frontend) (serving c.carry_request.new.handler) (found c.carry_request.result _ (sym c.is_err.ensures.value ∙ c.if-is_err.false) c.carry_request.ensures.carried)
     (blocked _ _ (sym c.is_err-2.ensures.value ∙ c.if-is_err-2.true) c.carry_reply.ensures.succeeds)
 
-pub returns : goal.returns
-returns g c =
+pub returns-clause-handed : goal.returns-clause-handed
+returns-clause-handed g c =
     let he1 : End = serving c.carry_request.new.handler in
     let he2 : End = serving c.handle_request-served.new.self in
     let d2 = c.handle_request-served.new.device in

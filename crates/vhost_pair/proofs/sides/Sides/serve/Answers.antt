@@ -10,15 +10,15 @@ pub returns : goal.returns
 returns g c =
     let copied = same-asked (record (parts_of c.args.self.now) { request = _ }) _ _ _ c.copy_request.ensures.same c.copy_request.ensures.frontend.0 c.copy_request.ensures.frontend.1 in
     record {
-      served = sides.served (served-copied g.D.VhostUserBackendReqHandlerMut.gives (call_of c.args.call.now) c.args.sent (parts_of c.args.self.now) _ c.copy_request.ensures.text _ _ _ _ _ _ copied c.in-Some.ensures
-          (c.take-answer.ensures.taken c.requires.sent c.requires.awaited c.requires.kept) refl (c.take-answer.ensures.quiet c.requires.sent) c.stop_after-stop.ensures);
-      listed = result-listed (call_of c.args.call.now) _ _ _ _ _ _ _ (c.take-answer.ensures.taken c.requires.sent c.requires.awaited c.requires.kept);
+      served = sides.served (served-copied g.D.VhostUserBackendReqHandlerMut.gives (call_of c.args.call.now) c.args.sent (parts_of c.args.self.now) _ c.copy_request.ensures.text _ _ _ _ _ _ copied c.in-Some.ensures.handed
+          (c.take-answer.ensures.taken c.requires.awaited c.requires.kept) refl c.take-answer.ensures.quiet c.stop_after-stop.ensures);
+      listed = result-listed (call_of c.args.call.now) _ _ _ _ _ _ _ (c.take-answer.ensures.taken c.requires.awaited c.requires.kept);
     }
 
 pub returns-in_default : goal.returns-in_default
 returns-in_default g c =
     let copied = same-asked (record (parts_of c.args.self.now) { request = _ }) _ _ _ c.copy_request.ensures.same c.copy_request.ensures.frontend.0 c.copy_request.ensures.frontend.1 in
     record {
-      served = lost-copied g.D.VhostUserBackendReqHandlerMut.gives (call_of c.args.call.now) c.args.sent (parts_of c.args.self.now) _ _ _ _ _ copied c.in_default.ensures refl;
-      listed = result-listed (call_of c.args.call.now) _ _ _ _ _ _ _ (c.take-answer.ensures.taken c.requires.sent c.requires.awaited c.requires.kept);
+      served = lost-copied g.D.VhostUserBackendReqHandlerMut.gives (call_of c.args.call.now) c.args.sent (parts_of c.args.self.now) _ _ _ _ _ copied c.in_default.ensures.handed refl;
+      listed = result-listed (call_of c.args.call.now) _ _ _ _ _ _ _ (c.take-answer.ensures.taken c.requires.awaited c.requires.kept);
     }
