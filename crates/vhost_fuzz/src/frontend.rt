@@ -4,8 +4,9 @@ use crate::answer::Answer;
 use crate::asking::Caller;
 use crate::memory::NoMemory;
 use std::alloc::Global;
-use vhost_frontend_core::{FrontendAnswer, FrontendCall, FrontendInternal, ask, take};
+use vhost_frontend_core::{Awaited, FrontendAnswer, FrontendCall, FrontendInternal, ask, take};
 use vhost_link::MemLink;
+use vhost_message::Error;
 use vhost_test_tools::call_in;
 
 /// How many rings the frontend is told of.
@@ -22,7 +23,11 @@ impl Caller for FrontendInternal<MemLink> {
         Ok(call_in(alloc, line)?)
     }
 
+    /// InvalidOperation: an answer is awaited that was not taken.
     fn make(&mut self, call: &FrontendCall) -> Answer {
+        if self.awaited() != Awaited::Nobody {
+            return Answer::failed(&Error::InvalidOperation("an answer was not taken"));
+        }
         match ask(self, call) {
             Ok(Some(sent)) => answer_of(&take(self, call, sent)),
             Ok(None) => Answer::done(),
