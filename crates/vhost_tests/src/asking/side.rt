@@ -9,7 +9,7 @@ use std::rc::Rc;
 use std::sync::Wait;
 use vhost_backend::Error;
 use vhost_frontend::Frontend;
-use vhost_frontend_core::{FrontendAnswer, FrontendCall, FrontendInternal, ask, take};
+use vhost_frontend_core::{Awaited, FrontendAnswer, FrontendCall, FrontendInternal, ask, take};
 use vhost_link::{Cut, MemLink};
 use vhost_message::VhostUserHeaderFlag;
 use vhost_test_tools::{
@@ -73,7 +73,7 @@ impl Side {
         call: &FrontendCall,
     ) -> Result<FrontendAnswer, Miss> {
         match self {
-            Side::Halves(frontend) => Ok(by_halves(frontend, call)),
+            Side::Halves(frontend) => by_halves(alloc, frontend, call),
             Side::Whole(shared) => shared.call(alloc, rt, call),
         }
     }
@@ -172,11 +172,18 @@ impl Shared {
     }
 }
 
-/// Makes a call by its halves.
-fn by_halves(frontend: &mut FrontendInternal<MemLink>, call: &FrontendCall) -> FrontendAnswer {
+/// Makes a call by its halves, where no answer is awaited.
+fn by_halves(
+    alloc: Global,
+    frontend: &mut FrontendInternal<MemLink>,
+    call: &FrontendCall,
+) -> Result<FrontendAnswer, Miss> {
+    if frontend.awaited() != Awaited::Nobody {
+        return Err(differs(alloc, "no answer awaited", "one that was not taken"));
+    }
     match ask(frontend, call) {
-        Ok(Some(sent)) => take(frontend, call, sent),
-        Ok(None) => FrontendAnswer::Done,
-        Err(error) => FrontendAnswer::Failed(error),
+        Ok(Some(sent)) => Ok(take(frontend, call, sent)),
+        Ok(None) => Ok(FrontendAnswer::Done),
+        Err(error) => Ok(FrontendAnswer::Failed(error)),
     }
 }
