@@ -74,6 +74,7 @@ module _ {L H : Type 0} (event : L → Event H → L → Type 0) (call : Reverse
       awaited = false;
       asked = asked;
       told = subst (λ (s : State L H). IsTold event false w old.endpoint s) (sym same) (out.retries, out.serves);
+      list = ap (λ (s : State L H). s.list) same ∙ out.list;
       others = refl;
     }
     done true n asked (heard came listed) =
@@ -85,7 +86,8 @@ module _ {L H : Type 0} (event : L → Event H → L → Type 0) (call : Reverse
           message = w;
           awaited = true;
           asked = asked;
-          told = (h.cells, h.ended, exchange event old.endpoint mid after _ _ out.retries h.retries out.serves h.serves, subst (λ (x : Header). SaysZero x h.cells) out.header said.1, listed refl);
+          told = (h.cells, h.ended, exchange event old.endpoint mid after _ _ out.retries h.retries out.serves h.serves, subst (λ (x : Header). SaysZero x h.cells) out.header said.1);
+          list = listed refl;
           others = refl;
         }
 

@@ -14,3 +14,5 @@ pub mod FaultingAsked
 pub mod FaultingRead
 pub mod Sharing
 pub mod Showing
+pub mod Listed
+pub mod ListedRead

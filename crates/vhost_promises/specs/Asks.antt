@@ -27,19 +27,20 @@ pub record SaysZero {H : Type 0} (sent : Header) (cells : List (Cell H)) : Type 
   pub zero : u64_at 0 reply.body ≡ 0
 
 module _ {L H : Type 0} (event : L → Event H → L → Type 0) where
-  -- a message went out, and where an answer was awaited, one came that says 0, and the list of handles is there again
+  -- a message went out, and where an answer was awaited, one came that says 0
   abbrev pub IsTold : (awaited : Bool) → Written BackendReq H → State L H → State L H → Type 0
   IsTold false w old new = Exchanges event old.budget (written_cells backend_request_number w) [] old new
   IsTold true w old new = (cells : List (Cell H)) × (ended : Bool) × Exchanges event (old.budget + old.budget) (written_cells backend_request_number w) (heard cells ended) old new
-      × SaysZero (head_of backend_request_number w) cells × (new.list ≡ true)
+      × SaysZero (head_of backend_request_number w) cells
 
-  -- A call succeeded: its number is 0, and the message that the definitions name went out.
+  -- A call succeeded: its number is 0, the message that the definitions name went out, and the list of handles is there.
   pub record IsDone (call : ReverseCall H) (old : Channel L H) (n : ℕ) (new : Channel L H) : Type 0 where
     pub number : n ≡ 0
     pub message : Written BackendReq H
     pub awaited : Bool
     pub asked : reverse_ask (backend_of old) call ≡ Sends message awaited
     pub told : IsTold awaited message old.endpoint new.endpoint
+    pub list : new.endpoint.list ≡ true
     pub others : new ≡ record old { endpoint = new.endpoint }
 
   -- A call did not.

@@ -2,6 +2,7 @@
 //! caller can use it.
 #![tactic(auto)]
 
+mod again;
 mod asks;
 mod endpoints;
 mod example;
@@ -17,6 +18,7 @@ mod served;
 mod shared;
 mod streams;
 
+pub use again::{adds_again, asks_again};
 pub use asks::{adds_object, asks_features, maps_memory, moves_cursor};
 pub use endpoints::sends_in_one;
 pub use example::{Device, claims_device, claims_twice};
