@@ -1,7 +1,7 @@
 //! Values from outside.
 
+use crate::texts::has_fields;
 use bitflags::Flags;
-use std::test::Fail;
 use vhost_gpu_message::{
     GpuBackendReq, VhostUserGpuCursorPos, VhostUserGpuCursorUpdate, VhostUserGpuDMABUFScanout,
     VhostUserGpuDMABUFScanout2, VhostUserGpuEdidRequest, VhostUserGpuMsgHeader,
@@ -20,52 +20,71 @@ fn bytes(header: &Header) -> [u8; 12] {
 
 #[test]
 fn codes(rt: HostRuntime) {
-    assert!(rt; GpuBackendReq::try_from(0) == Err(()));
-    assert!(rt; GpuBackendReq::try_from(12) == Ok(GpuBackendReq::DMABUF_SCANOUT2));
-    assert!(rt; GpuBackendReq::try_from(13) == Err(()));
-    assert!(rt; u32::from(GpuBackendReq::GET_EDID) == 11);
-    assert!(rt; GpuBackendReq::code(7).is_some_and(|code| code.number() == 7));
+    let ends = [
+        GpuBackendReq::try_from(0),
+        GpuBackendReq::try_from(12),
+        GpuBackendReq::try_from(13),
+    ];
+    assert!(rt; ends == [Err(()), Ok(GpuBackendReq::DMABUF_SCANOUT2), Err(())]);
+    let numbers = [
+        u32::from(GpuBackendReq::GET_EDID),
+        GpuBackendReq::SCANOUT.number(),
+    ];
+    assert!(rt; (numbers, GpuBackendReq::code(7)) == ([11, 7], Some(GpuBackendReq::SCANOUT)));
     assert!(rt; GpuBackendReq::CURSOR_POS < GpuBackendReq::CURSOR_POS_HIDE);
-    assert!(rt; VhostUserGpuProtocolFeatures::EDID.bits() == 0);
-    assert!(rt; VhostUserGpuProtocolFeatures::all().bits() == 1);
 }
 
 #[test]
-fn headers(rt: HostRuntime) -> Result<(), Fail> {
-    let header = Header::new(GpuBackendReq::GET_EDID, 0xffff_ffff, 4);
-    assert!(rt; bytes(&header) == [0xb, 0, 0, 0, 0xff, 0xff, 0xff, 0xff, 4, 0, 0, 0]);
-    assert!(rt; !header.is_valid());
-    let cases: [(u8, u8, bool); 6] = [
-        (1, 0, true),
-        (12, 4, true),
-        (13, 0, false),
-        (0, 4, false),
-        (1, 1, false),
-        (1, 5, false),
-    ];
-    for (request, flags, valid) in cases {
-        let header = Header::decode(&[request, 0, 0, 0, flags, 0, 0, 0, 0xff, 0xff, 0xff, 0xff]);
-        assert!(rt; header.is_valid() == valid, "{request} {flags}");
-        assert!(rt; header.get_size() == 0xffff_ffff);
+fn features(rt: HostRuntime) {
+    let edid = VhostUserGpuProtocolFeatures::EDID.bits();
+    assert!(rt; (edid, VhostUserGpuProtocolFeatures::all().bits()) == (0, 1));
+}
+
+/// Requests and flags of headers, and whether the header is valid.
+static HEADERS: [([u8; 2], bool); 6] = [
+    ([1, 0], true),
+    ([12, 4], true),
+    ([13, 0], false),
+    ([0, 4], false),
+    ([1, 1], false),
+    ([1, 5], false),
+];
+
+#[test]
+fn valid_headers(rt: HostRuntime) {
+    for (place, ([request, flags], valid)) in HEADERS.iter().enumerate() {
+        let header = Header::decode(&[*request, 0, 0, 0, *flags, 0, 0, 0, 0xff, 0xff, 0xff, 0xff]);
+        let told = (header.is_valid(), header.get_size());
+        assert!(rt; told == (*valid, 0xffff_ffff), "header {place}");
     }
+}
+
+#[test]
+fn made_headers(rt: HostRuntime) {
+    let header = Header::new(GpuBackendReq::GET_EDID, 0xffff_ffff, 4);
+    let all = [bytes(&header), bytes(&Header::default())];
+    let want = [[0xb, 0, 0, 0, 0xff, 0xff, 0xff, 0xff, 4, 0, 0, 0], [0; 12]];
+    assert!(rt; (all, header.is_valid()) == (want, false));
+    assert!(rt; <Header as MsgHeader>::MAX_MSG_SIZE == 0xffff_ffff);
+}
+
+#[test]
+fn headers_of_replies(rt: HostRuntime) {
     let request = Header::new(GpuBackendReq::GET_EDID, 0, 4);
     let mut reply = request;
-    assert!(rt; reply == request && !reply.is_reply() && reply.get_code().is_ok());
+    let same = [reply == request, reply.is_reply(), reply.get_code().is_ok()];
     reply.set_reply(true);
     reply.set_size(1056);
-    assert!(rt; reply.is_reply_for(&request) && !request.is_reply_for(&reply));
-    assert!(rt; bytes(&Header::default()) == [0; 12]);
-    assert!(rt; <Header as MsgHeader>::MAX_MSG_SIZE == 0xffff_ffff);
-    let shown = format!(in rt.alloc(); "{reply:?}")?;
-    assert!(rt; shown.as_str() == "VhostUserGpuMsgHeader { request: 11, flags: 4, size: 1056 }");
-    Ok(())
+    let fits = [reply.is_reply_for(&request), request.is_reply_for(&reply)];
+    assert!(rt; (same, fits) == ([true, false, true], [true, false]));
+    let fields = "VhostUserGpuMsgHeader { request: 11, flags: 4, size: 1056 }";
+    assert!(rt; has_fields(rt.alloc(), &reply, fields));
 }
 
 #[test]
-fn requests(rt: HostRuntime) {
-    let mut out = [0xff; 4];
-    VhostUserGpuEdidRequest { scanout_id: 0x0102 }.encode_into(&mut out);
-    assert!(rt; out == [2, 1, 0, 0]);
+fn scanouts(rt: HostRuntime) {
+    let mut edid = [0xff; 4];
+    VhostUserGpuEdidRequest { scanout_id: 0x0102 }.encode_into(&mut edid);
     let scanout = VhostUserGpuScanout {
         scanout_id: 1,
         width: 2,
@@ -73,8 +92,13 @@ fn requests(rt: HostRuntime) {
     };
     let mut out = [0xff; 12];
     scanout.encode_into(&mut out);
-    assert!(rt; out == [1, 0, 0, 0, 2, 0, 0, 0, 3, 0, 0, 0]);
-    assert!(rt; VhostUserGpuScanout::decode(&out) == scanout && scanout.is_valid());
+    assert!(rt; (edid, out) == ([2, 1, 0, 0], [1, 0, 0, 0, 2, 0, 0, 0, 3, 0, 0, 0]));
+    let again = VhostUserGpuScanout::decode(&out) == scanout;
+    assert!(rt; [again, scanout.is_valid()] == [true, true]);
+}
+
+#[test]
+fn updates(rt: HostRuntime) {
     let update = VhostUserGpuUpdate {
         scanout_id: 1,
         x: 2,
@@ -85,11 +109,16 @@ fn requests(rt: HostRuntime) {
     let mut out = [0xff; 20];
     update.encode_into(&mut out);
     assert!(rt; out == [1, 0, 0, 0, 2, 0, 0, 0, 3, 0, 0, 0, 4, 0, 0, 0, 5, 0, 0, 0]);
+}
+
+#[test]
+fn cursors(rt: HostRuntime) {
     let pos = VhostUserGpuCursorPos {
         scanout_id: 6,
         x: 7,
         y: 8,
     };
+    let mut out = [0xff; 20];
     VhostUserGpuCursorUpdate {
         pos,
         hot_x: 9,
@@ -108,21 +137,18 @@ fn buffers(rt: HostRuntime) {
     scanout.modifier = 0x0100_0000_0000_0002;
     let mut out = [0xff; 48];
     scanout.encode_into(&mut out);
-    let mut expected = [0; 48];
-    expected[0] = 1;
-    expected[36] = 0x58;
-    expected[37] = 0x52;
-    expected[38] = 0x32;
-    expected[39] = 0x34;
-    expected[40] = 2;
-    expected[47] = 1;
-    assert!(rt; out == expected);
-    assert!(rt; VhostUserGpuDMABUFScanout2::decode(&out) == scanout);
-    assert!(rt; VhostUserGpuDMABUFScanout::default().is_valid());
+    assert!(rt;
+        out == [
+            1, 0, 0, 0, 0, 0, 0, 0, 0, 0, 0, 0, 0, 0, 0, 0, 0, 0, 0, 0, 0, 0, 0, 0, 0, 0, 0, 0, 0,
+            0, 0, 0, 0, 0, 0, 0, 0x58, 0x52, 0x32, 0x34, 2, 0, 0, 0, 0, 0, 0, 1,
+        ]
+    );
+    let again = VhostUserGpuDMABUFScanout2::decode(&out) == scanout;
+    assert!(rt; [again, VhostUserGpuDMABUFScanout::default().is_valid()] == [true, true]);
 }
 
 #[test]
-fn replies(rt: HostRuntime) {
+fn displays(rt: HostRuntime) {
     let mut info = VirtioGpuRespDisplayInfo::default();
     info.hdr = VirtioGpuCtrlHdr {
         type_: 0x1101,
@@ -145,16 +171,18 @@ fn replies(rt: HostRuntime) {
     let mut out = [0xff; 408];
     info.encode_into(&mut out);
     let mut expected = [0; 408];
-    let head = [
+    expected[..24].copy_from_slice(&[
         1, 0x11, 0, 0, 1, 0, 0, 0, 2, 0, 0, 0, 0, 0, 0, 0, 3, 0, 0, 0, 4, 5, 6, 7,
-    ];
-    let last = [
+    ]);
+    expected[384..].copy_from_slice(&[
         1, 0, 0, 0, 2, 0, 0, 0, 3, 0, 0, 0, 4, 0, 0, 0, 1, 0, 0, 0, 9, 0, 0, 0,
-    ];
-    expected[..24].copy_from_slice(&head);
-    expected[384..].copy_from_slice(&last);
-    assert!(rt; out == expected);
-    assert!(rt; VirtioGpuRespDisplayInfo::decode(&out) == info && info.is_valid());
+    ]);
+    let again = VirtioGpuRespDisplayInfo::decode(&out) == info;
+    assert!(rt; (out, again, info.is_valid()) == (expected, true, true));
+}
+
+#[test]
+fn edids(rt: HostRuntime) {
     let mut edid = VirtioGpuRespGetEdid::default();
     edid.size = 256;
     edid.edid[1023] = 8;
@@ -163,6 +191,6 @@ fn replies(rt: HostRuntime) {
     let mut expected = [0; 1056];
     expected[25] = 1;
     expected[1055] = 8;
-    assert!(rt; out == expected);
-    assert!(rt; VirtioGpuRespGetEdid::decode(&out) == edid && edid.is_valid());
+    let again = VirtioGpuRespGetEdid::decode(&out) == edid;
+    assert!(rt; (out, again, edid.is_valid()) == (expected, true, true));
 }

@@ -31,4 +31,8 @@ mod serving;
 #[cfg(test)]
 mod sockets;
 #[cfg(test)]
+mod texts;
+#[cfg(test)]
 mod threads;
+#[cfg(test)]
+mod told;

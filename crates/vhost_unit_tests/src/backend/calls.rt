@@ -1,5 +1,6 @@
 //! Each call of a device through both wrappers.
 
+use crate::told::{Told, done, mapped, number};
 use std::cell::RefCell;
 use std::sync::{RwLock, Wait};
 use vhost_backend::{
@@ -100,8 +101,8 @@ impl VhostBackendMut for Device {
     }
 }
 
-// Each call once; what the two that answer a number have answered.
-fn call_each<B: VhostBackend<Handle = u32>>(backend: &B, rt: &impl Wait) -> Result<(u64, u32)> {
+/// What each call answered, made once.
+fn call_each<B: VhostBackend<Handle = u32>>(backend: &B, rt: &impl Wait) -> [Told; 14] {
     let handle: u32 = 9;
     let region = VhostUserMemoryRegionInfo::new(0, 0x2000, 0, 0, Some(&handle));
     let log = VhostUserDirtyLogRegion {
@@ -109,21 +110,22 @@ fn call_each<B: VhostBackend<Handle = u32>>(backend: &B, rt: &impl Wait) -> Resu
         mmap_offset: 0,
         mmap_handle: Some(&handle),
     };
-    let features = backend.get_features(rt)?;
-    backend.set_features(rt, 3)?;
-    backend.set_owner(rt)?;
-    backend.reset_owner(rt)?;
-    let _ = backend.set_mem_table(rt, &[region])?;
-    backend.set_log_base(rt, 0x7000, Some(log))?;
-    backend.set_log_fd(rt, &handle)?;
-    backend.set_vring_num(rt, 1, 256)?;
-    backend.set_vring_addr(rt, 2, &VringConfigData::default())?;
-    backend.set_vring_base(rt, 3, 4)?;
-    let base = backend.get_vring_base(rt, 5)?;
-    backend.set_vring_call(rt, 6, &handle)?;
-    backend.set_vring_kick(rt, 7, &handle)?;
-    backend.set_vring_err(rt, 8, &handle)?;
-    Ok((features, base))
+    [
+        number(backend.get_features(rt)),
+        done(backend.set_features(rt, 3)),
+        done(backend.set_owner(rt)),
+        done(backend.reset_owner(rt)),
+        mapped(backend.set_mem_table(rt, &[region])),
+        done(backend.set_log_base(rt, 0x7000, Some(log))),
+        done(backend.set_log_fd(rt, &handle)),
+        done(backend.set_vring_num(rt, 1, 256)),
+        done(backend.set_vring_addr(rt, 2, &VringConfigData::default())),
+        done(backend.set_vring_base(rt, 3, 4)),
+        number(backend.get_vring_base(rt, 5)),
+        done(backend.set_vring_call(rt, 6, &handle)),
+        done(backend.set_vring_kick(rt, 7, &handle)),
+        done(backend.set_vring_err(rt, 8, &handle)),
+    ]
 }
 
 // What `call_each` gave each call.
@@ -131,25 +133,36 @@ static GIVEN: [u64; 14] = [
     1, 3, 1, 1, 0x2000, 0x7300, 9, 0x10100, 0x20000, 0x30004, 0x50000, 0x60009, 0x70009, 0x80009,
 ];
 
+// What the device answered each.
+static ANSWERED: [Told; 14] = [
+    Told::Number(0x4000_0000),
+    Told::Done,
+    Told::Done,
+    Told::Done,
+    Told::Done,
+    Told::Done,
+    Told::Done,
+    Told::Done,
+    Told::Done,
+    Told::Done,
+    Told::Number(77),
+    Told::Done,
+    Told::Done,
+    Told::Done,
+];
+
 #[test]
 fn behind_a_lock(rt: HostRuntime) {
     let device = RwLock::new(Device::default());
-    let answers = call_each(&device, &rt);
-    assert!(rt; matches!(answers, Ok((0x4000_0000, 77))));
+    assert!(rt; call_each(&device, &rt) == ANSWERED);
     assert!(rt; device.into_inner().seen == GIVEN);
 }
 
 #[test]
 fn in_a_cell(rt: HostRuntime) {
     let device = RefCell::new(Device::default());
-    let answers = call_each(&device, &rt);
-    assert!(rt; matches!(answers, Ok((0x4000_0000, 77))));
+    assert!(rt; call_each(&device, &rt) == ANSWERED);
     assert!(rt; device.into_inner().seen == GIVEN);
-}
-
-// Whether the call was refused, since the device is in use.
-fn is_refused<T: Drop>(answer: Result<T>) -> bool {
-    matches!(answer, Err(Error::InvalidOperation))
 }
 
 #[test]
@@ -157,25 +170,7 @@ fn in_a_cell_in_use(rt: HostRuntime) {
     let device = RefCell::new(Device::default());
     let held = device.try_borrow_mut();
     assert!(rt; held.is_ok());
-    let handle: u32 = 9;
-    let config = VringConfigData::default();
-    let refused = [
-        is_refused(device.get_features(&rt)),
-        is_refused(device.set_features(&rt, 3)),
-        is_refused(device.set_owner(&rt)),
-        is_refused(device.reset_owner(&rt)),
-        is_refused(device.set_mem_table(&rt, &[])),
-        is_refused(device.set_log_base(&rt, 0x7000, None)),
-        is_refused(device.set_log_fd(&rt, &handle)),
-        is_refused(device.set_vring_num(&rt, 1, 256)),
-        is_refused(device.set_vring_addr(&rt, 2, &config)),
-        is_refused(device.set_vring_base(&rt, 3, 4)),
-        is_refused(device.get_vring_base(&rt, 5)),
-        is_refused(device.set_vring_call(&rt, 6, &handle)),
-        is_refused(device.set_vring_kick(&rt, 7, &handle)),
-        is_refused(device.set_vring_err(&rt, 8, &handle)),
-    ];
-    assert!(rt; refused == [true; 14]);
+    assert!(rt; call_each(&device, &rt) == [Told::InUse; 14]);
     drop(held);
     assert!(rt; device.set_owner(&rt).is_ok());
 }

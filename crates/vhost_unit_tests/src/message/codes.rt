@@ -18,30 +18,37 @@ fn count_codes<R: Req>(numbers: u32) -> u32 {
 }
 
 #[test]
-fn codes(rt: HostRuntime) {
-    assert!(rt; FrontendReq::try_from(0) == Err(()));
-    assert!(rt; FrontendReq::try_from(44) == Ok(FrontendReq::GET_SHMEM_CONFIG));
-    assert!(rt; FrontendReq::try_from(45) == Err(()));
-    assert!(rt; BackendReq::try_from(0) == Err(()));
-    assert!(rt; BackendReq::try_from(10) == Ok(BackendReq::SHMEM_UNMAP));
-    assert!(rt; BackendReq::try_from(11) == Err(()));
-    assert!(rt; u32::from(FrontendReq::NET_SET_MTU) == 20);
-    assert!(rt; count_codes::<FrontendReq>(1000) == 44);
+fn codes_of_a_frontend(rt: HostRuntime) {
+    let ends = [0, 44, 45].map(FrontendReq::try_from);
+    assert!(rt; ends == [Err(()), Ok(FrontendReq::GET_SHMEM_CONFIG), Err(())]);
+    let numbers = (
+        u32::from(FrontendReq::NET_SET_MTU),
+        count_codes::<FrontendReq>(1000),
+    );
+    assert!(rt; numbers == (20, 44) && FrontendReq::SET_OWNER < FrontendReq::RESET_OWNER);
+}
+
+#[test]
+fn codes_of_a_device(rt: HostRuntime) {
+    let ends = [
+        BackendReq::try_from(0),
+        BackendReq::try_from(10),
+        BackendReq::try_from(11),
+    ];
+    assert!(rt; ends == [Err(()), Ok(BackendReq::SHMEM_UNMAP), Err(())]);
     assert!(rt; count_codes::<BackendReq>(1000) == 10);
-    assert!(rt; FrontendReq::SET_OWNER < FrontendReq::RESET_OWNER);
 }
 
 #[test]
 fn transfers(rt: HostRuntime) {
-    assert!(rt; VhostTransferStateDirection::try_from(1) == Ok(VhostTransferStateDirection::LOAD));
-    assert!(rt; VhostTransferStateDirection::try_from(2) == Err(()));
-    assert!(rt; VhostTransferStatePhase::try_from(0) == Ok(VhostTransferStatePhase::STOPPED));
-    assert!(rt; VhostTransferStatePhase::try_from(1) == Err(()));
-    assert!(rt; VhostTransferStateDirection::SAVE < VhostTransferStateDirection::LOAD);
+    let directions = [1, 2].map(|number| VhostTransferStateDirection::try_from(number).is_ok());
+    let phases = [0, 1].map(|number| VhostTransferStatePhase::try_from(number).is_ok());
+    let ordered = VhostTransferStateDirection::SAVE < VhostTransferStateDirection::LOAD;
+    assert!(rt; (directions, phases, ordered) == ([true, false], [true, false], true));
 }
 
 #[test]
 fn features(rt: HostRuntime) {
-    assert!(rt; VhostUserProtocolFeatures::all().bits() == 0x7f_ffff);
-    assert!(rt; VhostUserProtocolFeatures::from_bits(0x80_0000).is_none());
+    let unknown = VhostUserProtocolFeatures::from_bits(0x80_0000);
+    assert!(rt; (VhostUserProtocolFeatures::all().bits(), unknown.is_none()) == (0x7f_ffff, true));
 }

@@ -3,25 +3,27 @@
 use vhost_message::{DescStatePacked, DescStateSplit, QueueRegionPacked, QueueRegionSplit};
 
 #[test]
-fn areas(rt: HostRuntime) {
+fn split_areas(rt: HostRuntime) {
     let split = QueueRegionSplit::new(3, 256);
-    assert!(rt;
-        (
-            split.features,
-            split.version,
-            split.desc_num,
-            split.used_idx
-        ) == (3, 1, 256, 0)
+    let told = (
+        split.features,
+        split.version,
+        split.desc_num,
+        split.used_idx,
     );
-    let packed = QueueRegionPacked::new(4, 16);
-    assert!(rt;
-        (
-            packed.features,
-            packed.version,
-            packed.desc_num,
-            packed.desc
-        ) == (4, 1, 16, 0)
-    );
+    assert!(rt; told == (3, 1, 256, 0));
     assert!(rt; DescStateSplit::new().counter == DescStateSplit::default().counter);
+}
+
+#[test]
+fn packed_areas(rt: HostRuntime) {
+    let packed = QueueRegionPacked::new(4, 16);
+    let told = (
+        packed.features,
+        packed.version,
+        packed.desc_num,
+        packed.desc,
+    );
+    assert!(rt; told == (4, 1, 16, 0));
     assert!(rt; DescStatePacked::new().addr == DescStatePacked::default().addr);
 }

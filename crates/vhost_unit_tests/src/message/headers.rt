@@ -1,6 +1,6 @@
 //! Headers as bytes.
 
-use std::test::Fail;
+use crate::texts::has_fields;
 use vhost_message::{ByteValued, FrontendReq, VhostUserMsgHeader, VhostUserMsgValidator};
 
 type Header = VhostUserMsgHeader<FrontendReq>;
@@ -13,53 +13,62 @@ fn bytes(header: &Header) -> [u8; 12] {
 
 #[test]
 fn made(rt: HostRuntime) {
-    let header = Header::new(FrontendReq::GET_FEATURES, 0xffff_ffff, 0);
-    assert!(rt; bytes(&header) == [1, 0, 0, 0, 0xd, 0, 0, 0, 0, 0, 0, 0]);
-    let mut header = Header::new(FrontendReq::GET_FEATURES, 0, 0x100);
-    header.set_need_reply(true);
-    header.set_version(6);
-    header.set_code(FrontendReq::SET_FEATURES);
-    assert!(rt; bytes(&header) == [2, 0, 0, 0, 0xa, 0, 0, 0, 0, 1, 0, 0]);
-    assert!(rt; !header.is_valid());
-    assert!(rt; bytes(&Header::default()) == [0, 0, 0, 0, 1, 0, 0, 0, 0, 0, 0, 0]);
+    let long = Header::new(FrontendReq::GET_FEATURES, 0xffff_ffff, 0);
+    let mut changed = Header::new(FrontendReq::GET_FEATURES, 0, 0x100);
+    changed.set_need_reply(true);
+    changed.set_version(6);
+    changed.set_code(FrontendReq::SET_FEATURES);
+    let all = [bytes(&long), bytes(&changed), bytes(&Header::default())];
+    let want = [
+        [1, 0, 0, 0, 0xd, 0, 0, 0, 0, 0, 0, 0],
+        [2, 0, 0, 0, 0xa, 0, 0, 0, 0, 1, 0, 0],
+        [0, 0, 0, 0, 1, 0, 0, 0, 0, 0, 0, 0],
+    ];
+    assert!(rt; (all, changed.is_valid()) == (want, false));
 }
+
+/// Bytes of headers: the request, the flags, and the low and high byte of the size; and whether the header is valid.
+static HEADERS: [([u8; 4], bool); 8] = [
+    ([1, 1, 0, 0x10], true),
+    ([1, 1, 1, 0x10], false),
+    ([1, 0x11, 0, 0], false),
+    ([1, 0, 0, 0], false),
+    ([1, 2, 0, 0], false),
+    ([1, 0xd, 8, 0], true),
+    ([0, 1, 0, 0], false),
+    ([45, 1, 0, 0], false),
+];
 
 #[test]
 fn valid(rt: HostRuntime) {
-    // request, flags, low and high byte of the size
-    let cases: [(u8, u8, u8, u8, bool); 8] = [
-        (1, 1, 0, 0x10, true),
-        (1, 1, 1, 0x10, false),
-        (1, 0x11, 0, 0, false),
-        (1, 0, 0, 0, false),
-        (1, 2, 0, 0, false),
-        (1, 0xd, 8, 0, true),
-        (0, 1, 0, 0, false),
-        (45, 1, 0, 0, false),
-    ];
-    for (request, flags, low, high, valid) in cases {
-        let header = Header::decode(&[request, 0, 0, 0, flags, 0, 0, 0, low, high, 0, 0]);
-        assert!(rt;
-            header.is_valid() == valid,
-            "{request} {flags} {low} {high}"
-        );
-        assert!(rt; header.get_code().is_ok() == (request == 1));
+    for (place, ([request, flags, low, high], valid)) in HEADERS.iter().enumerate() {
+        let header = Header::decode(&[*request, 0, 0, 0, *flags, 0, 0, 0, *low, *high, 0, 0]);
+        let told = (header.is_valid(), header.get_code().is_ok());
+        assert!(rt; told == (*valid, *request == 1), "header {place}");
     }
 }
 
 #[test]
-fn calls(rt: HostRuntime) -> Result<(), Fail> {
+fn replies(rt: HostRuntime) {
     let request = Header::new(FrontendReq::GET_FEATURES, 8, 0);
     let mut reply = Header::new(FrontendReq::GET_FEATURES, 0, 8);
-    assert!(rt; !reply.is_reply_for(&request) && !reply.is_reply());
+    let before = [reply.is_reply_for(&request), reply.is_reply()];
     reply.set_reply(true);
-    assert!(rt; reply.is_reply_for(&request) && !request.is_reply_for(&reply));
-    assert!(rt; request.is_need_reply() && !reply.is_need_reply());
+    let after = [
+        reply.is_reply_for(&request),
+        request.is_reply_for(&reply),
+        request.is_need_reply(),
+        reply.is_need_reply(),
+    ];
+    assert!(rt; (before, after) == ([false, false], [true, false, true, false]));
+}
+
+#[test]
+fn sizes(rt: HostRuntime) {
+    let mut reply = Header::new(FrontendReq::GET_FEATURES, 4, 8);
     reply.set_size(24);
-    assert!(rt; reply.get_size() == 24);
-    assert!(rt; reply.get_version() == 1);
+    assert!(rt; (reply.get_size(), reply.get_version()) == (24, 1));
     assert!(rt; reply == Header::decode(&bytes(&reply)));
-    let shown = format!(in rt.alloc(); "{reply:?}")?;
-    assert!(rt; shown.as_str() == "VhostUserMsgHeader { request: 1, flags: 5, size: 24 }");
-    Ok(())
+    let fields = "VhostUserMsgHeader { request: 1, flags: 5, size: 24 }";
+    assert!(rt; has_fields(rt.alloc(), &reply, fields));
 }
