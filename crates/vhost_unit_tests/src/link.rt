@@ -1,21 +1,24 @@
 //! What a link in memory refuses.
 
-use std::test::Fail;
+use std::alloc::Global;
 use vhost_link::{Link, MemLink};
 use vhost_message::IoCause;
 
 /// Why a link has no duplicate, where a name says it.
-fn refusal<L: Link>(link: &L) -> &'static str {
+pub(crate) fn no_duplicate<L: Link>(link: &L) -> &'static str {
     match link.duplicate() {
         Err(IoCause::Named(name)) => name,
         _ => "",
     }
 }
 
-#[test]
-fn has_no_duplicate(rt: HostRuntime) -> Result<(), Fail> {
-    let alloc = rt.alloc();
+/// Why a new link in memory has no duplicate.
+fn new_one_has_no_duplicate(alloc: Global) -> &'static str {
     let link = MemLink::new(alloc, Vec::new(alloc));
-    assert!(rt; refusal(&link) == "link cannot be duplicated");
-    Ok(())
+    no_duplicate(&link)
+}
+
+#[test]
+fn has_no_duplicate(rt: HostRuntime) {
+    assert!(rt; new_one_has_no_duplicate(rt.alloc()) == "link cannot be duplicated");
 }

@@ -1,7 +1,7 @@
 //! Links between threads: rings and hubs.
 
 mod hub;
-mod part;
+pub(crate) mod part;
 mod ring;
 mod script;
 mod threads;

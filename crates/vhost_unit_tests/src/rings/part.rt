@@ -23,8 +23,13 @@ pub(crate) fn handle(id: u32) -> PlainHandle {
     }
 }
 
-/// Both ends of a new link, whose rings have room for 33 pieces.
-pub(crate) fn pair<R: Copy + Drop>(
+/// A hub without an end.
+pub(crate) fn new_hub(alloc: Global) -> Result<Arc<Hub, Global>, AllocError> {
+    Arc::new(alloc, Hub::new(alloc)).map_err(|_| AllocError)
+}
+
+/// Both ends of a new link of this hub, whose rings have room for 33 pieces.
+pub(crate) fn pair_in<R: Copy + Drop>(
     rt: R,
     alloc: Global,
     hub: &Arc<Hub, Global>,
@@ -32,6 +37,17 @@ pub(crate) fn pair<R: Copy + Drop>(
     ensures { IfOk result (λ p. p.0.output ≡ p.1.input) }
 {
     SharedLink::pair(rt, alloc, hub, 33)
+}
+
+/// The same in a hub of its own.
+pub(crate) fn pair<R: Copy + Drop>(
+    rt: R,
+    alloc: Global,
+) -> Result<(SharedLink<R>, SharedLink<R>), AllocError>
+    ensures { IfOk result (λ p. p.0.output ≡ p.1.input) }
+{
+    let hub = new_hub(alloc)?;
+    pair_in(rt, alloc, &hub)
 }
 
 /// How many of the bytes one send took, or else the number of the failure; 0 where there is no byte.

@@ -2,8 +2,7 @@
 
 use crate::rings::part::{handle, pair, receive, send};
 use std::alloc::{AllocError, Global};
-use std::sync::Arc;
-use vhost_link::{Hub, SharedLink};
+use vhost_link::SharedLink;
 
 /// Forty bytes, each another.
 pub(crate) static BYTES: [u8; 40] = [
@@ -26,18 +25,28 @@ pub(crate) enum Step {
 
 /// What the calls answer over rings with room for 33 pieces, a line each; then the near end goes, and all that comes is received.
 pub(crate) fn play(alloc: Global, steps: &[Step]) -> Result<String, AllocError> {
-    let hub = Arc::new(alloc, Hub::new(alloc)).map_err(|_| AllocError)?;
-    let (near, mut far) = pair((), alloc, &hub)?;
+    let (near, mut far) = pair((), alloc)?;
     let mut text = String::new(alloc);
-    let mut near = near;
+    play_all(alloc, near, &mut far, steps, &mut text)?;
+    Ok(text)
+}
+
+/// Plays each step, lets go of the near end, and receives four times more.
+fn play_all(
+    alloc: Global,
+    mut near: SharedLink<()>,
+    far: &mut SharedLink<()>,
+    steps: &[Step],
+    text: &mut String,
+) -> Result<(), AllocError> {
     for step in steps {
-        play_step(alloc, &mut near, &mut far, *step, &mut text)?;
+        play_step(alloc, &mut near, far, *step, text)?;
     }
     drop(near);
     for _i in 0..4u32 {
-        show(&mut text, alloc, &mut far, 64)?;
+        show(text, alloc, far, 64)?;
     }
-    Ok(text)
+    Ok(())
 }
 
 fn play_step(
