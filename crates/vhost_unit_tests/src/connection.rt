@@ -4,7 +4,6 @@ ghost use Rattle.std.specs.Prelude.{◌≡◌, None, OnOk};
 ghost use Rattle.vhost_connection.specs.State.{state};
 
 use std::alloc::Global;
-use std::test::Fail;
 use vhost_connection::Endpoint;
 use vhost_link::{Link, MemLink};
 use vhost_message::{FrontendReq, MsgHeader, Result, VhostUserMsgHeader};
@@ -31,16 +30,30 @@ fn relink<M: MsgHeader, L: Link>(end: &mut Endpoint<M, L>, link: L)
 
 type Header = VhostUserMsgHeader<FrontendReq>;
 
-#[test]
-fn lends_and_goes_on(rt: HostRuntime) -> std::result::Result<(), Fail> {
-    let alloc: Global = rt.alloc();
-    let empty = MemLink::new(alloc, Vec::new(alloc));
-    let mut end: Endpoint<Header, MemLink> = Endpoint::from_stream(alloc, empty, 0)?;
+/// An endpoint whose link has been replaced by one on which three bytes came.
+fn relinked(alloc: Global) -> Option<Endpoint<Header, MemLink>> {
     let mut link = MemLink::new(alloc, Vec::new(alloc));
-    link.push(&[9, 8, 7], &[])?;
+    link.push(&[9, 8, 7], &[]).ok()?;
+    let empty = MemLink::new(alloc, Vec::new(alloc));
+    let mut end = Endpoint::from_stream(alloc, empty, 0).ok()?;
     relink(&mut end, link);
+    Some(end)
+}
+
+/// The first byte that came, and how many bytes were then sent.
+fn goes_on(end: &mut Endpoint<Header, MemLink>) -> (Option<u8>, usize) {
     let header = VhostUserMsgHeader::new(FrontendReq::SET_OWNER, 0, 0);
-    assert!(rt; looks_and_sends(&mut end, &header)? == 9);
-    assert!(rt; end.link().taken().len() == 12);
-    Ok(())
+    let first = looks_and_sends(end, &header).ok();
+    (first, end.link().taken().len())
+}
+
+/// The same of a new endpoint.
+fn new_one_goes_on(alloc: Global) -> Option<(Option<u8>, usize)> {
+    let mut end = relinked(alloc)?;
+    Some(goes_on(&mut end))
+}
+
+#[test]
+fn lends_and_goes_on(rt: HostRuntime) {
+    assert!(rt; new_one_goes_on(rt.alloc()) == Some((Some(9), 12)));
 }
