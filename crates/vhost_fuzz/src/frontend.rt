@@ -25,9 +25,9 @@ impl Caller for FrontendInternal<MemLink> {
 
     /// InvalidOperation: an answer is awaited that was not taken.
     fn make(&mut self, call: &FrontendCall) -> Answer {
-        if self.awaited() != Awaited::Nobody {
+        let Awaited::Nobody = self.awaited() else {
             return Answer::failed(&Error::InvalidOperation("an answer was not taken"));
-        }
+        };
         match ask(self, call) {
             Ok(Some(sent)) => answer_of(&take(self, call, sent)),
             Ok(None) => Answer::done(),

@@ -178,9 +178,9 @@ fn by_halves(
     frontend: &mut FrontendInternal<MemLink>,
     call: &FrontendCall,
 ) -> Result<FrontendAnswer, Miss> {
-    if frontend.awaited() != Awaited::Nobody {
+    let Awaited::Nobody = frontend.awaited() else {
         return Err(differs(alloc, "no answer awaited", "one that was not taken"));
-    }
+    };
     match ask(frontend, call) {
         Ok(Some(sent)) => Ok(take(frontend, call, sent)),
         Ok(None) => Ok(FrontendAnswer::Done),
