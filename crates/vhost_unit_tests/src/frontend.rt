@@ -4,7 +4,12 @@ use std::test::Fail;
 use vhost_frontend::{Frontend, Quiet, VhostUserMemoryContext};
 use vhost_link::{Cut, Kind, MemLink, PlainHandle};
 use vhost_message::{Error, IoCause, VhostUserHeaderFlag, VhostUserMemoryRegion};
-use vhost_promises::own_features;
+use vhost_promises::{asks_again, own_features};
+
+/// The reply to GET_FEATURES: 0x40000001.
+static FEATURES: [u8; 20] = [
+    1, 0, 0, 0, 5, 0, 0, 0, 8, 0, 0, 0, 1, 0, 0, 0x40, 0, 0, 0, 0,
+];
 
 #[test]
 fn tells_of_a_fault(rt: HostRuntime) -> Result<(), Fail> {
@@ -23,13 +28,21 @@ fn tells_of_a_fault(rt: HostRuntime) -> Result<(), Fail> {
 fn answers_its_own_caller(rt: HostRuntime) -> Result<(), Fail> {
     let alloc = rt.alloc();
     let mut link = MemLink::new(alloc, Vec::new(alloc));
-    let features = [
-        1, 0, 0, 0, 5, 0, 0, 0, 8, 0, 0, 0, 1, 0, 0, 0x40, 0, 0, 0, 0,
-    ];
-    link.push(&features, &[])?;
+    link.push(&FEATURES, &[])?;
     let frontend = Frontend::from_stream(alloc, link, 1, 0)?;
     assert!(rt; matches!(own_features(&frontend, &rt), Ok(0x4000_0001)));
     assert!(rt; own_features(&frontend, &rt).is_err());
+    Ok(())
+}
+
+#[test]
+fn asks_one_after_another(rt: HostRuntime) -> Result<(), Fail> {
+    let alloc = rt.alloc();
+    let mut link = MemLink::new(alloc, Vec::new(alloc));
+    link.push(&FEATURES, &[])?;
+    link.push(&FEATURES, &[])?;
+    let mut quiet = Quiet::new(alloc, link, 1, 0)?;
+    assert!(rt; asks_again(&mut quiet, 2).is_ok());
     Ok(())
 }
 

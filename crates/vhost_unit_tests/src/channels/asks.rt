@@ -9,7 +9,7 @@ use uuid::Uuid;
 use vhost_backend_req::BackendInternal;
 use vhost_link::{Kind, Link, MemLink, PlainHandle};
 use vhost_message::{Error, HandlerResult, IoError, VhostUserMMap, VhostUserSharedMsg};
-use vhost_promises::{adds_object, maps_memory};
+use vhost_promises::{adds_again, adds_object, maps_memory};
 
 const HANDLE: PlainHandle = PlainHandle {
     id: 7,
@@ -104,5 +104,6 @@ fn unanswered(rt: HostRuntime) -> Result<(), Fail> {
     let answer = maps_memory(&mut channel, &VhostUserMMap::default(), &HANDLE);
     assert!(rt; shown(answer) == Ok(0));
     assert!(rt; written(&mut channel).1 == 1);
+    assert!(rt; adds_again(&mut channel, &name(), 2).is_ok());
     Ok(())
 }
