@@ -139,59 +139,61 @@ module _ {L H : Type 0} {event : L → Event H → L → Type 0} where
     pub none-for-reply : {A : Type 0} {value : A → Value H} → has_bit sent.flags 2 ≡ true → Takes event call value (Reply shape) sent old f (Err code.InvalidParam) old f
     none-for-reply reply = taken (unread (λ cells. rw reply refl))
 
--- ---- replies without a handle
+-- ---- replies that are one record
 
-module _ {T L H : Type 0} {event : L → Event H → L → Type 0} (call : FrontendCall H) (shape : Shape) (size : ℕ) (decode : List ℕ → T) (valid : T → Bool) {sent : Header} {f : Frontend} {old : State L H}
-    (by : (cells : List (Cell H)) → take_reply call shape sent f cells ≡ (understood call (Reply shape) sent f (reply_cut size (λ bs. valid (decode bs)) 0 cells).0, (reply_cut {H = H} size (λ bs. valid (decode bs)) 0 cells).1))
-    (sized : (r : Received H) → is_sized call r ≡ true) where
+-- the call reads a record of this size, tested so
+abbrev IsRead : {H : Type 0} → FrontendCall H → Shape → ℕ → (List ℕ → Bool) → Header → Frontend → Type 0
+IsRead {H} call shape size valid sent f = (cells : List (Cell H)) → take_reply call shape sent f cells ≡ (understood call (Reply shape) sent f (reply_cut size valid 0 cells).0, (reply_cut {H = H} size valid 0 cells).1)
+
+-- whatever size the header says
+abbrev IsSized : {H : Type 0} → FrontendCall H → Type 0
+IsSized {H} call = (r : Received H) → is_sized call r ≡ true
+
+-- the answer to a reply, with these handles
+abbrev answer_to : {H : Type 0} → FrontendCall H → Shape → Frontend → Received H → List H → Option (Answered H)
+answer_to call shape f r hs = answer call (Reply shape) f (Replied (payload_of shape r.body r.payload) hs)
+
+module _ {T L H : Type 0} {event : L → Event H → L → Type 0} {call : FrontendCall H} {shape : Shape} {size : ℕ} {decode : List ℕ → T} {valid : T → Bool} {sent : Header} {f : Frontend} {old : State L H} where
   -- there is none
-  pub unreplied : {new : State L H} {f' : Frontend} {A : Type 0} {value : A → Value H} {e : declared.Error} → f' ≡ f → Awaits event size decode valid old sent (Err e) new → Takes event call value (Reply shape) sent old f (Err e) new f'
-  unreplied {new} {f'} {value = value} {e} same x = subst (λ (g : Frontend). Takes event call value (Reply shape) sent old f (Err e) new g) (sym same) (go x)
+  pub unreplied : {new : State L H} {f' : Frontend} {A : Type 0} {value : A → Value H} {e : declared.Error} → Awaits event size decode valid old sent (Err e) new → IsRead call shape size (λ bs. valid (decode bs)) sent f → f' ≡ f → Takes event call value (Reply shape) sent old f (Err e) new f'
+  unreplied {new} {f'} {value = value} {e} x by same = subst (λ (g : Frontend). Takes event call value (Reply shape) sent old f (Err e) new g) (sym same) (go x)
     where
       go : {e : declared.Error} {new : State L H} → Awaits event size decode valid old sent (Err e) new → Takes event call value (Reply shape) sent old f (Err e) new f
       go (is_reply flag) = none-for-reply call shape size 0 (λ bs. valid (decode bs)) by flag
       go (is_request plain m) = reads-missing call shape size 0 (λ bs. valid (decode bs)) by plain m
 
   -- the answer from a reply, with whatever handles
-  pub any-replied : {new : State L H} {f' : Frontend} {A : Type 0} {value : A → Value H} {result : Result A declared.Error} {t : T} {hs : Option (Vec H Global)} → Awaits event size decode valid old sent (Ok (t, hs)) new
-      → ((r : Received H) → t ≡ decode r.body → valid t ≡ true → HandsOver hs r.handles → answer call (Reply shape) f (Replied (payload_of shape r.body r.payload) r.handles) ≡ Some (answered f' (valued value result)))
-      → Takes event call value (Reply shape) sent old f result new f'
-  any-replied (is_request plain x) e = taken (replied call shape size 0 (λ bs. valid (decode bs)) by x.0 plain x.1 (sized x.0) (e x.0 x.2 x.3 x.4))
+  pub any-replied : {new : State L H} {f' : Frontend} {A : Type 0} {value : A → Value H} {result : Result A declared.Error} {t : T} {hs : Option (Vec H Global)} → Awaits event size decode valid old sent (Ok (t, hs)) new → IsRead call shape size (λ bs. valid (decode bs)) sent f → IsSized call
+      → ((r : Received H) → t ≡ decode r.body → valid t ≡ true → HandsOver hs r.handles → answer_to call shape f r r.handles ≡ Some (answered f' (valued value result))) → Takes event call value (Reply shape) sent old f result new f'
+  any-replied (is_request plain x) by sized e = taken (replied call shape size 0 (λ bs. valid (decode bs)) by x.0 plain x.1 (sized x.0) (e x.0 x.2 x.3 x.4))
 
   -- the answer from a reply that came alone
-  pub alone-replied : {new : State L H} {f' : Frontend} {A : Type 0} {value : A → Value H} {result : Result A declared.Error} {t : T} → AwaitsAlone event size decode valid old sent (Ok t) new
-      → ((r : Received H) → t ≡ decode r.body → valid t ≡ true → answer call (Reply shape) f (Replied (payload_of shape r.body r.payload) []) ≡ Some (answered f' (valued value result))) → Takes event call value (Reply shape) sent old f result new f'
-  alone-replied (alone r plain x is ok none_came) e =
-      taken (replied call shape size 0 (λ bs. valid (decode bs)) by r plain x (sized r) (ap (λ hs. answer call (Reply shape) f (Replied (payload_of shape r.body r.payload) hs)) none_came ∙ e r is ok))
+  pub alone-replied : {new : State L H} {f' : Frontend} {A : Type 0} {value : A → Value H} {result : Result A declared.Error} {t : T} → AwaitsAlone event size decode valid old sent (Ok t) new → IsRead call shape size (λ bs. valid (decode bs)) sent f → IsSized call
+      → ((r : Received H) → t ≡ decode r.body → valid t ≡ true → answer_to call shape f r [] ≡ Some (answered f' (valued value result))) → Takes event call value (Reply shape) sent old f result new f'
+  alone-replied (alone r plain x is ok none_came) by sized e = taken (replied call shape size 0 (λ bs. valid (decode bs)) by r plain x (sized r) (ap (λ hs. answer_to call shape f r hs) none_came ∙ e r is ok))
 
   -- no reply came alone
-  pub alone-fails : {new : State L H} {f' : Frontend} {A : Type 0} {value : A → Value H} {e : declared.Error}
-      → ((r : Received H) (h : H) (hs : List H) → answer call (Reply shape) f (Replied (payload_of shape r.body r.payload) (h ∷ hs)) ≡ Some (answered f (Err InvalidMessage)))
-      → f' ≡ f → AwaitsAlone event size decode valid old sent (Err e) new → Takes event call value (Reply shape) sent old f (Err e) new f'
-  alone-fails {new} {f'} {value = value} crowd same (crowded r plain x some) =
-      subst (λ (g : Frontend). Takes event call value (Reply shape) sent old f (Err code.InvalidMessage) new g) (sym same)
-      (taken (replied call shape size 0 (λ bs. valid (decode bs)) by r plain x (sized r) (many r.handles some)))
+  pub alone-fails : {new : State L H} {f' : Frontend} {A : Type 0} {value : A → Value H} {e : declared.Error} → AwaitsAlone event size decode valid old sent (Err e) new → IsRead call shape size (λ bs. valid (decode bs)) sent f → IsSized call
+      → ((r : Received H) (h : H) (hs : List H) → answer_to call shape f r (h ∷ hs) ≡ Some (answered f (Err InvalidMessage))) → f' ≡ f → Takes event call value (Reply shape) sent old f (Err e) new f'
+  alone-fails {new} {f'} {value = value} (crowded r plain x some) by sized crowd same =
+      subst (λ (g : Frontend). Takes event call value (Reply shape) sent old f (Err code.InvalidMessage) new g) (sym same) (taken (replied call shape size 0 (λ bs. valid (decode bs)) by r plain x (sized r) (many r.handles some)))
     where
-      many : (hs : List H) → has_some hs ≡ true → answer call (Reply shape) f (Replied (payload_of shape r.body r.payload) hs) ≡ Some (answered f (Err InvalidMessage))
+      many : (hs : List H) → has_some hs ≡ true → answer_to call shape f r hs ≡ Some (answered f (Err InvalidMessage))
       many [] e = absurd cc
       many (h ∷ hs) e = crowd r h hs
-  alone-fails crowd same (absent x) = unreplied same x
+  alone-fails (absent x) by sized crowd same = unreplied x by same
 
   -- the answer from a reply that came with one handle
-  pub one-replied : {new : State L H} {f' : Frontend} {A : Type 0} {value : A → Value H} {result : Result A declared.Error} {t : T} {h : H} → AwaitsOne event size decode valid old sent (Ok (t, h)) new
-      → ((r : Received H) → t ≡ decode r.body → valid t ≡ true → answer call (Reply shape) f (Replied (payload_of shape r.body r.payload) (h ∷ [])) ≡ Some (answered f' (valued value result)))
-      → Takes event call value (Reply shape) sent old f result new f'
-  one-replied (one r plain x is ok came) e =
-      taken (replied call shape size 0 (λ bs. valid (decode bs)) by r plain x (sized r) (ap (λ hs. answer call (Reply shape) f (Replied (payload_of shape r.body r.payload) hs)) came ∙ e r is ok))
+  pub one-replied : {new : State L H} {f' : Frontend} {A : Type 0} {value : A → Value H} {result : Result A declared.Error} {t : T} {h : H} → AwaitsOne event size decode valid old sent (Ok (t, h)) new → IsRead call shape size (λ bs. valid (decode bs)) sent f → IsSized call
+      → ((r : Received H) → t ≡ decode r.body → valid t ≡ true → answer_to call shape f r (h ∷ []) ≡ Some (answered f' (valued value result))) → Takes event call value (Reply shape) sent old f result new f'
+  one-replied (one r plain x is ok came) by sized e = taken (replied call shape size 0 (λ bs. valid (decode bs)) by r plain x (sized r) (ap (λ hs. answer_to call shape f r hs) came ∙ e r is ok))
 
   -- no reply came with one
-  pub one-fails : {new : State L H} {f' : Frontend} {A : Type 0} {value : A → Value H} {e : declared.Error}
-      → ((r : Received H) (t : T) → t ≡ decode r.body → valid t ≡ true → with_one r.handles (λ h. h) ≡ Err (seen e) → answer call (Reply shape) f (Replied (payload_of shape r.body r.payload) r.handles) ≡ Some (answered f (Err (seen e))))
-      → f' ≡ f → AwaitsOne event size decode valid old sent (Err e) new → Takes event call value (Reply shape) sent old f (Err e) new f'
-  one-fails {new} {value = value} {e} wrong same (not_one r {t = t} plain x is ok several) =
-      subst (λ (g : Frontend). Takes event call value (Reply shape) sent old f (Err e) new g) (sym same)
-      (taken (replied call shape size 0 (λ bs. valid (decode bs)) by r plain x (sized r) (wrong r t is ok several)))
-  one-fails wrong same (no_reply x) = unreplied same x
+  pub one-fails : {new : State L H} {f' : Frontend} {A : Type 0} {value : A → Value H} {e : declared.Error} → AwaitsOne event size decode valid old sent (Err e) new → IsRead call shape size (λ bs. valid (decode bs)) sent f → IsSized call
+      → ((r : Received H) (t : T) → t ≡ decode r.body → valid t ≡ true → with_one r.handles (λ h. h) ≡ Err (seen e) → answer_to call shape f r r.handles ≡ Some (answered f (Err (seen e)))) → f' ≡ f → Takes event call value (Reply shape) sent old f (Err e) new f'
+  one-fails {new} {value = value} {e} (not_one r {t = t} plain x is ok several) by sized wrong same =
+      subst (λ (g : Frontend). Takes event call value (Reply shape) sent old f (Err e) new g) (sym same) (taken (replied call shape size 0 (λ bs. valid (decode bs)) by r plain x (sized r) (wrong r t is ok several)))
+  one-fails (no_reply x) by sized wrong same = unreplied x by same
 
 -- where one handle is needed, and another number came
 pub with-one-err : {H A : Type 0} (value : H → A) (hs : List H) (e : Error) → with_one hs (λ h. h) ≡ Err e → with_one hs value ≡ Err e

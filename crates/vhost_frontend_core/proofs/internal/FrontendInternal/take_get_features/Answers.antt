@@ -1,22 +1,12 @@
 -- GET_FEATURES: its reply.
-use Rattle.std.proofs.Common.{ℕ, ap, sym, refl, ◌∙◌, Some, Ok, true}
-use Rattle.vhost_message.specs.Plain.{of_number}
-use Rattle.vhost_message.specs.Text.{number_at}
-use Rattle.vhost_message.specs.declared.records.plain.VhostUserU64.{VhostUserU64}
+use Rattle.std.proofs.Common.{sym, refl, Some, Ok}
 use Rattle.vhost_protocol.specs.AnswerTable.{answered}
-use Rattle.vhost_protocol.specs.declared.asked.Shape.TheVariants as shape
-use Rattle.vhost_protocol.specs.FrontendCall.{Frontend, GetFeatures, Number}
-use Rattle.vhost_frontend_core.specs.Frontend.{session_of}
+use Rattle.vhost_protocol.specs.FrontendCall.{Number}
 use Rattle.vhost_frontend_core.proofs.Taking.{alone-replied, alone-fails}
 use Rattle.vhost_frontend_core.proofs.internal.FrontendInternal.take_get_features.Goals as goal
 
 pub returns-in-Ok-clause-taken : goal.returns-in-Ok-clause-taken
-returns-in-Ok-clause-taken g c =
-    alone-replied GetFeatures shape.U64 8 (λ bs. of_number (number_at 0 8 bs)) (λ v. true) (λ cells. refl) (λ r. refl) c.in-Ok.ensures.taken
-    (λ r is ok.
-    ap (λ (n : ℕ). Some (answered (record (session_of c.args.self.now) { offered = n }) (Ok (Number n)))) (sym (ap (λ (v : VhostUserU64). v.value) is))
-    ∙ ap (λ (f : Frontend). Some (answered (record f { offered = c.in-Ok.number.value }) (Ok (Number c.in-Ok.number.value)))) (sym c.take_plain_reply.ensures.session))
+returns-in-Ok-clause-taken g c = alone-replied c.in-Ok.ensures.taken (λ cells. refl) (λ r. refl) (λ r is ok j. Some (answered (record (sym c.take_plain_reply.ensures.session j) { offered = (sym is j).value }) (Ok (Number (sym is j).value))))
 
 pub returns-in-Err-clause-taken : goal.returns-in-Err-clause-taken
-returns-in-Err-clause-taken g c =
-    alone-fails GetFeatures shape.U64 8 (λ bs. of_number (number_at 0 8 bs)) (λ v. true) (λ cells. refl) (λ r. refl) (λ r h hs. refl) c.take_plain_reply.ensures.session c.in-Err.ensures.taken
+returns-in-Err-clause-taken g c = alone-fails c.in-Err.ensures.taken (λ cells. refl) (λ r. refl) (λ r h hs. refl) c.take_plain_reply.ensures.session

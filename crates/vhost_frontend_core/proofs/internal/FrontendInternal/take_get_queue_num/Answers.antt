@@ -3,13 +3,10 @@ use Rattle.std.proofs.Common.{◌≡◌, ℕ, ◌<◌, ◌≤◌, Bool, true, fa
 use Rattle.std.specs.Prelude.{nat_le}
 use Rattle.std.proofs.lemmas.Bool.Decides.{nat_tests}
 use Rattle.vhost_message.specs.declared.limits.TheConstants.{VHOST_USER_MAX_VRINGS}
-use Rattle.vhost_message.specs.Plain.{of_number}
-use Rattle.vhost_message.specs.Text.{number_at}
 use Rattle.vhost_message.specs.declared.records.plain.VhostUserU64.{VhostUserU64}
 use Rattle.vhost_protocol.specs.AnswerTable.{answered, queues_reply}
-use Rattle.vhost_protocol.specs.declared.asked.Shape.TheVariants as shape
 use Rattle.vhost_protocol.specs.Error.{InvalidMessage}
-use Rattle.vhost_protocol.specs.FrontendCall.{Frontend, GetQueueNum, Number}
+use Rattle.vhost_protocol.specs.FrontendCall.{Frontend, Number}
 use Rattle.vhost_frontend_core.specs.Frontend.{session_of}
 use Rattle.vhost_frontend_core.proofs.Taking.{alone-replied, alone-fails}
 use Rattle.vhost_frontend_core.proofs.internal.FrontendInternal.take_get_queue_num.Goals as goal
@@ -28,16 +25,14 @@ keeps f n h = rw (within n h) refl
 
 pub returns-then-number-gt-VHOST_USER_MAX_VRINGS-clause-taken : goal.returns-then-number-gt-VHOST_USER_MAX_VRINGS-clause-taken
 returns-then-number-gt-VHOST_USER_MAX_VRINGS-clause-taken g c =
-    alone-replied GetQueueNum shape.U64 8 (λ bs. of_number (number_at 0 8 bs)) (λ v. true) (λ cells. refl) (λ r. refl) c.in-Ok.ensures.taken
-    (λ r is ok.
+    alone-replied c.in-Ok.ensures.taken (λ cells. refl) (λ r. refl) (λ r is ok.
     ap (λ (n : ℕ). Some (queues_reply (session_of c.args.self.now) n (Ok (Number n)))) (sym (ap (λ (v : VhostUserU64). v.value) is))
     ∙ ap Some (refuses (session_of c.args.self.now) c.in-Ok.number.value c.if-number-gt-VHOST_USER_MAX_VRINGS.true)
     ∙ ap (λ (f : Frontend). Some (answered f (Err InvalidMessage))) (sym c.take_plain_reply.ensures.session))
 
 pub returns-else-number-gt-VHOST_USER_MAX_VRINGS-clause-taken : goal.returns-else-number-gt-VHOST_USER_MAX_VRINGS-clause-taken
 returns-else-number-gt-VHOST_USER_MAX_VRINGS-clause-taken g c =
-    alone-replied GetQueueNum shape.U64 8 (λ bs. of_number (number_at 0 8 bs)) (λ v. true) (λ cells. refl) (λ r. refl) c.in-Ok.ensures.taken
-    (λ r is ok.
+    alone-replied c.in-Ok.ensures.taken (λ cells. refl) (λ r. refl) (λ r is ok.
     ap (λ (n : ℕ). Some (queues_reply (session_of c.args.self.now) n (Ok (Number n)))) (sym (ap (λ (v : VhostUserU64). v.value) is))
     ∙ ap Some (keeps (session_of c.args.self.now) c.in-Ok.number.value c.if-number-gt-VHOST_USER_MAX_VRINGS.false)
     ∙ ap (λ (f : Frontend). Some (answered (record f { max_queue_num = c.in-Ok.number.value }) (Ok (Number c.in-Ok.number.value)))) (sym c.take_plain_reply.ensures.session))
@@ -48,4 +43,4 @@ crowd f n false e = rw e refl
 
 pub returns-in-Err-clause-taken : goal.returns-in-Err-clause-taken
 returns-in-Err-clause-taken g c =
-    alone-fails GetQueueNum shape.U64 8 (λ bs. of_number (number_at 0 8 bs)) (λ v. true) (λ cells. refl) (λ r. refl) (λ r h hs. ap Some (crowd (session_of c.args.self.now) _ _ refl)) c.take_plain_reply.ensures.session c.in-Err.ensures.taken
+    alone-fails c.in-Err.ensures.taken (λ cells. refl) (λ r. refl) (λ r h hs. ap Some (crowd (session_of c.args.self.now) _ _ refl)) c.take_plain_reply.ensures.session

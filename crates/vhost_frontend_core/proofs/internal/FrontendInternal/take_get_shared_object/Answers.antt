@@ -1,19 +1,16 @@
 -- GET_SHARED_OBJECT: its reply.
-use Rattle.std.proofs.Common.{ap, sym, refl, Some, Result, true}
+use Rattle.std.proofs.Common.{ap, sym, refl, Some, Ok, Result}
 use Rattle.vhost_protocol.specs.AnswerTable.{answered}
-use Rattle.vhost_protocol.specs.declared.asked.Shape.TheVariants as shape
 use Rattle.vhost_protocol.specs.Error.{Error}
-use Rattle.vhost_protocol.specs.FrontendCall.{Frontend, GetSharedObject, HandleOf, Value}
+use Rattle.vhost_protocol.specs.FrontendCall.{HandleOf, Value}
 use Rattle.vhost_frontend_core.specs.Frontend.{session_of}
 use Rattle.vhost_frontend_core.proofs.Taking.{one-replied, one-fails, with-one-err}
 use Rattle.vhost_frontend_core.proofs.internal.FrontendInternal.take_get_shared_object.Goals as goal
 
 pub returns-in-Ok-clause-taken : goal.returns-in-Ok-clause-taken
 returns-in-Ok-clause-taken g c name =
-    one-replied (GetSharedObject name) shape.Empty 0 (λ bs. record {}) (λ v. true) (λ cells. refl) (λ r. refl) c.in-Ok.ensures.taken
-    (λ r is ok. ap (λ (f : Frontend). Some (answered f (Rattle.std.proofs.Common.Ok (HandleOf c.in-Ok.handle)))) (sym c.take_reply_with_handle.ensures.session))
+    one-replied c.in-Ok.ensures.taken (λ cells. refl) (λ r. refl) (λ r is ok j. Some (answered (sym c.take_reply_with_handle.ensures.session j) (Ok (HandleOf c.in-Ok.handle))))
 
 pub returns-in-Err-clause-taken : goal.returns-in-Err-clause-taken
 returns-in-Err-clause-taken g c name =
-    one-fails (GetSharedObject name) shape.Empty 0 (λ bs. record {}) (λ v. true) (λ cells. refl) (λ r. refl)
-    (λ r t is ok several. ap (λ (x : Result (Value _) Error). Some (answered (session_of c.args.self.now) x)) (with-one-err (λ h. HandleOf h) r.handles _ several)) c.take_reply_with_handle.ensures.session c.in-Err.ensures.taken
+    one-fails c.in-Err.ensures.taken (λ cells. refl) (λ r. refl) (λ r t is ok several. ap (λ (x : Result (Value _) Error). Some (answered (session_of c.args.self.now) x)) (with-one-err (λ h. HandleOf h) r.handles _ several)) c.take_reply_with_handle.ensures.session

@@ -5,9 +5,8 @@ use Rattle.vhost_message.specs.MsgHeader.{fields_of}
 use Rattle.vhost_message.specs.Records.{single_region_of}
 use Rattle.vhost_message.specs.declared.records.memory.VhostUserSingleMemoryRegion.{VhostUserSingleMemoryRegion}
 use Rattle.vhost_protocol.specs.AnswerTable.{answered, is_same_range, only_if}
-use Rattle.vhost_protocol.specs.declared.asked.Shape.TheVariants as shape
 use Rattle.vhost_protocol.specs.Error.{Error, InvalidMessage, seen_result}
-use Rattle.vhost_protocol.specs.FrontendCall.{Frontend, AddMemRegion, Base, Value}
+use Rattle.vhost_protocol.specs.FrontendCall.{Frontend, Base, Value}
 use Rattle.vhost_frontend_core.specs.Frontend.{endpoint_of, session_of}
 use Rattle.vhost_frontend_core.specs.Taking.{valued, AwaitsAlone}
 use Rattle.vhost_frontend_core.specs.declared.asked.Sent.{Sent}
@@ -25,8 +24,7 @@ pub returns-in-Ok-clause-taken : goal.returns-in-Ok-clause-taken
 returns-in-Ok-clause-taken g c info kept =
     let came : AwaitsAlone g.L.Link.event 40 single_region_of (λ v. true) (endpoint_of c.args.self.now) (fields_of c.args.sent.request) (Ok c.in-Ok.reply) (endpoint_of c.take_plain_reply.new.self) =
     subst (λ (x : Sent). AwaitsAlone g.L.Link.event 40 single_region_of (λ v. true) (endpoint_of c.args.self.now) (fields_of x.request) (Ok c.in-Ok.reply) (endpoint_of c.take_plain_reply.new.self)) c.new.ensures c.in-Ok.ensures.taken in
-    alone-replied (AddMemRegion info) shape.SingleMemoryRegion 40 single_region_of (λ v. true) (λ cells. refl) (λ r. refl) came
-    (λ r is ok.
+    alone-replied came (λ cells. refl) (λ r. refl) (λ r is ok.
     ap (λ (v : VhostUserSingleMemoryRegion). Some (answered (session_of c.args.self.now) (only_if (is_same_range info.region v.region) InvalidMessage (Base (Some (v.region.user_addr)))))) (sym is)
     ∙ ap (λ (x : Result (Value _) Error). Some (answered (session_of c.args.self.now) x)) (only-based _ _ c.base_for.result (c.base_for.ensures info.region kept))
     ∙ ap (λ (f : Frontend). Some (answered f (valued Base c.base_for.result))) (sym c.take_plain_reply.ensures.session))
@@ -35,4 +33,4 @@ pub returns-in-Err-clause-taken : goal.returns-in-Err-clause-taken
 returns-in-Err-clause-taken g c info kept =
     let came : AwaitsAlone g.L.Link.event 40 single_region_of (λ v. true) (endpoint_of c.args.self.now) (fields_of c.args.sent.request) (Err c.in-Err.error) (endpoint_of c.take_plain_reply.new.self) =
     subst (λ (x : Sent). AwaitsAlone g.L.Link.event 40 single_region_of (λ v. true) (endpoint_of c.args.self.now) (fields_of x.request) (Err c.in-Err.error) (endpoint_of c.take_plain_reply.new.self)) c.new.ensures c.in-Err.ensures.taken in
-    alone-fails (AddMemRegion info) shape.SingleMemoryRegion 40 single_region_of (λ v. true) (λ cells. refl) (λ r. refl) (λ r h hs. refl) c.take_plain_reply.ensures.session came
+    alone-fails came (λ cells. refl) (λ r. refl) (λ r h hs. refl) c.take_plain_reply.ensures.session

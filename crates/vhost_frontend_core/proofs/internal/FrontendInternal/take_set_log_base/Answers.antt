@@ -1,10 +1,8 @@
 -- SET_LOG_BASE: its reply, where there is one.
 use Rattle.std.proofs.Common.{Bool, ap, sym, refl, ◌∙◌, Some, Ok, Err}
 use Rattle.std.specs.Prelude.{if◌then◌else◌}
-use Rattle.vhost_message.specs.Records.{log_of}
 use Rattle.vhost_message.specs.Valid.{is_valid_log}
 use Rattle.vhost_protocol.specs.AnswerTable.{answered}
-use Rattle.vhost_protocol.specs.declared.asked.Shape.TheVariants as shape
 use Rattle.vhost_protocol.specs.Error.{InvalidMessage}
 use Rattle.vhost_protocol.specs.FrontendCall.{Frontend, SetLogBase, Nothing}
 use Rattle.vhost_frontend_core.specs.Frontend.{session_of}
@@ -17,8 +15,7 @@ returns-in-Nobody-clause-base g c base region nobody = acked (SetLogBase base re
 pub returns-in-Ok : goal.returns-in-Ok
 returns-in-Ok g c = record {
   area = λ base region log.
-      alone-replied (SetLogBase base region) shape.Log 16 log_of is_valid_log (λ cells. refl) (λ r. refl) c.in-Ok.ensures.taken
-      (λ r is ok.
+      alone-replied c.in-Ok.ensures.taken (λ cells. refl) (λ r. refl) (λ r is ok.
       ap (λ (b : Bool). Some (answered (session_of c.args.self.now) (if b then Ok Nothing else Err InvalidMessage))) (ap is_valid_log (sym is) ∙ ok)
       ∙ ap (λ (f : Frontend). Some (answered f (Ok Nothing))) (sym c.take_plain_reply.ensures.session));
   base = λ base region nobody. absurd (c.in_default.not-Nobody nobody);
@@ -27,7 +24,7 @@ returns-in-Ok g c = record {
 
 pub returns-in-Err : goal.returns-in-Err
 returns-in-Err g c = record {
-  area = λ base region log. alone-fails (SetLogBase base region) shape.Log 16 log_of is_valid_log (λ cells. refl) (λ r. refl) (λ r h hs. refl) c.take_plain_reply.ensures.session c.in-Err.ensures.taken;
+  area = λ base region log. alone-fails c.in-Err.ensures.taken (λ cells. refl) (λ r. refl) (λ r h hs. refl) c.take_plain_reply.ensures.session;
   base = λ base region nobody. absurd (c.in_default.not-Nobody nobody);
   quiet = c.take_plain_reply.ensures.quiet;
 }
