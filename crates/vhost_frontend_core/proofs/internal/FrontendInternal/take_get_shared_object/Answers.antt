@@ -1,8 +1,7 @@
 -- GET_SHARED_OBJECT: its reply.
-use Rattle.std.proofs.Common.{ap, sym, refl, Some, Ok, Result}
+use Rattle.std.proofs.Common.{sym, refl, Some, Ok}
 use Rattle.vhost_protocol.specs.AnswerTable.{answered}
-use Rattle.vhost_protocol.specs.Error.{Error}
-use Rattle.vhost_protocol.specs.FrontendCall.{HandleOf, Value}
+use Rattle.vhost_protocol.specs.FrontendCall.{HandleOf}
 use Rattle.vhost_frontend_core.specs.Frontend.{session_of}
 use Rattle.vhost_frontend_core.proofs.Taking.{one-replied, one-fails, with-one-err}
 use Rattle.vhost_frontend_core.proofs.internal.FrontendInternal.take_get_shared_object.Goals as goal
@@ -13,4 +12,4 @@ returns-in-Ok-clause-taken g c name =
 
 pub returns-in-Err-clause-taken : goal.returns-in-Err-clause-taken
 returns-in-Err-clause-taken g c name =
-    one-fails c.in-Err.ensures.taken (λ cells. refl) (λ r. refl) (λ r t is ok several. ap (λ (x : Result (Value _) Error). Some (answered (session_of c.args.self.now) x)) (with-one-err (λ h. HandleOf h) r.handles _ several)) c.take_reply_with_handle.ensures.session
+    one-fails c.in-Err.ensures.taken (λ cells. refl) (λ r. refl) (λ r t is ok several j. Some (answered (session_of c.args.self.now) (with-one-err (λ h. HandleOf h) r.handles _ several j))) c.take_reply_with_handle.ensures.session

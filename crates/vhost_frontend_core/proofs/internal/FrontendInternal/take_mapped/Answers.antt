@@ -1,12 +1,11 @@
 -- ADD_MEM_REG: its reply while postcopy listens.
-use Rattle.std.proofs.Common.{◌≡◌, ℕ, Bool, true, false, Option, ap, subst, sym, refl, ◌∙◌, Result, Ok, Err, Some}
+use Rattle.std.proofs.Common.{◌≡◌, ℕ, Bool, true, false, Option, subst, sym, refl, ◌∙◌, Result, Ok, Err, Some}
 use Rattle.vhost_message.specs.declared.error.Error as declared
 use Rattle.vhost_message.specs.MsgHeader.{fields_of}
 use Rattle.vhost_message.specs.Records.{single_region_of}
-use Rattle.vhost_message.specs.declared.records.memory.VhostUserSingleMemoryRegion.{VhostUserSingleMemoryRegion}
 use Rattle.vhost_protocol.specs.AnswerTable.{answered, is_same_range, only_if}
 use Rattle.vhost_protocol.specs.Error.{Error, InvalidMessage, seen_result}
-use Rattle.vhost_protocol.specs.FrontendCall.{Frontend, Base, Value}
+use Rattle.vhost_protocol.specs.FrontendCall.{Base, Value}
 use Rattle.vhost_frontend_core.specs.Frontend.{endpoint_of, session_of}
 use Rattle.vhost_frontend_core.specs.Taking.{valued, AwaitsAlone}
 use Rattle.vhost_frontend_core.specs.declared.asked.Sent.{Sent}
@@ -24,10 +23,9 @@ pub returns-in-Ok-clause-taken : goal.returns-in-Ok-clause-taken
 returns-in-Ok-clause-taken g c info kept =
     let came : AwaitsAlone g.L.Link.event 40 single_region_of (λ v. true) (endpoint_of c.args.self.now) (fields_of c.args.sent.request) (Ok c.in-Ok.reply) (endpoint_of c.take_plain_reply.new.self) =
     subst (λ (x : Sent). AwaitsAlone g.L.Link.event 40 single_region_of (λ v. true) (endpoint_of c.args.self.now) (fields_of x.request) (Ok c.in-Ok.reply) (endpoint_of c.take_plain_reply.new.self)) c.new.ensures c.in-Ok.ensures.taken in
-    alone-replied came (λ cells. refl) (λ r. refl) (λ r is ok.
-    ap (λ (v : VhostUserSingleMemoryRegion). Some (answered (session_of c.args.self.now) (only_if (is_same_range info.region v.region) InvalidMessage (Base (Some (v.region.user_addr)))))) (sym is)
-    ∙ ap (λ (x : Result (Value _) Error). Some (answered (session_of c.args.self.now) x)) (only-based _ _ c.base_for.result (c.base_for.ensures info.region kept))
-    ∙ ap (λ (f : Frontend). Some (answered f (valued Base c.base_for.result))) (sym c.take_plain_reply.ensures.session))
+    alone-replied came (λ cells. refl) (λ r. refl)
+    (λ r is ok. (λ j. Some (answered (session_of c.args.self.now) (only_if (is_same_range info.region (sym is j).region) InvalidMessage (Base (Some (sym is j).region.user_addr)))))
+    ∙ (λ j. Some (answered (sym c.take_plain_reply.ensures.session j) (only-based _ _ c.base_for.result (c.base_for.ensures info.region kept) j))))
 
 pub returns-in-Err-clause-taken : goal.returns-in-Err-clause-taken
 returns-in-Err-clause-taken g c info kept =
