@@ -1,20 +1,26 @@
 //! Calls of a side that asks, one after another.
 
 ghost use Rattle.std.specs.Prelude.{◌≡◌, true, IfErr};
+ghost use Rattle.vhost_backend_req.specs.Asking.{AsksCall};
 ghost use Rattle.vhost_backend_req.specs.Channel.{channel};
+ghost use Rattle.vhost_frontend.specs.Whole.{Whole};
 ghost use Rattle.vhost_frontend_core.specs.Frontend.{endpoint_of};
 ghost use Rattle.vhost_message.specs.declared.error.Error.TheVariants.{OutOfMemory};
 ghost use Rattle.vhost_message.specs.declared.io_error.IoError.TheVariants.{Of};
+ghost use Rattle.vhost_promises.specs.Again.{Repeats};
+ghost use Rattle.vhost_protocol.specs.FrontendCall.{GetFeatures, Number};
+ghost use Rattle.vhost_protocol.specs.Reverse.{SharedObjectAdd};
 
 use vhost_backend_req::BackendInternal;
 use vhost_frontend::Quiet;
 use vhost_link::Link;
 use vhost_message::{HandlerResult, Result, VhostUserSharedMsg};
 
-/// Asks a device for its features so many times, until that fails. Where the endpoint had its list of handles it has it again after
-/// each answer, so no call wants memory.
+/// Asks a device for its features so many times, or until that fails. Where the endpoint had its list of handles it has it again
+/// after each answer, so no call wants memory.
 pub fn asks_again<L: Link>(frontend: &mut Quiet<L>, count: usize) -> Result<()>
-    ensures { (endpoint_of frontend.old.inner).list ≡ true → IfErr result (λ e. e ≡ OutOfMemory → ⊥) }
+    ensures made { Repeats (Whole L.event GetFeatures Number) frontend.old.inner count result frontend.new.inner }
+    ensures listed { (endpoint_of frontend.old.inner).list ≡ true → IfErr result (λ e. e ≡ OutOfMemory → ⊥) }
 {
     'calls: for _ in 0..count {
         match frontend.get_features() {
@@ -31,7 +37,8 @@ pub fn adds_again<L: Link>(
     name: &VhostUserSharedMsg,
     count: usize,
 ) -> HandlerResult<()>
-    ensures { (channel frontend.old).endpoint.list ≡ true → IfErr result (λ e. e ≡ Of OutOfMemory → ⊥) }
+    ensures made { Repeats (AsksCall L.event (SharedObjectAdd name.now)) (channel frontend.old) count result (channel frontend.new) }
+    ensures listed { (channel frontend.old).endpoint.list ≡ true → IfErr result (λ e. e ≡ Of OutOfMemory → ⊥) }
 {
     'calls: for _ in 0..count {
         match frontend.shared_object_add(name) {
