@@ -59,28 +59,41 @@ fn bare_error(name: &str) -> Option<Error> {
     })
 }
 
-/// The error of a name, and the number that it carries. The reason of an operation that is not allowed is `told`.
+/// The error of a name that carries a number. The reason of an operation that is not allowed is `told`.
 fn carrying_error(alloc: Global, text: &str) -> Result<Error, Miss> {
-    let (name, word) = text.split_once(" ").unwrap_or((text, ""));
     if text == "InvalidOperation told" {
         return Ok(Error::InvalidOperation("told"));
     }
-    if name == "InactiveFeature" {
-        let bits = number_of(alloc, word)?;
-        return Ok(Error::InactiveFeature(VhostUserVirtioFeatures::from_bits_retain(bits)));
+    let (name, word) = text.split_once(" ").unwrap_or((text, ""));
+    let error = match name {
+        "InactiveFeature" | "InactiveOperation" => inactive(name, number_of(alloc, word)?),
+        _ => caused(name, IoCause::Raw(fault_of(alloc, word)?)),
+    };
+    match error {
+        Some(error) => Ok(error),
+        None => Err(unreadable(alloc, "an error", text)),
     }
-    if name == "InactiveOperation" {
-        let bits = number_of(alloc, word)?;
-        return Ok(Error::InactiveOperation(VhostUserProtocolFeatures::from_bits_retain(bits)));
-    }
-    let cause = IoCause::Raw(fault_of(alloc, word)?);
+}
+
+/// The error of a name that carries features.
+fn inactive(name: &str, bits: u64) -> Option<Error> {
     match name {
-        "InvalidSocketFd" => Ok(Error::InvalidSocketFd(cause)),
-        "SocketError" => Ok(Error::SocketError(cause)),
-        "SocketConnect" => Ok(Error::SocketConnect(cause)),
-        "SocketBroken" => Ok(Error::SocketBroken(cause)),
-        "SocketRetry" => Ok(Error::SocketRetry(cause)),
-        "ReqHandlerError" => Ok(Error::ReqHandlerError(cause)),
-        _ => Err(unreadable(alloc, "an error", text)),
+        "InactiveFeature" => {
+            Some(Error::InactiveFeature(VhostUserVirtioFeatures::from_bits_retain(bits)))
+        }
+        _ => Some(Error::InactiveOperation(VhostUserProtocolFeatures::from_bits_retain(bits))),
     }
+}
+
+/// The error of a name that carries a cause.
+fn caused(name: &str, cause: IoCause) -> Option<Error> {
+    Some(match name {
+        "InvalidSocketFd" => Error::InvalidSocketFd(cause),
+        "SocketError" => Error::SocketError(cause),
+        "SocketConnect" => Error::SocketConnect(cause),
+        "SocketBroken" => Error::SocketBroken(cause),
+        "SocketRetry" => Error::SocketRetry(cause),
+        "ReqHandlerError" => Error::ReqHandlerError(cause),
+        _ => return None,
+    })
 }

@@ -8,23 +8,35 @@ use vhost_link::{Kind, PlainHandle};
 /// The handles of a list in brackets, as `[7,8:unix]` or `[7*33]`, and what follows it, where there is one.
 pub fn handles_in<'a>(alloc: Global, text: &'a str) -> Result<(Vec<PlainHandle>, &'a str), Miss> {
     let mut handles = Vec::new(alloc);
+    let rest = fill(alloc, &mut handles, text)?;
+    Ok((handles, rest))
+}
+
+/// Puts the handles of the list behind others, and answers what follows it.
+fn fill<'a>(alloc: Global, handles: &mut Vec<PlainHandle>, text: &'a str) -> Result<&'a str, Miss> {
     let Some(list) = text.strip_prefix("[") else {
-        return Ok((handles, text));
+        return Ok(text);
     };
     let Some((list, rest)) = list.split_once("]") else {
         return Err(unreadable(alloc, "handles", text));
     };
     for word in list.split(',') {
-        let (word, count) = match word.split_once("*") {
-            Some((word, count)) => (word, number_of(alloc, count)?),
-            None => (word, 1),
-        };
-        let handle = handle_of(alloc, word)?;
-        for _ in 0..count {
-            handles.push(handle)?;
-        }
+        put(alloc, handles, word)?;
     }
-    Ok((handles, rest.strip_prefix(" ").unwrap_or(rest)))
+    Ok(rest.strip_prefix(" ").unwrap_or(rest))
+}
+
+/// Puts a handle of the list behind others, as often as is told.
+fn put(alloc: Global, handles: &mut Vec<PlainHandle>, word: &str) -> Result<(), Miss> {
+    let (word, count) = match word.split_once("*") {
+        Some((word, count)) => (word, number_of(alloc, count)?),
+        None => (word, 1),
+    };
+    let handle = handle_of(alloc, word)?;
+    for _ in 0..count {
+        handles.push(handle)?;
+    }
+    Ok(())
 }
 
 /// A handle: its number, and its kind where it is a socket.

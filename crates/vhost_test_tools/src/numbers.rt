@@ -23,6 +23,26 @@ pub fn number_of(alloc: Global, word: &str) -> Result<u64, Miss> {
     }
 }
 
+/// So many numbers, with spaces between them. What they are is told in the refusal of others.
+pub(crate) fn numbers_in<const N: usize>(
+    alloc: Global,
+    what: &str,
+    text: &str,
+) -> Result<[u64; N], Miss> {
+    let mut numbers = [0; N];
+    let mut words = text.split(' ');
+    for number in numbers.iter_mut() {
+        match words.next().and_then(number_in) {
+            Some(read) => *number = read,
+            None => return Err(unreadable(alloc, what, text)),
+        }
+    }
+    match words.next() {
+        None => Ok(numbers),
+        Some(_) => Err(unreadable(alloc, what, text)),
+    }
+}
+
 /// A number that fits into a type.
 pub fn narrow<T: TryFrom<u64, Error: Drop> + Drop>(alloc: Global, word: &str) -> Result<T, Miss> {
     match T::try_from(number_of(alloc, word)?) {

@@ -4,7 +4,7 @@ use crate::answers::answer_text;
 use crate::errors::error_of;
 use crate::handles::handle_of;
 use crate::miss::{Miss, unreadable};
-use crate::numbers::{narrow, number_of};
+use crate::numbers::{number_of, numbers_in};
 use hex::FromHex;
 use std::alloc::{AllocError, Global};
 use uuid::Uuid;
@@ -130,22 +130,17 @@ fn name_of(alloc: Global, digits: &str) -> Result<VhostUserSharedMsg, Miss> {
 
 /// A mapping: the region, where it begins in the file and in the region, its length, and flags.
 fn mapping_of(alloc: Global, text: &str) -> Result<VhostUserMMap, Miss> {
-    let mut words = text.splitn(5, ' ');
-    let (Some(region), Some(file), Some(place), Some(length), Some(flags)) = (
-        words.next(),
-        words.next(),
-        words.next(),
-        words.next(),
-        words.next(),
-    ) else {
-        return Err(unreadable(alloc, "a mapping", text));
-    };
-    Ok(VhostUserMMap {
-        shmid: narrow(alloc, region)?,
-        padding: [0; 7],
-        fd_offset: number_of(alloc, file)?,
-        shm_offset: number_of(alloc, place)?,
-        len: number_of(alloc, length)?,
-        flags: number_of(alloc, flags)?,
-    })
+    let numbers: [u64; 5] = numbers_in(alloc, "a mapping", text)?;
+    let [region, file, place, length, flags] = numbers;
+    match u8::try_from(region) {
+        Ok(shmid) => Ok(VhostUserMMap {
+            shmid,
+            padding: [0; 7],
+            fd_offset: file,
+            shm_offset: place,
+            len: length,
+            flags,
+        }),
+        Err(_) => Err(unreadable(alloc, "a mapping", text)),
+    }
 }

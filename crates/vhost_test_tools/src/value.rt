@@ -4,7 +4,7 @@ use crate::bytes::bytes_of;
 use crate::errors::error_of;
 use crate::handles::handles_in;
 use crate::miss::{Miss, unreadable};
-use crate::numbers::{narrow, number_of};
+use crate::numbers::{narrow, number_of, numbers_in};
 use crate::reverse_calls::back_of;
 use std::alloc::Global;
 use vhost_link::PlainHandle;
@@ -46,46 +46,60 @@ pub(crate) enum Value {
     Back(HandlerResult<u64>),
 }
 
+/// What each call answers, by its name.
+static SHAPES: [(&str, Shape); 42] = [
+    ("get_features", Shape::Number),
+    ("get_protocol_features", Shape::Number),
+    ("get_queue_num", Shape::Number),
+    ("get_max_mem_slots", Shape::Number),
+    ("set_mem_table", Shape::Bases),
+    ("add_mem_region", Shape::Base),
+    ("get_vring_base", Shape::State),
+    ("get_config", Shape::Bytes),
+    ("get_shared_object", Shape::Handle),
+    ("postcopy_advice", Shape::Handle),
+    ("get_inflight_fd", Shape::Area),
+    ("set_device_state_fd", Shape::StateHandle),
+    ("get_shmem_config", Shape::Regions),
+    ("set_owner", Shape::Nothing),
+    ("reset_owner", Shape::Nothing),
+    ("reset_device", Shape::Nothing),
+    ("set_features", Shape::Nothing),
+    ("set_protocol_features", Shape::Nothing),
+    ("set_vring_num", Shape::Nothing),
+    ("set_vring_base", Shape::Nothing),
+    ("set_vring_enable", Shape::Nothing),
+    ("set_mtu", Shape::Nothing),
+    ("set_vring_addr", Shape::Nothing),
+    ("set_vring_kick", Shape::Nothing),
+    ("set_vring_call", Shape::Nothing),
+    ("set_vring_err", Shape::Nothing),
+    ("set_config", Shape::Nothing),
+    ("set_backend_req_fd", Shape::Nothing),
+    ("set_gpu_socket", Shape::Nothing),
+    ("set_inflight_fd", Shape::Nothing),
+    ("remove_mem_region", Shape::Nothing),
+    ("set_log_base", Shape::Nothing),
+    ("check_device_state", Shape::Nothing),
+    ("postcopy_listen", Shape::Nothing),
+    ("postcopy_end", Shape::Nothing),
+    ("postcopy_ack_mem_regions", Shape::Nothing),
+    ("handle_config_change", Shape::Back),
+    ("shared_object_add", Shape::Back),
+    ("shared_object_remove", Shape::Back),
+    ("shared_object_lookup", Shape::Back),
+    ("shmem_map", Shape::Back),
+    ("shmem_unmap", Shape::Back),
+];
+
 /// What a call answers, by its name. None: there is no such call.
 pub(crate) fn shape_of(name: &str) -> Option<Shape> {
-    Some(match name {
-        "get_features" | "get_protocol_features" | "get_queue_num" | "get_max_mem_slots" => {
-            Shape::Number
+    for (known, shape) in &SHAPES {
+        if *known == name {
+            return Some(*shape);
         }
-        "set_mem_table" => Shape::Bases,
-        "add_mem_region" => Shape::Base,
-        "get_vring_base" => Shape::State,
-        "get_config" => Shape::Bytes,
-        "get_shared_object" | "postcopy_advice" => Shape::Handle,
-        "get_inflight_fd" => Shape::Area,
-        "set_device_state_fd" => Shape::StateHandle,
-        "get_shmem_config" => Shape::Regions,
-        "set_owner" | "reset_owner" | "reset_device" | "set_features" | "set_protocol_features" =>
-            Shape::Nothing,
-        "set_vring_num"
-        | "set_vring_base"
-        | "set_vring_enable"
-        | "set_mtu"
-        | "set_vring_addr"
-        | "set_vring_kick"
-        | "set_vring_call"
-        | "set_vring_err" => Shape::Nothing,
-        "set_config"
-        | "set_backend_req_fd"
-        | "set_gpu_socket"
-        | "set_inflight_fd"
-        | "remove_mem_region"
-        | "set_log_base" => Shape::Nothing,
-        "check_device_state" | "postcopy_listen" | "postcopy_end" | "postcopy_ack_mem_regions" =>
-            Shape::Nothing,
-        "handle_config_change"
-        | "shared_object_add"
-        | "shared_object_remove"
-        | "shared_object_lookup"
-        | "shmem_map"
-        | "shmem_unmap" => Shape::Back,
-        _ => return None,
-    })
+    }
+    None
 }
 
 /// The value of a kind that words tell, or the error.
@@ -187,23 +201,18 @@ fn state_of(alloc: Global, text: &str) -> Result<Value, Miss> {
 
 /// Size, offset, number of queues, their size, and a handle.
 fn area_of(alloc: Global, text: &str) -> Result<Value, Miss> {
-    let mut words = text.splitn(5, ' ');
-    let (Some(size), Some(offset), Some(queues), Some(length), Some(handle)) = (
-        words.next(),
-        words.next(),
-        words.next(),
-        words.next(),
-        words.next(),
-    ) else {
+    let Some((area, handle)) = text.rsplit_once(" ") else {
         return Err(unreadable(alloc, "an area and its handle", text));
     };
-    let area = VhostUserInflight::new(
-        number_of(alloc, size)?,
-        number_of(alloc, offset)?,
-        narrow(alloc, queues)?,
-        narrow(alloc, length)?,
-    );
-    Ok(Value::Area(area, only_handle(alloc, handle)?))
+    let handle = only_handle(alloc, handle)?;
+    let numbers: [u64; 4] = numbers_in(alloc, "an area", area)?;
+    let [size, offset, queues, length] = numbers;
+    match (u16::try_from(queues), u16::try_from(length)) {
+        (Ok(queues), Ok(length)) => {
+            Ok(Value::Area(VhostUserInflight::new(size, offset, queues, length), handle))
+        }
+        _ => Err(unreadable(alloc, "an area", area)),
+    }
 }
 
 /// A number of regions, and their sizes.

@@ -18,64 +18,81 @@ fn new_device(alloc: Global) -> Device {
     DummyBackendReqHandler::new(alloc, Vec::new(alloc))
 }
 
-/// Whether a receipt is confirmed, and has this caller, serial and number.
-fn is_number<D: VhostUserBackendReqHandlerMut<Link = MemLink>>(
-    log: &Log<D>,
-    receipt: &Receipt,
-    caller: u32,
-    serial: u64,
-    number: u64,
-) -> bool {
+/// Whether a receipt has this caller, serial and number.
+fn is_number(receipt: &Receipt, caller: u32, serial: u64, number: u64) -> bool {
     receipt.caller() == caller
         && receipt.serial() == serial
-        && log.confirms(receipt)
         && matches!(receipt.answer(), FrontendAnswer::Number(n) if *n == number)
 }
 
-/// Whether caller 7 set the base of ring 0 to 9 first.
-fn is_set<D: VhostUserBackendReqHandlerMut<Link = MemLink>>(
-    log: &Log<D>,
-    receipt: &Receipt,
-) -> bool {
-    receipt.caller() == 7
-        && receipt.serial() == 0
-        && log.confirms(receipt)
-        && matches!(receipt.call(), FrontendCall::SetVringBase(0, 9))
-        && matches!(receipt.answer(), FrontendAnswer::Done)
+/// What one caller saw: its receipts, how many of them the log confirms, how many entries that has, why the last call was not
+/// done, and why the run stopped.
+#[derive(Drop)]
+struct Seen {
+    receipts: Vec<Receipt>,
+    confirmed: usize,
+    entries: usize,
+    halt: Option<Halt>,
+    stopped: Option<Stop>,
 }
 
-/// Whether a log has the two calls of caller 7, and what the second answered is what the first set.
-fn are_nine<D: VhostUserBackendReqHandlerMut<Link = MemLink>>(alone: &Alone<D>) -> bool {
-    let log = &alone.log;
-    match alone.receipts.as_slice() {
+/// What a caller alone sees over a device, with a budget of retries, and a link of the frontend that is cut by a script.
+fn seen_over<D: VhostUserBackendReqHandlerMut<Link = MemLink>, R: Wait>(
+    rt: &R,
+    alloc: Global,
+    device: D,
+    caller: u32,
+    calls: &[FrontendCall],
+    link: (u32, Vec<Cut>),
+) -> Result<Seen, Halt> {
+    let alone = call_alone(rt, alloc, device, caller, calls, link)?;
+    let Alone {
+        log,
+        receipts,
+        halt,
+    } = alone;
+    let confirmed = receipts
+        .iter()
+        .filter(|receipt| log.confirms(receipt))
+        .count();
+    Ok(Seen {
+        receipts,
+        confirmed,
+        entries: log.entries().len(),
+        halt,
+        stopped: log.stopped(),
+    })
+}
+
+/// The same over an example device, with regions of shared memory of these sizes if there are any.
+fn saw<R: Wait>(
+    rt: &R,
+    alloc: Global,
+    sizes: &[u64],
+    caller: u32,
+    calls: &[FrontendCall],
+    link: (u32, Vec<Cut>),
+) -> Result<Seen, Halt> {
+    let mut device = new_device(alloc);
+    if !sizes.is_empty() {
+        device.set_shmem_config(VhostUserShMemConfig::new(sizes.len() as u32, sizes));
+    }
+    seen_over(rt, alloc, device, caller, calls, link)
+}
+
+/// Whether the two calls of caller 7 are recorded, and what the second answered is what the first set.
+fn are_nine(seen: &Seen) -> bool {
+    match seen.receipts.as_slice() {
         [first, second] => {
-            is_set(log, first) && is_number(log, second, 7, 1, 9) && log.entries().len() == 2
+            first.caller() == 7
+                && first.serial() == 0
+                && matches!(first.call(), FrontendCall::SetVringBase(0, 9))
+                && matches!(first.answer(), FrontendAnswer::Done)
+                && is_number(second, 7, 1, 9)
+                && (seen.confirmed, seen.entries) == (2, 2)
         }
         _ => false,
     }
-}
-
-/// What a caller alone sees over an example device, with a budget of retries, and a link of the frontend that is cut by a script.
-fn alone_over<R: Wait>(
-    rt: &R,
-    alloc: Global,
-    device: Device,
-    caller: u32,
-    calls: &[FrontendCall],
-    link: (u32, Vec<Cut>),
-) -> Result<Alone<Device>, Halt> {
-    call_alone(rt, alloc, device, caller, calls, link)
-}
-
-/// The same over a new one.
-fn alone<R: Wait>(
-    rt: &R,
-    alloc: Global,
-    caller: u32,
-    calls: &[FrontendCall],
-    link: (u32, Vec<Cut>),
-) -> Result<Alone<Device>, Halt> {
-    alone_over(rt, alloc, new_device(alloc), caller, calls, link)
 }
 
 fn reads_what_it_set<R: Wait>(rt: &R, alloc: Global) -> Result<bool, Halt> {
@@ -83,7 +100,7 @@ fn reads_what_it_set<R: Wait>(rt: &R, alloc: Global) -> Result<bool, Halt> {
         FrontendCall::SetVringBase(0, 9),
         FrontendCall::GetVringBase(0),
     ];
-    let seen = alone(rt, alloc, 7, &calls, (3, Vec::new(alloc)))?;
+    let seen = saw(rt, alloc, &[], 7, &calls, (3, Vec::new(alloc)))?;
     Ok(are_nine(&seen))
 }
 
@@ -93,14 +110,11 @@ fn one_caller_reads_what_it_set(rt: HostRuntime) -> Result<(), Fail> {
     Ok(())
 }
 
-/// Whether the last of three receipts is confirmed, and has the sizes of these two regions of shared memory.
-fn has_regions<D: VhostUserBackendReqHandlerMut<Link = MemLink>>(
-    alone: &Alone<D>,
-    sizes: &[u64],
-) -> bool {
-    match alone.receipts.as_slice() {
+/// Whether three calls are recorded, and the last answered the sizes of these two regions of shared memory.
+fn has_regions(seen: &Seen, sizes: &[u64]) -> bool {
+    match seen.receipts.as_slice() {
         [_, _, last] => {
-            alone.log.confirms(last)
+            seen.confirmed == 3
                 && matches!(last.answer(), FrontendAnswer::ShmemConfig(config) if config.nregions == 2 && config.memory_sizes[..2] == sizes[..])
         }
         _ => false,
@@ -109,14 +123,12 @@ fn has_regions<D: VhostUserBackendReqHandlerMut<Link = MemLink>>(
 
 fn reads_what_is_shared<R: Wait>(rt: &R, alloc: Global) -> Result<bool, Halt> {
     let sizes = [0x1000, 0x2000];
-    let mut device = new_device(alloc);
-    device.set_shmem_config(VhostUserShMemConfig::new(2, &sizes));
     let calls = [
         FrontendCall::GetFeatures,
         FrontendCall::SetProtocolFeatures(VhostUserProtocolFeatures::SHMEM),
         FrontendCall::GetShmemConfig,
     ];
-    let seen = alone_over(rt, alloc, device, 7, &calls, (3, Vec::new(alloc)))?;
+    let seen = saw(rt, alloc, &sizes, 7, &calls, (3, Vec::new(alloc)))?;
     Ok(has_regions(&seen, &sizes))
 }
 
@@ -134,7 +146,7 @@ fn confirmed<D: VhostUserBackendReqHandlerMut<Link = MemLink>>(
 ) -> u64 {
     let mut count = 0;
     for receipt in receipts {
-        if is_number(log, receipt, caller, count, 0x4000_0003) {
+        if log.confirms(receipt) && is_number(receipt, caller, count, 0x4000_0003) {
             count = count.saturating_add(1);
         }
     }
@@ -160,30 +172,17 @@ fn asking(alloc: Global, count: u32) -> Result<Vec<FrontendCall>, AllocError> {
     Ok(calls)
 }
 
-/// What four callers see over a new example device who ask so often each.
-fn four<R: Threads + Wait + Sync>(
+/// What four callers see over a device who ask so often each.
+fn four<D: VhostUserBackendReqHandlerMut<Link = MemLink> + Send, R: Threads + Wait + Sync>(
     rt: &R,
     alloc: Global,
+    device: D,
     count: u32,
-) -> Result<Crowd<Device>, Halt> {
+) -> Result<Crowd<D>, Halt> {
     let Ok(calls) = asking(alloc, count) else {
         return Err(Halt::OutOfMemory);
     };
-    four_callers(rt, alloc, new_device(alloc), &calls)
-}
-
-fn confirmed_of_four<R: Threads + Wait + Sync>(
-    rt: &R,
-    alloc: Global,
-) -> Result<(u64, usize), Halt> {
-    let crowd = four(rt, alloc, 100)?;
-    Ok(all_confirmed(&crowd))
-}
-
-#[test]
-fn four_callers_are_recorded(rt: HostRuntime) -> Result<(), Fail> {
-    assert!(rt; confirmed_of_four(&rt, rt.alloc())? == (400, 400));
-    Ok(())
+    four_callers(rt, alloc, device, &calls)
 }
 
 /// Whether there are 101 receipts of another recorder, and exactly those with serials below 100 are confirmed.
@@ -196,27 +195,28 @@ fn are_first_confirmed<D: VhostUserBackendReqHandlerMut<Link = MemLink>>(
         && receipts.iter().all(|receipt| log.confirms(receipt) == (receipt.serial() < 100))
 }
 
-fn confirms_no_other<R: Threads + Wait + Sync>(rt: &R, alloc: Global) -> Result<bool, Halt> {
-    let crowd = four(rt, alloc, 100)?;
-    let other = four(rt, alloc, 101)?;
-    Ok(are_first_confirmed(&crowd, &other))
+/// Of two recorders, whose callers ask 100 and 101 times: how many receipts the first confirms of its own, how many entries it
+/// has, and whether it confirms of the other's receipts only those that are its own too.
+fn two_recorders<D: VhostUserBackendReqHandlerMut<Link = MemLink> + Send, R: Threads + Wait + Sync>(
+    rt: &R,
+    alloc: Global,
+    devices: (D, D),
+) -> Result<((u64, usize), bool), Halt> {
+    let (one, other) = devices;
+    let crowd = four(rt, alloc, one, 100)?;
+    let other = four(rt, alloc, other, 101)?;
+    Ok((all_confirmed(&crowd), are_first_confirmed(&crowd, &other)))
 }
 
 #[test]
-fn another_recorders_receipt_is_not_confirmed(rt: HostRuntime) -> Result<(), Fail> {
-    assert!(rt; confirms_no_other(&rt, rt.alloc())?);
+fn four_callers_are_recorded_and_no_others(rt: HostRuntime) -> Result<(), Fail> {
+    let devices = (new_device(rt.alloc()), new_device(rt.alloc()));
+    let told = two_recorders(&rt, rt.alloc(), devices)?;
+    assert!(rt; told == ((400, 400), true));
     Ok(())
 }
 
-/// How many receipts and entries there are, why the last call was not done, and why the run stopped.
-fn end_of<D: VhostUserBackendReqHandlerMut<Link = MemLink>>(
-    alone: &Alone<D>,
-) -> (usize, usize, Option<Halt>, Option<Stop>) {
-    let (receipts, entries) = (alone.receipts.len(), alone.log.entries().len());
-    (receipts, entries, alone.halt, alone.log.stopped())
-}
-
-/// How a run ends whose second call is refused in silence.
+/// How a run ends whose second call is refused in silence: how many receipts and entries there are, and why it stopped.
 fn end_of_refused<R: Wait>(
     rt: &R,
     alloc: Global,
@@ -226,8 +226,8 @@ fn end_of_refused<R: Wait>(
         FrontendCall::SetOwner,
         FrontendCall::GetFeatures,
     ];
-    let seen = alone(rt, alloc, 3, &calls, (3, Vec::new(alloc)))?;
-    Ok(end_of(&seen))
+    let seen = saw(rt, alloc, &[], 3, &calls, (3, Vec::new(alloc)))?;
+    Ok((seen.receipts.len(), seen.entries, seen.halt, seen.stopped))
 }
 
 #[test]
@@ -246,31 +246,13 @@ fn four_retries(alloc: Global) -> Result<Vec<Cut>, AllocError> {
     Ok(script)
 }
 
-/// Whether the only receipt of caller 0 has the features.
-fn has_features<D: VhostUserBackendReqHandlerMut<Link = MemLink>>(alone: &Alone<D>) -> bool {
-    match alone.receipts.as_slice() {
-        [only] => is_number(&alone.log, only, 0, 0, 0x4000_0003),
-        _ => false,
-    }
-}
-
-/// Whether the only receipt says that the budget was spent.
-fn has_spent<D: VhostUserBackendReqHandlerMut<Link = MemLink>>(alone: &Alone<D>) -> bool {
-    match alone.receipts.as_slice() {
-        [only] => {
-            alone.log.confirms(only)
-                && matches!(only.answer(), FrontendAnswer::Failed(Error::SocketRetry(_)))
-        }
-        _ => false,
-    }
-}
-
 /// Asks for the features over four retries, of which so many are allowed.
-fn over_retries<R: Wait>(rt: &R, alloc: Global, budget: u32) -> Result<Alone<Device>, Halt> {
+fn over_retries<R: Wait>(rt: &R, alloc: Global, budget: u32) -> Result<Seen, Halt> {
     match four_retries(alloc) {
-        Ok(retries) => alone(
+        Ok(retries) => saw(
             rt,
             alloc,
+            &[],
             0,
             &[FrontendCall::GetFeatures],
             (budget, retries),
@@ -279,19 +261,32 @@ fn over_retries<R: Wait>(rt: &R, alloc: Global, budget: u32) -> Result<Alone<Dev
     }
 }
 
-fn reads_after_four<R: Wait>(rt: &R, alloc: Global) -> Result<bool, Halt> {
-    let seen = over_retries(rt, alloc, 4)?;
-    Ok(has_features(&seen) && seen.log.stopped().is_none())
+/// Whether the only receipt of caller 0 has the features, and the run goes on.
+fn has_features(seen: &Seen) -> bool {
+    match seen.receipts.as_slice() {
+        [only] => {
+            is_number(only, 0, 0, 0x4000_0003) && seen.confirmed == 1 && seen.stopped.is_none()
+        }
+        _ => false,
+    }
 }
 
-fn stops_after_three<R: Wait>(rt: &R, alloc: Global) -> Result<bool, Halt> {
-    let seen = over_retries(rt, alloc, 3)?;
-    Ok(has_spent(&seen) && seen.log.stopped() == Some(Stop::Premise))
+/// Whether the only receipt says that the budget was spent, and the run stopped for it.
+fn has_spent(seen: &Seen) -> bool {
+    match seen.receipts.as_slice() {
+        [only] => {
+            seen.confirmed == 1
+                && matches!(only.answer(), FrontendAnswer::Failed(Error::SocketRetry(_)))
+                && seen.stopped == Some(Stop::Premise)
+        }
+        _ => false,
+    }
 }
 
 #[test]
 fn a_budget_is_that_of_the_recorder(rt: HostRuntime) -> Result<(), Fail> {
-    assert!(rt; reads_after_four(&rt, rt.alloc())?);
-    assert!(rt; stops_after_three(&rt, rt.alloc())?);
+    let alloc: Global = rt.alloc();
+    assert!(rt; has_features(&over_retries(&rt, alloc, 4)?));
+    assert!(rt; has_spent(&over_retries(&rt, alloc, 3)?));
     Ok(())
 }

@@ -1,6 +1,6 @@
 //! Connecting.
 
-use crate::sockets::device::{BUDGET, QUEUES, TOO_LONG, new_device};
+use crate::sockets::device::{BUDGET, QUEUES, System, TOO_LONG, Trial, with_device};
 use crate::sockets::outcome::{Outcome, outcome_of, outcome_of_error};
 use std::alloc::Global;
 use std::cell::Cell;
@@ -121,14 +121,23 @@ fn endpoint_at(rt: &HostRuntime, path: &str) -> Outcome {
     outcome_of(Endpoint::<Header, UnixLink>::connect(rt, rt.alloc(), path, BUDGET))
 }
 
-fn handler_at<S: VhostUserBackendReqHandler<Link = UnixLink>>(
-    rt: &HostRuntime,
-    path: &str,
-    device: Arc<S, Global>,
-) -> Outcome {
-    match BackendReqHandler::connect(rt, rt.alloc(), path, BUDGET, device) {
-        Ok(_) => Outcome::Given,
-        Err(error) => outcome_of_error(error),
+/// A handler connects to a path.
+#[derive(Drop)]
+struct Connecting<'a>(&'a str);
+
+impl<'a> Trial for Connecting<'a> {
+    type Told = Outcome;
+
+    fn on<R: System, S: VhostUserBackendReqHandler<Link = UnixLink> + Send + Sync>(
+        self,
+        rt: &R,
+        alloc: Global,
+        device: Arc<S, Global>,
+    ) -> Outcome {
+        match BackendReqHandler::connect(rt, alloc, self.0, BUDGET, device) {
+            Ok(_) => Outcome::Given,
+            Err(error) => outcome_of_error(error),
+        }
     }
 }
 
@@ -143,9 +152,8 @@ fn no_way_leads_to_no_socket(rt: HostRuntime) -> Result<(), Fail> {
         (TOO_LONG, Outcome::ConnectUnnumbered),
         ("a\0zero.sock", Outcome::ConnectUnnumbered),
     ] {
-        let device = new_device(rt.alloc())?;
         assert!(rt; endpoint_at(&rt, path) == want);
-        assert!(rt; handler_at(&rt, path, device) == want);
+        assert!(rt; with_device(&rt, rt.alloc(), Connecting(path))? == want);
         assert!(rt; frontend_at(&rt, path) == want);
     }
     Ok(())

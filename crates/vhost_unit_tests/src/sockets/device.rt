@@ -1,22 +1,51 @@
 //! The device of these tests.
 
 use std::alloc::{AllocError, Global};
-use std::sync::{Arc, Mutex};
+use std::fs::Files;
+use std::net::Net;
+use std::sync::{Arc, Mutex, Wait};
+use std::thread::Threads;
+use std::time::Clock;
+use vhost_device::VhostUserBackendReqHandler;
 use vhost_dummy_backend::DummyBackendReqHandler;
 use vhost_link::UnixLink;
-
-/// The example device behind a lock, over sockets.
-pub(crate) type Device = Mutex<DummyBackendReqHandler<UnixLink>>;
+use vhost_message::VhostUserShMemConfig;
 
 /// How many retries a message may take, and how many queues a frontend is told of.
 pub(crate) const BUDGET: u32 = 3;
 
 pub(crate) const QUEUES: u64 = 2;
 
-/// A device that nobody owns. It has no handles to give out, since a socket carries none.
-pub(crate) fn new_device(alloc: Global) -> Result<Arc<Device, Global>, AllocError> {
-    let device = DummyBackendReqHandler::new(alloc, Vec::new(alloc));
-    Ok(Arc::new(alloc, Mutex::new(device))?)
+/// What these tests need of the system.
+pub(crate) trait System: Threads + Wait + Clock + Net + Files + Sync {}
+
+impl<R: Threads + Wait + Clock + Net + Files + Sync> System for R {}
+
+/// What a test does with a device. It is told for any device, since naming a whole one costs the checker much: that is done once,
+/// in [`with_device`].
+pub(crate) trait Trial: Drop {
+    /// What it tells.
+    type Told: Drop;
+
+    /// Does it, with this device.
+    fn on<R: System, S: VhostUserBackendReqHandler<Link = UnixLink> + Send + Sync>(
+        self,
+        rt: &R,
+        alloc: Global,
+        device: Arc<S, Global>,
+    ) -> Self::Told;
+}
+
+/// What a test tells of the example device behind a lock, over sockets. Nobody owns it, it has two regions of shared memory, and no
+/// handles to give out, since a socket carries none.
+pub(crate) fn with_device<R: System, T: Trial>(
+    rt: &R,
+    alloc: Global,
+    trial: T,
+) -> Result<T::Told, AllocError> {
+    let mut device = DummyBackendReqHandler::new(alloc, Vec::new(alloc));
+    device.set_shmem_config(VhostUserShMemConfig::new(2, &[0x1000, 0x2000]));
+    Ok(trial.on(rt, alloc, Arc::new(alloc, Mutex::new(device))?))
 }
 
 /// Longer than the path of a socket may be.

@@ -1,6 +1,6 @@
 //! A link over a socket, by itself.
 
-use crate::sockets::device::{BUDGET, new_device};
+use crate::sockets::device::{BUDGET, System, Trial, with_device};
 use std::alloc::Global;
 use std::os::unix::net::UnixStream;
 use std::sync::Arc;
@@ -78,21 +78,29 @@ fn duplicate_below_endpoint(alloc: Global, link: UnixLink) -> Option<UnixLink> {
 }
 
 /// A duplicate of a handler's link; the handler itself ends.
-fn duplicate_below_handler<S: VhostUserBackendReqHandler<Link = UnixLink>>(
-    alloc: Global,
-    link: UnixLink,
-    device: Arc<S, Global>,
-) -> Option<UnixLink> {
-    let handler = BackendReqHandler::from_stream(alloc, link, BUDGET, device).ok()?;
-    handler.try_clone_connection().ok()
+#[derive(Drop)]
+struct BelowHandler(UnixLink);
+
+impl Trial for BelowHandler {
+    type Told = Option<UnixLink>;
+
+    fn on<R: System, S: VhostUserBackendReqHandler<Link = UnixLink> + Send + Sync>(
+        self,
+        rt: &R,
+        alloc: Global,
+        device: Arc<S, Global>,
+    ) -> Option<UnixLink> {
+        let BelowHandler(link) = self;
+        let handler = BackendReqHandler::from_stream(alloc, link, BUDGET, device).ok()?;
+        handler.try_clone_connection().ok()
+    }
 }
 
 #[test]
 fn duplicates_outlive_a_session(rt: HostRuntime) -> Result<(), Fail> {
     let (near, far) = UnixStream::pair(&rt)?;
     let near = duplicate_below_endpoint(rt.alloc(), UnixLink::from(near)).ok_or("no duplicate")?;
-    let device = new_device(rt.alloc())?;
-    let mut near = duplicate_below_handler(rt.alloc(), near, device).ok_or("no duplicate")?;
+    let mut near = with_device(&rt, rt.alloc(), BelowHandler(near))?.ok_or("no duplicate")?;
     assert!(rt; matches!(near.send(b"abc", &[]), Ok(3)));
     let mut room = [0u8; 8];
     assert!(rt;

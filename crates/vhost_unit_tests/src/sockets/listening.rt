@@ -1,6 +1,6 @@
 //! Listening, and handing a device out.
 
-use crate::sockets::device::{BUDGET, QUEUES, TOO_LONG, new_device};
+use crate::sockets::device::{BUDGET, QUEUES, System, TOO_LONG, Trial, with_device};
 use crate::sockets::outcome::{Outcome, outcome_if_any, outcome_of, outcome_of_error};
 use std::alloc::Global;
 use std::fs;
@@ -29,20 +29,40 @@ fn accept<F: Files + Drop, S: VhostUserBackendReqHandler<Link = UnixLink>>(
 }
 
 /// What four calls of `accept` answered, where a connection comes after the second, and another after the third.
-fn accept_four<F: Files + Drop, S: VhostUserBackendReqHandler<Link = UnixLink>>(
-    rt: &HostRuntime,
+fn accept_four<R: System, F: Files + Drop, S: VhostUserBackendReqHandler<Link = UnixLink>>(
+    rt: &R,
+    alloc: Global,
     listener: &mut Listener<F>,
     path: &str,
     device: Arc<S, Global>,
 ) -> Answer<[Outcome; 4]> {
-    let mut backend = BackendListener::new(rt.alloc(), listener, device, BUDGET)?;
+    let mut backend = BackendListener::new(alloc, listener, device, BUDGET)?;
     backend.set_nonblocking(true)?;
     let first = accept(&mut backend);
     let second = accept(&mut backend);
-    let _near = Frontend::connect(rt, rt.alloc(), path, QUEUES, BUDGET);
+    let _near = Frontend::connect(rt, alloc, path, QUEUES, BUDGET);
     let third = accept(&mut backend);
     let _far = UnixStream::connect(rt, path);
     Ok([first, second, third, accept(&mut backend)])
+}
+
+/// Four calls of `accept`, and then two of the listener below.
+#[derive(Drop)]
+struct Accepting<'a>(&'a str);
+
+impl<'a> Trial for Accepting<'a> {
+    type Told = Answer<([Outcome; 4], [Outcome; 2])>;
+
+    fn on<R: System, S: VhostUserBackendReqHandler<Link = UnixLink> + Send + Sync>(
+        self,
+        rt: &R,
+        alloc: Global,
+        device: Arc<S, Global>,
+    ) -> Self::Told {
+        let mut listener = Listener::new(rt, alloc, self.0, false)?;
+        let told = accept_four(rt, alloc, &mut listener, self.0, device)?;
+        Ok((told, accept_two(&listener)))
+    }
 }
 
 /// What two more calls of `accept` answer.
@@ -55,10 +75,7 @@ fn accept_two<F: Files + Drop>(listener: &Listener<F>) -> [Outcome; 2] {
 
 #[test]
 fn hands_the_device_out_once(rt: HostRuntime) -> Result<(), Fail> {
-    let path = "once.sock";
-    let mut listener = Listener::new(&rt, rt.alloc(), path, false)?;
-    let device = new_device(rt.alloc())?;
-    let told = accept_four(&rt, &mut listener, path, device)?;
+    let (told, later) = with_device(&rt, rt.alloc(), Accepting("once.sock"))??;
     assert!(rt;
         told == [
             Outcome::Nothing,
@@ -68,7 +85,7 @@ fn hands_the_device_out_once(rt: HostRuntime) -> Result<(), Fail> {
         ]
     );
     // The second connection was not taken: it still waits, and no other.
-    assert!(rt; accept_two(&listener) == [Outcome::Given, Outcome::Nothing]);
+    assert!(rt; later == [Outcome::Given, Outcome::Nothing]);
     Ok(())
 }
 
@@ -97,12 +114,27 @@ fn own_once<R: Net + Wait, F: Files + Drop, S: VhostUserBackendReqHandler<Link =
     Ok((asked, served, handler.handle_request(rt)))
 }
 
+/// A device that connects serves one request.
+#[derive(Drop)]
+struct Owning<'a>(&'a str);
+
+impl<'a> Trial for Owning<'a> {
+    type Told = Answer<(bool, Answer<()>, Answer<()>)>;
+
+    fn on<R: System, S: VhostUserBackendReqHandler<Link = UnixLink> + Send + Sync>(
+        self,
+        rt: &R,
+        alloc: Global,
+        device: Arc<S, Global>,
+    ) -> Self::Told {
+        let listener = Listener::new(rt, alloc, self.0, false)?;
+        own_once(rt, alloc, &listener, self.0, device)
+    }
+}
+
 #[test]
 fn serves_where_the_device_connects(rt: HostRuntime) -> Result<(), Fail> {
-    let path = "device.sock";
-    let listener = Listener::new(&rt, rt.alloc(), path, false)?;
-    let device = new_device(rt.alloc())?;
-    let (asked, served, last) = own_once(&rt, rt.alloc(), &listener, path, device)?;
+    let (asked, served, last) = with_device(&rt, rt.alloc(), Owning("device.sock"))??;
     assert!(rt; asked);
     assert!(rt; served.is_ok());
     assert!(rt; matches!(last, Err(Error::Disconnected)));
