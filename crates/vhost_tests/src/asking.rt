@@ -1,9 +1,10 @@
 //! Asking sessions: a frontend alone, over a link in memory.
 
-mod side;
+pub(crate) mod side;
 mod whole;
 
 use crate::asking::side::Side;
+use crate::player::Player;
 use std::alloc::Global;
 use std::sync::Wait;
 use vhost_frontend_core::FrontendCall;
@@ -13,38 +14,26 @@ use vhost_test_tools::{
 
 /// A frontend, and what its next call is to do.
 #[derive(Drop)]
-pub(crate) struct Asking {
-    side: Side,
+pub(crate) struct Asking<S: Side> {
+    side: S,
     traffic: Traffic,
     /// The next call.
     call: Option<FrontendCall>,
     alloc: Global,
 }
 
-impl Asking {
-    /// A new session, by whole calls or by their halves.
-    pub(crate) fn new(
-        alloc: Global,
-        settings: &Settings<'_>,
-        n: usize,
-        is_whole: bool,
-    ) -> Result<Asking, Miss> {
+impl<S: Side> Player for Asking<S> {
+    fn new(alloc: Global, settings: &Settings<'_>, n: usize) -> Result<Self, Miss> {
         let cuts = cuts_of(alloc, n, settings.cuts)?;
-        let side = if is_whole {
-            Side::whole(alloc, settings, cuts)?
-        } else {
-            Side::halves(alloc, settings, cuts)?
-        };
         Ok(Asking {
-            side,
+            side: S::new(alloc, settings, cuts)?,
             traffic: Traffic::new(alloc, n),
             call: None,
             alloc,
         })
     }
 
-    /// Does what a line says, or compares it.
-    pub(crate) fn step(&mut self, rt: &impl Wait, word: &str, rest: &str) -> Result<(), Miss> {
+    fn step(&mut self, rt: &impl Wait, word: &str, rest: &str) -> Result<(), Miss> {
         match word {
             "call" if self.call.is_none() => {
                 self.call = Some(call_in(self.alloc, rest)?);
@@ -63,6 +52,17 @@ impl Asking {
         }
     }
 
+    fn end(&mut self, rt: &impl Wait) -> Result<(), Miss> {
+        if self.call.is_some() {
+            return Err(unreadable(self.alloc, "an answer", "none"));
+        }
+        let left = self.side.left(self.alloc)?;
+        self.traffic.end(left.as_str())?;
+        self.side.end(self.alloc, rt)
+    }
+}
+
+impl<S: Side> Asking<S> {
     /// Makes the call, and compares what was written, and the answer.
     fn answer(&mut self, rt: &impl Wait, wanted: &str) -> Result<(), Miss> {
         let Some(call) = self.call.take() else {
@@ -97,20 +97,10 @@ impl Asking {
 
     /// Tests whether the last call met a fault of the link, where this is told.
     fn expect_link(&mut self, wanted: &str) -> Result<(), Miss> {
-        match self.side.faulted() {
+        match self.side.has_faulted() {
             Some(true) => expect(self.alloc, wanted, "faulted"),
             Some(false) => expect(self.alloc, wanted, "sound"),
             None => Ok(()),
         }
-    }
-
-    /// Tests that each call was made, and all was received.
-    pub(crate) fn end(&mut self, rt: &impl Wait) -> Result<(), Miss> {
-        if self.call.is_some() {
-            return Err(unreadable(self.alloc, "an answer", "none"));
-        }
-        let left = self.side.left(self.alloc)?;
-        self.traffic.end(left.as_str())?;
-        self.side.end(self.alloc, rt)
     }
 }

@@ -3,6 +3,7 @@
 pub(crate) mod display;
 pub(crate) mod reverse;
 
+use crate::player::Player;
 use std::alloc::Global;
 use std::cell::RefCell;
 use std::mem::swap;
@@ -45,9 +46,8 @@ pub(crate) struct ChannelPlayer<C: Channel> {
     alloc: Global,
 }
 
-impl<C: Channel> ChannelPlayer<C> {
-    /// A new session.
-    pub(crate) fn new(alloc: Global, settings: &Settings<'_>, n: usize) -> Result<Self, Miss> {
+impl<C: Channel> Player for ChannelPlayer<C> {
+    fn new(alloc: Global, settings: &Settings<'_>, n: usize) -> Result<Self, Miss> {
         let link = PlainLink::new(alloc, cuts_of(alloc, n, settings.cuts)?)?;
         let wire = link.wire()?;
         let channel = C::open(alloc, link, settings.budget)?;
@@ -61,8 +61,7 @@ impl<C: Channel> ChannelPlayer<C> {
         })
     }
 
-    /// Does what a line says, or compares it.
-    pub(crate) fn step(&mut self, rt: &impl Wait, word: &str, rest: &str) -> Result<(), Miss> {
+    fn step(&mut self, rt: &impl Wait, word: &str, rest: &str) -> Result<(), Miss> {
         match word {
             "call" if self.call.is_none() => {
                 self.call = Some(rest.to_string(self.alloc)?);
@@ -87,6 +86,16 @@ impl<C: Channel> ChannelPlayer<C> {
         }
     }
 
+    fn end(&mut self, _rt: &impl Wait) -> Result<(), Miss> {
+        if self.call.is_some() {
+            return Err(unreadable(self.alloc, "an answer", "none"));
+        }
+        let left = self.left()?;
+        self.traffic.end(left.as_str())
+    }
+}
+
+impl<C: Channel> ChannelPlayer<C> {
     /// Sets flags, by their names.
     fn set_flags(&self, rt: &impl Wait, names: &str) -> Result<(), Miss> {
         for name in names.split(' ') {
@@ -112,14 +121,5 @@ impl<C: Channel> ChannelPlayer<C> {
     /// Takes what is left on the link.
     fn left(&mut self) -> Result<String, Miss> {
         left_of_link(self.alloc, &mut lend(self.alloc, &self.wire)?.mem)
-    }
-
-    /// Tests that nothing is wanted any more, and nothing is left.
-    pub(crate) fn end(&mut self) -> Result<(), Miss> {
-        if self.call.is_some() {
-            return Err(unreadable(self.alloc, "an answer", "none"));
-        }
-        let left = self.left()?;
-        self.traffic.end(left.as_str())
     }
 }

@@ -7,7 +7,9 @@ mod sends;
 use crate::endpoint::pieces::{offset_text, send_pieces};
 use crate::endpoint::receives::{Room, receive, receive_or_bare};
 use crate::endpoint::sends::send;
+use crate::player::Player;
 use std::alloc::Global;
+use std::sync::Wait;
 use vhost_connection::Endpoint;
 use vhost_gpu_message::{GpuBackendReq, VhostUserGpuMsgHeader};
 use vhost_link::MemLink;
@@ -17,17 +19,43 @@ use vhost_test_tools::{
     narrow, outcome_text, unreadable,
 };
 
-/// An endpoint of frontend requests, or of the display's channel.
-#[derive(Drop)]
-enum End {
-    Requests(Endpoint<VhostUserMsgHeader<FrontendReq>, MemLink>),
-    Display(Endpoint<VhostUserGpuMsgHeader<GpuBackendReq>, MemLink>),
+/// The headers of an endpoint's messages.
+pub(crate) trait Kind: MsgHeader {
+    /// Makes the call that only an endpoint of requests has.
+    fn receive_or_bare(
+        alloc: Global,
+        end: &mut Endpoint<Self, MemLink>,
+        room: &mut Room,
+        args: &str,
+    ) -> Result<String, Miss>;
+}
+
+impl Kind for VhostUserMsgHeader<FrontendReq> {
+    fn receive_or_bare(
+        alloc: Global,
+        end: &mut Endpoint<Self, MemLink>,
+        room: &mut Room,
+        args: &str,
+    ) -> Result<String, Miss> {
+        receive_or_bare(alloc, end, room, args)
+    }
+}
+
+impl Kind for VhostUserGpuMsgHeader<GpuBackendReq> {
+    fn receive_or_bare(
+        alloc: Global,
+        _end: &mut Endpoint<Self, MemLink>,
+        _room: &mut Room,
+        _args: &str,
+    ) -> Result<String, Miss> {
+        Err(unreadable(alloc, "a call of an endpoint", "recv_payload_or_bare"))
+    }
 }
 
 /// An endpoint, and what its next call is to do.
 #[derive(Drop)]
-pub(crate) struct EndpointPlayer {
-    end: End,
+pub(crate) struct EndpointPlayer<M: Kind> {
+    end: Endpoint<M, MemLink>,
     traffic: Traffic,
     /// The next call.
     call: Option<String>,
@@ -36,21 +64,11 @@ pub(crate) struct EndpointPlayer {
     alloc: Global,
 }
 
-impl EndpointPlayer {
-    /// A new endpoint over a new link.
-    pub(crate) fn new(
-        alloc: Global,
-        settings: &Settings<'_>,
-        n: usize,
-    ) -> Result<EndpointPlayer, Miss> {
+impl<M: Kind> Player for EndpointPlayer<M> {
+    fn new(alloc: Global, settings: &Settings<'_>, n: usize) -> Result<Self, Miss> {
         let link = MemLink::new(alloc, cuts_of(alloc, n, settings.cuts)?);
-        let end = if settings.gpu {
-            End::Display(Endpoint::from_stream(alloc, link, settings.budget)?)
-        } else {
-            End::Requests(Endpoint::from_stream(alloc, link, settings.budget)?)
-        };
         Ok(EndpointPlayer {
-            end,
+            end: Endpoint::from_stream(alloc, link, settings.budget)?,
             traffic: Traffic::new(alloc, n),
             call: None,
             room: Room::new(alloc),
@@ -58,8 +76,7 @@ impl EndpointPlayer {
         })
     }
 
-    /// Does what a line says, or compares it.
-    pub(crate) fn step(&mut self, word: &str, rest: &str) -> Result<(), Miss> {
+    fn step(&mut self, _rt: &impl Wait, word: &str, rest: &str) -> Result<(), Miss> {
         match word {
             "received" => self.traffic.push(self.end.link(), rest),
             "call" if self.call.is_none() => {
@@ -78,13 +95,23 @@ impl EndpointPlayer {
                 expect(self.alloc, rest, met)
             }
             "left" => {
-                let left = self.end.left(self.alloc)?;
+                let left = left_of_endpoint(self.alloc, &mut self.end)?;
                 self.traffic.check_left(left.as_str(), rest)
             }
             _ => Err(unreadable(self.alloc, "a step", word)),
         }
     }
 
+    fn end(&mut self, _rt: &impl Wait) -> Result<(), Miss> {
+        if self.call.is_some() {
+            return Err(unreadable(self.alloc, "an answer", "none"));
+        }
+        let left = left_of_endpoint(self.alloc, &mut self.end)?;
+        self.traffic.end(left.as_str())
+    }
+}
+
+impl<M: Kind> EndpointPlayer<M> {
     /// Makes the call, and compares what was written, and the answer.
     fn answer(&mut self, wanted: &str) -> Result<(), Miss> {
         let Some(call) = self.call.take() else {
@@ -92,7 +119,7 @@ impl EndpointPlayer {
         };
         let wanted = counted(self.alloc, self.traffic.n(), wanted)?;
         let (name, args) = call.as_str().split_once(" ").unwrap_or((call.as_str(), ""));
-        let met = self.end.call(self.alloc, &mut self.room, name, args)?;
+        let met = make(self.alloc, &mut self.end, &mut self.room, name, args)?;
         self.traffic.check(self.end.link())?;
         expect(self.alloc, wanted.as_str(), met.as_str())
     }
@@ -106,62 +133,10 @@ impl EndpointPlayer {
             bytes_text(self.alloc, &self.room.buffer)?.as_str(),
         )
     }
-
-    /// Tests that each call was made, and all was received.
-    pub(crate) fn end(&mut self) -> Result<(), Miss> {
-        if self.call.is_some() {
-            return Err(unreadable(self.alloc, "an answer", "none"));
-        }
-        let left = self.end.left(self.alloc)?;
-        self.traffic.end(left.as_str())
-    }
 }
 
-impl End {
-    /// The link below.
-    fn link(&mut self) -> &mut MemLink {
-        match self {
-            End::Requests(end) => end.link(),
-            End::Display(end) => end.link(),
-        }
-    }
-
-    /// Takes what was not received.
-    fn left(&mut self, alloc: Global) -> Result<String, Miss> {
-        match self {
-            End::Requests(end) => left_of_endpoint(alloc, end),
-            End::Display(end) => left_of_endpoint(alloc, end),
-        }
-    }
-
-    /// Whether the last call that sent or received met a fault.
-    fn faulted(&self) -> bool {
-        match self {
-            End::Requests(end) => end.faulted(),
-            End::Display(end) => end.faulted(),
-        }
-    }
-
-    /// Makes a call.
-    fn call(
-        &mut self,
-        alloc: Global,
-        room: &mut Room,
-        name: &str,
-        args: &str,
-    ) -> Result<String, Miss> {
-        match self {
-            End::Requests(end) if name == "recv_payload_or_bare" => {
-                receive_or_bare(alloc, end, room, args)
-            }
-            End::Requests(end) => call_any(alloc, end, room, name, args),
-            End::Display(end) => call_any(alloc, end, room, name, args),
-        }
-    }
-}
-
-/// Makes a call of any endpoint.
-fn call_any<M: MsgHeader>(
+/// Makes a call.
+fn make<M: Kind>(
     alloc: Global,
     end: &mut Endpoint<M, MemLink>,
     room: &mut Room,
@@ -175,6 +150,7 @@ fn call_any<M: MsgHeader>(
         | "recv_body_into_buf"
         | "recv_payload_into_buf"
         | "recv_into_buf" => receive(alloc, end, room, name, args),
+        "recv_payload_or_bare" => M::receive_or_bare(alloc, end, room, args),
         "send_header" | "send_message" | "send_message_with_payload" => {
             send(alloc, end, name, args)
         }

@@ -3,9 +3,11 @@
 mod forward;
 mod reverse;
 
+use crate::player::Player;
 use std::alloc::Global;
 use std::cell::RefCell;
 use std::rc::Rc;
+use std::sync::Wait;
 use vhost_link::PlainHandle;
 use vhost_pair::Stop;
 use vhost_test_tools::{Miss, Settings, Sheet, Traffic, expect, lend, unreadable};
@@ -53,9 +55,8 @@ pub(crate) struct JoinedPlayer<S: Sides> {
     alloc: Global,
 }
 
-impl<S: Sides> JoinedPlayer<S> {
-    /// A new session.
-    pub(crate) fn new(alloc: Global, settings: &Settings<'_>, n: usize) -> Result<Self, Miss> {
+impl<S: Sides> Player for JoinedPlayer<S> {
+    fn new(alloc: Global, settings: &Settings<'_>, n: usize) -> Result<Self, Miss> {
         let sheet = Rc::new(alloc, RefCell::new(Sheet::new(alloc)))?;
         Ok(JoinedPlayer {
             sides: S::new(alloc, settings, n, &sheet)?,
@@ -67,8 +68,7 @@ impl<S: Sides> JoinedPlayer<S> {
         })
     }
 
-    /// Does what a line says, or compares it.
-    pub(crate) fn step(&mut self, word: &str, rest: &str) -> Result<(), Miss> {
+    fn step(&mut self, _rt: &impl Wait, word: &str, rest: &str) -> Result<(), Miss> {
         match word {
             "call" if self.call.is_none() => {
                 self.call = Some(S::call_in(self.alloc, rest)?);
@@ -84,6 +84,17 @@ impl<S: Sides> JoinedPlayer<S> {
         }
     }
 
+    fn end(&mut self, _rt: &impl Wait) -> Result<(), Miss> {
+        if self.call.is_some() {
+            return Err(unreadable(self.alloc, "an answer", "none"));
+        }
+        self.request.expect_none()?;
+        self.reply.expect_none()?;
+        lend(self.alloc, &self.sheet)?.check()
+    }
+}
+
+impl<S: Sides> JoinedPlayer<S> {
     /// Makes the call, and compares.
     fn answer(&mut self, wanted: &str) -> Result<(), Miss> {
         let Some(call) = self.call.take() else {
@@ -107,16 +118,6 @@ impl<S: Sides> JoinedPlayer<S> {
         let (bytes, handles) = self.sides.reply();
         self.reply.check_message(bytes, handles)?;
         written
-    }
-
-    /// Tests that nothing is wanted any more.
-    pub(crate) fn end(&mut self) -> Result<(), Miss> {
-        if self.call.is_some() {
-            return Err(unreadable(self.alloc, "an answer", "none"));
-        }
-        self.request.expect_none()?;
-        self.reply.expect_none()?;
-        lend(self.alloc, &self.sheet)?.check()
     }
 }
 

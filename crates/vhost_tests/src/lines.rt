@@ -1,8 +1,10 @@
 //! Sessions of lines, as `vhost-run` runs them.
 
+use crate::player::Player;
 use std::alloc::{AllocError, Global};
+use std::sync::Wait;
 use vhost_lines::run_lines;
-use vhost_test_tools::{Miss, bytes_of, differs, expect, unreadable};
+use vhost_test_tools::{Miss, Settings, bytes_of, differs, expect, unreadable};
 
 /// The input of a run, and what it must print.
 #[derive(Drop)]
@@ -15,20 +17,18 @@ pub(crate) struct Lines {
     alloc: Global,
 }
 
-impl Lines {
-    /// No line.
-    pub(crate) fn new(alloc: Global) -> Lines {
-        Lines {
+impl Player for Lines {
+    fn new(alloc: Global, _settings: &Settings<'_>, _n: usize) -> Result<Lines, Miss> {
+        Ok(Lines {
             input: Vec::new(alloc),
             output: String::new(alloc),
             errors: String::new(alloc),
             is_over: false,
             alloc,
-        }
+        })
     }
 
-    /// Does what a line of the script says.
-    pub(crate) fn step(&mut self, word: &str, rest: &str) -> Result<(), Miss> {
+    fn step(&mut self, _rt: &impl Wait, word: &str, rest: &str) -> Result<(), Miss> {
         if self.is_over {
             return Err(unreadable(self.alloc, "another session", word));
         }
@@ -47,6 +47,15 @@ impl Lines {
         Ok(())
     }
 
+    fn end(&mut self, _rt: &impl Wait) -> Result<(), Miss> {
+        if self.is_over {
+            return Ok(());
+        }
+        Err(unreadable(self.alloc, "a status", "none"))
+    }
+}
+
+impl Lines {
     /// Puts bytes behind the input, and perhaps a line feed behind them.
     fn put(&mut self, bytes: &[u8], has_end: bool) -> Result<(), AllocError> {
         self.input.extend_from_slice(bytes)?;
@@ -67,14 +76,6 @@ impl Lines {
         compare(self.alloc, self.errors.as_str(), &errors)?;
         let status = format!(in self.alloc; "{status}")?;
         expect(self.alloc, wanted, status.as_str())
-    }
-
-    /// Tests that it has run.
-    pub(crate) fn end(&mut self) -> Result<(), Miss> {
-        if self.is_over {
-            return Ok(());
-        }
-        Err(unreadable(self.alloc, "a status", "none"))
     }
 }
 

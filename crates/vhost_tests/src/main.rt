@@ -1,13 +1,14 @@
 //! Plays scripts, one file each, and says which lines were not met. The language is told in `docs/TESTS.md`.
 #![tactic(auto)]
 
-mod actor;
 mod asking;
 mod channels;
+mod device;
 mod endpoint;
 mod joined;
 mod lines;
 mod play;
+mod player;
 mod records;
 mod reverse_served;
 mod served;

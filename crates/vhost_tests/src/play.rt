@@ -1,10 +1,32 @@
 //! Playing a session, line by line.
 
-use crate::actor::{Actor, Player};
+use crate::asking::Asking;
+use crate::asking::side::Shared;
+use crate::channels::ChannelPlayer;
+use crate::endpoint::EndpointPlayer;
+use crate::joined::JoinedPlayer;
+use crate::lines::Lines;
+use crate::player::Player;
+use crate::reverse_served;
+use crate::reverse_served::ReverseServed;
+use crate::served::Served;
+use crate::served::handler::{Alone, Locked};
 use std::alloc::Global;
 use std::fmt;
 use std::sync::Wait;
-use vhost_test_tools::{Line, Miss, Refusal, Session, differs};
+use vhost_backend_req::Backend;
+use vhost_dummy_backend::DummyBackendReqHandler;
+use vhost_frontend_core::FrontendInternal;
+use vhost_gpu_backend_req::GpuBackend;
+use vhost_gpu_message::{GpuBackendReq, VhostUserGpuMsgHeader};
+use vhost_link::{MemLink, PlainHandle};
+use vhost_message::{FrontendReq, VhostUserMsgHeader};
+use vhost_pair::Joined;
+use vhost_pair_reverse::JoinedReverse;
+use vhost_test_tools::{
+    Line, Miss, Over, PlainLink, Refusal, Scripted, ScriptedFrontend, Session, TestLink, differs,
+    unreadable,
+};
 
 /// How much was played.
 #[derive(Clone, Copy)]
@@ -29,6 +51,11 @@ impl fmt::Display for Tally {
     }
 }
 
+/// The headers of messages of a frontend, and of the display's channel.
+type Requests = VhostUserMsgHeader<FrontendReq>;
+
+type Displays = VhostUserGpuMsgHeader<GpuBackendReq>;
+
 /// Plays a session for each number of its range, and in each of its ways.
 pub(crate) fn play_session(
     rt: &impl Wait,
@@ -37,25 +64,93 @@ pub(crate) fn play_session(
     tally: &mut Tally,
 ) -> Result<(), Refusal> {
     for n in session.settings.first..session.settings.end {
-        play_once(rt, alloc, session, (n, false), tally)?;
         if session.kind == "asking" {
-            play_once(rt, alloc, session, (n, true), tally)?;
+            play::<Asking<FrontendInternal<MemLink>>, _>(rt, alloc, session, n, tally)?;
+            play::<Asking<Shared>, _>(rt, alloc, session, n, tally)?;
+        } else {
+            play_once(rt, alloc, session, n, tally)?;
         }
     }
     Ok(())
 }
 
-/// Plays a session for one number and in one way.
+/// Plays a session for one number, by its kind and its device.
 fn play_once(
     rt: &impl Wait,
     alloc: Global,
     session: &Session<'_>,
-    (n, is_whole): (usize, bool),
+    n: usize,
+    tally: &mut Tally,
+) -> Result<(), Refusal> {
+    match (session.kind, session.settings.over) {
+        ("served", Over::Scripted) => {
+            play::<Served<Alone<Scripted<TestLink>>>, _>(rt, alloc, session, n, tally)
+        }
+        ("served", Over::Locked) => {
+            play::<Served<Locked<Scripted<TestLink>>>, _>(rt, alloc, session, n, tally)
+        }
+        ("served", _) => {
+            play::<Served<Alone<DummyBackendReqHandler<TestLink>>>, _>(rt, alloc, session, n, tally)
+        }
+        ("joined", Over::Scripted) => {
+            play::<JoinedPlayer<Joined<Scripted<MemLink>>>, _>(rt, alloc, session, n, tally)
+        }
+        ("joined", _) => {
+            play::<JoinedPlayer<Joined<DummyBackendReqHandler<MemLink>>>, _>(
+                rt, alloc, session, n, tally,
+            )
+        }
+        _ => play_other(rt, alloc, session, n, tally),
+    }
+}
+
+/// The same of sessions without a handler.
+fn play_other(
+    rt: &impl Wait,
+    alloc: Global,
+    session: &Session<'_>,
+    n: usize,
+    tally: &mut Tally,
+) -> Result<(), Refusal> {
+    match session.kind {
+        "reverse" => {
+            play::<JoinedPlayer<JoinedReverse<ScriptedFrontend<PlainHandle>>>, _>(
+                rt, alloc, session, n, tally,
+            )
+        }
+        "reverse_served" if session.settings.over == Over::Locked => {
+            play::<ReverseServed<reverse_served::Locked>, _>(rt, alloc, session, n, tally)
+        }
+        "reverse_served" => {
+            play::<ReverseServed<reverse_served::Alone>, _>(rt, alloc, session, n, tally)
+        }
+        "reverse_asking" => {
+            play::<ChannelPlayer<Backend<PlainLink>>, _>(rt, alloc, session, n, tally)
+        }
+        "display" => play::<ChannelPlayer<GpuBackend<PlainLink>>, _>(rt, alloc, session, n, tally),
+        "lines" => play::<Lines, _>(rt, alloc, session, n, tally),
+        "endpoint" if session.settings.gpu => {
+            play::<EndpointPlayer<Displays>, _>(rt, alloc, session, n, tally)
+        }
+        "endpoint" => play::<EndpointPlayer<Requests>, _>(rt, alloc, session, n, tally),
+        kind => Err(Refusal {
+            number: session.number,
+            miss: unreadable(alloc, "a kind of session", kind),
+        }),
+    }
+}
+
+/// Plays a session for one number, by a player of its kind.
+fn play<P: Player, R: Wait>(
+    rt: &R,
+    alloc: Global,
+    session: &Session<'_>,
+    n: usize,
     tally: &mut Tally,
 ) -> Result<(), Refusal> {
     tally.sessions = tally.sessions.wrapping_add(1);
-    match Actor::new(alloc, session, n, is_whole) {
-        Ok(actor) => play_whole(rt, alloc, actor, session, tally),
+    match P::new(alloc, &session.settings, n) {
+        Ok(player) => play_whole(rt, alloc, player, session, tally),
         Err(miss) => Err(Refusal {
             number: session.number,
             miss,
@@ -105,18 +200,24 @@ fn play_line(
     line: Line<'_>,
 ) -> Result<(), Miss> {
     if let Some(step) = line.text.strip_prefix("not ") {
-        return match player.step(rt, step) {
+        return match step_by(rt, player, step) {
             Ok(()) => Err(differs(alloc, "a difference", step)),
             Err(Miss::Differs(_)) => Ok(()),
             Err(miss) => Err(miss),
         };
     }
     if let Some(step) = line.text.strip_prefix("bad ") {
-        return match player.step(rt, step) {
+        return match step_by(rt, player, step) {
             Ok(()) => Err(differs(alloc, "a line that can't be read", step)),
             Err(Miss::Unreadable(_)) => Ok(()),
             Err(miss) => Err(miss),
         };
     }
-    player.step(rt, line.text)
+    step_by(rt, player, line.text)
+}
+
+/// Has the player do what a line says.
+fn step_by(rt: &impl Wait, player: &mut impl Player, line: &str) -> Result<(), Miss> {
+    let (word, rest) = line.split_once(" ").unwrap_or((line, ""));
+    player.step(rt, word, rest)
 }

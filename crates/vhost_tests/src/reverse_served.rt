@@ -1,5 +1,6 @@
 //! Served sessions of the reverse channel: a frontend's side over a link in memory.
 
+use crate::player::Player;
 use std::alloc::{AllocError, Global};
 use std::cell::RefCell;
 use std::rc::Rc;
@@ -14,45 +15,132 @@ use vhost_test_tools::{
 
 type Frontend = ScriptedFrontend<TestHandle>;
 
+/// What serves a device's requests.
+pub(crate) trait Server: Sized + Drop {
+    /// What serves, over a link; it goes by the sheet.
+    fn new(
+        alloc: Global,
+        settings: &Settings<'_>,
+        link: TestLink,
+        sheet: &Rc<RefCell<Sheet>>,
+    ) -> Result<Self, Miss>;
+
+    /// Serves a request.
+    fn serve(&mut self, rt: &impl Wait) -> Outcome<u64>;
+
+    /// Marks it as failed; 0 takes the mark away.
+    fn set_failed(&mut self, number: i32);
+
+    /// Says whether requests that ask for it are acknowledged.
+    fn set_reply_ack_flag(&mut self, on: bool);
+
+    /// Whether the last request met a fault of the link. None: behind a lock this is not told.
+    fn faulted(&self) -> Option<bool>;
+
+    /// Takes what was not received. None: behind a lock this is not seen.
+    fn left(&mut self, alloc: Global) -> Result<Option<String>, Miss>;
+}
+
 /// A frontend's side by itself, and what serves the requests.
 #[derive(Drop)]
-struct Alone {
+pub(crate) struct Alone {
     core: FrontendReqCore<TestLink>,
     frontend: Frontend,
 }
 
-impl Alone {
-    /// Serves a request.
-    fn serve(&mut self) -> Outcome<u64> {
+impl Server for Alone {
+    fn new(
+        alloc: Global,
+        settings: &Settings<'_>,
+        link: TestLink,
+        sheet: &Rc<RefCell<Sheet>>,
+    ) -> Result<Self, Miss> {
+        if settings.over != Over::Scripted {
+            return Err(unreadable(alloc, "a device", "none"));
+        }
+        let frontend = ScriptedFrontend::new(alloc, sheet)?;
+        let core = FrontendReqCore::new(alloc, link, settings.budget)?;
+        Ok(Alone { core, frontend })
+    }
+
+    fn serve(&mut self, _rt: &impl Wait) -> Outcome<u64> {
         self.core.handle_request(&mut self.frontend)
+    }
+
+    fn set_failed(&mut self, number: i32) {
+        self.core.set_failed(number);
+    }
+
+    fn set_reply_ack_flag(&mut self, on: bool) {
+        self.core.set_reply_ack_flag(on);
+    }
+
+    fn faulted(&self) -> Option<bool> {
+        Some(self.core.faulted())
+    }
+
+    fn left(&mut self, alloc: Global) -> Result<Option<String>, Miss> {
+        Ok(Some(left_of_endpoint(alloc, self.core.endpoint_mut())?))
     }
 }
 
-/// What serves: by itself, or shared behind a lock.
+/// The same with what serves shared behind a lock.
 #[derive(Drop)]
-enum Server {
-    Alone(Alone),
-    Locked(FrontendReqHandler<TestLink, Mutex<Frontend>>),
+pub(crate) struct Locked {
+    handler: FrontendReqHandler<TestLink, Mutex<Frontend>>,
+}
+
+impl Server for Locked {
+    fn new(
+        alloc: Global,
+        settings: &Settings<'_>,
+        link: TestLink,
+        sheet: &Rc<RefCell<Sheet>>,
+    ) -> Result<Self, Miss> {
+        let frontend = Arc::new(alloc, Mutex::new(ScriptedFrontend::new(alloc, sheet)?))?;
+        let tx = given_end(alloc)?;
+        let handler = FrontendReqHandler::new(alloc, tx, link, settings.budget, frontend)?;
+        Ok(Locked { handler })
+    }
+
+    fn serve(&mut self, rt: &impl Wait) -> Outcome<u64> {
+        self.handler.handle_request(rt)
+    }
+
+    fn set_failed(&mut self, number: i32) {
+        self.handler.set_failed(number);
+    }
+
+    fn set_reply_ack_flag(&mut self, on: bool) {
+        self.handler.set_reply_ack_flag(on);
+    }
+
+    fn faulted(&self) -> Option<bool> {
+        None
+    }
+
+    fn left(&mut self, _alloc: Global) -> Result<Option<String>, Miss> {
+        Ok(None)
+    }
 }
 
 /// A frontend's side, and what is to happen until its next answer.
 #[derive(Drop)]
-pub(crate) struct ReverseServed {
-    server: Server,
+pub(crate) struct ReverseServed<S: Server> {
+    server: S,
     wire: Rc<RefCell<Wire>>,
     sheet: Rc<RefCell<Sheet>>,
     traffic: Traffic,
     alloc: Global,
 }
 
-impl ReverseServed {
-    /// A new session.
-    pub(crate) fn new(alloc: Global, settings: &Settings<'_>, n: usize) -> Result<Self, Miss> {
+impl<S: Server> Player for ReverseServed<S> {
+    fn new(alloc: Global, settings: &Settings<'_>, n: usize) -> Result<Self, Miss> {
         let sheet = Rc::new(alloc, RefCell::new(Sheet::new(alloc)))?;
         let link = TestLink::new(alloc, cuts_of(alloc, n, settings.cuts)?, Vec::new(alloc))?;
         let wire = link.wire()?;
         Ok(ReverseServed {
-            server: Server::new(alloc, link, settings, &sheet)?,
+            server: S::new(alloc, settings, link, &sheet)?,
             wire,
             sheet,
             traffic: Traffic::new(alloc, n),
@@ -60,8 +148,7 @@ impl ReverseServed {
         })
     }
 
-    /// Does what a line says, or compares it.
-    pub(crate) fn step(&mut self, rt: &impl Wait, word: &str, rest: &str) -> Result<(), Miss> {
+    fn step(&mut self, rt: &impl Wait, word: &str, rest: &str) -> Result<(), Miss> {
         match word {
             "request" => self
                 .traffic
@@ -74,28 +161,36 @@ impl ReverseServed {
         }
     }
 
+    fn end(&mut self, _rt: &impl Wait) -> Result<(), Miss> {
+        lend(self.alloc, &self.sheet)?.check()?;
+        let left = match self.server.left(self.alloc)? {
+            Some(left) => left,
+            None => left_of_link(self.alloc, &mut lend(self.alloc, &self.wire)?.mem)?,
+        };
+        self.traffic.end(left.as_str())
+    }
+}
+
+impl<S: Server> ReverseServed<S> {
     /// Does what a line says that is no part of an exchange.
     fn aside(&mut self, word: &str, rest: &str) -> Result<(), Miss> {
-        match (word, &mut self.server) {
-            ("link", Server::Alone(alone)) => {
-                let met = if alone.core.faulted() {
-                    "faulted"
-                } else {
-                    "sound"
-                };
-                expect(self.alloc, rest, met)
-            }
-            ("left", Server::Alone(alone)) => {
-                let left = left_of_endpoint(self.alloc, alone.core.endpoint_mut())?;
-                self.traffic.check_left(left.as_str(), rest)
-            }
-            ("set_failed", server) => {
+        match word {
+            "link" => match self.server.faulted() {
+                Some(true) => expect(self.alloc, rest, "faulted"),
+                Some(false) => expect(self.alloc, rest, "sound"),
+                None => Err(unreadable(self.alloc, "a step", word)),
+            },
+            "left" => match self.server.left(self.alloc)? {
+                Some(left) => self.traffic.check_left(left.as_str(), rest),
+                None => Err(unreadable(self.alloc, "a step", word)),
+            },
+            "set_failed" => {
                 let number: u16 = narrow(self.alloc, rest)?;
-                server.set_failed(number.into());
+                self.server.set_failed(number.into());
                 Ok(())
             }
-            ("set_reply_ack_flag", server) => {
-                server.set_reply_ack_flag(flag_of(self.alloc, rest)?);
+            "set_reply_ack_flag" => {
+                self.server.set_reply_ack_flag(flag_of(self.alloc, rest)?);
                 Ok(())
             }
             _ => Err(unreadable(self.alloc, "a step", word)),
@@ -111,66 +206,6 @@ impl ReverseServed {
         asked?;
         written?;
         expect(self.alloc, wanted, met.as_str())
-    }
-
-    /// Tests that nothing is wanted any more, and nothing is left.
-    pub(crate) fn end(&mut self) -> Result<(), Miss> {
-        lend(self.alloc, &self.sheet)?.check()?;
-        let left = match &mut self.server {
-            Server::Alone(alone) => left_of_endpoint(self.alloc, alone.core.endpoint_mut())?,
-            Server::Locked(_) => left_of_link(self.alloc, &mut lend(self.alloc, &self.wire)?.mem)?,
-        };
-        self.traffic.end(left.as_str())
-    }
-}
-
-impl Server {
-    /// What serves, over a link.
-    fn new(
-        alloc: Global,
-        link: TestLink,
-        settings: &Settings<'_>,
-        sheet: &Rc<RefCell<Sheet>>,
-    ) -> Result<Server, Miss> {
-        let frontend = ScriptedFrontend::new(alloc, sheet)?;
-        let budget = settings.budget;
-        match settings.over {
-            Over::Scripted => {
-                let core = FrontendReqCore::new(alloc, link, budget)?;
-                Ok(Server::Alone(Alone { core, frontend }))
-            }
-            Over::Locked => {
-                let frontend = Arc::new(alloc, Mutex::new(frontend))?;
-                let tx = given_end(alloc)?;
-                let handler = FrontendReqHandler::new(alloc, tx, link, budget, frontend)?;
-                Ok(Server::Locked(handler))
-            }
-            _ => Err(unreadable(alloc, "a device", "none")),
-        }
-    }
-
-    /// Serves a request.
-    fn serve(&mut self, rt: &impl Wait) -> Outcome<u64> {
-        match self {
-            Server::Alone(alone) => alone.serve(),
-            Server::Locked(handler) => handler.handle_request(rt),
-        }
-    }
-
-    /// Marks it as failed; 0 takes the mark away.
-    fn set_failed(&mut self, number: i32) {
-        match self {
-            Server::Alone(alone) => alone.core.set_failed(number),
-            Server::Locked(handler) => handler.set_failed(number),
-        }
-    }
-
-    /// Says whether requests that ask for it are acknowledged.
-    fn set_reply_ack_flag(&mut self, on: bool) {
-        match self {
-            Server::Alone(alone) => alone.core.set_reply_ack_flag(on),
-            Server::Locked(handler) => handler.set_reply_ack_flag(on),
-        }
     }
 }
 

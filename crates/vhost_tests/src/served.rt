@@ -1,9 +1,8 @@
 //! Served sessions: a handler over a link in memory, with a device.
 
-mod dummy;
-mod handler;
+pub(crate) mod handler;
 
-use crate::served::dummy::{set_shares, state_text};
+use crate::player::Player;
 use crate::served::handler::Handler;
 use std::alloc::{AllocError, Global};
 use std::cell::RefCell;
@@ -11,14 +10,14 @@ use std::rc::Rc;
 use std::sync::Wait;
 use vhost_message::{Error, Result as Outcome};
 use vhost_test_tools::{
-    Miss, Settings, Sheet, Traffic, Wire, count_of, differs, expect, left_of_link, lend, narrow,
-    number_of, outcome_text, unreadable,
+    Miss, Settings, Sheet, TestLink, Traffic, Wire, count_of, cuts_of, differs, expect, handles_in,
+    left_of_link, lend, narrow, number_of, outcome_text, unreadable,
 };
 
 /// A handler, and what is to happen until its next answer.
 #[derive(Drop)]
-pub(crate) struct Served {
-    handler: Handler,
+pub(crate) struct Served<H: Handler> {
+    handler: H,
     wire: Rc<RefCell<Wire>>,
     sheet: Rc<RefCell<Sheet>>,
     traffic: Traffic,
@@ -26,38 +25,34 @@ pub(crate) struct Served {
     to_come: usize,
     answers: String,
     count: usize,
-    /// Whether the device's calls are told by the script.
-    is_scripted: bool,
     alloc: Global,
 }
 
-impl Served {
-    /// A new session.
-    pub(crate) fn new(alloc: Global, settings: &Settings<'_>, n: usize) -> Result<Served, Miss> {
+impl<H: Handler> Player for Served<H> {
+    fn new(alloc: Global, settings: &Settings<'_>, n: usize) -> Result<Self, Miss> {
         let sheet = Rc::new(alloc, RefCell::new(Sheet::new(alloc)))?;
-        let (handler, wire) = Handler::new(alloc, settings, n, &sheet)?;
-        let is_scripted = handler.is_scripted();
+        let (silent, _) = handles_in(alloc, settings.silent)?;
+        let link = TestLink::new(alloc, cuts_of(alloc, n, settings.cuts)?, silent)?;
+        let wire = link.wire()?;
         Ok(Served {
-            handler,
+            handler: H::new(alloc, settings, link, &sheet)?,
             wire,
             sheet,
             traffic: Traffic::new(alloc, n),
             to_come: 0,
             answers: String::new(alloc),
             count: 0,
-            is_scripted,
             alloc,
         })
     }
 
-    /// Does what a line says, or compares it.
-    pub(crate) fn step(&mut self, rt: &impl Wait, word: &str, rest: &str) -> Result<(), Miss> {
+    fn step(&mut self, rt: &impl Wait, word: &str, rest: &str) -> Result<(), Miss> {
         match word {
             "request" => self
                 .traffic
                 .push(&mut lend(self.alloc, &self.wire)?.mem, rest),
-            "device" if self.is_scripted => lend(self.alloc, &self.sheet)?.want(rest),
-            "gives" if self.is_scripted => lend(self.alloc, &self.sheet)?.give(rest),
+            "device" if H::IS_SCRIPTED => lend(self.alloc, &self.sheet)?.want(rest),
+            "gives" if H::IS_SCRIPTED => lend(self.alloc, &self.sheet)?.give(rest),
             "reply" => self.traffic.want(rest),
             "answer" => self.answer(rt, rest),
             "run" => self.begin_run(rest),
@@ -66,6 +61,19 @@ impl Served {
         }
     }
 
+    fn end(&mut self, rt: &impl Wait) -> Result<(), Miss> {
+        if self.to_come > 0 {
+            return Err(unreadable(self.alloc, "an answer", "none"));
+        }
+        lend(self.alloc, &self.sheet)?.check()?;
+        match self.handler.left(self.alloc)? {
+            Some(left) => self.traffic.end(left.as_str()),
+            None => self.end_locked(rt),
+        }
+    }
+}
+
+impl<H: Handler> Served<H> {
     /// Does what a line says that is no part of an exchange.
     fn aside(&mut self, word: &str, rest: &str) -> Result<(), Miss> {
         match word {
@@ -77,10 +85,7 @@ impl Served {
             "set_failed" => self.fail(rest),
             "opens" => self.set_opening(rest),
             "state" => self.expect_state(rest),
-            "shares" => match self.handler.dummy_mut() {
-                Some(device) => set_shares(self.alloc, device, rest),
-                None => Err(unreadable(self.alloc, "a step", word)),
-            },
+            "shares" => self.handler.set_shares(self.alloc, rest),
             _ => Err(unreadable(self.alloc, "a step", word)),
         }
     }
@@ -136,7 +141,7 @@ impl Served {
     /// Has the device offer its virtio features, and then chooses these features of the protocol.
     fn agree(&mut self, rt: &impl Wait, features: &str) -> Result<(), Miss> {
         let features = number_of(self.alloc, features)?;
-        if self.is_scripted {
+        if H::IS_SCRIPTED {
             let mut sheet = lend(self.alloc, &self.sheet)?;
             sheet.want("get_features")?;
             sheet.give("0x40000000")?;
@@ -189,23 +194,8 @@ impl Served {
     /// Tests a field of the example device.
     fn expect_state(&mut self, text: &str) -> Result<(), Miss> {
         let (name, wanted) = text.split_once(" ").unwrap_or((text, ""));
-        let Some(device) = self.handler.dummy_mut() else {
-            return Err(unreadable(self.alloc, "a step", "state"));
-        };
-        let met = state_text(self.alloc, device, name)?;
+        let met = self.handler.state_text(self.alloc, name)?;
         expect(self.alloc, wanted, met.as_str())
-    }
-
-    /// Tests that nothing is wanted any more, and nothing is left.
-    pub(crate) fn end(&mut self, rt: &impl Wait) -> Result<(), Miss> {
-        if self.to_come > 0 {
-            return Err(unreadable(self.alloc, "an answer", "none"));
-        }
-        lend(self.alloc, &self.sheet)?.check()?;
-        match self.handler.left(self.alloc)? {
-            Some(left) => self.traffic.end(left.as_str()),
-            None => self.end_locked(rt),
-        }
     }
 
     /// Tests that nothing is left for a handler behind a lock: on its link there is no byte, and one request more meets

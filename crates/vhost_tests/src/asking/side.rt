@@ -17,16 +17,82 @@ use vhost_test_tools::{
     lend,
 };
 
-/// A frontend of one of the two kinds.
-#[derive(Drop)]
-pub(crate) enum Side {
-    /// Each call is asked by one half, and its answer taken by the other.
-    Halves(FrontendInternal<MemLink>),
-    /// Each call is whole, in turn by a session and its clone.
-    Whole(Shared),
+/// A frontend, and the link below it.
+pub(crate) trait Side: Sized + Drop {
+    /// A new one over a new link.
+    fn new(alloc: Global, settings: &Settings<'_>, cuts: Vec<Cut>) -> Result<Self, Miss>;
+
+    /// Makes a call.
+    fn call(
+        &mut self,
+        alloc: Global,
+        rt: &impl Wait,
+        call: &FrontendCall,
+    ) -> Result<FrontendAnswer, Miss>;
+
+    /// Puts a message on its way to the frontend.
+    fn push(&mut self, alloc: Global, traffic: &Traffic, message: &str) -> Result<(), Miss>;
+
+    /// Compares what the frontend wrote.
+    fn check(&mut self, alloc: Global, traffic: &mut Traffic) -> Result<(), Miss>;
+
+    /// Takes what the frontend wrote as seen.
+    fn skip(&mut self, alloc: Global, traffic: &mut Traffic) -> Result<(), Miss>;
+
+    /// Takes what the frontend has not received; by whole calls, what is on the link.
+    fn left(&mut self, alloc: Global) -> Result<String, Miss>;
+
+    /// Tests that nothing was received ahead, once nothing is on the link.
+    fn end(&mut self, alloc: Global, rt: &impl Wait) -> Result<(), Miss>;
+
+    /// Whether the last call met a fault. None where this is not told.
+    fn has_faulted(&self) -> Option<bool>;
 }
 
-/// A session and its clone, and the link that they share.
+/// Each call is asked by one half, and its answer taken by the other.
+impl Side for FrontendInternal<MemLink> {
+    fn new(alloc: Global, settings: &Settings<'_>, cuts: Vec<Cut>) -> Result<Self, Miss> {
+        let link = MemLink::new(alloc, cuts);
+        let (queues, budget) = (settings.queues, settings.budget);
+        Ok(FrontendInternal::new(alloc, link, queues, budget)?)
+    }
+
+    fn call(
+        &mut self,
+        alloc: Global,
+        _rt: &impl Wait,
+        call: &FrontendCall,
+    ) -> Result<FrontendAnswer, Miss> {
+        by_halves(alloc, self, call)
+    }
+
+    fn push(&mut self, _alloc: Global, traffic: &Traffic, message: &str) -> Result<(), Miss> {
+        traffic.push(self.endpoint_mut().link(), message)
+    }
+
+    fn check(&mut self, _alloc: Global, traffic: &mut Traffic) -> Result<(), Miss> {
+        traffic.check(self.endpoint_mut().link())
+    }
+
+    fn skip(&mut self, _alloc: Global, traffic: &mut Traffic) -> Result<(), Miss> {
+        traffic.skip(self.endpoint_mut().link());
+        Ok(())
+    }
+
+    fn left(&mut self, alloc: Global) -> Result<String, Miss> {
+        left_of_endpoint(alloc, self.endpoint_mut())
+    }
+
+    fn end(&mut self, _alloc: Global, _rt: &impl Wait) -> Result<(), Miss> {
+        Ok(())
+    }
+
+    fn has_faulted(&self) -> Option<bool> {
+        Some(self.faulted())
+    }
+}
+
+/// A session and its clone, and the link that they share. Each call is whole, in turn by one and the other.
 #[derive(Drop)]
 pub(crate) struct Shared {
     frontend: Frontend<PlainLink>,
@@ -34,107 +100,19 @@ pub(crate) struct Shared {
     wire: Rc<RefCell<Wire>>,
 }
 
-impl Side {
-    /// By halves of calls.
-    pub(crate) fn halves(
-        alloc: Global,
-        settings: &Settings<'_>,
-        cuts: Vec<Cut>,
-    ) -> Result<Side, Miss> {
-        let link = MemLink::new(alloc, cuts);
-        let (queues, budget) = (settings.queues, settings.budget);
-        let frontend = FrontendInternal::new(alloc, link, queues, budget)?;
-        Ok(Side::Halves(frontend))
-    }
-
-    /// By whole calls.
-    pub(crate) fn whole(
-        alloc: Global,
-        settings: &Settings<'_>,
-        cuts: Vec<Cut>,
-    ) -> Result<Side, Miss> {
+impl Side for Shared {
+    fn new(alloc: Global, settings: &Settings<'_>, cuts: Vec<Cut>) -> Result<Self, Miss> {
         let link = PlainLink::new(alloc, cuts)?;
         let wire = link.wire()?;
         let (queues, budget) = (settings.queues, settings.budget);
         let frontend = Frontend::from_stream(alloc, link, queues, budget)?;
-        let clone = frontend.clone()?;
-        Ok(Side::Whole(Shared {
+        Ok(Shared {
+            clone: frontend.clone()?,
             frontend,
-            clone,
             wire,
-        }))
+        })
     }
 
-    /// Makes a call.
-    pub(crate) fn call(
-        &mut self,
-        alloc: Global,
-        rt: &impl Wait,
-        call: &FrontendCall,
-    ) -> Result<FrontendAnswer, Miss> {
-        match self {
-            Side::Halves(frontend) => by_halves(alloc, frontend, call),
-            Side::Whole(shared) => shared.call(alloc, rt, call),
-        }
-    }
-
-    /// Puts a message on its way to the frontend.
-    pub(crate) fn push(
-        &mut self,
-        alloc: Global,
-        traffic: &Traffic,
-        message: &str,
-    ) -> Result<(), Miss> {
-        match self {
-            Side::Halves(frontend) => traffic.push(frontend.endpoint_mut().link(), message),
-            Side::Whole(shared) => traffic.push(&mut lend(alloc, &shared.wire)?.mem, message),
-        }
-    }
-
-    /// Compares what the frontend wrote.
-    pub(crate) fn check(&mut self, alloc: Global, traffic: &mut Traffic) -> Result<(), Miss> {
-        match self {
-            Side::Halves(frontend) => traffic.check(frontend.endpoint_mut().link()),
-            Side::Whole(shared) => traffic.check(&lend(alloc, &shared.wire)?.mem),
-        }
-    }
-
-    /// Takes what the frontend wrote as seen.
-    pub(crate) fn skip(&mut self, alloc: Global, traffic: &mut Traffic) -> Result<(), Miss> {
-        match self {
-            Side::Halves(frontend) => traffic.skip(frontend.endpoint_mut().link()),
-            Side::Whole(shared) => traffic.skip(&lend(alloc, &shared.wire)?.mem),
-        }
-        Ok(())
-    }
-
-    /// Takes what the frontend has not received; by whole calls, what is on the link.
-    pub(crate) fn left(&mut self, alloc: Global) -> Result<String, Miss> {
-        match self {
-            Side::Halves(frontend) => left_of_endpoint(alloc, frontend.endpoint_mut()),
-            Side::Whole(shared) => left_of_link(alloc, &mut lend(alloc, &shared.wire)?.mem),
-        }
-    }
-
-    /// Tests that nothing was received ahead, once nothing is on the link.
-    pub(crate) fn end(&mut self, alloc: Global, rt: &impl Wait) -> Result<(), Miss> {
-        match self {
-            Side::Halves(_) => Ok(()),
-            Side::Whole(shared) => shared.end(alloc, rt),
-        }
-    }
-
-    /// Whether the last call met a fault. None where this is not told.
-    pub(crate) fn faulted(&self) -> Option<bool> {
-        match self {
-            Side::Halves(frontend) => Some(frontend.faulted()),
-            Side::Whole(_) => None,
-        }
-    }
-}
-
-impl Shared {
-    /// Makes a call, after which it is the other's turn.
     fn call(
         &mut self,
         alloc: Global,
@@ -154,8 +132,24 @@ impl Shared {
         }
     }
 
-    /// Tests that nothing was received ahead: the next reply is received from its first byte, unless the session is
-    /// broken.
+    fn push(&mut self, alloc: Global, traffic: &Traffic, message: &str) -> Result<(), Miss> {
+        traffic.push(&mut lend(alloc, &self.wire)?.mem, message)
+    }
+
+    fn check(&mut self, alloc: Global, traffic: &mut Traffic) -> Result<(), Miss> {
+        traffic.check(&lend(alloc, &self.wire)?.mem)
+    }
+
+    fn skip(&mut self, alloc: Global, traffic: &mut Traffic) -> Result<(), Miss> {
+        traffic.skip(&lend(alloc, &self.wire)?.mem);
+        Ok(())
+    }
+
+    fn left(&mut self, alloc: Global) -> Result<String, Miss> {
+        left_of_link(alloc, &mut lend(alloc, &self.wire)?.mem)
+    }
+
+    /// The next reply is received from its first byte, unless the session is broken.
     fn end(&mut self, alloc: Global, rt: &impl Wait) -> Result<(), Miss> {
         let reply = "01000000 05000000 08000000 8877665544332211";
         Traffic::new(alloc, 0).push(&mut lend(alloc, &self.wire)?.mem, reply)?;
@@ -169,6 +163,10 @@ impl Shared {
                 Err(differs(alloc, "nothing left", met.as_str()))
             }
         }
+    }
+
+    fn has_faulted(&self) -> Option<bool> {
+        None
     }
 }
 

@@ -1,60 +1,17 @@
 //! A frontend and a handler, joined over one of two devices.
 
+use crate::device::TestDevice;
 use crate::joined::Sides;
 use std::alloc::Global;
 use std::cell::RefCell;
 use std::rc::Rc;
 use vhost_device::VhostUserBackendReqHandlerMut;
-use vhost_dummy_backend::DummyBackendReqHandler;
 use vhost_frontend_core::FrontendCall;
 use vhost_link::{Cut, MemLink, PlainHandle};
 use vhost_pair::{Halt, Joined, Stop};
-use vhost_test_tools::{
-    Miss, Over, Scripted, Settings, Sheet, answer_text, call_in, cuts_of, handles_in, unreadable,
-};
+use vhost_test_tools::{Miss, Settings, Sheet, answer_text, call_in, cuts_of};
 
-/// A device of joined sessions.
-pub(crate) trait Served: VhostUserBackendReqHandlerMut<Link = MemLink> + Sized {
-    /// Whether it goes by the script.
-    const IS_SCRIPTED: bool;
-
-    /// A new device; it goes by the sheet, if it goes by the script.
-    fn new_device(
-        alloc: Global,
-        settings: &Settings<'_>,
-        sheet: &Rc<RefCell<Sheet>>,
-    ) -> Result<Self, Miss>;
-}
-
-impl Served for Scripted<MemLink> {
-    const IS_SCRIPTED: bool = true;
-
-    fn new_device(
-        alloc: Global,
-        _settings: &Settings<'_>,
-        sheet: &Rc<RefCell<Sheet>>,
-    ) -> Result<Self, Miss> {
-        Scripted::new(alloc, sheet)
-    }
-}
-
-impl Served for DummyBackendReqHandler<MemLink> {
-    const IS_SCRIPTED: bool = false;
-
-    fn new_device(
-        alloc: Global,
-        settings: &Settings<'_>,
-        _sheet: &Rc<RefCell<Sheet>>,
-    ) -> Result<Self, Miss> {
-        let Over::Dummy(spare) = settings.over else {
-            return Err(unreadable(alloc, "a device", "none"));
-        };
-        let (spare, _) = handles_in(alloc, spare)?;
-        Ok(DummyBackendReqHandler::new(alloc, spare))
-    }
-}
-
-impl<D: Served> Sides for Joined<D> {
+impl<D: VhostUserBackendReqHandlerMut<Link = MemLink> + TestDevice> Sides for Joined<D> {
     type Call = FrontendCall;
 
     const IS_SCRIPTED: bool = D::IS_SCRIPTED;

@@ -1,6 +1,6 @@
-//! A handler of one of three kinds, by its device.
+//! A handler with its device: by itself, or with the device behind a lock.
 
-use crate::served::dummy::{Dummy, new_dummy};
+use crate::device::TestDevice;
 use std::alloc::Global;
 use std::cell::RefCell;
 use std::rc::Rc;
@@ -8,136 +8,142 @@ use std::sync::{Arc, Mutex, Wait};
 use vhost_backend_req_handler::{BackendReqHandler, SessionCore};
 use vhost_device::VhostUserBackendReqHandlerMut;
 use vhost_message::Result as Outcome;
-use vhost_test_tools::{
-    Miss, Over, Scripted, Settings, Sheet, TestLink, Wire, cuts_of, handles_in, left_of_endpoint,
-    unreadable,
-};
+use vhost_test_tools::{Miss, Settings, Sheet, TestLink, left_of_endpoint, unreadable};
 
-/// A session, and its device.
+/// A session of a handler, and its device.
+pub(crate) trait Handler: Sized + Drop {
+    /// Whether the device's calls are told by the script.
+    const IS_SCRIPTED: bool;
+
+    /// A new session over a link; the device goes by the sheet, if it goes by the script.
+    fn new(
+        alloc: Global,
+        settings: &Settings<'_>,
+        link: TestLink,
+        sheet: &Rc<RefCell<Sheet>>,
+    ) -> Result<Self, Miss>;
+
+    /// Serves a request.
+    fn serve(&mut self, rt: &impl Wait) -> Outcome<()>;
+
+    /// Serves so many requests in one run.
+    fn run(&mut self, alloc: Global, count: usize) -> Result<Vec<Outcome<()>>, Miss>;
+
+    /// Whether the last request met a fault of the link. None: behind a lock this is not told.
+    fn faulted(&self) -> Option<bool>;
+
+    /// Takes what was not received. None: behind a lock this is not seen.
+    fn left(&mut self, alloc: Global) -> Result<Option<String>, Miss>;
+
+    /// Marks the session as failed.
+    fn set_failed(&mut self, number: i32);
+
+    /// Sets what the device shares.
+    fn set_shares(&mut self, alloc: Global, text: &str) -> Result<(), Miss>;
+
+    /// A field of the device as a script writes it.
+    fn state_text(&self, alloc: Global, name: &str) -> Result<String, Miss>;
+}
+
+/// A session by itself.
 #[derive(Drop)]
-pub(crate) struct Serving<D: VhostUserBackendReqHandlerMut<Link = TestLink>> {
+pub(crate) struct Alone<D: VhostUserBackendReqHandlerMut<Link = TestLink> + TestDevice> {
     core: SessionCore<TestLink>,
     device: D,
 }
 
-impl<D: VhostUserBackendReqHandlerMut<Link = TestLink>> Serving<D> {
-    /// A new session.
-    fn new(alloc: Global, link: TestLink, budget: u32, device: D) -> Result<Serving<D>, Miss> {
-        let core = SessionCore::new(alloc, link, budget)?;
-        Ok(Serving { core, device })
+impl<D: VhostUserBackendReqHandlerMut<Link = TestLink> + TestDevice> Handler for Alone<D> {
+    const IS_SCRIPTED: bool = D::IS_SCRIPTED;
+
+    fn new(
+        alloc: Global,
+        settings: &Settings<'_>,
+        link: TestLink,
+        sheet: &Rc<RefCell<Sheet>>,
+    ) -> Result<Self, Miss> {
+        let device = D::new_device(alloc, settings, sheet)?;
+        let core = SessionCore::new(alloc, link, settings.budget)?;
+        Ok(Alone { core, device })
     }
 
-    /// Serves a request.
-    fn serve(&mut self) -> Outcome<()> {
+    fn serve(&mut self, _rt: &impl Wait) -> Outcome<()> {
         self.core.handle_request(&mut self.device)
     }
 
-    /// Serves so many requests in one run.
-    fn run(&mut self, count: usize, answers: &mut Vec<Outcome<()>>) -> Outcome<()> {
-        self.core.run(count, &mut self.device, answers)
-    }
-}
-
-/// A session over one of three devices.
-#[derive(Drop)]
-pub(crate) enum Handler {
-    Scripted(Serving<Scripted<TestLink>>),
-    Dummy(Serving<Dummy>),
-    Locked(BackendReqHandler<TestLink, Mutex<Scripted<TestLink>>>),
-}
-
-impl Handler {
-    /// A new session over a new link, which is answered too.
-    pub(crate) fn new(
-        alloc: Global,
-        settings: &Settings<'_>,
-        n: usize,
-        sheet: &Rc<RefCell<Sheet>>,
-    ) -> Result<(Handler, Rc<RefCell<Wire>>), Miss> {
-        let (silent, _) = handles_in(alloc, settings.silent)?;
-        let link = TestLink::new(alloc, cuts_of(alloc, n, settings.cuts)?, silent)?;
-        let wire = link.wire()?;
-        let budget = settings.budget;
-        let handler = match settings.over {
-            Over::Scripted => {
-                let device = Scripted::new(alloc, sheet)?;
-                Handler::Scripted(Serving::new(alloc, link, budget, device)?)
-            }
-            Over::Dummy(spare) => {
-                let device = new_dummy(alloc, spare)?;
-                Handler::Dummy(Serving::new(alloc, link, budget, device)?)
-            }
-            Over::Locked => {
-                let device = Arc::new(alloc, Mutex::new(Scripted::new(alloc, sheet)?))?;
-                Handler::Locked(BackendReqHandler::from_stream(alloc, link, budget, device)?)
-            }
-            Over::Untold => return Err(unreadable(alloc, "a device", "none")),
-        };
-        Ok((handler, wire))
-    }
-
-    /// Whether the device's calls are told by the script.
-    pub(crate) fn is_scripted(&self) -> bool {
-        !matches!(self, Handler::Dummy(..))
-    }
-
-    /// Serves a request.
-    pub(crate) fn serve(&mut self, rt: &impl Wait) -> Outcome<()> {
-        match self {
-            Handler::Scripted(serving) => serving.serve(),
-            Handler::Dummy(serving) => serving.serve(),
-            Handler::Locked(handler) => handler.handle_request(rt),
-        }
-    }
-
-    /// Serves so many requests in one run.
-    pub(crate) fn run(&mut self, alloc: Global, count: usize) -> Result<Vec<Outcome<()>>, Miss> {
+    fn run(&mut self, alloc: Global, count: usize) -> Result<Vec<Outcome<()>>, Miss> {
         let mut answers = Vec::new(alloc);
-        let outcome = match self {
-            Handler::Scripted(serving) => serving.run(count, &mut answers),
-            Handler::Dummy(serving) => serving.run(count, &mut answers),
-            Handler::Locked(_) => return Err(unreadable(alloc, "a device without a lock", "run")),
-        };
-        match outcome {
+        match self.core.run(count, &mut self.device, &mut answers) {
             Ok(()) => Ok(answers),
             Err(_) => Err(Miss::OutOfMemory),
         }
     }
 
-    /// Whether the last request met a fault of the link. None: behind a lock this is not told.
-    pub(crate) fn faulted(&self) -> Option<bool> {
-        match self {
-            Handler::Scripted(serving) => Some(serving.core.faulted()),
-            Handler::Dummy(serving) => Some(serving.core.faulted()),
-            Handler::Locked(_) => None,
-        }
+    fn faulted(&self) -> Option<bool> {
+        Some(self.core.faulted())
     }
 
-    /// Takes what was not received. None: behind a lock this is not seen.
-    pub(crate) fn left(&mut self, alloc: Global) -> Result<Option<String>, Miss> {
-        Ok(match self {
-            Handler::Scripted(serving) => {
-                Some(left_of_endpoint(alloc, serving.core.endpoint_mut())?)
-            }
-            Handler::Dummy(serving) => Some(left_of_endpoint(alloc, serving.core.endpoint_mut())?),
-            Handler::Locked(_) => None,
-        })
+    fn left(&mut self, alloc: Global) -> Result<Option<String>, Miss> {
+        Ok(Some(left_of_endpoint(alloc, self.core.endpoint_mut())?))
     }
 
-    /// Marks the session as failed.
-    pub(crate) fn set_failed(&mut self, number: i32) {
-        match self {
-            Handler::Scripted(serving) => serving.core.set_failed(number),
-            Handler::Dummy(serving) => serving.core.set_failed(number),
-            Handler::Locked(handler) => handler.set_failed(number),
-        }
+    fn set_failed(&mut self, number: i32) {
+        self.core.set_failed(number);
     }
 
-    /// The example device.
-    pub(crate) fn dummy_mut(&mut self) -> Option<&mut Dummy> {
-        match self {
-            Handler::Dummy(serving) => Some(&mut serving.device),
-            _ => None,
-        }
+    fn set_shares(&mut self, alloc: Global, text: &str) -> Result<(), Miss> {
+        self.device.set_shares(alloc, text)
+    }
+
+    fn state_text(&self, alloc: Global, name: &str) -> Result<String, Miss> {
+        self.device.state_text(alloc, name)
+    }
+}
+
+/// A session whose device others may share.
+#[derive(Drop)]
+pub(crate) struct Locked<D: VhostUserBackendReqHandlerMut<Link = TestLink> + TestDevice> {
+    handler: BackendReqHandler<TestLink, Mutex<D>>,
+}
+
+impl<D: VhostUserBackendReqHandlerMut<Link = TestLink> + TestDevice> Handler for Locked<D> {
+    const IS_SCRIPTED: bool = D::IS_SCRIPTED;
+
+    fn new(
+        alloc: Global,
+        settings: &Settings<'_>,
+        link: TestLink,
+        sheet: &Rc<RefCell<Sheet>>,
+    ) -> Result<Self, Miss> {
+        let device = Arc::new(alloc, Mutex::new(D::new_device(alloc, settings, sheet)?))?;
+        let handler = BackendReqHandler::from_stream(alloc, link, settings.budget, device)?;
+        Ok(Locked { handler })
+    }
+
+    fn serve(&mut self, rt: &impl Wait) -> Outcome<()> {
+        self.handler.handle_request(rt)
+    }
+
+    fn run(&mut self, alloc: Global, _count: usize) -> Result<Vec<Outcome<()>>, Miss> {
+        Err(unreadable(alloc, "a device without a lock", "run"))
+    }
+
+    fn faulted(&self) -> Option<bool> {
+        None
+    }
+
+    fn left(&mut self, _alloc: Global) -> Result<Option<String>, Miss> {
+        Ok(None)
+    }
+
+    fn set_failed(&mut self, number: i32) {
+        self.handler.set_failed(number);
+    }
+
+    fn set_shares(&mut self, alloc: Global, _text: &str) -> Result<(), Miss> {
+        Err(unreadable(alloc, "a step", "shares"))
+    }
+
+    fn state_text(&self, alloc: Global, _name: &str) -> Result<String, Miss> {
+        Err(unreadable(alloc, "a step", "state"))
     }
 }
