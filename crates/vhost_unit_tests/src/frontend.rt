@@ -1,6 +1,7 @@
 //! A session between two calls, and regions of memory beside their handles.
 
-use std::test::Fail;
+use std::alloc::Global;
+use std::sync::Wait;
 use vhost_frontend::{Frontend, Quiet, VhostUserMemoryContext};
 use vhost_link::{Cut, Kind, MemLink, PlainHandle};
 use vhost_message::{Error, IoCause, VhostUserHeaderFlag, VhostUserMemoryRegion};
@@ -11,39 +12,59 @@ static FEATURES: [u8; 20] = [
     1, 0, 0, 0, 5, 0, 0, 0, 8, 0, 0, 0, 1, 0, 0, 0x40, 0, 0, 0, 0,
 ];
 
-#[test]
-fn tells_of_a_fault(rt: HostRuntime) -> Result<(), Fail> {
-    let alloc = rt.alloc();
-    let link = MemLink::new(alloc, vec![in alloc; Cut::Fault(5)]?);
-    let mut quiet = Quiet::new(alloc, link, 4, 2)?;
+/// Whether the first call meets the link's error 5, the second succeeds, and after each the session tells which it was.
+fn tells(quiet: &mut Quiet<MemLink>) -> [bool; 4] {
     quiet.set_hdr_flags(VhostUserHeaderFlag::NEED_REPLY);
-    assert!(rt; matches!(quiet.set_owner(), Err(Error::SocketError(IoCause::Raw(5)))));
-    assert!(rt; quiet.faulted());
-    assert!(rt; quiet.set_owner().is_ok());
-    assert!(rt; !quiet.faulted());
-    Ok(())
+    let first = quiet.set_owner();
+    let faulted = quiet.faulted();
+    let second = quiet.set_owner();
+    let sound = !quiet.faulted();
+    let failed = matches!(first, Err(Error::SocketError(IoCause::Raw(5))));
+    [failed, faulted, second.is_ok(), sound]
+}
+
+/// The same of a new session over a link that fails once.
+fn told(alloc: Global) -> Option<[bool; 4]> {
+    let cuts = vec![in alloc; Cut::Fault(5)].ok()?;
+    let mut quiet = Quiet::new(alloc, MemLink::new(alloc, cuts), 4, 2).ok()?;
+    Some(tells(&mut quiet))
 }
 
 #[test]
-fn answers_its_own_caller(rt: HostRuntime) -> Result<(), Fail> {
-    let alloc = rt.alloc();
+fn tells_of_a_fault(rt: HostRuntime) {
+    assert!(rt; told(rt.alloc()) == Some([true; 4]));
+}
+
+/// A link on which so many replies came.
+fn replied(alloc: Global, count: usize) -> Option<MemLink> {
     let mut link = MemLink::new(alloc, Vec::new(alloc));
-    link.push(&FEATURES, &[])?;
-    let frontend = Frontend::from_stream(alloc, link, 1, 0)?;
-    assert!(rt; matches!(own_features(&frontend, &rt), Ok(0x4000_0001)));
-    assert!(rt; own_features(&frontend, &rt).is_err());
-    Ok(())
+    for _ in 0..count {
+        link.push(&FEATURES, &[]).ok()?;
+    }
+    Some(link)
+}
+
+/// Whether the first of two calls of a shared frontend answers the only reply, and the second fails.
+fn answers_one(rt: &impl Wait, alloc: Global) -> Option<[bool; 2]> {
+    let frontend = Frontend::from_stream(alloc, replied(alloc, 1)?, 1, 0).ok()?;
+    let first = matches!(own_features(&frontend, rt), Ok(0x4000_0001));
+    Some([first, own_features(&frontend, rt).is_err()])
 }
 
 #[test]
-fn asks_one_after_another(rt: HostRuntime) -> Result<(), Fail> {
-    let alloc = rt.alloc();
-    let mut link = MemLink::new(alloc, Vec::new(alloc));
-    link.push(&FEATURES, &[])?;
-    link.push(&FEATURES, &[])?;
-    let mut quiet = Quiet::new(alloc, link, 1, 0)?;
-    assert!(rt; asks_again(&mut quiet, 2).is_ok());
-    Ok(())
+fn answers_its_own_caller(rt: HostRuntime) {
+    assert!(rt; answers_one(&rt, rt.alloc()) == Some([true; 2]));
+}
+
+/// Whether two calls, one after another, succeed.
+fn asks_two(alloc: Global) -> Option<bool> {
+    let mut quiet = Quiet::new(alloc, replied(alloc, 2)?, 1, 0).ok()?;
+    Some(asks_again(&mut quiet, 2).is_ok())
+}
+
+#[test]
+fn asks_one_after_another(rt: HostRuntime) {
+    assert!(rt; asks_two(rt.alloc()) == Some(true));
 }
 
 /// The handle with this number.
@@ -54,24 +75,32 @@ fn handle(id: u32) -> PlainHandle {
     }
 }
 
-#[test]
-fn holds_regions(rt: HostRuntime) -> Result<(), Fail> {
-    let (first, second) = (handle(5), handle(6));
+/// The sizes of two regions that a context holds, and their handles.
+fn held(first: &PlainHandle, second: &PlainHandle) -> ([u64; 2], [u32; 2]) {
     let mut context: VhostUserMemoryContext<'_, PlainHandle> = VhostUserMemoryContext::new();
-    assert!(rt; context.regions().is_empty() && context.handles().is_empty());
     context.append(
         &VhostUserMemoryRegion::new(0x1000, 0x2000, 0x7000, 0x300),
-        &first,
+        first,
     );
     context.append(
         &VhostUserMemoryRegion::new(0x4000, 0x1000, 0x8000, 0),
-        &second,
+        second,
     );
-    let sizes = [
-        context.regions()[0].memory_size,
-        context.regions()[1].memory_size,
-    ];
-    assert!(rt; sizes == [0x2000, 0x1000]);
-    assert!(rt; (context.handles()[0].id, context.handles()[1].id) == (5, 6));
-    Ok(())
+    let (regions, handles) = (context.regions(), context.handles());
+    (
+        [regions[0].memory_size, regions[1].memory_size],
+        [handles[0].id, handles[1].id],
+    )
+}
+
+/// Whether a new context holds nothing.
+fn holds_nothing() -> [bool; 2] {
+    let context: VhostUserMemoryContext<'_, PlainHandle> = VhostUserMemoryContext::new();
+    [context.regions().is_empty(), context.handles().is_empty()]
+}
+
+#[test]
+fn holds_regions(rt: HostRuntime) {
+    assert!(rt; holds_nothing() == [true; 2]);
+    assert!(rt; held(&handle(5), &handle(6)) == ([0x2000, 0x1000], [5, 6]));
 }

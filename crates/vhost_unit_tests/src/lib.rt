@@ -31,6 +31,8 @@ mod serving;
 #[cfg(test)]
 mod sockets;
 #[cfg(test)]
+mod system;
+#[cfg(test)]
 mod texts;
 #[cfg(test)]
 mod threads;

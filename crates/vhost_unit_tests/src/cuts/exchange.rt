@@ -3,19 +3,13 @@
 use crate::cuts::peer::Peer;
 use crate::cuts::sides::Side;
 use crate::cuts::streams::Stream;
+use crate::system::System;
 use std::alloc::{AllocError, Global};
-use std::net::Net;
-use std::sync::Wait;
-use std::thread::{Threads, join, sleep};
+use std::thread::{join, sleep};
 use std::time::{Clock, Duration};
 
 /// How many milliseconds the other thread has to meet the end of a piece. They change nothing of what is wanted.
 const PAUSE: u64 = 1;
-
-/// What two threads, their links and their pauses need.
-pub(crate) trait Host: Threads + Wait + Clock + Net + Sync {}
-
-impl<R: Threads + Wait + Clock + Net + Sync> Host for R {}
 
 /// What is sent of a stream, and in which pieces.
 #[derive(Clone, Copy)]
@@ -91,7 +85,7 @@ fn replies<P: Peer>(alloc: Global, peer: &mut P, count: usize) -> Result<Vec<u8>
 }
 
 /// What a side answers to these pieces in another thread, and replies.
-pub(crate) fn exchange<R: Host, P: Peer + Send, S: Side>(
+pub(crate) fn exchange<R: System, P: Peer + Send, S: Side>(
     rt: &R,
     alloc: Global,
     peer: P,

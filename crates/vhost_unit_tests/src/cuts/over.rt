@@ -1,7 +1,8 @@
 //! The links that the streams go over.
 
-use crate::cuts::exchange::{Cuts, Host, Told, exchange};
+use crate::cuts::exchange::{Cuts, Told, exchange};
 use crate::cuts::streams::Stream;
+use crate::system::System;
 use std::alloc::Global;
 use std::os::unix::net::UnixStream;
 use std::sync::Arc;
@@ -21,7 +22,7 @@ pub(crate) enum Over {
 }
 
 /// What a new side answers and replies to a stream that is sent so.
-pub(crate) fn told<R: Host>(
+pub(crate) fn told<R: System>(
     rt: &R,
     alloc: Global,
     over: Over,

@@ -1,8 +1,9 @@
 //! Every way to cut a stream, to end it early, and to put a handle among its bytes.
 
-use crate::cuts::exchange::{Cuts, Host};
+use crate::cuts::exchange::Cuts;
 use crate::cuts::over::{Over, told};
 use crate::cuts::streams::{SIX, Stream, THREE, TWO};
+use crate::system::System;
 use std::alloc::Global;
 use std::test::Fail;
 
@@ -18,7 +19,7 @@ fn whole(stream: &Stream, first: usize, then: usize) -> Cuts {
 }
 
 /// Whether a stream in these pieces is answered as the whole stream.
-fn is_as_whole<R: Host>(
+fn is_as_whole<R: System>(
     rt: &R,
     alloc: Global,
     over: Over,
@@ -30,7 +31,7 @@ fn is_as_whole<R: Host>(
 }
 
 /// The first size of pieces over which something differs, byte by byte among them.
-fn differs_in_pieces<R: Host>(
+fn differs_in_pieces<R: System>(
     rt: &R,
     alloc: Global,
     over: Over,
@@ -45,7 +46,7 @@ fn differs_in_pieces<R: Host>(
 }
 
 /// The first place at which the stream is cut into two, and something differs.
-fn differs_in_two<R: Host>(
+fn differs_in_two<R: System>(
     rt: &R,
     alloc: Global,
     over: Over,
@@ -62,7 +63,7 @@ fn differs_in_two<R: Host>(
 
 /// After the whole requests: how many fronts of the stream are answered Disconnected, PartialMessage and InvalidMessage, and how many
 /// otherwise.
-fn ended_early<R: Host>(
+fn ended_early<R: System>(
     rt: &R,
     alloc: Global,
     over: Over,
@@ -90,7 +91,7 @@ fn ended_early<R: Host>(
 
 /// With a handle at each byte in turn: how often its message is InvalidMessage because of its first byte, how often all is answered as
 /// without, how often the message is InvalidMessage and the next is served, and how often it is otherwise.
-fn stray_handles<R: Host>(rt: &R, alloc: Global, stream: &Stream) -> Result<[usize; 4], Fail> {
+fn stray_handles<R: System>(rt: &R, alloc: Global, stream: &Stream) -> Result<[usize; 4], Fail> {
     let mut counts = [0usize; 4];
     for place in 0..stream.bytes.len() {
         let at = stream.whole_in(place);

@@ -1,7 +1,8 @@
 //! Connecting.
 
-use crate::sockets::device::{BUDGET, QUEUES, System, TOO_LONG, Trial, with_device};
+use crate::sockets::device::{BUDGET, QUEUES, TOO_LONG, Trial, with_device};
 use crate::sockets::outcome::{Outcome, outcome_of, outcome_of_error};
+use crate::system::System;
 use std::alloc::Global;
 use std::cell::Cell;
 use std::net::{Net, SocketAddr, TcpListener, TcpStream};

@@ -1,11 +1,8 @@
 //! The device of these tests.
 
+use crate::system::System;
 use std::alloc::{AllocError, Global};
-use std::fs::Files;
-use std::net::Net;
-use std::sync::{Arc, Mutex, Wait};
-use std::thread::Threads;
-use std::time::Clock;
+use std::sync::{Arc, Mutex};
 use vhost_device::VhostUserBackendReqHandler;
 use vhost_dummy_backend::DummyBackendReqHandler;
 use vhost_link::UnixLink;
@@ -15,11 +12,6 @@ use vhost_message::VhostUserShMemConfig;
 pub(crate) const BUDGET: u32 = 3;
 
 pub(crate) const QUEUES: u64 = 2;
-
-/// What these tests need of the system.
-pub(crate) trait System: Threads + Wait + Clock + Net + Files + Sync {}
-
-impl<R: Threads + Wait + Clock + Net + Files + Sync> System for R {}
 
 /// What a test does with a device. It is told for any device, since naming a whole one costs the checker much: that is done once,
 /// in [`with_device`].

@@ -1,6 +1,7 @@
 //! A link over a socket, by itself.
 
-use crate::sockets::device::{BUDGET, System, Trial, with_device};
+use crate::sockets::device::{BUDGET, Trial, with_device};
+use crate::system::System;
 use std::alloc::Global;
 use std::os::unix::net::UnixStream;
 use std::sync::Arc;

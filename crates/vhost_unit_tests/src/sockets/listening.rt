@@ -1,7 +1,8 @@
 //! Listening, and handing a device out.
 
-use crate::sockets::device::{BUDGET, QUEUES, System, TOO_LONG, Trial, with_device};
+use crate::sockets::device::{BUDGET, QUEUES, TOO_LONG, Trial, with_device};
 use crate::sockets::outcome::{Outcome, outcome_if_any, outcome_of, outcome_of_error};
+use crate::system::System;
 use std::alloc::Global;
 use std::fs;
 use std::fs::Files;

@@ -2,7 +2,8 @@
 //!
 //! What is wanted of each call is what the joined run answers to it (`vhost-run`), on the same device.
 
-use crate::sockets::device::{BUDGET, QUEUES, System, Trial, with_device};
+use crate::sockets::device::{BUDGET, QUEUES, Trial, with_device};
+use crate::system::System;
 use bitflags::Flags;
 use std::alloc::Global;
 use std::os::unix::net::UnixStream;
