@@ -64,18 +64,18 @@ fn seen_over<D: VhostUserBackendReqHandlerMut<Link = MemLink>, R: Wait>(
     })
 }
 
-/// The same over an example device, with regions of shared memory of these sizes if there are any.
+/// The same over an example device, which may share two regions of memory of these sizes.
 fn saw<R: Wait>(
     rt: &R,
     alloc: Global,
-    sizes: &[u64],
+    shared: Option<[u64; 2]>,
     caller: u32,
     calls: &[FrontendCall],
     link: (u32, Vec<Cut>),
 ) -> Result<Seen, Halt> {
     let mut device = new_device(alloc);
-    if !sizes.is_empty() {
-        device.set_shmem_config(VhostUserShMemConfig::new(sizes.len() as u32, sizes));
+    if let Some(sizes) = shared {
+        device.set_shmem_config(VhostUserShMemConfig::new(2, &sizes));
     }
     seen_over(rt, alloc, device, caller, calls, link)
 }
@@ -100,7 +100,7 @@ fn reads_what_it_set<R: Wait>(rt: &R, alloc: Global) -> Result<bool, Halt> {
         FrontendCall::SetVringBase(0, 9),
         FrontendCall::GetVringBase(0),
     ];
-    let seen = saw(rt, alloc, &[], 7, &calls, (3, Vec::new(alloc)))?;
+    let seen = saw(rt, alloc, None, 7, &calls, (3, Vec::new(alloc)))?;
     Ok(are_nine(&seen))
 }
 
@@ -128,7 +128,7 @@ fn reads_what_is_shared<R: Wait>(rt: &R, alloc: Global) -> Result<bool, Halt> {
         FrontendCall::SetProtocolFeatures(VhostUserProtocolFeatures::SHMEM),
         FrontendCall::GetShmemConfig,
     ];
-    let seen = saw(rt, alloc, &sizes, 7, &calls, (3, Vec::new(alloc)))?;
+    let seen = saw(rt, alloc, Some(sizes), 7, &calls, (3, Vec::new(alloc)))?;
     Ok(has_regions(&seen, &sizes))
 }
 
@@ -226,7 +226,7 @@ fn end_of_refused<R: Wait>(
         FrontendCall::SetOwner,
         FrontendCall::GetFeatures,
     ];
-    let seen = saw(rt, alloc, &[], 3, &calls, (3, Vec::new(alloc)))?;
+    let seen = saw(rt, alloc, None, 3, &calls, (3, Vec::new(alloc)))?;
     Ok((seen.receipts.len(), seen.entries, seen.halt, seen.stopped))
 }
 
@@ -252,7 +252,7 @@ fn over_retries<R: Wait>(rt: &R, alloc: Global, budget: u32) -> Result<Seen, Hal
         Ok(retries) => saw(
             rt,
             alloc,
-            &[],
+            None,
             0,
             &[FrontendCall::GetFeatures],
             (budget, retries),

@@ -1,7 +1,6 @@
 //! What is served, and how each session ends.
 
 use crate::serving::clients::{GET_FEATURES, REPLY, SET_OWNER, SET_VRING_KICK, exchange, receive};
-use crate::system::System;
 use std::alloc::{AllocError, Global};
 use std::fs::Files;
 use std::net::Net;
@@ -37,43 +36,23 @@ fn served<R: Threads + Wait + Sync, F: Files + Drop, G: Gate + Sync>(
     (status, output)
 }
 
-/// Whether so many sessions are served at a path to their end, with these lines, while clients do their part in another thread.
-fn serves<R: System, G: Gate + Sync, C: FnOnce() -> io::Result<()> + Send>(
-    rt: &R,
-    alloc: Global,
-    (path, count): (&str, u32),
-    gate: &G,
-    lines: &str,
-    clients: C,
-) -> Result<bool, Fail> {
-    let listener = Listener::new(rt, alloc, path, true)?;
-    let ((status, output), clients) = thread::join(
-        rt,
-        || served(rt, alloc, listener, count, gate),
-        clients,
-    );
-    clients?;
-    Ok(status == 0 && output.as_slice() == lines.as_bytes())
-}
-
 #[test]
 fn ends(rt: HostRuntime) -> Result<(), Fail> {
     let path = "ends.sock";
-    let lines =
-        "session 1: 2 requests, end Disconnected\nsession 2: 2 requests, end Disconnected\nsession 3: 0 requests, end InvalidMessage\n";
-    let is_served = serves(
+    let listener = Listener::new(&rt, rt.alloc(), path, true)?;
+    let ((status, output), clients) = thread::join(
         &rt,
-        rt.alloc(),
-        (path, 3),
-        &Open,
-        lines,
+        || served(&rt, rt.alloc(), listener, 3, &Open),
         || -> io::Result<()> {
             exchange(&rt, path, &[&GET_FEATURES, &SET_OWNER], REPLY)?;
             exchange(&rt, path, &[&SET_OWNER, &SET_OWNER], 0)?;
             exchange(&rt, path, &[&SET_VRING_KICK], 0)
         },
-    )?;
-    assert!(rt; is_served);
+    );
+    clients?;
+    let lines =
+        "session 1: 2 requests, end Disconnected\nsession 2: 2 requests, end Disconnected\nsession 3: 0 requests, end InvalidMessage\n";
+    assert!(rt; status == 0 && output.as_slice() == lines.as_bytes());
     Ok(())
 }
 
@@ -110,26 +89,29 @@ impl<'a> Gate for Held<'a> {
     }
 }
 
-/// A client connects, and is answered only once another one was.
-fn wait_for_another(rt: &impl Net, path: &str) -> io::Result<()> {
-    let mut first = UnixStream::connect(rt, path)?;
-    exchange(rt, path, &[&GET_FEATURES], REPLY)?;
-    io::Write::write_all(&mut first, &GET_FEATURES)?;
-    receive(&mut first, REPLY)
-}
-
 #[test]
 fn side_by_side(rt: HostRuntime) -> Result<(), Fail> {
     let path = "side_by_side.sock";
+    let listener = Listener::new(&rt, rt.alloc(), path, true)?;
     let gate = Held {
         rt: &rt,
         answered: AtomicBool::new(false),
     };
+    let ((status, output), clients) = thread::join(
+        &rt,
+        || served(&rt, rt.alloc(), listener, 2, &gate),
+        || -> io::Result<()> {
+            let first = UnixStream::connect(&rt, path)?;
+            exchange(&rt, path, &[&GET_FEATURES], REPLY)?;
+            let mut first = first;
+            io::Write::write_all(&mut first, &GET_FEATURES)?;
+            receive(&mut first, REPLY)
+        },
+    );
+    clients?;
     let lines =
         "session 1: 1 requests, end Disconnected\nsession 2: 1 requests, end Disconnected\n";
-    let clients = || wait_for_another(&rt, path);
-    let is_served = serves(&rt, rt.alloc(), (path, 2), &gate, lines, clients)?;
-    assert!(rt; is_served);
+    assert!(rt; status == 0 && output.as_slice() == lines.as_bytes());
     Ok(())
 }
 
@@ -148,19 +130,18 @@ impl Gate for Closing {
 #[test]
 fn ended_by_the_gate(rt: HostRuntime) -> Result<(), Fail> {
     let path = "ended_by_the_gate.sock";
-    let lines = "session 1: 2 requests, end Gate\nsession 2: 0 requests, end Gate\n";
-    let is_served = serves(
+    let listener = Listener::new(&rt, rt.alloc(), path, true)?;
+    let ((status, output), clients) = thread::join(
         &rt,
-        rt.alloc(),
-        (path, 2),
-        &Closing,
-        lines,
+        || served(&rt, rt.alloc(), listener, 2, &Closing),
         || -> io::Result<()> {
             exchange(&rt, path, &[&GET_FEATURES, &GET_FEATURES], 2 * REPLY)?;
             exchange(&rt, path, &[], 0)
         },
-    )?;
-    assert!(rt; is_served);
+    );
+    clients?;
+    let lines = "session 1: 2 requests, end Gate\nsession 2: 0 requests, end Gate\n";
+    assert!(rt; status == 0 && output.as_slice() == lines.as_bytes());
     Ok(())
 }
 
@@ -170,16 +151,33 @@ const SESSIONS: u32 = 1024;
 const REQUESTS: usize = 100;
 
 /// Connects so often, and sends all requests over each connection before it receives a reply.
-fn ask_a_thousand(rt: &impl Net, alloc: Global, path: &str) -> io::Result<()> {
-    let mut streams = Vec::new(alloc);
+fn ask_a_thousand(rt: &HostRuntime, path: &str) -> io::Result<()> {
+    let mut streams = Vec::new(rt.alloc());
+    connect_all(rt, path, &mut streams)?;
+    ask_all(&mut streams)?;
+    receive_all(&mut streams)
+}
+
+/// Makes all connections.
+fn connect_all(rt: &impl Net, path: &str, streams: &mut Vec<UnixStream>) -> io::Result<()> {
     for _ in 0..SESSIONS {
         streams.push(UnixStream::connect(rt, path)?)?;
     }
+    Ok(())
+}
+
+/// Sends all requests.
+fn ask_all(streams: &mut [UnixStream]) -> io::Result<()> {
     for stream in streams.iter_mut() {
         for _ in 0..REQUESTS {
             io::Write::write_all(stream, &GET_FEATURES)?;
         }
     }
+    Ok(())
+}
+
+/// Receives all replies.
+fn receive_all(streams: &mut [UnixStream]) -> io::Result<()> {
     for stream in streams.iter_mut() {
         receive(stream, REQUESTS * REPLY)?;
     }
@@ -198,16 +196,14 @@ fn thousand_lines(alloc: Global) -> Result<String, AllocError> {
 #[test]
 fn a_thousand(rt: HostRuntime) -> Result<(), Fail> {
     let path = "a_thousand.sock";
-    let lines = thousand_lines(rt.alloc())?;
-    let clients = || ask_a_thousand(&rt, rt.alloc(), path);
-    let is_served = serves(
+    let listener = Listener::new(&rt, rt.alloc(), path, true)?;
+    let ((status, output), clients) = thread::join(
         &rt,
-        rt.alloc(),
-        (path, SESSIONS),
-        &Open,
-        lines.as_str(),
-        clients,
-    )?;
-    assert!(rt; is_served);
+        || served(&rt, rt.alloc(), listener, SESSIONS, &Open),
+        || ask_a_thousand(&rt, path),
+    );
+    clients?;
+    let lines = thousand_lines(rt.alloc())?;
+    assert!(rt; status == 0 && output.as_slice() == lines.as_bytes());
     Ok(())
 }

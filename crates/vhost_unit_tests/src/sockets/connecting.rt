@@ -129,7 +129,7 @@ struct Connecting<'a>(&'a str);
 impl<'a> Trial for Connecting<'a> {
     type Told = Outcome;
 
-    fn on<R: System, S: VhostUserBackendReqHandler<Link = UnixLink> + Send + Sync>(
+    fn on<R: System, S: VhostUserBackendReqHandler<Link = UnixLink>>(
         self,
         rt: &R,
         alloc: Global,

@@ -6,7 +6,6 @@ use std::sync::{Arc, Mutex};
 use vhost_device::VhostUserBackendReqHandler;
 use vhost_dummy_backend::DummyBackendReqHandler;
 use vhost_link::UnixLink;
-use vhost_message::VhostUserShMemConfig;
 
 /// How many retries a message may take, and how many queues a frontend is told of.
 pub(crate) const BUDGET: u32 = 3;
@@ -20,7 +19,7 @@ pub(crate) trait Trial: Drop {
     type Told: Drop;
 
     /// Does it, with this device.
-    fn on<R: System, S: VhostUserBackendReqHandler<Link = UnixLink> + Send + Sync>(
+    fn on<R: System, S: VhostUserBackendReqHandler<Link = UnixLink>>(
         self,
         rt: &R,
         alloc: Global,
@@ -28,15 +27,14 @@ pub(crate) trait Trial: Drop {
     ) -> Self::Told;
 }
 
-/// What a test tells of the example device behind a lock, over sockets. Nobody owns it, it has two regions of shared memory, and no
-/// handles to give out, since a socket carries none.
+/// What a test tells of the example device behind a lock, over sockets. Nobody owns it, and it has no handles to
+/// give out, since a socket carries none.
 pub(crate) fn with_device<R: System, T: Trial>(
     rt: &R,
     alloc: Global,
     trial: T,
 ) -> Result<T::Told, AllocError> {
-    let mut device = DummyBackendReqHandler::new(alloc, Vec::new(alloc));
-    device.set_shmem_config(VhostUserShMemConfig::new(2, &[0x1000, 0x2000]));
+    let device = DummyBackendReqHandler::new(alloc, Vec::new(alloc));
     Ok(trial.on(rt, alloc, Arc::new(alloc, Mutex::new(device))?))
 }
 

@@ -25,19 +25,36 @@ fn receive(alloc: Global, link: &mut UnixLink, room: &mut [u8]) -> Result<usize,
     link.recv(room, &mut handles)
 }
 
+/// Five bytes from one link to another: how many went, and came in two parts, and these.
+fn carried(
+    alloc: Global,
+    near: &mut UnixLink,
+    far: &mut UnixLink,
+) -> ([Option<usize>; 3], [u8; 2], [u8; 3]) {
+    let (mut front, mut rest) = ([0u8; 2], [0u8; 3]);
+    let sent = near.send(b"hello", &[]).ok();
+    let first = receive(alloc, far, &mut front).ok();
+    let second = receive(alloc, far, &mut rest).ok();
+    ([sent, first, second], front, rest)
+}
+
+/// What a link receives and sends whose peer has gone.
+fn left_alone(alloc: Global, far: &mut UnixLink) -> [bool; 2] {
+    let mut room = [0u8; 3];
+    let ended = matches!(receive(alloc, far, &mut room), Ok(0));
+    [ended, matches!(far.send(b"x", &[]), Err(IoCause::Raw(32)))]
+}
+
 #[test]
 fn carries_bytes_and_an_end(rt: HostRuntime) -> Result<(), Fail> {
     let (near, far) = UnixStream::pair(&rt)?;
     let (mut near, mut far) = (UnixLink::from(near), UnixLink::from(far));
-    let (mut front, mut rest) = ([0u8; 2], [0u8; 3]);
-    assert!(rt; matches!(near.send(b"hello", &[]), Ok(5)));
-    assert!(rt; matches!(receive(rt.alloc(), &mut far, &mut front), Ok(2)));
-    assert!(rt; matches!(receive(rt.alloc(), &mut far, &mut rest), Ok(3)));
-    assert!(rt; front.as_slice() == b"he".as_slice());
-    assert!(rt; rest.as_slice() == b"llo".as_slice());
+    let told = carried(rt.alloc(), &mut near, &mut far);
     drop(near);
-    assert!(rt; matches!(receive(rt.alloc(), &mut far, &mut rest), Ok(0)));
-    assert!(rt; matches!(far.send(b"x", &[]), Err(IoCause::Raw(32))));
+    let alone = left_alone(rt.alloc(), &mut far);
+    drop(far);
+    assert!(rt; told == ([Some(5), Some(2), Some(3)], *b"he", *b"llo"));
+    assert!(rt; alone == [true; 2]);
     Ok(())
 }
 
@@ -85,7 +102,7 @@ struct BelowHandler(UnixLink);
 impl Trial for BelowHandler {
     type Told = Option<UnixLink>;
 
-    fn on<R: System, S: VhostUserBackendReqHandler<Link = UnixLink> + Send + Sync>(
+    fn on<R: System, S: VhostUserBackendReqHandler<Link = UnixLink>>(
         self,
         rt: &R,
         alloc: Global,

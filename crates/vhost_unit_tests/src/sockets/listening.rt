@@ -10,6 +10,7 @@ use std::net::Net;
 use std::os::unix::net::{UnixListener, UnixStream};
 use std::sync::{Arc, Wait};
 use std::test::Fail;
+use std::time::Clock;
 use vhost_backend::VhostBackend;
 use vhost_backend_req_handler::{BackendListener, BackendReqHandler};
 use vhost_connection::Listener;
@@ -30,7 +31,7 @@ fn accept<F: Files + Drop, S: VhostUserBackendReqHandler<Link = UnixLink>>(
 }
 
 /// What four calls of `accept` answered, where a connection comes after the second, and another after the third.
-fn accept_four<R: System, F: Files + Drop, S: VhostUserBackendReqHandler<Link = UnixLink>>(
+fn accept_four<R: Net + Clock, F: Files + Drop, S: VhostUserBackendReqHandler<Link = UnixLink>>(
     rt: &R,
     alloc: Global,
     listener: &mut Listener<F>,
@@ -54,7 +55,7 @@ struct Accepting<'a>(&'a str);
 impl<'a> Trial for Accepting<'a> {
     type Told = Answer<([Outcome; 4], [Outcome; 2])>;
 
-    fn on<R: System, S: VhostUserBackendReqHandler<Link = UnixLink> + Send + Sync>(
+    fn on<R: System, S: VhostUserBackendReqHandler<Link = UnixLink>>(
         self,
         rt: &R,
         alloc: Global,
@@ -122,7 +123,7 @@ struct Owning<'a>(&'a str);
 impl<'a> Trial for Owning<'a> {
     type Told = Answer<(bool, Answer<()>, Answer<()>)>;
 
-    fn on<R: System, S: VhostUserBackendReqHandler<Link = UnixLink> + Send + Sync>(
+    fn on<R: System, S: VhostUserBackendReqHandler<Link = UnixLink>>(
         self,
         rt: &R,
         alloc: Global,

@@ -2,23 +2,23 @@
 //!
 //! What is wanted of each call is what the joined run answers to it (`vhost-run`), on the same device.
 
-use crate::sockets::device::{BUDGET, QUEUES, Trial, with_device};
-use crate::system::System;
+use crate::sockets::device::{BUDGET, QUEUES};
 use bitflags::Flags;
-use std::alloc::Global;
+use std::alloc::{AllocError, Global};
 use std::os::unix::net::UnixStream;
-use std::sync::{Arc, Wait};
+use std::sync::{Arc, Mutex, Wait};
 use std::test::Fail;
 use std::thread;
 use std::time::Duration;
 use vhost_backend::{Error, Result, VhostBackend, VhostUserMemoryRegionInfo, VringConfigData};
 use vhost_backend_req_handler::BackendReqHandler;
 use vhost_device::VhostUserBackendReqHandler;
+use vhost_dummy_backend::DummyBackendReqHandler;
 use vhost_frontend::{Frontend, VhostUserFrontend};
 use vhost_link::{Link, NoHandle, UnixLink};
 use vhost_message::{
     Error as ProtocolError, FrontendReq, VhostUserConfigFlags, VhostUserHeaderFlag,
-    VhostUserProtocolFeatures,
+    VhostUserProtocolFeatures, VhostUserShMemConfig,
 };
 
 /// The protocol features that are chosen: MQ, REPLY_ACK, MTU, CONFIG, RESET_DEVICE, CONFIGURE_MEM_SLOTS, DEVICE_STATE and
@@ -188,8 +188,18 @@ fn ask<L: Link<Handle = NoHandle>>(rt: &impl Wait, mut frontend: Frontend<L>) ->
     (negotiated, ask_all(rt, &mut frontend))
 }
 
+/// The example device behind a lock, over sockets.
+type Device = Mutex<DummyBackendReqHandler<UnixLink>>;
+
+/// A device with two regions of shared memory.
+fn sharing_device(alloc: Global) -> std::result::Result<Arc<Device, Global>, AllocError> {
+    let mut device = DummyBackendReqHandler::new(alloc, Vec::new(alloc));
+    device.set_shmem_config(VhostUserShMemConfig::new(2, &[0x1000, 0x2000]));
+    Ok(Arc::new(alloc, Mutex::new(device))?)
+}
+
 /// Serves a session to its end; how many requests were served, and how many were refused. None: it failed.
-fn serve<S: VhostUserBackendReqHandler<Link = UnixLink> + Send + Sync>(
+fn serve<S: VhostUserBackendReqHandler<Link = UnixLink>>(
     rt: &impl Wait,
     alloc: Global,
     link: UnixLink,
@@ -220,29 +230,16 @@ fn connection(rt: &HostRuntime) -> std::io::Result<(UnixLink, UnixLink)> {
     Ok((UnixLink::from(near), UnixLink::from(far)))
 }
 
-/// A frontend, and the link of the handler that serves it in a thread of its own.
-#[derive(Drop)]
-struct Talking<L: Link<Handle = NoHandle>>(Frontend<L>, UnixLink);
-
-impl<L: Link<Handle = NoHandle>> Trial for Talking<L> {
-    type Told = (Option<(u32, u32)>, (bool, [bool; 3]));
-
-    fn on<R: System, S: VhostUserBackendReqHandler<Link = UnixLink> + Send + Sync>(
-        self,
-        rt: &R,
-        alloc: Global,
-        device: Arc<S, Global>,
-    ) -> Self::Told {
-        let Talking(frontend, far) = self;
-        thread::join(rt, || serve(rt, alloc, far, device), || ask(rt, frontend))
-    }
-}
-
 #[test]
 fn each_call_is_answered_as_in_a_joined_run(rt: HostRuntime) -> std::result::Result<(), Fail> {
     let (near, far) = connection(&rt)?;
+    let device = sharing_device(rt.alloc())?;
     let frontend = Frontend::from_stream(rt.alloc(), near, QUEUES, BUDGET)?;
-    let (served, asked) = with_device(&rt, rt.alloc(), Talking(frontend, far))?;
+    let (served, asked) = thread::join(
+        &rt,
+        || serve(&rt, rt.alloc(), far, device),
+        || ask(&rt, frontend),
+    );
     assert!(rt; asked == (true, [true; 3]));
     assert!(rt; served == Some((20, 3)));
     Ok(())
