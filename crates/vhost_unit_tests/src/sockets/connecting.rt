@@ -127,7 +127,7 @@ fn endpoint_at(rt: &HostRuntime, path: &str) -> Outcome {
 struct Connecting<'a>(&'a str);
 
 impl<'a> Trial for Connecting<'a> {
-    type Told = Outcome;
+    type Output = Outcome;
 
     fn on<R: System, S: VhostUserBackendReqHandler<Link = UnixLink>>(
         self,

@@ -15,8 +15,8 @@ pub(crate) const QUEUES: u64 = 2;
 /// What a test does with a device. It is told for any device, since naming a whole one costs the checker much: that is done once,
 /// in [`with_device`].
 pub(crate) trait Trial: Drop {
-    /// What it tells.
-    type Told: Drop;
+    /// What is seen of it.
+    type Output: Drop;
 
     /// Does it, with this device.
     fn on<R: System, S: VhostUserBackendReqHandler<Link = UnixLink>>(
@@ -24,16 +24,16 @@ pub(crate) trait Trial: Drop {
         rt: &R,
         alloc: Global,
         device: Arc<S, Global>,
-    ) -> Self::Told;
+    ) -> Self::Output;
 }
 
-/// What a test tells of the example device behind a lock, over sockets. Nobody owns it, and it has no handles to
+/// What is seen of a trial with the example device behind a lock, over sockets. Nobody owns it, and it has no handles to
 /// give out, since a socket carries none.
 pub(crate) fn with_device<R: System, T: Trial>(
     rt: &R,
     alloc: Global,
     trial: T,
-) -> Result<T::Told, AllocError> {
+) -> Result<T::Output, AllocError> {
     let device = DummyBackendReqHandler::new(alloc, Vec::new(alloc));
     Ok(trial.on(rt, alloc, Arc::new(alloc, Mutex::new(device))?))
 }

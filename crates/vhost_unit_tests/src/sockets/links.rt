@@ -100,7 +100,7 @@ fn duplicate_below_endpoint(alloc: Global, link: UnixLink) -> Option<UnixLink> {
 struct BelowHandler(UnixLink);
 
 impl Trial for BelowHandler {
-    type Told = Option<UnixLink>;
+    type Output = Option<UnixLink>;
 
     fn on<R: System, S: VhostUserBackendReqHandler<Link = UnixLink>>(
         self,

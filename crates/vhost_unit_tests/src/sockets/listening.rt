@@ -53,14 +53,14 @@ fn accept_four<R: Net + Clock, F: Files + Drop, S: VhostUserBackendReqHandler<Li
 struct Accepting<'a>(&'a str);
 
 impl<'a> Trial for Accepting<'a> {
-    type Told = Answer<([Outcome; 4], [Outcome; 2])>;
+    type Output = Answer<([Outcome; 4], [Outcome; 2])>;
 
     fn on<R: System, S: VhostUserBackendReqHandler<Link = UnixLink>>(
         self,
         rt: &R,
         alloc: Global,
         device: Arc<S, Global>,
-    ) -> Self::Told {
+    ) -> Self::Output {
         let mut listener = Listener::new(rt, alloc, self.0, false)?;
         let told = accept_four(rt, alloc, &mut listener, self.0, device)?;
         Ok((told, accept_two(&listener)))
@@ -121,14 +121,14 @@ fn own_once<R: Net + Wait, F: Files + Drop, S: VhostUserBackendReqHandler<Link =
 struct Owning<'a>(&'a str);
 
 impl<'a> Trial for Owning<'a> {
-    type Told = Answer<(bool, Answer<()>, Answer<()>)>;
+    type Output = Answer<(bool, Answer<()>, Answer<()>)>;
 
     fn on<R: System, S: VhostUserBackendReqHandler<Link = UnixLink>>(
         self,
         rt: &R,
         alloc: Global,
         device: Arc<S, Global>,
-    ) -> Self::Told {
+    ) -> Self::Output {
         let listener = Listener::new(rt, alloc, self.0, false)?;
         own_once(rt, alloc, &listener, self.0, device)
     }

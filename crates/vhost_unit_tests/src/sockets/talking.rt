@@ -3,6 +3,7 @@
 //! What is wanted of each call is what the joined run answers to it (`vhost-run`), on the same device.
 
 use crate::sockets::device::{BUDGET, QUEUES};
+use crate::told::{Told, done, number};
 use bitflags::Flags;
 use std::alloc::{AllocError, Global};
 use std::os::unix::net::UnixStream;
@@ -10,7 +11,7 @@ use std::sync::{Arc, Mutex, Wait};
 use std::test::Fail;
 use std::thread;
 use std::time::Duration;
-use vhost_backend::{Error, Result, VhostBackend, VhostUserMemoryRegionInfo, VringConfigData};
+use vhost_backend::{Result, VhostBackend, VhostUserMemoryRegionInfo, VringConfigData};
 use vhost_backend_req_handler::BackendReqHandler;
 use vhost_device::VhostUserBackendReqHandler;
 use vhost_dummy_backend::DummyBackendReqHandler;
@@ -27,39 +28,6 @@ const CHOSEN: u64 = 0x0048_a219;
 
 /// How many requests the handler answers at most.
 const MOST: u32 = 100;
-
-/// What a call answered.
-#[derive(Clone, Copy, Debug, PartialEq, Eq)]
-enum Told {
-    Done,
-    Number(u64),
-    /// BackendInternalError: the device refused.
-    Refused,
-    /// Any other error.
-    Failed,
-}
-
-/// What an error tells.
-fn told_error(error: Error) -> Told {
-    match error {
-        Error::VhostUserProtocol(ProtocolError::BackendInternalError) => Told::Refused,
-        _ => Told::Failed,
-    }
-}
-
-fn done(answer: Result<()>) -> Told {
-    match answer {
-        Ok(()) => Told::Done,
-        Err(error) => told_error(error),
-    }
-}
-
-fn number(answer: Result<u64>) -> Told {
-    match answer {
-        Ok(number) => Told::Number(number),
-        Err(error) => told_error(error),
-    }
-}
 
 fn negotiate<F: VhostUserFrontend>(rt: &impl Wait, frontend: &mut F) -> [Told; 5] {
     let chosen = VhostUserProtocolFeatures::from_bits_truncate(CHOSEN);
@@ -99,7 +67,7 @@ fn set_rings<F: VhostUserFrontend>(rt: &impl Wait, frontend: &mut F) -> [Told; 7
         done(frontend.set_vring_num(rt, 0, 256)),
         done(frontend.set_vring_addr(rt, 0, &places)),
         done(frontend.set_vring_base(rt, 0, 7)),
-        number(frontend.get_vring_base(rt, 0).map(u64::from)),
+        number(frontend.get_vring_base(rt, 0)),
         done(frontend.set_vring_enable(rt, 0, true)),
         done(frontend.set_vring_num(rt, 1, 257)),
     ]
