@@ -65,23 +65,22 @@ fn carrying_error(alloc: Global, text: &str) -> Result<Error, Miss> {
         return Ok(Error::InvalidOperation("told"));
     }
     let (name, word) = text.split_once(" ").unwrap_or((text, ""));
-    let error = match name {
-        "InactiveFeature" | "InactiveOperation" => inactive(name, number_of(alloc, word)?),
-        _ => caused(name, IoCause::Raw(fault_of(alloc, word)?)),
-    };
-    match error {
+    if name == "InactiveFeature" || name == "InactiveOperation" {
+        return Ok(inactive(name, number_of(alloc, word)?));
+    }
+    match caused(name, IoCause::Raw(fault_of(alloc, word)?)) {
         Some(error) => Ok(error),
         None => Err(unreadable(alloc, "an error", text)),
     }
 }
 
-/// The error of a name that carries features.
-fn inactive(name: &str, bits: u64) -> Option<Error> {
+/// InactiveFeature or, by another name, InactiveOperation, with these features.
+fn inactive(name: &str, bits: u64) -> Error {
     match name {
         "InactiveFeature" => {
-            Some(Error::InactiveFeature(VhostUserVirtioFeatures::from_bits_retain(bits)))
+            Error::InactiveFeature(VhostUserVirtioFeatures::from_bits_retain(bits))
         }
-        _ => Some(Error::InactiveOperation(VhostUserProtocolFeatures::from_bits_retain(bits))),
+        _ => Error::InactiveOperation(VhostUserProtocolFeatures::from_bits_retain(bits)),
     }
 }
 

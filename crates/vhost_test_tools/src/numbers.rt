@@ -23,7 +23,7 @@ pub fn number_of(alloc: Global, word: &str) -> Result<u64, Miss> {
     }
 }
 
-/// So many numbers, with spaces between them. What they are is told in the refusal of others.
+/// So many numbers, with one space between each two; `what` they are stands in the refusal of another text.
 pub(crate) fn numbers_in<const N: usize>(
     alloc: Global,
     what: &str,

@@ -7,8 +7,7 @@ use crate::endpoint::EndpointPlayer;
 use crate::joined::JoinedPlayer;
 use crate::lines::Lines;
 use crate::player::Player;
-use crate::reverse_served;
-use crate::reverse_served::ReverseServed;
+use crate::reverse_served::{LockedServer, OwnServer, ReverseServed};
 use crate::served::Served;
 use crate::served::handler::{Alone, Locked};
 use std::alloc::Global;
@@ -119,11 +118,9 @@ fn play_other(
             )
         }
         "reverse_served" if session.settings.over == Over::Locked => {
-            play::<ReverseServed<reverse_served::Locked>, _>(rt, alloc, session, n, tally)
+            play::<ReverseServed<LockedServer>, _>(rt, alloc, session, n, tally)
         }
-        "reverse_served" => {
-            play::<ReverseServed<reverse_served::Alone>, _>(rt, alloc, session, n, tally)
-        }
+        "reverse_served" => { play::<ReverseServed<OwnServer>, _>(rt, alloc, session, n, tally) }
         "reverse_asking" => {
             play::<ChannelPlayer<Backend<PlainLink>>, _>(rt, alloc, session, n, tally)
         }

@@ -43,12 +43,12 @@ pub(crate) trait Server: Sized + Drop {
 
 /// A frontend's side by itself, and what serves the requests.
 #[derive(Drop)]
-pub(crate) struct Alone {
+pub(crate) struct OwnServer {
     core: FrontendReqCore<TestLink>,
     frontend: Frontend,
 }
 
-impl Server for Alone {
+impl Server for OwnServer {
     fn new(
         alloc: Global,
         settings: &Settings<'_>,
@@ -60,7 +60,7 @@ impl Server for Alone {
         }
         let frontend = ScriptedFrontend::new(alloc, sheet)?;
         let core = FrontendReqCore::new(alloc, link, settings.budget)?;
-        Ok(Alone { core, frontend })
+        Ok(OwnServer { core, frontend })
     }
 
     fn serve(&mut self, _rt: &impl Wait) -> Outcome<u64> {
@@ -86,11 +86,11 @@ impl Server for Alone {
 
 /// The same with what serves shared behind a lock.
 #[derive(Drop)]
-pub(crate) struct Locked {
+pub(crate) struct LockedServer {
     handler: FrontendReqHandler<TestLink, Mutex<Frontend>>,
 }
 
-impl Server for Locked {
+impl Server for LockedServer {
     fn new(
         alloc: Global,
         settings: &Settings<'_>,
@@ -100,7 +100,7 @@ impl Server for Locked {
         let frontend = Arc::new(alloc, Mutex::new(ScriptedFrontend::new(alloc, sheet)?))?;
         let tx = given_end(alloc)?;
         let handler = FrontendReqHandler::new(alloc, tx, link, settings.budget, frontend)?;
-        Ok(Locked { handler })
+        Ok(LockedServer { handler })
     }
 
     fn serve(&mut self, rt: &impl Wait) -> Outcome<u64> {
