@@ -304,6 +304,11 @@ impl Session {
         self.shown(alloc, ones(alloc, self.calls())?, most)
     }
 
+    /// What is shown over a link that is cut so.
+    fn over(&self, alloc: Global, cuts: &[Cut]) -> Result<Trace, NoMemory> {
+        self.shown(alloc, Vec::from_slice(alloc, cuts)?, self.most())
+    }
+
     /// What was found over a sound link.
     fn judge_alone(
         &self,
@@ -330,7 +335,7 @@ impl Session {
     ) -> Result<Option<Finding>, NoMemory> {
         let place = self.place_in_calls(alloc, dice, whole)?;
         let cuts = fault_after(dice, ones(alloc, place)?)?;
-        let faulted = self.shown(alloc, Vec::from_slice(alloc, &cuts)?, self.most())?;
+        let faulted = self.over(alloc, &cuts)?;
         if faulted.starved {
             return Ok(None);
         }
@@ -375,7 +380,7 @@ impl Session {
         whole: &Trace,
     ) -> Result<Option<Finding>, NoMemory> {
         let cuts = any_cuts(alloc, dice)?;
-        let cut = self.shown(alloc, Vec::from_slice(alloc, &cuts)?, self.most())?;
+        let cut = self.over(alloc, &cuts)?;
         let what = wrong_cut(whole, &cut);
         Ok(found(what, cuts, cut))
     }
@@ -408,7 +413,7 @@ impl Session {
     ) -> Result<Option<Finding>, NoMemory> {
         let place = self.place_of_fault(alloc, dice, whole)?;
         let cuts = fault_after(dice, ones(alloc, place)?)?;
-        let faulted = self.shown(alloc, Vec::from_slice(alloc, &cuts)?, self.most())?;
+        let faulted = self.over(alloc, &cuts)?;
         if faulted.starved {
             return Ok(None);
         }
@@ -455,7 +460,7 @@ impl Session {
             pieces.push(Cut::Give(dice.place(100)))?;
         }
         let cuts = fault_after(dice, pieces)?;
-        let faulted = self.shown(alloc, Vec::from_slice(alloc, &cuts)?, self.most())?;
+        let faulted = self.over(alloc, &cuts)?;
         if faulted.starved {
             return Ok(None);
         }

@@ -5,30 +5,36 @@ use crate::handles::handle_text;
 use std::alloc::{AllocError, Global};
 use vhost_answer_text::Answer;
 use vhost_frontend_core::FrontendAnswer;
-use vhost_message::Result as Outcome;
+use vhost_link::PlainHandle;
+use vhost_message::{Result as Outcome, VhostUserInflight};
 
 /// The answer of a frontend's call: as `vhost-run` shows it, and moreover what an error carries, and the kinds of handles.
 pub fn answer_text(alloc: Global, answer: &FrontendAnswer) -> Result<String, AllocError> {
-    let mut text = match answer {
+    let shown = Answer(answer);
+    match answer {
         FrontendAnswer::Handle(handle) | FrontendAnswer::StateHandle(Some(handle)) => {
             let handle = handle_text(alloc, *handle)?;
-            return format!(in alloc; "ok [{handle}]");
+            format!(in alloc; "ok [{handle}]")
         }
-        FrontendAnswer::Inflight(area, handle) => {
-            let handle = handle_text(alloc, *handle)?;
-            let (size, offset) = (area.mmap_size, area.mmap_offset);
-            let (queues, length) = (area.num_queues, area.queue_size);
-            return format!(in alloc; "ok {size} {offset} {queues} {length} [{handle}]");
+        FrontendAnswer::Inflight(area, handle) => inflight_text(alloc, area, *handle),
+        FrontendAnswer::Failed(error) => {
+            let carried = carried_text(alloc, error)?;
+            format!(in alloc; "{shown}{carried}")
         }
-        other => {
-            let shown = Answer(other);
-            format!(in alloc; "{shown}")?
-        }
-    };
-    if let FrontendAnswer::Failed(error) = answer {
-        text.push_str(carried_text(alloc, error)?.as_str())?;
+        _ => format!(in alloc; "{shown}"),
     }
-    Ok(text)
+}
+
+/// The area for descriptors in flight, and its handle.
+fn inflight_text(
+    alloc: Global,
+    area: &VhostUserInflight,
+    handle: PlainHandle,
+) -> Result<String, AllocError> {
+    let handle = handle_text(alloc, handle)?;
+    let (size, offset) = (area.mmap_size, area.mmap_offset);
+    let (queues, length) = (area.num_queues, area.queue_size);
+    format!(in alloc; "ok {size} {offset} {queues} {length} [{handle}]")
 }
 
 /// The answer of a call that shows what it shows by a text: `ok` and the text, or the error.

@@ -5,9 +5,11 @@ mod whole;
 
 use crate::asking::side::Side;
 use crate::player::Player;
+use bitflags::Flags;
 use std::alloc::Global;
 use std::sync::Wait;
 use vhost_frontend_core::FrontendCall;
+use vhost_message::VhostUserProtocolFeatures;
 use vhost_test_tools::{
     Miss, Settings, Traffic, answer_text, call_in, cuts_of, expect, number_of, unreadable,
 };
@@ -68,31 +70,33 @@ impl<S: Side> Asking<S> {
         let Some(call) = self.call.take() else {
             return Err(unreadable(self.alloc, "a call before its answer", wanted));
         };
-        let answer = self.side.call(self.alloc, rt, &call)?;
-        let written = self.side.check(self.alloc, &mut self.traffic);
-        let met = answer_text(self.alloc, &answer)?;
-        written?;
+        let met = self.make(rt, &call)?;
+        self.side.check(self.alloc, &mut self.traffic)?;
         expect(self.alloc, wanted, met.as_str())
+    }
+
+    /// Makes a call; its answer as words.
+    fn make(&mut self, rt: &impl Wait, call: &FrontendCall) -> Result<String, Miss> {
+        let answer = self.side.call(self.alloc, rt, call)?;
+        Ok(answer_text(self.alloc, &answer)?)
     }
 
     /// Makes the calls by which both sides agree on these features of the protocol.
     fn agree(&mut self, rt: &impl Wait, features: &str) -> Result<(), Miss> {
         let features = number_of(self.alloc, features)?;
+        let chosen = VhostUserProtocolFeatures::from_bits_retain(features);
         let reply = "0100000005000000080000000000004000000000";
-        let choice = format!(in self.alloc; "set_protocol_features {features}")?;
-        let choice = call_in(self.alloc, choice.as_str())?;
         self.side.push(self.alloc, &self.traffic, reply)?;
-        let calls = [
-            (FrontendCall::GetFeatures, "ok 0x40000000"),
-            (FrontendCall::SetFeatures(0x4000_0000), "ok"),
-            (choice, "ok"),
-        ];
-        for (call, wanted) in &calls {
-            let answer = self.side.call(self.alloc, rt, call)?;
-            let met = answer_text(self.alloc, &answer)?;
-            expect(self.alloc, wanted, met.as_str())?;
-        }
+        self.make_well(rt, &FrontendCall::GetFeatures, "ok 0x40000000")?;
+        self.make_well(rt, &FrontendCall::SetFeatures(0x4000_0000), "ok")?;
+        self.make_well(rt, &FrontendCall::SetProtocolFeatures(chosen), "ok")?;
         self.side.skip(self.alloc, &mut self.traffic)
+    }
+
+    /// Makes a call, and compares its answer.
+    fn make_well(&mut self, rt: &impl Wait, call: &FrontendCall, wanted: &str) -> Result<(), Miss> {
+        let met = self.make(rt, call)?;
+        expect(self.alloc, wanted, met.as_str())
     }
 
     /// Tests whether the last call met a fault of the link, where this is told.

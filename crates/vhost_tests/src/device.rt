@@ -79,26 +79,27 @@ impl<L: Link<Handle: ScriptHandle>> TestDevice for DummyBackendReqHandler<L> {
     }
 
     fn state_text(&self, alloc: Global, name: &str) -> Result<String, Miss> {
-        Ok(match name {
-            "owned" => format!(in alloc; "{}", self.owned)?,
-            "acked_features" => format!(in alloc; "{}", self.acked_features)?,
-            "acked_protocol_features" => format!(in alloc; "{}", self.acked_protocol_features)?,
-            "mtu" => format!(in alloc; "{}", self.mtu)?,
-            "vring_num" => format!(in alloc; "{} {}", self.vring_num[0], self.vring_num[1])?,
-            "vring_base" => format!(in alloc; "{} {}", self.vring_base[0], self.vring_base[1])?,
+        let shown = match name {
+            "owned" => format!(in alloc; "{}", self.owned),
+            "acked_features" => format!(in alloc; "{}", self.acked_features),
+            "acked_protocol_features" => format!(in alloc; "{}", self.acked_protocol_features),
+            "mtu" => format!(in alloc; "{}", self.mtu),
+            "vring_num" => format!(in alloc; "{} {}", self.vring_num[0], self.vring_num[1]),
+            "vring_base" => format!(in alloc; "{} {}", self.vring_base[0], self.vring_base[1]),
             "vring_started" => {
-                format!(in alloc; "{} {}", self.vring_started[0], self.vring_started[1])?
+                format!(in alloc; "{} {}", self.vring_started[0], self.vring_started[1])
             }
             "vring_enabled" => {
-                format!(in alloc; "{} {}", self.vring_enabled[0], self.vring_enabled[1])?
+                format!(in alloc; "{} {}", self.vring_enabled[0], self.vring_enabled[1])
             }
-            "kick_fd" => pair_text(alloc, &self.kick_fd)?,
-            "call_fd" => pair_text(alloc, &self.call_fd)?,
-            "err_fd" => pair_text(alloc, &self.err_fd)?,
-            "inflight_file" => file_text(alloc, &self.inflight_file)?,
-            "shared_file" => file_text(alloc, &self.shared_file)?,
+            "kick_fd" => pair_text(alloc, &self.kick_fd),
+            "call_fd" => pair_text(alloc, &self.call_fd),
+            "err_fd" => pair_text(alloc, &self.err_fd),
+            "inflight_file" => file_text(alloc, &self.inflight_file),
+            "shared_file" => file_text(alloc, &self.shared_file),
             _ => return Err(unreadable(alloc, "a field", name)),
-        })
+        };
+        Ok(shown?)
     }
 }
 

@@ -17,7 +17,7 @@ use play::{Tally, play_session};
 use std::process::ExitCode;
 use std::sync::Wait;
 use std::{env, fs, io};
-use vhost_test_tools::{Miss, read_sessions};
+use vhost_test_tools::{Miss, Refusal, Session, read_sessions};
 
 /// Plays the files that the arguments name. A file after `--refused` must be refused.
 ///
@@ -45,22 +45,31 @@ fn play_all(rt: &HostRuntime, waits: &impl Wait) -> io::Result<bool> {
     Ok(met)
 }
 
-/// Plays a file; whether it was met. After a difference the rest of its session is left out, after a line that can't be read
-/// the rest of the file.
+/// Plays a file; whether it was met.
 fn play_file(rt: &HostRuntime, waits: &impl Wait, name: &str) -> io::Result<bool> {
     let text = fs::read_to_string(rt, name)?;
+    match read_sessions(rt.alloc(), text.as_str()) {
+        Ok(sessions) => play_sessions(rt, waits, name, &sessions),
+        Err(refusal) => {
+            tell(rt, name, &refusal)?;
+            Ok(false)
+        }
+    }
+}
+
+/// Plays the sessions of a file; whether all were met. After a difference the rest of its session is left out, after a line that
+/// can't be read the rest of the file.
+fn play_sessions(
+    rt: &HostRuntime,
+    waits: &impl Wait,
+    name: &str,
+    sessions: &[Session<'_>],
+) -> io::Result<bool> {
     let mut tally = Tally::new();
     let mut met = true;
-    let sessions = match read_sessions(rt.alloc(), text.as_str()) {
-        Ok(sessions) => sessions,
-        Err(refusal) => {
-            println!(rt; "{name}:{}: {}", refusal.number, refusal.miss)?;
-            return Ok(false);
-        }
-    };
-    for session in &sessions {
+    for session in sessions {
         if let Err(refusal) = play_session(waits, rt.alloc(), session, &mut tally) {
-            println!(rt; "{name}:{}: {}", refusal.number, refusal.miss)?;
+            tell(rt, name, &refusal)?;
             met = false;
             if !matches!(&refusal.miss, Miss::Differs(_)) {
                 break;
@@ -69,4 +78,9 @@ fn play_file(rt: &HostRuntime, waits: &impl Wait, name: &str) -> io::Result<bool
     }
     println!(rt; "{name}: {tally}")?;
     Ok(met)
+}
+
+/// Prints where a file was not met, and why.
+fn tell(rt: &HostRuntime, name: &str, refusal: &Refusal) -> io::Result<()> {
+    println!(rt; "{name}:{}: {}", refusal.number, refusal.miss)
 }

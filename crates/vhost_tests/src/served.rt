@@ -142,23 +142,39 @@ impl<H: Handler> Served<H> {
     fn agree(&mut self, rt: &impl Wait, features: &str) -> Result<(), Miss> {
         let features = number_of(self.alloc, features)?;
         if H::IS_SCRIPTED {
-            let mut sheet = lend(self.alloc, &self.sheet)?;
-            sheet.want("get_features")?;
-            sheet.give("0x40000000")?;
-            sheet.want(format!(in self.alloc; "set_protocol_features {features}")?.as_str())?;
+            self.tell_agreement(features)?;
         }
-        let mut requests = format!(in self.alloc;
-            "010000000100000000000000 100000000100000008000000 "
-        )?;
-        requests.push_str(hex::encode(self.alloc, features.to_le_bytes().as_slice())?.as_str())?;
-        self.traffic
-            .push(&mut lend(self.alloc, &self.wire)?.mem, requests.as_str())?;
-        let offered = text_of(self.alloc, self.handler.serve(rt))?;
-        let chosen = text_of(self.alloc, self.handler.serve(rt))?;
+        self.send_agreement(features)?;
+        let offered = self.handler.serve(rt);
+        let chosen = self.handler.serve(rt);
+        self.compare_agreement(offered.and(chosen))
+    }
+
+    /// Compares the device's calls and the answers, and takes what was written as seen.
+    fn compare_agreement(&mut self, outcome: Outcome<()>) -> Result<(), Miss> {
         self.traffic.skip(&lend(self.alloc, &self.wire)?.mem);
         lend(self.alloc, &self.sheet)?.check()?;
-        expect(self.alloc, "ok", offered.as_str())?;
-        expect(self.alloc, "ok", chosen.as_str())
+        let met = text_of(self.alloc, outcome)?;
+        expect(self.alloc, "ok", met.as_str())
+    }
+
+    /// Tells the calls of the device by which it agrees.
+    fn tell_agreement(&mut self, features: u64) -> Result<(), Miss> {
+        let choice = format!(in self.alloc; "set_protocol_features {features}")?;
+        let mut sheet = lend(self.alloc, &self.sheet)?;
+        sheet.want("get_features")?;
+        sheet.give("0x40000000")?;
+        sheet.want(choice.as_str())
+    }
+
+    /// Sends the requests by which it is asked, and told the features.
+    fn send_agreement(&mut self, features: u64) -> Result<(), Miss> {
+        let features = hex::encode(self.alloc, features.to_le_bytes().as_slice())?;
+        let requests = format!(in self.alloc;
+            "010000000100000000000000 100000000100000008000000 {features}"
+        )?;
+        self.traffic
+            .push(&mut lend(self.alloc, &self.wire)?.mem, requests.as_str())
     }
 
     /// Tests whether the last request met a fault of the link.

@@ -5,6 +5,7 @@ use crate::records::{last_handles, record_of, record_text, word_of};
 use std::alloc::Global;
 use std::sync::Wait;
 use vhost_gpu_backend_req::GpuBackend;
+use vhost_link::PlainHandle;
 use vhost_message::{ByteValued, HandlerResult};
 use vhost_test_tools::{Miss, PlainLink, back_text, bytes_of, bytes_text, unreadable};
 
@@ -92,24 +93,29 @@ fn with_more(
                 channel.cursor_update(rt, &record_of(alloc, record)?, image),
             )
         }
-        "set_dmabuf_scanout" => {
+        "set_dmabuf_scanout" | "set_dmabuf_scanout2" => {
             let handles = last_handles(alloc, more)?;
-            let record = record_of(alloc, record)?;
-            done(
-                alloc,
-                channel.set_dmabuf_scanout(rt, &record, handles.first()),
-            )
-        }
-        "set_dmabuf_scanout2" => {
-            let handles = last_handles(alloc, more)?;
-            let record = record_of(alloc, record)?;
-            done(
-                alloc,
-                channel.set_dmabuf_scanout2(rt, &record, handles.first()),
-            )
+            set_buffer(rt, alloc, channel, name, record, handles.first())
         }
         _ => Err(unreadable(alloc, "a call of a display", text)),
     }
+}
+
+/// Makes a call that hands over a buffer by its handle.
+fn set_buffer(
+    rt: &impl Wait,
+    alloc: Global,
+    channel: &GpuBackend<PlainLink>,
+    name: &str,
+    record: &str,
+    handle: Option<&PlainHandle>,
+) -> Result<String, Miss> {
+    if name == "set_dmabuf_scanout" {
+        let record = record_of(alloc, record)?;
+        return done(alloc, channel.set_dmabuf_scanout(rt, &record, handle));
+    }
+    let record = record_of(alloc, record)?;
+    done(alloc, channel.set_dmabuf_scanout2(rt, &record, handle))
 }
 
 /// The answer of a call that gives a record.

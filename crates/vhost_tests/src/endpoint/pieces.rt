@@ -4,9 +4,9 @@ use crate::endpoint::sends::lent;
 use crate::records::{failed, last_handles, shown, word_of};
 use std::alloc::Global;
 use vhost_connection::{Endpoint, get_sub_iovs_offset};
-use vhost_link::MemLink;
-use vhost_message::MsgHeader;
-use vhost_test_tools::{Miss, bytes_of, number_of};
+use vhost_link::{MemLink, PlainHandle};
+use vhost_message::{MsgHeader, Result as Outcome};
+use vhost_test_tools::{Miss, bytes_of, number_of, unreadable};
 
 /// Makes a call that sends bytes, in one piece or several.
 pub(crate) fn send_pieces<M: MsgHeader>(
@@ -16,21 +16,32 @@ pub(crate) fn send_pieces<M: MsgHeader>(
     args: &str,
 ) -> Result<String, Miss> {
     let (words, rest) = word_of(args);
-    let handles = last_handles(alloc, rest)?;
-    let handles = lent(alloc, &handles)?;
     let pieces = pieces_of(alloc, words)?;
-    let mut slices = Vec::new(alloc);
-    for piece in &pieces {
-        slices.push(piece.as_slice())?;
-    }
-    let sent = match name {
-        "send_iovec" => end.send_iovec(&slices, &handles),
-        "send_iovec_all" => end.send_iovec_all(&slices, &handles),
-        _ => end.send_slice(&bytes_of(alloc, 0, words)?, &handles),
-    };
-    match sent {
+    let handles = last_handles(alloc, rest)?;
+    match send_lent(alloc, end, name, &pieces, &handles)? {
         Ok(count) => shown(alloc, format!(in alloc; "{count}")?, &None),
         Err(error) => failed(alloc, error),
+    }
+}
+
+/// Makes the call, with pieces and handles that are lent.
+fn send_lent<M: MsgHeader>(
+    alloc: Global,
+    end: &mut Endpoint<M, MemLink>,
+    name: &str,
+    pieces: &[Vec<u8>],
+    handles: &[PlainHandle],
+) -> Result<Outcome<usize>, Miss> {
+    let mut slices = Vec::new(alloc);
+    for piece in pieces {
+        slices.push(piece.as_slice())?;
+    }
+    let handles = lent(alloc, handles)?;
+    match (name, slices.as_slice()) {
+        ("send_iovec", slices) => Ok(end.send_iovec(slices, &handles)),
+        ("send_iovec_all", slices) => Ok(end.send_iovec_all(slices, &handles)),
+        (_, [bytes]) => Ok(end.send_slice(bytes, &handles)),
+        _ => Err(unreadable(alloc, "one piece", name)),
     }
 }
 

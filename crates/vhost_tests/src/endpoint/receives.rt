@@ -7,7 +7,7 @@ use std::alloc::Global;
 use vhost_connection::Endpoint;
 use vhost_link::{MemLink, PlainHandle};
 use vhost_message::{
-    FrontendReq, MsgHeader, VhostUserConfig, VhostUserLog, VhostUserMsgHeader,
+    ByteValued, FrontendReq, MsgHeader, VhostUserConfig, VhostUserLog, VhostUserMsgHeader,
     VhostUserMsgValidator, VhostUserU64,
 };
 use vhost_test_tools::{Miss, bytes_of, narrow, unreadable};
@@ -120,6 +120,27 @@ fn receive_once<M: MsgHeader>(
     }
 }
 
+/// A header and a record.
+fn both_text<M: MsgHeader, T: ByteValued>(
+    alloc: Global,
+    header: &M,
+    record: &T,
+) -> Result<String, Miss> {
+    let (header, record) = (record_text(alloc, header)?, record_text(alloc, record)?);
+    Ok(format!(in alloc; "{header} {record}")?)
+}
+
+/// The same, and how many bytes came behind them.
+fn counted_text<M: MsgHeader, T: ByteValued>(
+    alloc: Global,
+    header: &M,
+    record: &T,
+    count: usize,
+) -> Result<String, Miss> {
+    let both = both_text(alloc, header, record)?;
+    Ok(format!(in alloc; "{both} {count}")?)
+}
+
 /// Receives a header and a record.
 fn receive_body<M: MsgHeader, T: VhostUserMsgValidator + Drop>(
     alloc: Global,
@@ -127,10 +148,7 @@ fn receive_body<M: MsgHeader, T: VhostUserMsgValidator + Drop>(
 ) -> Result<String, Miss> {
     match end.recv_body::<T>() {
         Ok((header, record, handles)) => {
-            let mut text = record_text(alloc, &header)?;
-            text.push(' ')?;
-            text.push_str(record_text(alloc, &record)?.as_str())?;
-            shown(alloc, text, &handles)
+            shown(alloc, both_text(alloc, &header, &record)?, &handles)
         }
         Err(error) => failed(alloc, error),
     }
@@ -163,9 +181,11 @@ fn receive_payload<M: MsgHeader, T: VhostUserMsgValidator + Drop>(
     room.buffer = bytes_of(alloc, 0, bytes)?;
     match end.recv_payload_into_buf::<T>(&mut room.buffer) {
         Ok((header, record, count, handles)) => {
-            let (header, record) = (record_text(alloc, &header)?, record_text(alloc, &record)?);
-            let text = format!(in alloc; "{header} {record} {count}")?;
-            shown(alloc, text, &handles)
+            shown(
+                alloc,
+                counted_text(alloc, &header, &record, count)?,
+                &handles,
+            )
         }
         Err(error) => failed(alloc, error),
     }
@@ -183,9 +203,11 @@ pub(crate) fn receive_or_bare(
     room.buffer = bytes_of(alloc, 0, bytes)?;
     match end.recv_payload_or_bare(&request, &mut room.buffer) {
         Ok(Some((header, record, count, handles))) => {
-            let (header, record) = (record_text(alloc, &header)?, record_text(alloc, &record)?);
-            let text = format!(in alloc; "{header} {record} {count}")?;
-            shown(alloc, text, &handles)
+            shown(
+                alloc,
+                counted_text(alloc, &header, &record, count)?,
+                &handles,
+            )
         }
         Ok(None) => shown(alloc, "bare".to_string(alloc)?, &None),
         Err(error) => failed(alloc, error),

@@ -50,14 +50,22 @@ fn send_record<M: MsgHeader, T: ByteValued + Drop>(
         let sent = end.send_message(header, &record, &lent(alloc, &handles)?);
         return done(alloc, sent);
     }
-    let (payload, rest) = word_of(rest);
+    send_with_payload(alloc, end, header, &record, rest)
+}
+
+/// The same with a payload.
+fn send_with_payload<M: MsgHeader, T: ByteValued>(
+    alloc: Global,
+    end: &mut Endpoint<M, MemLink>,
+    header: &M,
+    record: &T,
+    args: &str,
+) -> Result<String, Miss> {
+    let (payload, rest) = word_of(args);
     let payload = bytes_of(alloc, 0, payload)?;
     let handles = last_handles(alloc, rest)?;
-    let handles = lent(alloc, &handles)?;
-    done(
-        alloc,
-        end.send_message_with_payload(header, &record, &payload, &handles),
-    )
+    let sent = end.send_message_with_payload(header, record, &payload, &lent(alloc, &handles)?);
+    done(alloc, sent)
 }
 
 /// Handles, each lent.
