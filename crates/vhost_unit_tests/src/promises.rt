@@ -3,12 +3,16 @@
 use std::alloc::Global;
 use std::sync::Wait;
 use std::test::Fail;
+use vhost_connection::Endpoint;
 use vhost_device::VhostUserBackendReqHandlerMut;
 use vhost_link::{Cut, MemLink};
-use vhost_message::{BackendReq, Error, FrontendReq, HandlerResult, IoError, Result as Answer};
+use vhost_message::{
+    BackendReq, Error, FrontendReq, HandlerResult, IoError, Result as Answer, VhostUserConfig,
+    VhostUserConfigFlags, VhostUserMsgHeader,
+};
 use vhost_promises::{
-    Device, finds_own, first_answer, names_request, records_two, runs_two_lines, serves_three_new,
-    shares_twice, two_callers,
+    Device, finds_own, first_answer, names_request, records_two, runs_two_lines, sends_in_one,
+    serves_three_new, shares_twice, two_callers,
 };
 use vhost_recorder::{FrontendAnswer, FrontendCall, Halt, Log, Receipt, Recorded};
 
@@ -99,6 +103,40 @@ fn headers(rt: HostRuntime) -> Outcome<()> {
     assert!(rt;
         names_request(BackendReq::SHMEM_MAP, 8, 40)? == (BackendReq::SHMEM_MAP, 40, false, true)
     );
+    Ok(())
+}
+
+/// Two bytes of the configuration space, behind their header and record.
+const CONFIG: [u8; 26] = [
+    25, 0, 0, 0, 1, 0, 0, 0, 14, 0, 0, 0, 4, 0, 0, 0, 2, 0, 0, 0, 1, 0, 0, 0, 7, 8,
+];
+
+/// Whether that message went out, over this endpoint.
+fn sends_config(end: &mut Endpoint<VhostUserMsgHeader<FrontendReq>, MemLink>) -> bool {
+    let header = VhostUserMsgHeader::new(FrontendReq::SET_CONFIG, 0, 14);
+    let part = VhostUserConfig::new(4, 2, VhostUserConfigFlags::WRITABLE);
+    let sent = sends_in_one(end, &header, &part, &[7, 8]).is_ok();
+    sent && end.link().taken().bytes() == CONFIG.as_slice()
+}
+
+/// The same over a new endpoint, whose link is cut so.
+fn new_one_sends_config(alloc: Global, cuts: Vec<Cut>) -> bool {
+    match Endpoint::from_stream(alloc, MemLink::new(alloc, cuts), 2) {
+        Ok(mut end) => sends_config(&mut end),
+        Err(_) => false,
+    }
+}
+
+/// Once over a link that takes all it is given, and once where a second call after the retry would fail.
+#[test]
+fn a_message_in_one_call(rt: HostRuntime) -> Outcome<()> {
+    let alloc = rt.alloc();
+    assert!(rt; new_one_sends_config(alloc, Vec::new(alloc)));
+    let mut cuts = Vec::new(alloc);
+    cuts.push(Cut::Retry)?;
+    cuts.push(Cut::Give(26))?;
+    cuts.push(Cut::Fault(5))?;
+    assert!(rt; new_one_sends_config(alloc, cuts));
     Ok(())
 }
 
