@@ -12,6 +12,7 @@ pub mod Serving
 pub mod Faulting
 pub mod FaultingAsked
 pub mod FaultingRead
+pub mod FaultingCalled
 pub mod Sharing
 pub mod Showing
 pub mod Listed

@@ -2,10 +2,14 @@
 
 use std::alloc::Global;
 use std::sync::Wait;
+use std::test::Fail;
 use vhost_frontend::{Frontend, Quiet, VhostUserMemoryContext};
+use vhost_frontend_core::{FrontendAnswer, FrontendCall, FrontendInternal};
 use vhost_link::{Cut, Kind, MemLink, PlainHandle};
 use vhost_message::{Error, IoCause, VhostUserHeaderFlag, VhostUserMemoryRegion};
-use vhost_promises::{asks_again, own_features};
+use vhost_promises::{asks_again, meets_fault_calling, own_features};
+
+type Outcome<T> = std::result::Result<T, Fail>;
 
 /// The reply to GET_FEATURES: 0x40000001.
 static FEATURES: [u8; 20] = [
@@ -33,6 +37,34 @@ fn told(alloc: Global) -> Option<[bool; 4]> {
 #[test]
 fn tells_of_a_fault(rt: HostRuntime) {
     assert!(rt; told(rt.alloc()) == Some([true; 4]));
+}
+
+/// Which number of the system a call failed with, and whether it was the link's error or that the endpoint is broken.
+fn failure(answer: FrontendAnswer) -> Option<(i32, bool)> {
+    match answer {
+        FrontendAnswer::Failed(Error::SocketError(IoCause::Raw(number))) => Some((number, false)),
+        FrontendAnswer::Failed(Error::SocketBroken(IoCause::Raw(number))) => Some((number, true)),
+        _ => None,
+    }
+}
+
+/// What two calls of a ring's size are answered over a link that is cut so.
+fn sizes_twice(alloc: Global, cuts: Vec<Cut>) -> Option<[Option<(i32, bool)>; 2]> {
+    let mut frontend = FrontendInternal::new(alloc, MemLink::new(alloc, cuts), 4, 2).ok()?;
+    let call = FrontendCall::SetVringNum(0, 128);
+    let first = failure(meets_fault_calling(&mut frontend, &call));
+    Some([first, failure(meets_fault_calling(&mut frontend, &call))])
+}
+
+/// A fault breaks the endpoint where a byte had moved, and only there.
+#[test]
+fn meets_faults(rt: HostRuntime) -> Outcome<()> {
+    let alloc = rt.alloc();
+    let torn = vec![in alloc; Cut::Give(5), Cut::Fault(5)]?;
+    assert!(rt; sizes_twice(alloc, torn) == Some([Some((5, false)), Some((5, true))]));
+    let whole = vec![in alloc; Cut::Fault(5)]?;
+    assert!(rt; sizes_twice(alloc, whole) == Some([Some((5, false)), None]));
+    Ok(())
 }
 
 /// A link on which so many replies came.
