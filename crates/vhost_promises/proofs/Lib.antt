@@ -9,6 +9,7 @@ pub mod Claiming
 pub mod Hungry
 pub mod Known
 pub mod Serving
+pub mod Reading
 pub mod Faulting
 pub mod FaultingAsked
 pub mod FaultingRead

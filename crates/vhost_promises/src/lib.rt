@@ -12,6 +12,7 @@ mod faults_asking;
 mod faults_calling;
 mod joined;
 mod lines;
+mod read;
 mod recorder;
 mod records;
 mod runs;
@@ -29,6 +30,7 @@ pub use faults_asking::{adds_broken, asks_broken, displays_broken, meets_fault_a
 pub use faults_calling::meets_fault_calling;
 pub use joined::{runs_back_in_lockstep, runs_in_lockstep, stays_in_step};
 pub use lines::runs_two_lines;
+pub use read::{reads_features, reads_features_new};
 pub use recorder::{finds_own, first_answer, records_two, two_callers};
 pub use records::{
     back_and_there, names_request, same_config, same_cursor, same_gpu_header, same_name,

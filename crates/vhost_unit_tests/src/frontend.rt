@@ -7,7 +7,7 @@ use vhost_frontend::{Frontend, Quiet, VhostUserMemoryContext};
 use vhost_frontend_core::{FrontendAnswer, FrontendCall, FrontendInternal};
 use vhost_link::{Cut, Kind, MemLink, PlainHandle};
 use vhost_message::{Error, IoCause, VhostUserHeaderFlag, VhostUserMemoryRegion};
-use vhost_promises::{asks_again, meets_fault_calling, own_features};
+use vhost_promises::{asks_again, meets_fault_calling, own_features, reads_features_new};
 
 type Outcome<T> = std::result::Result<T, Fail>;
 
@@ -37,6 +37,22 @@ fn told(alloc: Global) -> Option<[bool; 4]> {
 #[test]
 fn tells_of_a_fault(rt: HostRuntime) {
     assert!(rt; told(rt.alloc()) == Some([true; 4]));
+}
+
+/// What a new frontend reads of a reply that comes in pieces, with a retry before each.
+fn read_in_pieces(alloc: Global) -> Option<u64> {
+    let mut cuts = Vec::new(alloc);
+    for _ in 0..20 {
+        cuts.push(Cut::Retry).ok()?;
+        cuts.push(Cut::Give(3)).ok()?;
+    }
+    let (_frontend, answer) = reads_features_new(alloc, cuts, 40).ok()?;
+    answer.ok()
+}
+
+#[test]
+fn reads_the_features(rt: HostRuntime) {
+    assert!(rt; read_in_pieces(rt.alloc()) == Some(0x4000_0003));
 }
 
 /// Which number of the system a call failed with, and whether it was the link's error or that the endpoint is broken.
