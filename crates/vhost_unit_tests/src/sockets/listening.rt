@@ -159,11 +159,24 @@ fn takes_a_left_over_path_over(rt: HostRuntime) -> Result<(), Fail> {
     Ok(())
 }
 
+/// Whether a listener tells the path that it was made at.
+fn tells_its_path(rt: &HostRuntime, path: &str) -> bool {
+    match Listener::new(rt, rt.alloc(), path, false) {
+        Ok(listener) => listener.path() == Some(path),
+        Err(_) => false,
+    }
+}
+
+#[test]
+fn tells_where_it_listens(rt: HostRuntime) {
+    assert!(rt; tells_its_path(&rt, "told.sock"));
+}
+
 /// How an `accept` of a listener went that has no path.
 fn accept_without_path<F: Files + Drop>(listener: &Listener<F>) -> Outcome {
-    match listener.set_nonblocking(true) {
-        Ok(()) => outcome_if_any(listener.accept()),
-        Err(_) => Outcome::Other,
+    match (listener.path(), listener.set_nonblocking(true)) {
+        (None, Ok(())) => outcome_if_any(listener.accept()),
+        _ => Outcome::Other,
     }
 }
 
