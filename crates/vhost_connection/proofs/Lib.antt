@@ -24,3 +24,4 @@ pub mod Handed
 pub mod Replies
 pub mod Serving
 pub mod Running
+mod Fronting

@@ -12,3 +12,4 @@ pub mod Requests
 pub mod Asking
 pub mod Serving
 pub mod Sockets
+pub mod Memory

@@ -32,6 +32,13 @@ impl ReadAhead {
         self.start == self.end
     }
 
+    /// Forgets what waits.
+    pub(crate) fn clear(&mut self)
+        ensures { waiting self.new ≡ [] }
+    {
+        self.start = self.end;
+    }
+
     /// Hands on what waits, as much as fits into the room.
     fn take_out(&mut self, room: &mut [u8]) -> usize
         ensures count { result ≡ min (length (waiting self.old)) (length room.old) }

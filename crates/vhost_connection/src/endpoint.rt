@@ -51,7 +51,7 @@ pub struct Endpoint<M, L: Link> {
 }
 
 impl<M: MsgHeader, L: Link> Endpoint<M, L> {
-    ghost use Rattle.std.specs.Prelude.{if◌then◌else◌, None, true, false};
+    ghost use Rattle.std.specs.Prelude.{if◌then◌else◌, None, true, false, []};
     ghost use Rattle.std.specs.Borrow.{sem, Lends};
     ghost use Rattle.vhost_connection.specs.contracts.endpoint.Endpoint.{the_row};
     ghost use Rattle.vhost_message.specs.Cause.{error_of};
@@ -155,6 +155,15 @@ impl<M: MsgHeader, L: Link> Endpoint<M, L> {
         if self.broken.is_none() {
             self.broken = Some(cause);
         }
+    }
+
+    /// Forgets what was received ahead: the next message begins with what the link hands out next. For who owns both ends of
+    /// the stream, and gave up what came.
+    #[tactic(auto, unfolding(crate::specs::State::ahead_of))]
+    pub fn forget_ahead(&mut self)
+        ensures { state self.new ≡ record (state self.old) { ahead = [] } }
+    {
+        self.source.ahead.clear();
     }
 
     /// How many retries a message may take.

@@ -80,6 +80,13 @@ impl MemLink {
         to.pending.append(&mut from.sent)
     }
 
+    /// Forgets what it would hand out.
+    pub fn forget(&mut self)
+        ensures { self.new ≡ record self.old { pending = [] } }
+    {
+        self.pending = Flow::new(self.alloc);
+    }
+
     /// Puts bytes behind what it will hand out, with the handles on the first of them.
     ///
     /// There are at most `MAX_ATTACHED_FD_ENTRIES` handles; without a byte they go nowhere. Where memory is refused, nothing changed.
