@@ -173,11 +173,11 @@ all_read name args = (
                                             (
                                               short name args (codes "set_vring_base") (two u64 u16 SetVringBase) (two-short u64 u16 SetVringBase),
                                               (
-                                                short name args (codes "set_vring_call") (two u64 handle SetVringCall) (two-short u64 handle SetVringCall),
+                                                short name args (codes "set_vring_call") (two u64 handle (λ i h. SetVringCall i (Some h))) (two-short u64 handle (λ i h. SetVringCall i (Some h))),
                                                 (
-                                                  short name args (codes "set_vring_kick") (two u64 handle SetVringKick) (two-short u64 handle SetVringKick),
+                                                  short name args (codes "set_vring_kick") (two u64 handle (λ i h. SetVringKick i (Some h))) (two-short u64 handle (λ i h. SetVringKick i (Some h))),
                                                   (
-                                                    short name args (codes "set_vring_err") (two u64 handle SetVringErr) (two-short u64 handle SetVringErr),
+                                                    short name args (codes "set_vring_err") (two u64 handle (λ i h. SetVringErr i (Some h))) (two-short u64 handle (λ i h. SetVringErr i (Some h))),
                                                     (
                                                       short name args (codes "set_vring_enable") (two u64 switch SetVringEnable) (two-short u64 switch SetVringEnable),
                                                       (

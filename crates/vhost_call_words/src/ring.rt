@@ -1,7 +1,7 @@
 //! Calls of a ring's index and one argument more. Each is none where there is another count of arguments, or where one of them is
 //! none.
 
-ghost use Rattle.std.specs.Prelude.{◌≡◌};
+ghost use Rattle.std.specs.Prelude.{◌≡◌, Some};
 ghost use Rattle.vhost_protocol.specs.FrontendCall as value;
 ghost use Rattle.vhost_call_words.specs.Arguments.{handle, switch};
 ghost use Rattle.vhost_call_words.specs.Number.{u64, u16};
@@ -30,26 +30,26 @@ pub(crate) fn set_vring_base(args: &[&str]) -> Option<FrontendCall>
 
 /// A ring and the handle by which the device tells of used buffers.
 pub(crate) fn set_vring_call(args: &[&str]) -> Option<FrontendCall>
-    ensures { called result ≡ two u64 handle value.SetVringCall (texts args.now) }
+    ensures { called result ≡ two u64 handle (λ i h. value.SetVringCall i (Some h)) (texts args.now) }
 {
     let [ring, word] = args else { return None };
-    Some(FrontendCall::SetVringCall(index(ring)?, handle(word)?))
+    Some(FrontendCall::SetVringCall(index(ring)?, Some(handle(word)?)))
 }
 
 /// A ring and the handle by which the device is told of available buffers.
 pub(crate) fn set_vring_kick(args: &[&str]) -> Option<FrontendCall>
-    ensures { called result ≡ two u64 handle value.SetVringKick (texts args.now) }
+    ensures { called result ≡ two u64 handle (λ i h. value.SetVringKick i (Some h)) (texts args.now) }
 {
     let [ring, word] = args else { return None };
-    Some(FrontendCall::SetVringKick(index(ring)?, handle(word)?))
+    Some(FrontendCall::SetVringKick(index(ring)?, Some(handle(word)?)))
 }
 
 /// A ring and the handle by which the device tells of errors.
 pub(crate) fn set_vring_err(args: &[&str]) -> Option<FrontendCall>
-    ensures { called result ≡ two u64 handle value.SetVringErr (texts args.now) }
+    ensures { called result ≡ two u64 handle (λ i h. value.SetVringErr i (Some h)) (texts args.now) }
 {
     let [ring, word] = args else { return None };
-    Some(FrontendCall::SetVringErr(index(ring)?, handle(word)?))
+    Some(FrontendCall::SetVringErr(index(ring)?, Some(handle(word)?)))
 }
 
 /// A ring, and whether it is on.

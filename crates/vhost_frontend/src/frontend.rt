@@ -1,6 +1,6 @@
 //! A session that many threads may use.
 
-ghost use Rattle.std.specs.Prelude.{◌≡◌, IfErr};
+ghost use Rattle.std.specs.Prelude.{◌≡◌, IfErr, Some};
 ghost use Rattle.vhost_message.specs.FlagBits.{config_bits};
 ghost use Rattle.vhost_message.specs.Transfer.{direction_number, phase_number};
 ghost use Rattle.vhost_message.specs.declared.error.Error.TheVariants.{OutOfMemory};
@@ -148,19 +148,19 @@ impl<L: Link> VhostBackend for Frontend<L> {
     }
 
     fn set_vring_call(&self, rt: &impl Wait, queue_index: usize, fd: &L::Handle) -> Result<()>
-        ensures { Turn (Whole L.event (call.SetVringCall queue_index fd.now) (λ _. call.Nothing)) result }
+        ensures { Turn (Whole L.event (call.SetVringCall queue_index (Some fd.now)) (λ _. call.Nothing)) result }
     {
         within(self.inner.lock(rt).set_vring_call(queue_index, fd))
     }
 
     fn set_vring_kick(&self, rt: &impl Wait, queue_index: usize, fd: &L::Handle) -> Result<()>
-        ensures { Turn (Whole L.event (call.SetVringKick queue_index fd.now) (λ _. call.Nothing)) result }
+        ensures { Turn (Whole L.event (call.SetVringKick queue_index (Some fd.now)) (λ _. call.Nothing)) result }
     {
         within(self.inner.lock(rt).set_vring_kick(queue_index, fd))
     }
 
     fn set_vring_err(&self, rt: &impl Wait, queue_index: usize, fd: &L::Handle) -> Result<()>
-        ensures { Turn (Whole L.event (call.SetVringErr queue_index fd.now) (λ _. call.Nothing)) result }
+        ensures { Turn (Whole L.event (call.SetVringErr queue_index (Some fd.now)) (λ _. call.Nothing)) result }
     {
         within(self.inner.lock(rt).set_vring_err(queue_index, fd))
     }

@@ -32,6 +32,9 @@ call_in (call.SetVringNum i n) = calls.SetVringNum i n
 call_in (call.SetVringBase i n) = calls.SetVringBase i n
 call_in (call.SetVringAddr i c) = calls.SetVringAddr i c
 call_in (call.GetVringBase i) = calls.GetVringBase i
+call_in (call.SetVringCall i) = calls.SetVringCall i None
+call_in (call.SetVringKick i) = calls.SetVringKick i None
+call_in (call.SetVringErr i) = calls.SetVringErr i None
 call_in (call.SetVringEnable i on) = calls.SetVringEnable i on
 call_in (call.GetSharedObject name) = calls.GetSharedObject name
 call_in (call.GetInflightFd area) = calls.GetInflightFd area
@@ -49,9 +52,9 @@ call_in (call.SetMtu mtu) = calls.SetMtu mtu
 -- a call with this handle
 abbrev pub call_with : {H : Type 0} → HandleCall → H → FrontendCall H
 call_with with_handle.SetLogFd h = calls.SetLogFd h
-call_with (with_handle.SetVringCall i) h = calls.SetVringCall i h
-call_with (with_handle.SetVringKick i) h = calls.SetVringKick i h
-call_with (with_handle.SetVringErr i) h = calls.SetVringErr i h
+call_with (with_handle.SetVringCall i) h = calls.SetVringCall i (Some h)
+call_with (with_handle.SetVringKick i) h = calls.SetVringKick i (Some h)
+call_with (with_handle.SetVringErr i) h = calls.SetVringErr i (Some h)
 call_with with_handle.SetBackendRequestFd h = calls.SetBackendRequestFd h
 call_with (with_handle.SetInflightFd area) h = calls.SetInflightFd area h
 call_with (with_handle.AddMemRegion r) h = calls.AddMemRegion (record { region = r; handle = Some h })

@@ -182,11 +182,11 @@ calls-plain = (
                                             (
                                               two-plain u64 u16 SetVringBase (λ a b. tt),
                                               (
-                                                two-plain u64 handle SetVringCall (λ a b. tt),
+                                                two-plain u64 handle (λ i h. SetVringCall i (Some h)) (λ a b. tt),
                                                 (
-                                                  two-plain u64 handle SetVringKick (λ a b. tt),
+                                                  two-plain u64 handle (λ i h. SetVringKick i (Some h)) (λ a b. tt),
                                                   (
-                                                    two-plain u64 handle SetVringErr (λ a b. tt),
+                                                    two-plain u64 handle (λ i h. SetVringErr i (Some h)) (λ a b. tt),
                                                     (
                                                       two-plain u64 switch SetVringEnable (λ a b. tt),
                                                       (

@@ -31,7 +31,7 @@ use Rattle.vhost_protocol.specs.declared.asked.Shape.TheVariants as shape
 use Rattle.vhost_protocol.specs.DeviceCall as device
 use Rattle.vhost_protocol.specs.Error.{Error, InvalidMessage, InactiveFeature, BackendInternalError}
 use Rattle.vhost_protocol.specs.Features.{PROTOCOL_FEATURES, REPLY_ACK}
-use Rattle.vhost_protocol.specs.FrontendCall.{FrontendCall, GetFeatures, SetFeatures, GetProtocolFeatures, SetProtocolFeatures, GetQueueNum, SetMemTable, SetLogBase, SetLogFd, GetVringBase, GetConfig, GetSharedObject, GetInflightFd, GetMaxMemSlots, AddMemRegion, GetShmemConfig, SetDeviceStateFd, CheckDeviceState, PostcopyAdvise, PostcopyListen, PostcopyEnd, PostcopyAckMemRegions, SetHdrFlags, Info, LogRegion, Number, Frontend}
+use Rattle.vhost_protocol.specs.FrontendCall.{FrontendCall, GetFeatures, SetFeatures, GetProtocolFeatures, SetProtocolFeatures, GetQueueNum, SetMemTable, SetLogBase, SetLogFd, SetVringCall, SetVringKick, SetVringErr, GetVringBase, GetConfig, GetSharedObject, GetInflightFd, GetMaxMemSlots, AddMemRegion, GetShmemConfig, SetDeviceStateFd, CheckDeviceState, PostcopyAdvise, PostcopyListen, PostcopyEnd, PostcopyAckMemRegions, SetHdrFlags, Info, LogRegion, Number, Frontend}
 use Rattle.vhost_protocol.specs.Joined.{AgreeOn, is_end, read_as}
 use Rattle.vhost_protocol.specs.Row.{row, body, always, if_agreed, channel, is_valid_table, mapped_row, table, rebased, with_features, with_handle, with_inflight, with_state, with_check, with_config, with_base, with_bases}
 use Rattle.vhost_protocol.specs.Served.{Silent, Acknowledged}
@@ -442,5 +442,11 @@ module _ (H B G : Type 0) where
   keeps-step f s PostcopyListen agree on fits = simple-listen f s agree on
   keeps-step f s PostcopyEnd agree on fits = simple-end f s agree on
   keeps-step f s (PostcopyAckMemRegions r) agree on fits = simple-mapped f s r agree
+  keeps-step f s (SetVringCall i None) agree on fits = search known depth 12
+  keeps-step f s (SetVringCall i (Some h)) agree on fits = search known depth 12
+  keeps-step f s (SetVringKick i None) agree on fits = search known depth 12
+  keeps-step f s (SetVringKick i (Some h)) agree on fits = search known depth 12
+  keeps-step f s (SetVringErr i None) agree on fits = search known depth 12
+  keeps-step f s (SetVringErr i (Some h)) agree on fits = search known depth 12
   keeps-step f s (SetHdrFlags flags) agree on fits = record { offered = agree.offered; acked_protocol_features = agree.acked_protocol_features; postcopy = agree.postcopy; acked = agree.acked }
   keeps-step f s _ agree on fits = search known depth 12

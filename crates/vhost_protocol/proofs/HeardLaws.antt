@@ -27,7 +27,7 @@ use Rattle.vhost_message.specs.Header.{Header}
 use Rattle.vhost_protocol.specs.AnswerTable.{Answered}
 use Rattle.vhost_protocol.specs.DeviceCall as device
 use Rattle.vhost_protocol.specs.Error.{Error, InvalidMessage, BackendInternalError}
-use Rattle.vhost_protocol.specs.FrontendCall.{FrontendCall, GetFeatures, GetProtocolFeatures, GetQueueNum, SetMemTable, SetLogBase, SetLogFd, GetVringBase, GetConfig, GetSharedObject, GetInflightFd, GetMaxMemSlots, AddMemRegion, GetShmemConfig, SetDeviceStateFd, CheckDeviceState, PostcopyAdvise, PostcopyAckMemRegions, SetHdrFlags, Info, LogRegion, Frontend}
+use Rattle.vhost_protocol.specs.FrontendCall.{FrontendCall, GetFeatures, GetProtocolFeatures, GetQueueNum, SetMemTable, SetLogBase, SetLogFd, SetVringCall, SetVringKick, SetVringErr, GetVringBase, GetConfig, GetSharedObject, GetInflightFd, GetMaxMemSlots, AddMemRegion, GetShmemConfig, SetDeviceStateFd, CheckDeviceState, PostcopyAdvise, PostcopyAckMemRegions, SetHdrFlags, Info, LogRegion, Frontend}
 use Rattle.vhost_protocol.specs.Heard.{IsAwaitedBy, AsksPlainly, AwaitsItsShape, HearsTheAnswer, shape_of, CallFits, IsGoodReply, AllGood, AskedWell, RepliesWell}
 use Rattle.vhost_protocol.specs.Laws.{PayloadFits, IsReplyOf}
 use Rattle.vhost_message.specs.Bits.{has_bit}
@@ -167,6 +167,12 @@ module _ (H B G : Type 0) where
   well-plain f s (AddMemRegion info) plain = absurd plain
   well-plain f s (PostcopyAckMemRegions r) plain = absurd plain
   well-plain f s (SetLogFd h) plain = tt
+  well-plain f s (SetVringCall i None) plain = search good depth 12
+  well-plain f s (SetVringCall i (Some h)) plain = search good depth 12
+  well-plain f s (SetVringKick i None) plain = search good depth 12
+  well-plain f s (SetVringKick i (Some h)) plain = search good depth 12
+  well-plain f s (SetVringErr i None) plain = search good depth 12
+  well-plain f s (SetVringErr i (Some h)) plain = search good depth 12
   well-plain f s (SetHdrFlags flags) plain = tt
   well-plain f s _ plain = search good depth 12
 

@@ -10,7 +10,7 @@ use Rattle.vhost_protocol.specs.Ask.{Asked, Refuses, Answers, Sends, ask}
 use Rattle.vhost_protocol.specs.DeviceCall as device
 use Rattle.vhost_protocol.specs.DeviceCall.{Call, Answer}
 use Rattle.vhost_protocol.specs.Error.{Error, InvalidOperation, InvalidParam, InactiveOperation, BackendInternalError, PartialMessage}
-use Rattle.vhost_protocol.specs.FrontendCall.{FrontendCall, Info, GetFeatures, SetOwner, GetProtocolFeatures, GetQueueNum, GetVringBase, GetConfig, SetMemTable, AddMemRegion, GetInflightFd, SetDeviceStateFd, PostcopyAdvise, PostcopyListen, PostcopyEnd, PostcopyAckMemRegions, SetVringCall, SetFeatures, SetProtocolFeatures, SetHdrFlags, Value, Nothing, Number, Bases, Base, ConfigOf, HandleOf, InflightOf, StateHandle, Frontend, new_frontend, SetVringBase, SetBackendRequestFd, SetMtu}
+use Rattle.vhost_protocol.specs.FrontendCall.{FrontendCall, Info, GetFeatures, SetOwner, GetProtocolFeatures, GetQueueNum, GetVringBase, GetConfig, SetMemTable, AddMemRegion, GetInflightFd, SetDeviceStateFd, PostcopyAdvise, PostcopyListen, PostcopyEnd, PostcopyAckMemRegions, SetVringCall, SetVringKick, SetFeatures, SetProtocolFeatures, SetHdrFlags, Value, Nothing, Number, Bases, Base, ConfigOf, HandleOf, InflightOf, StateHandle, Frontend, new_frontend, SetVringBase, SetBackendRequestFd, SetMtu}
 use Rattle.vhost_protocol.specs.Joined.{read_as, is_last}
 use Rattle.vhost_protocol.specs.Row.{row}
 use Rattle.vhost_protocol.specs.Served.{reply}
@@ -275,9 +275,22 @@ ring_base : (shows (sides 1 0) (GetVringBase 1)).reply.0 ≡ 0xb ∷ 0 ∷ 0 ∷
 unfolding shows line outcome_of opens text_of example sides session_of
 ring_base = refl
 
-many_rings : (shows (record (sides 1 0) { max_queue_num = 300 }) (SetVringCall 256 5)).result ≡ Some (Err InvalidParam)
+many_rings : (shows (record (sides 1 0) { max_queue_num = 300 }) (SetVringCall 256 (Some 5))).result ≡ Some (Err InvalidParam)
 unfolding shows line outcome_of opens text_of example sides session_of
 many_rings = refl
+
+-- a ring whose device is to poll: bit 8 of its number, and no handle
+polled_ring : shows (sides 8 8) (SetVringKick 1 None)
+    ≡ record {
+      request = (0xc ∷ 0 ∷ 0 ∷ 0 ∷ 9 ∷ 0 ∷ 0 ∷ 0 ∷ 8 ∷ 0 ∷ 0 ∷ 0 ∷ 1 ∷ 1 ∷ replicate 6 0, []);
+      reply = (0xc ∷ 0 ∷ 0 ∷ 0 ∷ 5 ∷ 0 ∷ 0 ∷ 0 ∷ 8 ∷ replicate 11 0, []);
+      result = Some (Ok Nothing);
+      frontend = sides 8 8;
+      session = session_of (sides 8 8);
+      last = false;
+    }
+unfolding shows line outcome_of opens text_of example sides session_of
+polled_ring = refl
 
 inflight : shows (sides 0x1000 0) (GetInflightFd (record { mmap_size = 0; mmap_offset = 0; num_queues = 2; queue_size = 256 }))
     ≡ record {

@@ -12,7 +12,7 @@ use Rattle.vhost_protocol.specs.Ask.{Asked, ask, param, message, config, regions
 use Rattle.vhost_protocol.specs.declared.asked.Shape.TheVariants as shape
 use Rattle.vhost_protocol.specs.Codes.{allows_handles}
 use Rattle.vhost_protocol.specs.Error.{Error}
-use Rattle.vhost_protocol.specs.FrontendCall.{FrontendCall, SetMemTable, SetLogBase, GetConfig, SetConfig, GetSharedObject, PostcopyAckMemRegions, SetHdrFlags, Info, Frontend}
+use Rattle.vhost_protocol.specs.FrontendCall.{FrontendCall, SetMemTable, SetLogBase, SetVringCall, SetVringKick, SetVringErr, GetConfig, SetConfig, GetSharedObject, PostcopyAckMemRegions, SetHdrFlags, Info, Frontend}
 use Rattle.vhost_protocol.specs.Heard.{IsSendable, AsksSendable, SendsWhole}
 use Rattle.vhost_protocol.specs.Session.{is_listen}
 use Rattle.vhost_protocol.specs.Written.{ObjectName, Written, Regions, ConfigBytes, payload_text}
@@ -55,6 +55,12 @@ module _ (H : Type 0) where
   whole-fixed f (GetSharedObject name) fixed = absurd fixed
   whole-fixed f (PostcopyAckMemRegions r) fixed = absurd fixed
   whole-fixed f (SetLogBase base region) fixed = absurd fixed
+  whole-fixed f (SetVringCall i None) fixed = search wholes depth 12
+  whole-fixed f (SetVringCall i (Some h)) fixed = search wholes depth 12
+  whole-fixed f (SetVringKick i None) fixed = search wholes depth 12
+  whole-fixed f (SetVringKick i (Some h)) fixed = search wholes depth 12
+  whole-fixed f (SetVringErr i None) fixed = search wholes depth 12
+  whole-fixed f (SetVringErr i (Some h)) fixed = search wholes depth 12
   whole-fixed f (SetHdrFlags flags) fixed = tt
   whole-fixed f _ fixed = search wholes depth 12
 

@@ -57,7 +57,7 @@ protocol_in features = test (has_bit features PROTOCOL_FEATURES) (InactiveFeatur
 abbrev pub index : Frontend → ℕ → Result ⊤ Error
 index f i = param (nat_lt i f.max_queue_num && nat_lt i (2 ^ 32))
 
--- beside a handle an index has eight bits
+-- beside a handle, or where there could be one, an index has eight bits
 abbrev pub small_index : Frontend → ℕ → Result ⊤ Error
 small_index f i = param (nat_lt i f.max_queue_num && nat_le i 255)
 
@@ -109,6 +109,16 @@ is_usable info = not (info.region.memory_size == 0) && is_some info.handle
 -- a number for a ring
 abbrev pub ring_state : ℕ → ℕ → VhostUserVringState
 ring_state i n = record { index = i; num = n }
+
+-- the number of a ring beside its handle; bit 8 says that there is none
+abbrev pub ring_number : {H : Type 0} → ℕ → Option H → ℕ
+ring_number i None = i + 256
+ring_number i (Some h) = i
+
+-- the handle that is given, if any
+abbrev pub given_handle : {H : Type 0} → Option H → List H
+given_handle None = []
+given_handle (Some h) = h ∷ []
 
 -- a part of configuration space
 abbrev pub config : ℕ → ℕ → ℕ → VhostUserConfig
@@ -171,13 +181,13 @@ ask f (GetVringBase i) = do
   asks f GET_VRING_BASE (RingState (ring_state i 0)) [] shape.VringState
 ask f (SetVringCall i h) = do
   small_index f i
-  sends f SET_VRING_CALL (U64 i) (h ∷ [])
+  sends f SET_VRING_CALL (U64 (ring_number i h)) (given_handle h)
 ask f (SetVringKick i h) = do
   small_index f i
-  sends f SET_VRING_KICK (U64 i) (h ∷ [])
+  sends f SET_VRING_KICK (U64 (ring_number i h)) (given_handle h)
 ask f (SetVringErr i h) = do
   small_index f i
-  sends f SET_VRING_ERR (U64 i) (h ∷ [])
+  sends f SET_VRING_ERR (U64 (ring_number i h)) (given_handle h)
 ask f (SetVringEnable i on) = do
   protocol_in f.acked
   index f i

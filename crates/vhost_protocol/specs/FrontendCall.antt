@@ -39,9 +39,9 @@ pub data FrontendCall (H : Type 0) : Type 0 where
   SetVringBase : (index base : ℕ) → FrontendCall H
   SetVringAddr : (index : ℕ) → VringConfigData → FrontendCall H
   GetVringBase : (index : ℕ) → FrontendCall H
-  SetVringCall : (index : ℕ) → H → FrontendCall H
-  SetVringKick : (index : ℕ) → H → FrontendCall H
-  SetVringErr : (index : ℕ) → H → FrontendCall H
+  SetVringCall : (index : ℕ) → Option H → FrontendCall H
+  SetVringKick : (index : ℕ) → Option H → FrontendCall H
+  SetVringErr : (index : ℕ) → Option H → FrontendCall H
   SetVringEnable : (index : ℕ) → Bool → FrontendCall H
   GetConfig : (offset size flags : ℕ) → (buffer : List ℕ) → FrontendCall H
   SetConfig : (offset flags : ℕ) → (buffer : List ℕ) → FrontendCall H

@@ -116,10 +116,13 @@ fn put_back(call: &mut FrontendCall, handles: &[Option<PlainHandle>]) -> bool {
             region.mmap_handle = meant_or_none(region.mmap_handle, handles);
             true
         }
-        FrontendCall::SetLogFd(handle)
-        | FrontendCall::SetVringCall(_, handle)
+        FrontendCall::SetVringCall(_, handle)
         | FrontendCall::SetVringKick(_, handle)
-        | FrontendCall::SetVringErr(_, handle)
+        | FrontendCall::SetVringErr(_, handle) => {
+            *handle = meant_or_none(*handle, handles);
+            handle.is_some()
+        }
+        FrontendCall::SetLogFd(handle)
         | FrontendCall::SetBackendRequestFd(handle)
         | FrontendCall::SetInflightFd(_, handle)
         | FrontendCall::SetDeviceStateFd(_, _, handle) => match meant(*handle, handles) {

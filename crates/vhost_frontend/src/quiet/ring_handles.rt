@@ -1,5 +1,6 @@
 //! The handles of rings.
 
+ghost use Rattle.std.specs.Prelude.{Some};
 ghost use Rattle.vhost_protocol.specs.FrontendCall as call;
 
 use crate::quiet::{Quiet, acknowledged};
@@ -14,7 +15,7 @@ impl<L: Link> Quiet<L> {
     ///
     /// InvalidParam: the device has no queue of this index, or the index is greater than 255.
     pub fn set_vring_call(&mut self, index: usize, handle: &L::Handle) -> Result<()>
-        ensures { Whole L.event (call.SetVringCall index handle.now) (λ _. call.Nothing) self.old.inner result self.new.inner }
+        ensures { Whole L.event (call.SetVringCall index (Some handle.now)) (λ _. call.Nothing) self.old.inner result self.new.inner }
     {
         let asked = self.inner.ask_set_vring_call(index, handle);
         acknowledged(&mut self.inner, asked)
@@ -24,7 +25,7 @@ impl<L: Link> Quiet<L> {
     ///
     /// InvalidParam: the device has no queue of this index, or the index is greater than 255.
     pub fn set_vring_kick(&mut self, index: usize, handle: &L::Handle) -> Result<()>
-        ensures { Whole L.event (call.SetVringKick index handle.now) (λ _. call.Nothing) self.old.inner result self.new.inner }
+        ensures { Whole L.event (call.SetVringKick index (Some handle.now)) (λ _. call.Nothing) self.old.inner result self.new.inner }
     {
         let asked = self.inner.ask_set_vring_kick(index, handle);
         acknowledged(&mut self.inner, asked)
@@ -34,7 +35,7 @@ impl<L: Link> Quiet<L> {
     ///
     /// InvalidParam: the device has no queue of this index, or the index is greater than 255.
     pub fn set_vring_err(&mut self, index: usize, handle: &L::Handle) -> Result<()>
-        ensures { Whole L.event (call.SetVringErr index handle.now) (λ _. call.Nothing) self.old.inner result self.new.inner }
+        ensures { Whole L.event (call.SetVringErr index (Some handle.now)) (λ _. call.Nothing) self.old.inner result self.new.inner }
     {
         let asked = self.inner.ask_set_vring_err(index, handle);
         acknowledged(&mut self.inner, asked)

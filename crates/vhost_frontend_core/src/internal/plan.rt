@@ -38,6 +38,10 @@ pub enum RecordCall {
     SetVringBase(usize, u16),
     SetVringAddr(usize, VringConfigData),
     GetVringBase(usize),
+    /// Of a ring that has no handle.
+    SetVringCall(usize),
+    SetVringKick(usize),
+    SetVringErr(usize),
     SetVringEnable(usize, bool),
     GetSharedObject(VhostUserSharedMsg),
     GetInflightFd(VhostUserInflight),
@@ -194,6 +198,9 @@ impl<L: Link> FrontendInternal<L> {
             SetVringBase(index, base) => self.sends_ring(SET_VRING_BASE, index, base.into()),
             SetVringAddr(index, config) => self.sends_ring_addr(index, config),
             GetVringBase(index) => self.asks_ring_base(index),
+            SetVringCall(index) => self.sends_bare_ring(SET_VRING_CALL, index),
+            SetVringKick(index) => self.sends_bare_ring(SET_VRING_KICK, index),
+            SetVringErr(index) => self.sends_bare_ring(SET_VRING_ERR, index),
             SetVringEnable(index, enable) => self.sends_ring_enable(index, enable),
             GetSharedObject(name) => Self::once(
                 self.allows(protocol_bit::SHARED_OBJECT, name.is_valid()),
@@ -389,6 +396,15 @@ impl<L: Link> FrontendInternal<L> {
         let session = self.session;
         let index = session.small_index(index)?;
         Ok(Plan::sends(session, request, Record::U64(index)))
+    }
+
+    /// A ring without a handle: bit 8 of its number says so.
+    fn sends_bare_ring(&self, request: FrontendReq, index: usize) -> Result<Plan>
+        ensures { planned_as {H = L.Handle} [] result ≡ ask.small_index (session_of self.now) index and_then ask.sends (session_of self.now) request (payload.U64 (index + 256)) [] }
+    {
+        let session = self.session;
+        let index = session.small_index(index)?;
+        Ok(Plan::sends(session, request, Record::U64(index + 256)))
     }
 
     /// A region to add, once it was tested.

@@ -1,12 +1,12 @@
 //! The handles of rings.
 
-ghost use Rattle.std.specs.Prelude.{◌≡◌, ℕ};
+ghost use Rattle.std.specs.Prelude.{◌≡◌, ℕ, Option, Some, None};
 ghost use Rattle.vhost_protocol.specs.FrontendCall as call;
 ghost use Rattle.vhost_protocol.specs.declared.asked.Awaited.TheVariants.{Nobody};
 
 use crate::asked::Sent;
 use crate::internal::FrontendInternal;
-use crate::internal::plan::HandleCall;
+use crate::internal::plan::{HandleCall, RecordCall};
 use vhost_link::Link;
 use vhost_message::Result;
 
@@ -19,15 +19,25 @@ impl<L: Link> FrontendInternal<L> {
     /// InvalidParam: the device has no queue of this index, or the index is greater than 255.
     pub fn ask_set_vring_call(&mut self, index: usize, handle: &L::Handle) -> Result<Sent>
         requires { MayAsk self.old }
-        ensures { AsksHalf L.event (call.SetVringCall index handle.now) self.old result self.new }
+        ensures { AsksHalf L.event (call.SetVringCall index (Some handle.now)) self.old result self.new }
     {
         self.ask_with(HandleCall::SetVringCall(index), handle)
+    }
+
+    /// The same of a ring that has no handle by which the device tells that it used descriptors.
+    ///
+    /// InvalidParam: the device has no queue of this index, or the index is greater than 255.
+    pub fn ask_set_vring_call_bare(&mut self, index: usize) -> Result<Sent>
+        requires { MayAsk self.old }
+        ensures { AsksHalf L.event (call.SetVringCall index None) self.old result self.new }
+    {
+        self.ask(RecordCall::SetVringCall(index))
     }
 
     /// Takes the acknowledgement, where there is one.
     pub fn take_set_vring_call(&mut self, sent: Sent) -> Result<()>
         requires { IsAwaited sent self.old }
-        ensures taken { (index : ℕ) (handle : L.Handle) → TakesAck L.event (call.SetVringCall index handle) sent self.old result self.new }
+        ensures taken { (index : ℕ) (handle : Option L.Handle) → TakesAck L.event (call.SetVringCall index handle) sent self.old result self.new }
         ensures quiet { awaits self.new ≡ Nobody }
     {
         self.take_done(sent)
@@ -38,15 +48,25 @@ impl<L: Link> FrontendInternal<L> {
     /// InvalidParam: the device has no queue of this index, or the index is greater than 255.
     pub fn ask_set_vring_kick(&mut self, index: usize, handle: &L::Handle) -> Result<Sent>
         requires { MayAsk self.old }
-        ensures { AsksHalf L.event (call.SetVringKick index handle.now) self.old result self.new }
+        ensures { AsksHalf L.event (call.SetVringKick index (Some handle.now)) self.old result self.new }
     {
         self.ask_with(HandleCall::SetVringKick(index), handle)
+    }
+
+    /// The same of a ring that has no handle by which the driver tells that it added descriptors.
+    ///
+    /// InvalidParam: the device has no queue of this index, or the index is greater than 255.
+    pub fn ask_set_vring_kick_bare(&mut self, index: usize) -> Result<Sent>
+        requires { MayAsk self.old }
+        ensures { AsksHalf L.event (call.SetVringKick index None) self.old result self.new }
+    {
+        self.ask(RecordCall::SetVringKick(index))
     }
 
     /// Takes the acknowledgement, where there is one.
     pub fn take_set_vring_kick(&mut self, sent: Sent) -> Result<()>
         requires { IsAwaited sent self.old }
-        ensures taken { (index : ℕ) (handle : L.Handle) → TakesAck L.event (call.SetVringKick index handle) sent self.old result self.new }
+        ensures taken { (index : ℕ) (handle : Option L.Handle) → TakesAck L.event (call.SetVringKick index handle) sent self.old result self.new }
         ensures quiet { awaits self.new ≡ Nobody }
     {
         self.take_done(sent)
@@ -57,15 +77,25 @@ impl<L: Link> FrontendInternal<L> {
     /// InvalidParam: the device has no queue of this index, or the index is greater than 255.
     pub fn ask_set_vring_err(&mut self, index: usize, handle: &L::Handle) -> Result<Sent>
         requires { MayAsk self.old }
-        ensures { AsksHalf L.event (call.SetVringErr index handle.now) self.old result self.new }
+        ensures { AsksHalf L.event (call.SetVringErr index (Some handle.now)) self.old result self.new }
     {
         self.ask_with(HandleCall::SetVringErr(index), handle)
+    }
+
+    /// The same of a ring that has no handle by which the device tells of an error.
+    ///
+    /// InvalidParam: the device has no queue of this index, or the index is greater than 255.
+    pub fn ask_set_vring_err_bare(&mut self, index: usize) -> Result<Sent>
+        requires { MayAsk self.old }
+        ensures { AsksHalf L.event (call.SetVringErr index None) self.old result self.new }
+    {
+        self.ask(RecordCall::SetVringErr(index))
     }
 
     /// Takes the acknowledgement, where there is one.
     pub fn take_set_vring_err(&mut self, sent: Sent) -> Result<()>
         requires { IsAwaited sent self.old }
-        ensures taken { (index : ℕ) (handle : L.Handle) → TakesAck L.event (call.SetVringErr index handle) sent self.old result self.new }
+        ensures taken { (index : ℕ) (handle : Option L.Handle) → TakesAck L.event (call.SetVringErr index handle) sent self.old result self.new }
         ensures quiet { awaits self.new ≡ Nobody }
     {
         self.take_done(sent)

@@ -14,7 +14,7 @@ use crate::internal::FrontendInternal;
 use crate::values::call::{FrontendCall, LogRegion, RegionInfo};
 use crate::values::table::table_of;
 use bitflags::Flags;
-use vhost_link::MemLink;
+use vhost_link::{MemLink, PlainHandle};
 use vhost_message::{
     ByteValued, Error, MAX_MEM_REGIONS, Result, VhostUserHeaderFlag, VhostUserSharedMsg,
 };
@@ -66,9 +66,9 @@ fn ask_half(frontend: &mut FrontendInternal<MemLink>, call: &FrontendCall) -> Re
         FrontendCall::SetVringBase(index, base) => frontend.ask_set_vring_base(*index, *base),
         FrontendCall::SetVringAddr(index, config) => frontend.ask_set_vring_addr(*index, config),
         FrontendCall::GetVringBase(index) => frontend.ask_get_vring_base(*index),
-        FrontendCall::SetVringCall(index, handle) => frontend.ask_set_vring_call(*index, handle),
-        FrontendCall::SetVringKick(index, handle) => frontend.ask_set_vring_kick(*index, handle),
-        FrontendCall::SetVringErr(index, handle) => frontend.ask_set_vring_err(*index, handle),
+        FrontendCall::SetVringCall(index, handle) => ask_ring_call(frontend, *index, handle),
+        FrontendCall::SetVringKick(index, handle) => ask_ring_kick(frontend, *index, handle),
+        FrontendCall::SetVringErr(index, handle) => ask_ring_err(frontend, *index, handle),
         FrontendCall::SetVringEnable(index, enable) => frontend.ask_set_vring_enable(
             *index, *enable,
         ),
@@ -107,6 +107,51 @@ fn ask_object(frontend: &mut FrontendInternal<MemLink>, name: &VhostUserSharedMs
     let mut text = [0; 16];
     name.encode_into(&mut text);
     frontend.ask_get_shared_object(name)
+}
+
+/// The half of SET_VRING_CALL, with a handle or without.
+fn ask_ring_call(
+    frontend: &mut FrontendInternal<MemLink>,
+    index: usize,
+    handle: &Option<PlainHandle>,
+) -> Result<Sent>
+    requires { MayAsk frontend.old }
+    ensures { AsksHalf event (calls.SetVringCall index handle.now) frontend.old result frontend.new }
+{
+    let Some(handle) = handle else {
+        return frontend.ask_set_vring_call_bare(index);
+    };
+    frontend.ask_set_vring_call(index, handle)
+}
+
+/// The half of SET_VRING_KICK, with a handle or without.
+fn ask_ring_kick(
+    frontend: &mut FrontendInternal<MemLink>,
+    index: usize,
+    handle: &Option<PlainHandle>,
+) -> Result<Sent>
+    requires { MayAsk frontend.old }
+    ensures { AsksHalf event (calls.SetVringKick index handle.now) frontend.old result frontend.new }
+{
+    let Some(handle) = handle else {
+        return frontend.ask_set_vring_kick_bare(index);
+    };
+    frontend.ask_set_vring_kick(index, handle)
+}
+
+/// The half of SET_VRING_ERR, with a handle or without.
+fn ask_ring_err(
+    frontend: &mut FrontendInternal<MemLink>,
+    index: usize,
+    handle: &Option<PlainHandle>,
+) -> Result<Sent>
+    requires { MayAsk frontend.old }
+    ensures { AsksHalf event (calls.SetVringErr index handle.now) frontend.old result frontend.new }
+{
+    let Some(handle) = handle else {
+        return frontend.ask_set_vring_err_bare(index);
+    };
+    frontend.ask_set_vring_err(index, handle)
 }
 
 /// The half of SET_LOG_BASE.

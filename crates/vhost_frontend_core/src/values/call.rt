@@ -113,9 +113,10 @@ pub enum FrontendCall {
     SetVringBase(usize, u16),
     SetVringAddr(usize, VringConfigData),
     GetVringBase(usize),
-    SetVringCall(usize, PlainHandle),
-    SetVringKick(usize, PlainHandle),
-    SetVringErr(usize, PlainHandle),
+    /// Where there is no handle, the device polls.
+    SetVringCall(usize, Option<PlainHandle>),
+    SetVringKick(usize, Option<PlainHandle>),
+    SetVringErr(usize, Option<PlainHandle>),
     SetVringEnable(usize, bool),
     /// Offset and size, in bytes, and the buffer that the answer fills.
     GetConfig(u32, u32, VhostUserConfigFlags, Vec<u8>),

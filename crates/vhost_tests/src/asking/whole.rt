@@ -100,13 +100,15 @@ fn ask_device<B: VhostBackend<Handle = PlainHandle>>(
         FrontendCall::GetVringBase(ring) => Ok(FrontendAnswer::Number(
             backend.get_vring_base(rt, *ring)?.into(),
         )),
-        FrontendCall::SetVringCall(ring, handle) => {
+        FrontendCall::SetVringCall(ring, Some(handle)) => {
             done(backend.set_vring_call(rt, *ring, handle))
         }
-        FrontendCall::SetVringKick(ring, handle) => {
+        FrontendCall::SetVringKick(ring, Some(handle)) => {
             done(backend.set_vring_kick(rt, *ring, handle))
         }
-        FrontendCall::SetVringErr(ring, handle) => done(backend.set_vring_err(rt, *ring, handle)),
+        FrontendCall::SetVringErr(ring, Some(handle)) => done(backend.set_vring_err(
+            rt, *ring, handle,
+        )),
         _ => Err(Error::InvalidOperation),
     }
 }
