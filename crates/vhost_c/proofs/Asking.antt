@@ -1,5 +1,5 @@
 -- What became of a call that was asked.
-use Rattle.std.proofs.Common.{◌≡◌, ℕ, false, List, [], ◌++◌, append_assoc, Some, None, Ok, Err, refl, sym, ap, subst, ◌∙◌}
+use Rattle.std.proofs.Common.{◌≡◌, ℕ, false, List, [], ◌∷◌, ◌++◌, replicate, append_assoc, Some, None, Ok, Err, refl, sym, ap, subst, ◌∙◌}
 use Rattle.std.proofs.lemmas.List.{append-nil}
 use Rattle.vhost_message.specs.declared.error.Error as declared
 use Rattle.vhost_message.specs.declared.frontend_req.FrontendReq.{FrontendReq}
@@ -8,11 +8,12 @@ use Rattle.vhost_message.specs.MsgHeader.{fields_of}
 use Rattle.vhost_protocol.specs.Ask.{ask, Sends}
 use Rattle.vhost_protocol.specs.declared.asked.Awaited.{Awaited}
 use Rattle.vhost_protocol.specs.FrontendCall.{FrontendCall, SetHdrFlags, Frontend}
-use Rattle.vhost_protocol.specs.Stream.{Cell}
+use Rattle.vhost_protocol.specs.Stream.{Cell, End, items}
 use Rattle.vhost_protocol.specs.Written.{Written, written_cells, head_of}
 use Rattle.vhost_link.specs.Ends.{Ends}
-use Rattle.vhost_link.specs.Mem.{event, StreamLaw}
+use Rattle.vhost_link.specs.Mem.{event, HandsFront, StreamLaw}
 use Rattle.vhost_link.specs.declared.plain.PlainHandle.{PlainHandle}
+use Rattle.vhost_connection.specs.Memory.{stream, TalksLaw}
 use Rattle.vhost_connection.specs.Talk.{State}
 use Rattle.vhost_frontend_core.specs.Asking as core
 use Rattle.vhost_frontend_core.specs.Asking.{AsksWithRoom, roomy, no_room, goes, fails}
@@ -39,6 +40,18 @@ pub record Went (call : FrontendCall PlainHandle) (f : Frontend) (s : Sent) (old
   pub text : new.link.sent ≡ old.link.sent ++ cells w
   pub header : fields_of s.request ≡ head_of request_number w
   pub awaited : s.awaited ≡ after
+
+-- where nothing was handed on, all is left
+none-handed : (before left : List (Cell PlainHandle)) → HandsFront before [] left → left ≡ before
+none-handed before left h = none h.cells h.order h.front
+  where
+    none : (cells : List (Cell PlainHandle)) → [] ≡ items cells ++ replicate h.ends End → before ≡ cells ++ left → left ≡ before
+    none [] order front = sym front
+    none (c ∷ cells) order front = absurd cc
+
+-- what came is as before, once a request went out
+pub came-before : TalksLaw → (call : FrontendCall PlainHandle) (old new : State Ends PlainHandle) (f f' : Frontend) (before after : Awaited) (s : Sent) → AsksWithRoom event (ask f call) old f before (Ok s) new f' after → stream new ≡ stream old
+came-before law call old new f f' before after s (roomy (goes is g)) = none-handed (stream old) (stream new) (law old new _ g.serves.talks).0
 
 pub went : StreamLaw → (call : FrontendCall PlainHandle) (old new : State Ends PlainHandle) (f f' : Frontend) (before after : Awaited) (s : Sent) → AsksWithRoom event (ask f call) old f before (Ok s) new f' after → Went call f s old new after f'
 went law call old new f f' before after s (roomy (goes {w = w} is g)) = let t = g.serves.talks in record {

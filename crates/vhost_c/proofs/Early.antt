@@ -7,7 +7,7 @@ use Rattle.vhost_protocol.specs.declared.asked.Awaited.TheVariants.{Reply}
 use Rattle.vhost_protocol.specs.declared.asked.Shape.TheVariants as shape
 use Rattle.vhost_c.specs.Incoming.{missing_from}
 use Rattle.vhost_c.specs.Number.{outcome_number}
-use Rattle.vhost_c.specs.Session.{By, some, Asking, Opens, opened, was_open, no_room, Asks, sent, at_once, Takes, kept, failed, nothing_asked, not_yet, missing_for, missing_of}
+use Rattle.vhost_c.specs.Session.{By, some, Asking, Opens, opened, was_open, no_room, Asks, sent, at_once, Takes, kept, failed, other_size, nothing_asked, not_yet, missing_for, missing_of}
 use Rattle.vhost_c.specs.declared.incoming.Incoming.{Incoming}
 use Rattle.vhost_c.specs.declared.refusal.Refusal.{Refusal}
 use Rattle.vhost_c.specs.declared.session.Session.{Session}
@@ -24,8 +24,9 @@ all-missing old new (at_once flags is memory queue asked incoming answer) = absu
 
 -- and then it is too early
 pub too-early : (s s' : Session) (outcome : Result ⊤ Refusal) → missing_of s ≡ 12 → Takes s s' outcome → outcome_number outcome ≡ 105
-too-early s s' _ all (kept zero one fine) = absurd (omega (arith, all, zero))
-too-early s s' _ all (failed zero one done) = absurd (omega (arith, all, zero))
+too-early s s' _ all (kept asked zero sized one names fine) = absurd (omega (arith, all, zero))
+too-early s s' _ all (failed asked zero sized one done) = absurd (omega (arith, all, zero))
+too-early s s' _ all (other_size asked nothing zero other one done) = absurd (omega (arith, all, zero))
 too-early s s' _ all (nothing_asked bare same) = absurd (let zero : missing_of s ≡ 0 = ap (λ a. missing_for a s.incoming) bare in omega (arith, all, zero))
 too-early s s' _ all (not_yet more same) = refl
 
@@ -36,7 +37,7 @@ last : {n : ℕ} {new : Option Session} (s : Session) → missing_of s ≡ 12 �
 last s all (some {s' = t} {outcome = outcome} takes) = too-early s t outcome all takes
 
 next : {n a : ℕ} {o new : Option Session} (s : Session) → By (Asking GetFeatures) (Some s) a o → By (λ s o s'. Takes s s' o) o n new → a ≡ 0 → n ≡ 105
-next s (some {s' = t} {outcome = Ok done} asks) take zero = last t (all-missing s t asks) take
+next s (some {s' = t} {outcome = Ok done} asks) take zero = last t (all-missing s t asks.0) take
 next s (some {outcome = Err r} refused) take zero = absurd (never r zero)
 
 -- a session is opened and asked for the features, and both are answered 0: then it is too early to take

@@ -31,7 +31,7 @@ use Rattle.vhost_frontend_core.specs.declared.asked.Sent.{Sent}
 use Rattle.vhost_frontend_core.specs.declared.internal.FrontendInternal.{FrontendInternal}
 use Rattle.vhost_c.specs.Session.{IsWant}
 
-abbrev End : Type 0
+abbrev pub End : Type 0
 End = State Ends PlainHandle
 
 -- no call of the link is cut, and nothing broke the endpoint but a want of memory

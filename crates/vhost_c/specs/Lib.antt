@@ -6,3 +6,4 @@ pub mod Moving
 pub mod Number
 pub mod Records
 pub mod Session
+pub mod Names

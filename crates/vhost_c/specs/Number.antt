@@ -46,3 +46,9 @@ number refusal.OtherAnswer = 108
 abbrev pub outcome_number : Result ⊤ Refusal → ℕ
 outcome_number (Ok done) = 0
 outcome_number (Err r) = number r
+
+-- the feature that was not active, as a number with its bit, where that is why a call was refused; else 0
+abbrev pub inactive_in : Result ⊤ Refusal → ℕ
+inactive_in (Err (refusal.Protocol (error.InactiveFeature f))) = f.bits
+inactive_in (Err (refusal.Protocol (error.InactiveOperation f))) = f.bits
+inactive_in _ = 0

@@ -46,9 +46,6 @@ config_in c = record { offset = c.offset; size = c.size; flags = c.flags }
 -- a call that gives a descriptor
 abbrev pub call_with : FdAsk → PlainHandle → FrontendCall PlainHandle
 call_with asks.SetLogFd h = calls.SetLogFd h
-call_with (asks.SetVringCall i) h = calls.SetVringCall i h
-call_with (asks.SetVringKick i) h = calls.SetVringKick i h
-call_with (asks.SetVringErr i) h = calls.SetVringErr i h
 call_with asks.SetBackendRequestFd h = calls.SetBackendRequestFd h
 call_with (asks.SetInflightFd i) h = calls.SetInflightFd (inflight_in i) h
 call_with (asks.SetDeviceStateFd d p) h = calls.SetDeviceStateFd (record { direction = direction_number d; phase = phase_number p }) h

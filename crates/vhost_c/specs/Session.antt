@@ -1,28 +1,35 @@
 -- What the calls of a session do.
-use Rattle.std.specs.Prelude.{◌≡◌, ◌<◌, ◌≤◌, ℕ, ℤ, List, [], ◌++◌, length, Option, Some, None, Result, Ok, Err, ⊤, is_some, true}
+use Rattle.std.specs.Prelude.{◌≡◌, ◌<◌, ◌≤◌, ℕ, ℤ, Bool, true, false, ◌||◌, ◌==◌, List, [], ◌++◌, length, Option, Some, None, Result, Ok, Err, ⊤, is_some}
 use Rattle.vhost_message.specs.declared.error.Error as declared
-use Rattle.vhost_message.specs.declared.error.Error.TheVariants.{OutOfMemory, SocketRetry, SocketBroken}
+use Rattle.vhost_message.specs.declared.error.Error.TheVariants.{OutOfMemory, SocketRetry, SocketBroken, InvalidMessage}
 use Rattle.vhost_message.specs.declared.cause.IoCause.TheVariants.{Raw}
 use Rattle.vhost_message.specs.declared.errno.TheConstants.{ENOMEM}
 use Rattle.vhost_message.specs.declared.frontend_req.FrontendReq.{FrontendReq}
 use Rattle.vhost_message.specs.FrontendReq.{request_number}
+use Rattle.vhost_message.specs.Header.{header_of}
 use Rattle.vhost_message.specs.MsgHeader.{fields_of}
 use Rattle.vhost_protocol.specs.Ask.{ask, Sends, Refuses}
 use Rattle.vhost_protocol.specs.declared.asked.Awaited.TheVariants.{Nobody}
 use Rattle.vhost_protocol.specs.Error.{seen}
 use Rattle.vhost_protocol.specs.FrontendCall.{FrontendCall, SetHdrFlags, Frontend, new_frontend}
-use Rattle.vhost_protocol.specs.Stream.{Cell}
+use Rattle.vhost_protocol.specs.Stream.{Cell, first_handles}
 use Rattle.vhost_protocol.specs.Written.{Written, written_cells, head_of}
 use Rattle.vhost_link.specs.Ends.{Ends}
 use Rattle.vhost_link.specs.declared.plain.PlainHandle.{PlainHandle}
+use Rattle.vhost_connection.specs.Memory.{stream}
 use Rattle.vhost_connection.specs.Talk.{State}
+use Rattle.vhost_frontend_core.specs.Awaiting.{MayAwait}
 use Rattle.vhost_frontend_core.specs.Frontend.{endpoint_of, session_of, awaits}
+use Rattle.vhost_frontend_core.specs.Kept.{IsKeptFor}
 use Rattle.vhost_frontend_core.specs.Values.{call_of, answer_of}
 use Rattle.vhost_frontend_core.specs.ValueHalves.{TakesResult}
+use Rattle.vhost_frontend_core.specs.declared.asked.Sent.{Sent}
+use Rattle.vhost_frontend_core.specs.declared.internal.FrontendInternal.{FrontendInternal}
 use Rattle.vhost_frontend_core.specs.declared.values.answer.FrontendAnswer.{FrontendAnswer}
 use Rattle.vhost_frontend_core.specs.declared.values.answer.FrontendAnswer.TheVariants.{Done, Failed}
-use Rattle.vhost_c.specs.Incoming.{missing_from, Adds}
-use Rattle.vhost_c.specs.Number.{outcome_number}
+use Rattle.vhost_c.specs.Incoming.{missing_from, is_sized, Adds}
+use Rattle.vhost_c.specs.Names.{Names}
+use Rattle.vhost_c.specs.Number.{outcome_number, inactive_in}
 use Rattle.vhost_c.specs.Moving.{HandsOut, TakesIn}
 use Rattle.vhost_c.specs.declared.incoming.Incoming.{Incoming}
 use Rattle.vhost_c.specs.declared.refusal.Refusal.{Refusal}
@@ -34,13 +41,17 @@ use Rattle.vhost_c.specs.declared.session.Session.{Session}
 abbrev pub queued : Session → List (Cell PlainHandle)
 queued s = s.outgoing.link.pending ++ (endpoint_of s.frontend).link.sent
 
+-- an endpoint for which nothing came
+abbrev pub emptied : State Ends PlainHandle → State Ends PlainHandle
+emptied e = record e { link = record e.link { pending = [] }; ahead = [] }
+
 -- what came, and was not taken
 abbrev pub arrived : Session → List (Cell PlainHandle)
-arrived s = (endpoint_of s.frontend).link.pending
+arrived s = stream (endpoint_of s.frontend)
 
 -- the frontend's end of the connection, but for what is to be sent and what came
 abbrev pub end_of : Session → State Ends PlainHandle
-end_of s = record (endpoint_of s.frontend) { link = record (endpoint_of s.frontend).link { pending = []; sent = [] } }
+end_of s = record (endpoint_of s.frontend) { link = record (endpoint_of s.frontend).link { pending = []; sent = [] }; ahead = [] }
 
 -- what is remembered of the device
 abbrev pub remembers : Session → Frontend
@@ -60,12 +71,21 @@ abbrev pub missing_at : Option Session → ℕ
 missing_at None = 0
 missing_at (Some s) = missing_of s
 
+-- whether what came announces an answer of the size that the call's has
+abbrev pub is_sized_of : CallAsked → Incoming → Bool
+is_sized_of asked i = is_sized (call_of asked.call) asked.sent.awaited (header_of i.head).size
+
+-- the same of the last call that was asked, where there is a session
+abbrev pub inactive_at : Option Session → ℕ
+inactive_at None = 0
+inactive_at (Some s) = s.inactive
+
 -- What an endpoint sent is behind what is to be sent, and nothing else changed.
 pub record Collects (old new : State Ends PlainHandle) (before after : List (Cell PlainHandle)) : Type 0 where
   pub given : new ≡ record old { link = record old.link { sent = [] } }
   pub got : after ≡ before ++ old.link.sent
 
--- A call that was sent is kept until its answer is taken, with the header of its request and with what is awaited, of which nothing came yet.
+-- A call that was sent is kept until its answer is taken, with the header of its request and with what is awaited. Of its answer nothing came yet, and nothing that came before waits.
 pub record Keeps (call : FrontendCall PlainHandle) (w : Written FrontendReq PlainHandle) (s : Session) : Type 0 where
   pub kept : CallAsked
   pub is : s.asked ≡ Some kept
@@ -73,6 +93,7 @@ pub record Keeps (call : FrontendCall PlainHandle) (w : Written FrontendReq Plai
   pub header : fields_of kept.sent.request ≡ head_of request_number w
   pub awaited : kept.sent.awaited ≡ awaits s.frontend
   pub nothing_came : s.incoming.count ≡ 0
+  pub nothing_waits : arrived s ≡ []
 
 -- A call was asked: its request is behind what was to be sent before, what is remembered and awaited is the definitions', and it is the call that is kept; or nothing is sent for it, and it was done.
 pub data Asks (call : FrontendCall PlainHandle) (old new : Session) : Type 0 where
@@ -110,10 +131,14 @@ pub data Refused (call : FrontendCall PlainHandle) (s : Session) : Refusal → T
   busy : is_some s.asked ≡ true → Refused call s NotTaken
   fails : {e : declared.Error} → Fails call (remembers s) e → Refused call s (Protocol e)
 
--- What a session answers to an ask.
+-- What becomes of a call.
+abbrev pub Becomes : FrontendCall PlainHandle → Session → Result ⊤ Refusal → Session → Type 0
+Becomes call s (Ok done) s' = Asks call s s'
+Becomes call s (Err r) s' = Refused call s r × Stays s s'
+
+-- What a session answers to an ask; which feature was not active is kept.
 abbrev pub Asking : FrontendCall PlainHandle → Session → Result ⊤ Refusal → Session → Type 0
-Asking call s (Ok done) s' = Asks call s s'
-Asking call s (Err r) s' = Refused call s r × Stays s s'
+Asking call s outcome s' = Becomes call s outcome s' × (s'.inactive ≡ inactive_in outcome)
 
 -- A call of C, by the number that it answers: there is no session, or what it does to the session is this.
 pub data By (does : Session → Result ⊤ Refusal → Session → Type 0) : Option Session → ℕ → Option Session → Type 0 where
@@ -129,24 +154,39 @@ abbrev pub AsksWith : Option PlainHandle → (PlainHandle → FrontendCall Plain
 AsksWith (Some h) call old n new = AsksBy (call h) old n new
 AsksWith None call old n new = (n ≡ 1) × (new ≡ old)
 
+-- the flags of a request that may be chosen: none, or that which asks for an acknowledgement
+abbrev pub is_header_flag : ℕ → Bool
+is_header_flag n = n == 0 || n == 8
+
+-- An ask whose argument is allowed; else the call is refused as one with an argument that is not.
+abbrev pub AsksAllowed : Bool → FrontendCall PlainHandle → Option Session → ℕ → Option Session → Type 0
+AsksAllowed true call old n new = AsksBy call old n new
+AsksAllowed false call old n new = (n ≡ 1) × (new ≡ old)
+
 -- An ask with an argument that a number names: where it names none, the call is refused as one with an argument that is not allowed.
 abbrev pub AsksNamed : {A : Type 0} → Result A ⊤ → (A → Option Session → ℕ → Option Session → Type 0) → Option Session → ℕ → Option Session → Type 0
 AsksNamed (Ok a) asks old n new = asks a old n new
 AsksNamed (Err unnamed) asks old n new = (n ≡ 1) × (new ≡ old)
 
--- The answer of the call that was asked was taken, of what came: this is the answer, by what was awaited and the header of the request, and nothing is asked or awaited any more.
-pub record TakesOne (old : Session) (answer : FrontendAnswer) (new : Session) : Type 0 where
-  pub asked : CallAsked
+-- The answer of a call is taken at this end, of what its half that asks sent, and nothing is awaited any more.
+pub record TakesAt (call : FrontendCall PlainHandle) (sent : Sent) (end : State Ends PlainHandle) (f : Frontend) (answer : FrontendAnswer) (new : FrontendInternal Ends PlainHandle) : Type 0 where
+  pub taken : MayAwait call sent.awaited → IsKeptFor call sent.awaited sent.kept → TakesResult call sent.awaited (fields_of sent.request) end f (answer_of answer) (endpoint_of new) (session_of new)
+  pub quiet : awaits new ≡ Nobody
+
+-- The answer of the call that was asked was taken, of what waits at this end: this is the answer, by what was awaited and the header of the request, and nothing is asked or awaited any more.
+pub record TakesOne (asked : CallAsked) (end : State Ends PlainHandle) (old : Session) (answer : FrontendAnswer) (new : Session) : Type 0 where
   pub was : old.asked ≡ Some asked
-  pub taken : TakesResult (call_of asked.call) asked.sent.awaited (fields_of asked.sent.request) (endpoint_of old.frontend) (remembers old) (answer_of answer) (endpoint_of new.frontend) (remembers new)
+  pub taken : TakesResult (call_of asked.call) asked.sent.awaited (fields_of asked.sent.request) end (remembers old) (answer_of answer) (endpoint_of new.frontend) (remembers new)
   pub now : new.asked ≡ None
   pub quiet : awaits new.frontend ≡ Nobody
   pub outgoing : new.outgoing ≡ old.outgoing
+  pub inactive : new.inactive ≡ old.inactive
 
--- What taking answers: the answer is kept, and is no error; or it is this error; or nothing was asked, or bytes of the answer are missing, and nothing changed.
+-- What taking answers: the answer is kept, is no error, and names no descriptor but the one that came with its first byte; or it is this error; or it announces another size than the call's answer has, and what is taken is the answer of a device that sent nothing; or nothing was asked, or bytes of the answer are missing, and nothing changed.
 pub data Takes (old new : Session) : Result ⊤ Refusal → Type 0 where
-  kept : missing_of old ≡ 0 → TakesOne old new.answer new → ((e : declared.Error) → ¬ (new.answer ≡ Failed e)) → Takes old new (Ok tt)
-  failed : {e : declared.Error} → missing_of old ≡ 0 → TakesOne old (Failed e) new → new.answer ≡ Done → Takes old new (Err (Protocol e))
+  kept : (asked : CallAsked) → missing_of old ≡ 0 → is_sized_of asked old.incoming ≡ true → TakesOne asked (endpoint_of old.frontend) old new.answer new → Names (first_handles (arrived old)) (answer_of new.answer) → ((e : declared.Error) → ¬ (new.answer ≡ Failed e)) → Takes old new (Ok tt)
+  failed : (asked : CallAsked) {e : declared.Error} → missing_of old ≡ 0 → is_sized_of asked old.incoming ≡ true → TakesOne asked (endpoint_of old.frontend) old (Failed e) new → new.answer ≡ Done → Takes old new (Err (Protocol e))
+  other_size : (asked : CallAsked) (nothing : FrontendAnswer) → missing_of old ≡ 0 → is_sized_of asked old.incoming ≡ false → TakesOne asked (emptied (endpoint_of old.frontend)) old nothing new → new.answer ≡ Done → Takes old new (Err (Protocol InvalidMessage))
   nothing_asked : old.asked ≡ None → new ≡ old → Takes old new (Err NothingAsked)
   not_yet : 0 < missing_of old → new ≡ old → Takes old new (Err NotYet)
 
@@ -157,6 +197,7 @@ pub record Waits (old new : Session) : Type 0 where
   pub memory : remembers new ≡ remembers old
   pub asked : new.asked ≡ old.asked
   pub answer : new.answer ≡ old.answer
+  pub inactive : new.inactive ≡ old.inactive
 
 -- what a session answers to bytes of its answer: no more may come than are missing
 abbrev pub Receiving : List ℕ → List ℤ → Session → Result ⊤ Refusal → Session → Type 0
@@ -168,6 +209,7 @@ pub record Hands (old new : Session) : Type 0 where
   pub came : arrived new ≡ arrived old
   pub end : end_of new ≡ end_of old
   pub rest : Rests old new
+  pub inactive : new.inactive ≡ old.inactive
 
 -- what it answers where it is to hand out what is to be sent
 abbrev pub Sending : List ℕ → List ℤ → ℕ × ℕ → Session → Result ⊤ Refusal → Session → Type 0

@@ -6,7 +6,7 @@ ghost use Rattle.vhost_c.specs.Number.{error_number};
 ghost use Rattle.vhost_protocol.specs.FrontendCall as calls;
 ghost use Rattle.vhost_frontend_core.specs.Values.{call_of};
 ghost use Rattle.vhost_c.specs.Records.{vring_in, inflight_in, info_in};
-ghost use Rattle.vhost_c.specs.Session.{AsksBy, AsksNamed, AsksUnless};
+ghost use Rattle.vhost_c.specs.Session.{AsksBy, AsksAllowed, AsksNamed, AsksUnless, is_header_flag};
 ghost use Rattle.vhost_message.specs.FrontendReq.{request_at};
 
 use crate::holder::Holder;
@@ -20,6 +20,9 @@ use vhost_message::{
     Error, FrontendReq, MAX_MSG_SIZE, VhostUserConfigFlags, VhostUserHeaderFlag,
     VhostUserProtocolFeatures, VhostUserSharedMsg,
 };
+
+/// The flag of a request that asks for an acknowledgement.
+const NEED_REPLY: u32 = 8;
 
 /// Asks a session, if there is one.
 pub(crate) fn asked(alloc: Global, holder: &mut Holder, call: FrontendCall) -> u32
@@ -42,11 +45,15 @@ pub(crate) fn refused(error: Error) -> u32
     number_of(Err(Refusal::Protocol(error)))
 }
 
-/// The flags of each request from now on. Nothing is sent for it, and nothing to be taken.
+/// The flags of each request from now on: none, or that which asks for an acknowledgement. Nothing is sent for it, and nothing
+/// to be taken.
 #[unsafe(no_mangle)]
 pub extern "C" fn covretin_set_hdr_flags(alloc: Global, session: &mut Holder, flags: u32) -> u32
-    ensures { AsksBy (calls.SetHdrFlags flags) session.old.session result session.new.session }
+    ensures { AsksAllowed (is_header_flag flags) (calls.SetHdrFlags flags) session.old.session result session.new.session }
 {
+    if flags != 0 && flags != NEED_REPLY {
+        return refused(Error::InvalidParam);
+    }
     let flags = VhostUserHeaderFlag::from_bits_retain(flags);
     asked(alloc, session, FrontendCall::SetHdrFlags(flags))
 }
@@ -303,6 +310,32 @@ pub extern "C" fn covretin_ask_get_config(
     }
     let flags = VhostUserConfigFlags::from_bits_retain(flags);
     match Vec::from_elem(alloc, 0u8, size as usize) {
+        Ok(bytes) => asked(
+            alloc,
+            session,
+            FrontendCall::GetConfig(offset, size, flags, bytes),
+        ),
+        Err(_) => refused(Error::OutOfMemory),
+    }
+}
+
+/// The same, and sends these bytes with the request, as many as are asked for.
+#[unsafe(no_mangle)]
+pub extern "C" fn covretin_ask_get_config_bytes(
+    alloc: Global,
+    session: &mut Holder,
+    offset: u32,
+    flags: u32,
+    bytes: &[u8],
+) -> u32
+    ensures { AsksUnless (MAX_MSG_SIZE < length bytes.now) (calls.GetConfig offset (length bytes.now) flags bytes.now) session.old.session result session.new.session }
+{
+    if bytes.len() > MAX_MSG_SIZE {
+        return refused(Error::InvalidParam);
+    }
+    let flags = VhostUserConfigFlags::from_bits_retain(flags);
+    let size = bytes.len() as u32;
+    match Vec::from_slice(alloc, bytes) {
         Ok(bytes) => asked(
             alloc,
             session,

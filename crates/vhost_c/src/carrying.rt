@@ -5,12 +5,13 @@ ghost use Rattle.vhost_message.specs.declared.error.Error.TheVariants.{OutOfMemo
 ghost use Rattle.vhost_message.specs.declared.limits.TheConstants.{MAX_ATTACHED_FD_ENTRIES};
 ghost use Rattle.vhost_protocol.specs.Stream.{carrying};
 ghost use Rattle.vhost_connection.specs.State.{state};
-ghost use Rattle.vhost_frontend_core.specs.Frontend.{endpoint_of, session_of, awaits};
-ghost use Rattle.vhost_c.specs.Session.{Collects};
+ghost use Rattle.vhost_frontend_core.specs.Frontend.{endpoint_of, session_of, awaits, IsAwaited};
+ghost use Rattle.vhost_frontend_core.specs.Values.{call_of};
+ghost use Rattle.vhost_c.specs.Session.{Collects, TakesAt, emptied};
 
 use std::alloc::Global;
 use vhost_connection::Endpoint;
-use vhost_frontend_core::FrontendInternal;
+use vhost_frontend_core::{FrontendAnswer, FrontendCall, FrontendInternal, Sent, take};
 use vhost_link::{MemLink, PlainHandle};
 use vhost_message::{Error, FrontendReq, Result, VhostUserMsgHeader};
 
@@ -52,6 +53,21 @@ pub(crate) fn forget(alloc: Global, frontend: &mut FrontendInternal<MemLink>)
     let _ = carry_out(frontend.endpoint_mut(), &mut nowhere);
 }
 
+/// Forgets what came for a frontend and was not taken.
+pub(crate) fn forget_arrived(frontend: &mut FrontendInternal<MemLink>)
+    ensures forgotten { endpoint_of frontend.new ≡ emptied (endpoint_of frontend.old) }
+    ensures rest { (session_of frontend.new ≡ session_of frontend.old) × (awaits frontend.new ≡ awaits frontend.old) }
+{
+    empty(frontend.endpoint_mut());
+}
+
+fn empty(end: &mut End)
+    ensures { state end.new ≡ emptied (state end.old) }
+{
+    end.link().forget();
+    end.forget_ahead();
+}
+
 /// Gives a frontend what came for it.
 ///
 /// OutOfMemory: a growth was refused, and nothing changed.
@@ -77,4 +93,17 @@ fn push(end: &mut End, bytes: &[u8], handles: &[PlainHandle]) -> Result<()>
         Ok(()) => Ok(()),
         Err(_) => Err(Error::OutOfMemory),
     }
+}
+
+/// Takes the answer of a device that sent nothing: what came is forgotten.
+pub(crate) fn take_nothing(
+    frontend: &mut FrontendInternal<MemLink>,
+    call: &FrontendCall,
+    sent: Sent,
+) -> FrontendAnswer
+    requires { IsAwaited sent frontend.old }
+    ensures { TakesAt (call_of call.now) sent (emptied (endpoint_of frontend.old)) (session_of frontend.old) result frontend.new }
+{
+    forget_arrived(frontend);
+    take(frontend, call, sent)
 }

@@ -1,15 +1,16 @@
 //! Clients of the exports: what follows of their contracts alone.
 
-ghost use Rattle.std.specs.Prelude.{◌≡◌, ◌∷◌, [], None};
+ghost use Rattle.std.specs.Prelude.{◌≡◌, ◌⊎◌, ◌∷◌, [], None, negsuc};
 ghost use Rattle.std.specs.Option.{IsSomeAnd};
 ghost use Rattle.vhost_protocol.specs.Stream.{bytes};
 ghost use Rattle.vhost_c.specs.Number.{number};
 ghost use Rattle.vhost_c.specs.Session.{queued};
 ghost use Rattle.vhost_c.specs.declared.refusal.Refusal.TheVariants.{NotYet};
 
-use crate::asks::covretin_ask_get_features;
+use crate::answers::covretin_answer_fd;
+use crate::asks::{covretin_ask_get_features, covretin_ask_postcopy_advise};
 use crate::holder::Holder;
-use crate::moving::covretin_take;
+use crate::moving::{covretin_receive, covretin_take};
 use crate::opening::covretin_open;
 use std::alloc::Global;
 
@@ -31,4 +32,22 @@ pub fn takes_too_early(alloc: Global, session: &mut Holder) -> (u32, u32, u32)
     let asked = covretin_ask_get_features(alloc, session);
     let taken = covretin_take(alloc, session);
     (opened, asked, taken)
+}
+
+/// A descriptor is asked for, and an answer comes with these. Where all is answered 0, they are one, which the answer names, or it
+/// names none, whatever came to the session before.
+pub fn names_what_came(
+    alloc: Global,
+    session: &mut Holder,
+    text: &[u8],
+    fds: &[i32],
+    named: &mut i32,
+) -> (u32, u32, u32, u32)
+    ensures { result.0 ≡ 0 → result.1 ≡ 0 → result.2 ≡ 0 → result.3 ≡ 0 → (fds.now ≡ named.new ∷ []) ⊎ (named.new ≡ negsuc 0) }
+{
+    let asked = covretin_ask_postcopy_advise(alloc, session);
+    let received = covretin_receive(alloc, session, text, fds);
+    let taken = covretin_take(alloc, session);
+    let read = covretin_answer_fd(alloc, session, named);
+    (asked, received, taken, read)
 }

@@ -6,7 +6,7 @@ ghost use Rattle.vhost_frontend_core.specs.Values.{call_of};
 ghost use Rattle.vhost_c.specs.Records.{handle_in, log_in, call_with};
 ghost use Rattle.vhost_c.specs.Session.{AsksBy, AsksWith, AsksNamed};
 ghost use Rattle.vhost_message.specs.Transfer.{direction_at, phase_at};
-ghost use Rattle.vhost_c.specs.declared.fd_asks.FdAsk.TheVariants.{SetLogFd, SetVringCall, SetVringKick, SetVringErr, SetBackendRequestFd, SetInflightFd, SetDeviceStateFd};
+ghost use Rattle.vhost_c.specs.declared.fd_asks.FdAsk.TheVariants.{SetLogFd, SetBackendRequestFd, SetInflightFd, SetDeviceStateFd};
 
 use crate::asks::{asked, refused};
 use crate::holder::Holder;
@@ -20,9 +20,6 @@ use vhost_message::{Error, VhostTransferStateDirection, VhostTransferStatePhase}
 #[derive(Drop)]
 pub(crate) enum FdAsk {
     SetLogFd,
-    SetVringCall(usize),
-    SetVringKick(usize),
-    SetVringErr(usize),
     SetBackendRequestFd,
     SetInflightFd(Inflight),
     SetDeviceStateFd(VhostTransferStateDirection, VhostTransferStatePhase),
@@ -35,9 +32,6 @@ impl FdAsk {
     {
         match self {
             FdAsk::SetLogFd => FrontendCall::SetLogFd(handle),
-            FdAsk::SetVringCall(index) => FrontendCall::SetVringCall(index, handle),
-            FdAsk::SetVringKick(index) => FrontendCall::SetVringKick(index, handle),
-            FdAsk::SetVringErr(index) => FrontendCall::SetVringErr(index, handle),
             FdAsk::SetBackendRequestFd => FrontendCall::SetBackendRequestFd(handle),
             FdAsk::SetInflightFd(inflight) => FrontendCall::SetInflightFd(inflight.data(), handle),
             FdAsk::SetDeviceStateFd(direction, phase) => {
@@ -67,7 +61,7 @@ pub extern "C" fn covretin_ask_set_log_fd(alloc: Global, session: &mut Holder, f
     asked_with(alloc, session, FdAsk::SetLogFd, fd)
 }
 
-/// Gives the descriptor by which the device interrupts for a ring.
+/// Gives the descriptor by which the device interrupts for a ring; negative: none, and the driver polls.
 #[unsafe(no_mangle)]
 pub extern "C" fn covretin_ask_set_vring_call(
     alloc: Global,
@@ -75,12 +69,13 @@ pub extern "C" fn covretin_ask_set_vring_call(
     index: usize,
     fd: i32,
 ) -> u32
-    ensures { AsksWith (handle_in fd) (call_with (SetVringCall index)) session.old.session result session.new.session }
+    ensures { AsksBy (calls.SetVringCall index (handle_in fd)) session.old.session result session.new.session }
 {
-    asked_with(alloc, session, FdAsk::SetVringCall(index), fd)
+    let call = FrontendCall::SetVringCall(index, handle_of(fd));
+    asked(alloc, session, call)
 }
 
-/// Gives the descriptor by which a ring is kicked.
+/// Gives the descriptor by which a ring is kicked; negative: none, and the device polls.
 #[unsafe(no_mangle)]
 pub extern "C" fn covretin_ask_set_vring_kick(
     alloc: Global,
@@ -88,12 +83,13 @@ pub extern "C" fn covretin_ask_set_vring_kick(
     index: usize,
     fd: i32,
 ) -> u32
-    ensures { AsksWith (handle_in fd) (call_with (SetVringKick index)) session.old.session result session.new.session }
+    ensures { AsksBy (calls.SetVringKick index (handle_in fd)) session.old.session result session.new.session }
 {
-    asked_with(alloc, session, FdAsk::SetVringKick(index), fd)
+    let call = FrontendCall::SetVringKick(index, handle_of(fd));
+    asked(alloc, session, call)
 }
 
-/// Gives the descriptor by which the device reports an error of a ring.
+/// Gives the descriptor by which the device reports an error of a ring; negative: none.
 #[unsafe(no_mangle)]
 pub extern "C" fn covretin_ask_set_vring_err(
     alloc: Global,
@@ -101,9 +97,10 @@ pub extern "C" fn covretin_ask_set_vring_err(
     index: usize,
     fd: i32,
 ) -> u32
-    ensures { AsksWith (handle_in fd) (call_with (SetVringErr index)) session.old.session result session.new.session }
+    ensures { AsksBy (calls.SetVringErr index (handle_in fd)) session.old.session result session.new.session }
 {
-    asked_with(alloc, session, FdAsk::SetVringErr(index), fd)
+    let call = FrontendCall::SetVringErr(index, handle_of(fd));
+    asked(alloc, session, call)
 }
 
 /// Gives the socket on which the device may ask.

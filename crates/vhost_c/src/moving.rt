@@ -1,7 +1,7 @@
 //! What a session sends goes out, what came for it is taken in, and its answers are taken.
 
 ghost use Rattle.std.specs.Prelude.{◌≡◌};
-ghost use Rattle.vhost_c.specs.Session.{By, Sending, Receiving, Takes, missing_at};
+ghost use Rattle.vhost_c.specs.Session.{By, Sending, Receiving, Takes, missing_at, inactive_at};
 
 use crate::holder::Holder;
 use crate::refusal::{Refusal, number_of};
@@ -48,6 +48,20 @@ pub extern "C" fn covretin_missing(alloc: Global, session: &mut Holder) -> usize
     let missing = held.missing();
     session.put(held);
     missing
+}
+
+/// The feature that was not active, as a number with its bit, where the call that was asked last was refused for that; else 0.
+#[unsafe(no_mangle)]
+pub extern "C" fn covretin_inactive(alloc: Global, session: &mut Holder) -> u64
+    ensures inactive { result ≡ inactive_at session.old.session }
+    ensures same { session.new.session ≡ session.old.session }
+{
+    let Some(held) = session.take(alloc) else {
+        return 0;
+    };
+    let inactive = held.inactive();
+    session.put(held);
+    inactive
 }
 
 /// Takes in bytes of the answer, with the descriptors that came with the first of them.

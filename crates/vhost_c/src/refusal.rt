@@ -1,8 +1,9 @@
 //! Why a call from C was refused, as a number.
 
 ghost use Rattle.std.specs.Prelude.{◌≡◌};
-ghost use Rattle.vhost_c.specs.Number.{error_number as number_in, number, outcome_number};
+ghost use Rattle.vhost_c.specs.Number.{error_number as number_in, number, outcome_number, inactive_in};
 
+use bitflags::Flags;
 use vhost_message::Error;
 
 /// Why a call from C was refused.
@@ -96,5 +97,16 @@ pub(crate) fn number_of(outcome: Result<(), Refusal>) -> u32
     match outcome {
         Ok(()) => 0,
         Err(refusal) => refusal.number(),
+    }
+}
+
+/// The feature that was not active, where that is why a call was refused; else 0.
+pub(crate) fn inactive_of(outcome: &Result<(), Refusal>) -> u64
+    ensures { result ≡ inactive_in outcome.now }
+{
+    match outcome {
+        Err(Refusal::Protocol(Error::InactiveFeature(feature))) => feature.bits(),
+        Err(Refusal::Protocol(Error::InactiveOperation(feature))) => feature.bits(),
+        _ => 0,
     }
 }

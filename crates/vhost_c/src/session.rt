@@ -10,12 +10,13 @@ ghost use Rattle.vhost_frontend_core.specs.Kept.{IsKeptFor};
 ghost use Rattle.vhost_frontend_core.specs.Values.{call_of};
 ghost use Rattle.vhost_c.specs.Awaiting.{awaited_of};
 
-use crate::carrying::{collect, forget, give};
+use crate::carrying::{collect, forget, forget_arrived, give, take_nothing};
 use crate::incoming::Incoming;
 use crate::outgoing::Outgoing;
 use crate::records::handles_of;
-use crate::refusal::Refusal;
+use crate::refusal::{Refusal, inactive_of};
 use std::alloc::Global;
+use vhost_connection::talks_law;
 use vhost_frontend_core::{
     Awaited, FrontendAnswer, FrontendCall, FrontendInternal, Sent, ask, take,
 };
@@ -45,6 +46,8 @@ pub struct Session {
     asked: Option<Asked>,
     incoming: Incoming,
     answer: FrontendAnswer,
+    /// The feature that was not active, where the call that was asked last was refused for that; else 0.
+    inactive: u64,
     alloc: Global,
     ghost uncut: { (endpoint_of frontend).link.script ≡ [] },
     ghost broken: { ForSome (endpoint_of frontend).broken (λ c. c ≡ Raw ENOMEM) },
@@ -54,7 +57,7 @@ pub struct Session {
 impl Session {
     ghost use Rattle.vhost_message.specs.declared.limits.TheConstants.{MAX_MSG_TEXT};
     ghost use Rattle.vhost_c.specs.Moving.{HandsOut};
-    ghost use Rattle.vhost_c.specs.Session.{IsNew, Asks, Asking, Stays, Hands, Fails, Receiving, Takes, queued, remembers, missing_of};
+    ghost use Rattle.vhost_c.specs.Session.{IsNew, Asks, Asking, Becomes, Stays, Hands, Fails, Receiving, Takes, queued, remembers, missing_of};
 
     /// A new session with a device of at most so many queues.
     ///
@@ -73,6 +76,7 @@ impl Session {
                 asked: None,
                 incoming: Incoming::new(),
                 answer: FrontendAnswer::Done,
+                inactive: 0,
                 alloc,
             }),
             Err(error) => Err(error),
@@ -87,27 +91,42 @@ impl Session {
     pub(crate) fn ask(&mut self, call: FrontendCall) -> Outcome<()>
         ensures { Asking (call_of call) self.old result self.new }
     {
+        let outcome = self.ask_in_turn(call);
+        self.inactive = inactive_of(&outcome);
+        outcome
+    }
+
+    /// The same, but for the feature that was not active.
+    fn ask_in_turn(&mut self, call: FrontendCall) -> Outcome<()>
+        ensures { Becomes (call_of call) self.old result self.new }
+    {
         if self.asked.is_some() {
             return Err(Refusal::NotTaken);
         }
         match collect(&mut self.frontend, &mut self.outgoing.link) {
-            Ok(()) => match self.ask_now(call) {
-                Ok(()) => Ok(()),
-                Err(error) => Err(Refusal::Protocol(error)),
-            },
+            Ok(()) => {
+                forget_arrived(&mut self.frontend);
+                match self.ask_now(call) {
+                    Ok(()) => Ok(()),
+                    Err(error) => Err(Refusal::Protocol(error)),
+                }
+            }
             Err(error) => Err(Refusal::Protocol(error)),
         }
     }
 
-    /// Asks where nothing is asked, and the frontend's link has nothing that is to be sent.
+    /// Asks where nothing is asked, the frontend's link has nothing that is to be sent, and nothing that came waits.
     fn ask_now(&mut self, call: FrontendCall) -> std::result::Result<(), Error>
         requires free { self.old.asked ≡ None }
         requires unsent { (endpoint_of self.old.frontend).link.sent ≡ [] }
+        requires empty { (endpoint_of self.old.frontend).link.pending ≡ [] }
+        requires none_ahead { (endpoint_of self.old.frontend).ahead ≡ [] }
         ensures asked { IfOk result (λ _. Asks (call_of call) self.old self.new) }
         ensures refused { IfErr result (λ _. Stays self.old self.new) }
         ensures reason { IfErr result (λ e. Fails (call_of call) (remembers self.old) e) }
     {
         stream_law();
+        talks_law();
         match ask(&mut self.frontend, &call) {
             Ok(Some(sent)) => {
                 self.incoming = Incoming::new();
@@ -188,8 +207,9 @@ impl Session {
 
     /// Takes the answer of the call that was asked.
     ///
-    /// NothingAsked: no call awaits to be taken. NotYet: bytes are missing. After both, nothing changed. The errors of the
-    /// call; after these, nothing is asked any more.
+    /// NothingAsked: no call awaits to be taken. NotYet: bytes are missing. After both, nothing changed. InvalidMessage: the
+    /// answer has another size than this call's, and nothing of it was read. The errors of the call. After these, nothing is
+    /// asked any more.
     pub(crate) fn take(&mut self) -> Outcome<()>
         ensures { Takes self.old self.new result }
     {
@@ -197,8 +217,14 @@ impl Session {
             return Err(Refusal::NotYet);
         }
         stream_law();
+        talks_law();
         match self.asked.take() {
             Some(Asked { call, sent }) => {
+                if !self.incoming.is_sized(&call, sent.awaited()) {
+                    let _nothing = take_nothing(&mut self.frontend, &call, sent);
+                    self.answer = FrontendAnswer::Done;
+                    return Err(Refusal::Protocol(Error::InvalidMessage));
+                }
                 match take(&mut self.frontend, &call, sent) {
                     FrontendAnswer::Failed(error) => {
                         self.answer = FrontendAnswer::Done;
@@ -212,6 +238,13 @@ impl Session {
             }
             None => Err(Refusal::NothingAsked),
         }
+    }
+
+    /// The feature that was not active, where the call that was asked last was refused for that; else 0.
+    pub(crate) fn inactive(&self) -> u64
+        ensures { result ≡ self.now.inactive }
+    {
+        self.inactive
     }
 
     /// The answer that was taken last.

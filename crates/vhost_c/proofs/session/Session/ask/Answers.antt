@@ -1,41 +1,32 @@
-use Rattle.std.proofs.Common.{◌≡◌, false, Option, Some, None, refl, sym, ap, subst, ◌∙◌, ◌++◌}
-use Rattle.std.specs.Prelude.{is_some}
-use Rattle.vhost_frontend_core.specs.Values.{call_of}
-use Rattle.vhost_frontend_core.specs.Frontend.{endpoint_of}
-use Rattle.vhost_message.specs.declared.error.Error as declared
-use Rattle.vhost_protocol.specs.FrontendCall.{Frontend}
-use Rattle.vhost_link.specs.Ends.{Ends}
+use Rattle.std.proofs.Common.{◌≡◌, ℕ, [], Result, Ok, Err}
+use Rattle.std.specs.Prelude.{⊤}
+use Rattle.std.specs.Option.{ForSome}
+use Rattle.vhost_message.specs.declared.cause.IoCause.TheVariants.{Raw}
+use Rattle.vhost_message.specs.declared.errno.TheConstants.{ENOMEM}
+use Rattle.vhost_protocol.specs.FrontendCall.{FrontendCall}
 use Rattle.vhost_link.specs.declared.plain.PlainHandle.{PlainHandle}
-use Rattle.vhost_connection.specs.Talk.{State}
-use Rattle.vhost_c.specs.Session.{Fails, want, busy, fails, remembers}
-use Rattle.vhost_c.proofs.Asking.{asks-since, stays-since, collected}
+use Rattle.vhost_frontend_core.specs.Frontend.{endpoint_of, awaits}
+use Rattle.vhost_c.specs.Awaiting.{awaited_of}
+use Rattle.vhost_c.specs.Session.{Becomes, Rests, Stays, sent, at_once}
+use Rattle.vhost_c.specs.declared.refusal.Refusal.{Refusal}
+use Rattle.vhost_c.specs.declared.session.Asked.{Asked}
+use Rattle.vhost_c.specs.declared.session.Session.{Session}
 use Rattle.vhost_c.proofs.session.Session.ask.Goals as goal
 
--- nothing is there where it is not something
-none-of : {A : Type 0} (o : Option A) → is_some o ≡ false → o ≡ None
-none-of None is = refl
-none-of (Some a) is = absurd (cc is)
+-- what became of a call is the same whatever is kept of a feature that was not active
+noted : (call : FrontendCall PlainHandle) (s t : Session) (n : ℕ) (u : (endpoint_of t.frontend).link.script ≡ []) (b : ForSome (endpoint_of t.frontend).broken (λ c. c ≡ Raw ENOMEM)) (w : awaits t.frontend ≡ awaited_of (λ (a : Asked). a.sent.awaited) t.asked) (o : Result ⊤ Refusal)
+    → Becomes call s o t → Becomes call s o (record t { inactive = n; uncut = u; broken = b; awaited = w })
+noted call s t n u b v (Ok done) (sent w is queue keeps same) = sent w is queue (record {
+  kept = keeps.kept;
+  is = keeps.is;
+  same = keeps.same;
+  header = keeps.header;
+  awaited = keeps.awaited;
+  nothing_came = keeps.nothing_came;
+  nothing_waits = keeps.nothing_waits;
+}) same
+noted call s t n u b v (Ok done) (at_once flags is memory queue asked incoming answer) = at_once flags is memory queue asked incoming answer
+noted call s t n u b v (Err r) (why, stays) = (why, record { queue = stays.queue; rest = record { memory = stays.rest.memory; asked = stays.rest.asked; incoming = stays.rest.incoming; answer = stays.rest.answer } })
 
-pub ask_now-requires-clause-free : goal.ask_now-requires-clause-free
-ask_now-requires-clause-free c = none-of c.args.self.now.asked (sym c.is_some.ensures ∙ c.if-is_some.false)
-
-pub returns-then-is_some : goal.returns-then-is_some
-returns-then-is_some c = (busy (sym c.is_some.ensures ∙ c.if-is_some.true), record { queue = refl; rest = record { memory = refl; asked = refl; incoming = refl; answer = refl } })
-
-pub returns-in-Err : goal.returns-in-Err
-returns-in-Err c = (
-  fails (subst {A = declared.Error} (λ e. Fails (call_of c.args.call) (remembers c.args.self.now) e) (sym c.in-Err.ensures.memory) (want tt)),
-  record { queue = λ i. (c.in-Err.ensures.refused.1 i).pending ++ (c.in-Err.ensures.refused.0 i).link.sent; rest = record { memory = c.in-Err.ensures.rest.0; asked = refl; incoming = refl; answer = refl } },
-)
-
-pub returns-in-Ok-ask_now : goal.returns-in-Ok-ask_now
-returns-in-Ok-ask_now c =
-    asks-since _ _ _ _ (collected c.args.self.now.outgoing.link.pending (endpoint_of c.args.self.now.frontend).link.sent _ _ c.in-Ok.ensures.collected.got (ap {A = State Ends PlainHandle} (λ e. e.link.sent) c.in-Ok.ensures.collected.given))
-    (record { memory = c.in-Ok.ensures.rest.0; asked = refl; incoming = refl; answer = refl }) c.in-Ok-ask_now.ensures.asked
-
-pub returns-in-Err-ask_now : goal.returns-in-Err-ask_now
-returns-in-Err-ask_now c = (
-  fails (subst {A = Frontend} (λ f. Fails (call_of c.args.call) f c.in-Err-ask_now.error) c.in-Ok.ensures.rest.0 c.in-Err-ask_now.ensures.reason),
-  stays-since _ _ _ (collected c.args.self.now.outgoing.link.pending (endpoint_of c.args.self.now.frontend).link.sent _ _ c.in-Ok.ensures.collected.got (ap {A = State Ends PlainHandle} (λ e. e.link.sent) c.in-Ok.ensures.collected.given))
-      (record { memory = c.in-Ok.ensures.rest.0; asked = refl; incoming = refl; answer = refl }) c.in-Err-ask_now.ensures.refused,
-)
+pub returns : goal.returns
+returns c = (noted _ _ c.ask_in_turn-outcome.new.self _ _ _ _ c.ask_in_turn-outcome.result c.ask_in_turn-outcome.ensures, c.inactive_of-self.ensures)

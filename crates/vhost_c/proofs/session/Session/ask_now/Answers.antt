@@ -1,4 +1,4 @@
-use Rattle.std.proofs.Common.{◌≡◌, ◌++◌, List, Option, Some, Ok, refl, sym, ap, subst, ◌∙◌}
+use Rattle.std.proofs.Common.{◌≡◌, ◌++◌, List, [], Option, Some, Ok, refl, sym, ap, subst, ◌∙◌}
 use Rattle.std.specs.Prelude.{IfSome}
 use Rattle.vhost_frontend_core.specs.Halves.{AsksHalfWithRoom}
 use Rattle.vhost_frontend_core.specs.Kept.{IsKeptFor}
@@ -9,6 +9,7 @@ use Rattle.vhost_link.specs.Mem.{event}
 use Rattle.vhost_link.specs.declared.plain.PlainHandle.{PlainHandle}
 use Rattle.vhost_protocol.specs.Stream.{Cell}
 use Rattle.vhost_protocol.specs.FrontendCall.{FrontendCall}
+use Rattle.vhost_connection.specs.Memory.{stream}
 use Rattle.vhost_connection.specs.Talk.{State}
 use Rattle.vhost_frontend_core.specs.Frontend.{endpoint_of, session_of, awaits}
 use Rattle.vhost_frontend_core.specs.Values.{call_of}
@@ -16,13 +17,17 @@ use Rattle.vhost_frontend_core.proofs.Awaiting.{may-await-with-room}
 use Rattle.vhost_c.specs.Awaiting.{awaited_of}
 use Rattle.vhost_c.specs.Session.{sent, at_once}
 use Rattle.vhost_c.specs.declared.session.Asked.{Asked}
-use Rattle.vhost_c.proofs.Asking.{Front, cells, asked-so, stayed, by-half, by-refusal, by-flags, behind}
+use Rattle.vhost_c.proofs.Asking.{Front, cells, came-before, asked-so, stayed, by-half, by-refusal, by-flags, behind}
 use Rattle.vhost_c.proofs.Wants.{alike, asks-call}
 use Rattle.vhost_c.proofs.session.Session.ask_now.Goals as goal
 
 -- of the result's field, where it is some request
 half-of : (call : FrontendCall PlainHandle) (old new : Front) (o : Option Sent) (s : Sent) → o ≡ Some s → AsksCall call old (Ok o) new → AsksHalfWithRoom event call old (Ok s) new
 half-of call old new o s is asked = by-half call old new s (subst {A = Option Sent} (λ x. AsksCall call old (Ok x) new) is asked)
+
+-- nothing came for this end
+empty-before : (e : State Ends PlainHandle) → e.ahead ≡ [] → e.link.pending ≡ [] → stream e ≡ []
+empty-before e ahead pending = ap (λ xs. xs ++ e.link.pending) ahead ∙ pending
 
 pub ask-requires : goal.ask-requires
 ask-requires c broken = c.args.self.now.awaited ∙ ap (awaited_of (λ (a : Asked). a.sent.awaited)) c.requires.free
@@ -56,7 +61,7 @@ pub returns-in-Ok-Some-clause-asked : goal.returns-in-Ok-Some-clause-asked
 returns-in-Ok-Some-clause-asked c =
     let call = call_of c.args.call in let old = c.args.self.now.frontend in let new = c.ask.new.frontend in
     let w = asked-so c.stream_law.ensures.stream call old new c.in-Ok-Some.sent (half-of call old new c.in-Ok-Some.field-0 c.in-Ok-Some.sent c.in-Ok-Some.field-0-is c.in-Ok-Some.ensures.asked) in
-    sent w.w w.is (behind c.args.self.now.outgoing.link.pending (endpoint_of old).link.sent (cells w.w) (endpoint_of new).link.sent w.text) (record { kept = _; is = refl; same = refl; header = w.header; awaited = w.awaited; nothing_came = c.new-self.ensures }) refl
+    sent w.w w.is (behind c.args.self.now.outgoing.link.pending (endpoint_of old).link.sent (cells w.w) (endpoint_of new).link.sent w.text) (record { kept = _; is = refl; same = refl; header = w.header; awaited = w.awaited; nothing_came = c.new-self.ensures; nothing_waits = came-before c.talks_law.ensures.talks call (endpoint_of old) (endpoint_of new) (session_of old) (session_of new) (awaits old) (awaits new) c.in-Ok-Some.sent (half-of call old new c.in-Ok-Some.field-0 c.in-Ok-Some.sent c.in-Ok-Some.field-0-is c.in-Ok-Some.ensures.asked) ∙ empty-before (endpoint_of old) c.requires.none_ahead c.requires.empty }) refl
 
 pub returns-in-Ok-None-clause-asked : goal.returns-in-Ok-None-clause-asked
 returns-in-Ok-None-clause-asked c =
