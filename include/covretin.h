@@ -316,8 +316,8 @@ enum covretin_error covretin_ask_set_vring_err(covretin_session *session, size_t
 enum covretin_error covretin_ask_set_vring_enable(covretin_session *session, size_t index, bool enable);
 
 /* size is 1 to COVRETIN_MAX_CONFIG, and offset and size together are 4096 at most; flags are those of covretin_config. The
- * request brings size bytes along: zeros. BACKEND_INTERNAL_ERROR at take: there are no such bytes.
- * INACTIVE_OPERATION: CONFIG was not accepted. */
+ * request brings size bytes along: zeros. BACKEND_INTERNAL_ERROR at take: there are no such bytes; some backends say so by a
+ * reply without a body, which is malformed. INACTIVE_OPERATION: CONFIG was not accepted. */
 enum covretin_error covretin_ask_get_config(covretin_session *session, uint32_t offset, uint32_t size, uint32_t flags);
 /* The same, with the caller's bytes in the request in place of zeros; bytes_len is the size. */
 enum covretin_error covretin_ask_get_config_bytes(covretin_session *session, uint32_t offset, uint32_t flags,

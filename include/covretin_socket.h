@@ -64,7 +64,7 @@ void covretin_disconnect(covretin_connection *connection);
 int covretin_connection_fd(const covretin_connection *connection);
 
 /* Sends the request of the call that was asked, receives its reply, and takes it. milliseconds limits the time of all of it;
- * negative: none. Returns what covretin_take returns, or:
+ * 0: what can be done at once; negative: none. Returns what covretin_take returns, or:
  * NO_SESSION: there is no connection.
  * NOTHING_ASKED: no ask succeeded since the last exchange.
  * TIMED_OUT, OUT_OF_MEMORY: the call is still under way, and the next exchange goes on with it. Where memory failed at its

@@ -310,7 +310,7 @@ static void limits_time_of_a_trickle(void)
     pid_t child = trickle(peer, 50);
     int64_t began = now();
     EXPECT(COVRETIN_TIMED_OUT, covretin_exchange(&device, 200));
-    EXPECT(true, now() - began < 800);
+    EXPECT(true, now() - began < LIMIT);
     EXPECT(COVRETIN_OK, covretin_exchange(&device, -1));
     EXPECT(child, waitpid(child, NULL, 0));
     covretin_disconnect(&device);

@@ -1,67 +1,8 @@
-/* A session alone, with no socket: calls out of turn and what they leave, requests byte for byte, replies that are none, and
- * backends that hide something behind a reply. */
-#include "covretin.h"
+/* A session alone, with no socket: calls out of turn and what they leave, requests byte for byte, and the words of the library. */
+#include "alone.h"
 #include "testing.h"
 
-#include <stdio.h>
 #include <string.h>
-
-static covretin_session session;
-static uint8_t bytes[COVRETIN_MAX_MESSAGE];
-static int32_t fds[COVRETIN_MAX_FDS];
-static size_t count, fd_count;
-
-/* Nothing is to be sent. */
-static void expect_silence(void)
-{
-    EXPECT(0, covretin_to_send(&session, bytes, sizeof bytes, fds, COVRETIN_MAX_FDS, &count, &fd_count));
-    EXPECT(0, count);
-    EXPECT(0, fd_count);
-}
-
-/* This is to be sent, with so many descriptors, and then nothing more. */
-static void expect_text(const char *text, size_t length, size_t with)
-{
-    EXPECT(0, covretin_to_send(&session, bytes, sizeof bytes, fds, COVRETIN_MAX_FDS, &count, &fd_count));
-    EXPECT(length, count);
-    EXPECT(0, memcmp(text, bytes, length));
-    EXPECT(with, fd_count);
-    expect_silence();
-}
-
-/* Lets go of what is to be sent. */
-static void send_all(void)
-{
-    do
-        EXPECT(0, covretin_to_send(&session, bytes, sizeof bytes, fds, COVRETIN_MAX_FDS, &count, &fd_count));
-    while (count != 0);
-}
-
-/* Hands in bytes; more than are missing stay where they are. */
-static void give(const char *text, size_t length, const int32_t *with, size_t with_count)
-{
-    size_t missing = covretin_missing(&session);
-    if (missing != 0)
-        EXPECT(0, covretin_receive(&session, (const uint8_t *)text, length < missing ? length : missing, with, with_count));
-}
-
-#define GIVE(text) give(text, sizeof(text) - 1, fds, 0)
-#define GIVE_WITH(text, fd) give(text, sizeof(text) - 1, (const int32_t[]){fd}, 1)
-
-/* Opens a session in which these protocol features are accepted. */
-static void open_with(uint64_t protocol_features)
-{
-    EXPECT(COVRETIN_OK, covretin_open(&session, 2));
-    EXPECT(0, covretin_ask_get_features(&session));
-    GIVE("\1\0\0\0\5\0\0\0\10\0\0\0");
-    GIVE("\0\0\0\100\0\0\0\0");
-    EXPECT(0, covretin_take(&session));
-    EXPECT(0, covretin_ask_set_features(&session, COVRETIN_FEATURE_PROTOCOL_FEATURES));
-    EXPECT(0, covretin_take(&session));
-    EXPECT(0, covretin_ask_set_protocol_features(&session, protocol_features));
-    EXPECT(0, covretin_take(&session));
-    send_all();
-}
 
 /* -- Calls out of turn -- */
 
@@ -254,117 +195,6 @@ static void inactive(void)
     EXPECT(0, covretin_inactive(&session));
 }
 
-/* -- Replies that are none -- */
-
-static void malformed(void)
-{
-    EXPECT(COVRETIN_OK, covretin_open(&session, 1));
-    EXPECT(0, covretin_ask_get_features(&session));
-    GIVE("\1\0\0\0\5\0\0\0\377\377\377\377");
-    EXPECT(true, covretin_missing(&session) <= 8);
-    GIVE("\0\0\0\0\0\0\0\0");
-    enum covretin_error error = covretin_take(&session);
-    EXPECT(true, error == COVRETIN_INVALID_MESSAGE || error == COVRETIN_PARTIAL_MESSAGE);
-    EXPECT(COVRETIN_NOTHING_ASKED, covretin_take(&session));
-    covretin_close(&session);
-
-    EXPECT(COVRETIN_OK, covretin_open(&session, 1));
-    EXPECT(0, covretin_ask_get_features(&session));
-    EXPECT(COVRETIN_INVALID_PARAM, covretin_receive(&session, bytes, 1, (const int32_t[]){-1}, 1));
-    GIVE_WITH("\1\0\0\0\5\0\0\0\10\0\0\0", 9);
-    GIVE("\0\0\0\0\0\0\0\0");
-    EXPECT(0, covretin_missing(&session));
-    EXPECT(COVRETIN_INVALID_MESSAGE, covretin_take(&session));
-    covretin_close(&session);
-}
-
-/* -- Something hidden behind a reply -- */
-
-/* The reply of get_features is lengthened by one to postcopy_advise, with descriptor 77. The caller closes what no reply named,
- * and the number is another file's when postcopy_advise is asked. It must not be named then. */
-static void hides_a_reply(void)
-{
-    uint64_t number = 5;
-    int32_t fd = -9;
-    open_with(COVRETIN_PROTOCOL_PAGEFAULT);
-    EXPECT(0, covretin_ask_get_features(&session));
-    send_all();
-    GIVE("\1\0\0\0\5\0\0\0\24\0\0\0");
-    EXPECT(true, covretin_missing(&session) <= 8);
-    GIVE("\0\0\0\100\0\0\0\0");
-    GIVE_WITH("\34\0\0\0\5\0\0\0\0\0\0\0", 77);
-    EXPECT(COVRETIN_INVALID_MESSAGE, covretin_take(&session));
-    EXPECT(COVRETIN_OTHER_ANSWER, covretin_answer_number(&session, &number));
-
-    EXPECT(0, covretin_ask_postcopy_advise(&session));
-    send_all();
-    EXPECT(12, covretin_missing(&session));
-    GIVE("\34\0\0\0\5\0\0\0\0\0\0\0");
-    EXPECT(COVRETIN_INVALID_MESSAGE, covretin_take(&session));
-    EXPECT(COVRETIN_OTHER_ANSWER, covretin_answer_fd(&session, &fd));
-    EXPECT(-9, fd);
-    covretin_close(&session);
-}
-
-/* The reply of get_features is lengthened by a refusal of set_device_state_fd. The true reply to that, with descriptor 77,
- * must not be left for the call after. */
-static void hides_a_refusal(void)
-{
-    int32_t fd = -9;
-    open_with(COVRETIN_PROTOCOL_DEVICE_STATE);
-    EXPECT(0, covretin_ask_get_features(&session));
-    send_all();
-    GIVE("\1\0\0\0\5\0\0\0\34\0\0\0");
-    GIVE("\0\0\0\100\0\0\0\0\52\0\0\0\5\0\0\0\10\0\0\0\1\1\0\0\0\0\0\0");
-    EXPECT(COVRETIN_INVALID_MESSAGE, covretin_take(&session));
-
-    EXPECT(0, covretin_ask_set_device_state_fd(&session, 0, 0, 5));
-    send_all();
-    GIVE_WITH("\52\0\0\0\5\0\0\0\10\0\0\0", 77);
-    GIVE("\0\0\0\0\0\0\0\0");
-    EXPECT(COVRETIN_OK, covretin_take(&session));
-    EXPECT(COVRETIN_OK, covretin_answer_fd(&session, &fd));
-    EXPECT(77, fd);
-    EXPECT(0, covretin_ask_set_device_state_fd(&session, 0, 0, 5));
-    send_all();
-    GIVE("\52\0\0\0\5\0\0\0\10\0\0\0");
-    GIVE("\0\1\0\0\0\0\0\0");
-    EXPECT(COVRETIN_OK, covretin_take(&session));
-    EXPECT(COVRETIN_OK, covretin_answer_fd(&session, &fd));
-    EXPECT(-1, fd);
-    covretin_close(&session);
-}
-
-/* No reply is waited for beyond its own record, whatever its header announces. */
-static void waits_for_no_more(void)
-{
-    open_with(COVRETIN_ASKED_PROTOCOL_FEATURES);
-    static const struct {
-        char code;
-        size_t size;
-    } calls[] = {{1, 8}, {11, 8}, {17, 8}, {31, 24}, {36, 8}, {41, 0}, {44, 2056}};
-    for (size_t i = 0; i < sizeof calls / sizeof calls[0]; i++) {
-        const char header[12] = {calls[i].code, 0, 0, 0, 5, 0, 0, 0, 0, 16, 0, 0};
-        const covretin_inflight asked = {.num_queues = 1, .queue_size = 64};
-        switch (calls[i].code) {
-        case 1: EXPECT(0, covretin_ask_get_features(&session)); break;
-        case 11: EXPECT(0, covretin_ask_get_vring_base(&session, 0)); break;
-        case 17: EXPECT(0, covretin_ask_get_queue_num(&session)); break;
-        case 31: EXPECT(0, covretin_ask_get_inflight_fd(&session, &asked)); break;
-        case 36: EXPECT(0, covretin_ask_get_max_mem_slots(&session)); break;
-        case 41: EXPECT(0, covretin_ask_get_shared_object(&session, (const uint8_t *)"0123456789abcdef", 16)); break;
-        default: EXPECT(0, covretin_ask_get_shmem_config(&session)); break;
-        }
-        send_all();
-        give(header, sizeof header, fds, 0);
-        EXPECT(true, covretin_missing(&session) <= calls[i].size);
-        while (covretin_missing(&session) != 0)
-            give((const char[1]){0}, 1, fds, 0);
-        EXPECT(COVRETIN_INVALID_MESSAGE, covretin_take(&session));
-    }
-    covretin_close(&session);
-}
-
 /* -- Words -- */
 
 /* Each error has a text of its own, and any other number one too. */
@@ -414,10 +244,6 @@ int main(void)
     RUN(config_bytes);
     RUN(accepts_features);
     RUN(inactive);
-    RUN(malformed);
-    RUN(hides_a_reply);
-    RUN(hides_a_refusal);
-    RUN(waits_for_no_more);
     RUN(error_texts);
     RUN(version);
     RUN(asked_features);
