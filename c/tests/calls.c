@@ -29,7 +29,7 @@ enum covretin_error __wrap_covretin_answer_fd(covretin_session *session, int32_t
 enum covretin_error __wrap_covretin_receive(covretin_session *session, const uint8_t *bytes, size_t bytes_len, const int32_t *fds,
                                             size_t fds_len);
 
-enum { LIMIT = 2000 };
+enum { LIMIT = 20000 }; /* milliseconds */
 
 static covretin_connection device;
 static covretin_session *const session = &device.session;

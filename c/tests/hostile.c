@@ -17,7 +17,7 @@
 #include <sys/wait.h>
 #include <unistd.h>
 
-enum { LIMIT = 2000 };
+enum { LIMIT = 20000 }; /* milliseconds */
 
 static covretin_connection device;
 static covretin_session *const session = &device.session;

@@ -76,9 +76,9 @@ static enum covretin_error call(enum covretin_error (*ask)(void))
         error = ask();
     if (error != COVRETIN_OK)
         return error;
-    error = covretin_exchange(&device, 1000);
+    error = covretin_exchange(&device, 20000);
     if (error == COVRETIN_OUT_OF_MEMORY)
-        error = covretin_exchange(&device, 1000);
+        error = covretin_exchange(&device, 20000);
     return error;
 }
 

@@ -124,16 +124,16 @@ void negotiate(covretin_connection *connection, int peer, uint64_t protocol_feat
     uint64_t number = 0;
     EXPECT(COVRETIN_OK, covretin_ask_get_features(session));
     reply_number(peer, GET_FEATURES, COVRETIN_FEATURE_PROTOCOL_FEATURES);
-    EXPECT(COVRETIN_OK, covretin_exchange(connection, 1000));
+    EXPECT(COVRETIN_OK, covretin_exchange(connection, 20000));
     EXPECT(COVRETIN_OK, covretin_ask_set_features(session, COVRETIN_FEATURE_PROTOCOL_FEATURES));
-    EXPECT(COVRETIN_OK, covretin_exchange(connection, 1000));
+    EXPECT(COVRETIN_OK, covretin_exchange(connection, 20000));
     EXPECT(COVRETIN_OK, covretin_ask_get_protocol_features(session));
     reply_number(peer, GET_PROTOCOL_FEATURES, protocol_features);
-    EXPECT(COVRETIN_OK, covretin_exchange(connection, 1000));
+    EXPECT(COVRETIN_OK, covretin_exchange(connection, 20000));
     EXPECT(COVRETIN_OK, covretin_answer_number(session, &number));
     EXPECT(protocol_features, number);
     EXPECT(COVRETIN_OK, covretin_ask_set_protocol_features(session, protocol_features));
-    EXPECT(COVRETIN_OK, covretin_exchange(connection, 1000));
+    EXPECT(COVRETIN_OK, covretin_exchange(connection, 20000));
     for (uint32_t i = 0; i < 4; i++)
         EXPECT(true, hear(peer, &request));
 }
