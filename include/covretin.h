@@ -208,8 +208,9 @@ enum covretin_error covretin_to_send(covretin_session *session, uint8_t *bytes, 
                          size_t *byte_count, size_t *fd_count);
 
 /* How many bytes to read for the reply of the call that was asked; 0 where it may be taken. First the 12 bytes of its
- * header, less what came; once these have come, those of its body, and never more than a reply of this call has. 0 also where
- * nothing is asked or awaited. Read no more than this: the system does not say at which byte descriptors came. */
+ * header, less what came; once these have come, those of the body that it announces, if that is no longer than a message may
+ * be. 0 also where nothing is asked or awaited. Read no more than this: the system does not say at which byte descriptors
+ * came. */
 size_t covretin_missing(covretin_session *session);
 
 /* Takes in bytes of the reply: a part of those that are missing, or all, and the descriptors that came with the first of
@@ -219,10 +220,11 @@ enum covretin_error covretin_receive(covretin_session *session, const uint8_t *b
                          size_t fds_len);
 
 /* Takes the reply of the call that was asked: whether it succeeded. NO_SESSION, NOTHING_ASKED, NOT_YET: nothing changed.
- * After all others nothing is asked any more, and there is no reply to be read: BACKEND_INTERNAL_ERROR: the backend refused,
- * and the session goes on. INCORRECT_FDS: several descriptors came where one is due. INVALID_MESSAGE: the reply is malformed
- * or of another request, its header announces another size than such a reply has, or it has descriptors where none may be.
- * After this and the like close the session: a part of that reply may still be in the socket. */
+ * After all others nothing is asked any more, there is no reply to be read, and nothing of it is left in the session:
+ * BACKEND_INTERNAL_ERROR: the backend refused, and the session goes on. INCORRECT_FDS: several descriptors came where one is
+ * due. INVALID_MESSAGE: the reply is malformed or of another request, its header announces another size than such a reply has,
+ * or it has descriptors where none may be. After this and the like close the session: a part of that reply may still be in
+ * the socket. */
 enum covretin_error covretin_take(covretin_session *session);
 
 /* -- The reply that was taken last ----------------------------------------------------------------------------------
@@ -262,7 +264,7 @@ enum covretin_error covretin_answer_shmem(covretin_session *session, uint64_t *s
 enum covretin_error covretin_set_hdr_flags(covretin_session *session, uint32_t flags);
 
 /* Which feature the last ask lacked: after INACTIVE_FEATURE one bit of COVRETIN_FEATURE_.., after INACTIVE_OPERATION one of
- * COVRETIN_PROTOCOL_... 0 after any other ask, and without a session. */
+ * COVRETIN_PROTOCOL_... 0 after one that made its request, and without a session. Read it before the next ask. */
 uint64_t covretin_inactive(covretin_session *session);
 
 enum covretin_error covretin_ask_get_features(covretin_session *session);

@@ -70,15 +70,15 @@ static void never_names_a_file_of_its_own(void)
     close(peer);
 }
 
-/* What a header announces beyond its reply is not read: it is still in the socket. */
+/* What comes behind a reply is not read with it, also where the reply is refused: it is still in the socket. */
 static void reads_no_further(void)
 {
     char left[64];
     int peer = pair_up(&device, 2);
     say_header(peer, GET_FEATURES, REPLY_FLAGS, 8 + 30, NULL, 0);
-    say(peer, "\0\0\0\100\0\0\0\0and thirty bytes that go beyond", 8 + 30, NULL, 0);
+    say(peer, "\0\0\0\100\0\0\0\0and more bytes than a reply to this call has", 8 + 30 + 12, NULL, 0);
     EXPECT(COVRETIN_INVALID_MESSAGE, ask_features());
-    EXPECT(true, recv(covretin_connection_fd(&device), left, sizeof left, MSG_DONTWAIT) >= 30);
+    EXPECT(true, recv(covretin_connection_fd(&device), left, sizeof left, MSG_DONTWAIT) >= 12);
     expect_broken(COVRETIN_INVALID_MESSAGE);
     covretin_disconnect(&device);
     close(peer);

@@ -144,7 +144,6 @@ static void malformed(void)
     EXPECT(COVRETIN_OK, covretin_open(&session, 1));
     EXPECT(0, covretin_ask_get_features(&session));
     GIVE("\1\0\0\0\5\0\0\0\377\377\377\377");
-    EXPECT(true, covretin_missing(&session) <= 8);
     GIVE("\0\0\0\0\0\0\0\0");
     enum covretin_error error = covretin_take(&session);
     EXPECT(true, error == COVRETIN_INVALID_MESSAGE || error == COVRETIN_PARTIAL_MESSAGE);
@@ -173,7 +172,6 @@ static void hides_a_reply(void)
     EXPECT(0, covretin_ask_get_features(&session));
     send_all();
     GIVE("\1\0\0\0\5\0\0\0\24\0\0\0");
-    EXPECT(true, covretin_missing(&session) <= 8);
     GIVE("\0\0\0\100\0\0\0\0");
     GIVE_WITH("\34\0\0\0\5\0\0\0\0\0\0\0", 77);
     EXPECT(COVRETIN_INVALID_MESSAGE, covretin_take(&session));
@@ -218,31 +216,36 @@ static void hides_a_refusal(void)
     covretin_close(&session);
 }
 
-/* No reply is waited for beyond its own record, whatever its header announces. */
-static void waits_for_no_more(void)
+/* A reply whose header announces another size than its own is refused by its own call, and nothing of it is left for the next. */
+static void refuses_other_sizes(void)
 {
-    open_with(COVRETIN_ASKED_PROTOCOL_FEATURES);
     static const struct {
         char code;
         size_t size;
-    } calls[] = {{1, 8}, {11, 8}, {17, 8}, {31, 24}, {36, 8}, {41, 0}, {44, 2056}};
-    for (size_t i = 0; i < sizeof calls / sizeof calls[0]; i++) {
-        const char header[12] = {calls[i].code, 0, 0, 0, 5, 0, 0, 0, 0, 16, 0, 0};
-        const covretin_inflight asked = {.num_queues = 1, .queue_size = 64};
-        switch (calls[i].code) {
+    } calls[] = {{1, 8}, {11, 8}, {17, 8}, {24, 16}, {31, 24}, {36, 8}, {41, 0}, {44, 2056}};
+    static const size_t sizes[] = {0, 1, 7, 8, 9, 15, 17, 24, 28, 2055, 2056, 2057, 4096};
+    const covretin_inflight asked = {.num_queues = 1, .queue_size = 64};
+    open_with(COVRETIN_ASKED_PROTOCOL_FEATURES);
+    for (size_t i = 0; i < sizeof calls / sizeof calls[0] * (sizeof sizes / sizeof sizes[0]); i++) {
+        size_t size = sizes[i / 8];
+        const char header[12] = {calls[i % 8].code, 0, 0, 0, 5, 0, 0, 0, (char)size, (char)(size >> 8), 0, 0};
+        if (size == calls[i % 8].size)
+            continue;
+        switch (calls[i % 8].code) {
         case 1: EXPECT(0, covretin_ask_get_features(&session)); break;
         case 11: EXPECT(0, covretin_ask_get_vring_base(&session, 0)); break;
         case 17: EXPECT(0, covretin_ask_get_queue_num(&session)); break;
+        case 24: EXPECT(0, covretin_ask_get_config(&session, 0, 4, 0)); break;
         case 31: EXPECT(0, covretin_ask_get_inflight_fd(&session, &asked)); break;
         case 36: EXPECT(0, covretin_ask_get_max_mem_slots(&session)); break;
         case 41: EXPECT(0, covretin_ask_get_shared_object(&session, (const uint8_t *)"0123456789abcdef", 16)); break;
         default: EXPECT(0, covretin_ask_get_shmem_config(&session)); break;
         }
         send_all();
+        EXPECT(12, covretin_missing(&session));
         give(header, sizeof header, fds, 0);
-        EXPECT(true, covretin_missing(&session) <= calls[i].size);
         while (covretin_missing(&session) != 0)
-            give((const char[1]){0}, 1, fds, 0);
+            give(zeros, covretin_missing(&session), fds, 0);
         EXPECT(COVRETIN_INVALID_MESSAGE, covretin_take(&session));
     }
     covretin_close(&session);
@@ -258,6 +261,6 @@ int main(void)
     RUN(malformed);
     RUN(hides_a_reply);
     RUN(hides_a_refusal);
-    RUN(waits_for_no_more);
+    RUN(refuses_other_sizes);
     return status();
 }
