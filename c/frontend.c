@@ -1,28 +1,21 @@
-/* Negotiates with a device at a Unix socket, sets it up, and reads back what it set.
+/* Negotiates with a backend at a Unix socket, sets it up, and reads back what it set.
  *
  *     frontend PATH         without descriptors, as ./vhost-daemon serves
- *     frontend PATH fds     with them: memory, rings, the buffer for descriptors in flight
+ *     frontend PATH fds     with them: memory, rings, the inflight region
  *
- * Prints a line for each call. Status 0 where the connection held. */
-#include "exchange.h"
+ * Prints a line for each call. Status 0 where the connection held, 1 after wrong arguments, 2 where something failed. */
+#include "covretin_socket.h"
 
+#include <errno.h>
 #include <inttypes.h>
 #include <stdio.h>
 #include <stdlib.h>
 #include <string.h>
-#include <sys/socket.h>
-#include <sys/un.h>
 #include <unistd.h>
 
-enum {
-    MQ = 1 << 0,
-    REPLY_ACK = 1 << 3,
-    CONFIG = 1 << 9,
-    INFLIGHT_SHMFD = 1 << 12,
-    CONFIGURE_MEM_SLOTS = 1 << 15,
-};
+enum { LIMIT = 60000 }; /* milliseconds for a call */
 
-static struct device device;
+static covretin_connection device;
 
 static void fail(const char *what)
 {
@@ -30,46 +23,54 @@ static void fail(const char *what)
     exit(2);
 }
 
-/* Prints what a call answered: its ask, and where that succeeded, its exchange. Whether it succeeded. */
-static bool done(const char *name, int error)
+/* The outcome of a call: of its ask, and where that succeeded, of its exchange. Ends the program where the connection did. */
+static enum covretin_error outcome(const char *name, enum covretin_error error)
 {
-    if (error == 0)
-        error = exchange(&device);
-    if (error == EXCHANGE_FAILED)
-        fail(name);
-    if (error != 0)
-        printf("%s: error %d\n", name, error);
-    else
-        printf("%s: done\n", name);
-    return error == 0;
+    if (error == COVRETIN_OK)
+        error = covretin_exchange(&device, LIMIT);
+    switch (error) {
+    case COVRETIN_OK: break;
+    case COVRETIN_INACTIVE_FEATURE:
+    case COVRETIN_INACTIVE_OPERATION:
+        printf("%s: %s %#" PRIx64 "\n", name, covretin_error_text(error), covretin_inactive(&device.session));
+        break;
+    case COVRETIN_INVALID_PARAM:
+    case COVRETIN_BACKEND_INTERNAL_ERROR: printf("%s: %s\n", name, covretin_error_text(error)); break;
+    default: fprintf(stderr, "%s: %s\n", name, covretin_error_text(error)); exit(2);
+    }
+    return error;
 }
 
-/* The same of a call that answers a number. */
-static uint64_t number(const char *name, int error)
+/* Prints how a call ended. Whether it succeeded. */
+static bool done(const char *name, enum covretin_error error)
+{
+    if (outcome(name, error) != COVRETIN_OK)
+        return false;
+    printf("%s: done\n", name);
+    return true;
+}
+
+/* The same of a call whose reply is a number. */
+static uint64_t number(const char *name, enum covretin_error error)
 {
     uint64_t value = 0;
-    if (error == 0)
-        error = exchange(&device);
-    if (error == EXCHANGE_FAILED)
-        fail(name);
-    if (error == 0)
-        error = covretin_answer_number(&device.session, &value);
-    if (error != 0)
-        printf("%s: error %d\n", name, error);
-    else
+    if (outcome(name, error) == COVRETIN_OK && covretin_answer_number(&device.session, &value) == COVRETIN_OK)
         printf("%s: %#" PRIx64 "\n", name, value);
     return value;
 }
 
-static void negotiate(uint64_t wanted)
+/* Accepts what the backend offers and this library asks for, but MTU, so that there is something that it lacks. */
+static void negotiate(void)
 {
+    const uint64_t wanted = COVRETIN_ASKED_PROTOCOL_FEATURES & ~COVRETIN_PROTOCOL_MTU;
     covretin_session *session = &device.session;
     uint64_t features = number("get_features", covretin_ask_get_features(session));
     done("set_owner", covretin_ask_set_owner(session));
     done("set_features", covretin_ask_set_features(session, features));
-    uint64_t offered = number("get_protocol_features", covretin_ask_get_protocol_features(session));
-    done("set_protocol_features", covretin_ask_set_protocol_features(session, offered & wanted));
-    printf("set_hdr_flags: %d\n", covretin_set_hdr_flags(session, COVRETIN_NEED_REPLY));
+    uint64_t accepted = wanted & number("get_protocol_features", covretin_ask_get_protocol_features(session));
+    done("set_protocol_features", covretin_ask_set_protocol_features(session, accepted));
+    if (accepted & COVRETIN_PROTOCOL_REPLY_ACK)
+        printf("set_hdr_flags: %d\n", covretin_set_hdr_flags(session, COVRETIN_NEED_REPLY));
     number("get_queue_num", covretin_ask_get_queue_num(session));
 }
 
@@ -148,7 +149,7 @@ static void set_config(void)
     printf("\n");
 }
 
-/* The device gives the buffer, and is given it again. */
+/* The backend gives the inflight region, and is given it again. */
 static void set_inflight(void)
 {
     covretin_inflight asked = {.num_queues = 2, .queue_size = 128}, given;
@@ -157,10 +158,11 @@ static void set_inflight(void)
     if (!done("get_inflight_fd", covretin_ask_get_inflight_fd(&device.session, &asked)))
         return;
     int error = covretin_answer_inflight(&device.session, &given, &fd);
+    if (error == 0)
+        error = covretin_claim_fd(&device, &fd);
     if (error == 0 && pread(fd, text, sizeof text - 1, (off_t)given.mmap_offset) < 0)
         fail("pread");
     printf("inflight: %d, %" PRIu64 " bytes, \"%s\"\n", error, given.mmap_size, text);
-    close_received(&device, fd);
     done("set_inflight_fd", covretin_ask_set_inflight_fd(&device.session, &given, fd));
     close(fd);
 }
@@ -175,27 +177,20 @@ static void be_refused(void)
     done("set_vring_num again", covretin_ask_set_vring_num(session, 0, 128));
 }
 
-static int connect_to(const char *path)
-{
-    struct sockaddr_un address = {.sun_family = AF_UNIX};
-    int fd = socket(AF_UNIX, SOCK_STREAM, 0);
-    if (strlen(path) >= sizeof address.sun_path)
-        fail(path);
-    strcpy(address.sun_path, path);
-    if (fd < 0 || connect(fd, (struct sockaddr *)&address, sizeof address))
-        fail(path);
-    return fd;
-}
-
 int main(int argc, char **argv)
 {
-    if (argc < 2)
+    bool with_fds = argc == 3 && strcmp(argv[2], "fds") == 0;
+    if (argc != 2 && !with_fds) {
+        fprintf(stderr, "usage: frontend PATH [fds]\n");
         return 1;
-    bool with_fds = argc > 2;
-    device.socket = connect_to(argv[1]);
-    if (covretin_open(&device.session, 2))
-        fail("open");
-    negotiate(with_fds ? MQ | REPLY_ACK | CONFIG | INFLIGHT_SHMFD | CONFIGURE_MEM_SLOTS : MQ | REPLY_ACK | CONFIG);
+    }
+    enum covretin_error error = covretin_connect(&device, argv[1], 2, LIMIT);
+    if (error != COVRETIN_OK) {
+        const char *more = error == COVRETIN_SOCKET_CONNECT ? strerror(errno) : "no connection";
+        fprintf(stderr, "%s: %s (%s)\n", argv[1], covretin_error_text(error), more);
+        return 2;
+    }
+    negotiate();
     if (with_fds)
         set_memory();
     set_ring(with_fds);
@@ -203,8 +198,6 @@ int main(int argc, char **argv)
     if (with_fds)
         set_inflight();
     be_refused();
-    close_received(&device, -1);
-    covretin_close(&device.session);
-    close(device.socket);
+    covretin_disconnect(&device);
     return 0;
 }

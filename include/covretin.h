@@ -1,17 +1,17 @@
-/* Covretin: the asking side of vhost-user, for a hypervisor that owns its socket.
+/* Covretin: the frontend of vhost-user, for a virtual machine monitor that owns its socket.
  *
- * A session makes the bytes of each request and reads those of its answer. It makes no system call but for memory
+ * A session makes the bytes of each request and reads those of its reply. It makes no system call but for memory
  * (malloc, realloc, free), waits for nothing, and has no global state: the caller writes to its socket what the session
- * hands out, and hands in what it read from there. For each call:
+ * hands out, and hands in what it read from there. covretin_socket.h does that over a Unix socket. For each call:
  *
- *     error = covretin_ask_get_features(&session);           the call of the request, with its arguments
+ *     error = covretin_ask_get_features(&session);           the request, with its arguments
  *     while (covretin_to_send(&session, ..) == 0 && n != 0)  send these bytes, with these descriptors on the first of them
  *     while ((n = covretin_missing(&session)) != 0)          read at most n bytes, with the descriptors that come along,
  *         covretin_receive(&session, ..);                    and hand them in
- *     error = covretin_take(&session);                       what the device said: 0, or why not
+ *     error = covretin_take(&session);                       what the backend replied: 0, or why not
  *     error = covretin_answer_number(&session, &features);   the value, where the call has one
  *
- * Every call must be taken before the next is asked, also one that awaits no answer (covretin_missing is 0 at once).
+ * Every call must be taken before the next is asked, also one that awaits no reply (covretin_missing is 0 at once).
  *
  * WHO OWNS WHAT
  * Buffers: each pointer is borrowed for the call alone. What is `const` is only read; the others are only written, and at
@@ -20,15 +20,14 @@
  * Descriptors: a session owns none, and neither opens, duplicates nor closes one: it only passes on numbers. What an ask
  *   was given stays the caller's, who may close it once the bytes that covretin_to_send hands out with it were sent. What
  *   came from the socket is the caller's too: covretin_answer_fd and covretin_answer_inflight say which number is the
- *   answer's; all others, and all of an answer that is refused, are the caller's to close.
- * Sessions: a variable of type covretin_session, {0} at first, belongs to the caller; it is not copied or written by him. Calls with
- *   the same one must not overlap in time. Not from a signal handler.
+ *   reply's; all others, and all of a reply that is refused, are the caller's to close.
+ * Sessions: a variable of type covretin_session, {0} at first, belongs to the caller; it is not copied or written by him.
+ *   Calls with the same one must not overlap in time. Not from a signal handler.
  *
  * ERRORS are numbers of enum covretin_error; 0 is none. What a call leaves after an error is said at the call.
  *
- * Units are bytes, unless another one is named. What each request means: the vhost-user specification.
- *
- * Link with libvhost_c.a and with liblibc_c.a of the kit that it was built by.
+ * Units are bytes, unless another one is named. What each request means: the vhost-user specification. What is said of
+ * real backends was seen with a storage daemon, a file system daemon and a packet switch.
  */
 #ifndef COVRETIN_H
 #define COVRETIN_H
@@ -41,54 +40,113 @@
 extern "C" {
 #endif
 
+/* The version of this header. covretin_version() tells that of the library. */
+#define COVRETIN_VERSION "0.1.0"
+
 /* The greatest number of descriptors that come with a message. */
 #define COVRETIN_MAX_FDS 32
 
 /* The greatest size of a message: a header of 12 bytes, and a body. */
 #define COVRETIN_MAX_MESSAGE 4108
 
+/* The greatest number of bytes of the configuration space that one request reads or writes. */
+#define COVRETIN_MAX_CONFIG 4084
+
 /* The flag of covretin_set_hdr_flags that asks for acknowledgements. */
 #define COVRETIN_NEED_REPLY 8
+
+/* Virtio features that vhost-user itself gives a meaning, for covretin_ask_set_features. The others are the device's. */
+#define COVRETIN_FEATURE_LOG_ALL ((uint64_t)1 << 26)           /* the backend logs the pages that it writes */
+#define COVRETIN_FEATURE_PROTOCOL_FEATURES ((uint64_t)1 << 30) /* there are protocol features */
+
+/* Protocol features, for covretin_ask_set_protocol_features. */
+#define COVRETIN_PROTOCOL_MQ ((uint64_t)1 << 0)
+#define COVRETIN_PROTOCOL_LOG_SHMFD ((uint64_t)1 << 1)
+#define COVRETIN_PROTOCOL_RARP ((uint64_t)1 << 2)
+#define COVRETIN_PROTOCOL_REPLY_ACK ((uint64_t)1 << 3)
+#define COVRETIN_PROTOCOL_MTU ((uint64_t)1 << 4)
+#define COVRETIN_PROTOCOL_BACKEND_REQ ((uint64_t)1 << 5)
+#define COVRETIN_PROTOCOL_CROSS_ENDIAN ((uint64_t)1 << 6)
+#define COVRETIN_PROTOCOL_CRYPTO_SESSION ((uint64_t)1 << 7)
+#define COVRETIN_PROTOCOL_PAGEFAULT ((uint64_t)1 << 8)
+#define COVRETIN_PROTOCOL_CONFIG ((uint64_t)1 << 9)
+#define COVRETIN_PROTOCOL_BACKEND_SEND_FD ((uint64_t)1 << 10)
+#define COVRETIN_PROTOCOL_HOST_NOTIFIER ((uint64_t)1 << 11)
+#define COVRETIN_PROTOCOL_INFLIGHT_SHMFD ((uint64_t)1 << 12)
+#define COVRETIN_PROTOCOL_RESET_DEVICE ((uint64_t)1 << 13)
+#define COVRETIN_PROTOCOL_INBAND_NOTIFICATIONS ((uint64_t)1 << 14)
+#define COVRETIN_PROTOCOL_CONFIGURE_MEM_SLOTS ((uint64_t)1 << 15)
+#define COVRETIN_PROTOCOL_STATUS ((uint64_t)1 << 16)
+#define COVRETIN_PROTOCOL_XEN_MMAP ((uint64_t)1 << 17)
+#define COVRETIN_PROTOCOL_SHARED_OBJECT ((uint64_t)1 << 18)
+#define COVRETIN_PROTOCOL_DEVICE_STATE ((uint64_t)1 << 19)
+#define COVRETIN_PROTOCOL_GET_VRING_BASE_INFLIGHT ((uint64_t)1 << 20)
+#define COVRETIN_PROTOCOL_GPA_ADDRESSES ((uint64_t)1 << 21)
+#define COVRETIN_PROTOCOL_SHMEM ((uint64_t)1 << 22)
+
+/* The protocol features whose requests this library makes: accept what the backend offers of these, and no more. Left out
+ * are those whose requests it does not make (RARP, CROSS_ENDIAN, CRYPTO_SESSION, INBAND_NOTIFICATIONS, and STATUS: a backend
+ * whose offer of it was accepted may wait for SET_STATUS, and a virtual switch then never passes a frame), those that only
+ * concern the channel of the backend's own requests, which the caller serves (BACKEND_SEND_FD, HOST_NOTIFIER), and those that
+ * change what a request means (XEN_MMAP, GET_VRING_BASE_INFLIGHT, GPA_ADDRESSES). */
+#define COVRETIN_ASKED_PROTOCOL_FEATURES \
+    (COVRETIN_PROTOCOL_MQ | COVRETIN_PROTOCOL_LOG_SHMFD | COVRETIN_PROTOCOL_REPLY_ACK | COVRETIN_PROTOCOL_MTU | \
+     COVRETIN_PROTOCOL_BACKEND_REQ | COVRETIN_PROTOCOL_PAGEFAULT | COVRETIN_PROTOCOL_CONFIG | \
+     COVRETIN_PROTOCOL_INFLIGHT_SHMFD | COVRETIN_PROTOCOL_RESET_DEVICE | COVRETIN_PROTOCOL_CONFIGURE_MEM_SLOTS | \
+     COVRETIN_PROTOCOL_SHARED_OBJECT | COVRETIN_PROTOCOL_DEVICE_STATE | COVRETIN_PROTOCOL_SHMEM)
 
 enum covretin_error {
     COVRETIN_OK = 0,
 
-    /* Of the protocol, in the names of the Rust crate vhost. */
+    /* Of the protocol, in the names of the Rust crate vhost. A session returns no SOCKET_ERROR, SOCKET_CONNECT, DISCONNECTED,
+     * INVALID_SOCKET_FD, NOT_UNIX_SOCKET or NOT_STREAM_SOCKET: these are covretin_socket.h's. */
     COVRETIN_INVALID_PARAM = 1,           /* an argument is not allowed; nothing was asked */
     COVRETIN_INVALID_OPERATION = 2,
     COVRETIN_INACTIVE_FEATURE = 3,        /* a virtio feature was not negotiated; nothing was asked */
     COVRETIN_INACTIVE_OPERATION = 4,      /* a protocol feature was not negotiated; nothing was asked */
-    COVRETIN_INVALID_MESSAGE = 5,         /* the answer is malformed, or of another request: close the session */
-    COVRETIN_INVALID_SOCKET_FD = 6,
+    COVRETIN_INVALID_MESSAGE = 5,         /* the reply is malformed, or of another request: close the session */
+    COVRETIN_INVALID_SOCKET_FD = 6,       /* the descriptor is no socket */
     COVRETIN_NOT_UNIX_SOCKET = 7,
     COVRETIN_NOT_STREAM_SOCKET = 8,
-    COVRETIN_PARTIAL_MESSAGE = 9,         /* the answer is cut short, or longer than a message: close the session */
-    COVRETIN_DISCONNECTED = 10,
+    COVRETIN_PARTIAL_MESSAGE = 9,         /* the reply is cut short, or longer than a message: close the session */
+    COVRETIN_DISCONNECTED = 10,           /* the backend closed the socket, or ended */
     COVRETIN_OVERSIZED_MSG = 11,
-    COVRETIN_INCORRECT_FDS = 12,          /* the answer came with a wrong number of descriptors */
-    COVRETIN_SOCKET_ERROR = 13,
-    COVRETIN_SOCKET_CONNECT = 14,
-    COVRETIN_SOCKET_BROKEN = 15,          /* memory was refused amid a request before: close the session */
-    COVRETIN_SOCKET_RETRY = 16,           /* memory was refused; ask again, and close the session if it is SOCKET_BROKEN then */
-    COVRETIN_BACKEND_INTERNAL_ERROR = 17, /* the device refused the request; the session goes on */
+    COVRETIN_INCORRECT_FDS = 12,          /* the reply came with a wrong number of descriptors */
+    COVRETIN_SOCKET_ERROR = 13,           /* a system call failed: errno says why */
+    COVRETIN_SOCKET_CONNECT = 14,         /* nobody could be connected to: errno says why */
+    COVRETIN_SOCKET_BROKEN = 15,          /* an allocation failed amid a request before: close the session */
+    COVRETIN_SOCKET_RETRY = 16,           /* an allocation failed; ask again, and close the session if it is SOCKET_BROKEN then */
+    COVRETIN_BACKEND_INTERNAL_ERROR = 17, /* the backend refused the request; the session goes on */
     COVRETIN_FRONTEND_INTERNAL_ERROR = 18,
     COVRETIN_FEATURE_MISMATCH = 19,
     COVRETIN_REQ_HANDLER_ERROR = 20,
     COVRETIN_MEMFD_CREATE_ERROR = 21,
     COVRETIN_FILE_TRUNCATE_ERROR = 22,
     COVRETIN_MEMFD_SEAL_ERROR = 23,
-    COVRETIN_OUT_OF_MEMORY = 24,          /* memory was refused, and nothing changed */
+    COVRETIN_OUT_OF_MEMORY = 24,          /* an allocation failed, and nothing changed */
 
     /* Of the calls in this file. After each of them nothing changed. */
     COVRETIN_NO_SESSION = 101,     /* the session is not open */
     COVRETIN_SESSION_OPEN = 102,   /* the session is open already */
-    COVRETIN_NOT_TAKEN = 103,      /* the answer of the call before is still to be taken */
+    COVRETIN_NOT_TAKEN = 103,      /* the reply of the call before is still to be taken */
     COVRETIN_NOTHING_ASKED = 104,  /* there is nothing to be taken */
-    COVRETIN_NOT_YET = 105,        /* the answer has not come whole; covretin_missing says how many bytes to read */
+    COVRETIN_NOT_YET = 105,        /* the reply has not come whole; covretin_missing says how many bytes to read */
     COVRETIN_TOO_MANY_BYTES = 106, /* more bytes than covretin_missing said */
     COVRETIN_NO_ROOM = 107,        /* an array of the caller is too small */
-    COVRETIN_OTHER_ANSWER = 108    /* the answer that was taken last has another form */
+    COVRETIN_OTHER_ANSWER = 108,   /* the reply that was taken last has another form */
+
+    /* Of covretin_socket.h. */
+    COVRETIN_TIMED_OUT = 201,    /* the limit of time passed */
+    COVRETIN_FDS_LOST = 202,     /* the system dropped descriptors: more came than a message has, or than the process may open */
+    COVRETIN_INVALID_PATH = 203  /* a socket's path that is empty, or too long */
 };
+
+/* What an error means, in a few words of English: a string that is never NULL, never freed and different for each of the
+ * numbers above. Any other number has a string too. */
+const char *covretin_error_text(enum covretin_error error);
+
+/* The version of the library, as COVRETIN_VERSION. */
+const char *covretin_version(void);
 
 /* A session. {0} is none. */
 typedef struct covretin_session {
@@ -99,41 +157,41 @@ typedef struct covretin_session {
 typedef struct covretin_region {
     uint64_t guest_phys_addr;
     uint64_t memory_size;
-    uint64_t user_addr;
+    uint64_t user_addr;   /* where the caller has mapped it: the addresses of rings are within these */
     uint64_t mmap_offset; /* where it begins in what the descriptor maps */
     int32_t fd;           /* negative: none */
 } covretin_region;
 
-/* Where a ring lies. Sizes are in descriptors. */
+/* Where a ring lies. The three addresses of its parts are the caller's own (user_addr and on), log_addr is the guest's. */
 typedef struct covretin_vring {
-    uint16_t queue_max_size;
-    uint16_t queue_size;
-    uint32_t flags; /* bit 0: writes to the used ring are logged */
+    uint16_t queue_max_size; /* not sent; covretin_ask_set_vring_num tells the size */
+    uint16_t queue_size;     /* likewise */
+    uint32_t flags;          /* bit 0: writes to the used ring are logged */
     uint64_t desc_table_addr;
     uint64_t used_ring_addr;
     uint64_t avail_ring_addr;
-    uint64_t log_addr;
+    uint64_t log_addr; /* where the used ring lies for the guest, to log writes to it */
     bool has_log_addr;
 } covretin_vring;
 
-/* The buffer for descriptors in flight. */
+/* The inflight region, where a backend notes the buffers that it has taken and not given back. */
 typedef struct covretin_inflight {
     uint64_t mmap_size;
     uint64_t mmap_offset;
     uint16_t num_queues;
-    uint16_t queue_size; /* in descriptors */
+    uint16_t queue_size; /* in descriptors of a ring */
 } covretin_inflight;
 
 /* A part of the configuration space. */
 typedef struct covretin_config {
     uint32_t offset;
     uint32_t size;
-    uint32_t flags;
+    uint32_t flags; /* bit 0: a change by the driver; bit 1: one by a live migration */
 } covretin_config;
 
 /* -- Sessions ------------------------------------------------------------------------------------------------------ */
 
-/* Opens a session with a device of at most so many queues. SESSION_OPEN; OUT_OF_MEMORY. After an error nothing changed. */
+/* Opens a session with a backend of at most so many rings. SESSION_OPEN; OUT_OF_MEMORY. After an error nothing changed. */
 enum covretin_error covretin_open(covretin_session *session, uint64_t max_queue_num);
 
 /* Frees what the session held; it is {0} again. Descriptors are not closed. A session that is not open stays so. */
@@ -149,29 +207,33 @@ void covretin_close(covretin_session *session);
 enum covretin_error covretin_to_send(covretin_session *session, uint8_t *bytes, size_t bytes_len, int32_t *fds, size_t fds_len,
                          size_t *byte_count, size_t *fd_count);
 
-/* How many bytes to read for the answer of the call that was asked; 0 where it may be taken. First the 12 bytes of its
- * header, less what came; once these have come, those of its body. 0 also where nothing is asked or awaited. */
+/* How many bytes to read for the reply of the call that was asked; 0 where it may be taken. First the 12 bytes of its
+ * header, less what came; once these have come, those of the body that it announces, if that is no longer than a message may
+ * be. 0 also where nothing is asked or awaited. Read no more than this: the system does not say at which byte descriptors
+ * came. */
 size_t covretin_missing(covretin_session *session);
 
-/* Takes in bytes of the answer: a part of those that are missing, or all, and the descriptors that came with the first of
+/* Takes in bytes of the reply: a part of those that are missing, or all, and the descriptors that came with the first of
  * them. NO_SESSION; TOO_MANY_BYTES; INVALID_PARAM: descriptors without a byte, more than COVRETIN_MAX_FDS, or a negative
  * one; OUT_OF_MEMORY. After an error nothing was taken in. Where the socket ends before nothing is missing, close the session. */
 enum covretin_error covretin_receive(covretin_session *session, const uint8_t *bytes, size_t bytes_len, const int32_t *fds,
                          size_t fds_len);
 
-/* Takes the answer of the call that was asked: whether it succeeded. NO_SESSION, NOTHING_ASKED, NOT_YET: nothing changed.
- * After all others nothing is asked any more, and there is no answer to be read: BACKEND_INTERNAL_ERROR: the device refused,
- * and the session goes on. INCORRECT_FDS: the answer's descriptors are wrong in number, or where none may be.
- * INVALID_MESSAGE and the like: close the session. */
+/* Takes the reply of the call that was asked: whether it succeeded. NO_SESSION, NOTHING_ASKED, NOT_YET: nothing changed.
+ * After all others nothing is asked any more, there is no reply to be read, and nothing of it is left in the session:
+ * BACKEND_INTERNAL_ERROR: the backend refused, and the session goes on. INCORRECT_FDS: several descriptors came where one is
+ * due. INVALID_MESSAGE: the reply is malformed or of another request, its header announces another size than such a reply has,
+ * or it has descriptors where none may be. After this and the like close the session: a part of that reply may still be in
+ * the socket. */
 enum covretin_error covretin_take(covretin_session *session);
 
-/* -- The answer that was taken last ---------------------------------------------------------------------------------
+/* -- The reply that was taken last ----------------------------------------------------------------------------------
  * It can be read until the next covretin_take. NO_SESSION; OTHER_ANSWER; NO_ROOM. After an error nothing was written. */
 
 /* Of get_features, get_protocol_features, get_queue_num, get_vring_base, get_max_mem_slots. */
 enum covretin_error covretin_answer_number(covretin_session *session, uint64_t *number);
 
-/* Of set_mem_table and add_mem_region: where the regions are mapped, in the order of the request, if the device listens for
+/* Of set_mem_table and add_mem_region: where the backend mapped the regions, in the order of the request, if it listens for
  * page faults; else *count is 0. bases_len is the number of regions at least. */
 enum covretin_error covretin_answer_bases(covretin_session *session, uint64_t *bases, size_t bases_len, size_t *count);
 
@@ -179,90 +241,117 @@ enum covretin_error covretin_answer_bases(covretin_session *session, uint64_t *b
 enum covretin_error covretin_answer_config(covretin_session *session, covretin_config *config, uint8_t *bytes, size_t bytes_len,
                                size_t *count);
 
-/* Of get_shared_object, postcopy_advise and set_device_state_fd: a descriptor that was handed in with the answer. -1 after
- * set_device_state_fd: the device uses the one that it was given. */
+/* Of get_shared_object, postcopy_advise and set_device_state_fd: a descriptor that was handed in with the reply. -1 after
+ * set_device_state_fd: the backend uses the one that it was given. */
 enum covretin_error covretin_answer_fd(covretin_session *session, int32_t *fd);
 
 /* Of get_inflight_fd. */
 enum covretin_error covretin_answer_inflight(covretin_session *session, covretin_inflight *inflight, int32_t *fd);
 
-/* Of get_shmem_config: 256 sizes, 0 where there is no region; *count is how many regions the device has. sizes_len is 256
+/* Of get_shmem_config: 256 sizes, 0 where there is no region; *count is how many regions the backend has. sizes_len is 256
  * at least. */
 enum covretin_error covretin_answer_shmem(covretin_session *session, uint64_t *sizes, size_t sizes_len, size_t *count);
 
 /* -- Asks -----------------------------------------------------------------------------------------------------------
  * Each makes its request, which covretin_to_send then hands out. After an error nothing more is to be sent than before.
- * All may answer NO_SESSION, NOT_TAKEN, OUT_OF_MEMORY, SOCKET_RETRY, SOCKET_BROKEN, and INVALID_PARAM for an argument. What
- * else comes is said here. A request with no answer of its own is acknowledged where REPLY_ACK was acknowledged and
- * COVRETIN_NEED_REPLY is set; else nothing is awaited, and a refusal by the device is not seen. */
+ * All may return NO_SESSION, NOT_TAKEN, OUT_OF_MEMORY, SOCKET_RETRY, SOCKET_BROKEN, and INVALID_PARAM for an argument. What
+ * else comes is said here. A request with no reply of its own is acknowledged where REPLY_ACK was accepted and
+ * COVRETIN_NEED_REPLY is set; else nothing is awaited, and a refusal by the backend is not seen. */
 
-/* The flags of each request from now on: COVRETIN_NEED_REPLY, or 0. Nothing is sent for it, and nothing is to be taken. */
+/* The flags of each request from now on: COVRETIN_NEED_REPLY, or 0. Nothing is sent for it, and nothing is to be taken.
+ * INVALID_PARAM: any other value; the flags stay as they were. Set COVRETIN_NEED_REPLY only once REPLY_ACK was accepted: real
+ * backends acknowledge each request that has it, and without REPLY_ACK nobody here awaits that. */
 enum covretin_error covretin_set_hdr_flags(covretin_session *session, uint32_t flags);
 
+/* Which feature the last ask lacked: after INACTIVE_FEATURE one bit of COVRETIN_FEATURE_.., after INACTIVE_OPERATION one of
+ * COVRETIN_PROTOCOL_... 0 after one that made its request, and without a session. Read it before the next ask. */
+uint64_t covretin_inactive(covretin_session *session);
+
 enum covretin_error covretin_ask_get_features(covretin_session *session);
-/* Acknowledges, of these, the ones that the device offered. */
+/* Sends all of these bits. The session remembers as accepted those of them that the backend offered last. */
 enum covretin_error covretin_ask_set_features(covretin_session *session, uint64_t features);
 enum covretin_error covretin_ask_set_owner(covretin_session *session);
 enum covretin_error covretin_ask_reset_owner(covretin_session *session);
-/* INACTIVE_FEATURE: PROTOCOL_FEATURES was not acknowledged, or not offered. */
+/* INACTIVE_FEATURE: the backend has not offered PROTOCOL_FEATURES. They need not be accepted before. */
 enum covretin_error covretin_ask_get_protocol_features(covretin_session *session);
+/* Sends all of these bits, and remembers them as accepted: leave out what the backend did not offer, and what is not in
+ * COVRETIN_ASKED_PROTOCOL_FEATURES. INACTIVE_FEATURE: as above. */
 enum covretin_error covretin_ask_set_protocol_features(covretin_session *session, uint64_t features);
-/* INACTIVE_OPERATION: MQ was not acknowledged. */
+/* From then on a ring's index is below this number. Some virtual switches count pairs of rings here: do not ask those.
+ * INACTIVE_OPERATION: MQ was not accepted. */
 enum covretin_error covretin_ask_get_queue_num(covretin_session *session);
-/* INACTIVE_OPERATION: RESET_DEVICE was not acknowledged. */
+/* INACTIVE_OPERATION: RESET_DEVICE was not accepted. */
 enum covretin_error covretin_ask_reset_device(covretin_session *session);
 
-/* 1 to 32 regions, each with a size and a descriptor. */
+/* 1 to 32 regions, each with a size and a descriptor. Some backends take only 8 regions (libvhost-user, as in
+ * qemu-storage-daemon), and more by add_mem_region. */
 enum covretin_error covretin_ask_set_mem_table(covretin_session *session, const covretin_region *regions, size_t count);
-/* INACTIVE_OPERATION: CONFIGURE_MEM_SLOTS was not acknowledged. */
+/* INACTIVE_OPERATION: CONFIGURE_MEM_SLOTS was not accepted. */
 enum covretin_error covretin_ask_get_max_mem_slots(covretin_session *session);
+/* A region with a size and a descriptor. INACTIVE_OPERATION: likewise. */
 enum covretin_error covretin_ask_add_mem_region(covretin_session *session, const covretin_region *region);
+/* A region with a size; its descriptor is not sent. INACTIVE_OPERATION: likewise. */
 enum covretin_error covretin_ask_remove_mem_region(covretin_session *session, const covretin_region *region);
 
-/* Where the log begins, and where it is kept: the memory_size, mmap_offset and fd of a region. Without LOG_SHMFD the base
- * alone goes out. */
+/* Where the dirty log is kept: the memory_size, mmap_offset and fd of a region. Without LOG_SHMFD the base alone is sent, and
+ * no reply is awaited. With it a reply of 16 bytes is awaited: some backends send one of 8 bytes, which is refused, and some
+ * send none, which a limit of time shows. */
 enum covretin_error covretin_ask_set_log_base(covretin_session *session, uint64_t base, const covretin_region *region);
 enum covretin_error covretin_ask_set_log_base_alone(covretin_session *session, uint64_t base);
+/* By this descriptor the backend tells that it logged. */
 enum covretin_error covretin_ask_set_log_fd(covretin_session *session, int32_t fd);
 
-/* num and base are in descriptors. */
+/* A ring's index is below max_queue_num of covretin_open, or what get_queue_num replied since. num and base are in
+ * descriptors of the ring. */
 enum covretin_error covretin_ask_set_vring_num(covretin_session *session, size_t index, uint16_t num);
 enum covretin_error covretin_ask_set_vring_addr(covretin_session *session, size_t index, const covretin_vring *ring);
 enum covretin_error covretin_ask_set_vring_base(covretin_session *session, size_t index, uint16_t base);
+/* Stops the ring, and asks at which descriptor it goes on. */
 enum covretin_error covretin_ask_get_vring_base(covretin_session *session, size_t index);
+/* The eventfd by which the backend announces used buffers, that by which the driver announces available ones, and that by
+ * which the backend tells of an error. index is 255 at most. fd negative: the ring has none, and who would wait for it polls
+ * the ring. Few backends poll for a kick. */
 enum covretin_error covretin_ask_set_vring_call(covretin_session *session, size_t index, int32_t fd);
 enum covretin_error covretin_ask_set_vring_kick(covretin_session *session, size_t index, int32_t fd);
 enum covretin_error covretin_ask_set_vring_err(covretin_session *session, size_t index, int32_t fd);
-/* INACTIVE_FEATURE: PROTOCOL_FEATURES was not acknowledged. */
+/* INACTIVE_FEATURE: PROTOCOL_FEATURES was not accepted; then a ring is enabled by its kick. */
 enum covretin_error covretin_ask_set_vring_enable(covretin_session *session, size_t index, bool enable);
 
-/* size is 4096 at most. INACTIVE_OPERATION: CONFIG was not acknowledged. */
+/* size is 1 to COVRETIN_MAX_CONFIG, and offset and size together are 4096 at most; flags are those of covretin_config. The
+ * request brings size bytes along: zeros. BACKEND_INTERNAL_ERROR at take: there are no such bytes; some backends say so by a
+ * reply without a body, which is malformed. INACTIVE_OPERATION: CONFIG was not accepted. */
 enum covretin_error covretin_ask_get_config(covretin_session *session, uint32_t offset, uint32_t size, uint32_t flags);
+/* The same, with the caller's bytes in the request in place of zeros; bytes_len is the size. */
+enum covretin_error covretin_ask_get_config_bytes(covretin_session *session, uint32_t offset, uint32_t flags,
+                                      const uint8_t *bytes, size_t bytes_len);
+/* bytes_len as size above. INACTIVE_OPERATION: likewise. */
 enum covretin_error covretin_ask_set_config(covretin_session *session, uint32_t offset, uint32_t flags, const uint8_t *bytes,
                                 size_t bytes_len);
 
-/* INACTIVE_OPERATION: BACKEND_REQ was not acknowledged. */
+/* The socket on which the backend makes requests of its own, which the caller serves. INACTIVE_OPERATION: BACKEND_REQ was
+ * not accepted. */
 enum covretin_error covretin_ask_set_backend_request_fd(covretin_session *session, int32_t fd);
-/* name_len is 16. INACTIVE_OPERATION: SHARED_OBJECT was not acknowledged. */
+/* name is a UUID: name_len is 16. INACTIVE_OPERATION: SHARED_OBJECT was not accepted. */
 enum covretin_error covretin_ask_get_shared_object(covretin_session *session, const uint8_t *name, size_t name_len);
-/* INACTIVE_OPERATION: INFLIGHT_SHMFD was not acknowledged. */
+/* INACTIVE_OPERATION: INFLIGHT_SHMFD was not accepted. */
 enum covretin_error covretin_ask_get_inflight_fd(covretin_session *session, const covretin_inflight *inflight);
+/* Gives the region to a backend that takes the place of one that ended. INACTIVE_OPERATION: likewise. */
 enum covretin_error covretin_ask_set_inflight_fd(covretin_session *session, const covretin_inflight *inflight, int32_t fd);
-/* INACTIVE_OPERATION: SHMEM was not acknowledged. */
+/* INACTIVE_OPERATION: SHMEM was not accepted. */
 enum covretin_error covretin_ask_get_shmem_config(covretin_session *session);
 
-/* direction 0 from the device (save), 1 to it (load); phase 0, stopped. INACTIVE_OPERATION: DEVICE_STATE was not acknowledged. */
+/* direction 0 from the backend (save), 1 to it (load); phase 0, stopped. INACTIVE_OPERATION: DEVICE_STATE was not accepted. */
 enum covretin_error covretin_ask_set_device_state_fd(covretin_session *session, uint32_t direction, uint32_t phase, int32_t fd);
 enum covretin_error covretin_ask_check_device_state(covretin_session *session);
 
-/* INACTIVE_OPERATION: PAGEFAULT was not acknowledged. */
+/* INACTIVE_OPERATION: PAGEFAULT was not accepted. */
 enum covretin_error covretin_ask_postcopy_advise(covretin_session *session);
 enum covretin_error covretin_ask_postcopy_listen(covretin_session *session);
 enum covretin_error covretin_ask_postcopy_end(covretin_session *session);
 /* The request that brought the regions: 5, SET_MEM_TABLE, or 37, ADD_MEM_REG. */
 enum covretin_error covretin_ask_postcopy_ack_mem_regions(covretin_session *session, uint32_t request);
 
-/* INACTIVE_OPERATION: MTU was not acknowledged. */
+/* The greatest size of a frame. INACTIVE_OPERATION: MTU was not accepted. */
 enum covretin_error covretin_ask_set_mtu(covretin_session *session, uint16_t mtu);
 
 #ifdef __cplusplus

@@ -1,0 +1,60 @@
+/* A backend that a test plays by hand, at the other end of a connection's socket. */
+#ifndef PEER_H
+#define PEER_H
+
+#include "covretin_socket.h"
+
+#include <sys/types.h>
+
+enum {
+    GET_FEATURES = 1,
+    SET_FEATURES = 2,
+    SET_OWNER = 3,
+    SET_VRING_NUM = 8,
+    SET_VRING_CALL = 13,
+    GET_PROTOCOL_FEATURES = 15,
+    SET_PROTOCOL_FEATURES = 16,
+    GET_QUEUE_NUM = 17,
+    GET_CONFIG = 24,
+    SET_CONFIG = 25,
+    POSTCOPY_ADVISE = 28,
+    GET_INFLIGHT_FD = 31,
+    SET_INFLIGHT_FD = 32,
+    GET_SHARED_OBJECT = 41,
+    SET_DEVICE_STATE_FD = 42,
+    REPLY_FLAGS = 5 /* version 1, and that it is a reply */
+};
+
+/* A connection over a pair of sockets; the other end of it. */
+int pair_up(covretin_connection *connection, uint64_t max_queue_num);
+
+/* Sends bytes, with descriptors on the first of them. */
+void say(int peer, const void *bytes, size_t count, const int *fds, size_t fd_count);
+
+/* Sends a header. */
+void say_header(int peer, uint32_t code, uint32_t flags, uint32_t size, const int *fds, size_t fd_count);
+
+/* Sends a reply with such a body, and descriptors on its first byte. */
+void reply(int peer, uint32_t code, const void *body, size_t size, const int *fds, size_t fd_count);
+void reply_number(int peer, uint32_t code, uint64_t number);
+
+/* A request as it came. Its descriptors are closed. */
+struct request {
+    uint32_t code, flags, size;
+    uint8_t body[4096];
+    size_t fd_count;
+};
+
+/* Receives the next request. False at the end of the stream. */
+bool hear(int peer, struct request *request);
+
+/* Negotiates over a pair of sockets: the backend offers these protocol features, and all of them are accepted. */
+void negotiate(covretin_connection *connection, int peer, uint64_t protocol_features);
+
+/* A file without a name that holds this text. */
+int file_of(const char *text);
+
+/* Whether a descriptor's file begins with this text. */
+bool holds(int fd, const char *text);
+
+#endif

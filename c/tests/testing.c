@@ -1,0 +1,53 @@
+#include "testing.h"
+
+#include <dirent.h>
+#include <stdio.h>
+#include <stdlib.h>
+
+static bool wrong, any_wrong;
+
+void expect(int line, const char *call, long long want, long long got)
+{
+    if (got == want)
+        return;
+    printf("line %d: %s is %lld and not %lld\n", line, call, got, want);
+    wrong = true;
+}
+
+void run(const char *name, void (*test)(void))
+{
+    size_t before = open_fds();
+    wrong = false;
+    test();
+    size_t after = open_fds();
+    if (after != before) {
+        printf("%zu descriptors were open before, and %zu after\n", before, after);
+        wrong = true;
+    }
+    printf("%s: %s\n", name, wrong ? "FAILED" : "ok");
+    fflush(stdout);
+    any_wrong = any_wrong || wrong;
+}
+
+int status(void)
+{
+    return any_wrong;
+}
+
+size_t open_fds(void)
+{
+    DIR *folder = opendir("/proc/self/fd");
+    size_t count = 0;
+    if (folder == NULL)
+        give_up("/proc/self/fd");
+    while (readdir(folder) != NULL)
+        count++;
+    closedir(folder);
+    return count - 3; /* ".", ".." and the folder itself */
+}
+
+void give_up(const char *what)
+{
+    perror(what);
+    exit(3);
+}

@@ -1,0 +1,125 @@
+#!/usr/bin/env python3
+"""Builds the proved library for programs in C, crates/vhost_c/out/libvhost_c.a, where it is not there or a source is newer,
+and beside it libvhost_c.verdict, the line in which the checker says what is proved. Status 0, or 3 with why not.
+
+The libraries below it are taken as `rt ci` or `rt lib` left them in out/, and then only vhost_c is proved. Where one is
+missing or older than its sources, each is built by `rt lib` first, lowest first. In that order `rt lib` has no need of its
+quick pass over all sources at once, which reports errors in functions that this library does not reach.
+"""
+import os
+import re
+import shutil
+import subprocess
+import sys
+import time
+
+TOP = os.path.dirname(os.path.dirname(os.path.abspath(__file__)))
+NAME = "vhost_c"
+CRATE = f"{TOP}/crates/{NAME}"
+ARCHIVE = f"{CRATE}/out/lib{NAME}.a"
+VERDICT = f"{CRATE}/out/lib{NAME}.verdict"
+# It runs on every processor of the family.
+CPU = "x86-64"
+
+
+def stop(why):
+    print(f"c_library: {why}", file=sys.stderr)
+    sys.exit(3)
+
+
+def used():
+    """Which libraries each crate uses, as crates.txt has it."""
+    found = {}
+    with open(f"{TOP}/crates.txt", encoding="utf-8") as lines:
+        for line in lines:
+            head, colon, names = line.partition("#")[0].partition(":")
+            if colon:
+                found[head.split()[0]] = names.split()
+    return found
+
+
+def below(name, uses):
+    """The repository's crates below one, each behind those that it uses."""
+    found = []
+    for it in uses[name]:
+        if it in uses:
+            found += [each for each in [*below(it, uses), it] if each not in found]
+    return found
+
+
+def is_current(made, names):
+    """Whether a file or folder is there, and no source of these crates is newer."""
+    if not os.path.exists(made):
+        return False
+    sources = [f"{TOP}/crates.txt"]
+    for name in names:
+        for part in ("src", "specs", "proofs"):
+            for at, _, files in os.walk(f"{TOP}/crates/{name}/{part}"):
+                sources += [at, *(f"{at}/{it}" for it in files)]
+    return all(os.stat(it).st_mtime <= os.stat(made).st_mtime for it in sources)
+
+
+def rlib(name):
+    return f"{TOP}/crates/{name}/out/rlib/{name}.rlib"
+
+
+def run(folder, *words):
+    """What a command wrote, and whether it succeeded."""
+    ran = subprocess.run(words, cwd=folder, stdin=subprocess.DEVNULL, stdout=subprocess.PIPE, stderr=subprocess.STDOUT, text=True, errors="replace")
+    return ran.stdout, ran.returncode == 0
+
+
+def over_libraries(kit, uses):
+    """Proves and builds it over the libraries that are there."""
+    words = ["--crate-name", NAME, "src/lib.rt", "--crate-type", "staticlib", "--cpu", CPU, "--links", f"{NAME}=", "--backend", "llvm"]
+    for it in ["std", *uses[NAME]]:
+        words += ["--extern", f"{it}={rlib(it) if it in uses else f'{kit}/rlibs/{it}.rlib'}"]
+    for it in [f"{kit}/rlibs", *(os.path.dirname(rlib(it)) for it in below(NAME, uses))]:
+        words += ["-L", f"dependency={it}"]
+    words += ["--antt-project", f"{kit}/rattle/logic/antt-project.json", "--logic-built", f"{kit}/logic_built", "--toolchain", f"{kit}/toolchain"]
+    jobs = os.environ.get("RT_JOBS") or min(len(os.sched_getaffinity(0)), 4)
+    words += ["--jobs", str(jobs), "--incremental", "out/incremental", "-o", ARCHIVE]
+    os.makedirs(os.path.dirname(ARCHIVE), exist_ok=True)
+    return run(CRATE, f"{kit}/bin/rattle", "build", *words)
+
+
+def with_libraries(uses):
+    """Builds each library below it, and then itself."""
+    names = [*below(NAME, uses), NAME]
+    jobs = ["--jobs", os.environ["RT_JOBS"]] if os.environ.get("RT_JOBS") else []
+    for count, name in enumerate(names, 1):
+        print(f"c_library: {count} of {len(names)}: {name} ..", end="", file=sys.stderr, flush=True)
+        began = time.monotonic()
+        said, is_built = run(f"{TOP}/crates/{name}", "rt", "lib", *jobs, *(["--cpu", CPU] if name == NAME else []))
+        print(f" {'proved' if is_built else 'failed'}, {time.monotonic() - began:.0f} seconds", file=sys.stderr)
+        if not is_built:
+            return said, False
+    return said, True
+
+
+def main():
+    if not shutil.which("rt"):
+        stop("the command rt of the Rattle kit is not on PATH")
+    uses = used()
+    names = [*below(NAME, uses), NAME]
+    if is_current(ARCHIVE, names) and is_current(VERDICT, names):
+        return
+    began = time.time()
+    kit = os.path.dirname(run(TOP, "rt", "doc")[0].strip())
+    is_built = False
+    if all(is_current(rlib(it), [*below(it, uses), it]) for it in names[:-1]):
+        said, is_built = over_libraries(kit, uses)
+    if not is_built:
+        said, is_built = with_libraries(uses)
+    lines = re.findall(r"(?m)^logic=proved .*$", said)
+    if not is_built or not lines:
+        print(said, end="", file=sys.stderr)
+        stop("not proved, or not built")
+    with open(VERDICT, "w", encoding="utf-8") as it:
+        it.write(f"{lines[-1]}\n")
+    # (what is changed while it is built is newer)
+    for it in (ARCHIVE, VERDICT):
+        os.utime(it, (began, began))
+
+
+main()
