@@ -2,9 +2,10 @@
 # SPDX-License-Identifier: Apache-2.0
 """scripts/names.py: whether each name and each link of the pages is there, and the version is the same everywhere.
 
-A name is a word between backticks that has an underscore or a capital behind a small letter; it has to stand in some source, or be the name of
-a file. What a page names since it is not here stands in a line of its own: '<!-- not here: NAME NAME .. -->'. A path between
-backticks has to be a file or a folder, or the end of one, where it begins with a folder of the repository.
+A name stands between backticks: alone, or as a word that has an underscore or a capital behind a small letter. It has to stand in some source,
+or be the name of a file; one of capitals alone stands for others. What a page names since it is not here stands in a line of its own:
+'<!-- not here: NAME NAME .. -->'. A path between backticks has to be a file or a folder, or the end of one, where it begins with a
+folder of the repository.
 
 Status 0 where all are there; 1 where some are not: each is printed with its page and line.
 """
@@ -16,7 +17,8 @@ import sys
 
 TOP = os.path.dirname(os.path.dirname(os.path.realpath(__file__)))
 
-# A word that only a name is.
+# What is between backticks is a name; and a word there that only a name is.
+ALONE = re.compile(r"[A-Za-z]\w*(?:::\w+)*")
 NAME = re.compile(r"(?<!\w)(?:[A-Za-z]\w*_\w+|[A-Za-z]*[a-z][A-Z]\w*)")
 
 # A path: it begins with a folder or a file of the repository.
@@ -65,8 +67,9 @@ def missing_of(page, text, names, files):
         for path in PATH.findall(span):
             if not absent & set(path.split("/")) and not is_there(path, files):
                 yield f"{page}:{number}: no file {path}"
-        for name in NAME.findall(span):
-            if "*" not in span and name not in names and name not in absent:
+        found = span.split("::") if ALONE.fullmatch(span) else NAME.findall(span)
+        for name in [] if "*" in span else found:
+            if not re.fullmatch("[A-Z]+", name) and name not in names and name not in absent:
                 yield f"{page}:{number}: no source names {name}"
     for number, line in enumerate(text.split("\n"), 1):
         for link in re.findall(r"\]\(([^)#]+)", line):
