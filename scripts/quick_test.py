@@ -45,23 +45,23 @@ def read(path, otherwise=b""):
 
 def scripts_of(crate, folder):
     """A program that plays scripts: each argument that names one is played alone, with the words before it."""
-    left = {line for line in read(f"{folder}/stdout").splitlines(True)}
-    unnamed = set(os.listdir(f"{folder}/data"))
-    before = []
+    left = read(f"{folder}/stdout").splitlines(True)
+    names = set(os.listdir(f"{folder}/data"))
+    played, before = set(), []
     for word in read(f"{folder}/args").decode().split():
         before.append(word)
-        if word not in unnamed:
-            continue
-        unnamed.discard(word)
-        wanted = [it for it in read(f"{folder}/stdout").splitlines(True) if it.startswith(f"{word}:".encode())]
-        left.difference_update(wanted)
-        yield Play(crate, f"crates/{crate}/data/{word}", before, b"".join(wanted))
-        before = []
-    for name in sorted(unnamed):
+        if word in names:
+            wanted = [it for it in left if it.startswith(f"{word}:".encode())]
+            left = [it for it in left if it not in wanted]
+            yield Play(crate, f"crates/{crate}/data/{word}", before, b"".join(wanted))
+            played.add(word)
+            before = []
+    for name in sorted(names - played):
         yield Play(crate, f"crates/{crate}/data/{name}", broken=f"crates/{crate}/args does not name it, so nobody plays it")
-    if left or before or not unnamed and not os.listdir(f"{folder}/data"):
-        why = f"crates/{crate}/stdout has a line of no script" if left else "it plays nothing"
-        yield Play(crate, f"crates/{crate}/stdout", broken=why)
+    if before or not played:
+        yield Play(crate, f"crates/{crate}/args", broken=f"it names no script by '{' '.join(before)}'")
+    if left:
+        yield Play(crate, f"crates/{crate}/stdout", broken=f"{left[0].decode()!r} is of no script")
 
 
 def plays_of(crate):
