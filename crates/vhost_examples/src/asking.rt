@@ -69,7 +69,7 @@ fn ask<L: Link>(rt: &HostRuntime, frontend: &mut Quiet<L>) -> anyhow::Result<()>
     show(rt, "get_vring_base of ring 1", frontend.get_vring_base(1))
 }
 
-/// A link that hands out the replies.
+/// A link that holds the replies.
 fn link_of_answers(alloc: Global) -> anyhow::Result<MemLink> {
     let mut link = MemLink::new(alloc, Vec::new(alloc));
     for answer in &ANSWERS {

@@ -34,7 +34,7 @@ pub struct Device {
 
 impl Device {
     /// A device that nobody owns yet.
-    pub fn new() -> Device {
+    pub(crate) fn new() -> Device {
         Device {
             owned: false,
             features: 0,
