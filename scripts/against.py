@@ -1,3 +1,4 @@
+# SPDX-License-Identifier: Apache-2.0
 """Runs two programs in turns that print figures, lines of a name and a number, and shows the middle of both beside each other: `./bench --against`."""
 
 import statistics

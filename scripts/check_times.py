@@ -1,4 +1,5 @@
 #!/usr/bin/env python3
+# SPDX-License-Identifier: Apache-2.0
 """scripts/check_times.py CRATE [COUNT]: what the last check of a crate took, by function.
 
 The checker writes a file below out/incremental for each module as it ends, so the times of these files are a profile. It is

@@ -1,4 +1,5 @@
 #!/usr/bin/env python3
+# SPDX-License-Identifier: Apache-2.0
 """costs.py PROGRAM: what one more of each figure's work costs, beside time.
 
 PROGRAM is vhost_bench. Each figure's work is done so often and twice as often; the difference, divided, is one's: system calls (by strace,

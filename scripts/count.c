@@ -1,3 +1,4 @@
+/* SPDX-License-Identifier: Apache-2.0 */
 /*
  * Counts what a program asks of the C library: growths of memory, bytes copied and bytes set. It is loaded before the C library's, and keeps
  * its three counters, of eight bytes each, in the file that COUNTS names. scripts/costs.py compiles and uses it.

@@ -1,4 +1,5 @@
 #!/bin/sh
+# SPDX-License-Identifier: Apache-2.0
 # Formats each crate. The status is 1, and the files are named, where one was not formatted: the gate refuses such a crate
 # after hours, and .ci/run by this in seconds.
 cd "$(dirname "$0")/.." || exit 2

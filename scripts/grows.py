@@ -1,4 +1,5 @@
 #!/usr/bin/env python3
+# SPDX-License-Identifier: Apache-2.0
 """grows.py PROGRAM: how the cost of a line grows with its message, with its regions, and with how many lines there are.
 
 PROGRAM is vhost_run. A line is given so often and twice as often; the difference, divided, is what one more costs, in nanoseconds: the middle of

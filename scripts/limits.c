@@ -1,3 +1,4 @@
+/* SPDX-License-Identifier: Apache-2.0 */
 /*
  * What the same bytes cost a program in C: figures of the names of vhost_bench, for './bench --limits'. Two more are of a queued
  * message: socket_recvmsg receives it with room for 32 descriptors, socket_read_apart reads its header and its body by a read each. Nanoseconds

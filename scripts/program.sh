@@ -1,98 +1,38 @@
-# Builds and runs a program of this repository: what `vhost-run` and `vhost-daemon` share. They set `program`, their name, `package`, the
-# crate's, `minutes`, what a proof takes, and what keeps the program busy for a moment while it is compiled.
+# SPDX-License-Identifier: Apache-2.0
+# Builds and runs a program of this repository: what the commands that run one share. They set what scripts/options.sh asks for, and
+# `package`, the crate's name, and `minutes`, what a proof takes.
 #
 # The proved program lies in out/ of its crate once --prove has made it. Where it is not there, or a source is newer, the
 # program is compiled without proof, kept beside it, and run.
-crate=$top/crates/$package
-proved=$crate/out/$package
-unproved=$crate/out/unproved/$package
+. "$top/scripts/options.sh"
 
-tell() {
-    echo "$program: $*" >&2
-}
+proved=$top/crates/$package/out/$package
+unproved=$top/crates/$package/out/unproved/$package
 
-need_rt() {
-    command -v rt >/dev/null && return
-    tell "the command rt of the Rattle kit is not on PATH"
-    exit 3
-}
-
-# The crates that the program is made of, each behind those that it uses.
-crates() {
-    awk '
-        function visit(name,    i, count, below) {
-            if (!(name in uses) || name in seen) return
-            seen[name] = 1
-            count = split(uses[name], below, " ")
-            for (i = 1; i <= count; i++) visit(below[i])
-            print name
-        }
-        /^[a-z]/ { split($0, line, ":"); split(line[1], head, " "); uses[head[1]] = line[2] }
-        END { visit("'"$package"'") }
-    ' "$top/crates.txt"
+build() {
+    python3 "$top/scripts/build.py" "$@"
 }
 
 # Whether a program is there, and none of these folders of its crates has a newer file.
 is_current() {
-    built=$1
-    shift
-    [ -x "$built" ] || return 1
-    newer=$(cd "$top/crates" && for name in $(crates); do
-        for folder in "$@"; do
-            [ ! -d "$name/$folder" ] || find "$name/$folder" -newer "$built"
-        done
-    done; find "$top/crates.txt" -newer "$built")
-    [ -z "$newer" ]
+    build current "$package" "$@"
 }
 
-# Compiles the program without proof, and keeps it. `rt try` removes what it compiles once that has run, so it is
-# linked to another name while it runs on what keeps it busy for a moment: `busy_words` are its arguments, and `busy` writes its input.
+# Compiles the program without proof, where none is kept or a source is newer.
 compile() {
+    is_current "$unproved" src && return
+    why="no proof was made yet"
+    [ ! -x "$proved" ] || why="a source is newer than the proved program"
     need_rt
-    room=$crate/out/try.$$
-    trap 'rm -rf "$room"' EXIT
-    trap 'exit 3' HUP INT TERM
-    mkdir -p "$room/made" "$(dirname "$unproved")" || exit 3
-    catch "$room" &
-    watcher=$!
-    busy >"$room/lines"
-    (cd "$crate" && TMPDIR=$room/made rt try --steps 1 --seconds 2 -- $busy_words <"$room/lines" >"$room/output" 2>"$room/errors")
-    kill "$watcher" 2>/dev/null
-    wait "$watcher" 2>/dev/null
-    if [ ! -x "$room/program" ]; then
-        cat "$room/errors" >&2
-        tell "the program could not be compiled"
-        exit 3
-    fi
-    touch -r "$room/lines" "$room/program"
-    mv "$room/program" "$unproved"
-    rm -rf "$room"
-    trap - EXIT HUP INT TERM
-}
-
-# Links the first file made/../program to another name. It ends with its folder, too.
-catch() {
-    exec python3 - "$1" <<'END'
-import glob
-import os
-import sys
-import time
-
-room = sys.argv[1]
-while os.path.isdir(room) and not os.path.exists(f"{room}/program"):
-    for made in glob.glob(f"{glob.escape(room)}/made/*/*/program"):
-        try:
-            os.link(made, f"{room}/program")
-        except OSError:
-            pass
-    time.sleep(0.005)
-END
+    tell "compiles the program without proof ($why), about a minute"
+    build compile "$package" >/dev/null || exit 3
+    tell "runs it without proof from now on; './$program --prove' makes the proved one"
 }
 
 # Proves the crates one after another, and builds the program. What is proved already is kept, and taken from there.
 prove() {
     need_rt
-    names=$(crates)
+    names=$(build below "$package") || exit 3
     total=$(echo "$names" | wc -l)
     tell "proving $((total)) crates, the program last: about $minutes minutes of one processor in all, here on $(getconf _NPROCESSORS_ONLN 2>/dev/null || echo some)"
     room=$(mktemp -d) || exit 3
@@ -119,17 +59,9 @@ prove() {
     tell "built; './$program' runs it"
 }
 
+# Runs the proved program, or, where there is none of these sources, the one without proof.
 run() {
-    if is_current "$proved" src specs proofs; then
-        exec "$proved" "$@"
-    fi
-    why="no proof was made yet"
-    [ ! -x "$proved" ] || why="a source is newer than the proved program"
-    if is_current "$unproved" src; then
-        tell "runs the program without proof ($why); './$program --prove' makes the proved one"
-    else
-        tell "compiles the program without proof ($why), some 30 seconds, and runs it; './$program --prove' makes the proved one"
-        compile
-    fi
+    is_current "$proved" src specs proofs && exec "$proved" "$@"
+    compile
     exec "$unproved" "$@"
 }

@@ -1,3 +1,4 @@
+/* SPDX-License-Identifier: Apache-2.0 */
 /* Refuses one growth of memory: the one whose number REFUSE has, counted from 1 over malloc and realloc. 0, or none, refuses
  * none. Where COUNT names a file, the number of growths is written to it at the end. Preloaded by refused_memory.py. */
 #define _GNU_SOURCE

@@ -1,7 +1,8 @@
 #!/bin/sh
-# Runs a proved program with each growth of memory refused in turn, and compares what it wrote with what it writes else.
+# SPDX-License-Identifier: Apache-2.0
+# Runs a proved program with each allocation failed in turn, and compares what it wrote with what it writes else.
 #
-#   scripts/refused-memory.sh vhost-run    each session of the scripts of lines: all of the output and its status, or a front of it and 2
+#   scripts/refused-memory.sh vhost-run    each session of the scripts of lines: all of the output and its status, or a prefix of it and 2
 #   scripts/refused-memory.sh vhost-fuzz   300 messages: all of the output and status 0, or status 2
 #
 # Status 0 where that holds of each run, 1 where it does not of some, 2 after wrong arguments, 3 where the program is not built. Needs a C

@@ -1,3 +1,4 @@
+# SPDX-License-Identifier: Apache-2.0
 """Runs a program with each growth of memory refused in turn. `refused-memory.sh` says more, and calls it."""
 
 import glob

@@ -1,4 +1,4 @@
-//! Asks a device as a hypervisor does, over a link in memory that holds the device's answers.
+//! Asks a backend as a VMM does, over a link in memory that holds the backend's replies.
 
 use bitflags::Flags;
 use std::alloc::Global;
@@ -6,12 +6,12 @@ use vhost_frontend::Quiet;
 use vhost_link::{Link, MemLink};
 use vhost_message::{Result, VhostUserConfigFlags, VhostUserHeaderFlag, VhostUserProtocolFeatures};
 
-/// How many rings the driver has at first, and how many retries a message may take.
+/// How many rings the frontend has at first, and how many retries a message may take.
 const RINGS: u64 = 2;
 
 const BUDGET: u32 = 3;
 
-/// What the device answers, in order: virtio features (bits 0 and 30), protocol features (CONFIG and REPLY_ACK), two
+/// What the backend replies, in order: virtio features (bits 0 and 30), protocol features (CONFIG and REPLY_ACK), two
 /// acknowledgements, and four bytes of the configuration space at 0x100.
 const ANSWERS: [&[u8]; 5] = [
     &[
@@ -25,7 +25,7 @@ const ANSWERS: [&[u8]; 5] = [
     ],
 ];
 
-/// Agrees on features with the device, and wants each request acknowledged from then on; the protocol features chosen.
+/// Negotiates features with the backend, and wants each request acknowledged from then on; the protocol features that were accepted.
 fn negotiate<L: Link>(frontend: &mut Quiet<L>) -> Result<VhostUserProtocolFeatures> {
     let features = frontend.get_features()?;
     frontend.set_features(features)?;
@@ -44,7 +44,7 @@ fn show<T: Drop>(rt: &HostRuntime, name: &str, answer: Result<T>) -> anyhow::Res
     Ok(())
 }
 
-/// Owns the device, and sets up its rings.
+/// Owns the backend, and sets up its rings.
 fn set_up<L: Link>(rt: &HostRuntime, frontend: &mut Quiet<L>) -> anyhow::Result<()> {
     show(rt, "set_owner", frontend.set_owner())?;
     let answer = frontend.set_vring_num(0, 1000);
@@ -69,7 +69,7 @@ fn ask<L: Link>(rt: &HostRuntime, frontend: &mut Quiet<L>) -> anyhow::Result<()>
     show(rt, "get_vring_base of ring 1", frontend.get_vring_base(1))
 }
 
-/// A link that hands out the answers.
+/// A link that holds the replies.
 fn link_of_answers(alloc: Global) -> anyhow::Result<MemLink> {
     let mut link = MemLink::new(alloc, Vec::new(alloc));
     for answer in &ANSWERS {

@@ -6,7 +6,7 @@ use bitflags::Flags;
 use vhost_backend_req::Backend;
 use vhost_device::VhostUserBackendReqHandlerMut;
 use vhost_gpu_backend_req::GpuBackend;
-use vhost_link::{Link, MemLink, PlainHandle};
+use vhost_link::{Link, NoHandle, UnixLink};
 use vhost_message::{
     Error, IoCause, Result, VhostTransferStateDirection, VhostTransferStatePhase,
     VhostUserConfigFlags, VhostUserInflight, VhostUserLog, VhostUserMemoryRegion,
@@ -14,28 +14,38 @@ use vhost_message::{
     VhostUserSingleMemoryRegion, VhostUserVringAddrFlags, VhostUserVringState,
 };
 
-/// The features that it offers: one of its own, bit 0, and the protocol features, bit 30.
+/// The virtio features that it offers: one of its own, bit 0, and bit 30, so that there are protocol features.
 const OFFERED: u64 = 0x4000_0001;
 
 /// How many queues it has.
-const QUEUES: u64 = 1;
+const QUEUES: u64 = 2;
 
 /// What it has no use for is refused so.
 const UNUSED: Error = Error::ReqHandlerError(IoCause::Named("this device has no use for it"));
 
-/// A device that is owned, negotiates features, and takes all that belongs to a ring.
+/// A device that is owned, negotiates features, and accepts all that belongs to a ring.
 #[derive(Drop)]
 pub struct Device {
     /// Whether a frontend owns it.
     pub owned: bool,
-    /// The features that were chosen, always among those that it offers.
+    /// The virtio features that were accepted, always among those that it offers.
     pub features: u64,
+}
+
+impl Device {
+    /// A device that nobody owns yet.
+    pub(crate) fn new() -> Device {
+        Device {
+            owned: false,
+            features: 0,
+        }
+    }
 }
 
 impl VhostUserBackendReqHandlerMut for Device {
     ghost use Rattle.vhost_examples.specs.Device.{Gives};
 
-    type Link = MemLink;
+    type Link = UnixLink;
 
     ghost gives = { Gives };
 
@@ -63,7 +73,7 @@ impl VhostUserBackendReqHandlerMut for Device {
     }
 
     fn get_protocol_features(&mut self) -> Result<VhostUserProtocolFeatures> {
-        Ok(VhostUserProtocolFeatures::REPLY_ACK)
+        Ok(VhostUserProtocolFeatures::MQ.union(VhostUserProtocolFeatures::REPLY_ACK))
     }
 
     fn set_protocol_features(&mut self, _features: u64) -> Result<()> {
@@ -77,7 +87,7 @@ impl VhostUserBackendReqHandlerMut for Device {
     fn set_mem_table(
         &mut self,
         _ctx: &[VhostUserMemoryRegion],
-        _files: Vec<PlainHandle>,
+        _files: Vec<NoHandle>,
         _postcopy_listening: Option<bool>,
     ) -> Result<Option<Vec<u64>>>
         ensures { self.new ≡ self.old }
@@ -109,19 +119,19 @@ impl VhostUserBackendReqHandlerMut for Device {
         Ok(VhostUserVringState::new(index, 0))
     }
 
-    fn set_vring_kick(&mut self, _index: u8, _fd: Option<PlainHandle>) -> Result<()>
+    fn set_vring_kick(&mut self, _index: u8, _fd: Option<NoHandle>) -> Result<()>
         ensures { self.new ≡ self.old }
     {
         Ok(())
     }
 
-    fn set_vring_call(&mut self, _index: u8, _fd: Option<PlainHandle>) -> Result<()>
+    fn set_vring_call(&mut self, _index: u8, _fd: Option<NoHandle>) -> Result<()>
         ensures { self.new ≡ self.old }
     {
         Ok(())
     }
 
-    fn set_vring_err(&mut self, _index: u8, _fd: Option<PlainHandle>) -> Result<()>
+    fn set_vring_err(&mut self, _index: u8, _fd: Option<NoHandle>) -> Result<()>
         ensures { self.new ≡ self.old }
     {
         Ok(())
@@ -157,28 +167,28 @@ impl VhostUserBackendReqHandlerMut for Device {
         Err(UNUSED)
     }
 
-    fn set_backend_req_fd(&mut self, _backend: Backend<MemLink>)
+    fn set_backend_req_fd(&mut self, _backend: Backend<UnixLink>)
         ensures { self.new ≡ self.old }
     {}
 
-    fn set_gpu_socket(&mut self, _gpu_backend: GpuBackend<MemLink>) -> Result<()>
+    fn set_gpu_socket(&mut self, _gpu_backend: GpuBackend<UnixLink>) -> Result<()>
         ensures { self.new ≡ self.old }
     {
         Err(UNUSED)
     }
 
-    fn get_shared_object(&mut self, _uuid: VhostUserSharedMsg) -> Result<PlainHandle> {
+    fn get_shared_object(&mut self, _uuid: VhostUserSharedMsg) -> Result<NoHandle> {
         Err(UNUSED)
     }
 
     fn get_inflight_fd(
         &mut self,
         _inflight: &VhostUserInflight,
-    ) -> Result<(VhostUserInflight, PlainHandle)> {
+    ) -> Result<(VhostUserInflight, NoHandle)> {
         Err(UNUSED)
     }
 
-    fn set_inflight_fd(&mut self, _inflight: &VhostUserInflight, _file: PlainHandle) -> Result<()> {
+    fn set_inflight_fd(&mut self, _inflight: &VhostUserInflight, _file: NoHandle) -> Result<()> {
         Err(UNUSED)
     }
 
@@ -189,7 +199,7 @@ impl VhostUserBackendReqHandlerMut for Device {
     fn add_mem_region(
         &mut self,
         _region: &VhostUserSingleMemoryRegion,
-        _fd: PlainHandle,
+        _fd: NoHandle,
         _postcopy_listening: Option<bool>,
     ) -> Result<Option<u64>> {
         Err(UNUSED)
@@ -203,8 +213,8 @@ impl VhostUserBackendReqHandlerMut for Device {
         &mut self,
         _direction: VhostTransferStateDirection,
         _phase: VhostTransferStatePhase,
-        _fd: PlainHandle,
-    ) -> Result<Option<PlainHandle>> {
+        _fd: NoHandle,
+    ) -> Result<Option<NoHandle>> {
         Err(UNUSED)
     }
 
@@ -216,7 +226,7 @@ impl VhostUserBackendReqHandlerMut for Device {
         Err(UNUSED)
     }
 
-    fn postcopy_advice(&mut self) -> Result<PlainHandle> {
+    fn postcopy_advice(&mut self) -> Result<NoHandle> {
         Err(UNUSED)
     }
 
@@ -232,7 +242,7 @@ impl VhostUserBackendReqHandlerMut for Device {
         Err(UNUSED)
     }
 
-    fn set_log_base(&mut self, _log: &VhostUserLog, _file: PlainHandle) -> Result<()> {
+    fn set_log_base(&mut self, _log: &VhostUserLog, _file: NoHandle) -> Result<()> {
         Err(UNUSED)
     }
 }

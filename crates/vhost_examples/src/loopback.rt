@@ -1,4 +1,4 @@
-//! A link that hands out what it took in.
+//! A link that receives what it sent.
 
 ghost use Rattle.std.specs.Prelude.{◌≡◌, ◌<◌, ◌≤◌, [], ◌++◌, length, take, drop, Ok};
 ghost use Rattle.vhost_link.specs.declared.handle.Kind.TheVariants.{NoSocket};
@@ -8,7 +8,7 @@ use std::marker::Model;
 use vhost_link::{Handle, Kind, Link};
 use vhost_message::IoCause;
 
-/// What would travel with a byte. This link carries none.
+/// A file descriptor that would travel with a byte. This link carries none.
 #[derive(Clone, Copy, Debug)]
 pub struct Ticket {
     /// Its number.
@@ -29,11 +29,11 @@ impl Handle for Ticket {
     }
 }
 
-/// A link whose other end is itself. A contract sees the bytes that it is still to hand out.
+/// A link whose other end is itself. A contract sees the bytes that are still to be received.
 #[derive(Drop)]
 pub struct Loopback {
     bytes: Vec<u8>,
-    /// How many of them it has handed out.
+    /// How many of them were received.
     gone: usize,
 }
 
@@ -58,7 +58,7 @@ impl Loopback {
         }
     }
 
-    /// Fills the front of the room with the bytes that come next; how many that was.
+    /// Fills the room, from its start, with the bytes that come next; how many these are.
     fn hand_out(&mut self, room: &mut [u8]) -> usize
         requires { 0 < length room.old }
         ensures within { result ≤ length room.old }
@@ -86,7 +86,7 @@ impl Link for Loopback {
 
     ghost opens = { λ _ _ _. ⊤ };
 
-    /// Takes in all bytes. It carries no handles, and says so; want of memory is `Raw(12)`.
+    /// Accepts all bytes. It carries no file descriptors, and says so; a failed allocation is `Raw(12)`.
     fn send(&mut self, bytes: &[u8], handles: &[&Ticket]) -> Result<usize, IoCause> {
         if !handles.is_empty() {
             return Err(IoCause::Named("handles cannot be carried"));
@@ -97,7 +97,7 @@ impl Link for Loopback {
         }
     }
 
-    /// Hands out all that fits into the room; 0 where nothing is left.
+    /// Gives all that fits into the room; 0 where nothing is left.
     fn recv(&mut self, room: &mut [u8], _handles: &mut Vec<Ticket>) -> Result<usize, IoCause> {
         Ok(self.hand_out(room))
     }

@@ -1,15 +1,18 @@
-//! Serves a device of one's own over a link in memory.
+//! Serves a device of one's own at one end of a Unix socket, one request after another.
 
 use crate::device::Device;
-use std::alloc::Global;
+use std::io::{Read, Write};
+use std::net::Shutdown;
+use std::os::unix::net::UnixStream;
 use vhost_backend_req_handler::SessionCore;
-use vhost_link::MemLink;
+use vhost_link::UnixLink;
 
 /// How many retries a message may take.
 const BUDGET: u32 = 3;
 
-/// What a frontend sends: a call's name, its bytes.
-const REQUESTS: [(&str, &[u8]); 4] = [
+/// What a frontend sends: a request's name, its bytes.
+const REQUESTS: [(&str, &[u8]); 5] = [
+    ("GET_FEATURES", &[1, 0, 0, 0, 1, 0, 0, 0, 0, 0, 0, 0]),
     ("SET_OWNER", &[3, 0, 0, 0, 1, 0, 0, 0, 0, 0, 0, 0]),
     (
         "SET_FEATURES of bit 0",
@@ -22,27 +25,17 @@ const REQUESTS: [(&str, &[u8]); 4] = [
     ("a header cut short", &[3, 0, 0, 0, 1]),
 ];
 
-/// A link that hands out the requests.
-fn link_of_requests(alloc: Global) -> anyhow::Result<MemLink> {
-    let mut link = MemLink::new(alloc, Vec::new(alloc));
+/// Writes the requests, and ends the stream.
+fn send(frontend: &mut UnixStream) -> anyhow::Result<()> {
     for (_, bytes) in &REQUESTS {
-        link.push(bytes, &[])?;
+        frontend.write_all(bytes)?;
     }
-    Ok(link)
-}
-
-/// A session over that link.
-fn open(alloc: Global) -> anyhow::Result<SessionCore<MemLink>> {
-    let link = link_of_requests(alloc)?;
-    Ok(SessionCore::new(alloc, link, BUDGET)?)
+    Ok(frontend.shutdown(Shutdown::Write)?)
 }
 
 /// Serves the requests, and prints how each was answered, and what the device has become.
-fn serve(rt: &HostRuntime, session: &mut SessionCore<MemLink>) -> anyhow::Result<()> {
-    let mut device = Device {
-        owned: false,
-        features: 0,
-    };
+fn serve(rt: &HostRuntime, session: &mut SessionCore<UnixLink>) -> anyhow::Result<()> {
+    let mut device = Device::new();
     for (name, _) in &REQUESTS {
         match session.handle_request(&mut device) {
             Ok(()) => println!(rt; "{name}: served")?,
@@ -53,6 +46,22 @@ fn serve(rt: &HostRuntime, session: &mut SessionCore<MemLink>) -> anyhow::Result
     Ok(())
 }
 
+/// Prints the reply to GET_FEATURES.
+fn show_reply(rt: &HostRuntime, frontend: &mut UnixStream) -> anyhow::Result<()> {
+    let mut reply = [0; 20];
+    frontend.read_exact(&mut reply)?;
+    println!(rt; "reply: {reply:?}")?;
+    Ok(())
+}
+
+/// A session over this socket.
+fn open(rt: &HostRuntime, socket: UnixStream) -> anyhow::Result<SessionCore<UnixLink>> {
+    Ok(SessionCore::new(rt.alloc(), UnixLink::from(socket), BUDGET)?)
+}
+
 pub(crate) fn run(rt: &HostRuntime) -> anyhow::Result<()> {
-    serve(rt, &mut open(rt.alloc())?)
+    let (mut frontend, socket) = UnixStream::pair(rt)?;
+    send(&mut frontend)?;
+    serve(rt, &mut open(rt, socket)?)?;
+    show_reply(rt, &mut frontend)
 }

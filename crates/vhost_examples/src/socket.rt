@@ -1,5 +1,6 @@
-//! Serves a device over a Unix socket in one thread, and asks it as a hypervisor does from another. `main` starts both.
+//! Serves a device of one's own at a Unix socket in one thread, and asks it as a VMM does from another. `main` starts both.
 
+use crate::device::Device;
 use std::alloc::Global;
 use std::net::Net;
 use std::rt::{Clock, Files};
@@ -8,7 +9,6 @@ use vhost_backend::VhostBackend;
 use vhost_backend_req_handler::{BackendListener, BackendReqHandler};
 use vhost_connection::Listener;
 use vhost_device::VhostUserBackendReqHandler;
-use vhost_dummy_backend::DummyBackendReqHandler;
 use vhost_frontend::{Frontend, VhostUserFrontend};
 use vhost_link::UnixLink;
 use vhost_message::{Error, Result, VhostUserProtocolFeatures};
@@ -16,7 +16,7 @@ use vhost_message::{Error, Result, VhostUserProtocolFeatures};
 /// Where the device listens.
 pub(crate) const PATH: &str = "device.sock";
 
-/// How many rings the driver has at first, and how many retries a message may take.
+/// How many rings the frontend has at first, and how many retries a message may take.
 const RINGS: u64 = 1;
 
 const BUDGET: u32 = 3;
@@ -28,8 +28,7 @@ pub(crate) fn serve<R: Files + Drop>(
     alloc: Global,
     mut listener: Listener<R>,
 ) -> Result<u64> {
-    let device = DummyBackendReqHandler::new(alloc, Vec::new(alloc));
-    serve_device(rt, alloc, &mut listener, Mutex::new(device))
+    serve_device(rt, alloc, &mut listener, Mutex::new(Device::new()))
 }
 
 /// Serves this device to the first frontend that connects.

@@ -14,6 +14,7 @@ mod reverse_served;
 mod served;
 
 use play::{Tally, play_session};
+use std::io::Write;
 use std::process::ExitCode;
 use std::sync::Wait;
 use std::{env, fs, io};
@@ -21,25 +22,30 @@ use vhost_test_tools::{Miss, Refusal, Session, read_sessions};
 
 /// Plays the files that the arguments name. A file after `--refused` must be refused.
 ///
-/// Status 0 means that each file was met, 1 that some was not, and 2 that a file could not be read, or nothing printed.
+/// Status 0 means that each file was met, 1 that some was not, and 2 that no file is named, or one could not be read, or nothing printed.
 fn main(rt: HostRuntime) -> ExitCode {
     match play_all(&rt, &rt) {
-        Ok(true) => ExitCode::SUCCESS,
-        Ok(false) => ExitCode::from(1),
+        Ok(Some(true)) => ExitCode::SUCCESS,
+        Ok(Some(false)) => ExitCode::from(1),
+        Ok(None) => {
+            let _ = writeln!(rt.stderr(), "vhost_tests: no script is named");
+            ExitCode::from(2)
+        }
         Err(_) => ExitCode::from(2),
     }
 }
 
-/// Plays the files that the arguments name; whether each was met.
-fn play_all(rt: &HostRuntime, waits: &impl Wait) -> io::Result<bool> {
-    let mut met = true;
+/// Plays the files that the arguments name; whether each was met, and None where they name none.
+fn play_all(rt: &HostRuntime, waits: &impl Wait) -> io::Result<Option<bool>> {
+    let mut met = None;
     let mut is_refused = false;
     for name in env::args(rt)?.skip(1) {
         if name.as_str() == "--refused" {
             is_refused = true;
             continue;
         }
-        met &= play_file(rt, waits, name.as_str())? != is_refused;
+        let is_met = play_file(rt, waits, name.as_str())? != is_refused;
+        met = Some(met.unwrap_or(true) && is_met);
         is_refused = false;
     }
     Ok(met)
@@ -57,8 +63,8 @@ fn play_file(rt: &HostRuntime, waits: &impl Wait, name: &str) -> io::Result<bool
     }
 }
 
-/// Plays the sessions of a file; whether all were met. After a difference the rest of its session is left out, after a line that
-/// can't be read the rest of the file.
+/// Plays the sessions of a file; whether there are some and all were met. After a difference the rest of its session is left out,
+/// after a line that can't be read the rest of the file.
 fn play_sessions(
     rt: &HostRuntime,
     waits: &impl Wait,
@@ -66,7 +72,7 @@ fn play_sessions(
     sessions: &[Session<'_>],
 ) -> io::Result<bool> {
     let mut tally = Tally::new();
-    let mut met = true;
+    let mut met = !sessions.is_empty();
     for session in sessions {
         if let Err(refusal) = play_session(waits, rt.alloc(), session, &mut tally) {
             tell(rt, name, &refusal)?;

@@ -1,0 +1,91 @@
+#!/usr/bin/env python3
+# SPDX-License-Identifier: Apache-2.0
+"""scripts/quotes.py: whether the code that pages quote stands in the sources.
+
+A block of `rust` is quoted from one file of crates/vhost_examples/src, one of `antt` from one file of some crate's specs/: its lines stand there
+in this order, without the space before them; a line '// ..' or '-- ..' leaves some out.
+A session '$ ./vhost-run <<END' is quoted from one session of crates/vhost_tests/data/lines_*.txt: its lines are typed there, and printed.
+
+Status 0 where all is quoted; 1 where some is not: the block's page and line are printed.
+"""
+import glob
+import os
+import re
+import sys
+
+TOP = os.path.dirname(os.path.dirname(os.path.realpath(__file__)))
+
+SOURCES = {"rust": "crates/vhost_examples/src/*.rt", "antt": "crates/*/specs/*.antt"}
+
+
+def read(path):
+    with open(path, encoding="utf-8") as file:
+        return file.read()
+
+
+def lines_of(text):
+    """The lines of a text, without the space around them; empty ones are none."""
+    return [line.strip() for line in text.split("\n") if line.strip()]
+
+
+def stands_in(parts, lines):
+    """Whether each part stands in these lines, whole, and behind the one before it."""
+    at = 0
+    for part in parts:
+        starts = [it for it in range(at, len(lines) - len(part) + 1) if lines[it : it + len(part)] == part]
+        if not starts:
+            return False
+        at = starts[0] + len(part)
+    return True
+
+
+def parts_of(block):
+    """The parts of a block between the lines that leave some out."""
+    parts = [[]]
+    for line in lines_of(block):
+        if re.match(r"(//|--) \.\.", line):
+            parts.append([])
+        else:
+            parts[-1].append(line)
+    return [part for part in parts if part]
+
+
+def is_session(block):
+    """Whether a session of `vhost-run` is one of the scripts: what is typed, and what is printed."""
+    typed, printed = re.search(r"<<END\n(.*?)\n *END\n(.*)", block, re.S).groups()
+    wanted = [f"line {it}" for it in lines_of(typed)], [f"prints {it}" for it in lines_of(printed)]
+    for path in glob.glob(f"{TOP}/crates/vhost_tests/data/lines_*.txt"):
+        for session in read(path).split("\nsession "):
+            lines = lines_of(session)
+            if wanted == ([it for it in lines if it.startswith("line ")], [it for it in lines if it.startswith("prints ")]):
+                return True
+    return False
+
+
+def is_quoted(kind, block):
+    """Whether a block stands in the sources."""
+    if kind == "session":
+        return is_session(block)
+    return any(stands_in(parts_of(block), lines_of(read(path))) for path in glob.glob(f"{TOP}/{SOURCES[kind]}"))
+
+
+def blocks_of(text):
+    """The blocks of a page that are quoted: each with its line and its kind."""
+    for found in re.finditer(r"^```(rust|antt)\n(.*?)^```", text, re.S | re.M):
+        yield text.count("\n", 0, found.start()) + 1, found[1], found[2]
+    for found in re.finditer(r"^    \$ \./vhost-run <<END\n(?:    .*\n)*", text, re.M):
+        yield text.count("\n", 0, found.start()) + 1, "session", found[0]
+
+
+def main():
+    missing = 0
+    for page in sorted([*glob.glob(f"{TOP}/*.md"), *glob.glob(f"{TOP}/docs/**/*.md", recursive=True)]):
+        for number, kind, block in blocks_of(read(page)):
+            if not is_quoted(kind, block):
+                missing += 1
+                print(f"{os.path.relpath(page, TOP)}:{number}: no source has this {kind}")
+    return 1 if missing else 0
+
+
+if __name__ == "__main__":
+    sys.exit(main())
