@@ -1,6 +1,6 @@
 //! What a frontend remembers of its backend, and the tests of its calls.
 
-ghost use Rattle.std.specs.Prelude.{◌≡◌, ◌<◌, IfOk, false};
+ghost use Rattle.std.specs.Prelude.{◌≡◌, ◌<◌, ◌≤◌, IfOk, false};
 ghost use Rattle.vhost_message.specs.Bits.{has_bit as is_set};
 ghost use Rattle.vhost_message.specs.declared.header_bit.TheConstants.{NEED_REPLY, REPLY};
 ghost use Rattle.vhost_protocol.specs.Ask as ask;
@@ -109,6 +109,7 @@ impl FrontendSession {
     pub fn small_index(&self, index: usize) -> Result<u64>
         ensures test { ask.small_index (frontend_of self.now) index ≡ tested result }
         ensures same { IfOk result (λ i. i ≡ index) }
+        ensures small { IfOk result (λ i. i ≤ 255) }
     {
         if index as u64 >= self.max_queue_num || index as u64 > 255 {
             return Err(Error::InvalidParam);

@@ -1,6 +1,6 @@
 //! What each call becomes whose message is one record: the table of a frontend's requests.
 
-ghost use Rattle.std.specs.Prelude.{◌≡◌, ◌==◌, ◌&&◌, IfOk, false, map, not};
+ghost use Rattle.std.specs.Prelude.{◌≡◌, ◌+◌, ◌==◌, ◌&&◌, IfOk, false, map, not};
 ghost use Rattle.vhost_protocol.specs.declared.asked.Awaited.TheVariants.{Reply};
 ghost use Rattle.vhost_connection.specs.Asking.{request_with};
 ghost use Rattle.vhost_message.specs.Records.{single_region};
