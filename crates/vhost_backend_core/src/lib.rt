@@ -1,0 +1,21 @@
+//! Serving a frontend as values: a request becomes a call of the device, and the device's answer becomes what is written.
+#![tactic(auto)]
+
+mod answer;
+mod call;
+mod checks;
+mod conclude;
+mod incoming;
+mod laws;
+mod rows;
+mod session;
+mod telling;
+
+pub use answer::{Conclusion, ConfigReply, DeviceAnswer, Reply, Then, Told, Verdict};
+pub use call::{Area, Begun, DeviceCall, RegionTable};
+pub use checks::take_single_file;
+pub use conclude::Conclusions;
+pub use incoming::Incoming;
+pub use laws::{Laws, laws_of_halves};
+pub use rows::Rows;
+pub use session::Session;
