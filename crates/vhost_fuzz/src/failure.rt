@@ -1,35 +1,70 @@
-//! Want of memory, of the fuzzer itself.
+//! Why a run can't go on.
 
 use std::alloc::{AllocError, AllocFailed};
+use std::io::ErrorKind;
+use std::{fmt, io};
 use vhost_message::Error;
 use vhost_test_tools::Miss;
 
-/// Memory was refused.
+/// Why the fuzzer can't go on.
 #[derive(Drop)]
-pub(crate) struct NoMemory;
+pub(crate) enum Failure {
+    /// Memory was refused.
+    OutOfMemory,
+    /// A side could not be made.
+    Side(Error),
+    /// A call or a reply that is written here could not be read.
+    Words(Miss),
+    /// The output could not be written.
+    Output(io::Error),
+}
 
-impl From<AllocError> for NoMemory {
-    fn from(_error: AllocError) -> NoMemory {
-        NoMemory
+impl From<AllocError> for Failure {
+    fn from(_error: AllocError) -> Failure {
+        Failure::OutOfMemory
     }
 }
 
-impl<T: Drop> From<AllocFailed<T>> for NoMemory {
-    fn from(_failed: AllocFailed<T>) -> NoMemory {
-        NoMemory
+impl<T: Drop> From<AllocFailed<T>> for Failure {
+    fn from(_failed: AllocFailed<T>) -> Failure {
+        Failure::OutOfMemory
     }
 }
 
-impl From<Error> for NoMemory {
-    /// What makes a side answers no other error.
-    fn from(_error: Error) -> NoMemory {
-        NoMemory
+impl From<io::Error> for Failure {
+    fn from(cause: io::Error) -> Failure {
+        match cause.kind() {
+            ErrorKind::OutOfMemory => Failure::OutOfMemory,
+            _ => Failure::Output(cause),
+        }
     }
 }
 
-impl From<Miss> for NoMemory {
-    /// The lines and messages that are written here can be read.
-    fn from(_miss: Miss) -> NoMemory {
-        NoMemory
+impl From<Error> for Failure {
+    fn from(error: Error) -> Failure {
+        match error {
+            Error::OutOfMemory => Failure::OutOfMemory,
+            other => Failure::Side(other),
+        }
+    }
+}
+
+impl From<Miss> for Failure {
+    fn from(miss: Miss) -> Failure {
+        match miss {
+            Miss::OutOfMemory => Failure::OutOfMemory,
+            other => Failure::Words(other),
+        }
+    }
+}
+
+impl fmt::Display for Failure {
+    fn fmt<W: fmt::Write>(&self, f: &mut fmt::Formatter<W>) -> fmt::Result {
+        match self {
+            Failure::OutOfMemory => f.write_str("out of memory"),
+            Failure::Side(error) => write!(f, "a side could not be made: {error}"),
+            Failure::Words(miss) => write!(f, "a call or a reply could not be read: {miss}"),
+            Failure::Output(cause) => write!(f, "the output failed: {cause}"),
+        }
     }
 }
