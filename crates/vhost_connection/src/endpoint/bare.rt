@@ -41,7 +41,10 @@ impl<R: Req, L: Link> Endpoint<VhostUserMsgHeader<R>, L> {
         ensures { ReadsOrBare L.event R.code (fields_of request.now) (state self.old) buf.old result buf.new (state self.new) }
     {
         let Front {
-            count, left, list, ..
+            count,
+            left,
+            list,
+            ..
         } = self.recv_front(24)?;
         if count < 24 {
             self.put_back(list);

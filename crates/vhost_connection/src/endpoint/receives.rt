@@ -125,7 +125,10 @@ impl<M: MsgHeader, L: Link> Endpoint<M, L> {
     {
         let len = M::SIZE;
         let Front {
-            count, more, list, ..
+            count,
+            more,
+            list,
+            ..
         } = self.recv_parts(len, buf)?;
         if count < len {
             self.put_back(list);
@@ -171,7 +174,10 @@ impl<M: MsgHeader, L: Link> Endpoint<M, L> {
         let head = M::SIZE;
         let len = head + T::SIZE;
         let Front {
-            count, more, list, ..
+            count,
+            more,
+            list,
+            ..
         } = self.recv_parts(len, buf)?;
         if count < len {
             self.put_back(list);
