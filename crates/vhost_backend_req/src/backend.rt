@@ -2,6 +2,7 @@
 
 ghost use Rattle.std.specs.Prelude.{◌≡◌, IfErr};
 ghost use Rattle.vhost_message.specs.declared.error.Error.TheVariants.{OutOfMemory};
+ghost use Rattle.vhost_protocol.specs.Reverse.{HandleConfigChange, SharedObjectAdd, SharedObjectRemove, SharedObjectLookup, ShmemMap, ShmemUnmap};
 
 use crate::internal::BackendInternal;
 use std::alloc::{AllocError, Global};
@@ -61,23 +62,28 @@ impl<L: Link> Backend<L> {
     }
 }
 
-/// Each call is that of `BackendInternal`, under the lock.
+/// Each call is that of `BackendInternal`, whole in one turn with the lock: also a failure is that of the channel which it found there.
 impl<L: Link> VhostUserFrontendReqHandler for Backend<L> {
+    ghost use Rattle.vhost_backend_req.specs.Asking.{AsksCall};
+    ghost use Rattle.vhost_backend_req.specs.Turn.{Turn};
+
     type Handle = L::Handle;
 
-    fn handle_config_change(&self, rt: &impl Wait) -> HandlerResult<u64> {
+    fn handle_config_change(&self, rt: &impl Wait) -> HandlerResult<u64>
+        ensures { Turn (AsksCall L.event HandleConfigChange) result }
+    {
         self.inner.lock(rt).handle_config_change()
     }
 
-    fn shared_object_add(&self, rt: &impl Wait, uuid: &VhostUserSharedMsg) -> HandlerResult<u64> {
+    fn shared_object_add(&self, rt: &impl Wait, uuid: &VhostUserSharedMsg) -> HandlerResult<u64>
+        ensures { Turn (AsksCall L.event (SharedObjectAdd uuid.now)) result }
+    {
         self.inner.lock(rt).shared_object_add(uuid)
     }
 
-    fn shared_object_remove(
-        &self,
-        rt: &impl Wait,
-        uuid: &VhostUserSharedMsg,
-    ) -> HandlerResult<u64> {
+    fn shared_object_remove(&self, rt: &impl Wait, uuid: &VhostUserSharedMsg) -> HandlerResult<u64>
+        ensures { Turn (AsksCall L.event (SharedObjectRemove uuid.now)) result }
+    {
         self.inner.lock(rt).shared_object_remove(uuid)
     }
 
@@ -86,15 +92,21 @@ impl<L: Link> VhostUserFrontendReqHandler for Backend<L> {
         rt: &impl Wait,
         uuid: &VhostUserSharedMsg,
         fd: &L::Handle,
-    ) -> HandlerResult<u64> {
+    ) -> HandlerResult<u64>
+        ensures { Turn (AsksCall L.event (SharedObjectLookup uuid.now fd.now)) result }
+    {
         self.inner.lock(rt).shared_object_lookup(uuid, fd)
     }
 
-    fn shmem_map(&self, rt: &impl Wait, req: &VhostUserMMap, fd: &L::Handle) -> HandlerResult<u64> {
+    fn shmem_map(&self, rt: &impl Wait, req: &VhostUserMMap, fd: &L::Handle) -> HandlerResult<u64>
+        ensures { Turn (AsksCall L.event (ShmemMap req.now fd.now)) result }
+    {
         self.inner.lock(rt).shmem_map(req, fd)
     }
 
-    fn shmem_unmap(&self, rt: &impl Wait, req: &VhostUserMMap) -> HandlerResult<u64> {
+    fn shmem_unmap(&self, rt: &impl Wait, req: &VhostUserMMap) -> HandlerResult<u64>
+        ensures { Turn (AsksCall L.event (ShmemUnmap req.now)) result }
+    {
         self.inner.lock(rt).shmem_unmap(req)
     }
 }

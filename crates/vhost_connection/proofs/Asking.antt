@@ -13,7 +13,7 @@ use Rattle.vhost_protocol.specs.Written.{Payload, payload_text, Written, header_
 use Rattle.vhost_link.specs.Law.{Event}
 use Rattle.vhost_link.proofs.Cells.{length-carrying}
 use Rattle.vhost_connection.specs.Pass.{sends}
-use Rattle.vhost_connection.specs.Talk.{State, Talks, Serves}
+use Rattle.vhost_connection.specs.Talk.{State, Talks, Serves, Never}
 use Rattle.vhost_connection.specs.Calls.{Sends}
 use Rattle.vhost_connection.specs.Hearing.{Fails}
 use Rattle.vhost_connection.specs.Hearing.Fails.{was_broken, no_memory, fault}
@@ -44,17 +44,17 @@ at-ok (Ok a) p is = (a, p)
 at-ok (Err e) p is = absurd cc
 
 -- an endpoint that is to send a request: it has its list of handles
-abbrev begun : {L H : Type 0} → State L H → State L H
+abbrev pub begun : {L H : Type 0} → State L H → State L H
 begun old = record old { list = true; faulted = false }
 
 module _ {L H : Type 0} (event : L → Event H → L → Type 0) where
   -- what an endpoint does looks neither at its list nor at whether its last call met a fault
-  talks-begun : (old new : State L H) {m : _} → Talks event (begun old) m new → Talks event old m new
+  pub talks-begun : (old new : State L H) {m : _} → Talks event (begun old) m new → Talks event old m new
   talks-begun old new t = record { below = t.below; moved = t.moved; handed = t.handed; taken = t.taken; retries = t.retries; failures = t.failures; budget = t.budget }
 
   fails-begun : (old : State L H) (between : Bool) (e : declared.Error) (new : State L H) → old.broken ≡ None → Fails event (begun old) between e new → Fails event old between e new
   fails-begun old between e new sound (was_broken b s) = absurd (cc (sound, b))
-  fails-begun old between e new sound (no_memory b l s) = absurd cc
+  fails-begun old between e new sound (no_memory b l s) = absurd (cc l)
   fails-begun old between e new sound (fault c m b t none most spent few broken faulted kept) = fault c m b (record { before = t.before; talks = talks-begun old (record new { link = t.before }) t.talks; last = t.last }) none most spent few broken faulted ((λ _. kept.0 refl), kept.1)
 
   module _ {R : Type 0} (number : R → ℕ) (code : R) (flags : ℕ) (p : Payload) (handles : List H) (body payload : List ℕ) (size : ℕ) (text : payload_text p ≡ body ++ payload) (long : length body ≡ size) where
@@ -94,4 +94,4 @@ module _ {L H : Type 0} (event : L → Event H → L → Type 0) where
   front-fails handles header text old mid new e most sound is (n, r, t, short) =
       let sent = carrying handles (header_text header ++ text) in
       let few : length (take n sent) ≤ MAX_MSG_TEXT = omega (arith, length-take n sent, length-carrying handles (header_text header ++ text), length-append (header_text header) text, most) in
-      fails-begun old false e new sound (subst (λ (x : State L H). Fails event x false e new) is (trouble-fails event mid false false (sends (take n sent) r) e new t refl few))
+      fails-begun old false e new sound (subst (λ (x : State L H). Fails event x false e new) is (trouble-fails event mid Never false (sends (take n sent) r) e new t refl (ap (λ (x : State L H). x.list) is) few))

@@ -10,9 +10,9 @@ use Rattle.vhost_link.proofs.Moves.{Moved-as}
 use Rattle.vhost_connection.specs.declared.pass.RecvPass.{RecvPass}
 use Rattle.vhost_connection.specs.declared.pass.PassEnd.TheVariants.{Fault}
 use Rattle.vhost_connection.specs.Pass.{receives, GetsRest}
-use Rattle.vhost_connection.specs.Talk.{State}
+use Rattle.vhost_connection.specs.Talk.{State, Never}
 use Rattle.vhost_connection.specs.Talk.Trouble.{was_broken}
-use Rattle.vhost_connection.specs.Came.{Came, CutShort}
+use Rattle.vhost_connection.specs.Came.{Came, CutShort, GoesOn}
 use Rattle.vhost_connection.specs.Front.{ReadsCount}
 use Rattle.vhost_connection.specs.Ahead.{Way, reads_ahead}
 use Rattle.vhost_connection.proofs.Talking.{At, went-from, down-from, served, serves, failed, gave-up}
@@ -22,7 +22,7 @@ use Rattle.vhost_connection.proofs.Receiving.{front-of}
 -- up to so many bytes, or the end
 pub data-came : {L H : Type 0} (event : L → Event H → L → Type 0) (old new : State L H) (from to : Way L) (before after : List ℕ) (got : RecvPass) (len : ℕ)
     → At old from → new ≡ served old to.link (plain to.ahead) old.list got.left → old.broken ≡ None → (g : GetsRest (reads_ahead event) from before old.left got after to)
-    → ((c : IoCause) → got.stop ≡ Fault c → ⊥) → length before ≡ len → Came event old false len g.cs old.list new
+    → ((c : IoCause) → got.stop ≡ Fault c → ⊥) → length before ≡ len → Came event old GoesOn len g.cs old.list new
 data-came event old new from to before after got len a s broken g miss long =
     let q = heard-as (reads_ahead event) from to (length before) old.left got.left got.stop g.cs miss g.ended in
     let r = old.left - got.left in
@@ -49,17 +49,17 @@ data-surplus event old new from to before after got len a s broken g miss long s
     (g.cs, inl (data-came event old new from to before after got len a s broken g miss long, (refl, sym g.surplus ∙ some)))
 
 -- fewer, and then a fault
-pub data-cut : {L H : Type 0} (event : L → Event H → L → Type 0) (old new : State L H) (from to : Way L) (before after : List ℕ) (got : RecvPass) (len : ℕ) (c : IoCause) (e : Error)
-    → At old from → new ≡ failed old to.link (plain to.ahead) old.list got.left (Some c) → old.broken ≡ None → e ≡ error_of c
-    → (g : GetsRest (reads_ahead event) from before old.left got after to) → got.stop ≡ Fault c → length before ≡ len → CutShort event old false len g.cs e new
-data-cut event old new from to before after got len c e a s broken is g fault long =
+pub data-cut : {L H : Type 0} (event : L → Event H → L → Type 0) (old new : State L H) (from to : Way L) (before after : List ℕ) (got : RecvPass) (left len : ℕ) (c : IoCause) (e : Error)
+    → At old from → new ≡ failed old to.link (plain to.ahead) old.list left (Some c) → old.broken ≡ None → e ≡ error_of c
+    → (g : GetsRest (reads_ahead event) from before old.left got after to) → got.stop ≡ Fault c → length before ≡ len → CutShort event old GoesOn len g.cs e new
+data-cut event old new from to before after got left len c e a s broken is g fault long =
     let q = rw fault at g.ended in
     let r = old.left - got.left in
     let m = receives (items g.cs) r in
     record {
       retries = r;
       short = λ h. omega (arith, q.0);
-      trouble = gave-up event old new to.link (plain to.ahead) old.list got.left (Some c) old.left false true m c e s broken is refl (λ h. h) (λ h. absurd (cc h)) refl (omega arith) (λ h. let z = q.1 h in omega arith) (down-from old from to m c a q.2);
+      trouble = gave-up event old new to.link (plain to.ahead) old.list left (Some c) old.left Never true m c e s broken is refl (λ h. h) (λ h. absurd (cc h)) refl (omega arith) (λ h. let z = q.1 h in omega arith) (down-from old from to m c a q.2);
     }
 
 -- it was broken before

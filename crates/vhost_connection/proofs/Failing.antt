@@ -11,7 +11,7 @@ use Rattle.vhost_protocol.specs.Stream.{items}
 use Rattle.vhost_link.specs.Law.{Event, Refused, Move, more, move, ◌then◌, refused}
 use Rattle.vhost_connection.proofs.Adding.{refused-handed}
 use Rattle.vhost_connection.specs.State.{first_cause}
-use Rattle.vhost_connection.specs.Talk.{State, Talks, Fell, IsBroken, Trouble, has_moved}
+use Rattle.vhost_connection.specs.Talk.{State, Talks, Fell, IsBroken, Growth, is_first, Trouble, has_moved}
 use Rattle.vhost_connection.specs.Talk.Trouble.{was_broken as trouble_broken, no_memory as trouble_memory, fault as trouble_fault}
 use Rattle.vhost_connection.specs.Hearing.{Spends, Fails, broken_on}
 use Rattle.vhost_connection.specs.Hearing.Fails.{was_broken, no_memory, fault}
@@ -58,20 +58,20 @@ fell-talks {H = H} {old = old} {new} {m} c f =
       budget = t.budget;
     }
 
-module _ {L H : Type 0} (event : L → Event H → L → Type 0) (old : State L H) (grows breaks : Bool) (m : Move H) where
-  -- an endpoint's trouble is a failure of the side
-  pub trouble-fails : (e : Error) (new : State L H) → Trouble event old old.budget grows breaks m e new → breaks ≡ false → length m.taken ≤ MAX_MSG_TEXT → Fails event old false e new
-  trouble-fails e new (trouble_broken b n s) whole few = was_broken b s
-  trouble-fails e new (trouble_memory w b l n s) whole few = no_memory b l s
-  trouble-fails e new (trouble_fault c b t f r most k y l) whole few = fault c m b t f r most few (k ∙ rw whole refl) y (l.0, (λ h. l.1 (rw whole h)))
+module _ {L H : Type 0} (event : L → Event H → L → Type 0) (old : State L H) (grows : Growth) (breaks : Bool) (m : Move H) where
+  -- an endpoint's trouble is a failure of the side, where the list of handles was made first
+  pub trouble-fails : (e : Error) (new : State L H) → Trouble event old old.budget grows breaks m e new → breaks ≡ false → (is_first grows || old.list) ≡ true → length m.taken ≤ MAX_MSG_TEXT → Fails event old false e new
+  trouble-fails e new (trouble_broken b n s) whole listed few = was_broken b (s ∙ ap (λ (x : Bool). record old { list = x; faulted = false }) listed)
+  trouble-fails e new (trouble_memory w b l n s) whole listed few = no_memory (λ h. absurd (cc h)) l s
+  trouble-fails e new (trouble_fault c b t f r most k y l) whole listed few = fault c m b t f r most few (k ∙ rw whole refl) y (l.0, (λ h. l.1 (rw whole h)))
 
   -- between a request and the end of its answer it breaks the endpoint, too
-  pub trouble-breaks : (e : Error) (new : State L H) → Trouble event old old.budget grows breaks m e new → length m.taken ≤ MAX_MSG_TEXT → Fails event old true e (broken_on e new)
-  trouble-breaks e new (trouble_broken {c = c} b n s) few = was_broken b
-      (ap (λ (x : State L H). record x { broken = first_cause x.broken c }) s ∙ ap (λ (x : Option IoCause). record old { broken = first_cause x c; faulted = false }) b
+  pub trouble-breaks : (e : Error) (new : State L H) → Trouble event old old.budget grows breaks m e new → is_first grows ≡ false → length m.taken ≤ MAX_MSG_TEXT → Fails event old true e (broken_on e new)
+  trouble-breaks e new (trouble_broken {c = c} b n s) later few = was_broken b
+      (ap (λ (x : State L H). record x { broken = first_cause x.broken c }) (s ∙ ap (λ (x : Bool). record old { list = x || old.list; faulted = false }) later) ∙ ap (λ (x : Option IoCause). record old { broken = first_cause x c; faulted = false }) b
       ∙ ap (λ (x : Option IoCause). record old { broken = x; faulted = false }) (sym b))
-  trouble-breaks e new (trouble_memory w b l n s) few = no_memory b l s
-  trouble-breaks e new (trouble_fault c b t f r most k y l) few =
+  trouble-breaks e new (trouble_memory w b l n s) later few = no_memory (λ _. b later) l s
+  trouble-breaks e new (trouble_fault c b t f r most k y l) later few =
       let after : broken_on (error_of c) new ≡ record new { broken = Some c } =
       broken-socket c new (is_retry c) (is_break c) (is_denial c) ∙ ap (λ (x : Option IoCause). record new { broken = x }) (ap (λ (x : Option IoCause). first_cause x c) k ∙ first-is c (breaks || has_moved m)) in
       let failed : Fails event old true (error_of c) (record new { broken = Some c }) =
@@ -84,9 +84,9 @@ module _ {L H : Type 0} (event : L → Event H → L → Type 0) (old : State L 
       f r most few refl y (l.0, (λ h. absurd (cc h))) in
       subst (λ (x : State L H). Fails event old true (error_of c) x) (sym after) failed
 
--- before a request: an endpoint that was broken, or lacks memory
-pub broken_fails : {L H : Type 0} {event : L → Event H → L → Type 0} {old new : State L H} {e : Error} → IsBroken old e → new ≡ record old { faulted = false } → Fails event old false e new
+-- before a request: an endpoint that lacks memory, or was broken
+pub broken_fails : {L H : Type 0} {event : L → Event H → L → Type 0} {old new : State L H} {e : Error} → IsBroken old e → new ≡ record old { list = true; faulted = false } → Fails event old false e new
 broken_fails {event = event} {old} {new} {e} (c, b, is) same = subst (λ y. Fails event old false y new) (sym is) (was_broken b same)
 
-pub memory_fails : {L H : Type 0} {event : L → Event H → L → Type 0} {old new : State L H} {e : Error} → e ≡ OutOfMemory → old.broken ≡ None → old.list ≡ false → new ≡ record old { faulted = false } → Fails event old false e new
-memory_fails {event = event} {old} {new} is b l same = subst (λ y. Fails event old false y new) (sym is) (no_memory b l same)
+pub memory_fails : {L H : Type 0} {event : L → Event H → L → Type 0} {old new : State L H} {e : Error} → e ≡ OutOfMemory → old.list ≡ false → new ≡ record old { faulted = false } → Fails event old false e new
+memory_fails {event = event} {old} {new} is l same = subst (λ y. Fails event old false y new) (sym is) (no_memory (λ h. absurd (cc h)) l same)

@@ -13,7 +13,7 @@ use Rattle.vhost_link.specs.Law.Moved.{still}
 use Rattle.vhost_link.proofs.Cells.{length-carrying, bytes-carrying, brings-plain}
 use Rattle.vhost_link.proofs.Moves.{Moved-as, Moved-once}
 use Rattle.vhost_connection.specs.Pass.{receives, GetsPiece, Arrives}
-use Rattle.vhost_connection.specs.Talk.{State, Serves, Trouble}
+use Rattle.vhost_connection.specs.Talk.{State, Serves, Trouble, IfSound}
 use Rattle.vhost_connection.specs.Calls.{HandsOver}
 use Rattle.vhost_connection.specs.Front.{ReadsCountOnce, gives}
 use Rattle.vhost_connection.specs.Ahead.{Way, reads_ahead}
@@ -64,9 +64,9 @@ once-came event old mid new from to before after text len n handles given pos lo
     )
 
 pub once-refused : {L H : Type 0} (event : L → Event H → L → Type 0) (old new : State L H) (from to : Way L) (c : IoCause) (e : Error)
-    → At old from → new ≡ failed old to.link (plain to.ahead) true old.left old.broken → old.broken ≡ None → e ≡ error_of c → reads_ahead event from (Refused c) to → Trouble event old 0 true false nothing e new
+    → At old from → new ≡ failed old to.link (plain to.ahead) true old.left old.broken → old.broken ≡ None → e ≡ error_of c → reads_ahead event from (Refused c) to → Trouble event old 0 IfSound false nothing e new
 once-refused event old new from to c e a s broken is p =
-    gave-up event old new to.link (plain to.ahead) true old.left old.broken 0 true false nothing c e s broken is broken (λ h. refl) (λ h. refl) refl (omega arith) (λ h. refl) (down-from old from to nothing c a (record { before = from; moved = still; last = p }))
+    gave-up event old new to.link (plain to.ahead) true old.left old.broken 0 IfSound false nothing c e s broken is broken (λ h. refl) (λ h. refl) refl (omega arith) (λ h. refl) (down-from old from to nothing c a (record { before = from; moved = still; last = p }))
 
 pub unasked : {L H : Type 0} (event : L → Event H → L → Type 0) (old : State L H) (len : ℕ) (text : List ℕ)
     → len ≡ 0 → old.broken ≡ None → ReadsCountOnce event old len (Ok (0, None)) text (record old { faulted = false })

@@ -16,8 +16,8 @@ use Rattle.vhost_protocol.proofs.SplitLaws.{le-shorter, lt-shorter, one-more}
 use Rattle.vhost_link.specs.Law.{Event}
 use Rattle.vhost_link.proofs.Cells.{length-bytes}
 use Rattle.vhost_connection.specs.Pass.{receives}
-use Rattle.vhost_connection.specs.Talk.{State}
-use Rattle.vhost_connection.specs.Came.{Came}
+use Rattle.vhost_connection.specs.Talk.{State, IfSound}
+use Rattle.vhost_connection.specs.Came.{Came, Alone}
 use Rattle.vhost_connection.specs.Calls.{ReadsPayload, IsNoMessage, is_sound}
 use Rattle.vhost_connection.specs.Calls.IsNoMessage.{too_few, not_valid}
 use Rattle.vhost_connection.specs.Hearing.{Hears, HearsReply, broken_on}
@@ -125,7 +125,7 @@ module _ {M R T L H : Type 0} (event : L → Event H → L → Type 0) (is_known
   abbrev pub ReadsReply : State L H → List ℕ → Result (M × T × ℕ × Option (Vec H Global)) declared.Error → List ℕ → State L H → Type 0
   ReadsReply = ReadsPayload event (λ bs. of_head (header_of bs)) valid_head size read valid
 
-  hears-came : {old new : State L H} (room : ℕ) {cs : List (Cell H)} {list : Bool} (o : Result (Received H) Error) → Came event old true (12 + size + room) cs list new → (has_some (first_handles cs) ≡ false → list ≡ true) → 12 + size ≤ length cs
+  hears-came : {old new : State L H} (room : ℕ) {cs : List (Cell H)} {list : Bool} (o : Result (Received H) Error) → Came event old Alone (12 + size + room) cs list new → (has_some (first_handles cs) ≡ false → list ≡ true) → 12 + size ≤ length cs
       → outcome is_known size room (λ bs. valid (read bs)) cs ≡ o → HearsReply event (reply_split is_known size (λ bs. valid (read bs)) room) old o new
   hears-came room {cs} o m kept whole e = record {
     hears = record {
@@ -181,7 +181,7 @@ module _ {M R T L H : Type 0} (event : L → Event H → L → Type 0) (is_known
   -- there is none
   pub reply-fails : (old new : State L H) (sent : Header) (before after : List ℕ) (e : declared.Error) → ReadsReply old before (Err e) after new
       → Missing event is_known request_of size (λ bs. valid (read bs)) (length before) old sent e (broken_on e new)
-  reply-fails old new sent before after e (cs, room, inr f) = failed (trouble-breaks event old true false (receives (items cs) f.retries) e new f.trouble (lit≤ tt))
+  reply-fails old new sent before after e (cs, room, inr f) = failed (trouble-breaks event old IfSound false (receives (items cs) f.retries) e new f.trouble refl (lit≤ tt))
   reply-fails old new sent before after e (cs, room, inl (m, bad)) = go e bad
     where
       go : (y : declared.Error) → IsNoMessage (12 + size) (is_sound (λ bs. of_head (header_of bs)) valid_head size read valid) cs y → Missing event is_known request_of size (λ bs. valid (read bs)) (length before) old sent y (broken_on y new)

@@ -21,7 +21,7 @@ use Rattle.vhost_connection.proofs.Failing.{broken-socket, first-is}
 
 module _ {L H : Type 0} (event : L → Event H → L → Type 0) where
   trouble-stops : (old mid : State L H) (cells : List (Cell H)) (n r : ℕ) (e : Error) → old.broken ≡ None → length cells ≤ MAX_MSG_TEXT → n < length cells
-      → Trouble event old old.budget false false (sends (take n cells) r) e mid → Stops event old cells e (broken_on e mid)
+      → Trouble event old old.budget talk.Never false (sends (take n cells) r) e mid → Stops event old cells e (broken_on e mid)
   trouble-stops old mid cells n r e sound few short (talk.was_broken b m s) = absurd (cc (sound, b))
   trouble-stops old mid cells n r e sound few short (talk.no_memory g b l m s) = absurd (cc g)
   trouble-stops old mid cells n r e sound few short (talk.fault c b t none most spent breaks faulted kept) =
@@ -67,12 +67,12 @@ module _ {L H : Type 0} (event : L → Event H → L → Type 0) where
       → old.broken ≡ None → Sends event old (carrying hs (header_text h ++ text)) (Err e) mid → new ≡ broken_on e mid → Tells event old (reply_text number r hs text) (Ok tt) (Err e) new
   reply-stopped number old mid new r hs h size text e head len small sound p after =
       let same = same-text number r hs h size text head len in
-      let t = subst (λ x. Trouble event old old.budget false false (sends (take p.0 x) p.1) e mid) same p.2 in
+      let t = subst (λ x. Trouble event old old.budget talk.Never false (sends (take p.0 x) p.1) e mid) same p.2 in
       let short : p.0 < length (reply_text number r hs text) = subst (λ x. p.0 < length x) same (p.3 sound) in
       subst (λ x. Tells event old (reply_text number r hs text) (Ok tt) (Err e) x) (sym after)
       (requests.stopped (trouble-stops old mid (reply_text number r hs text) p.0 p.1 e sound (few-cells hs (record { code = number r; flags = 5; size = length text }) text (rw len small)) short t))
 
-  was-broken : (old mid new : State L H) (m : Move H) (e : Error) (c : IoCause) → old.broken ≡ Some c → Trouble event old old.budget false false m e mid → new ≡ broken_on e mid
+  was-broken : (old mid new : State L H) (m : Move H) (e : Error) (c : IoCause) → old.broken ≡ Some c → Trouble event old old.budget talk.Never false m e mid → new ≡ broken_on e mid
       → (e ≡ SocketBroken c) × (new ≡ record old { faulted = false })
   was-broken old mid new m e c b (talk.was_broken {c = d} k n s) after =
       let same : d ≡ c = cc (b, k) in (

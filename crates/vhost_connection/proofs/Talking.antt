@@ -12,7 +12,7 @@ use Rattle.vhost_link.specs.Law.Moved.{still}
 use Rattle.vhost_link.proofs.Moves.{Moved-then, Moved-once, Moved-as}
 use Rattle.vhost_connection.specs.declared.pass.SendPass.{SendPass}
 use Rattle.vhost_connection.specs.Pass.{sends, Failed, SendsSome, SendsWhole}
-use Rattle.vhost_connection.specs.Talk.{State, Talks, Serves, Trouble, has_moved, IsBroken}
+use Rattle.vhost_connection.specs.Talk.{State, Talks, Serves, Growth, Never, is_first, Trouble, has_moved, IsBroken}
 use Rattle.vhost_connection.specs.Talk.Trouble.{was_broken, fault}
 use Rattle.vhost_connection.specs.Calls.{Sends, SendsOnce}
 use Rattle.vhost_connection.specs.Ahead.{Way, reads_ahead}
@@ -107,7 +107,7 @@ abbrev pub failed : {L H : Type 0} → State L H → L → List (Cell H) → Boo
 failed old link ahead list left broken = record old { link = link; ahead = ahead; list = list; left = left; broken = broken; faulted = true }
 
 -- the link failed
-pub gave-up : {L H : Type 0} (event : L → Event H → L → Type 0) (old new : State L H) (link : L) (ahead : List (Cell H)) (list : Bool) (left : ℕ) (broken : Option IoCause) (limit : ℕ) (grows breaks : Bool) (m : Move H) (c : IoCause) (e : Error)
+pub gave-up : {L H : Type 0} (event : L → Event H → L → Type 0) (old new : State L H) (link : L) (ahead : List (Cell H)) (list : Bool) (left : ℕ) (broken : Option IoCause) (limit : ℕ) (grows : Growth) (breaks : Bool) (m : Move H) (c : IoCause) (e : Error)
     → new ≡ failed old link ahead list left broken → old.broken ≡ None → e ≡ error_of c
     → broken ≡ (if breaks || has_moved m then Some c else None) → (old.list ≡ true → list ≡ true) → ((breaks || has_moved m) ≡ false → left ≡ old.left)
     → m.failures ≡ 0 → m.retries ≤ limit → (IsTrue (is_retry c) → m.retries ≡ limit)
@@ -139,25 +139,25 @@ sent-some event old new link text sent c e s before is some p =
     let r = old.budget - sent.left in (
       f.count,
       r,
-      gave-up event old new link old.ahead old.list old.left (if sent.moved then Some c else old.broken) old.budget false false (sends (take f.count text) r) c e s before is
+      gave-up event old new link old.ahead old.list old.left (if sent.moved then Some c else old.broken) old.budget Never false (sends (take f.count text) r) c e s before is
           (rw (before, f.told, some-take f.count text f.short) refl) (λ h. h) (λ h. refl) refl (omega arith) (λ h. let z = f.spent h in omega arith) (down-silent (sends (take f.count text) r) c old.ahead refl f.link),
       λ _. f.short,
     )
 
 -- it was broken before
-pub broken : {L H : Type 0} (event : L → Event H → L → Type 0) (old : State L H) (limit : ℕ) (grows breaks : Bool) (e : Error)
-    → IsBroken old e → Trouble event old limit grows breaks nothing e (record old { faulted = false })
-broken event old limit grows breaks e (c, b, is) = subst (λ y. Trouble event old limit grows breaks nothing y (record old { faulted = false })) (sym is) (was_broken b refl refl)
+pub broken : {L H : Type 0} (event : L → Event H → L → Type 0) (old : State L H) (limit : ℕ) (grows : Growth) (breaks : Bool) (e : Error)
+    → IsBroken old e → Trouble event old limit grows breaks nothing e (record old { list = is_first grows || old.list; faulted = false })
+broken event old limit grows breaks e (c, b, is) = subst (λ y. Trouble event old limit grows breaks nothing y (record old { list = is_first grows || old.list; faulted = false })) (sym is) (was_broken b refl refl)
 
 pub sends-broken : {L H : Type 0} (event : L → Event H → L → Type 0) (old : State L H) (text : List (Cell H)) (e : Error)
     → IsBroken old e → Sends event old text (Err e) (record old { faulted = false })
-sends-broken event old text e b = (0, 0, broken event old old.budget false false e b, λ h. absurd (cc (b.1, h)))
+sends-broken event old text e b = (0, 0, broken event old old.budget Never false e b, λ h. absurd (cc (b.1, h)))
 
 -- ---- one call of the link
 
 pub once-broken : {L H : Type 0} (event : L → Event H → L → Type 0) (old : State L H) (handles : List H) (bytes : List ℕ) (e : Error)
     → IsBroken old e → SendsOnce event old handles bytes (Err e) (record old { faulted = false })
-once-broken event old handles bytes e b = (broken event old 0 false false e b, (λ h. absurd (cc (b.1, h))), λ h. absurd (cc (b.1, h)))
+once-broken event old handles bytes e b = (broken event old 0 Never false e b, (λ h. absurd (cc (b.1, h))), λ h. absurd (cc (b.1, h)))
 
 moved-once : {L H : Type 0} (event : L → Event H → L → Type 0) (old new : L) (handles : List H) (bytes : List ℕ) (n : ℕ) → SendsSome event old bytes handles (Ok n) new → Moved event old (sends (carrying handles (take n bytes)) 0) new
 moved-once event old new handles [] n (most, some, none) =
@@ -179,7 +179,7 @@ pub refused-once : {L H : Type 0} (event : L → Event H → L → Type 0) (old 
     → new ≡ record old { link = link; broken = old.broken; faulted = true } → old.broken ≡ None → e ≡ error_of c → SendsSome event old.link bytes handles (Err c) link
     → SendsOnce event old handles bytes (Err e) new
 refused-once event old new link handles bytes c e s before is p = (
-  gave-up event old new link old.ahead old.list old.left old.broken 0 false false nothing c e s before is before (λ h. h) (λ h. refl) refl (omega arith) (λ h. refl) (down-silent nothing c old.ahead refl (record { before = old.link; moved = still; last = p.1 })),
+  gave-up event old new link old.ahead old.list old.left old.broken 0 Never false nothing c e s before is before (λ h. h) (λ h. refl) refl (omega arith) (λ h. refl) (down-silent nothing c old.ahead refl (record { before = old.link; moved = still; last = p.1 })),
   (λ h. rw s refl),
   λ h. (p.0, c, is, subst (λ x. event old.link (Refused c) x) (sym (ap (λ (x : State _ _). x.link) s)) p.1),
 )

@@ -13,7 +13,7 @@ use Rattle.vhost_protocol.specs.ReplySplit.{is_bare_reply}
 use Rattle.vhost_link.specs.Law.{Event}
 use Rattle.vhost_connection.specs.Talk.{State}
 use Rattle.vhost_connection.specs.Calls.{ReadsPayload}
-use Rattle.vhost_connection.specs.Came.{Came}
+use Rattle.vhost_connection.specs.Came.{Came, Alone}
 
 -- A bare reply to a request, whose header this is: the codes are those of the channel.
 abbrev pub is_bare : {R H : Type 0} → (ℕ → Option R) → Header → List (Cell H) → Bool
@@ -26,6 +26,6 @@ module _ {R L H : Type 0} (event : L → Event H → L → Type 0) (code : ℕ �
 
   -- The 24 cells of a bare reply come in, and nothing behind them; or what comes is not bare, and is read on.
   abbrev pub ReadsOrBare : Header → State L H → List ℕ → Result (Option (VhostUserMsgHeader R × VhostUserConfig × ℕ × Option (Vec H Global))) Error → List ℕ → State L H → Type 0
-  ReadsOrBare request old before (Ok None) after new = (cs : List (Cell H)) × Came event old true 24 cs true new × (length cs ≡ 24) × (is_bare code request cs ≡ true) × (after ≡ before)
+  ReadsOrBare request old before (Ok None) after new = (cs : List (Cell H)) × Came event old Alone 24 cs true new × (length cs ≡ 24) × (is_bare code request cs ≡ true) × (after ≡ before)
   ReadsOrBare request old before (Ok (Some x)) after new = (p : ReadsConfig old before (Ok x) after new) × (is_bare code request p.0 ≡ false)
   ReadsOrBare request old before (Err e) after new = (p : ReadsConfig old before (Err e) after new) × (24 ≤ length p.0 → is_bare code request p.0 ≡ false)

@@ -9,13 +9,13 @@ use Rattle.vhost_message.specs.declared.error.Error.TheVariants.{InvalidMessage,
 use Rattle.vhost_protocol.specs.Stream.{Cell, carrying, bytes, first_handles, has_some, brings_handles, heard}
 use Rattle.vhost_link.specs.Law.{Event, Taken, Refused, nothing}
 use Rattle.vhost_connection.specs.Pass.{sends, receives, WentAtOnce, WentNot}
-use Rattle.vhost_connection.specs.Talk.{State, Serves, Trouble}
-use Rattle.vhost_connection.specs.Came.{TakesIn, keeps, behind}
+use Rattle.vhost_connection.specs.Talk.{State, Serves, Trouble, Never, IfSound}
+use Rattle.vhost_connection.specs.Came.{Begins, GoesOn, Alone, TakesIn, keeps, behind}
 
 -- A text goes out, all of it; or a front of it, and then trouble.
 abbrev pub Sends : {L H : Type 0} → (L → Event H → L → Type 0) → State L H → List (Cell H) → Result (Unit {0}) Error → State L H → Type 0
 Sends event old text (Ok _) new = (r : ℕ) × Serves event old old.budget (sends text r) new × (new.list ≡ old.list) × (new.left ≡ old.left)
-Sends event old text (Err e) new = (n r : ℕ) × Trouble event old old.budget false false (sends (take n text) r) e new × (old.broken ≡ None → n < length text)
+Sends event old text (Err e) new = (n r : ℕ) × Trouble event old old.budget Never false (sends (take n text) r) e new × (old.broken ≡ None → n < length text)
 
 -- A text goes out by one call of the link, or nothing of it.
 abbrev pub ByOneCall : {L H : Type 0} → (L → Event H → L → Type 0) → State L H → List (Cell H) → Result (Unit {0}) Error → State L H → Type 0
@@ -31,7 +31,7 @@ SendsAll event old text (Err e) new = Sends event old text (Err e) new
 abbrev pub SendsOnce : {L H : Type 0} → (L → Event H → L → Type 0) → State L H → List H → List ℕ → Result ℕ Error → State L H → Type 0
 SendsOnce event old handles bytes (Ok n) new = Serves event old 0 (sends (carrying handles (take n bytes)) 0) new × (n ≤ length bytes) × (new ≡ record old { link = new.link; faulted = false })
     × (0 < length bytes → (0 < n) × event old.link (Taken (carrying handles (take n bytes))) new.link) × (bytes ≡ [] → new.link ≡ old.link)
-SendsOnce event old handles bytes (Err e) new = Trouble event old 0 false false nothing e new × (old.broken ≡ None → new ≡ record old { link = new.link; faulted = true })
+SendsOnce event old handles bytes (Err e) new = Trouble event old 0 Never false nothing e new × (old.broken ≡ None → new ≡ record old { link = new.link; faulted = true })
     × (old.broken ≡ None → (0 < length bytes) × (c : IoCause) × (e ≡ error_of c) × event old.link (Refused c) new.link)
 
 -- the handles of a message are given where there are any
@@ -53,9 +53,9 @@ pub data IsNoHeader {H : Type 0} (test : List ℕ → Bool) (cs : List (Cell H))
 abbrev pub IsHeader : {M X H : Type 0} → (List ℕ → M) → (M → Bool) → (X → List H → Type 0) → List (Cell H) → M × X → Type 0
 IsHeader read valid hands cs x = (length cs ≡ 12) × (x.0 ≡ read (bytes cs)) × (valid x.0 ≡ true) × hands x.1 (first_handles cs)
 
--- A header comes in. The body may take the retries that are left.
+-- A header comes in. What lies behind it may take the retries that are left.
 abbrev pub ReadsHeader : {M L H : Type 0} → (L → Event H → L → Type 0) → (List ℕ → M) → (M → Bool) → State L H → Result (M × Option (Vec H Global)) Error → State L H → Type 0
-ReadsHeader {H} event read valid old r new = (cs : List (Cell H)) × TakesIn event old true 12 cs (keeps cs r) (IsHeader read valid HandsOver cs) (IsNoHeader (λ bs. valid (read bs)) cs) r new
+ReadsHeader {H} event read valid old r new = (cs : List (Cell H)) × TakesIn event old Begins 12 cs (keeps cs r) (IsHeader read valid HandsOver cs) (IsNoHeader (λ bs. valid (read bs)) cs) r new
 
 -- bytes of a body are refused where one of them brought handles
 abbrev pub BroughtHandles : {H : Type 0} → List (Cell H) → Error → Type 0
@@ -63,7 +63,7 @@ BroughtHandles cs e = (e ≡ InvalidMessage) × (brings_handles cs ≡ true)
 
 -- `recv_data`: so many bytes of a body come in, or fewer and then the end
 abbrev pub ReadsData : {L H : Type 0} → (L → Event H → L → Type 0) → State L H → ℕ → Result (ℕ × Bor (List ℕ)) Error → State L H → Type 0
-ReadsData {H} event old len r new = (cs : List (Cell H)) × TakesIn event old false len cs old.list (λ x. (brings_handles cs ≡ false) × (x.0 ≡ length cs) × (x.1.now ≡ bytes cs)) (BroughtHandles cs) r new
+ReadsData {H} event old len r new = (cs : List (Cell H)) × TakesIn event old GoesOn len cs old.list (λ x. (brings_handles cs ≡ false) × (x.0 ≡ length cs) × (x.1.now ≡ bytes cs)) (BroughtHandles cs) r new
 
 -- the test of a header and of a record of so many bytes behind it
 abbrev pub is_sound : {M T : Type 0} → (List ℕ → M) → (M → Bool) → ℕ → (List ℕ → T) → (T → Bool) → List ℕ → Bool
@@ -77,18 +77,18 @@ IsMessage read valid size read_body valid_body cs h t handles =
 -- A header and a record of so many bytes come in, whatever the size in the header.
 abbrev pub ReadsBody : {M T L H : Type 0} → (L → Event H → L → Type 0) → (List ℕ → M) → (M → Bool) → ℕ → (List ℕ → T) → (T → Bool) → State L H
     → Result (M × T × Option (Vec H Global)) Error → State L H → Type 0
-ReadsBody {H} event read valid size read_body valid_body old r new = (cs : List (Cell H)) × TakesIn event old true (12 + size) cs (keeps cs r)
+ReadsBody {H} event read valid size read_body valid_body old r new = (cs : List (Cell H)) × TakesIn event old Alone (12 + size) cs (keeps cs r)
     (λ x. (length cs ≡ 12 + size) × IsMessage read valid size read_body valid_body cs x.0 x.1 x.2) (IsNoMessage (12 + size) (is_sound read valid size read_body valid_body) cs) r new
 
 -- A header comes in, and then what fits into the room, up to the end.
 abbrev pub ReadsInto : {M L H : Type 0} → (L → Event H → L → Type 0) → (List ℕ → M) → (M → Bool) → State L H → List ℕ → Result (M × ℕ × Option (Vec H Global)) Error → List ℕ → State L H → Type 0
-ReadsInto {H} event read valid old before r after new = (cs : List (Cell H)) × (after ≡ behind 12 cs before) × TakesIn event old true (12 + length before) cs (keeps cs r)
+ReadsInto {H} event read valid old before r after new = (cs : List (Cell H)) × (after ≡ behind 12 cs before) × TakesIn event old Alone (12 + length before) cs (keeps cs r)
     (λ x. (length cs ≡ 12 + x.1) × (x.0 ≡ read (take 12 (bytes cs))) × (valid x.0 ≡ true) × HandsOver x.2 (first_handles cs)) (IsNoMessage 12 (λ bs. valid (read (take 12 bs))) cs) r new
 
 -- what a header, a record and so many bytes behind them do, of the cells that came
 abbrev pub TakesPayload : {M T L H : Type 0} → (L → Event H → L → Type 0) → (List ℕ → M) → (M → Bool) → ℕ → (List ℕ → T) → (T → Bool) → State L H → (room : ℕ) → List (Cell H)
     → Result (M × T × ℕ × Option (Vec H Global)) Error → State L H → Type 0
-TakesPayload event read valid size read_body valid_body old room cs r = TakesIn event old true (12 + size + room) cs (keeps cs r)
+TakesPayload event read valid size read_body valid_body old room cs r = TakesIn event old Alone (12 + size + room) cs (keeps cs r)
     (λ x. (length cs ≡ 12 + size + x.2) × IsMessage read valid size read_body valid_body cs x.0 x.1 x.3) (IsNoMessage (12 + size) (is_sound read valid size read_body valid_body) cs) r
 
 -- A header and a record of so many bytes come in, whatever the size in the header, and then what fits into the room, up to the end.
@@ -110,4 +110,4 @@ pub record CameOnce {L H : Type 0} (event : L → Event H → L → Type 0) (old
 -- `recv_into_buf`: no fault breaks the endpoint, since nothing had moved
 abbrev pub ReadsOnce : {L H : Type 0} → (L → Event H → L → Type 0) → State L H → ℕ → Result (ℕ × Bor (List ℕ)) Error → Option (Vec H Global) → State L H → Type 0
 ReadsOnce {H} event old len (Ok x) given new = (cs : List (Cell H)) × CameOnce event old len cs new × (x.0 ≡ length cs) × (x.1.now ≡ bytes cs) × HandsOver given (first_handles cs)
-ReadsOnce event old len (Err e) given new = Trouble event old 0 true false nothing e new
+ReadsOnce event old len (Err e) given new = Trouble event old 0 IfSound false nothing e new

@@ -1,5 +1,5 @@
 -- What a side hears of its stream, and how a call of a side may fail.
-use Rattle.std.specs.Prelude.{◌≡◌, ℕ, ◌<◌, ◌≤◌, List, length, Some, None, Bool, true, false, ◌||◌, ◌⊎◌, IsTrue, if◌then◌else◌}
+use Rattle.std.specs.Prelude.{◌≡◌, ℕ, ◌<◌, ◌≤◌, List, length, Some, None, Bool, true, false, not, ◌||◌, ◌⊎◌, IsTrue, if◌then◌else◌}
 use Rattle.vhost_message.specs.declared.limits.TheConstants.{MAX_MSG_TEXT}
 use Rattle.vhost_message.specs.declared.cause.IoCause.{IoCause}
 use Rattle.vhost_message.specs.Cause.{is_retry, error_of}
@@ -29,12 +29,12 @@ pub record HearsReply {L H A : Type 0} (event : L → Event H → L → Type 0) 
 abbrev pub Spends : {H : Type 0} → ℕ → Move H → Type 0
 Spends budget m = (0 < m.failures) ⊎ (budget < m.retries)
 
--- A call of a side failed: so much of one message had moved, and this is why. Between a request and the end of its answer each fault breaks the endpoint.
+-- A call of a side failed: so much of one message had moved, and this is why. A request makes its list of handles before all else; between it and the end of its answer each fault breaks the endpoint.
 pub data Fails {L H : Type 0} (event : L → Event H → L → Type 0) (old : State L H) (between : Bool) : Error → State L H → Type 0 where
-  -- the endpoint was broken before, and nothing changed
-  was_broken : {c : IoCause} {new : State L H} → old.broken ≡ Some c → new ≡ record old { faulted = false } → Fails event old between (SocketBroken c) new
+  -- the endpoint was broken before, and nothing changed but that a request has made its list
+  was_broken : {c : IoCause} {new : State L H} → old.broken ≡ Some c → new ≡ record old { list = not between || old.list; faulted = false } → Fails event old between (SocketBroken c) new
   -- its list had been given away, there is no memory for another, and nothing changed
-  no_memory : {new : State L H} → old.broken ≡ None → old.list ≡ false → new ≡ record old { faulted = false } → Fails event old between OutOfMemory new
+  no_memory : {new : State L H} → (between ≡ true → old.broken ≡ None) → old.list ≡ false → new ≡ record old { faulted = false } → Fails event old between OutOfMemory new
   -- the link failed last with this cause, or retried once more than a message may; what had moved is at most one message
   fault : (c : IoCause) (m : Move H) {new : State L H} → old.broken ≡ None → Fell event old m c new → m.failures ≡ 0 → m.retries ≤ old.budget
       → (IsTrue (is_retry c) → m.retries ≡ old.budget) → length m.taken ≤ MAX_MSG_TEXT

@@ -14,9 +14,9 @@ use Rattle.vhost_protocol.specs.Stream.{Cell, bytes, carrying, has_some, items}
 use Rattle.vhost_link.specs.Law.{Event}
 use Rattle.vhost_connection.specs.declared.request.Request.{Request}
 use Rattle.vhost_connection.specs.Pass.{receives, sends}
-use Rattle.vhost_connection.specs.Talk.{State, Fell, Serves, Trouble}
+use Rattle.vhost_connection.specs.Talk.{State, Fell, Serves, Trouble, First}
 use Rattle.vhost_connection.specs.Calls.{HandsOver, IsHeader}
-use Rattle.vhost_connection.specs.Came.{Came}
+use Rattle.vhost_connection.specs.Came.{Came, Begins}
 use Rattle.vhost_connection.specs.Hearing.{Hears}
 
 -- ---- in
@@ -49,7 +49,7 @@ module _ {R L H : Type 0} (event : L → Event H → L → Type 0) (request_of :
     pub retries : ℕ
     pub none : Error
     pub short : Splits (split request_of allowed) cells true (Err none)
-    pub trouble : Trouble event old old.budget true false (receives (items cells) retries) e new
+    pub trouble : Trouble event old old.budget First false (receives (items cells) retries) e new
 
   -- one request is read, with its handles, or why not
   abbrev pub ReadsRequest : State L H → Result (Request R × Option (Vec H Global)) declared.Error → List ℕ → State L H → Type 0
@@ -58,7 +58,7 @@ module _ {R L H : Type 0} (event : L → Event H → L → Type 0) (request_of :
 
 -- The header of a request came, with these handles; the list of handles is away.
 abbrev pub RequestHead : {R L H : Type 0} → (L → Event H → L → Type 0) → (ℕ → Option R) → State L H → VhostUserMsgHeader R → List H → State L H → Type 0
-RequestHead {H} event request_of old header hs new = (cs : List (Cell H)) × (Came event old true 12 cs false new
+RequestHead {H} event request_of old header hs new = (cs : List (Cell H)) × (Came event old Begins 12 cs false new
     × IsHeader (λ bs. of_fields (header_of bs)) (λ h. is_some (request_of (fields_of h).code) && is_valid_header (fields_of h)) (λ given first. given ≡ first) cs (header, hs))
 
 module _ {R L H : Type 0} (event : L → Event H → L → Type 0) (request_of : ℕ → Option R) (allowed : R → ℕ → Bool) where

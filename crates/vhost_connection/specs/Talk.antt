@@ -52,13 +52,32 @@ pub record Serves {L H : Type 0} (event : L → Event H → L → Type 0) (old :
 abbrev pub has_moved : {H : Type 0} → Move H → Bool
 has_moved m = has_some m.handed || has_some m.taken
 
--- The call was not served: this moved before that, and this is the error. A call that grows may want memory for a list, and one that breaks does so even where nothing moved.
-pub data Trouble {L H : Type 0} (event : L → Event H → L → Type 0) (old : State L H) (limit : ℕ) (grows breaks : Bool) (m : Move H) : Error → State L H → Type 0 where
-  -- it was broken before, and nothing changed
-  was_broken : {c : IoCause} {new : State L H} → old.broken ≡ Some c → m ≡ nothing → new ≡ record old { faulted = false }
+-- when a call may make its list of handles, where that was given away
+pub data Growth : Type 0 where
+  -- at no time
+  Never : Growth
+  -- once it knows that the endpoint is not broken
+  IfSound : Growth
+  -- before all else
+  First : Growth
+
+-- it may want memory for a list
+abbrev pub may_grow : Growth → Bool
+may_grow Never = false
+may_grow _ = true
+
+-- it wants it whether or not the endpoint is broken
+abbrev pub is_first : Growth → Bool
+is_first First = true
+is_first _ = false
+
+-- The call was not served: this moved before that, and this is the error. A call that breaks does so even where nothing moved.
+pub data Trouble {L H : Type 0} (event : L → Event H → L → Type 0) (old : State L H) (limit : ℕ) (grows : Growth) (breaks : Bool) (m : Move H) : Error → State L H → Type 0 where
+  -- it was broken before, and nothing changed but that a call which grows first has made its list
+  was_broken : {c : IoCause} {new : State L H} → old.broken ≡ Some c → m ≡ nothing → new ≡ record old { list = is_first grows || old.list; faulted = false }
       → Trouble event old limit grows breaks m (SocketBroken c) new
   -- its list had been given away, there is no memory for another, and nothing changed
-  no_memory : {new : State L H} → grows ≡ true → old.broken ≡ None → old.list ≡ false → m ≡ nothing → new ≡ record old { faulted = false }
+  no_memory : {new : State L H} → may_grow grows ≡ true → (is_first grows ≡ false → old.broken ≡ None) → old.list ≡ false → m ≡ nothing → new ≡ record old { faulted = false }
       → Trouble event old limit grows breaks m OutOfMemory new
   -- the link failed, or retried once more than the limit allows: the endpoint is broken where something had moved, and else as before; so is what is left for a body
   fault : (c : IoCause) {new : State L H} → old.broken ≡ None → Fell event old m c new → m.failures ≡ 0 → m.retries ≤ limit

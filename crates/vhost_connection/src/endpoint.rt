@@ -33,7 +33,7 @@ use vhost_message::{Error, IoCause, MsgHeader, Result};
 pub struct Endpoint<M, L: Link> {
     /// Its link, with what was received ahead.
     source: Source<L>,
-    /// How many retries one message may take, and how many are left for the body of the last header.
+    /// How many retries one message may take, and how many are left for what lies behind the last header.
     budget: u32,
     left: u32,
     /// The fault that broke it.

@@ -35,11 +35,13 @@ pub fn take_list<H>(place: &mut Option<HandleList<H>>, alloc: Global) -> Result<
     }
 }
 
-/// What came of a message: how many bytes of its front and how many more, and the handles of the first.
+/// What came of a message: how many bytes of its front and how many more, how many retries are left for what lies behind
+/// them, and the handles of the first.
 #[derive(Drop)]
 pub struct Front<H> {
     pub count: usize,
     pub more: usize,
+    pub left: u32,
     pub list: Vec<H>,
     ghost places: { MAX_ATTACHED_FD_ENTRIES ≤ vec_capacity list },
 }

@@ -32,6 +32,11 @@ pub struct Frontend<L: Link> {
 }
 
 impl<L: Link> Clone for Frontend<L> {
+    ghost use Rattle.std.specs.Arc.{arc_value};
+
+    ghost is_clone = { λ frontend other. arc_value other.inner ≡ arc_value frontend.inner };
+
+    /// The same session once more.
     fn clone(&self) -> std::result::Result<Self, AllocError> {
         Ok(Frontend {
             inner: Arc::try_clone(&self.inner)?,

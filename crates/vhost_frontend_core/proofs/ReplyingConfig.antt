@@ -24,8 +24,8 @@ use Rattle.vhost_protocol.proofs.SplitLaws.{le-shorter, lt-shorter, one-more}
 use Rattle.vhost_link.specs.Law.{Event}
 use Rattle.vhost_link.proofs.Cells.{length-bytes}
 use Rattle.vhost_connection.specs.Pass.{receives}
-use Rattle.vhost_connection.specs.Talk.{State}
-use Rattle.vhost_connection.specs.Came.{Came}
+use Rattle.vhost_connection.specs.Talk.{State, IfSound}
+use Rattle.vhost_connection.specs.Came.{Came, Alone}
 use Rattle.vhost_connection.specs.Calls.{HandsOver, IsNoMessage, is_sound}
 use Rattle.vhost_connection.specs.Calls.IsNoMessage.{too_few, not_valid}
 use Rattle.vhost_connection.specs.Bare.{is_bare, ReadsOrBare}
@@ -92,7 +92,7 @@ module _ {H : Type 0} (sent : Header) (room : ℕ) where
   config-splits cs false o le no_bare s = λ rest. config-whole cs rest rest o le no_bare (s rest)
 
 module _ {L H : Type 0} (event : L → Event H → L → Type 0) (sent : Header) (old : State L H) (before : List ℕ) where
-  config-came : (new : State L H) (cs : List (Cell H)) (o : Result (Received H) Error) {list : Bool} → Came event old true (24 + length before) cs list new → (has_some (first_handles cs) ≡ false → list ≡ true) → 24 ≤ length cs → outcome is_known 12 (length before) valid cs ≡ o
+  config-came : (new : State L H) (cs : List (Cell H)) (o : Result (Received H) Error) {list : Bool} → Came event old Alone (24 + length before) cs list new → (has_some (first_handles cs) ≡ false → list ≡ true) → 24 ≤ length cs → outcome is_known 12 (length before) valid cs ≡ o
       → is_bare request_of sent cs ≡ false → HearsReply event (config_cut sent (length before)) old (some_reply o) new
   config-came new cs o m kept whole is no_bare = record {
     hears = record {
@@ -112,7 +112,7 @@ module _ {L H : Type 0} (event : L → Event H → L → Type 0) (sent : Header)
 
   -- there is none
   pub config-fails : (new : State L H) (after : List ℕ) (e : declared.Error) → ReadsOrBare event request_of sent old before (Err e) after new → RecvsConfig event (length before) old sent (Err e) after (broken_on e new)
-  config-fails new after e ((cs, room, inr f), no_bare) = failed (trouble-breaks event old true false (receives (items cs) f.retries) e new f.trouble (lit≤ tt))
+  config-fails new after e ((cs, room, inr f), no_bare) = failed (trouble-breaks event old IfSound false (receives (items cs) f.retries) e new f.trouble refl (lit≤ tt))
   config-fails new after e ((cs, room, inl (m, bad)), no_bare) = go e bad
     where
       go : (y : declared.Error) → IsNoMessage 24 (is_sound (λ bs. of_fields (header_of bs)) (λ (h : VhostUserMsgHeader FrontendReq). is_some (request_of (fields_of h).code) && is_valid_header (fields_of h)) 12 config_of is_valid_config) cs y

@@ -1,7 +1,7 @@
 //! A side that makes calls, one after another.
 
 use crate::answer::Answer;
-use crate::memory::NoMemory;
+use crate::failure::Failure;
 use crate::side::Side;
 use std::alloc::Global;
 use vhost_link::{Cut, MemLink};
@@ -11,10 +11,10 @@ pub(crate) trait Caller: Drop {
     type Call: Drop;
 
     /// A new one.
-    fn open(alloc: Global, link: MemLink, budget: u32) -> Result<Self, NoMemory>;
+    fn open(alloc: Global, link: MemLink, budget: u32) -> Result<Self, Failure>;
 
     /// The call of a line.
-    fn call_in(alloc: Global, line: &str) -> Result<Self::Call, NoMemory>;
+    fn call_in(alloc: Global, line: &str) -> Result<Self::Call, Failure>;
 
     /// Makes a call.
     fn make(&mut self, call: &Self::Call) -> Answer;
@@ -31,7 +31,7 @@ pub(crate) struct Asking<C: Caller> {
 }
 
 /// The calls of some lines.
-fn calls_in<C: Caller>(alloc: Global, lines: &[&'static str]) -> Result<Vec<C::Call>, NoMemory> {
+fn calls_in<C: Caller>(alloc: Global, lines: &[&'static str]) -> Result<Vec<C::Call>, Failure> {
     let mut calls = Vec::new(alloc);
     for line in lines {
         calls.push(C::call_in(alloc, line)?)?;
@@ -45,7 +45,7 @@ impl<C: Caller> Asking<C> {
         cuts: Vec<Cut>,
         budget: u32,
         lines: &[&'static str],
-    ) -> Result<Asking<C>, NoMemory> {
+    ) -> Result<Asking<C>, Failure> {
         let caller = C::open(alloc, MemLink::new(alloc, cuts), budget)?;
         let calls = calls_in::<C>(alloc, lines)?;
         Ok(Asking {

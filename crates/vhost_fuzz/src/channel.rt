@@ -2,7 +2,7 @@
 
 use crate::answer::Answer;
 use crate::asking::Caller;
-use crate::memory::NoMemory;
+use crate::failure::Failure;
 use std::alloc::Global;
 use vhost_backend_req::{Asked, BackendInternal, ReverseCall};
 use vhost_link::{MemLink, PlainHandle};
@@ -12,11 +12,11 @@ use vhost_test_tools::reverse_call_in;
 impl Caller for BackendInternal<MemLink> {
     type Call = ReverseCall<PlainHandle>;
 
-    fn open(alloc: Global, link: MemLink, budget: u32) -> Result<Self, NoMemory> {
+    fn open(alloc: Global, link: MemLink, budget: u32) -> Result<Self, Failure> {
         Ok(BackendInternal::from_stream(alloc, link, budget)?)
     }
 
-    fn call_in(alloc: Global, line: &str) -> Result<ReverseCall<PlainHandle>, NoMemory> {
+    fn call_in(alloc: Global, line: &str) -> Result<ReverseCall<PlainHandle>, Failure> {
         Ok(reverse_call_in(alloc, line)?)
     }
 

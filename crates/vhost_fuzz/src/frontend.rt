@@ -2,7 +2,7 @@
 
 use crate::answer::Answer;
 use crate::asking::Caller;
-use crate::memory::NoMemory;
+use crate::failure::Failure;
 use std::alloc::Global;
 use vhost_frontend_core::{Awaited, FrontendAnswer, FrontendCall, FrontendInternal, ask, take};
 use vhost_link::MemLink;
@@ -15,11 +15,11 @@ const QUEUES: u64 = 2;
 impl Caller for FrontendInternal<MemLink> {
     type Call = FrontendCall;
 
-    fn open(alloc: Global, link: MemLink, budget: u32) -> Result<Self, NoMemory> {
+    fn open(alloc: Global, link: MemLink, budget: u32) -> Result<Self, Failure> {
         Ok(FrontendInternal::new(alloc, link, QUEUES, budget)?)
     }
 
-    fn call_in(alloc: Global, line: &str) -> Result<FrontendCall, NoMemory> {
+    fn call_in(alloc: Global, line: &str) -> Result<FrontendCall, Failure> {
         Ok(call_in(alloc, line)?)
     }
 

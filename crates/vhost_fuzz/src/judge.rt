@@ -1,7 +1,7 @@
 //! What has to hold of a side, whatever it is sent.
 
 use crate::dice::Dice;
-use crate::memory::NoMemory;
+use crate::failure::Failure;
 use crate::session::{BUDGET, Session};
 use crate::side::{Shown, Trace};
 use std::alloc::Global;
@@ -24,7 +24,7 @@ pub(crate) struct Verdict {
 }
 
 /// Calls of the link that move one byte each, so many.
-fn ones(alloc: Global, count: usize) -> Result<Vec<Cut>, NoMemory> {
+pub(crate) fn ones(alloc: Global, count: usize) -> Result<Vec<Cut>, Failure> {
     let mut cuts = Vec::with_capacity(alloc, count)?;
     for _ in 0..count {
         cuts.push(Cut::Give(1))?;
@@ -33,7 +33,7 @@ fn ones(alloc: Global, count: usize) -> Result<Vec<Cut>, NoMemory> {
 }
 
 /// Pieces of any size, and as many retries as one message may take.
-fn any_cuts(alloc: Global, dice: &mut Dice) -> Result<Vec<Cut>, NoMemory> {
+fn any_cuts(alloc: Global, dice: &mut Dice) -> Result<Vec<Cut>, Failure> {
     let mut cuts = Vec::new(alloc);
     let mut retries = 0;
     for _ in 0..dice.below(200) {
@@ -48,7 +48,7 @@ fn any_cuts(alloc: Global, dice: &mut Dice) -> Result<Vec<Cut>, NoMemory> {
 }
 
 /// A fault, or a retry more than a message may take, behind other calls of the link.
-fn fault_after(dice: &mut Dice, mut cuts: Vec<Cut>) -> Result<Vec<Cut>, NoMemory> {
+fn fault_after(dice: &mut Dice, mut cuts: Vec<Cut>) -> Result<Vec<Cut>, Failure> {
     let number = match dice.below(6) {
         0 => 5,
         1 => 9,
@@ -67,7 +67,7 @@ fn fault_after(dice: &mut Dice, mut cuts: Vec<Cut>) -> Result<Vec<Cut>, NoMemory
 }
 
 /// How many answers two traces begin with alike.
-fn alike(one: &[Shown], two: &[Shown]) -> usize {
+pub(crate) fn alike(one: &[Shown], two: &[Shown]) -> usize {
     let mut count: usize = 0;
     for (a, b) in one.iter().zip(two) {
         if a != b {
@@ -119,7 +119,7 @@ fn wrong_alone(trace: &Trace) -> Option<&'static str> {
 }
 
 /// What differs where the link moves other pieces.
-fn wrong_cut(whole: &Trace, cut: &Trace) -> Option<&'static str> {
+pub(crate) fn wrong_cut(whole: &Trace, cut: &Trace) -> Option<&'static str> {
     let same = alike(&whole.shown, &cut.shown);
     if cut.starved {
         return match cut.shown.get(same) {
@@ -168,7 +168,11 @@ fn since_fault<'a>(whole: &Trace, faulted: &'a Trace) -> Option<(&'a Shown, &'a 
 }
 
 /// What doesn't hold where the link failed; a byte of the message that met it had moved or not, if that is known.
-fn wrong_fault(whole: &Trace, faulted: &Trace, has_moved: Option<bool>) -> Option<&'static str> {
+pub(crate) fn wrong_fault(
+    whole: &Trace,
+    faulted: &Trace,
+    has_moved: Option<bool>,
+) -> Option<&'static str> {
     let Some((met, rest)) = since_fault(whole, faulted) else {
         return None;
     };
@@ -208,7 +212,11 @@ fn wrong_calls(trace: &Trace) -> Option<&'static str> {
 }
 
 /// What doesn't hold of a side's calls, where the link failed; a byte of the call that met it had moved or not, if that is known.
-fn wrong_asked(whole: &Trace, faulted: &Trace, has_moved: Option<bool>) -> Option<&'static str> {
+pub(crate) fn wrong_asked(
+    whole: &Trace,
+    faulted: &Trace,
+    has_moved: Option<bool>,
+) -> Option<&'static str> {
     let Some((met, rest)) = since_fault(whole, faulted) else {
         return None;
     };
@@ -227,7 +235,7 @@ fn wrong_asked(whole: &Trace, faulted: &Trace, has_moved: Option<bool>) -> Optio
 }
 
 /// What was found, if anything was.
-fn found(what: Option<&'static str>, cuts: Vec<Cut>, trace: Trace) -> Option<Finding> {
+pub(crate) fn found(what: Option<&'static str>, cuts: Vec<Cut>, trace: Trace) -> Option<Finding> {
     match what {
         Some(what) => Some(Finding {
             what,
@@ -240,7 +248,7 @@ fn found(what: Option<&'static str>, cuts: Vec<Cut>, trace: Trace) -> Option<Fin
 
 impl Session {
     /// Lets new sides take it: byte by byte, over other cuts, and over a link that fails; and holds what they show against each other.
-    pub(crate) fn judge(&self, alloc: Global, dice: &mut Dice) -> Result<Verdict, NoMemory> {
+    pub(crate) fn judge(&self, alloc: Global, dice: &mut Dice) -> Result<Verdict, Failure> {
         let trace = self.byte_by_byte(alloc, self.most())?;
         let finding = if self.kind.makes_calls() {
             self.judge_calls(alloc, dice, &trace)?
@@ -256,7 +264,7 @@ impl Session {
         alloc: Global,
         dice: &mut Dice,
         whole: &Trace,
-    ) -> Result<Option<Finding>, NoMemory> {
+    ) -> Result<Option<Finding>, Failure> {
         let mut finding = self.judge_alone(alloc, whole, wrong_alone(whole))?;
         if finding.is_none() {
             finding = self.judge_cuts(alloc, dice, whole)?;
@@ -270,6 +278,9 @@ impl Session {
         if finding.is_none() {
             finding = self.judge_late_fault(alloc, dice, whole)?;
         }
+        if finding.is_none() {
+            finding = self.judge_retries(alloc, dice, whole)?;
+        }
         Ok(finding)
     }
 
@@ -279,13 +290,16 @@ impl Session {
         alloc: Global,
         dice: &mut Dice,
         whole: &Trace,
-    ) -> Result<Option<Finding>, NoMemory> {
+    ) -> Result<Option<Finding>, Failure> {
         let mut finding = self.judge_alone(alloc, whole, wrong_calls(whole))?;
         if finding.is_none() {
             finding = self.judge_cuts(alloc, dice, whole)?;
         }
         if finding.is_none() {
             finding = self.judge_asked_fault(alloc, dice, whole)?;
+        }
+        if finding.is_none() {
+            finding = self.judge_retries(alloc, dice, whole)?;
         }
         Ok(finding)
     }
@@ -296,7 +310,7 @@ impl Session {
     }
 
     /// What is shown where it is taken byte by byte; once more where memory was refused.
-    fn byte_by_byte(&self, alloc: Global, most: usize) -> Result<Trace, NoMemory> {
+    pub(crate) fn byte_by_byte(&self, alloc: Global, most: usize) -> Result<Trace, Failure> {
         let trace = self.shown(alloc, ones(alloc, self.calls())?, most)?;
         if !trace.starved {
             return Ok(trace);
@@ -305,7 +319,7 @@ impl Session {
     }
 
     /// What is shown over a link that is cut so.
-    fn over(&self, alloc: Global, cuts: &[Cut]) -> Result<Trace, NoMemory> {
+    pub(crate) fn over(&self, alloc: Global, cuts: &[Cut]) -> Result<Trace, Failure> {
         self.shown(alloc, Vec::from_slice(alloc, cuts)?, self.most())
     }
 
@@ -315,7 +329,7 @@ impl Session {
         alloc: Global,
         whole: &Trace,
         what: Option<&'static str>,
-    ) -> Result<Option<Finding>, NoMemory> {
+    ) -> Result<Option<Finding>, Failure> {
         let Some(what) = what else {
             return Ok(None);
         };
@@ -332,7 +346,7 @@ impl Session {
         alloc: Global,
         dice: &mut Dice,
         whole: &Trace,
-    ) -> Result<Option<Finding>, NoMemory> {
+    ) -> Result<Option<Finding>, Failure> {
         let place = self.place_in_calls(alloc, dice, whole)?;
         let cuts = fault_after(dice, ones(alloc, place)?)?;
         let faulted = self.over(alloc, &cuts)?;
@@ -353,7 +367,7 @@ impl Session {
         alloc: Global,
         dice: &mut Dice,
         whole: &Trace,
-    ) -> Result<usize, NoMemory> {
+    ) -> Result<usize, Failure> {
         if dice.one_of(2) {
             let moved = self.moved(whole).saturating_add(1);
             return Ok(dice.place(moved.min(self.calls())));
@@ -378,7 +392,7 @@ impl Session {
         alloc: Global,
         dice: &mut Dice,
         whole: &Trace,
-    ) -> Result<Option<Finding>, NoMemory> {
+    ) -> Result<Option<Finding>, Failure> {
         let cuts = any_cuts(alloc, dice)?;
         let cut = self.over(alloc, &cuts)?;
         let what = wrong_cut(whole, &cut);
@@ -391,7 +405,7 @@ impl Session {
         alloc: Global,
         dice: &mut Dice,
         whole: &Trace,
-    ) -> Result<Option<Finding>, NoMemory> {
+    ) -> Result<Option<Finding>, Failure> {
         let calls = dice.place(whole.shown.len());
         let before = self.byte_by_byte(alloc, calls)?;
         let len = self
@@ -410,7 +424,7 @@ impl Session {
         alloc: Global,
         dice: &mut Dice,
         whole: &Trace,
-    ) -> Result<Option<Finding>, NoMemory> {
+    ) -> Result<Option<Finding>, Failure> {
         let place = self.place_of_fault(alloc, dice, whole)?;
         let cuts = fault_after(dice, ones(alloc, place)?)?;
         let faulted = self.over(alloc, &cuts)?;
@@ -429,7 +443,7 @@ impl Session {
         alloc: Global,
         dice: &mut Dice,
         whole: &Trace,
-    ) -> Result<usize, NoMemory> {
+    ) -> Result<usize, Failure> {
         if dice.one_of(2) {
             let moved = self.moved(whole).saturating_add(1);
             return Ok(dice.place(moved.min(self.calls())));
@@ -454,7 +468,7 @@ impl Session {
         alloc: Global,
         dice: &mut Dice,
         whole: &Trace,
-    ) -> Result<Option<Finding>, NoMemory> {
+    ) -> Result<Option<Finding>, Failure> {
         let mut pieces = Vec::new(alloc);
         for _ in 0..dice.below(40) {
             pieces.push(Cut::Give(dice.place(100)))?;
@@ -469,12 +483,12 @@ impl Session {
     }
 
     /// How many bytes were taken, where it was taken byte by byte.
-    fn taken(&self, trace: &Trace) -> usize {
+    pub(crate) fn taken(&self, trace: &Trace) -> usize {
         self.len.saturating_sub(trace.left)
     }
 
     /// How many bytes were taken and sent, where it was taken byte by byte.
-    fn moved(&self, trace: &Trace) -> usize {
+    pub(crate) fn moved(&self, trace: &Trace) -> usize {
         self.len
             .saturating_sub(trace.left)
             .saturating_add(trace.output.len())

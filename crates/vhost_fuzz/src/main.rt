@@ -6,11 +6,12 @@ mod asking;
 mod channel;
 mod dice;
 mod exchanges;
+mod failure;
 mod frontend;
 mod judge;
-mod memory;
 mod message;
 mod requests;
+mod retries;
 mod reverse;
 mod script;
 mod served;
@@ -19,8 +20,8 @@ mod side;
 mod tally;
 
 use crate::dice::Dice;
+use crate::failure::Failure;
 use crate::judge::{Finding, Verdict};
-use crate::memory::NoMemory;
 use crate::script::write_script;
 use crate::session::{Session, make};
 use crate::tally::Tally;
@@ -61,8 +62,8 @@ fn main(rt: HostRuntime) -> ExitCode {
     let mut output = io::writer(&rt);
     match fuzz(rt.alloc(), seed, count, &mut output, &mut errors) {
         Ok(met) => ending(&met, seed, &mut output, &mut errors),
-        Err(_) => {
-            let _ = writeln!(errors, "vhost-fuzz: memory or the output failed");
+        Err(failure) => {
+            let _ = writeln!(errors, "vhost-fuzz: {failure}");
             ExitCode::from(2)
         }
     }
@@ -79,7 +80,7 @@ impl Met {
     }
 
     /// Counts a session, and what was answered in it.
-    fn count(&mut self, session: &Session, verdict: &Verdict) -> Result<(), NoMemory> {
+    fn count(&mut self, session: &Session, verdict: &Verdict) -> Result<(), Failure> {
         for shown in &verdict.trace.shown {
             self.tally.count(shown.answer.name)?;
         }
@@ -99,15 +100,13 @@ fn write_found<O: Write>(
     session: &Session,
     found: &Option<Finding>,
     output: &mut O,
-) -> Result<(), NoMemory> {
+) -> Result<(), Failure> {
     let Some(finding) = found else {
         return Ok(());
     };
     let title = format!(in alloc; "of seed {seed}, number {number}")?;
-    match write_script(alloc, session, finding, title.as_str(), output) {
-        Ok(()) => Ok(()),
-        Err(_) => Err(NoMemory),
-    }
+    write_script(alloc, session, finding, title.as_str(), output)?;
+    Ok(())
 }
 
 /// Makes a session, and sends it.
@@ -117,7 +116,7 @@ fn send<O: Write>(
     dice: &mut Dice,
     met: &mut Met,
     output: &mut O,
-) -> Result<(), NoMemory> {
+) -> Result<(), Failure> {
     let session = make(alloc, dice)?;
     let verdict = session.judge(alloc, dice)?;
     let number = met.sessions;
@@ -132,7 +131,7 @@ fn fuzz<O: Write, E: Write>(
     count: u64,
     output: &mut O,
     errors: &mut E,
-) -> Result<Met, NoMemory> {
+) -> Result<Met, Failure> {
     let mut dice = Dice::new(seed);
     let mut met = Met::new(alloc);
     for _ in 0..count {

@@ -1,7 +1,7 @@
 //! Messages that a peer sends: as they should be, and spoiled.
 
 use crate::dice::Dice;
-use crate::memory::NoMemory;
+use crate::failure::Failure;
 use std::alloc::Global;
 use vhost_link::{Kind, PlainHandle};
 use vhost_message::MAX_ATTACHED_FD_ENTRIES;
@@ -27,14 +27,14 @@ impl Body {
     }
 
     /// The lowest bytes of a number, so many, 8 at most.
-    pub(crate) fn put(&mut self, number: u64, size: usize) -> Result<(), NoMemory> {
+    pub(crate) fn put(&mut self, number: u64, size: usize) -> Result<(), Failure> {
         let bytes = number.to_le_bytes();
         self.bytes.extend_from_slice(&bytes[..size.min(8)])?;
         Ok(())
     }
 
     /// So many notable numbers of eight bytes.
-    pub(crate) fn put_notable(&mut self, dice: &mut Dice, count: u32) -> Result<(), NoMemory> {
+    pub(crate) fn put_notable(&mut self, dice: &mut Dice, count: u32) -> Result<(), Failure> {
         for _ in 0..count {
             self.put(dice.notable(), 8)?;
         }
@@ -49,7 +49,7 @@ impl Body {
         code: u32,
         flags: u64,
         handles: usize,
-    ) -> Result<Piece, NoMemory> {
+    ) -> Result<Piece, Failure> {
         let mut text = Body::new(alloc);
         text.put(u64::from(code), 4)?;
         text.put(flags, 4)?;
@@ -63,11 +63,7 @@ impl Body {
 }
 
 /// So many handles, 32 at most. Most are Unix sockets, which every request takes.
-fn some_handles(
-    alloc: Global,
-    dice: &mut Dice,
-    count: usize,
-) -> Result<Vec<PlainHandle>, NoMemory> {
+fn some_handles(alloc: Global, dice: &mut Dice, count: usize) -> Result<Vec<PlainHandle>, Failure> {
     let mut handles = Vec::new(alloc);
     for _ in 0..count.min(MAX_ATTACHED_FD_ENTRIES) {
         let kind = match dice.below(12) {
@@ -93,7 +89,7 @@ fn set_byte(bytes: &mut [u8], place: usize, byte: u8) {
 
 /// Spoils a message, in one of seven ways: a byte, its size, its flags or its code is another, it is cut short or longer, or its handles
 /// are others.
-fn alter(alloc: Global, dice: &mut Dice, piece: &mut Piece, way: u64) -> Result<(), NoMemory> {
+fn alter(alloc: Global, dice: &mut Dice, piece: &mut Piece, way: u64) -> Result<(), Failure> {
     let len = piece.bytes.len();
     match way {
         0 => {
@@ -114,7 +110,7 @@ fn alter(alloc: Global, dice: &mut Dice, piece: &mut Piece, way: u64) -> Result<
 }
 
 /// Takes what follows some byte of a message from it, and gives it handles of its own.
-fn split_off(alloc: Global, dice: &mut Dice, piece: &mut Piece) -> Result<Piece, NoMemory> {
+fn split_off(alloc: Global, dice: &mut Dice, piece: &mut Piece) -> Result<Piece, Failure> {
     let len = piece.bytes.len();
     let place = dice.place(len).max(1).min(len);
     let bytes = piece.bytes.split_off(place)?;
@@ -129,7 +125,7 @@ pub(crate) fn spoil(
     dice: &mut Dice,
     mut piece: Piece,
     pieces: &mut Vec<Piece>,
-) -> Result<(), NoMemory> {
+) -> Result<(), Failure> {
     let way = dice.below(8);
     if way < 7 {
         alter(alloc, dice, &mut piece, way)?;

@@ -1,7 +1,7 @@
 //! What a frontend asks, and what a device asks back: messages whose form is right.
 
 use crate::dice::Dice;
-use crate::memory::NoMemory;
+use crate::failure::Failure;
 use crate::message::{Body, Piece};
 use std::alloc::Global;
 use vhost_message::{BackendReq, FrontendReq, VHOST_USER_CONFIG_OFFSET};
@@ -12,7 +12,7 @@ fn flags(dice: &mut Dice) -> u64 {
 }
 
 /// A region of memory: where it is in the guest, how long it is, where it is in the frontend, and where in its file.
-fn put_region(body: &mut Body, dice: &mut Dice) -> Result<(), NoMemory> {
+fn put_region(body: &mut Body, dice: &mut Dice) -> Result<(), Failure> {
     for _ in 0..4 {
         body.put(dice.below(16).wrapping_mul(0x1000), 8)?;
     }
@@ -20,7 +20,7 @@ fn put_region(body: &mut Body, dice: &mut Dice) -> Result<(), NoMemory> {
 }
 
 /// A table of regions; how many.
-fn put_table(body: &mut Body, dice: &mut Dice) -> Result<usize, NoMemory> {
+fn put_table(body: &mut Body, dice: &mut Dice) -> Result<usize, Failure> {
     let count = if dice.one_of(20) { 33 } else { dice.below(4) };
     body.put(count, 4)?;
     body.put(0, 4)?;
@@ -31,7 +31,7 @@ fn put_table(body: &mut Body, dice: &mut Dice) -> Result<usize, NoMemory> {
 }
 
 /// Where a ring's parts are: its index, flags and four addresses.
-fn put_addresses(body: &mut Body, dice: &mut Dice) -> Result<(), NoMemory> {
+fn put_addresses(body: &mut Body, dice: &mut Dice) -> Result<(), Failure> {
     body.put(dice.below(3), 4)?;
     body.put(dice.below(2), 4)?;
     for _ in 0..4 {
@@ -41,7 +41,7 @@ fn put_addresses(body: &mut Body, dice: &mut Dice) -> Result<(), NoMemory> {
 }
 
 /// A part of the configuration space, with its bytes.
-fn put_config(body: &mut Body, dice: &mut Dice) -> Result<(), NoMemory> {
+fn put_config(body: &mut Body, dice: &mut Dice) -> Result<(), Failure> {
     let size = dice.below(6);
     let offset = u64::from(VHOST_USER_CONFIG_OFFSET);
     body.put(offset.wrapping_add(dice.below(2)), 4)?;
@@ -54,7 +54,7 @@ fn put_config(body: &mut Body, dice: &mut Dice) -> Result<(), NoMemory> {
 }
 
 /// Buffers for descriptors in flight: size and offset in bytes, how many rings, and how long each is.
-fn put_inflight(body: &mut Body, dice: &mut Dice) -> Result<(), NoMemory> {
+fn put_inflight(body: &mut Body, dice: &mut Dice) -> Result<(), Failure> {
     body.put(dice.below(3).wrapping_mul(0x1000), 8)?;
     body.put(0, 8)?;
     body.put(dice.below(4), 2)?;
@@ -63,19 +63,19 @@ fn put_inflight(body: &mut Body, dice: &mut Dice) -> Result<(), NoMemory> {
 }
 
 /// A ring's index, and a notable number.
-fn put_ring(body: &mut Body, dice: &mut Dice) -> Result<(), NoMemory> {
+fn put_ring(body: &mut Body, dice: &mut Dice) -> Result<(), Failure> {
     body.put(dice.below(3), 4)?;
     body.put(dice.notable(), 4)
 }
 
 /// A number below 3, and one below a bound.
-fn put_pair(body: &mut Body, dice: &mut Dice, bound: u64) -> Result<(), NoMemory> {
+fn put_pair(body: &mut Body, dice: &mut Dice, bound: u64) -> Result<(), Failure> {
     body.put(dice.below(3), 4)?;
     body.put(dice.below(bound), 4)
 }
 
 /// A ring's index, and whether a handle comes with it; how many.
-fn put_ring_handle(body: &mut Body, dice: &mut Dice) -> Result<usize, NoMemory> {
+fn put_ring_handle(body: &mut Body, dice: &mut Dice) -> Result<usize, Failure> {
     let handles = dice.place(2);
     let unset = if handles == 0 { 0x100 } else { 0 };
     body.put(dice.below(3).wrapping_add(unset), 8)?;
@@ -83,19 +83,19 @@ fn put_ring_handle(body: &mut Body, dice: &mut Dice) -> Result<usize, NoMemory> 
 }
 
 /// One region.
-fn put_single(body: &mut Body, dice: &mut Dice) -> Result<(), NoMemory> {
+fn put_single(body: &mut Body, dice: &mut Dice) -> Result<(), Failure> {
     body.put(0, 8)?;
     put_region(body, dice)
 }
 
 /// So many handles, for what was put.
-fn with(handles: usize, put: Result<(), NoMemory>) -> Result<usize, NoMemory> {
+fn with(handles: usize, put: Result<(), Failure>) -> Result<usize, Failure> {
     put?;
     Ok(handles)
 }
 
 /// The body of a frontend's request, as its row wants it; how many handles come with it.
-fn put_request(body: &mut Body, dice: &mut Dice, request: FrontendReq) -> Result<usize, NoMemory> {
+fn put_request(body: &mut Body, dice: &mut Dice, request: FrontendReq) -> Result<usize, Failure> {
     match request {
         FrontendReq::SET_FEATURES | FrontendReq::SET_PROTOCOL_FEATURES | FrontendReq::NET_SET_MTU =>
             with(0, body.put_notable(dice, 1)),
@@ -120,7 +120,7 @@ fn put_request(body: &mut Body, dice: &mut Dice, request: FrontendReq) -> Result
 }
 
 /// A request of a frontend, and its handles, as its row wants them.
-pub(crate) fn request_of_frontend(alloc: Global, dice: &mut Dice) -> Result<Piece, NoMemory> {
+pub(crate) fn request_of_frontend(alloc: Global, dice: &mut Dice) -> Result<Piece, Failure> {
     let code = dice.small(46);
     let mut body = Body::new(alloc);
     let handles = match FrontendReq::try_from(code) {
@@ -137,7 +137,7 @@ pub(crate) fn put_opening(
     alloc: Global,
     dice: &mut Dice,
     pieces: &mut Vec<Piece>,
-) -> Result<(), NoMemory> {
+) -> Result<(), Failure> {
     for (code, number) in [
         (1, None),
         (3, None),
@@ -159,7 +159,7 @@ fn put_request_of_device(
     body: &mut Body,
     dice: &mut Dice,
     request: BackendReq,
-) -> Result<usize, NoMemory> {
+) -> Result<usize, Failure> {
     match request {
         BackendReq::SHARED_OBJECT_ADD | BackendReq::SHARED_OBJECT_REMOVE => with(
             0,
@@ -173,7 +173,7 @@ fn put_request_of_device(
 }
 
 /// A request of a device, and its handles, as its row wants them.
-pub(crate) fn request_of_device(alloc: Global, dice: &mut Dice) -> Result<Piece, NoMemory> {
+pub(crate) fn request_of_device(alloc: Global, dice: &mut Dice) -> Result<Piece, Failure> {
     let code = dice.small(12);
     let mut body = Body::new(alloc);
     let handles = match BackendReq::try_from(code) {
@@ -185,7 +185,7 @@ pub(crate) fn request_of_device(alloc: Global, dice: &mut Dice) -> Result<Piece,
 }
 
 /// A mapping into shared memory: its region, two offsets, its length and its flags.
-fn put_mapping(body: &mut Body, dice: &mut Dice) -> Result<(), NoMemory> {
+fn put_mapping(body: &mut Body, dice: &mut Dice) -> Result<(), Failure> {
     body.put(dice.below(4), 8)?;
     for _ in 0..3 {
         body.put(dice.below(16).wrapping_mul(0x1000), 8)?;

@@ -3,7 +3,7 @@
 ghost use Rattle.std.specs.Prelude.{⊤};
 
 use crate::answer::Answer;
-use crate::memory::NoMemory;
+use crate::failure::Failure;
 use crate::side::Side;
 use std::alloc::Global;
 use vhost_frontend_req_handler::{FrontendReqCore, VhostUserFrontendReqHandlerMut};
@@ -71,7 +71,7 @@ pub(crate) struct Reverse {
 }
 
 impl Reverse {
-    pub(crate) fn new(alloc: Global, cuts: Vec<Cut>, budget: u32) -> Result<Reverse, NoMemory> {
+    pub(crate) fn new(alloc: Global, cuts: Vec<Cut>, budget: u32) -> Result<Reverse, Failure> {
         let mut core = FrontendReqCore::new(alloc, MemLink::new(alloc, cuts), budget)?;
         core.set_reply_ack_flag(true);
         Ok(Reverse {

@@ -1,7 +1,7 @@
 //! A handler over the example device.
 
 use crate::answer::Answer;
-use crate::memory::NoMemory;
+use crate::failure::Failure;
 use crate::side::Side;
 use std::alloc::Global;
 use vhost_backend_req_handler::SessionCore;
@@ -18,7 +18,7 @@ pub(crate) struct Served {
 }
 
 impl Served {
-    pub(crate) fn new(alloc: Global, cuts: Vec<Cut>, budget: u32) -> Result<Served, NoMemory> {
+    pub(crate) fn new(alloc: Global, cuts: Vec<Cut>, budget: u32) -> Result<Served, Failure> {
         let mut spare = Vec::new(alloc);
         for id in 0..SPARE {
             let handle = PlainHandle {

@@ -3,7 +3,7 @@
 use crate::asking::Asking;
 use crate::dice::Dice;
 use crate::exchanges::{Exchange, FLAGS, OF_DEVICE, OF_FRONTEND, OPENING};
-use crate::memory::NoMemory;
+use crate::failure::Failure;
 use crate::message::{Piece, spoil};
 use crate::requests::{put_opening, request_of_device, request_of_frontend};
 use crate::reverse::Reverse;
@@ -18,6 +18,9 @@ use vhost_test_tools::message_of;
 
 /// How many retries a message may take.
 pub(crate) const BUDGET: u32 = 3;
+
+/// How many messages are more than what is received ahead by one call of a link: they have some 25 bytes each.
+const FILLING: usize = 700;
 
 /// Which side takes the messages.
 #[derive(Clone, Copy, PartialEq, Eq)]
@@ -64,6 +67,8 @@ pub(crate) struct Session {
     pub(crate) pieces: Vec<Piece>,
     /// The calls that the side makes.
     pub(crate) calls: Vec<&'static str>,
+    /// Whether messages come without handles, and as they should be otherwise.
+    is_bare: bool,
     /// How many messages it was made of.
     pub(crate) messages: u64,
     /// How many bytes there are in all.
@@ -71,7 +76,7 @@ pub(crate) struct Session {
 }
 
 /// Makes a session; a sixth of its messages is spoiled.
-pub(crate) fn make(alloc: Global, dice: &mut Dice) -> Result<Session, NoMemory> {
+pub(crate) fn make(alloc: Global, dice: &mut Dice) -> Result<Session, Failure> {
     let kind = match dice.below(6) {
         0 => Kind::Reverse,
         1 => Kind::Frontend,
@@ -82,6 +87,7 @@ pub(crate) fn make(alloc: Global, dice: &mut Dice) -> Result<Session, NoMemory> 
         kind,
         pieces: Vec::new(alloc),
         calls: Vec::new(alloc),
+        is_bare: false,
         messages: 0,
         len: 0,
     };
@@ -89,6 +95,9 @@ pub(crate) fn make(alloc: Global, dice: &mut Dice) -> Result<Session, NoMemory> 
     let count = dice.below(12).saturating_add(1);
     if opens {
         session.open(alloc, dice)?;
+    }
+    if dice.one_of(150) {
+        session.fill(alloc, dice)?;
     }
     for _ in 0..count {
         session.go_on(alloc, dice)?;
@@ -108,7 +117,7 @@ fn len_of(pieces: &[Piece]) -> usize {
 
 impl Session {
     /// The messages that most sessions begin with, so that later ones find their features.
-    fn open(&mut self, alloc: Global, dice: &mut Dice) -> Result<(), NoMemory> {
+    fn open(&mut self, alloc: Global, dice: &mut Dice) -> Result<(), Failure> {
         if self.kind == Kind::Served {
             put_opening(alloc, dice, &mut self.pieces)?;
             self.messages = self.pieces.len() as u64;
@@ -120,7 +129,7 @@ impl Session {
     }
 
     /// One message more, of any request or reply.
-    fn go_on(&mut self, alloc: Global, dice: &mut Dice) -> Result<(), NoMemory> {
+    fn go_on(&mut self, alloc: Global, dice: &mut Dice) -> Result<(), Failure> {
         let piece = match self.kind {
             Kind::Served => request_of_frontend(alloc, dice)?,
             Kind::Reverse => request_of_device(alloc, dice)?,
@@ -135,10 +144,22 @@ impl Session {
         self.put(alloc, dice, piece)
     }
 
+    /// Messages without handles, more than a side receives ahead by one call of its link.
+    fn fill(&mut self, alloc: Global, dice: &mut Dice) -> Result<(), Failure> {
+        self.is_bare = true;
+        for _ in 0..FILLING {
+            self.go_on(alloc, dice)?;
+        }
+        self.is_bare = false;
+        Ok(())
+    }
+
     /// A message more, which may be spoiled.
-    fn put(&mut self, alloc: Global, dice: &mut Dice, piece: Piece) -> Result<(), NoMemory> {
+    fn put(&mut self, alloc: Global, dice: &mut Dice, mut piece: Piece) -> Result<(), Failure> {
         self.messages = self.messages.saturating_add(1);
-        if dice.one_of(6) {
+        if self.is_bare {
+            piece.handles.clear();
+        } else if dice.one_of(6) {
             return spoil(alloc, dice, piece, &mut self.pieces);
         }
         self.pieces.push(piece)?;
@@ -152,7 +173,7 @@ impl Session {
         dice: &mut Dice,
         call: &'static str,
         reply: &str,
-    ) -> Result<(), NoMemory> {
+    ) -> Result<(), Failure> {
         self.calls.push(call)?;
         if reply == "-" {
             return Ok(());
@@ -179,7 +200,7 @@ impl Session {
         alloc: Global,
         cuts: Vec<Cut>,
         most: usize,
-    ) -> Result<Trace, NoMemory> {
+    ) -> Result<Trace, Failure> {
         self.front_shown(alloc, cuts, most, self.len)
     }
 
@@ -190,7 +211,7 @@ impl Session {
         cuts: Vec<Cut>,
         most: usize,
         len: usize,
-    ) -> Result<Trace, NoMemory> {
+    ) -> Result<Trace, Failure> {
         match self.kind {
             Kind::Served => {
                 let side = Served::new(alloc, cuts, BUDGET)?;
@@ -229,7 +250,7 @@ fn take<S: Side>(
     pieces: &[Piece],
     len: usize,
     most: usize,
-) -> Result<Trace, NoMemory> {
+) -> Result<Trace, Failure> {
     let mut left = len;
     for piece in pieces {
         let count = left.min(piece.bytes.len());

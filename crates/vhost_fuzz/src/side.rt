@@ -1,7 +1,7 @@
 //! A side that takes one message after another, and what is seen of it.
 
 use crate::answer::Answer;
-use crate::memory::NoMemory;
+use crate::failure::Failure;
 use std::alloc::Global;
 use vhost_link::{Link, MemLink, PlainHandle};
 use vhost_message::MAX_ATTACHED_FD_ENTRIES;
@@ -26,14 +26,14 @@ pub(crate) fn push_piece(
     link: &mut MemLink,
     bytes: &[u8],
     handles: &[PlainHandle],
-) -> Result<(), NoMemory> {
+) -> Result<(), Failure> {
     let most = handles.len().min(MAX_ATTACHED_FD_ENTRIES);
     link.push(bytes, &handles[..most])?;
     Ok(())
 }
 
 /// How many bytes are on their way to a link's side; they are taken away. There are fewer than 2 to the power of 20.
-fn drain(alloc: Global, link: &mut MemLink) -> Result<usize, NoMemory> {
+fn drain(alloc: Global, link: &mut MemLink) -> Result<usize, Failure> {
     let mut count: usize = 0;
     for _ in 0..1_048_576u32 {
         let mut room = [0u8; 512];
@@ -70,7 +70,7 @@ pub(crate) struct Trace {
 
 /// Lets a side take messages, or make calls, so many at most: to the end of its stream, or until it answered twice that it is broken. Where memory was refused,
 /// the call is made once more.
-pub(crate) fn play<S: Side>(alloc: Global, side: &mut S, most: usize) -> Result<Trace, NoMemory> {
+pub(crate) fn play<S: Side>(alloc: Global, side: &mut S, most: usize) -> Result<Trace, Failure> {
     let mut trace = Trace {
         opening: side.state(),
         shown: Vec::new(alloc),

@@ -1,6 +1,6 @@
 //! How often each name was answered.
 
-use crate::memory::NoMemory;
+use crate::failure::Failure;
 use std::alloc::Global;
 
 /// How often each name was answered, in the order in which they were first met.
@@ -16,7 +16,7 @@ impl Tally {
         }
     }
 
-    pub(crate) fn count(&mut self, name: &'static str) -> Result<(), NoMemory> {
+    pub(crate) fn count(&mut self, name: &'static str) -> Result<(), Failure> {
         for entry in &mut self.counts {
             if entry.0 == name {
                 entry.1 = entry.1.saturating_add(1);

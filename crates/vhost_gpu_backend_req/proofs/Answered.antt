@@ -17,8 +17,8 @@ use Rattle.vhost_protocol.specs.Row.{always}
 use Rattle.vhost_protocol.specs.Stream.{Cell, bytes, carrying, first_handles, has_some, items}
 use Rattle.vhost_link.specs.Law.{Event}
 use Rattle.vhost_connection.specs.Pass.{receives}
-use Rattle.vhost_connection.specs.Talk.{State}
-use Rattle.vhost_connection.specs.Came.{Came}
+use Rattle.vhost_connection.specs.Talk.{State, IfSound}
+use Rattle.vhost_connection.specs.Came.{Came, Alone}
 use Rattle.vhost_connection.specs.Calls.{Sends, HandsOver, ReadsPayload, IsNoMessage, is_sound}
 use Rattle.vhost_connection.specs.Calls.IsNoMessage.{too_few, not_valid}
 use Rattle.vhost_connection.specs.Hearing.{Hears, broken_on}
@@ -82,7 +82,7 @@ module _ {L H T : Type 0} (event : L → Event H → L → Type 0) (size : ℕ) 
       ∙ ap (λ (n : ℕ). (gpu_understood sent (reply_split is_known_gpu n (λ bs. valid (read bs)) 0 cells).0, (reply_split is_known_gpu n (λ bs. valid (read bs)) 0 cells).1)) sized
 
   module _ (old new : State L H) (sent : Header) (after : List ℕ) where
-    came : (cs : List (Cell H)) (o : Result (Received H) Error) {list : Bool} → Came event old true (12 + size + 0) cs list new → 12 + size ≤ length cs → outcome is_known_gpu size 0 (λ bs. valid (read bs)) cs ≡ o
+    came : (cs : List (Cell H)) (o : Result (Received H) Error) {list : Bool} → Came event old Alone (12 + size + 0) cs list new → 12 + size ≤ length cs → outcome is_known_gpu size 0 (λ bs. valid (read bs)) cs ≡ o
         → Hears event (reply_split is_known_gpu size (λ bs. valid (read bs)) 0) old o new
     came cs o m whole e = record {
       cells = cs;
@@ -123,7 +123,7 @@ module _ {L H T : Type 0} (event : L → Event H → L → Type 0) (size : ℕ) 
   -- none came, or the link failed
   pub record-fails : (old new : State L H) (sent : Header) (after : List ℕ) (e : declared.Error) → ReadsGpu event size read valid old (Err e) after new
       → RecvsRecord event read (gpu_take (Some shape) sent) old (Err (In (codes "recv_body") (seen e))) (broken_on e new)
-  record-fails old new sent after e (cs, room, inr f) = stopped (trouble-breaks event old true false (receives (items cs) f.retries) e new f.trouble (lit≤ tt))
+  record-fails old new sent after e (cs, room, inr f) = stopped (trouble-breaks event old IfSound false (receives (items cs) f.retries) e new f.trouble refl (lit≤ tt))
   record-fails old new sent after e (cs, room, inl (m, bad)) = go e bad
     where
       go : (y : declared.Error) → IsNoMessage (12 + size) (is_sound (λ bs. of_gpu_fields (header_of bs)) valid_head size read valid) cs y

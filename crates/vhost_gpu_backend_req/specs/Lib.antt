@@ -1,2 +1,3 @@
 pub mod Channel
 pub mod Asking
+pub mod Turn

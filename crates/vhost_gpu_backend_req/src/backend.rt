@@ -1,7 +1,11 @@
 //! What a device tells a display.
 
 ghost use Rattle.std.specs.Prelude.{◌≡◌, IfErr};
+ghost use Rattle.std.specs.Option.{option_map};
+ghost use Rattle.vhost_gpu_message.specs.Replies.{display_info_of, edid_of};
+ghost use Rattle.vhost_message.specs.Records.{u64_at};
 ghost use Rattle.vhost_message.specs.declared.error.Error.TheVariants.{OutOfMemory};
+ghost use Rattle.vhost_protocol.specs.Gpu.{GetProtocolFeatures, SetProtocolFeatures, GetDisplayInfo, GetEdid, SetScanout, UpdateScanout, SetDmabufScanout, SetDmabufScanout2, UpdateDmabufScanout, MoveCursor, HideCursor, UpdateCursor};
 
 use crate::internal::BackendInternal;
 use std::alloc::{AllocError, Global};
@@ -15,7 +19,7 @@ use vhost_link::Link;
 use vhost_message::{Error, HandlerResult, Result, VhostUserU64};
 
 /// The channel to a display, which a device is given by VHOST_USER_GPU_SET_SOCKET. It can be shared: clones are the same
-/// channel.
+/// channel. Each call is that of `BackendInternal`, whole in one turn with the lock: also a failure is that of the channel which it found there.
 ///
 /// Mirrors `vhost::vhost_user::GpuBackend`.
 #[derive(Drop)]
@@ -24,6 +28,9 @@ pub struct GpuBackend<L: Link> {
 }
 
 impl<L: Link> GpuBackend<L> {
+    ghost use Rattle.vhost_gpu_backend_req.specs.Asking.{AsksCall};
+    ghost use Rattle.vhost_gpu_backend_req.specs.Turn.{Turn};
+
     /// A channel over a link. A message may take so many retries.
     ///
     /// OutOfMemory: a growth was refused.
@@ -38,7 +45,9 @@ impl<L: Link> GpuBackend<L> {
     }
 
     /// `BackendInternal::get_protocol_features` under the lock.
-    pub fn get_protocol_features(&self, rt: &impl Wait) -> HandlerResult<VhostUserU64> {
+    pub fn get_protocol_features(&self, rt: &impl Wait) -> HandlerResult<VhostUserU64>
+        ensures { Turn (AsksCall L.event (λ bs. record { value = u64_at 0 bs }) GetProtocolFeatures) result }
+    {
         self.inner.lock(rt).get_protocol_features()
     }
 
@@ -47,12 +56,16 @@ impl<L: Link> GpuBackend<L> {
         &self,
         rt: &impl Wait,
         features: &VhostUserU64,
-    ) -> HandlerResult<()> {
+    ) -> HandlerResult<()>
+        ensures { Turn (AsksCall L.event (λ _. tt) (SetProtocolFeatures features.now.value)) result }
+    {
         self.inner.lock(rt).set_protocol_features(features)
     }
 
     /// `BackendInternal::get_display_info` under the lock.
-    pub fn get_display_info(&self, rt: &impl Wait) -> HandlerResult<VirtioGpuRespDisplayInfo> {
+    pub fn get_display_info(&self, rt: &impl Wait) -> HandlerResult<VirtioGpuRespDisplayInfo>
+        ensures { Turn (AsksCall L.event display_info_of GetDisplayInfo) result }
+    {
         self.inner.lock(rt).get_display_info()
     }
 
@@ -61,12 +74,16 @@ impl<L: Link> GpuBackend<L> {
         &self,
         rt: &impl Wait,
         request: &VhostUserGpuEdidRequest,
-    ) -> HandlerResult<VirtioGpuRespGetEdid> {
+    ) -> HandlerResult<VirtioGpuRespGetEdid>
+        ensures { Turn (AsksCall L.event edid_of (GetEdid request.now)) result }
+    {
         self.inner.lock(rt).get_edid(request)
     }
 
     /// `BackendInternal::set_scanout` under the lock.
-    pub fn set_scanout(&self, rt: &impl Wait, scanout: &VhostUserGpuScanout) -> HandlerResult<()> {
+    pub fn set_scanout(&self, rt: &impl Wait, scanout: &VhostUserGpuScanout) -> HandlerResult<()>
+        ensures { Turn (AsksCall L.event (λ _. tt) (SetScanout scanout.now)) result }
+    {
         self.inner.lock(rt).set_scanout(scanout)
     }
 
@@ -76,7 +93,9 @@ impl<L: Link> GpuBackend<L> {
         rt: &impl Wait,
         update: &VhostUserGpuUpdate,
         pixels: &[u8],
-    ) -> HandlerResult<()> {
+    ) -> HandlerResult<()>
+        ensures { Turn (AsksCall L.event (λ _. tt) (UpdateScanout update.now pixels.now)) result }
+    {
         self.inner.lock(rt).update_scanout(update, pixels)
     }
 
@@ -86,7 +105,9 @@ impl<L: Link> GpuBackend<L> {
         rt: &impl Wait,
         scanout: &VhostUserGpuDMABUFScanout,
         handle: Option<&L::Handle>,
-    ) -> HandlerResult<()> {
+    ) -> HandlerResult<()>
+        ensures { Turn (AsksCall L.event (λ _. tt) (SetDmabufScanout scanout.now (option_map (λ h. h.now) handle.entry))) result }
+    {
         self.inner.lock(rt).set_dmabuf_scanout(scanout, handle)
     }
 
@@ -96,7 +117,9 @@ impl<L: Link> GpuBackend<L> {
         rt: &impl Wait,
         scanout: &VhostUserGpuDMABUFScanout2,
         handle: Option<&L::Handle>,
-    ) -> HandlerResult<()> {
+    ) -> HandlerResult<()>
+        ensures { Turn (AsksCall L.event (λ _. tt) (SetDmabufScanout2 scanout.now (option_map (λ h. h.now) handle.entry))) result }
+    {
         self.inner.lock(rt).set_dmabuf_scanout2(scanout, handle)
     }
 
@@ -105,12 +128,16 @@ impl<L: Link> GpuBackend<L> {
         &self,
         rt: &impl Wait,
         update: &VhostUserGpuUpdate,
-    ) -> HandlerResult<()> {
+    ) -> HandlerResult<()>
+        ensures { Turn (AsksCall L.event (λ _. tt) (UpdateDmabufScanout update.now)) result }
+    {
         self.inner.lock(rt).update_dmabuf_scanout(update)
     }
 
     /// `BackendInternal::cursor_pos` under the lock.
-    pub fn cursor_pos(&self, rt: &impl Wait, cursor: &VhostUserGpuCursorPos) -> HandlerResult<()> {
+    pub fn cursor_pos(&self, rt: &impl Wait, cursor: &VhostUserGpuCursorPos) -> HandlerResult<()>
+        ensures { Turn (AsksCall L.event (λ _. tt) (MoveCursor cursor.now)) result }
+    {
         self.inner.lock(rt).cursor_pos(cursor)
     }
 
@@ -119,7 +146,9 @@ impl<L: Link> GpuBackend<L> {
         &self,
         rt: &impl Wait,
         cursor: &VhostUserGpuCursorPos,
-    ) -> HandlerResult<()> {
+    ) -> HandlerResult<()>
+        ensures { Turn (AsksCall L.event (λ _. tt) (HideCursor cursor.now)) result }
+    {
         self.inner.lock(rt).cursor_pos_hide(cursor)
     }
 
@@ -129,7 +158,9 @@ impl<L: Link> GpuBackend<L> {
         rt: &impl Wait,
         update: &VhostUserGpuCursorUpdate,
         image: &[u8; 16384],
-    ) -> HandlerResult<()> {
+    ) -> HandlerResult<()>
+        ensures { Turn (AsksCall L.event (λ _. tt) (UpdateCursor update.now image.now)) result }
+    {
         self.inner.lock(rt).cursor_update(update, image)
     }
 

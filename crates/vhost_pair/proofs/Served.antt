@@ -30,6 +30,7 @@ use Rattle.vhost_link.specs.Law.{Move}
 use Rattle.vhost_connection.specs.Pass.{receives, sends}
 use Rattle.vhost_connection.specs.Hearing.{Hears}
 use Rattle.vhost_connection.specs.Requests as endpoint
+use Rattle.vhost_connection.specs.Talk.{First}
 use Rattle.vhost_connection.proofs.Failing.{fell-talks, refused-taken, trouble-fails}
 use Rattle.vhost_connection.specs.Serving.{Handled, unread, unanswered}
 use Rattle.vhost_connection.proofs.Serving.{Entry, as-entry}
@@ -91,7 +92,7 @@ module _ {Dev : Type 0} (gives : Gives Dev) (he he' : End) (s s' : Session) (d d
   as-unread e k = record { cause = k.cause; stopped = inl k.stopped; gone = k.gone; sent = k.sent; few = k.few; faulted = k.faulted }
 
   broke-faults : (e : declared.Error) → Breaks event gives opens_backend opens_gpu he s d e he' s' d' → he.broken ≡ None → he.list ≡ true → ServingFaults he he'
-  broke-faults e (unread p same kept) whole list = as-unread e (faults he he' false e (trouble-fails event he true false (receives (items p.cells) p.retries) e he' p.trouble refl (omega arith)) whole list)
+  broke-faults e (unread p same kept) whole list = as-unread e (faults he he' false e (trouble-fails event he First false (receives (items p.cells) p.retries) e he' p.trouble refl refl (omega arith)) whole list)
   broke-faults e (unanswered m mid h p) whole list = stopped-faults m mid p.written e h p.stops
 
   -- each of the two messages has its own budget

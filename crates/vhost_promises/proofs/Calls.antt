@@ -13,7 +13,7 @@ use Rattle.vhost_protocol.specs.Stream.{Cell, Item, items, bytes, first_handles,
 use Rattle.vhost_link.specs.Law.{Event, Move, move, nothing}
 use Rattle.vhost_link.specs.Law.Moved.{still}
 use Rattle.vhost_connection.specs.Pass.{sends, receives}
-use Rattle.vhost_connection.specs.Talk.{State, Serves, Talks, Trouble, has_moved}
+use Rattle.vhost_connection.specs.Talk.{State, Serves, Talks, Never, Trouble, has_moved}
 use Rattle.vhost_connection.specs.Talk.Trouble.{was_broken as trouble_broken, no_memory as trouble_memory, fault as trouble_fault}
 use Rattle.vhost_connection.specs.Hearing.{Fails}
 use Rattle.vhost_connection.specs.Hearing.Fails.{was_broken as fails_broken, no_memory as fails_memory, fault as fails_fault}
@@ -58,9 +58,9 @@ module _ {L H : Type 0} (event : L → Event H → L → Type 0) where
       failed c s.talks s.failures s.before fell none (λ is. spent is ∙ s.talks.budget) (broken ∙ ap (λ x. if x || has_moved m then Some c else None) (sym moved))
 
   -- so has trouble of an endpoint that has its list
-  pub trouble-reason : (old : State L H) (m : Move H) (e : declared.Error) (new : State L H) → Trouble event (record old { list = true }) old.budget false false m e new → HasReason event old e new
+  pub trouble-reason : (old : State L H) (m : Move H) (e : declared.Error) (new : State L H) → Trouble event (record old { list = true }) old.budget Never false m e new → HasReason event old e new
   trouble-reason old m e new (trouble_broken b s n) = was_broken b (ap (λ x. x.broken) n ∙ b)
-  trouble-reason old m e new (trouble_memory g b l s n) = absurd cc
+  trouble-reason old m e new (trouble_memory g b l s n) = absurd (cc g)
   trouble-reason old m e new (trouble_fault c b fell none most spent broken faulted kept) = failed c (not-yet old true) refl b fell none spent broken
 
 -- ---- what was received

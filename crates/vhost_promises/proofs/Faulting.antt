@@ -11,20 +11,20 @@ use Rattle.vhost_protocol.specs.Stream.{Cell, heard}
 use Rattle.vhost_link.specs.Law.{Event, Move, nothing}
 use Rattle.vhost_link.specs.Law.Moved.{still}
 use Rattle.vhost_connection.specs.Pass.{receives, sends}
-use Rattle.vhost_connection.specs.Talk.{State, Talks, Trouble, has_moved}
+use Rattle.vhost_connection.specs.Talk.{State, Talks, First, Trouble, has_moved}
 use Rattle.vhost_connection.specs.Talk.Trouble.{was_broken, no_memory, fault}
 use Rattle.vhost_connection.specs.Serving.{CallsMany, CallsUnless, HandlesOne, Runs}
 use Rattle.vhost_connection.specs.Serving.Breaks.{unread, unanswered}
 use Rattle.vhost_promises.specs.Faults.{MeetsFault, StaysBroken}
-use Rattle.vhost_promises.proofs.Unserved.{unserved}
+use Rattle.vhost_promises.proofs.Unserved.{unserved, unserved-listed}
 
 -- an endpoint whose last call met a fault, or none
 abbrev pub faulted_as : {L H : Type 0} → State L H → Bool → State L H
 faulted_as s b = record s { faulted = b }
 
 -- an endpoint that met a fault was not as it is where it met none
-unmet : {L H : Type 0} (old new : State L H) → new ≡ record old { faulted = false } → new.faulted ≡ true → ⊥
-unmet old new same met = let found : true ≡ false = sym met ∙ ap (λ x. x.faulted) same in absurd cc
+unmet : {L H : Type 0} (new : State L H) → new.faulted ≡ false → new.faulted ≡ true → ⊥
+unmet new not_met met = let found : true ≡ false = sym met ∙ not_met in absurd cc
 
 module _ {L H : Type 0} (event : L → Event H → L → Type 0) where
   -- nothing was done yet
@@ -32,9 +32,9 @@ module _ {L H : Type 0} (event : L → Event H → L → Type 0) where
   not-yet old = record { below = nothing; moved = still; handed = append-nil _; taken = refl; retries = refl; failures = refl; budget = refl }
 
   -- trouble that was a fault
-  troubled : {A : Type 0} (old : State L H) (m : Move H) (e : declared.Error) (new : State L H) → Trouble event old old.budget true false m e new → new.faulted ≡ true → MeetsFault {A = A} event old (Err e) new
-  troubled old m e new (was_broken b s n) met = absurd (unmet old new n met)
-  troubled old m e new (no_memory g b l s n) met = absurd (unmet old new n met)
+  troubled : {A : Type 0} (old : State L H) (m : Move H) (e : declared.Error) (new : State L H) → Trouble event old old.budget First false m e new → new.faulted ≡ true → MeetsFault {A = A} event old (Err e) new
+  troubled old m e new (was_broken b s n) met = absurd (unmet new (ap (λ x. x.faulted) n) met)
+  troubled old m e new (no_memory g b l s n) met = absurd (unmet new (ap (λ x. x.faulted) n) met)
   troubled old m e new (fault c b f k few spent broken faulted kept) met =
       record { cause = c; answered = refl; before = nothing; moved = m; mid = old; talks = not-yet old; fell = f; spent = spent; broken = broken }
 
@@ -69,14 +69,14 @@ module _ {L R H S A Dev : Type 0} (event : L → Event H → L → Type 0) (requ
       }
 
   -- each call over a broken endpoint says so
-  calls-broken : (c : IoCause) (old : State L H) (s : S) (d : Dev) (answers : List (Result A declared.Error)) (new : State L H) (s' : S) (d' : Dev) → failed s ≡ None → old.broken ≡ Some c
+  calls-broken : (c : IoCause) (old : State L H) (s : S) (d : Dev) (answers : List (Result A declared.Error)) (new : State L H) (s' : S) (d' : Dev) → failed s ≡ None → old.list ≡ true → old.broken ≡ Some c
       → CallsMany event request_of allows_handles failed kept Meets old s d answers new s' d' → StaysBroken c (SocketBroken c) (length answers) old answers new × (s' ≡ s) × (d' ≡ d)
-  calls-broken c old s d [] new s' d' alive broken (same, same_s, same_d) =
+  calls-broken c old s d [] new s' d' alive listed broken (same, same_s, same_d) =
       (record { answered = refl; broken = ap (λ x. x.broken) same ∙ broken; endpoint = same ∙ ap (faulted_as old) (sym (ap (λ x. x.faulted) same)) }, same_s, same_d)
-  calls-broken c old s d (answer ∷ answers) new s' d' alive broken (mid, t, between, once, later) =
-      let (is, same, same_t, same_between) = unserved event request_of allows_handles failed kept Meets old s d answer mid t between c broken
-      (subst (λ f. CallsUnless event request_of allows_handles failed kept Meets f old s d answer mid t between) alive once) in
-      let (rest, same_s, same_d) = calls-broken c mid t between answers new s' d' (ap failed same_t ∙ alive) (ap (λ x. x.broken) same ∙ broken) later in (
+  calls-broken c old s d (answer ∷ answers) new s' d' alive listed broken (mid, t, between, once, later) =
+      let (is, same, same_t, same_between) = unserved-listed old s t d between c answer mid listed (unserved event request_of allows_handles failed kept Meets old s d answer mid t between c broken
+      (subst (λ f. CallsUnless event request_of allows_handles failed kept Meets f old s d answer mid t between) alive once)) in
+      let (rest, same_s, same_d) = calls-broken c mid t between answers new s' d' (ap failed same_t ∙ alive) (ap (λ x. x.list) same ∙ listed) (ap (λ x. x.broken) same ∙ broken) later in (
         record {
           answered = ap (λ x. x ∷ answers) is ∙ ap (λ xs. Err (SocketBroken c) ∷ xs) rest.answered;
           broken = rest.broken;
@@ -87,9 +87,9 @@ module _ {L R H S A Dev : Type 0} (event : L → Event H → L → Type 0) (requ
       )
 
   -- so does a run
-  pub run-broken : (c : IoCause) (old : State L H) (s : S) (d : Dev) (n : ℕ) (before answers : List (Result A declared.Error)) (new : State L H) (s' : S) (d' : Dev) → before ≡ [] → failed s ≡ None → old.broken ≡ Some c
+  pub run-broken : (c : IoCause) (old : State L H) (s : S) (d : Dev) (n : ℕ) (before answers : List (Result A declared.Error)) (new : State L H) (s' : S) (d' : Dev) → before ≡ [] → failed s ≡ None → old.list ≡ true → old.broken ≡ Some c
       → Runs event request_of allows_handles failed kept Meets old s d n before answers new s' d' → StaysBroken c (SocketBroken c) n old answers new × (s' ≡ s) × (d' ≡ d)
-  run-broken c old s d n before answers new s' d' empty alive broken r =
-      let (stays, same_s, same_d) = calls-broken c old s d r.answers new s' d' alive broken r.calls in
+  run-broken c old s d n before answers new s' d' empty alive listed broken r =
+      let (stays, same_s, same_d) = calls-broken c old s d r.answers new s' d' alive listed broken r.calls in
       let all : answers ≡ r.answers = r.appended ∙ ap (λ xs. xs ++ r.answers) empty in
       (record { answered = all ∙ stays.answered ∙ ap (λ k. replicate k (Err (SocketBroken c))) r.count; broken = stays.broken; endpoint = stays.endpoint }, same_s, same_d)

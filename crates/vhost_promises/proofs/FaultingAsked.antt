@@ -20,7 +20,7 @@ use Rattle.vhost_protocol.specs.declared.asked.Awaited.{Awaited}
 use Rattle.vhost_link.specs.Law.{Event, Move}
 use Rattle.vhost_connection.specs.Hearing.{Fails}
 use Rattle.vhost_connection.specs.Hearing.Fails.{was_broken, no_memory, fault}
-use Rattle.vhost_connection.specs.Talk.{State, Trouble}
+use Rattle.vhost_connection.specs.Talk.{State, Never, Trouble}
 use Rattle.vhost_connection.specs.Talk.Trouble.{was_broken as trouble_broken, no_memory as trouble_memory, fault as trouble_fault}
 use Rattle.vhost_backend_req.specs.Asking.{Asks, AsksCall}
 use Rattle.vhost_backend_req.specs.Asking.Asks.{refused, unsent, asked_for}
@@ -64,11 +64,11 @@ abbrev listed-as : {L H : Type 0} → State L H → Bool → State L H
 listed-as s b = record s { list = b; faulted = false }
 
 module _ {L H : Type 0} (event : L → Event H → L → Type 0) where
-  -- an endpoint that was broken is not served
-  failing : (c : IoCause) (old : State L H) (e : declared.Error) (new : State L H) → old.broken ≡ Some c → Fails event old false e new → (e ≡ SocketBroken c) × (new ≡ unserved old)
-  failing c old e new broken (was_broken b same) = (ap SocketBroken (same-cause (sym b ∙ broken)), same)
-  failing c old e new broken (no_memory b away same) = absurd (cc (sym broken ∙ b))
-  failing c old e new broken (fault x m b fell none most spent few is_broken faulted kept) = absurd (cc (sym broken ∙ b))
+  -- an endpoint that was broken and has its list is not served
+  failing : (c : IoCause) (old : State L H) (e : declared.Error) (new : State L H) → old.broken ≡ Some c → old.list ≡ true → Fails event old false e new → (e ≡ SocketBroken c) × (new ≡ unserved old)
+  failing c old e new broken listed (was_broken b same) = (ap SocketBroken (same-cause (sym b ∙ broken)), same ∙ ap (listed-as old) (sym listed))
+  failing c old e new broken listed (no_memory b away same) = absurd (cc (sym listed ∙ away))
+  failing c old e new broken listed (fault x m b fell none most spent few is_broken faulted kept) = absurd (cc (sym broken ∙ b))
 
   -- ---- a device's call to its frontend
 
@@ -82,27 +82,27 @@ module _ {L H : Type 0} (event : L → Event H → L → Type 0) where
       by true (Some n) agreed alive is = absurd (cc alive)
       by false failed agreed alive is = absurd (cc agreed)
 
-  adds-once : (c : IoCause) (old : Channel L H) (name : VhostUserSharedMsg) (answer : Result ℕ io.IoError) (new : State L H) → old.failed ≡ None → old.shared_object ≡ true → old.endpoint.broken ≡ Some c
+  adds-once : (c : IoCause) (old : Channel L H) (name : VhostUserSharedMsg) (answer : Result ℕ io.IoError) (new : State L H) → old.failed ≡ None → old.shared_object ≡ true → old.endpoint.list ≡ true → old.endpoint.broken ≡ Some c
       → Asks event (reverse_ask (backend_of old) (SharedObjectAdd name)) old.endpoint answer new → (answer ≡ Err (Of (SocketBroken c))) × (new ≡ unserved old.endpoint)
-  adds-once c old name (Ok n) new alive agreed broken (asked_for asked out takes) = absurd (cc (sym broken ∙ out.serves.before))
-  adds-once c old name (Err e) new alive agreed broken (asked_for asked out takes) = absurd (cc (sym broken ∙ out.serves.before))
-  adds-once c old name (Err e) new alive agreed broken (refused is) = absurd (not-refused (backend_of old) name (seen_io e) alive agreed is)
-  adds-once c old name (Err e) new alive agreed broken (unsent is f) =
-      let (error, same) = failing c old.endpoint _ new broken f in (ap (λ x. Err (Of x)) error, same)
+  adds-once c old name (Ok n) new alive agreed listed broken (asked_for asked out takes) = absurd (cc (sym broken ∙ out.serves.before))
+  adds-once c old name (Err e) new alive agreed listed broken (asked_for asked out takes) = absurd (cc (sym broken ∙ out.serves.before))
+  adds-once c old name (Err e) new alive agreed listed broken (refused is) = absurd (not-refused (backend_of old) name (seen_io e) alive agreed is)
+  adds-once c old name (Err e) new alive agreed listed broken (unsent is f) =
+      let (error, same) = failing c old.endpoint _ new broken listed f in (ap (λ x. Err (Of x)) error, same)
 
   -- so many of them
   abbrev pub AddsBroken : Channel L H → ℕ → List (Result ℕ io.IoError) → Channel L H → Type 0
-  AddsBroken old n answers new = old.failed ≡ None → old.shared_object ≡ true → (c : IoCause) → old.endpoint.broken ≡ Some c
+  AddsBroken old n answers new = old.failed ≡ None → old.shared_object ≡ true → old.endpoint.list ≡ true → (c : IoCause) → old.endpoint.broken ≡ Some c
       → StaysBroken c (Of (SocketBroken c)) n old.endpoint answers new.endpoint × (new ≡ record old { endpoint = new.endpoint })
 
   pub adds-none : (old : Channel L H) (answers : List (Result ℕ io.IoError)) → answers ≡ [] → AddsBroken old 0 answers old
-  adds-none old answers none alive agreed c broken = (none-yet c (Of (SocketBroken c)) old.endpoint answers none broken, refl)
+  adds-none old answers none alive agreed listed c broken = (none-yet c (Of (SocketBroken c)) old.endpoint answers none broken, refl)
 
   pub adds-more : (old mid new : Channel L H) (name : VhostUserSharedMsg) (n : ℕ) (answers more : List (Result ℕ io.IoError)) (answer : Result ℕ io.IoError) → AddsBroken old n answers mid
       → AsksCall event (SharedObjectAdd name) mid answer new → more ≡ answers ++ answer ∷ [] → AddsBroken old (n + 1) more new
-  adds-more old mid new name n answers more answer so_far (asks, others) all alive agreed c broken =
-      let (stays, same) = so_far alive agreed c broken in
-      let (is, left) = adds-once c mid name answer new.endpoint (ap (λ x. x.failed) same ∙ alive) (ap (λ x. x.shared_object) same ∙ agreed) stays.broken asks in
+  adds-more old mid new name n answers more answer so_far (asks, others) all alive agreed listed c broken =
+      let (stays, same) = so_far alive agreed listed c broken in
+      let (is, left) = adds-once c mid name answer new.endpoint (ap (λ x. x.failed) same ∙ alive) (ap (λ x. x.shared_object) same ∙ agreed) (ap (λ x. x.list) stays.endpoint ∙ listed) stays.broken asks in
       (once-more c (Of (SocketBroken c)) n old.endpoint mid.endpoint new.endpoint answers more answer stays all is left, others ∙ ap (over new.endpoint) same)
     where
       over : State L H → Channel L H → Channel L H
@@ -111,10 +111,10 @@ module _ {L H : Type 0} (event : L → Event H → L → Type 0) where
   -- ---- a device's call to a display
 
   -- nor is one whose list was made before
-  troubled : (c : IoCause) (old : State L H) (m : Move H) (e : declared.Error) (new : State L H) → old.broken ≡ Some c → old.list ≡ true → Trouble event (record old { list = true }) old.budget false false m e new
+  troubled : (c : IoCause) (old : State L H) (m : Move H) (e : declared.Error) (new : State L H) → old.broken ≡ Some c → old.list ≡ true → Trouble event (record old { list = true }) old.budget Never false m e new
       → (e ≡ SocketBroken c) × (new ≡ unserved old)
   troubled c old m e new broken listed (trouble_broken b none same) = (ap SocketBroken (same-cause (sym b ∙ broken)), same ∙ ap (listed-as old) (sym listed))
-  troubled c old m e new broken listed (trouble_memory g b l none same) = absurd cc
+  troubled c old m e new broken listed (trouble_memory g b l none same) = absurd (cc g)
   troubled c old m e new broken listed (trouble_fault x b fell none most spent is_broken faulted kept) = absurd (cc (sym broken ∙ b))
 
   module _ {T : Type 0} (read : List ℕ → T) where
@@ -150,36 +150,36 @@ module _ {L H : Type 0} (event : L → Event H → L → Type 0) where
 
   -- ---- a frontend's call
 
-  asked-once : (c : IoCause) (old : State L H) (f : Frontend) (before : Awaited) (result : Result Sent declared.Error) (new : State L H) (f' : Frontend) (after : Awaited) → old.broken ≡ Some c
+  asked-once : (c : IoCause) (old : State L H) (f : Frontend) (before : Awaited) (result : Result Sent declared.Error) (new : State L H) (f' : Frontend) (after : Awaited) → old.list ≡ true → old.broken ≡ Some c
       → core.Asks event (asks.ask f GetFeatures) old f before result new f' after → (result ≡ Err (SocketBroken c)) × (new ≡ unserved old) × (f' ≡ f)
-  asked-once c old f before result new f' after broken (refuses is) = absurd cc
-  asked-once c old f before result new f' after broken (goes is g) = absurd (cc (sym broken ∙ g.serves.before))
-  asked-once c old f before result new f' after broken (fails is x) =
-      let (error, same) = failing c old _ new broken x in (ap (λ e. Err e) error, same, refl)
+  asked-once c old f before result new f' after listed broken (refuses is) = absurd cc
+  asked-once c old f before result new f' after listed broken (goes is g) = absurd (cc (sym broken ∙ g.serves.before))
+  asked-once c old f before result new f' after listed broken (fails is x) =
+      let (error, same) = failing c old _ new broken listed x in (ap (λ e. Err e) error, same, refl)
 
-  reads-once : (c : IoCause) (old : FrontendInternal L H) (answer : Result ℕ declared.Error) (new : FrontendInternal L H) → (endpoint_of old).broken ≡ Some c
+  reads-once : (c : IoCause) (old : FrontendInternal L H) (answer : Result ℕ declared.Error) (new : FrontendInternal L H) → (endpoint_of old).list ≡ true → (endpoint_of old).broken ≡ Some c
       → Whole event GetFeatures Number old answer new → (answer ≡ Err (SocketBroken c)) × (endpoint_of new ≡ unserved (endpoint_of old)) × (session_of new ≡ session_of old)
-  reads-once c old answer new broken (ended {e} a) =
-      let (is, same, same_f) = asked-once c (endpoint_of old) (session_of old) (awaits old) (Err e) (endpoint_of new) (session_of new) (awaits new) broken a in
+  reads-once c old answer new listed broken (ended {e} a) =
+      let (is, same, same_f) = asked-once c (endpoint_of old) (session_of old) (awaits old) (Err e) (endpoint_of new) (session_of new) (awaits new) listed broken a in
       (ap (again {A = ℕ}) is, same, same_f)
     where
       again : {A : Type 0} → Result Sent declared.Error → Result A declared.Error
       again (Ok s) = Err OutOfMemory
       again (Err e) = Err e
-  reads-once c old answer new broken (answered {sent} {middle} a takes) =
-      let (is, same, same_f) = asked-once c (endpoint_of old) (session_of old) (awaits old) (Ok sent) (endpoint_of middle) (session_of middle) (awaits middle) broken a in absurd cc
+  reads-once c old answer new listed broken (answered {sent} {middle} a takes) =
+      let (is, same, same_f) = asked-once c (endpoint_of old) (session_of old) (awaits old) (Ok sent) (endpoint_of middle) (session_of middle) (awaits middle) listed broken a in absurd cc
 
   -- so many of them
   abbrev pub ReadsBroken : FrontendInternal L H → ℕ → List (Result ℕ declared.Error) → FrontendInternal L H → Type 0
-  ReadsBroken old n answers new = (c : IoCause) → (endpoint_of old).broken ≡ Some c
+  ReadsBroken old n answers new = (endpoint_of old).list ≡ true → (c : IoCause) → (endpoint_of old).broken ≡ Some c
       → StaysBroken c (SocketBroken c) n (endpoint_of old) answers (endpoint_of new) × (session_of new ≡ session_of old)
 
   pub reads-none : (old : FrontendInternal L H) (answers : List (Result ℕ declared.Error)) → answers ≡ [] → ReadsBroken old 0 answers old
-  reads-none old answers none c broken = (none-yet c (SocketBroken c) (endpoint_of old) answers none broken, refl)
+  reads-none old answers none listed c broken = (none-yet c (SocketBroken c) (endpoint_of old) answers none broken, refl)
 
   pub reads-more : (old mid new : FrontendInternal L H) (n : ℕ) (answers more : List (Result ℕ declared.Error)) (answer : Result ℕ declared.Error) → ReadsBroken old n answers mid
       → Whole event GetFeatures Number mid answer new → more ≡ answers ++ answer ∷ [] → ReadsBroken old (n + 1) more new
-  reads-more old mid new n answers more answer so_far whole all c broken =
-      let (stays, same) = so_far c broken in
-      let (is, left, kept) = reads-once c mid answer new stays.broken whole in
+  reads-more old mid new n answers more answer so_far whole all listed c broken =
+      let (stays, same) = so_far listed c broken in
+      let (is, left, kept) = reads-once c mid answer new (ap (λ x. x.list) stays.endpoint ∙ listed) stays.broken whole in
       (once-more c (SocketBroken c) n (endpoint_of old) (endpoint_of mid) (endpoint_of new) answers more answer stays all is left, kept ∙ same)

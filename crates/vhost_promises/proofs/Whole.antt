@@ -11,7 +11,7 @@ use Rattle.vhost_protocol.specs.Error.{Error}
 use Rattle.vhost_protocol.specs.Split.{Message}
 use Rattle.vhost_protocol.specs.Stream.{Cell}
 use Rattle.vhost_link.specs.Law.{Event, Move}
-use Rattle.vhost_connection.specs.Talk.{State, Trouble}
+use Rattle.vhost_connection.specs.Talk.{State, Growth, Trouble}
 use Rattle.vhost_connection.specs.Talk.Trouble.{was_broken, no_memory, fault}
 use Rattle.vhost_connection.specs.Serving.{Breaks, WholeRun, RunsMany, Runs}
 use Rattle.vhost_connection.specs.Serving.Breaks.{unread, unanswered}
@@ -28,7 +28,7 @@ pub cause-of-link : (c : IoCause) → of_link (error_of c) ≡ true
 cause-of-link c = of-branch (is_retry c) (is_break c) (is_denial c) c
 
 -- trouble of an endpoint is a link's, or want of memory
-pub trouble-of-link : {L H : Type 0} (event : L → Event H → L → Type 0) (old : State L H) (limit : ℕ) (grows breaks : Bool) (m : Move H) (e : declared.Error) (new : State L H)
+pub trouble-of-link : {L H : Type 0} (event : L → Event H → L → Type 0) (old : State L H) (limit : ℕ) (grows : Growth) (breaks : Bool) (m : Move H) (e : declared.Error) (new : State L H)
     → Trouble event old limit grows breaks m e new → of_link e ≡ true
 trouble-of-link event old limit grows breaks m e new (was_broken b s n) = refl
 trouble-of-link event old limit grows breaks m e new (no_memory g b l s n) = refl

@@ -1,9 +1,9 @@
 -- Whole runs, as a caller of a handler derives them.
-use Rattle.std.specs.Prelude.{◌≡◌, ℕ, Bool, false, List, length, Result, Ok, Err, ⊤}
+use Rattle.std.specs.Prelude.{◌≡◌, ℕ, Bool, true, false, List, length, Result, Ok, Err, ⊤, ◌⊎◌}
 use Rattle.vhost_message.specs.BackendReq.{backend_request_of}
 use Rattle.vhost_message.specs.declared.cause.IoCause.{IoCause}
 use Rattle.vhost_message.specs.declared.error.Error.{Error}
-use Rattle.vhost_message.specs.declared.error.Error.TheVariants.{SocketBroken}
+use Rattle.vhost_message.specs.declared.error.Error.TheVariants.{SocketBroken, OutOfMemory}
 use Rattle.vhost_message.specs.FrontendReq.{request_of}
 use Rattle.vhost_protocol.specs.Codes.{allows_handles}
 use Rattle.vhost_protocol.specs.DeviceCall.{Call, Answer}
@@ -40,6 +40,7 @@ abbrev pub WholeServed : {L H B G Dev : Type 0} → (L → Event H → L → Typ
 WholeServed event gives opens_backend opens_gpu old s d n answers new s' d' = (length answers ≡ n)
     × WholeRun event request_of allows_handles (λ (t : Session). t.failed) kept_unsent (MeetsRow (served.fitting gives) opens_backend opens_gpu) old s d answers new s' d'
 
--- One call of a handler whose endpoint is broken: the error says why, and nothing else changed.
+-- One call of a handler whose endpoint is broken: the error says why, and nothing else changed but that the list of handles is there; or that was away, and no memory for another was found.
 abbrev pub Unserved : {L H S Dev A : Type 0} → State L H → S → Dev → IoCause → Result A Error → State L H → S → Dev → Type 0
-Unserved old s d c result new s' d' = (result ≡ Err (SocketBroken c)) × (new ≡ record old { faulted = false }) × (s' ≡ s) × (d' ≡ d)
+Unserved old s d c result new s' d' =
+    (((result ≡ Err (SocketBroken c)) × (new ≡ record old { list = true; faulted = false })) ⊎ ((old.list ≡ false) × (result ≡ Err OutOfMemory) × (new ≡ record old { faulted = false }))) × (s' ≡ s) × (d' ≡ d)

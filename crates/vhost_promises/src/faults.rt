@@ -35,7 +35,7 @@ pub fn meets_fault_back<L: Link, D: VhostUserFrontendReqHandlerMut<Handle = L::H
     core.handle_request(device)
 }
 
-/// Serves so many requests over an endpoint that a fault has broken: each answer is SocketBroken with its cause, and neither the
+/// Serves so many requests over an endpoint that a fault has broken and that has its list of handles: each answer is SocketBroken with its cause, and neither the
 /// endpoint nor the session nor the device changes.
 pub fn stays_broken<L: Link, D: VhostUserBackendReqHandlerMut<Link = L>>(
     alloc: Global,
@@ -43,7 +43,7 @@ pub fn stays_broken<L: Link, D: VhostUserBackendReqHandlerMut<Link = L>>(
     device: &mut D,
     count: usize,
 ) -> Result<Vec<Result<()>>>
-    ensures { IfOk result (λ answers. (session_in core.old).failed ≡ None → (c : IoCause) → (endpoint_of core.old).broken ≡ Some c
+    ensures { IfOk result (λ answers. (session_in core.old).failed ≡ None → (endpoint_of core.old).list ≡ true → (c : IoCause) → (endpoint_of core.old).broken ≡ Some c
         → StaysBroken c (SocketBroken c) count (endpoint_of core.old) answers.items (endpoint_of core.new) × (session_in core.new ≡ session_in core.old) × (device.new ≡ device.old)) }
 {
     let mut answers = Vec::new(alloc);
@@ -58,7 +58,7 @@ pub fn stays_broken_back<L: Link, D: VhostUserFrontendReqHandlerMut<Handle = L::
     device: &mut D,
     count: usize,
 ) -> Result<Vec<Result<u64>>>
-    ensures { IfOk result (λ answers. (server_in core.old).failed ≡ None → (c : IoCause) → (endpoint_back core.old).broken ≡ Some c
+    ensures { IfOk result (λ answers. (server_in core.old).failed ≡ None → (endpoint_back core.old).list ≡ true → (c : IoCause) → (endpoint_back core.old).broken ≡ Some c
         → StaysBroken c (SocketBroken c) count (endpoint_back core.old) answers.items (endpoint_back core.new) × (server_in core.new ≡ server_in core.old) × (device.new ≡ device.old)) }
 {
     let mut answers = Vec::new(alloc);

@@ -26,14 +26,14 @@ pub fn meets_fault_asking<L: Link>(frontend: &mut Quiet<L>) -> VhostResult<u64>
     frontend.get_features()
 }
 
-/// Asks so many times over an endpoint that a fault has broken: each answer is SocketBroken with
+/// Asks so many times over an endpoint that a fault has broken and that has its list of handles: each answer is SocketBroken with
 /// its cause, and neither the endpoint nor the session changes.
 pub fn asks_broken<L: Link>(
     alloc: Global,
     frontend: &mut Quiet<L>,
     count: usize,
 ) -> Result<Vec<VhostResult<u64>>, AllocError>
-    ensures { IfOk result (λ answers. (c : IoCause) → (endpoint_of frontend.old.inner).broken ≡ Some c
+    ensures { IfOk result (λ answers. (endpoint_of frontend.old.inner).list ≡ true → (c : IoCause) → (endpoint_of frontend.old.inner).broken ≡ Some c
         → StaysBroken c (SocketBroken c) count (endpoint_of frontend.old.inner) answers.items (endpoint_of frontend.new.inner) × (session_of frontend.new.inner ≡ session_of frontend.old.inner)) }
 {
     let mut answers = Vec::new(alloc);
@@ -51,7 +51,7 @@ pub fn adds_broken<L: Link>(
     name: &VhostUserSharedMsg,
     count: usize,
 ) -> Result<Vec<HandlerResult<u64>>, AllocError>
-    ensures { IfOk result (λ answers. (channel frontend.old).failed ≡ None → (channel frontend.old).shared_object ≡ true
+    ensures { IfOk result (λ answers. (channel frontend.old).failed ≡ None → (channel frontend.old).shared_object ≡ true → (channel frontend.old).endpoint.list ≡ true
         → (c : IoCause) → (channel frontend.old).endpoint.broken ≡ Some c
         → StaysBroken c (Of (SocketBroken c)) count (channel frontend.old).endpoint answers.items (channel frontend.new).endpoint
         × (channel frontend.new ≡ record (channel frontend.old) { endpoint = (channel frontend.new).endpoint })) }
@@ -64,8 +64,7 @@ pub fn adds_broken<L: Link>(
     Ok(answers)
 }
 
-/// The same of a device that asks a display for its features, over a channel that is not marked as failed and whose endpoint has its
-/// list of handles.
+/// The same of a device that asks a display for its features, over a channel that is not marked as failed.
 pub fn displays_broken<L: Link>(
     alloc: Global,
     display: &mut Display<L>,

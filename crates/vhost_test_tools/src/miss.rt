@@ -9,6 +9,8 @@ use std::fmt;
 pub enum Miss {
     /// Memory was refused.
     OutOfMemory,
+    /// A side could not be made.
+    Failed(vhost_message::Error),
     /// The line can't be read: what was wanted there, and what stands there.
     Unreadable(String),
     /// Something went another way: what was wanted, and what was met.
@@ -28,9 +30,11 @@ impl<T: Drop> From<AllocFailed<T>> for Miss {
 }
 
 impl From<vhost_message::Error> for Miss {
-    /// What makes a side answers no other error.
-    fn from(_error: vhost_message::Error) -> Miss {
-        Miss::OutOfMemory
+    fn from(error: vhost_message::Error) -> Miss {
+        match error {
+            vhost_message::Error::OutOfMemory => Miss::OutOfMemory,
+            other => Miss::Failed(other),
+        }
     }
 }
 
@@ -38,6 +42,7 @@ impl fmt::Display for Miss {
     fn fmt<W: fmt::Write>(&self, f: &mut fmt::Formatter<W>) -> fmt::Result {
         match self {
             Miss::OutOfMemory => f.write_str("out of memory"),
+            Miss::Failed(error) => write!(f, "a side could not be made: {error}"),
             Miss::Unreadable(text) => write!(f, "unreadable: {text}"),
             Miss::Differs(text) => f.write_str(text),
         }

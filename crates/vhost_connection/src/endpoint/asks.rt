@@ -16,24 +16,24 @@ impl<R: Req, L: Link> Endpoint<VhostUserMsgHeader<R>, L> {
     ghost use Rattle.vhost_connection.specs.Hearing.{Fails};
     ghost use Rattle.vhost_connection.specs.Asking.{SendsRequest, RecvsReply, request_with, is_known_by};
 
-    /// What comes before a request: the endpoint is sound, and has a list of handles for the reply.
+    /// What comes before a request: the endpoint has a list of handles for the reply, and is sound.
     ///
-    /// SocketBroken: the endpoint is broken. OutOfMemory: it had given its list away, and no memory for another was found.
+    /// OutOfMemory: it had given its list away, and no memory for another was found. SocketBroken: it is broken.
     #[tactic(auto, using(crate::proofs::Failing::broken_fails, crate::proofs::Failing::memory_fails), unfolding(crate::specs::State::ahead_of))]
     fn begin_request(&mut self) -> Result<()>
         ensures begun { IfOk result (λ _. ((state self.old).broken ≡ None) × (state self.new ≡ record (state self.old) { list = true; faulted = false })) }
         ensures fails { IfErr result (λ e. Fails L.event (state self.old) false e (state self.new)) }
     {
         self.faulted = false;
-        self.expect_sound()?;
-        self.make_list()
+        self.make_list()?;
+        self.expect_sound()
     }
 
     /// Sends a request of this code and with these flags: a record, the bytes behind it, and the handles on the first byte.
     /// Its header is what the reply is compared with. The list of handles for the reply is made first.
     ///
-    /// OutOfMemory: the endpoint had given its list of handles away, and no memory for another was found; nothing was
-    /// written, and nothing changed.
+    /// OutOfMemory: the endpoint had given its list of handles away, and no memory for another was found, also where it is
+    /// broken; nothing was written, and nothing changed.
     pub fn send_request<T: ByteValued>(
         &mut self,
         code: R,

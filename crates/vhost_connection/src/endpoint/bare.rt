@@ -40,7 +40,12 @@ impl<R: Req, L: Link> Endpoint<VhostUserMsgHeader<R>, L> {
     >
         ensures { ReadsOrBare L.event R.code (fields_of request.now) (state self.old) buf.old result buf.new (state self.new) }
     {
-        let Front { count, list, .. } = self.recv_front(24)?;
+        let Front {
+            count,
+            left,
+            list,
+            ..
+        } = self.recv_front(24)?;
         if count < 24 {
             self.put_back(list);
             return Err(Error::PartialMessage);
@@ -51,7 +56,7 @@ impl<R: Req, L: Link> Endpoint<VhostUserMsgHeader<R>, L> {
             self.put_back(list);
             return Ok(None);
         }
-        match self.recv_more(buf) {
+        match self.recv_more(buf, left) {
             Ok(more) => {
                 if !header.is_valid() || !part.is_valid() {
                     self.put_back(list);

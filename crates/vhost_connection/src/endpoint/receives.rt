@@ -38,6 +38,7 @@ impl<M: MsgHeader, L: Link> Endpoint<M, L> {
     {
         let len = M::SIZE;
         let front = self.recv_front(len)?;
+        self.left = front.left;
         if front.count < len {
             self.put_back(front.list);
             if front.count == 0 {
@@ -54,7 +55,8 @@ impl<M: MsgHeader, L: Link> Endpoint<M, L> {
     }
 
     /// Receives the next bytes of a message, up to so many, and lends them from the endpoint's buffer: fewer than
-    /// asked for are all up to the end of the stream.
+    /// asked for are all up to the end of the stream. It may take the retries that the last `recv_header` and the calls of this
+    /// one since then have left of the budget; other calls leave them as they are.
     ///
     /// InvalidMessage: all of them were received, and one brought handles. A fault, or one retry more than were left
     /// of the budget, breaks the endpoint.
@@ -122,7 +124,12 @@ impl<M: MsgHeader, L: Link> Endpoint<M, L> {
         ensures { ReadsInto L.event M.read M.valid (state self.old) buf.old result buf.new (state self.new) }
     {
         let len = M::SIZE;
-        let Front { count, more, list } = self.recv_parts(len, buf)?;
+        let Front {
+            count,
+            more,
+            list,
+            ..
+        } = self.recv_parts(len, buf)?;
         if count < len {
             self.put_back(list);
             return Err(Error::PartialMessage);
@@ -166,7 +173,12 @@ impl<M: MsgHeader, L: Link> Endpoint<M, L> {
     {
         let head = M::SIZE;
         let len = head + T::SIZE;
-        let Front { count, more, list } = self.recv_parts(len, buf)?;
+        let Front {
+            count,
+            more,
+            list,
+            ..
+        } = self.recv_parts(len, buf)?;
         if count < len {
             self.put_back(list);
             return Err(Error::PartialMessage);
@@ -255,25 +267,24 @@ impl<M: MsgHeader, L: Link> Endpoint<M, L> {
         );
         if let PassEnd::Fault(cause) = got.stop {
             self.put_back(list);
-            self.left = if got.count > 0 { got.left } else { self.left };
             return Err(self.fail(cause, got.count > 0));
         }
-        self.left = got.left;
         Ok(Front {
             count: got.count,
             more: got.more,
+            left: got.left,
             list,
         })
     }
 
-    /// Receives what fits into the room behind the front of a message, with the retries that are left. Handles are dropped.
-    pub(super) fn recv_more(&mut self, room: &mut [u8]) -> Result<usize>
+    /// Receives what fits into the room behind the front of a message, with the retries that its front has left. Handles are
+    /// dropped.
+    pub(super) fn recv_more(&mut self, room: &mut [u8], left: u32) -> Result<usize>
         requires { (state self.old).broken ≡ None }
-        ensures { ReadsMore L.event (state self.old) room.old result room.new (state self.new) }
+        ensures { ReadsMore L.event (state self.old) left room.old result room.new (state self.new) }
     {
         self.faulted = false;
-        let got = recv_rest(&mut self.source, room, &mut self.spare.list, self.left);
-        self.left = got.left;
+        let got = recv_rest(&mut self.source, room, &mut self.spare.list, left);
         if let PassEnd::Fault(cause) = got.stop {
             return Err(self.fail(cause, true));
         }

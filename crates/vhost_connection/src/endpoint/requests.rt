@@ -28,11 +28,13 @@ impl<R: RequestCode, L: Link> Endpoint<VhostUserMsgHeader<R>, L> {
     /// Disconnected: the stream ended before the first byte. PartialMessage: it ended within the header. InvalidMessage:
     /// the header is not valid, or its request may not come with these handles, and the body is unread; or the stream
     /// ended within the body, or a byte of it brought handles. OutOfMemory: the endpoint had given its list of handles
-    /// away, and no memory for another was found; nothing was received.
+    /// away, and no memory for another was found, also where it is broken; nothing was received, and nothing changed.
     pub fn recv_request(&mut self, body: &mut [u8]) -> Result<(Request<R>, Option<Vec<L::Handle>>)>
         requires { MAX_MSG_SIZE ≤ length body.old }
         ensures { ReadsRequest L.event R.code R.allowed (state self.old) result body.new (state self.new) }
     {
+        self.faulted = false;
+        self.make_list()?;
         let (header, front) = self.recv_head()?;
         match self.recv_request_body(&header, front.list.as_slice().len(), body) {
             Ok(request) => Ok((request, self.give(front.list))),

@@ -34,7 +34,7 @@ static CHANGE: [u8; 12] = [2, 0, 0, 0, 9, 0, 0, 0, 0, 0, 0, 0];
 
 /// Keeps one name, and fails its other calls with a number.
 #[derive(Default, Drop)]
-struct OneName {
+pub(super) struct OneName {
     name: Option<Uuid>,
     error: i32,
 }

@@ -11,7 +11,8 @@ use std::sync::{Arc, Mutex, Wait};
 use std::test::Fail;
 use std::thread;
 use std::time::Duration;
-use vhost_backend::{Result, VhostBackend, VhostUserMemoryRegionInfo, VringConfigData};
+use uuid::Uuid;
+use vhost_backend::{Error, Result, VhostBackend, VhostUserMemoryRegionInfo, VringConfigData};
 use vhost_backend_req_handler::BackendReqHandler;
 use vhost_device::VhostUserBackendReqHandler;
 use vhost_dummy_backend::DummyBackendReqHandler;
@@ -19,12 +20,12 @@ use vhost_frontend::{Frontend, VhostUserFrontend};
 use vhost_link::{Link, NoHandle, UnixLink};
 use vhost_message::{
     Error as ProtocolError, FrontendReq, VhostUserConfigFlags, VhostUserHeaderFlag,
-    VhostUserProtocolFeatures, VhostUserShMemConfig,
+    VhostUserProtocolFeatures, VhostUserShMemConfig, VhostUserSharedMsg,
 };
 
-/// The protocol features that are chosen: MQ, REPLY_ACK, MTU, CONFIG, RESET_DEVICE, CONFIGURE_MEM_SLOTS, DEVICE_STATE and
-/// SHMEM.
-const CHOSEN: u64 = 0x0048_a219;
+/// The protocol features that are chosen: MQ, REPLY_ACK, MTU, CONFIG, RESET_DEVICE, CONFIGURE_MEM_SLOTS, SHARED_OBJECT,
+/// DEVICE_STATE and SHMEM.
+const CHOSEN: u64 = 0x004c_a219;
 
 /// How many requests the handler answers at most.
 const MOST: u32 = 100;
@@ -124,6 +125,20 @@ static CONFIGURED: [Told; 7] = [
     Told::Done,
 ];
 
+/// Whether an object is not found, since none comes over a socket: the reply is there, and has no handle.
+fn finds_no_object<F: VhostUserFrontend + VhostBackend<Handle = NoHandle>>(
+    rt: &impl Wait,
+    frontend: &mut F,
+) -> bool {
+    let name = VhostUserSharedMsg {
+        uuid: Uuid::from_bytes([7; 16]),
+    };
+    matches!(
+        frontend.get_shared_object(rt, &name),
+        Err(Error::VhostUserProtocol(ProtocolError::InvalidMessage))
+    )
+}
+
 /// The last two are refused without an answer, and none is awaited.
 fn end<F: VhostUserFrontend + VhostBackend<Handle = NoHandle>>(
     rt: &impl Wait,
@@ -141,16 +156,17 @@ fn end<F: VhostUserFrontend + VhostBackend<Handle = NoHandle>>(
 fn ask_all<F: VhostUserFrontend + VhostBackend<Handle = NoHandle>>(
     rt: &impl Wait,
     frontend: &mut F,
-) -> [bool; 3] {
+) -> [bool; 4] {
     [
         set_rings(rt, frontend) == RINGS_SET,
         configure(rt, frontend) == CONFIGURED,
+        finds_no_object(rt, frontend),
         end(rt, frontend) == [Told::Done; 4],
     ]
 }
 
 /// Whether the frontend negotiates, and each call then answers what it should.
-fn ask<L: Link<Handle = NoHandle>>(rt: &impl Wait, mut frontend: Frontend<L>) -> (bool, [bool; 3]) {
+fn ask<L: Link<Handle = NoHandle>>(rt: &impl Wait, mut frontend: Frontend<L>) -> (bool, [bool; 4]) {
     let negotiated = negotiate(rt, &mut frontend) == NEGOTIATED;
     frontend.set_hdr_flags(rt, VhostUserHeaderFlag::NEED_REPLY);
     (negotiated, ask_all(rt, &mut frontend))
@@ -208,7 +224,7 @@ fn each_call_is_answered_as_in_a_joined_run(rt: HostRuntime) -> std::result::Res
         || serve(&rt, rt.alloc(), far, device),
         || ask(&rt, frontend),
     );
-    assert!(rt; asked == (true, [true; 3]));
-    assert!(rt; served == Some((20, 3)));
+    assert!(rt; asked == (true, [true; 4]));
+    assert!(rt; served == Some((21, 3)));
     Ok(())
 }

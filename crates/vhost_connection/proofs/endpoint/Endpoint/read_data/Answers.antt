@@ -13,7 +13,7 @@ pub returns-in-Fault-clause-read : goal.returns-in-Fault-clause-read
 unfolding ahead_of
 returns-in-Fault-clause-read g c = (
   c.recv_bytes-got.ensures.got.cs,
-  inr (data-cut g.L.Link.event (state c.args.self.now) _ (way c.args.self.now.source) (way c.recv_bytes-got.new.source) _ _ c.recv_bytes-got.result c.args.len c.in-Fault.cause c.fail.result (refl, refl) c.fail.ensures.state
+  inr (data-cut g.L.Link.event (state c.args.self.now) _ (way c.args.self.now.source) (way c.recv_bytes-got.new.source) _ _ c.recv_bytes-got.result _ c.args.len c.in-Fault.cause c.fail.result (refl, refl) c.fail.ensures.state
       c.in_default.is c.fail.ensures.error c.recv_bytes-got.ensures.got c.in-Fault.is (length-take-le _ c.deref_mut.result.now (search rules))),
 )
 

@@ -4,7 +4,7 @@ use Rattle.std.proofs.lemmas.List.{length-take-le}
 use Rattle.vhost_protocol.specs.Stream.{plain}
 use Rattle.vhost_connection.specs.Ahead.{way, waiting}
 use Rattle.vhost_connection.specs.State.{ahead_of, state}
-use Rattle.vhost_connection.specs.Talk.{State}
+use Rattle.vhost_connection.specs.Talk.{State, IfSound}
 use Rattle.vhost_connection.specs.Talk.Trouble.{no_memory}
 use Rattle.vhost_connection.proofs.Talking.{broken}
 use Rattle.vhost_connection.proofs.Once.{once-came, once-refused, unasked}
@@ -14,7 +14,7 @@ use Rattle.vhost_connection.proofs.endpoint.Endpoint.read_once.Goals as goal
 pub returns-in_err-expect_sound : goal.returns-in_err-expect_sound
 unfolding ahead_of
 returns-in_err-expect_sound g c =
-    rw (passed-on c.from_residual.result c.from_residual.ensures.1) (broken g.L.Link.event (state c.args.self.now) 0 true false _ c.in_err-expect_sound.ensures.broken)
+    rw (passed-on c.from_residual.result c.from_residual.ensures.1) (broken g.L.Link.event (state c.args.self.now) 0 IfSound false _ c.in_err-expect_sound.ensures.broken)
 
 pub returns-then-len-eq0 : goal.returns-then-len-eq0
 unfolding ahead_of
@@ -25,7 +25,7 @@ unfolding ahead_of
 returns-in_default g c =
     let none : is_some c.args.self.now.list ≡ false = c.in_default.ensures.memory in
     let same : is_some c.take_list.new.place ≡ is_some c.args.self.now.list = c.take_list.ensures.left ∙ sym none in
-    no_memory refl c.in_ok-expect_sound.ensures.sound none refl (ap (λ (b : Bool). record (state c.args.self.now) { list = b; faulted = false }) same)
+    no_memory refl (λ _. c.in_ok-expect_sound.ensures.sound) none refl (ap (λ (b : Bool). record (state c.args.self.now) { list = b; faulted = false }) same)
 
 pub returns-in-Ok-recv_once : goal.returns-in-Ok-recv_once
 unfolding ahead_of

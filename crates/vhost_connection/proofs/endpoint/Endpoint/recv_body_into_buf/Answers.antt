@@ -18,7 +18,7 @@ returns-then-count-len g c =
     let p = c.in_ok-count.ensures in
     let room = p.1 ∙ ap (λ n. behind n p.0 c.args.buf.now) twelve in
     let m = came-as (ap (λ n. n + length c.args.buf.now) twelve) p.2.0 in
-    let f = front-as twelve p.2.1 in
+    let f = front-as twelve p.2.1.front in
     (p.0, room, inl (came-listed m c.put_back.ensures.state, front-short f (omega (arith, twelve, c.if-count-len.true))))
 
 pub returns-then-not-is_valid : goal.returns-then-not-is_valid
@@ -27,7 +27,7 @@ returns-then-not-is_valid g c =
     let p = c.in_ok-count.ensures in
     let room = p.1 ∙ ap (λ n. behind n p.0 c.args.buf.now) twelve in
     let m = came-as (ap (λ n. n + length c.args.buf.now) twelve) p.2.0 in
-    let f = front-as twelve p.2.1 in (
+    let f = front-as twelve p.2.1.front in (
       p.0,
       room,
       inl (
@@ -42,7 +42,7 @@ returns g c =
     let p = c.in_ok-count.ensures in
     let room = p.1 ∙ ap (λ n. behind n p.0 c.args.buf.now) twelve in
     let m = came-as (ap (λ n. n + length c.args.buf.now) twelve) p.2.0 in
-    let f = front-as twelve p.2.1 in (
+    let f = front-as twelve p.2.1.front in (
       p.0,
       room,
       (

@@ -26,7 +26,7 @@ returns-then-count-len g c =
     let p = c.in_ok-count.ensures in
     let room = p.1 ∙ ap (λ n. behind n p.0 c.args.buf.now) whole in
     let m = came-as (ap (λ n. n + length c.args.buf.now) whole) p.2.0 in
-    let f = front-as whole p.2.1 in
+    let f = front-as whole p.2.1.front in
     (p.0, room, inl (came-listed m c.put_back.ensures.state, front-short f (omega (arith, whole, c.if-count-len.true))))
 
 pub returns-then-not-is_valid : goal.returns-then-not-is_valid
@@ -36,7 +36,7 @@ returns-then-not-is_valid g c =
     let p = c.in_ok-count.ensures in
     let room = p.1 ∙ ap (λ n. behind n p.0 c.args.buf.now) whole in
     let m = came-as (ap (λ n. n + length c.args.buf.now) whole) p.2.0 in
-    let f = front-as whole p.2.1 in (
+    let f = front-as whole p.2.1.front in (
       p.0,
       room,
       inl (
@@ -58,7 +58,7 @@ returns g c =
     let p = c.in_ok-count.ensures in
     let room = p.1 ∙ ap (λ n. behind n p.0 c.args.buf.now) whole in
     let m = came-as (ap (λ n. n + length c.args.buf.now) whole) p.2.0 in
-    let f = front-as whole p.2.1 in
+    let f = front-as whole p.2.1.front in
     let most : 12 + g.T.ByteValued.SIZE ≤ c.in_ok-count.field-0.count = omega (arith, whole, c.if-count-len.false) in (
       p.0,
       room,

@@ -13,7 +13,7 @@ pub returns-in-Fault : goal.returns-in-Fault
 unfolding ahead_of
 returns-in-Fault g c = (
   c.recv_rest-got.ensures.got.cs,
-  inr (data-cut g.L.Link.event (state c.args.self.now) _ (way c.args.self.now.source) (way c.recv_rest-got.new.source) _ _ c.recv_rest-got.result _ c.in-Fault.cause c.fail.result (refl, refl) c.fail.ensures.state
+  inr (data-cut g.L.Link.event (state c.args.self.now) _ (way c.args.self.now.source) (way c.recv_rest-got.new.source) _ _ c.recv_rest-got.result _ _ c.in-Fault.cause c.fail.result (refl, refl) c.fail.ensures.state
       c.in_default.is c.fail.ensures.error c.recv_rest-got.ensures.got c.in-Fault.is refl),
 )
 
