@@ -1,3 +1,4 @@
+/* SPDX-License-Identifier: Apache-2.0 */
 /* The part of Covretin that makes system calls: see covretin_socket.h. */
 #ifndef _GNU_SOURCE
 #define _GNU_SOURCE /* for SOCK_CLOEXEC, MSG_CMSG_CLOEXEC and SO_DOMAIN */

@@ -1,3 +1,4 @@
+/* SPDX-License-Identifier: Apache-2.0 */
 /* What Covretin's errors mean, in English, and its version. No system call. */
 #include "covretin.h"
 

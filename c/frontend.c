@@ -1,3 +1,4 @@
+/* SPDX-License-Identifier: Apache-2.0 */
 /* Negotiates with a backend at a Unix socket, sets it up, and reads back what it set.
  *
  *     frontend PATH         without descriptors, as ./vhost-daemon serves

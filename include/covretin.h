@@ -1,3 +1,4 @@
+/* SPDX-License-Identifier: Apache-2.0 */
 /* Covretin: the frontend of vhost-user, for a virtual machine monitor that owns its socket.
  *
  * A session makes the bytes of each request and reads those of its reply. It makes no system call but for memory

@@ -1,3 +1,4 @@
+/* SPDX-License-Identifier: Apache-2.0 */
 /* Covretin over a Unix socket: the part of the library that makes system calls. A connection is a session of covretin.h, its
  * socket, and what is under way between the two:
  *

@@ -1,4 +1,5 @@
 #!/usr/bin/env python3
+# SPDX-License-Identifier: Apache-2.0
 """Builds the proved library for programs in C, crates/vhost_c/out/libvhost_c.a, where it is not there or a source is newer,
 and beside it libvhost_c.verdict, the line in which the checker says what is proved. Status 0, or 3 with why not.
 
