@@ -123,7 +123,7 @@ static void set_ring(bool with_fds)
         done("set_vring_call", covretin_ask_set_vring_call(session, 0, call[1]));
         close(kick[0]);
         close(call[1]);
-        /* The device reads the kick, and answers it by its end of `call`. */
+        /* The backend reads the kick, and writes to its end of `call`. */
         if (write(kick[1], "k", 1) != 1 || read(call[0], &told, 1) != 1)
             fail("ring");
         printf("kicked, called: %c\n", told);
@@ -168,7 +168,7 @@ static void set_inflight(void)
     close(fd);
 }
 
-/* What the device refuses, and what is refused before it is asked. */
+/* What the backend refuses, and what is refused before it is asked. */
 static void be_refused(void)
 {
     covretin_session *session = &device.session;

@@ -79,7 +79,9 @@ def over_libraries(kit, uses):
         words += ["-L", f"dependency={it}"]
     words += ["--antt-project", f"{kit}/rattle/logic/antt-project.json", "--logic-built", f"{kit}/logic_built", "--toolchain", f"{kit}/toolchain"]
     jobs = os.environ.get("RT_JOBS") or min(len(os.sched_getaffinity(0)), 4)
-    words += ["--jobs", str(jobs), "--incremental", "out/incremental", "-o", ARCHIVE]
+    words += ["--jobs", str(jobs), "-o", ARCHIVE]
+    # (with work that checks kept it takes a minute, and then the checker's line says so)
+    words += ["--incremental", "out/incremental"] if os.path.isdir(f"{CRATE}/out/incremental") else []
     os.makedirs(os.path.dirname(ARCHIVE), exist_ok=True)
     return run(CRATE, f"{kit}/bin/rattle", "build", *words)
 

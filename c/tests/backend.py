@@ -1,6 +1,6 @@
-"""A device of a few lines, at a Unix socket, for one frontend that passes descriptors: device.py PATH.
+"""A backend of a few lines, at a Unix socket, for one frontend that passes descriptors: backend.py PATH.
 
-Prints what it was asked, with what the descriptors hold that came along. Each answer goes out in two pieces.
+Prints what it was asked, with what the descriptors hold that came along. Each reply goes out in two pieces.
 """
 
 import os
@@ -51,14 +51,14 @@ def receive(sock):
 
 
 def answer(sock, code, body, fds=()):
-    """Sends an answer in two pieces, its descriptors with the first."""
+    """Sends a reply in two pieces, its descriptors with the first."""
     text = HEADER.pack(code, VERSION | REPLY, len(body)) + body
     socket.send_fds(sock, [text[:5]], fds)
     time.sleep(0.01)
     sock.sendall(text[5:])
 
 
-class Device:
+class Backend:
     """What was set."""
 
     def __init__(self):
@@ -67,7 +67,7 @@ class Device:
         self.kick = None
 
     def reply(self, code, body, fds):
-        """What a request is answered, with descriptors; or whether it succeeded."""
+        """The reply to a request, with descriptors; or whether it succeeded."""
         if code == 1:
             return struct.pack("<Q", FEATURES), ()
         if code == 15:
@@ -112,7 +112,7 @@ class Device:
         return 0
 
     def ring(self):
-        """Answers a kick by a call."""
+        """Follows a kick by a call."""
         if os.read(self.kick, 1) == b"k":
             os.write(self.call, b"c")
 
@@ -123,12 +123,12 @@ def main():
     listener.listen()
     sock, _ = listener.accept()
     os.unlink(sys.argv[1])
-    device = Device()
+    backend = Backend()
     acknowledges = False
     while request := receive(sock):
         code, flags, body, fds = request
         print(f"{NAMES.get(code, code)} {len(body)} bytes, {len(fds)} descriptors")
-        text, given = device.reply(code, body, fds)
+        text, given = backend.reply(code, body, fds)
         if given is not None:
             answer(sock, code, text, given)
         elif acknowledges and flags & NEED_REPLY:
@@ -137,7 +137,7 @@ def main():
             os.close(fd)
         acknowledges |= code == 16 and bool(body[0] & 1 << 3)
         if code == 13:
-            device.ring()
+            backend.ring()
 
 
 main()
