@@ -66,7 +66,7 @@ alike old new script broken u = record { uncut = script ∙ u.uncut; broken = λ
 
 last : (before after : Ends) (c : IoCause) → event before (Refused c) after → before.script ≡ [] → (c ≡ Raw ENOMEM) × (after.script ≡ [])
 last before after c e uncut =
-    let f : cuts.Fails [] c before.starved after.starved = subst (λ s. cuts.Fails s c before.starved after.starved) uncut e.0 in
+    let f : cuts.Fails [] c before.wants after.wants = subst (λ s. cuts.Fails s c before.wants after.wants) uncut e.0 in
     (f.0, ap {A = Ends} (λ k. k.script) e.1 ∙ ap (λ (s : List Cut). drop 1 s) uncut)
 
 module _ (law : StreamLaw) where

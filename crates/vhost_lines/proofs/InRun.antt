@@ -49,11 +49,11 @@ run-shows : (old new : View) (ls : List (List ℕ)) (text : List ℕ) → IsRead
 run-shows old new [] text ready going (none, same) = none
 run-shows old new (line ∷ ls) text ready going (call, first, rest, mid, asks, (Err Stopped, step, shows), split, all) = absurd (cc (subst (λ s. is_some s ≡ true) going step.0))
 run-shows old new (line ∷ ls) text ready going (call, first, rest, mid, asks, (Err OutOfMemory, step, shows), split, all) = absurd shows
-run-shows old new (line ∷ ls) text ready going (call, first, rest, mid, asks, (Ok a, (on, steps), (goes_on, shows)), split, all) = go (steps true ready) (λ next on'. run-shows mid new ls rest next on' all)
+run-shows old new (line ∷ ls) text ready going (call, first, rest, mid, asks, (Ok a, (on, moved, steps), (goes_on, shows)), split, all) = go (steps true ready) (λ next on'. run-shows mid new ls rest next on' all)
   where
     go : joined.Answers moves old call (answer_of a) mid → (IsReady true mid → mid.stopped ≡ None → RunShows mid.frontend mid.session mid.device ls rest)
         → RunShows old.frontend old.session old.device (line ∷ ls) text
-    go (inr (premise, _)) later = absurd (goes_on premise)
+    go (inr premise) later = absurd (goes_on premise)
     go (inl k) later = (
       call,
       k.shown,
@@ -71,7 +71,7 @@ run-shows old new (line ∷ ls) text ready going (call, first, rest, mid, asks, 
       where
         by : (last : Bool) → k.shown.last ≡ last → Behind last (rest ≡ stopped_text ls) (RunShows mid.frontend mid.session mid.device ls rest)
         by true e = stopped-shows mid new ls rest Table (k.stopped ∙ ap (λ x. if x then Some Table else None) e) all
-        by false e = later (next-ready moves true offers call old mid (answer_of a) (line-plain line call asks) ready k e) (k.stopped ∙ ap (λ x. if x then Some Table else None) e)
+        by false e = later (next-ready moves true call old mid (answer_of a) (inr offers) (line-plain line call asks) ready k e) (k.stopped ∙ ap (λ x. if x then Some Table else None) e)
 
 -- from a session as it begins
 fresh-shows : (start new : View) (ls : List (List ℕ)) (text : List ℕ) → IsFresh start → AnswersAll Steps request_of reply_of stopped_of start ls text new → FreshShows ls text

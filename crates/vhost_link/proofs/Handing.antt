@@ -1,5 +1,5 @@
 -- What a receive of a link in memory did.
-use Rattle.std.proofs.Common.{◌≡◌, ℕ, ◌<◌, ◌≤◌, List, [], ◌∷◌, ◌++◌, length, take, drop, min, refl, sym, ap, ◌∙◌, arith, Bool}
+use Rattle.std.proofs.Common.{◌≡◌, ℕ, ◌<◌, ◌≤◌, List, [], ◌∷◌, ◌++◌, length, take, drop, min, refl, sym, ap, ◌∙◌, arith}
 use Rattle.std.proofs.lemmas.List.{drop-append-le, take-append-drop, length-take}
 use Rattle.vhost_message.specs.declared.limits.TheConstants.{MAX_ATTACHED_FD_ENTRIES}
 use Rattle.vhost_protocol.specs.Stream.{Cell, carrying}
@@ -26,12 +26,12 @@ behind n m room sub le len most same =
     ∙ sym (drop-append-le n (take m room) (drop m room) (omega (arith, length-take m room)))
     ∙ ap (drop n) (take-append-drop m room)
 
-abbrev ends : List (Cell PlainHandle) → List (Cell PlainHandle) → List Cut → Bool → Ends
-ends p s c t = record { pending = p; sent = s; script = c; starved = t }
+abbrev ends : List (Cell PlainHandle) → List (Cell PlainHandle) → List Cut → ℕ → Ends
+ends p s c t = record { pending = p; sent = s; script = c; wants = t }
 
 -- the same link, field by field
-pub handed-is : (old new : Ends) → new.sent ≡ old.sent → new.script ≡ drop 1 old.script → new.starved ≡ old.starved → new ≡ record old { pending = new.pending; script = drop 1 old.script }
-handed-is old new sent script starved = ap (λ x. ends new.pending x new.script new.starved) sent ∙ ap (λ x. ends new.pending old.sent x new.starved) script ∙ ap (λ x. ends new.pending old.sent (drop 1 old.script) x) starved
+pub handed-is : (old new : Ends) → new.sent ≡ old.sent → new.script ≡ drop 1 old.script → new.wants ≡ old.wants → new ≡ record old { pending = new.pending; script = drop 1 old.script }
+handed-is old new sent script wants = ap (λ x. ends new.pending x new.script new.wants) sent ∙ ap (λ x. ends new.pending old.sent x new.wants) script ∙ ap (λ x. ends new.pending old.sent (drop 1 old.script) x) wants
 
 -- where a receive could hand out nothing, there is nothing
 none-left : {H : Type 0} (cells : List (Cell H)) → length (piece cells) ≡ 0 → cells ≡ []
@@ -50,7 +50,7 @@ hands old new n most hs front given count pos gives same len got is few none = r
   ended = λ z. let nil : old.pending ≡ [] = none-left old.pending (omega arith) in let kept = got ∙ no-front given hs new.pending (omega arith) in (
     nil,
     gives-fewer old.script most 0 (omega arith) gives,
-    is ∙ ap (λ x. ends x old.sent (drop 1 old.script) old.starved) (sym kept),
+    is ∙ ap (λ x. ends x old.sent (drop 1 old.script) old.wants) (sym kept),
   );
   none = none;
   few = few;

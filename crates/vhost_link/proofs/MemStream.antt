@@ -1,5 +1,5 @@
 -- What the calls of a link in memory add up to.
-use Rattle.std.proofs.Common.{◌≡◌, ℕ, zero, suc, ◌+◌, ◌<◌, List, [], ◌∷◌, ◌++◌, length, take, drop, replicate, sum_by, append_assoc, refl, sym, ap, subst, ◌∙◌, arith, Bool, true, false}
+use Rattle.std.proofs.Common.{◌≡◌, ℕ, zero, suc, ◌+◌, ◌-◌, ◌^◌, ◌<◌, min, List, [], ◌∷◌, ◌++◌, length, take, drop, replicate, sum_by, append_assoc, refl, sym, ap, subst, ◌∙◌, arith, Bool, true, false}
 use Rattle.std.specs.Prelude.{if◌then◌else◌}
 use Rattle.std.proofs.lemmas.List.{append-nil, map-append, replicate-append-replicate}
 use Rattle.std.proofs.lemmas.List.Sums.{sum_by-append}
@@ -12,7 +12,7 @@ use Rattle.vhost_link.specs.declared.cut.Cut.TheVariants.{Give, Retry, Fault}
 use Rattle.vhost_link.specs.declared.plain.PlainHandle.{PlainHandle}
 use Rattle.vhost_link.specs.Law.{Event, Handed, Ended, Taken, Refused, Move, Moved, done, move, refused}
 use Rattle.vhost_link.specs.Law.Moved.{still, more}
-use Rattle.vhost_link.specs.Cuts.{Gives, Fails, retry, failure}
+use Rattle.vhost_link.specs.Cuts.{Gives, Fails, counted, retry, failure}
 use Rattle.vhost_link.specs.Ends.{Ends}
 use Rattle.vhost_link.specs.Mem.{event, HandsFront, Runs}
 
@@ -64,22 +64,20 @@ record Step (old : Ends) (m : Move PlainHandle) (new : Ends) : Type 0 where
   script : new.script ≡ drop 1 old.script
   retries : m.retries ≡ sum_by retry (take 1 old.script) + wants
   failures : m.failures ≡ sum_by failure (take 1 old.script)
-  want : 0 < wants → new.starved ≡ true
-  enough : wants ≡ 0 → new.starved ≡ old.starved
+  count : new.wants ≡ counted old.wants wants
 
 -- a failure by the cut, or by want of memory
-failed : (cuts : List Cut) (c : IoCause) (before after : Bool) → Fails cuts c before after
+failed : (cuts : List Cut) (c : IoCause) (before after : ℕ) → Fails cuts c before after
     → (wants : ℕ) × ((refused {H = PlainHandle} c).retries ≡ sum_by retry (take 1 cuts) + wants) × ((refused {H = PlainHandle} c).failures ≡ sum_by failure (take 1 cuts))
-    × (0 < wants → after ≡ true) × (wants ≡ 0 → after ≡ before)
-failed [] c before after f = rw f.0 (1, refl, refl, (λ h. f.1), (λ h. absurd (omega arith)))
-failed (Give n ∷ cuts) c before after f = rw f.0 (1, refl, refl, (λ h. f.1), (λ h. absurd (omega arith)))
-failed (Retry ∷ cuts) c before after f = rw f.0 (0, refl, refl, (λ h. absurd (omega arith)), (λ h. f.1))
+    × (after ≡ counted before wants)
+failed [] c before after f = rw f.0 (1, refl, refl, f.1)
+failed (Give n ∷ cuts) c before after f = rw f.0 (1, refl, refl, f.1)
+failed (Retry ∷ cuts) c before after f = rw f.0 (0, refl, refl, f.1)
 failed (Fault e ∷ cuts) c before after f = rw f.0 (
   0,
   refused-retries PlainHandle (is_retry (Raw e)) ∙ omega arith,
   refused-failures PlainHandle (is_retry (Raw e)) ∙ omega arith,
-  (λ h. absurd (omega arith)),
-  (λ h. f.1),
+  f.1,
 )
 
 step : (old new : Ends) (e : Event PlainHandle) → event old e new → Step old (done e) new
@@ -89,8 +87,7 @@ step old new (Handed cs) h = record {
   script = ap (λ l. l.script) h.3;
   retries = omega (arith, gives-retry old.script (length cs) h.1);
   failures = sym (gives-failure old.script (length cs) h.1);
-  want = λ z. absurd (omega arith);
-  enough = λ z. ap (λ l. l.starved) h.3;
+  count = ap (λ l. l.wants) h.3;
 }
 step old new Ended h = record {
   wants = 0;
@@ -98,8 +95,7 @@ step old new Ended h = record {
   script = ap (λ l. l.script) h.2;
   retries = omega (arith, gives-retry old.script 0 h.1);
   failures = sym (gives-failure old.script 0 h.1);
-  want = λ z. absurd (omega arith);
-  enough = λ z. ap (λ l. l.starved) h.2;
+  count = ap (λ l. l.wants) h.2;
 }
 step old new (Taken cs) h = record {
   wants = 0;
@@ -107,18 +103,16 @@ step old new (Taken cs) h = record {
   script = ap (λ l. l.script) h.2;
   retries = omega (arith, gives-retry old.script (length cs) h.1);
   failures = sym (gives-failure old.script (length cs) h.1);
-  want = λ z. absurd (omega arith);
-  enough = λ z. ap (λ l. l.starved) h.2;
+  count = ap (λ l. l.wants) h.2;
 }
 step old new (Refused c) h =
-    let f = failed old.script c old.starved new.starved h.0 in record {
+    let f = failed old.script c old.wants new.wants h.0 in record {
       wants = f.0;
       taken = ap (λ l. l.sent) h.1 ∙ sym (append-nil old.sent) ∙ ap (λ xs. old.sent ++ xs) (sym (refused-taken (is_retry c)));
       script = ap (λ l. l.script) h.1;
       retries = f.1;
       failures = f.2;
-      want = f.3;
-      enough = f.4;
+      count = f.3;
     }
 
 -- a stream that is handed out in two parts
@@ -156,9 +150,10 @@ hand before old new told (Taken cs) p h = subst (λ cs. HandsFront before (told 
 hand before old new told (Refused c) p h =
     subst (λ cs. HandsFront before (told ++ (refused c).handed) cs) (sym (ap (λ l. l.pending) h.1)) (hand-none before old.pending told _ p (refused-handed (is_retry c)))
 
-both : (a b : ℕ) (x y z : Bool) → (0 < a → y ≡ true) → (0 < b → z ≡ true) → (b ≡ 0 → z ≡ y) → 0 < a + b → z ≡ true
-both a zero x y z p q r h = r refl ∙ p (omega arith)
-both a (suc b) x y z p q r h = q (omega arith)
+-- counts one after another
+counted-more : (before a b : ℕ) → counted (counted before a) b ≡ counted before (a + b)
+counted-more before a zero = ap (counted before) (omega arith)
+counted-more before a (suc b) = ap (λ n. min (n + 1) (2 ^ 64 - 1)) (counted-more before a b) ∙ ap (counted before) (let e : suc (a + b) ≡ a + suc b = omega arith in e)
 
 pub mem-stream : (old new : Ends) (m : Move PlainHandle) → Moved event old m new → Runs old m new
 mem-stream old new m still = record {
@@ -169,8 +164,8 @@ mem-stream old new m still = record {
   script = refl;
   retries = refl;
   failures = refl;
-  want = λ h. absurd (omega arith);
-  enough = λ h. refl;
+  count = refl;
+  moves = λ h. absurd (cc h);
 }
 mem-stream old new m (more {mid = mid} {m = n} {e = e} p h) =
     let a = mem-stream old mid n p in
@@ -183,6 +178,6 @@ mem-stream old new m (more {mid = mid} {m = n} {e = e} p h) =
       script = b.script ∙ ap (drop 1) a.script ∙ sym (drop-one a.calls old.script);
       retries = rw cuts (omega (arith, a.retries, b.retries, sum_by-append retry (take a.calls old.script) (take 1 mid.script)));
       failures = rw cuts (omega (arith, a.failures, b.failures, sum_by-append failure (take a.calls old.script) (take 1 mid.script)));
-      want = both a.wants b.wants old.starved mid.starved new.starved a.want b.want b.enough;
-      enough = λ z. b.enough (omega arith) ∙ a.enough (omega arith);
+      count = b.count ∙ ap (λ n. counted n b.wants) a.count ∙ counted-more old.wants a.wants b.wants;
+      moves = λ h. omega arith;
     }

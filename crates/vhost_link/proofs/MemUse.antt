@@ -1,11 +1,11 @@
 -- What follows from the stream of a link in memory.
-use Rattle.std.proofs.Common.{◌≡◌, ℕ, zero, suc, ◌<◌, List, [], ◌∷◌, ◌++◌, take, drop, replicate, sum_by, ◌⊎◌, inl, inr, refl, sym, ap, subst, ◌∙◌, arith, Bool, true}
+use Rattle.std.proofs.Common.{◌≡◌, ℕ, zero, suc, ◌<◌, List, [], ◌∷◌, ◌++◌, take, drop, replicate, sum_by, ◌⊎◌, inl, inr, ◌+◌, ◌-◌, ◌^◌, min, refl, sym, ap, subst, ◌∙◌, arith}
 use Rattle.vhost_protocol.specs.Stream.{Cell, End, items}
 use Rattle.vhost_link.specs.declared.cut.Cut.{Cut}
 use Rattle.vhost_link.specs.declared.cut.Cut.TheVariants.{Give, Retry, Fault}
 use Rattle.vhost_link.specs.declared.plain.PlainHandle.{PlainHandle}
 use Rattle.vhost_link.specs.Law.{Move}
-use Rattle.vhost_link.specs.Cuts.{retry, failure}
+use Rattle.vhost_link.specs.Cuts.{counted, retry, failure}
 use Rattle.vhost_link.specs.Ends.{Ends}
 use Rattle.vhost_link.specs.Mem.{HandsFront, Runs, AreGives}
 
@@ -61,13 +61,20 @@ give-later (Give k ∷ cuts) (suc n) g = give-later cuts n g
 give-later (Retry ∷ cuts) (suc n) g = absurd g
 give-later (Fault e ∷ cuts) (suc n) g = absurd g
 
-want-or-none : (n : ℕ) (b : Bool) → (0 < n → b ≡ true) → (n ≡ 0) ⊎ (b ≡ true)
-want-or-none zero b w = inl refl
-want-or-none (suc n) b w = inr (w (omega arith))
+-- a count that went up is not 0
+counts : (before n : ℕ) → 0 < counted before (suc n)
+counts before n = some (counted before n)
+  where
+    some : (m : ℕ) → 0 < min (m + 1) (2 ^ 64 - 1)
+    some m = omega arith
 
-pub gives-alone : (old new : Ends) (m : Move PlainHandle) → Runs old m new → AreGives old.script → (m.failures ≡ 0) × ((m.retries ≡ 0) ⊎ (new.starved ≡ true)) × AreGives new.script
+want-or-none : (before after n : ℕ) → after ≡ counted before n → (n ≡ 0) ⊎ (0 < after)
+want-or-none before after zero e = inl refl
+want-or-none before after (suc n) e = inr (rw e (counts before n))
+
+pub gives-alone : (old new : Ends) (m : Move PlainHandle) → Runs old m new → AreGives old.script → (m.failures ≡ 0) × ((m.retries ≡ 0) ⊎ (0 < new.wants)) × AreGives new.script
 gives-alone old new m r g = (
   r.failures ∙ give-failure old.script r.calls g,
-  want-or-none m.retries new.starved (λ pos. r.want (omega (arith, r.retries, give-retry old.script r.calls g))),
+  want-or-none old.wants new.wants m.retries (r.count ∙ ap (counted old.wants) (omega (arith, r.retries, give-retry old.script r.calls g))),
   subst AreGives (sym r.script) (give-later old.script r.calls g),
 )

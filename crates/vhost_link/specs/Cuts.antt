@@ -1,5 +1,5 @@
 -- What the next cut of a script allows.
-use Rattle.std.specs.Prelude.{◌≡◌, ℕ, ◌≤◌, min, max, List, [], ◌∷◌, Result, Ok, Err, Bool, true, if◌then◌else◌}
+use Rattle.std.specs.Prelude.{◌≡◌, ℕ, ◌+◌, ◌-◌, ◌^◌, ◌≤◌, zero, suc, min, max, List, [], ◌∷◌, Result, Ok, Err, if◌then◌else◌}
 use Rattle.vhost_message.specs.declared.cause.IoCause.{IoCause}
 use Rattle.vhost_message.specs.declared.cause.IoCause.TheVariants.{Raw}
 use Rattle.vhost_message.specs.Cause.{is_retry}
@@ -21,10 +21,15 @@ Gives (Give k ∷ cuts) n = n ≤ max k 1
 Gives (Retry ∷ cuts) n = ⊥
 Gives (Fault e ∷ cuts) n = ⊥
 
--- The next call may fail with this cause: that of its cut, else only for want of memory, which is remembered.
-abbrev pub Fails : List Cut → IoCause → Bool → Bool → Type 0
-Fails [] c before after = (c ≡ Raw ENOMEM) × (after ≡ true)
-Fails (Give n ∷ cuts) c before after = (c ≡ Raw ENOMEM) × (after ≡ true)
+-- a count of wants of memory after so many more; it goes no further than 64 bits do
+abbrev pub counted : ℕ → ℕ → ℕ
+counted before zero = before
+counted before (suc n) = min (counted before n + 1) (2 ^ 64 - 1)
+
+-- The next call may fail with this cause: that of its cut, else only for want of memory, which is counted.
+abbrev pub Fails : List Cut → IoCause → (wants wants_after : ℕ) → Type 0
+Fails [] c before after = (c ≡ Raw ENOMEM) × (after ≡ counted before 1)
+Fails (Give n ∷ cuts) c before after = (c ≡ Raw ENOMEM) × (after ≡ counted before 1)
 Fails (Retry ∷ cuts) c before after = (c ≡ Raw EAGAIN) × (after ≡ before)
 Fails (Fault e ∷ cuts) c before after = (c ≡ Raw e) × (after ≡ before)
 

@@ -1,5 +1,5 @@
 -- What a link in memory does.
-use Rattle.std.specs.Prelude.{◌≡◌, ℕ, ◌+◌, ◌<◌, List, [], ◌∷◌, ◌++◌, ◌⊎◌, length, take, drop, replicate, sum_by, Result, Ok, Err, true, if◌then◌else◌, codes}
+use Rattle.std.specs.Prelude.{◌≡◌, ℕ, ◌+◌, ◌<◌, List, [], ◌∷◌, ◌++◌, ◌⊎◌, length, take, drop, replicate, sum_by, Result, Ok, Err, true, ◌||◌, if◌then◌else◌, codes}
 use Rattle.vhost_message.specs.declared.cause.IoCause.{IoCause}
 use Rattle.vhost_message.specs.declared.cause.IoCause.TheVariants.{Raw, Named}
 use Rattle.vhost_message.specs.declared.errno.TheConstants.{ENOMEM}
@@ -9,7 +9,7 @@ use Rattle.vhost_link.specs.declared.cut.Cut.TheVariants.{Give, Retry, Fault}
 use Rattle.vhost_link.specs.declared.plain.PlainHandle.{PlainHandle}
 use Rattle.vhost_link.specs.Ends.{Ends}
 use Rattle.vhost_link.specs.Law.{Event, Handed, Ended, Taken, Refused, Move, Moved}
-use Rattle.vhost_link.specs.Cuts.{Gives, Fails, retry, failure}
+use Rattle.vhost_link.specs.Cuts.{Gives, Fails, counted, retry, failure}
 
 -- Cells that are handed out stood at the front, cells that are taken in go to the end, the end is told where nothing is left.
 -- Each event takes one cut of the script.
@@ -17,7 +17,7 @@ abbrev pub event : Ends → Event PlainHandle → Ends → Type 0
 event old (Handed cs) new = (0 < length cs) × Gives old.script (length cs) × (old.pending ≡ cs ++ new.pending) × (new ≡ record old { pending = new.pending; script = drop 1 old.script })
 event old Ended new = (old.pending ≡ []) × Gives old.script 0 × (new ≡ record old { script = drop 1 old.script })
 event old (Taken cs) new = (0 < length cs) × Gives old.script (length cs) × (new ≡ record old { sent = old.sent ++ cs; script = drop 1 old.script })
-event old (Refused c) new = Fails old.script c old.starved new.starved × (new ≡ record old { script = drop 1 old.script; starved = new.starved })
+event old (Refused c) new = Fails old.script c old.wants new.wants × (new ≡ record old { script = drop 1 old.script; wants = new.wants })
 
 -- no call that comes is cut
 abbrev pub is_uncut : Ends → Type 0
@@ -73,9 +73,10 @@ pub record Runs (old : Ends) (m : Move PlainHandle) (new : Ends) : Type 0 where
   -- a failure is that of a cut, or a want of memory
   pub retries : m.retries ≡ sum_by retry (take calls old.script) + wants
   pub failures : m.failures ≡ sum_by failure (take calls old.script)
-  -- a want of memory is remembered, and nothing else is
-  pub want : 0 < wants → new.starved ≡ true
-  pub enough : wants ≡ 0 → new.starved ≡ old.starved
+  -- each want of memory is counted, and nothing else is
+  pub count : new.wants ≡ counted old.wants wants
+  -- what moved was moved by a call
+  pub moves : (has_some m.handed || has_some m.taken) ≡ true → 0 < calls
 
 -- The stream of a link in memory is known, however it is cut.
 abbrev pub StreamLaw : Type 0
@@ -90,4 +91,4 @@ AreGives (Fault e ∷ cuts) = ⊥
 
 -- Where every cut moves bytes, only a want of memory is a failure.
 abbrev pub GivesLaw : Type 0
-GivesLaw = (old new : Ends) (m : Move PlainHandle) → Moved event old m new → AreGives old.script → (m.failures ≡ 0) × ((m.retries ≡ 0) ⊎ (new.starved ≡ true)) × AreGives new.script
+GivesLaw = (old new : Ends) (m : Move PlainHandle) → Moved event old m new → AreGives old.script → (m.failures ≡ 0) × ((m.retries ≡ 0) ⊎ (0 < new.wants)) × AreGives new.script

@@ -1,6 +1,6 @@
 //! A link in memory.
 
-ghost use Rattle.std.specs.Prelude.{◌≡◌, [], ◌++◌, ◌<◌, ◌≤◌, length, map, OnOk, OnErr, IsOk, vec_capacity};
+ghost use Rattle.std.specs.Prelude.{◌≡◌, [], ◌++◌, ◌<◌, ◌≤◌, length, map, nat_lt, OnOk, OnErr, IsOk, vec_capacity};
 ghost use Rattle.vhost_message.specs.declared.limits.TheConstants.{MAX_ATTACHED_FD_ENTRIES};
 ghost use Rattle.vhost_protocol.specs.Stream.{carrying};
 ghost use Rattle.vhost_link.specs.Law.{Sends, TakesAll, Receives};
@@ -25,7 +25,7 @@ pub struct MemLink {
     pending: Flow,
     sent: Flow,
     script: VecDeque<Cut>,
-    starved: bool,
+    wants: u64,
     alloc: Global,
 }
 
@@ -34,7 +34,7 @@ impl Model for MemLink {
 
     ghost Value = { Ends };
 
-    ghost view = { λ link. record { pending = link.pending; sent = link.sent; script = link.script.items; starved = link.starved } };
+    ghost view = { λ link. record { pending = link.pending; sent = link.sent; script = link.script.items; wants = link.wants } };
 }
 
 impl MemLink {
@@ -46,7 +46,7 @@ impl MemLink {
             pending: Flow::new(alloc),
             sent: Flow::new(alloc),
             script: VecDeque::from_vec(script),
-            starved: false,
+            wants: 0,
             alloc,
         }
     }
@@ -60,9 +60,9 @@ impl MemLink {
 
     /// Whether a send of it ever failed for want of memory.
     pub fn is_starved(&self) -> bool
-        ensures { result ≡ self.now.starved }
+        ensures { result ≡ nat_lt 0 self.now.wants }
     {
-        self.starved
+        self.wants > 0
     }
 
     /// Moves what one end took in behind what the other will hand out.
@@ -129,7 +129,7 @@ impl Link for MemLink {
             Err(refusal) => Err(refusal),
         };
         if sent.is_err() {
-            self.starved = true;
+            self.wants = self.wants.saturating_add(1);
             return Err(IoCause::Raw(ENOMEM));
         }
         Ok(count)

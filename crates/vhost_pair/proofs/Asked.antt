@@ -12,6 +12,7 @@ use Rattle.vhost_protocol.specs.Ask.{Refuses, Sends, ask}
 use Rattle.vhost_protocol.specs.declared.asked.Awaited.{Awaited}
 use Rattle.vhost_protocol.specs.Error.{seen}
 use Rattle.vhost_protocol.specs.FrontendCall.{FrontendCall, Frontend}
+use Rattle.vhost_protocol.specs.Stream.{Cell, has_some}
 use Rattle.vhost_protocol.specs.Take.{take}
 use Rattle.vhost_protocol.specs.Written.{Written, head_of, written_cells}
 use Rattle.vhost_link.specs.declared.plain.PlainHandle.{PlainHandle}
@@ -26,7 +27,7 @@ use Rattle.vhost_pair.specs.OnWay.{incoming, outgoing, Carries}
 use Rattle.vhost_pair.specs.Joined.{Passes}
 use Rattle.vhost_pair.specs.Sides.{cuts_of}
 use Rattle.vhost_pair.proofs.OnWay.{incoming-handed, incoming-cut, outgoing-taken}
-use Rattle.vhost_pair.proofs.Spent.{Faults, faults, no-memory, passes, passes-none}
+use Rattle.vhost_pair.proofs.Spent.{Faults, faults, no-memory, passes, all-moved, sent-passes, still-passes}
 
 abbrev pub End : Type 0
 End = State Ends PlainHandle
@@ -50,7 +51,7 @@ module _ (call : FrontendCall PlainHandle) (fe : End) (f : Frontend) (before : A
     pub faulted : fe'.faulted ≡ false
     pub list : fe'.list ≡ true
     pub budget : fe'.budget ≡ fe.budget
-    pub passed : Passes fe.budget (cuts_of fe.link) (cuts_of fe'.link)
+    pub passed : Passes fe.budget (written_cells request_number message) (cuts_of fe.link) (cuts_of fe'.link)
 
   went-asked : {w : Written FrontendReq PlainHandle} {aw' : Awaited} {f' : Frontend} {sent : Sent} {fe' : End} → ask f call ≡ Sends w aw' f' → Goes event w aw' fe sent fe' → IsAsked sent fe' f' aw'
   went-asked {w} {fe' = fe'} e g = record {
@@ -64,7 +65,7 @@ module _ (call : FrontendCall PlainHandle) (fe : End) (f : Frontend) (before : A
     faulted = g.serves.faulted;
     list = g.list;
     budget = g.serves.talks.budget;
-    passed = passes fe fe' _ _ g.serves;
+    passed = sent-passes _ fe fe' _ _ g.serves;
   }
 
   pub is-asked : {sent : Sent} {fe' : End} {f' : Frontend} {aw' : Awaited} → AsksWithRoom event (ask f call) fe f before (Ok sent) fe' f' aw' → IsAsked sent fe' f' aw'
@@ -74,12 +75,12 @@ module _ (call : FrontendCall PlainHandle) (fe : End) (f : Frontend) (before : A
   pub record IsUnasked (e : declared.Error) (fe' : End) (f' : Frontend) (aw' : Awaited) : Type 0 where
     pub session : f' ≡ f
     pub awaits : aw' ≡ before
-    pub why : ((ask f call ≡ Refuses (seen e)) × (fe' ≡ fe)) ⊎ Faults fe fe' e
+    pub why : ((ask f call ≡ Refuses (seen e)) × (fe' ≡ fe)) ⊎ (((w : Written FrontendReq PlainHandle) × (aw : Awaited) × (g : Frontend) × (ask f call ≡ Sends w aw g)) × Faults fe fe' e)
 
   pub is-unasked : {e : declared.Error} {fe' : End} {f' : Frontend} {aw' : Awaited} → (e ≡ error.OutOfMemory → ⊥) → fe.broken ≡ None → fe.list ≡ true
       → AsksWithRoom event (ask f call) fe f before (Err e) fe' f' aw' → IsUnasked e fe' f' aw'
   is-unasked other whole list (asking.roomy (asking.refuses r)) = record { session = refl; awaits = refl; why = inl (r, refl) }
-  is-unasked {fe' = fe'} other whole list (asking.roomy (asking.fails {e = x} s k)) = record { session = refl; awaits = refl; why = inr (faults fe fe' false x k whole list) }
+  is-unasked {fe' = fe'} other whole list (asking.roomy (asking.fails {e = x} s k)) = record { session = refl; awaits = refl; why = inr ((_, _, _, s), faults fe fe' false x k whole list) }
   is-unasked other whole list (asking.no_room s) = absurd (other refl)
 
   -- where there was no memory, nothing changed
@@ -91,6 +92,10 @@ module _ (call : FrontendCall PlainHandle) (fe : End) (f : Frontend) (before : A
 -- ---- what was carried
 
 module _ (from to from' to' : End) (k : Carries from to from' to') where
+  -- what was sent is behind what was coming
+  pub arrived-behind : incoming to' ≡ incoming to ++ outgoing from
+  arrived-behind = ap {A = End} (λ e. incoming e) k.receiver ∙ sym (append_assoc to.ahead to.link.pending from.link.sent)
+
   pub arrived : incoming to ≡ [] → incoming to' ≡ outgoing from
   arrived none = ap {A = End} (λ e. incoming e) k.receiver ∙ sym (append_assoc to.ahead to.link.pending from.link.sent) ∙ ap (λ xs. xs ++ from.link.sent) none
 
@@ -116,7 +121,8 @@ module _ (call : FrontendCall PlainHandle) (awaited : Awaited) (sent : Header) (
   pub record IsTaken (fe' : End) : Type 0 where
     pub cut : take call awaited sent f (incoming fe) ≡ (x, incoming fe')
     pub outgoing : outgoing fe' ≡ outgoing fe
-    pub passed : Passes fe.budget (cuts_of fe.link) (cuts_of fe'.link)
+    -- all that had been sent, where nothing had been heard before
+    pub passed : (cells : List (Cell PlainHandle)) → (has_some cells ≡ true → (fe.ahead ≡ []) × (incoming fe ≡ cells) × (incoming fe' ≡ [])) → Passes fe.budget cells (cuts_of fe.link) (cuts_of fe'.link)
     pub broken : fe'.broken ≡ None
     pub faulted : fe'.faulted ≡ false
     pub budget : fe'.budget ≡ fe.budget
@@ -125,7 +131,7 @@ module _ (call : FrontendCall PlainHandle) (awaited : Awaited) (sent : Header) (
   is-taken whole sound (unread here) = record {
     cut = here (incoming fe);
     outgoing = refl;
-    passed = passes-none fe.budget (cuts_of fe.link) (cuts_of fe.link) refl;
+    passed = λ cells all. still-passes fe cells (λ some. sym (all some).1 ∙ (all some).2);
     broken = whole;
     faulted = sound;
     budget = refl;
@@ -133,7 +139,7 @@ module _ (call : FrontendCall PlainHandle) (awaited : Awaited) (sent : Header) (
   is-taken {fe' = fe'} whole sound (read came) = let h = came.hears in record {
     cut = incoming-cut fe fe' _ h.serves.talks (take call awaited sent f) h.cells h.ended x refl h.splits;
     outgoing = outgoing-taken fe fe' _ h.serves.talks ∙ append-nil (outgoing fe);
-    passed = passes fe fe' _ _ h.serves;
+    passed = λ cells all. passes cells fe fe' _ _ h.serves (λ some. let a = all some in all-moved cells fe fe' _ h.serves.talks a.0 a.1 a.2 some);
     broken = h.serves.after;
     faulted = h.serves.faulted;
     budget = h.serves.talks.budget;

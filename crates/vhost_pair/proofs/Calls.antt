@@ -10,7 +10,7 @@ use Rattle.vhost_protocol.specs.Error.{Error}
 use Rattle.vhost_protocol.specs.FrontendCall.{FrontendCall, Frontend, SetLogBase, PostcopyAckMemRegions}
 use Rattle.vhost_protocol.specs.Joined.{is_end}
 use Rattle.vhost_protocol.specs.Written.{Written, U64}
-use Rattle.vhost_pair.specs.Sides.{ends}
+use Rattle.vhost_pair.specs.Joined.{ends}
 
 -- what a call becomes ends postcopy where the call does
 abbrev EndsAs : {H : Type 0} → Bool → Asked H → Type 0

@@ -2,6 +2,7 @@
 use Rattle.std.proofs.Common.{◌≡◌, ℕ, ◌≤◌, ◌⊎◌, inl, inr, Bool, true, false, List, [], ◌++◌, length, Option, Some, None, Result, Ok, Err, refl, sym, ◌∙◌, ap, subst, arith}
 use Rattle.std.specs.Prelude.{◌||◌}
 use Rattle.std.proofs.Math.Bool.{or-true}
+use Rattle.std.proofs.lemmas.List.{append-nil}
 use Rattle.vhost_message.specs.declared.error.Error as declared
 use Rattle.vhost_message.specs.declared.error.Error.TheVariants as error
 use Rattle.vhost_message.specs.declared.frontend_req.FrontendReq.{FrontendReq}
@@ -35,19 +36,18 @@ use Rattle.vhost_pair.specs.Device.{Gives, opens_backend, opens_gpu}
 use Rattle.vhost_frontend_core.specs.ValueHalves.{IsProper, TakesResult}
 use Rattle.vhost_pair.specs.OnWay.{incoming, outgoing}
 use Rattle.vhost_pair.specs.Text.{text_of, no_text}
-use Rattle.vhost_pair.specs.Joined as joined
-use Rattle.vhost_pair.specs.Joined.{Cuts, View, IsReady, Passes, PassesBoth, Stops, StopsReply, Took, Keeps, Answers}
+use Rattle.vhost_pair.specs.Joined.{Cuts, IsReady, Passes, PassesBoth, Keeps, Answers, ends}
 use Rattle.vhost_pair.specs.Sides as sides
-use Rattle.vhost_pair.specs.Sides.{Parts, cuts_of, as_view, IsSound, HaveLists, ends, stop_of, Served, Serves, EndsUnsent, IsAskedBy, Exchanges}
+use Rattle.vhost_pair.specs.Sides.{Parts, cuts_of, as_view, IsSound, HaveLists, stop_of, Served, Serves, EndsUnsent, IsAskedBy, Exchanges}
 use Rattle.vhost_pair.proofs.Asked.{End, both-empty, IsAsked, is-asked, IsUnasked, is-unasked, arrived, emptied, kept, held, sender-cuts, receiver-cuts, IsTaken, is-taken}
-use Rattle.vhost_pair.proofs.Served.{pair-first, pair-second, ServingFaults, IsHandled, split-handled, IsServed, is-served, last_stop, stopped-as, fed}
+use Rattle.vhost_pair.proofs.Served.{pair-first, pair-second, ServingFaults, Handled1, split-handled, faulted-so, both-passed, IsServed, is-served, last_stop, stopped-as, fed}
 use Rattle.vhost_pair.proofs.Calls.{ends-so}
 use Rattle.vhost_pair.proofs.Outcomes.{sendable, few-written, Outcomes, outcomes}
 use Rattle.vhost_pair.proofs.Spent.{Faults, faults, passes-none}
 
 -- a step for which no link was called
-passed-none : (budget : ℕ) (old new : Cuts) → new ≡ old → PassesBoth budget old new
-passed-none budget old new same = record { mid = old; request = passes-none budget old old refl; reply = passes-none budget old new same }
+passed-none : (budget : ℕ) (old new : Cuts) → new ≡ old → PassesBoth budget [] [] old new
+passed-none budget old new same = record { mid = old; asked = passes-none budget old old refl; answered = passes-none budget old new same }
 
 from_some : {A : Type 0} → A → Option A → A
 from_some a None = a
@@ -55,10 +55,10 @@ from_some a (Some b) = b
 
 module _ {Dev : Type 0} (gives : Gives Dev) (call : FrontendCall PlainHandle) (bit : Bool) (old : Parts Dev) (sound : IsSound old) (lists : HaveLists old) (ready : IsReady bit (as_view old None)) where
   nothing-asked : incoming old.serving ≡ []
-  nothing-asked = (both-empty (outgoing old.asking) (incoming old.serving) ready.in_step.no_request).1
+  nothing-asked = (both-empty (incoming old.serving) (outgoing old.asking) ready.in_step.no_request).0
 
   nothing-incoming : incoming old.asking ≡ []
-  nothing-incoming = (both-empty (outgoing old.serving) (incoming old.asking) ready.in_step.no_reply).1
+  nothing-incoming = (both-empty (incoming old.asking) (outgoing old.serving) ready.in_step.no_reply).0
 
   -- ---- a call that was sent and served
 
@@ -74,7 +74,7 @@ module _ {Dev : Type 0} (gives : Gives Dev) (call : FrontendCall PlainHandle) (b
 
     module _ (ans : Result (Value PlainHandle) Error) (stop : Option Stop) (new : Parts Dev) (v : Served gives call sent (record old { asking = fe1; frontend = f1; awaited = aw1 }) ans stop new) where
       abbrev he1 : End
-      he1 = v.serving_then
+      he1 = v.reached.serving_then
 
       abbrev he2 : End
       he2 = v.serving_after
@@ -86,19 +86,22 @@ module _ {Dev : Type 0} (gives : Gives Dev) (call : FrontendCall PlainHandle) (b
       fe3 = v.asking_after
 
       came : incoming he1 ≡ written_cells request_number w
-      came = arrived fe1 old.serving fe2 he1 v.there nothing-asked ∙ asked-whole
+      came = arrived fe1 old.serving fe2 he1 v.reached.there nothing-asked ∙ asked-whole
 
       clear : outgoing he1 ≡ []
-      clear = held fe1 old.serving fe2 he1 v.there ∙ sound.no_reply
+      clear = held fe1 old.serving fe2 he1 v.reached.there ∙ sound.no_reply
 
       abbrev IsServed1 : Type 0
       IsServed1 = IsServed gives he1 he2 old.session new.session old.device new.device w (seen_result v.result)
 
-      served-or-not : IsServed1 ⊎ ServingFaults he1 he2
-      served-or-not = by-cases (split-handled gives he1 he2 old.session new.session old.device new.device sound.failed v.result (v.handled sound.failed) (ap {A = End} (λ e. e.broken) v.there.receiver ∙ sound.serves) (ap {A = End} (λ e. e.list) v.there.receiver ∙ lists.1))
+      abbrev Faults1 : Type 0
+      Faults1 = ServingFaults gives he1 he2 old.session new.session old.device new.device
+
+      served-or-not : IsServed1 ⊎ Faults1
+      served-or-not = by-cases (split-handled gives he1 he2 old.session new.session old.device new.device v.result (v.reached.handled sound.failed) (ap {A = End} (λ e. e.broken) v.reached.there.receiver ∙ sound.serves) (ap {A = End} (λ e. e.list) v.reached.there.receiver ∙ lists.1))
         where
-          by-cases : (IsHandled gives he1 he2 old.session new.session old.device new.device (seen_result v.result) × PassesBoth he1.budget (cuts_of he1.link) (cuts_of he2.link)) ⊎ ServingFaults he1 he2 → IsServed1 ⊎ ServingFaults he1 he2
-          by-cases (inl (h, passed)) = inl (is-served gives he1 he2 old.session new.session old.device new.device w (seen_result v.result) (sendable call good old.frontend w aw1 f1 ask1.asked) h passed came clear sound.failed)
+          by-cases : Handled1 gives he1 he2 old.session new.session old.device new.device (seen_result v.result) ⊎ Faults1 → IsServed1 ⊎ Faults1
+          by-cases (inl h) = inl (is-served gives he1 he2 old.session new.session old.device new.device w (seen_result v.result) (sendable call good old.frontend w aw1 f1 ask1.asked) h came clear)
           by-cases (inr k) = inr k
 
       abbrev Done1 : Outcome PlainHandle → Type 0
@@ -109,74 +112,56 @@ module _ {Dev : Type 0} (gives : Gives Dev) (call : FrontendCall PlainHandle) (b
 
       -- the frontend has nothing more to receive, before the reply comes
       nothing-left : incoming fe2 ≡ []
-      nothing-left = kept fe1 old.serving fe2 he1 v.there ∙ ask1.incoming ∙ nothing-incoming
+      nothing-left = kept fe1 old.serving fe2 he1 v.reached.there ∙ ask1.incoming ∙ nothing-incoming
 
       abbrev Goal : Type 0
       Goal = Answers gives (as_view old None) call ans (as_view new stop)
 
       -- a fault on one side stops the run
-      premise : (new.asking.faulted || new.serving.faulted) ≡ true → joined.Breaks gives (as_view old None) call ans (as_view new stop) → Goal
-      premise faulted breaks = inr (v.stops ∙ ap (λ b. stop_of (ends call) b v.result new.reply.bytes) faulted, breaks)
+      premise : (new.asking.faulted || new.serving.faulted) ≡ true → Goal
+      premise faulted = inr (v.stops ∙ ap (λ b. stop_of (ends call) b v.result new.reply.bytes) faulted)
 
       asking-whole : fe3.broken ≡ None
-      asking-whole = ap {A = End} (λ e. e.broken) v.back.receiver ∙ ap {A = End} (λ e. e.broken) v.there.sender ∙ ask1.broken
+      asking-whole = ap {A = End} (λ e. e.broken) v.back.receiver ∙ ap {A = End} (λ e. e.broken) v.reached.there.sender ∙ ask1.broken
 
       asking-sound : fe3.faulted ≡ false
-      asking-sound = ap {A = End} (λ e. e.faulted) v.back.receiver ∙ ap {A = End} (λ e. e.faulted) v.there.sender ∙ ask1.faulted
+      asking-sound = ap {A = End} (λ e. e.faulted) v.back.receiver ∙ ap {A = End} (λ e. e.faulted) v.reached.there.sender ∙ ask1.faulted
 
       asking-list : fe3.list ≡ true
-      asking-list = ap {A = End} (λ e. e.list) v.back.receiver ∙ ap {A = End} (λ e. e.list) v.there.sender ∙ ask1.list
+      asking-list = ap {A = End} (λ e. e.list) v.back.receiver ∙ ap {A = End} (λ e. e.list) v.reached.there.sender ∙ ask1.list
 
       asking-budget : fe3.budget ≡ old.asking.budget
-      asking-budget = ap {A = End} (λ e. e.budget) v.back.receiver ∙ ap {A = End} (λ e. e.budget) v.there.sender ∙ ask1.budget
+      asking-budget = ap {A = End} (λ e. e.budget) v.back.receiver ∙ ap {A = End} (λ e. e.budget) v.reached.there.sender ∙ ask1.budget
 
       serving-budget : he1.budget ≡ old.asking.budget
-      serving-budget = ap {A = End} (λ e. e.budget) v.there.receiver ∙ sound.budget
+      serving-budget = ap {A = End} (λ e. e.budget) v.reached.there.receiver ∙ sound.budget
 
-      asking-passed : Passes old.asking.budget (cuts_of old.asking.link) (cuts_of fe3.link)
-      asking-passed = subst (λ c. Passes old.asking.budget (cuts_of old.asking.link) c) (sym (receiver-cuts he2 fe2 new.serving fe3 v.back ∙ sender-cuts fe1 old.serving fe2 he1 v.there)) ask1.passed
+      asking-passed : Passes old.asking.budget (written_cells request_number w) (cuts_of old.asking.link) (cuts_of fe3.link)
+      asking-passed = subst (λ c. Passes old.asking.budget (written_cells request_number w) (cuts_of old.asking.link) c) (sym (receiver-cuts he2 fe2 new.serving fe3 v.back ∙ sender-cuts fe1 old.serving fe2 he1 v.reached.there)) ask1.passed
 
       -- the handler's link between the two carries
       abbrev OfServing : (Cuts → Cuts → Type 0) → Type 0
       OfServing P = P (cuts_of he1.link) (cuts_of he2.link) → P (cuts_of old.serving.link) (cuts_of new.serving.link)
 
       of-serving : (P : Cuts → Cuts → Type 0) → OfServing P
-      of-serving P p = subst (λ c. P c (cuts_of new.serving.link)) (receiver-cuts fe1 old.serving fe2 he1 v.there) (subst (λ c. P (cuts_of he1.link) c) (sym (sender-cuts he2 fe2 new.serving fe3 v.back)) p)
+      of-serving P p = subst (λ c. P c (cuts_of new.serving.link)) (receiver-cuts fe1 old.serving fe2 he1 v.reached.there) (subst (λ c. P (cuts_of he1.link) c) (sym (sender-cuts he2 fe2 new.serving fe3 v.back)) p)
+
+      serving-fault : Faults1 → Goal
+      serving-fault k = premise (ap (λ b. new.asking.faulted || b) (ap {A = End} (λ e. e.faulted) v.back.sender ∙ faulted-so gives he1 he2 old.session new.session old.device new.device k) ∙ or-true new.asking.faulted)
+
+      asking-fault : (e : declared.Error) → Faults fe3 new.asking e → Goal
+      asking-fault e k = premise (ap (λ b. b || new.serving.faulted) k.faulted)
+
+      -- nothing had been heard before
+      request-fresh : he1.ahead ≡ []
+      request-fresh = ap {A = End} (λ e. e.ahead) v.reached.there.receiver ∙ (both-empty old.serving.ahead old.serving.link.pending nothing-asked).0
+
+      reply-fresh : fe3.ahead ≡ []
+      reply-fresh = ap {A = End} (λ e. e.ahead) v.back.receiver ∙ (both-empty fe2.ahead fe2.link.pending nothing-left).0
 
       -- what came of the reply is all that the handler wrote
       came-back : incoming fe3 ≡ outgoing he2
       came-back = arrived he2 fe2 new.serving fe3 v.back nothing-left
-
-      took : length (outgoing he2) ≤ MAX_MSG_TEXT → IsTaken call aw1 (fields_of sent.request) f1 fe3 (Some (answered new.frontend ans)) new.asking → Took gives (as_view old None) call ans (as_view new stop)
-      took few t = record {
-        message = w;
-        awaited = aw1;
-        after = f1;
-        asked = ask1.asked;
-        request = v.request few-asked ∙ ap text_of asked-whole;
-        came = outgoing he2;
-        reply = v.reply few;
-        left = incoming new.asking;
-        taken = ap (λ header. take call aw1 header f1 (outgoing he2)) (sym ask1.header) ∙ ap (λ cells. take call aw1 (fields_of sent.request) f1 cells) (sym came-back) ∙ t.cut;
-      }
-
-      serving-fault : ServingFaults he1 he2 → IsTaken call aw1 (fields_of sent.request) f1 fe3 (Some (answered new.frontend ans)) new.asking → Goal
-      serving-fault k t = premise (ap (λ b. new.asking.faulted || b) (ap {A = End} (λ e. e.faulted) v.back.sender ∙ k.faulted) ∙ or-true new.asking.faulted) (by-message k.stopped)
-        where
-          few : length (outgoing he2) ≤ MAX_MSG_TEXT
-          few = subst (λ cells. length cells ≤ MAX_MSG_TEXT) (sym (k.sent ∙ ap (λ xs. xs ++ k.gone) clear)) k.few
-
-          by-message : Stops he1.budget k.cause (cuts_of he1.link) (cuts_of he2.link) ⊎ StopsReply he1.budget k.cause (cuts_of he1.link) (cuts_of he2.link) → joined.Breaks gives (as_view old None) call ans (as_view new stop)
-          by-message (inl p) = joined.unread k.cause (of-serving (λ a b. Stops old.asking.budget k.cause a b) (subst (λ n. Stops n k.cause (cuts_of he1.link) (cuts_of he2.link)) serving-budget p)) (took few t)
-          by-message (inr p) = joined.unanswered k.cause (of-serving (λ a b. StopsReply old.asking.budget k.cause a b) (subst (λ n. StopsReply n k.cause (cuts_of he1.link) (cuts_of he2.link)) serving-budget p)) (took few t)
-
-      asking-fault : (e : declared.Error) → ans ≡ Err (seen e) → Faults fe3 new.asking e → Goal
-      asking-fault e is k = premise (ap (λ b. b || new.serving.faulted) k.faulted)
-          (joined.lost k.cause (record {
-            mid = cuts_of fe3.link;
-            request = asking-passed;
-            reply = subst (λ n. Stops n k.cause (cuts_of fe3.link) (cuts_of new.asking.link)) asking-budget k.stopped;
-          }) (is ∙ ap {A = declared.Error} {B = Result (Value PlainHandle) Error} (λ x. Err (seen x)) k.error))
 
       both-served : IsServed1 → IsTaken call aw1 (fields_of sent.request) f1 fe3 (Some (answered new.frontend ans)) new.asking → Goal
       unfolding from_some
@@ -192,7 +177,7 @@ module _ {Dev : Type 0} (gives : Gives Dev) (call : FrontendCall PlainHandle) (b
           few-served = subst (λ cells. length cells ≤ MAX_MSG_TEXT) (sym h.written) k.few
 
           is_reply : new.reply ≡ text_of replied
-          is_reply = v.reply few-served ∙ ap text_of h.written
+          is_reply = v.reached.copied few-served ∙ ap text_of h.written
 
           cut : ◌≡◌ {A = Option (Answered PlainHandle) × List (Cell PlainHandle)} (Some (answered new.frontend ans), incoming new.asking) (Some k.known.to_caller, [])
           cut = sym t.cut ∙ ap (λ cells. take call aw1 (fields_of sent.request) f1 cells) (arrived he2 fe2 new.serving fe3 v.back nothing-left ∙ h.written)
@@ -205,7 +190,7 @@ module _ {Dev : Type 0} (gives : Gives Dev) (call : FrontendCall PlainHandle) (b
           session = ap {A = Option (Answered PlainHandle)} (λ x. (from_some (k.known.to_caller) x).session) some
 
           faultless : (new.asking.faulted || new.serving.faulted) ≡ false
-          faultless = ap (λ b. b || new.serving.faulted) t.faulted ∙ ap {A = End} (λ e. e.faulted) v.back.sender ∙ h.faulted
+          faultless = ap (λ b. b || new.serving.faulted) t.faulted ∙ ap {A = End} (λ e. e.faulted) v.back.sender ∙ h.handled.replies.serves.faulted
 
           stops : stop ≡ stop_of (ends call) false v.result (bytes replied)
           stops = v.stops ∙ ap (λ b. stop_of (ends call) b v.result new.reply.bytes) faultless ∙ ap (λ x. stop_of (ends call) false v.result x.bytes) is_reply
@@ -213,13 +198,13 @@ module _ {Dev : Type 0} (gives : Gives Dev) (call : FrontendCall PlainHandle) (b
           last : Bool
           last = is_last w.request h.outcome
 
-          no_request : outgoing new.asking ++ incoming new.serving ≡ []
-          no_request = ap (λ xs. xs ++ incoming new.serving) (t.outgoing ∙ held he2 fe2 new.serving fe3 v.back ∙ emptied fe1 old.serving fe2 he1 v.there) ∙ kept he2 fe2 new.serving fe3 v.back ∙ h.nothing
+          no_request : incoming new.serving ++ outgoing new.asking ≡ []
+          no_request = ap (λ xs. incoming new.serving ++ xs) (t.outgoing ∙ held he2 fe2 new.serving fe3 v.back ∙ emptied fe1 old.serving fe2 he1 v.reached.there) ∙ append-nil (incoming new.serving) ∙ kept he2 fe2 new.serving fe3 v.back ∙ h.nothing
 
-          no_reply : outgoing new.serving ++ incoming new.asking ≡ []
-          no_reply = ap (λ xs. xs ++ incoming new.asking) (emptied he2 fe2 new.serving fe3 v.back) ∙ pair-second cut
+          no_reply : incoming new.asking ++ outgoing new.serving ≡ []
+          no_reply = ap (λ xs. incoming new.asking ++ xs) (emptied he2 fe2 new.serving fe3 v.back) ∙ append-nil (incoming new.asking) ∙ pair-second cut
 
-          in_step : last ≡ false → InStep new.frontend new.session new.awaited (outgoing new.asking ++ incoming new.serving) (outgoing new.serving ++ incoming new.asking)
+          in_step : last ≡ false → InStep new.frontend new.session new.awaited (incoming new.serving ++ outgoing new.asking) (incoming new.asking ++ outgoing new.serving)
           in_step before = record {
             agree = subst (λ g. AgreeOn g new.session) (sym session) (subst (λ u. AgreeOn (k.known.to_caller.session) u) (sym h.session) (k.known.agree before));
             nobody = v.quiet;
@@ -241,14 +226,21 @@ module _ {Dev : Type 0} (gives : Gives Dev) (call : FrontendCall PlainHandle) (b
             in_step = in_step;
             no_request = no_request;
             no_reply = no_reply;
-            asking = record { mid = cuts_of fe3.link; request = asking-passed; reply = subst (λ n. Passes n (cuts_of fe3.link) (cuts_of new.asking.link)) asking-budget t.passed };
-            serving = of-serving (λ a b. PassesBoth old.asking.budget a b) (subst (λ n. PassesBoth n (cuts_of he1.link) (cuts_of he2.link)) serving-budget h.passed);
+            asking = record {
+              mid = cuts_of fe3.link;
+              asked = asking-passed;
+              answered = subst (λ n. Passes n replied (cuts_of fe3.link) (cuts_of new.asking.link)) asking-budget (t.passed replied (λ some. (reply-fresh, came-back ∙ h.written, pair-second cut)));
+            };
+            serving = of-serving (λ a b. PassesBoth old.asking.budget (written_cells request_number w) replied a b)
+                (subst (λ n. PassesBoth n (written_cells request_number w) replied (cuts_of he1.link) (cuts_of he2.link)) serving-budget
+                (subst (λ cells. PassesBoth he1.budget (written_cells request_number w) cells (cuts_of he1.link) (cuts_of he2.link)) h.wrote
+                (both-passed gives he1 he2 old.session new.session old.device new.device (seen_result v.result) h.handled (written_cells request_number w) (λ some. (request-fresh, came, h.nothing)))));
             fed = without;
             budget = t.budget ∙ asking-budget;
           }
 
           by-cases : ((stop_of (ends call) false v.result (bytes replied) ≡ Some Premise) × (h.outcome.answer ≡ Err OutOfMemory)) ⊎ (stop_of (ends call) false v.result (bytes replied) ≡ last_stop last) → Goal
-          by-cases (inl (e, memory)) = inr (stops ∙ e, joined.starved (record { message = w; awaited = aw1; after = f1; asked = ask1.asked; outcome = h.outcome; meets = k.meets; memory = memory }) (took few-served t))
+          by-cases (inl (e, memory)) = inr (stops ∙ e)
           by-cases (inr e) = inl (keeps (stops ∙ e) (λ is. fed (ends call) v.result (bytes replied) last e (h.answer ∙ cc is)))
 
       exchanged : Goal
@@ -257,21 +249,15 @@ module _ {Dev : Type 0} (gives : Gives Dev) (call : FrontendCall PlainHandle) (b
           taken-so : Reads event call aw1 (fields_of sent.request) f1 fe3 (Some (answered new.frontend ans)) new.asking → IsTaken call aw1 (fields_of sent.request) f1 fe3 (Some (answered new.frontend ans)) new.asking
           taken-so t = is-taken call aw1 (fields_of sent.request) f1 fe3 (Some (answered new.frontend ans)) asking-whole asking-sound t
 
-          by-cases : IsServed1 ⊎ ServingFaults he1 he2 → TakesResult call aw1 (fields_of sent.request) fe3 f1 ans new.asking new.frontend → Goal
-          by-cases (inr k) (inl t) = serving-fault k (taken-so t)
+          by-cases : IsServed1 ⊎ Faults1 → TakesResult call aw1 (fields_of sent.request) fe3 f1 ans new.asking new.frontend → Goal
+          by-cases (inr k) (inl t) = serving-fault k
           by-cases (inl h) (inl t) = both-served h (taken-so t)
-          by-cases x (inr (same, e, is, fails)) = asking-fault e is (faults fe3 new.asking true e fails asking-whole asking-list)
-
-      -- nothing is in the reply's way
-      none-left : fe2.link.pending ≡ []
-      none-left = (both-empty fe2.ahead fe2.link.pending nothing-left).1
+          by-cases x (inr (same, e, is, fails)) = asking-fault e (faults fe3 new.asking true e fails asking-whole asking-list)
 
     -- a request that was sent: it was served, since nothing was in its way
     sent-out : (x : Exchanged) (new : Parts Dev) → Serves gives call sent (record old { asking = fe1; frontend = f1; awaited = aw1 }) x new → Answers gives (as_view old None) call (answer_of x.answer) (as_view new x.stop)
     sent-out x new (sides.served v) = exchanged (answer_of x.answer) x.stop new v
-    sent-out x new (sides.no_way blocked stops) = absurd (blocked (both-empty old.serving.ahead old.serving.link.pending nothing-asked).1)
-    sent-out x new (sides.no_way_back fe2 he1 there blocked stops) =
-        absurd (blocked (both-empty fe2.ahead fe2.link.pending (kept fe1 old.serving fe2 he1 there ∙ ask1.incoming ∙ nothing-incoming)).1)
+    sent-out x new (sides.no_way v) = inr v.stops
 
   -- ---- a call that was not sent
 
@@ -285,9 +271,9 @@ module _ {Dev : Type 0} (gives : Gives Dev) (call : FrontendCall PlainHandle) (b
     request = is_request ∙ ap text_of sound.no_request;
     reply = ap {A = Parts Dev} (λ p. p.reply) same;
     stopped = refl;
-    in_step = λ last. subst (λ p. InStep p.frontend p.session p.awaited (outgoing p.asking ++ incoming p.serving) (outgoing p.serving ++ incoming p.asking)) (sym same) ready.in_step;
-    no_request = ap {A = Parts Dev} (λ p. outgoing p.asking ++ incoming p.serving) same ∙ ready.in_step.no_request;
-    no_reply = ap {A = Parts Dev} (λ p. outgoing p.serving ++ incoming p.asking) same ∙ ready.in_step.no_reply;
+    in_step = λ last. subst (λ p. InStep p.frontend p.session p.awaited (incoming p.serving ++ outgoing p.asking) (incoming p.asking ++ outgoing p.serving)) (sym same) ready.in_step;
+    no_request = ap {A = Parts Dev} (λ p. incoming p.serving ++ outgoing p.asking) same ∙ ready.in_step.no_request;
+    no_reply = ap {A = Parts Dev} (λ p. incoming p.asking ++ outgoing p.serving) same ∙ ready.in_step.no_reply;
     asking = passed-none old.asking.budget (cuts_of old.asking.link) (cuts_of new.asking.link) (ap {A = Parts Dev} (λ p. cuts_of p.asking.link) same);
     serving = passed-none old.asking.budget (cuts_of old.serving.link) (cuts_of new.serving.link) (ap {A = Parts Dev} (λ p. cuts_of p.serving.link) same);
     fed = λ is. cc is;
@@ -300,7 +286,7 @@ module _ {Dev : Type 0} (gives : Gives Dev) (call : FrontendCall PlainHandle) (b
       u : IsUnasked call old.asking old.frontend old.awaited e asked.asking asked.frontend asked.awaited
       u = is-unasked call old.asking old.frontend old.awaited other sound.asks lists.0 by.asks
 
-      by-cases : ((ask old.frontend call ≡ ask.Refuses (seen e)) × (asked.asking ≡ old.asking)) ⊎ Faults old.asking asked.asking e → Answers gives (as_view old None) call (answer_of x.answer) (as_view new x.stop)
+      by-cases : ((ask old.frontend call ≡ ask.Refuses (seen e)) × (asked.asking ≡ old.asking)) ⊎ (((w : Written FrontendReq PlainHandle) × (aw : Awaited) × (g : Frontend) × (ask old.frontend call ≡ ask.Sends w aw g)) × Faults old.asking asked.asking e) → Answers gives (as_view old None) call (answer_of x.answer) (as_view new x.stop)
       by-cases (inl (refuses, unchanged)) =
           let none : x.stop ≡ None = end.goes_on (ap {A = End} (λ s. s.faulted) unchanged ∙ sound.sound) in
           let here : asked ≡ old = by.same ∙ ap {A = End} (λ s. record old { asking = s; frontend = asked.frontend; awaited = asked.awaited }) unchanged ∙ ap {A = Frontend} (λ g. record old { frontend = g; awaited = asked.awaited }) u.session ∙ ap {A = Awaited} (λ a. record old { awaited = a }) u.awaits in
@@ -309,10 +295,7 @@ module _ {Dev : Type 0} (gives : Gives Dev) (call : FrontendCall PlainHandle) (b
           let is_request : new.request ≡ text_of (outgoing old.asking) = end.request (subst (λ cells. length cells ≤ MAX_MSG_TEXT) (sym gone_none) (omega arith)) ∙ ap {A = End} (λ s. text_of (outgoing s)) unchanged in
           inl (subst (λ t. Keeps gives (as_view old None) call (answer_of x.answer) (as_view new t)) (sym none)
           (subst (λ a. Keeps gives (as_view old None) call a (as_view new None)) (sym end.answer) (refused-here (seen e) new refuses same is_request)))
-      by-cases (inr k) =
-          let why : x.stop ≡ Some Premise = end.stopped k.faulted in
-          let link : new.asking ≡ asked.asking = ap {A = Parts Dev} (λ p. p.asking) end.same in
-          inr (why, joined.unsent k.cause (subst (λ s. Stops old.asking.budget k.cause (cuts_of old.asking.link) (cuts_of s.link)) (sym link) k.stopped) (end.answer ∙ ap {A = declared.Error} {B = Result (Value PlainHandle) Error} (λ x. Err (seen x)) k.error))
+      by-cases (inr (sends, k)) = inr (end.stopped k.faulted)
 
   -- it was answered at once
   at-once : (x : Exchanged) (new : Parts Dev) (flags : ℕ) → call ≡ SetHdrFlags flags → answer_of x.answer ≡ Ok Nothing → x.stop ≡ None

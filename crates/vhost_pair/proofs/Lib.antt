@@ -3,8 +3,10 @@ pub mod Spent
 pub mod Asked
 pub mod Outcomes
 pub mod Calls
+pub mod Handled
 pub mod Served
 pub mod Carrying
+pub mod Moving
 pub mod Exchange
 pub mod Sound
 pub mod Handing

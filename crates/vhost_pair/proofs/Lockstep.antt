@@ -1,8 +1,10 @@
 -- Frontend and handler stay in lockstep.
-use Rattle.std.proofs.Common.{◌≡◌, ℕ, inl, inr, Bool, true, false, cond, List, [], ◌∷◌, Some, None, Result, Ok, Err, refl, sym, ◌∙◌, ap, subst}
+use Rattle.std.proofs.Common.{◌≡◌, ℕ, ◌⊎◌, inl, inr, Bool, true, false, cond, List, [], ◌∷◌, Some, None, Result, Ok, Err, refl, sym, ◌∙◌, ap, subst}
 use Rattle.std.specs.Prelude.{⊤}
 use Rattle.vhost_protocol.specs.Error.{Error}
-use Rattle.vhost_protocol.specs.FrontendCall.{FrontendCall, Value}
+use Rattle.vhost_message.specs.Bits.{has_bit}
+use Rattle.vhost_protocol.specs.Features.{PROTOCOL_FEATURES}
+use Rattle.vhost_protocol.specs.FrontendCall.{FrontendCall, GetFeatures, Number, Value}
 use Rattle.vhost_link.specs.declared.plain.PlainHandle.{PlainHandle}
 use Rattle.vhost_frontend_core.specs.Values.{call_of, answer_of}
 use Rattle.vhost_frontend_core.specs.declared.values.call.FrontendCall as code
@@ -11,13 +13,19 @@ use Rattle.vhost_pair.specs.declared.halt.Halt.{Halt}
 use Rattle.vhost_pair.specs.declared.halt.Halt.TheVariants as halt
 use Rattle.vhost_pair.specs.declared.halt.Stop.{Stop}
 use Rattle.vhost_pair.specs.declared.halt.Stop.TheVariants.{Table, Premise}
-use Rattle.vhost_protocol.specs.Joined.{JoinedRun}
+use Rattle.vhost_protocol.specs.Joined.{JoinedRun, Shown}
 use Rattle.vhost_pair.specs.Device.{Gives, opens_backend, opens_gpu}
-use Rattle.vhost_pair.specs.Joined.{View, IsReady, Offers, Steps, StepsAll, Keeps, Breaks, Answers}
-use Rattle.vhost_pair.specs.Lockstep.{entries, IsPlain, ArePlain, InLockstep, Lockstep}
+use Rattle.vhost_pair.specs.Joined.{View, IsReady, Offers, Moves, Steps, StepsAll, Keeps, Answers}
+use Rattle.vhost_pair.specs.Lockstep.{entries, IsPlain, ArePlain, IsOffered, AreOffered, InLockstep, Lockstep}
 use Rattle.vhost_pair.specs.Sides.{as_view, fresh_parts}
 use Rattle.vhost_link.specs.declared.cut.Cut.{Cut}
-use Rattle.vhost_pair.proofs.Ready.{stays-ready}
+use Rattle.vhost_pair.proofs.Ready.{Reveals, stays-by}
+
+-- what is answered shows the bit
+shown-bit : (bit : Bool) (call : FrontendCall PlainHandle) (result : Result (Value PlainHandle) Error) (shown : Shown PlainHandle) → result ≡ shown.result → IsOffered bit call result
+    → (n : ℕ) → call ≡ GetFeatures → shown.result ≡ Ok (Number n) → has_bit n PROTOCOL_FEATURES ≡ bit
+shown-bit bit call result shown same offered n is answered =
+    subst (λ (r : Result (Value PlainHandle) Error). IsOffered bit GetFeatures r) (same ∙ answered) (subst (λ (c : FrontendCall PlainHandle). IsOffered bit c result) is offered)
 
 -- ---- steps
 
@@ -55,11 +63,15 @@ module _ {Dev : Type 0} (gives : Gives Dev) where
     unanswered old new calls ready going same = inl (unstepped old new calls ready same, λ premise. cc (sym (ap (λ v. v.stopped) same ∙ going) ∙ premise))
 
     -- both sides are ready for the next call
-    pub next-ready : Offers gives bit → (call : FrontendCall PlainHandle) (old mid : View Dev) (result : Result (Value PlainHandle) Error) → IsPlain call → IsReady bit old → (k : Keeps gives old call result mid) → k.shown.last ≡ false
-        → IsReady bit mid
-    next-ready offers call old mid result plain ready k on =
-        let still = stays-ready gives bit offers old.frontend old.session old.device call (k.shown) mid.frontend mid.session mid.device plain (ready.plain, ready.negotiates) k.step in
+    pub next-ready : (call : FrontendCall PlainHandle) (old mid : View Dev) (result : Result (Value PlainHandle) Error) → IsOffered bit call result ⊎ Offers gives bit → IsPlain call → IsReady bit old → (k : Keeps gives old call result mid)
+        → k.shown.last ≡ false → IsReady bit mid
+    next-ready call old mid result offered plain ready k on =
+        let still = stays-by gives bit old.frontend old.session old.device call (k.shown) mid.frontend mid.session mid.device (reveals offered) plain (ready.plain, ready.negotiates) k.step in
         record { in_step = k.in_step on; plain = still.0; negotiates = still.1 }
+      where
+        reveals : IsOffered bit call result ⊎ Offers gives bit → Reveals gives bit old.device call k.shown mid.device
+        reveals (inl offers) = inl (shown-bit bit call result (k.shown) k.answered offers)
+        reveals (inr offers) = inr (offers old.device mid.device)
 
     module _ (old mid new : View Dev) (c : code.FrontendCall) (cs : List code.FrontendCall) (a : FrontendAnswer) (as' : List FrontendAnswer) (k : Keeps gives old (call_of c) (answer_of a) mid) where
       -- a call that kept the protocol, and those behind it
@@ -105,7 +117,7 @@ module _ {Dev : Type 0} (gives : Gives Dev) where
         lockstep = before b.before b.kept b.mid b.lockstep;
         going = b.going;
         stopped = b.stopped;
-        breaks = b.breaks;
+        moves = b.moves;
       })
         where
           before : (ds : List code.FrontendCall) (bs : List FrontendAnswer) (v : View Dev) → InLockstep gives bit mid ds bs v → InLockstep gives bit old (c ∷ ds) (a ∷ bs) v
@@ -117,22 +129,22 @@ module _ {Dev : Type 0} (gives : Gives Dev) where
             no_reply = rest.no_reply;
           }
 
-    stepped : Offers gives bit → (old mid new : View Dev) (c : code.FrontendCall) (cs : List code.FrontendCall) (a : FrontendAnswer) (as' : List FrontendAnswer) (end : Result ⊤ Halt)
-        → IsPlain (call_of c) → IsReady bit old → old.stopped ≡ None → Answers gives old (call_of c) (answer_of a) mid → StepsAll gives mid cs as' end new
+    stepped : (old mid new : View Dev) (c : code.FrontendCall) (cs : List code.FrontendCall) (a : FrontendAnswer) (as' : List FrontendAnswer) (end : Result ⊤ Halt)
+        → IsOffered bit (call_of c) (answer_of a) ⊎ Offers gives bit → IsPlain (call_of c) → IsReady bit old → old.stopped ≡ None → Moves gives old (call_of c) (answer_of a) mid → Answers gives old (call_of c) (answer_of a) mid → StepsAll gives mid cs as' end new
         → (IsReady bit mid → mid.stopped ≡ None → Lockstep gives bit mid cs as' new) → Lockstep gives bit old (c ∷ cs) (a ∷ as') new
-    stepped offers old mid new c cs a as' end plain ready going (inl k) steps behind = by-last (k.shown.last) refl
+    stepped old mid new c cs a as' end offered plain ready going moves (inl k) steps behind = by-last (k.shown.last) refl
       where
         stops : (last : Bool) → k.shown.last ≡ last → mid.stopped ≡ cond last (Some Table) None
         stops last e = k.stopped ∙ ap (λ b. cond b (Some Table) None) e
 
         by-last : (last : Bool) → k.shown.last ≡ last → Lockstep gives bit old (c ∷ cs) (a ∷ as') new
         by-last false e =
-            let next = next-ready offers (call_of c) old mid (answer_of a) plain ready k e in
+            let next = next-ready (call_of c) old mid (answer_of a) offered plain ready k e in
             more old mid new c cs a as' k e next (behind next (stops false e))
         by-last true e =
             let ended = stopped-same mid new cs as' end Table (stops true e) steps in
             inl (in-step-last old mid new c cs a as' k e (stops true e) ended.0 ended.1, λ premise. cc (sym (ap (λ v. v.stopped) ended.0 ∙ stops true e) ∙ premise))
-    stepped offers old mid new c cs a as' end plain ready going (inr (premise, breaks)) steps behind =
+    stepped old mid new c cs a as' end offered plain ready going moves (inr premise) steps behind =
         let ended = stopped-same mid new cs as' end Premise premise steps in
         inr (record {
           before = [];
@@ -146,18 +158,26 @@ module _ {Dev : Type 0} (gives : Gives Dev) where
           lockstep = unstepped old old [] ready refl;
           going = going;
           stopped = ap (λ v. v.stopped) ended.0 ∙ premise;
-          breaks = subst (λ v. Breaks gives old (call_of c) (answer_of a) v) (sym ended.0) breaks;
+          moves = subst (λ v. Moves gives old (call_of c) (answer_of a) v) (sym ended.0) moves;
         })
 
     pub lockstep : (old new : View Dev) (calls : List code.FrontendCall) (answers : List FrontendAnswer) (end : Result ⊤ Halt)
-        → Offers gives bit → IsReady bit old → old.stopped ≡ None → ArePlain calls → StepsAll gives old calls answers end new → Lockstep gives bit old calls answers new
+        → AreOffered bit calls answers ⊎ Offers gives bit → IsReady bit old → old.stopped ≡ None → ArePlain calls → StepsAll gives old calls answers end new → Lockstep gives bit old calls answers new
     lockstep old new [] [] (Ok u) offers ready going plain s = unanswered old new [] ready going s
     lockstep old new [] [] (Err h) offers ready going plain s = absurd s
     lockstep old new [] (a ∷ as') end offers ready going plain s = absurd s
     lockstep old new (c ∷ cs) [] (Ok u) offers ready going plain s = absurd s
     lockstep old new (c ∷ cs) [] (Err h) offers ready going plain s = unanswered old new (c ∷ cs) ready going (halted-same old new c h s)
     lockstep old new (c ∷ cs) (a ∷ as') end offers ready going plain s =
-        stepped offers old s.0 new c cs a as' end plain.0 ready going (s.1.1 bit ready) s.2 (λ next on. lockstep s.0 new cs as' end offers next on plain.1 s.2)
+        stepped old s.0 new c cs a as' end (first offers) plain.0 ready going s.1.1 (s.1.2 bit ready) s.2 (λ next on. lockstep s.0 new cs as' end (later offers) next on plain.1 s.2)
+      where
+        first : AreOffered bit (c ∷ cs) (a ∷ as') ⊎ Offers gives bit → IsOffered bit (call_of c) (answer_of a) ⊎ Offers gives bit
+        first (inl all) = inl all.0
+        first (inr all) = inr all
+
+        later : AreOffered bit (c ∷ cs) (a ∷ as') ⊎ Offers gives bit → AreOffered bit cs as' ⊎ Offers gives bit
+        later (inl all) = inl all.1
+        later (inr all) = inr all
 
 -- a run that begins is ready
 pub begins : {Dev : Type 0} (device : Dev) (queues budget : ℕ) (asking serving : List Cut) (bit : Bool) → IsReady bit (as_view (fresh_parts device queues budget asking serving) None)

@@ -78,7 +78,7 @@ few-replied call r (Replied payload handles) good = few-written (reply_to r payl
 
 module _ {H B G Dev : Type 0} (gives wider : Dev → (c : Call H B G) → Answer c → Dev → Type 0)
     (opens_back : H → Result B Error → Type 0) (opens_display : H → Result G Error → Type 0) (within : (d : Dev) (c : Call H B G) (a : Answer c) (d' : Dev) → gives d c a d' → wider d c a d') where
-  follows-wider : (s : Session) (d : Dev) (step : Step H B G) (o : Outcome H) (d' : Dev) → Follows gives opens_back opens_display s d step o d' → Follows wider opens_back opens_display s d step o d'
+  pub follows-wider : (s : Session) (d : Dev) (step : Step H B G) (o : Outcome H) (d' : Dev) → Follows gives opens_back opens_display s d step o d' → Follows wider opens_back opens_display s d step o d'
   follows-wider s d (Refused r) o d' f = f
   follows-wider s d (Calls c next) o d' f = (f.0, within d c f.0 d' f.1, f.2)
   follows-wider s d (OpensBackend h next) o d' f = (f.0, f.1, follows-wider s d (next f.0) o d' f.2)
@@ -91,6 +91,10 @@ module _ (call : FrontendCall PlainHandle) (proper : IsProper call) (f : Fronten
   sendable =
       let p : IsSendable w = subst (λ (x : Asked PlainHandle). AsksSendable x) asked (sends-whole PlainHandle f call proper.named) in
       record { known = request_of-request_number w.request; code = request-small w.request; allowed = p.allowed; size = p.size }
+
+  -- what the handler wrote for it is short
+  pub few-met : {Dev : Type 0} (gives : Gives Dev) (s : Session) (d d' : Dev) (o : Outcome PlainHandle) → Meets (fitting gives) opens_backend opens_gpu s d (read_as w) o d' → length (cells_of request_number (reply w.request o.served)) ≤ MAX_MSG_TEXT
+  few-met gives s d d' o met = few-replied call w.request o.served (met-good (fitting gives) opens_backend opens_gpu (λ old c a new p. p.1) f s call w awaited g d o d' proper.small asked met)
 
   plainly : IsAwaitedBy call awaited × (w.reply ≡ has_bit f.header_flags 2)
   plainly = subst (λ (x : Asked PlainHandle). AsksPlainly f call x) asked (awaits-shape PlainHandle f call)

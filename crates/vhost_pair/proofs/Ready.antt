@@ -92,7 +92,7 @@ module _ {Dev : Type 0} (gives : Gives Dev) (bit : Bool) where
     sent-ready sent offers ready step = ready-asked (ask f call) ready (sent-with PlainHandle f.header_flags f call sent refl) (calls-negotiate PlainHandle bit f call ready.1) offers step
 
   -- where the answer shows no other features, or the device offers no others
-  abbrev Reveals : Dev → FrontendCall PlainHandle → Shown PlainHandle → Dev → Type 0
+  abbrev pub Reveals : Dev → FrontendCall PlainHandle → Shown PlainHandle → Dev → Type 0
   Reveals d call shown d' = Shows call shown ⊎ ((n : ℕ) → gives d device.GetFeatures (Ok n) d' → has_bit n PROTOCOL_FEATURES ≡ bit)
 
   abbrev result_in : Option (Answered PlainHandle) → Result (Value PlainHandle) Error
@@ -106,7 +106,7 @@ module _ {Dev : Type 0} (gives : Gives Dev) (bit : Bool) where
   revealed s d shown d' g f' (inl shows) (Ok n) given is = shows n refl (sym (ap result_in is))
 
   -- a step of a frontend that is ready leaves it ready
-  stays-by : (f : Frontend) (s : Session) (d : Dev) (call : FrontendCall PlainHandle) (shown : Shown PlainHandle) (f' : Frontend) (s' : Session) (d' : Dev)
+  pub stays-by : (f : Frontend) (s : Session) (d : Dev) (call : FrontendCall PlainHandle) (shown : Shown PlainHandle) (f' : Frontend) (s' : Session) (d' : Dev)
       → Reveals d call shown d' → IsPlain call → IsReadyFrontend f → JoinedStep gives opens_backend opens_gpu f s d call shown f' s' d' → IsReadyFrontend f'
   stays-by f s d call shown f' s' d' shows plain ready step = by-kind (kind-of call)
     where

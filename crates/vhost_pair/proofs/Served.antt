@@ -1,10 +1,7 @@
 -- A request that was served.
-use Rattle.std.proofs.Common.{◌≡◌, ℕ, ◌⊎◌, inl, inr, Bool, true, false, cond, List, [], ◌++◌, ◌≤◌, length, take, Option, Some, None, Result, Ok, Err, arith, refl, sym, ◌∙◌, ap, subst}
-use Rattle.std.specs.Prelude.{⊤}
-use Rattle.std.proofs.lemmas.List.{append-nil, length-take}
-use Rattle.vhost_message.specs.declared.cause.IoCause.{IoCause}
-use Rattle.vhost_message.specs.declared.limits.TheConstants.{MAX_MSG_TEXT}
-use Rattle.vhost_message.specs.Cause.{is_retry}
+use Rattle.std.proofs.Common.{◌≡◌, ◌⊎◌, inl, inr, Bool, true, false, cond, List, [], ◌++◌, Option, Some, None, Result, Ok, Err, refl, sym, ◌∙◌, ap, subst}
+use Rattle.std.specs.Prelude.{⊤, ℕ}
+use Rattle.std.proofs.lemmas.List.{append-nil}
 use Rattle.vhost_message.specs.declared.error.Error as declared
 use Rattle.vhost_message.specs.declared.error.Error.TheVariants as error
 use Rattle.vhost_message.specs.declared.frontend_req.FrontendReq.{FrontendReq}
@@ -19,31 +16,24 @@ use Rattle.vhost_protocol.specs.Session.{Session}
 use Rattle.vhost_protocol.specs.Row.{row}
 use Rattle.vhost_protocol.specs.Split.{split, Message}
 use Rattle.vhost_protocol.specs.Step.{Outcome}
-use Rattle.vhost_protocol.specs.Stream.{Cell, bytes, items}
+use Rattle.vhost_protocol.specs.Stream.{Cell, bytes, has_some}
 use Rattle.vhost_protocol.specs.Written.{Written, written_cells}
 use Rattle.vhost_protocol.proofs.FollowLaws.{followed-mark}
 use Rattle.vhost_protocol.proofs.RowLaws.{rows-keep}
 use Rattle.vhost_protocol.proofs.TextLaws.{IsSendable, written-split}
 use Rattle.vhost_link.specs.declared.plain.PlainHandle.{PlainHandle}
 use Rattle.vhost_link.specs.Mem.{event}
-use Rattle.vhost_link.specs.Law.{Move}
-use Rattle.vhost_connection.specs.Pass.{receives, sends}
-use Rattle.vhost_connection.specs.Hearing.{Hears}
-use Rattle.vhost_connection.specs.Requests as endpoint
-use Rattle.vhost_connection.specs.Talk.{First}
-use Rattle.vhost_connection.proofs.Failing.{fell-talks, refused-taken, trouble-fails}
-use Rattle.vhost_connection.specs.Serving.{Handled, unread, unanswered}
-use Rattle.vhost_connection.proofs.Serving.{Entry, as-entry}
-use Rattle.vhost_backend_req_handler.specs.Serving.{HandlesOne, Breaks, fitting, kept_unsent}
+use Rattle.vhost_connection.specs.Serving.{Handled}
+use Rattle.vhost_backend_req_handler.specs.Serving.{HandlesOne, fitting, kept_unsent}
 use Rattle.vhost_pair.specs.declared.halt.Stop.{Stop}
 use Rattle.vhost_pair.specs.declared.halt.Stop.TheVariants.{Table, Premise}
 use Rattle.vhost_pair.specs.Device.{Gives, opens_backend, opens_gpu}
 use Rattle.vhost_pair.specs.OnWay.{incoming, outgoing}
-use Rattle.vhost_pair.specs.Joined.{Passes, PassesBoth, Stops, StopsReply}
+use Rattle.vhost_pair.specs.Joined.{PassesBoth}
 use Rattle.vhost_pair.specs.Sides.{cuts_of, stop_of}
 use Rattle.vhost_pair.proofs.Asked.{End}
-use Rattle.vhost_pair.proofs.OnWay.{incoming-cut, outgoing-taken}
-use Rattle.vhost_pair.proofs.Spent.{Faults, faults, passes, stops}
+use Rattle.vhost_pair.proofs.Handled as handling
+use Rattle.vhost_pair.proofs.Handled.{Faults}
 
 pub pair-first : {A B : Type 0} {p q : A × B} → p ≡ q → p.0 ≡ q.0
 pair-first {A = A} {B = B} e = ap {A = A × B} (λ x. x.0) e
@@ -51,110 +41,72 @@ pair-first {A = A} {B = B} e = ap {A = A × B} (λ x. x.0) e
 pub pair-second : {A B : Type 0} {p q : A × B} → p ≡ q → p.1 ≡ q.1
 pair-second {A = A} {B = B} e = ap {A = A × B} (λ x. x.1) e
 
--- The handler's link failed: while the request came in, or while the reply went out.
-pub record ServingFaults (he he' : End) : Type 0 where
-  pub cause : IoCause
-  pub stopped : Stops he.budget cause (cuts_of he.link) (cuts_of he'.link) ⊎ StopsReply he.budget cause (cuts_of he.link) (cuts_of he'.link)
-  pub gone : List (Cell PlainHandle)
-  pub sent : outgoing he' ≡ outgoing he ++ gone
-  pub few : length gone ≤ MAX_MSG_TEXT
-  pub faulted : he'.faulted ≡ true
-
 module _ {Dev : Type 0} (gives : Gives Dev) (he he' : End) (s s' : Session) (d d' : Dev) where
-  abbrev pub IsHandled : Result ⊤ Error → Type 0
-  IsHandled r = Entry event request_of allows_handles (λ (t : Session). t.failed) kept_unsent (MeetsRow (fitting gives) opens_backend opens_gpu) he s d r he' s' d'
+  abbrev pub Met : Session → Dev → Message FrontendReq PlainHandle → Result ⊤ Error → List (Cell PlainHandle) → Session → Dev → Type 0
+  Met = MeetsRow (fitting gives) opens_backend opens_gpu
 
-  abbrev Handled1 : Result ⊤ Error → Type 0
-  Handled1 a = Handled event request_of allows_handles (λ (t : Session). t.failed) kept_unsent (MeetsRow (fitting gives) opens_backend opens_gpu) he s d a he' s' d'
+  abbrev pub Handled1 : Result ⊤ Error → Type 0
+  Handled1 a = Handled event request_of allows_handles (λ (t : Session). t.failed) kept_unsent Met he s d a he' s' d'
 
-  abbrev pub PassedBoth : Type 0
-  PassedBoth = PassesBoth he.budget (cuts_of he.link) (cuts_of he'.link)
+  -- the handler's link failed
+  abbrev pub ServingFaults : Type 0
+  ServingFaults = Faults request_of allows_handles (λ (t : Session). t.failed) kept_unsent Met he he' s s' d d'
 
-  -- the reply was stopped once the request had come in
-  stopped-faults : (m : Message FrontendReq PlainHandle) (mid : End) (cells : List (Cell PlainHandle)) (e : declared.Error) → Hears event (split request_of allows_handles) he (Ok m) mid → endpoint.Stops event mid cells e he' → ServingFaults he he'
-  stopped-faults m mid cells e h p =
-      let part : Move PlainHandle = sends (take p.count cells) p.retries in
-      record {
-        cause = p.cause;
-        stopped = inr (record {
-          mid = cuts_of mid.link;
-          request = passes he mid _ _ h.serves;
-          reply = subst (λ n. Stops n p.cause (cuts_of mid.link) (cuts_of he'.link)) h.serves.talks.budget (stops mid he' mid.budget p.cause part p.fell refl p.within p.spent);
-        });
-        gone = take p.count cells;
-        sent = outgoing-taken mid he' _ (fell-talks p.cause p.fell) ∙ ap (λ xs. outgoing mid ++ xs) (refused-taken part p.cause (is_retry p.cause))
-            ∙ ap (λ xs. xs ++ take p.count cells) (outgoing-taken he mid _ h.serves.talks ∙ append-nil (outgoing he));
-        few = rw (length-take p.count cells) (omega (arith, p.few));
-        faulted = p.faulted;
-      }
+  pub split-handled : (r : Result ⊤ declared.Error) → HandlesOne event gives opens_backend opens_gpu he s d r he' s' d' → he.broken ≡ None → he.list ≡ true → Handled1 (seen_result r) ⊎ ServingFaults
+  split-handled = handling.split-handled request_of allows_handles (λ (t : Session). t.failed) kept_unsent Met he he' s s' d d'
 
-  as-unread : (e : declared.Error) → Faults he he' e → ServingFaults he he'
-  as-unread e k = record { cause = k.cause; stopped = inl k.stopped; gone = k.gone; sent = k.sent; few = k.few; faulted = k.faulted }
+  pub faulted-so : ServingFaults → he'.faulted ≡ true
+  faulted-so = handling.faulted-so request_of allows_handles (λ (t : Session). t.failed) kept_unsent Met he he' s s' d d'
 
-  broke-faults : (e : declared.Error) → Breaks event gives opens_backend opens_gpu he s d e he' s' d' → he.broken ≡ None → he.list ≡ true → ServingFaults he he'
-  broke-faults e (unread p same kept) whole list = as-unread e (faults he he' false e (trouble-fails event he First false (receives (items p.cells) p.retries) e he' p.trouble refl refl (omega arith)) whole list)
-  broke-faults e (unanswered m mid h p) whole list = stopped-faults m mid p.written e h p.stops
+  module _ (r : Result ⊤ Error) (h : Handled1 r) where
+    pub handled-first : split request_of allows_handles (incoming he) ≡ (h.heard, incoming he')
+    handled-first = handling.handled-first request_of allows_handles (λ (t : Session). t.failed) kept_unsent Met he he' s s' d d' r h
 
-  -- each of the two messages has its own budget
-  both-passed : {a : Result ⊤ Error} → Handled1 a → PassedBoth
-  both-passed h = record {
-    mid = cuts_of h.mid.link;
-    request = passes he h.mid _ _ h.hears.serves;
-    reply = subst (λ n. Passes n (cuts_of h.mid.link) (cuts_of he'.link)) h.hears.serves.talks.budget (passes h.mid he' _ _ h.replies.serves);
-  }
+    pub handled-written : outgoing he' ≡ outgoing he ++ h.written
+    handled-written = handling.handled-written request_of allows_handles (λ (t : Session). t.failed) kept_unsent Met he he' s s' d d' r h
 
-  pub split-handled : s.failed ≡ None → (r : Result ⊤ declared.Error) → HandlesOne event gives opens_backend opens_gpu he s d r he' s' d' → he.broken ≡ None → he.list ≡ true → (IsHandled (seen_result r) × PassedBoth) ⊎ ServingFaults he he'
-  split-handled alive (Ok u) h whole list = inl (as-entry event request_of allows_handles (λ (t : Session). t.failed) kept_unsent (MeetsRow (fitting gives) opens_backend opens_gpu) he he' s s' d d' _ alive h, both-passed h)
-  split-handled alive (Err e) (inl h) whole list = inl (as-entry event request_of allows_handles (λ (t : Session). t.failed) kept_unsent (MeetsRow (fitting gives) opens_backend opens_gpu) he he' s s' d d' _ alive h, both-passed h)
-  split-handled alive (Err e) (inr k) whole list = inr (broke-faults e k whole list)
+    pub handled-budget : he'.budget ≡ he.budget
+    handled-budget = handling.handled-budget request_of allows_handles (λ (t : Session). t.failed) kept_unsent Met he he' s s' d d' r h
+
+    pub both-passed : (request : List (Cell PlainHandle)) → (has_some request ≡ true → (he.ahead ≡ []) × (incoming he ≡ request) × (incoming he' ≡ [])) → PassesBoth he.budget request h.written (cuts_of he.link) (cuts_of he'.link)
+    both-passed = handling.both-passed request_of allows_handles (λ (t : Session). t.failed) kept_unsent Met he he' s s' d d' r h
 
   -- The request was served.
   pub record IsServed (w : Written FrontendReq PlainHandle) (r : Result ⊤ Error) : Type 0 where
+    pub handled : Handled1 r
     pub outcome : Outcome PlainHandle
     pub meets : Meets (fitting gives) opens_backend opens_gpu s d (read_as w) outcome d'
     pub answer : r ≡ outcome.answer
+    pub wrote : handled.written ≡ cells_of request_number (reply w.request outcome.served)
     pub written : outgoing he' ≡ cells_of request_number (reply w.request outcome.served)
     pub session : s' ≡ outcome.session
     pub nothing : incoming he' ≡ []
-    pub passed : PassedBoth
-    pub broken : he'.broken ≡ None
-    pub faulted : he'.faulted ≡ false
-    pub budget : he'.budget ≡ he.budget
 
-  pub is-served : (w : Written FrontendReq PlainHandle) (r : Result ⊤ Error) → IsSendable request_of allows_handles request_number w → IsHandled r → PassedBoth → incoming he ≡ written_cells request_number w → outgoing he ≡ [] → s.failed ≡ None → IsServed w r
-  is-served w r sendable h passed came clear failed =
-      let sv : run.ServesUnless request_of allows_handles (λ (t : Session). t.failed) (MeetsRow (fitting gives) opens_backend opens_gpu) None s d h.move.handed r h.move.taken s' d' =
-      subst (λ x. run.ServesUnless request_of allows_handles (λ (t : Session). t.failed) (MeetsRow (fitting gives) opens_backend opens_gpu) x s d h.move.handed r h.move.taken s' d') failed h.handles in
-      let cut = incoming-cut he he' h.move h.talks (split request_of allows_handles) sv.1.0 sv.1.1 sv.0 sv.1.2 sv.1.3 in
+  pub is-served : (w : Written FrontendReq PlainHandle) (r : Result ⊤ Error) → IsSendable request_of allows_handles request_number w → Handled1 r → incoming he ≡ written_cells request_number w → outgoing he ≡ [] → IsServed w r
+  is-served w r sendable h came clear =
       let whole = written-split request_of allows_handles request_number w [] sendable in
-      let both = sym cut ∙ ap (λ cells. split request_of allows_handles cells) (came ∙ sym (append-nil (written_cells request_number w))) ∙ whole in
-      let m : MeetsRow (fitting gives) opens_backend opens_gpu s d (read_as w) r h.move.taken s' d' =
-      subst (λ x. run.Handles request_of allows_handles (λ (t : Session). t.failed) (MeetsRow (fitting gives) opens_backend opens_gpu) s d x r h.move.taken s' d') (pair-first both) sv.2 in
+      let both = sym (handled-first r h) ∙ ap (λ cells. split request_of allows_handles cells) (came ∙ sym (append-nil (written_cells request_number w))) ∙ whole in
+      let m : Met s d (read_as w) r h.written s' d' =
+      subst (λ x. run.Handles request_of allows_handles (λ (t : Session). t.failed) Met s d x r h.written s' d') (pair-first both) h.handles in
       record {
+        handled = h;
         outcome = m.0;
         meets = m.1;
         answer = m.2;
-        written = outgoing-taken he he' h.move h.talks ∙ ap (λ xs. xs ++ h.move.taken) clear ∙ m.3;
+        wrote = m.3;
+        written = handled-written r h ∙ ap (λ xs. xs ++ h.written) clear ∙ m.3;
         session = m.4;
         nothing = pair-second both;
-        passed = passed;
-        broken = h.after;
-        faulted = h.faulted;
-        budget = h.talks.budget;
       }
 
--- the mark of a session stays
-module _ {Dev : Type 0} (gives : Gives Dev) (he he' : End) (s s' : Session) (d d' : Dev) where
+  -- the mark of a session stays
   handles-mark : (outcome : Result (Message FrontendReq PlainHandle) Error) (r : Result ⊤ Error) (written : List (Cell PlainHandle))
-      → run.Handles request_of allows_handles (λ (t : Session). t.failed) (MeetsRow (fitting gives) opens_backend opens_gpu) s d outcome r written s' d' → s'.failed ≡ s.failed
+      → run.Handles request_of allows_handles (λ (t : Session). t.failed) Met s d outcome r written s' d' → s'.failed ≡ s.failed
   handles-mark (Err e) r written h = ap {A = Session} (λ t. t.failed) h.2
   handles-mark (Ok m) r written h = ap {A = Session} (λ t. t.failed) h.4 ∙ followed-mark (fitting gives) opens_backend opens_gpu s d (row s m) h.0 d' (rows-keep PlainHandle _ _ m.request s m) h.1
 
-  pub handled-mark : (r : Result ⊤ Error) → Entry event request_of allows_handles (λ (t : Session). t.failed) kept_unsent (MeetsRow (fitting gives) opens_backend opens_gpu) he s d r he' s' d' → s.failed ≡ None → s'.failed ≡ None
-  handled-mark r h failed =
-      let sv : run.ServesUnless request_of allows_handles (λ (t : Session). t.failed) (MeetsRow (fitting gives) opens_backend opens_gpu) None s d h.move.handed r h.move.taken s' d' =
-      subst (λ x. run.ServesUnless request_of allows_handles (λ (t : Session). t.failed) (MeetsRow (fitting gives) opens_backend opens_gpu) x s d h.move.handed r h.move.taken s' d') failed h.handles in
-      handles-mark sv.0 r h.move.taken sv.2 ∙ failed
+  pub handled-mark : (r : Result ⊤ Error) → Handled1 r → s.failed ≡ None → s'.failed ≡ None
+  handled-mark r h failed = handles-mark h.heard r h.written h.handles ∙ failed
 
 -- ---- where a run stops
 

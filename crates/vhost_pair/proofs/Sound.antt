@@ -6,11 +6,13 @@ use Rattle.vhost_message.specs.declared.error.Error as declared
 use Rattle.vhost_message.specs.declared.error.Error.TheVariants as error
 use Rattle.vhost_message.specs.MsgHeader.{fields_of}
 use Rattle.vhost_protocol.specs.AnswerTable.{answered}
-use Rattle.vhost_protocol.specs.Ask.{Refuses, ask}
+use Rattle.vhost_message.specs.declared.frontend_req.FrontendReq.{FrontendReq}
+use Rattle.vhost_protocol.specs.Ask.{Refuses, Sends, ask}
 use Rattle.vhost_protocol.specs.declared.asked.Awaited.{Awaited}
 use Rattle.vhost_protocol.specs.Error.{Error, seen, seen_result}
 use Rattle.vhost_protocol.specs.FrontendCall.{FrontendCall, Value, Frontend}
 use Rattle.vhost_protocol.specs.Session.{Session}
+use Rattle.vhost_protocol.specs.Written.{Written}
 use Rattle.vhost_link.specs.declared.plain.PlainHandle.{PlainHandle}
 use Rattle.vhost_frontend_core.specs.declared.asked.Sent.{Sent}
 use Rattle.vhost_pair.specs.declared.halt.Stop.{Stop}
@@ -20,10 +22,10 @@ use Rattle.vhost_frontend_core.specs.ValueHalves.{TakesResult}
 use Rattle.vhost_pair.specs.OnWay.{outgoing}
 use Rattle.vhost_pair.specs.Text.{no_text}
 use Rattle.vhost_pair.specs.Sides as sides
-use Rattle.vhost_pair.specs.Joined.{PassesBoth}
-use Rattle.vhost_pair.specs.Sides.{Parts, cuts_of, IsSound, HaveLists, ends, stop_of, Served, Serves, EndsUnsent, IsAskedBy, Exchanges}
+use Rattle.vhost_pair.specs.Joined.{ends}
+use Rattle.vhost_pair.specs.Sides.{Parts, IsSound, HaveLists, stop_of, Served, Serves, EndsUnsent, IsAskedBy, Exchanges}
 use Rattle.vhost_pair.proofs.Asked.{End, IsAsked, is-asked, IsUnasked, is-unasked, emptied, held, IsTaken, is-taken}
-use Rattle.vhost_pair.proofs.Served.{ServingFaults, IsHandled, split-handled, handled-mark}
+use Rattle.vhost_pair.proofs.Served.{ServingFaults, Handled1, split-handled, faulted-so, handled-budget, handled-mark}
 use Rattle.vhost_pair.proofs.Spent.{Faults, faults}
 
 module _ {Dev : Type 0} (gives : Gives Dev) (call : FrontendCall PlainHandle) (old : Parts Dev) (sound : IsSound old) (lists : HaveLists old) where
@@ -31,30 +33,30 @@ module _ {Dev : Type 0} (gives : Gives Dev) (call : FrontendCall PlainHandle) (o
 
   module _ (sent : Sent) (fe1 : End) (f1 : Frontend) (aw1 : Awaited) (ask1 : IsAsked call old.asking old.frontend old.awaited sent fe1 f1 aw1)
       (ans : Result (Value PlainHandle) Error) (stop : Option Stop) (new : Parts Dev) (v : Served gives call sent (record old { asking = fe1; frontend = f1; awaited = aw1 }) ans stop new) (on : stop ≡ None) where
-    abbrev IsHandled1 : Type 0
-    IsHandled1 = IsHandled gives v.serving_then v.serving_after old.session new.session old.device new.device (seen_result v.result)
+    abbrev Handled2 : Type 0
+    Handled2 = Handled1 gives v.reached.serving_then v.serving_after old.session new.session old.device new.device (seen_result v.result)
 
     faulted-stops : (new.asking.faulted || new.serving.faulted) ≡ true → ⊥
     faulted-stops faulted = let why = v.stops ∙ ap (λ b. stop_of (ends call) b v.result new.reply.bytes) faulted in absurd (cc (sym why ∙ on))
 
-    handled : IsHandled1
-    handled = by-cases (split-handled gives v.serving_then v.serving_after old.session new.session old.device new.device sound.failed v.result (v.handled sound.failed) (ap {A = End} (λ e. e.broken) v.there.receiver ∙ sound.serves) (ap {A = End} (λ e. e.list) v.there.receiver ∙ lists.1))
+    handled : Handled2
+    handled = by-cases (split-handled gives v.reached.serving_then v.serving_after old.session new.session old.device new.device v.result (v.reached.handled sound.failed) (ap {A = End} (λ e. e.broken) v.reached.there.receiver ∙ sound.serves) (ap {A = End} (λ e. e.list) v.reached.there.receiver ∙ lists.1))
       where
-        by-cases : (IsHandled1 × PassesBoth v.serving_then.budget (cuts_of v.serving_then.link) (cuts_of v.serving_after.link)) ⊎ ServingFaults v.serving_then v.serving_after → IsHandled1
-        by-cases (inl (h, passed)) = h
-        by-cases (inr k) = absurd (faulted-stops (ap (λ b. new.asking.faulted || b) (ap {A = End} (λ e. e.faulted) v.back.sender ∙ k.faulted) ∙ or-true new.asking.faulted))
+        by-cases : Handled2 ⊎ ServingFaults gives v.reached.serving_then v.serving_after old.session new.session old.device new.device → Handled2
+        by-cases (inl h) = h
+        by-cases (inr k) = absurd (faulted-stops (ap (λ b. new.asking.faulted || b) (ap {A = End} (λ e. e.faulted) v.back.sender ∙ faulted-so gives v.reached.serving_then v.serving_after old.session new.session old.device new.device k) ∙ or-true new.asking.faulted))
 
     taken : IsTaken call sent.awaited (fields_of sent.request) f1 v.asking_after (Some (answered new.frontend ans)) new.asking
     taken = by-cases v.takes
       where
         whole : v.asking_after.broken ≡ None
-        whole = ap {A = End} (λ e. e.broken) v.back.receiver ∙ ap {A = End} (λ e. e.broken) v.there.sender ∙ ask1.broken
+        whole = ap {A = End} (λ e. e.broken) v.back.receiver ∙ ap {A = End} (λ e. e.broken) v.reached.there.sender ∙ ask1.broken
 
         faultless : v.asking_after.faulted ≡ false
-        faultless = ap {A = End} (λ e. e.faulted) v.back.receiver ∙ ap {A = End} (λ e. e.faulted) v.there.sender ∙ ask1.faulted
+        faultless = ap {A = End} (λ e. e.faulted) v.back.receiver ∙ ap {A = End} (λ e. e.faulted) v.reached.there.sender ∙ ask1.faulted
 
         list : v.asking_after.list ≡ true
-        list = ap {A = End} (λ e. e.list) v.back.receiver ∙ ap {A = End} (λ e. e.list) v.there.sender ∙ ask1.list
+        list = ap {A = End} (λ e. e.list) v.back.receiver ∙ ap {A = End} (λ e. e.list) v.reached.there.sender ∙ ask1.list
 
         by-cases : TakesResult call sent.awaited (fields_of sent.request) v.asking_after f1 ans new.asking new.frontend
             → IsTaken call sent.awaited (fields_of sent.request) f1 v.asking_after (Some (answered new.frontend ans)) new.asking
@@ -66,21 +68,20 @@ module _ {Dev : Type 0} (gives : Gives Dev) (call : FrontendCall PlainHandle) (o
     sound-served : IsSound new
     sound-served = record {
       asks = taken.broken;
-      serves = ap {A = End} (λ e. e.broken) v.back.sender ∙ handled.after;
+      serves = ap {A = End} (λ e. e.broken) v.back.sender ∙ handled.replies.serves.after;
       sound = taken.faulted;
-      budget = ap {A = End} (λ e. e.budget) v.back.sender ∙ handled.talks.budget ∙ ap {A = End} (λ e. e.budget) v.there.receiver ∙ sound.budget
-          ∙ sym (taken.budget ∙ ap {A = End} (λ e. e.budget) v.back.receiver ∙ ap {A = End} (λ e. e.budget) v.there.sender ∙ ask1.budget);
-      failed = handled-mark gives v.serving_then v.serving_after old.session new.session old.device new.device (seen_result v.result) handled sound.failed;
+      budget = ap {A = End} (λ e. e.budget) v.back.sender ∙ handled-budget gives v.reached.serving_then v.serving_after old.session new.session old.device new.device (seen_result v.result) handled ∙ ap {A = End} (λ e. e.budget) v.reached.there.receiver ∙ sound.budget
+          ∙ sym (taken.budget ∙ ap {A = End} (λ e. e.budget) v.back.receiver ∙ ap {A = End} (λ e. e.budget) v.reached.there.sender ∙ ask1.budget);
+      failed = handled-mark gives v.reached.serving_then v.serving_after old.session new.session old.device new.device (seen_result v.result) handled sound.failed;
       nobody = v.quiet;
-      no_request = taken.outgoing ∙ held v.serving_after v.asking_then new.serving v.asking_after v.back ∙ emptied fe1 old.serving v.asking_then v.serving_then v.there;
+      no_request = taken.outgoing ∙ held v.serving_after v.asking_then new.serving v.asking_after v.back ∙ emptied fe1 old.serving v.asking_then v.reached.serving_then v.reached.there;
       no_reply = emptied v.serving_after v.asking_then new.serving v.asking_after v.back;
     }
 
   sound-sent : (sent : Sent) (fe1 : End) (f1 : Frontend) (aw1 : Awaited) → IsAsked call old.asking old.frontend old.awaited sent fe1 f1 aw1 → (x : Exchanged) (new : Parts Dev)
       → Serves gives call sent (record old { asking = fe1; frontend = f1; awaited = aw1 }) x new → x.stop ≡ None → IsSound new
   sound-sent sent fe1 f1 aw1 ask1 x new (sides.served v) on = sound-served sent fe1 f1 aw1 ask1 _ x.stop new v on
-  sound-sent sent fe1 f1 aw1 ask1 x new (sides.no_way blocked stops) on = absurd (cc (sym stops ∙ on))
-  sound-sent sent fe1 f1 aw1 ask1 x new (sides.no_way_back fe2 he1 there blocked stops) on = absurd (cc (sym stops ∙ on))
+  sound-sent sent fe1 f1 aw1 ask1 x new (sides.no_way v) on = absurd (cc (sym v.stops ∙ on))
 
   -- ---- a call that was not sent
 
@@ -106,11 +107,11 @@ module _ {Dev : Type 0} (gives : Gives Dev) (call : FrontendCall PlainHandle) (o
       same : new ≡ record asked { request = new.request; reply = no_text }
       same = end.same
 
-      by-cases : ((ask old.frontend call ≡ Refuses (seen e)) × (asked.asking ≡ old.asking)) ⊎ Faults old.asking asked.asking e → IsSound new
+      by-cases : ((ask old.frontend call ≡ Refuses (seen e)) × (asked.asking ≡ old.asking)) ⊎ (((w : Written FrontendReq PlainHandle) × (aw : Awaited) × (g : Frontend) × (ask old.frontend call ≡ Sends w aw g)) × Faults old.asking asked.asking e) → IsSound new
       by-cases (inl (refuses, unchanged)) = still-sound new (ap {A = Parts Dev} (λ p. p.asking) same ∙ unchanged)
           (ap {A = Parts Dev} (λ p. p.serving) same ∙ ap {A = Parts Dev} (λ p. p.serving) by.same) (ap {A = Parts Dev} (λ p. p.session) same ∙ ap {A = Parts Dev} (λ p. p.session) by.same)
           (ap {A = Parts Dev} (λ p. p.awaited) same ∙ u.awaits)
-      by-cases (inr k) = absurd (cc (sym (end.stopped k.faulted) ∙ on))
+      by-cases (inr (sends, k)) = absurd (cc (sym (end.stopped k.faulted) ∙ on))
 
   -- ---- whatever became of a call that did not stop the run
 

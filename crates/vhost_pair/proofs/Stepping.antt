@@ -8,11 +8,12 @@ use Rattle.vhost_pair.specs.declared.halt.Halt.TheVariants as halt
 use Rattle.vhost_pair.specs.declared.halt.Stop.{Stop}
 use Rattle.vhost_pair.specs.declared.sides.Exchanged.{Exchanged}
 use Rattle.vhost_pair.specs.Device.{Gives}
-use Rattle.vhost_pair.specs.Joined.{View, IsReady, Steps, Answers}
+use Rattle.vhost_pair.specs.Joined.{View, IsReady, Moves, Steps, Answers}
 use Rattle.vhost_pair.specs.Sides as sides
 use Rattle.vhost_pair.specs.Sides.{Parts, as_view, IsSound, HaveLists, Exchanges}
 use Rattle.vhost_pair.proofs.Asked.{End}
 use Rattle.vhost_pair.proofs.Exchange.{answers-so}
+use Rattle.vhost_pair.proofs.Moving.{moves-so}
 use Rattle.vhost_pair.proofs.Sound.{stays-sound}
 
 module _ {Dev : Type 0} (gives : Gives Dev) (call : FrontendCall PlainHandle) (old mid : Parts Dev) (asking : mid.asking ≡ record old.asking { list = mid.asking.list }) (serving : mid.serving ≡ record old.serving { list = mid.serving.list })
@@ -43,6 +44,7 @@ module _ {Dev : Type 0} (gives : Gives Dev) (call : FrontendCall PlainHandle) (o
   pub steps-so : (x : Exchanged) (new : Parts Dev) (stopped : Option Stop) → stopped ≡ None → IsSound old → HaveLists mid → Exchanges gives call mid (Ok x) new → Steps gives (as_view old stopped) call (Ok x.answer) (as_view new x.stop)
   steps-so x new stopped none sound lists done = (
     none,
+    subst (λ v. Moves gives v call (answer_of x.answer) (as_view new x.stop)) (same-view None ∙ ap {A = Option Stop} {B = View Dev} (λ s. as_view old s) (sym none)) (moves-so gives call mid (still-sound sound) lists done),
     λ bit ready. subst (λ v. Answers gives v call (answer_of x.answer) (as_view new x.stop)) (same-view None ∙ ap {A = Option Stop} {B = View Dev} (λ s. as_view old s) (sym none))
         (answers-so gives call bit mid (still-sound sound) lists (subst (λ v. IsReady bit v) (ap {A = Option Stop} {B = View Dev} (λ s. as_view old s) none ∙ sym (same-view None)) ready) done),
   )

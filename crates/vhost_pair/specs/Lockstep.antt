@@ -1,8 +1,9 @@
 -- Frontend and handler in lockstep: what a joined run is worth.
-use Rattle.std.specs.Prelude.{◌≡◌, ◌⊎◌, List, [], ◌∷◌, ◌++◌, Bool, Some, None, true, false, Result, Err, ⊤}
+use Rattle.std.specs.Prelude.{◌≡◌, ◌⊎◌, List, [], ◌∷◌, ◌++◌, Bool, Some, None, true, false, Result, Ok, Err, ⊤}
 use Rattle.vhost_message.specs.Bits.{has_bit}
 use Rattle.vhost_protocol.specs.Error.{Error}
-use Rattle.vhost_protocol.specs.FrontendCall.{FrontendCall, SetHdrFlags, Value}
+use Rattle.vhost_protocol.specs.Features.{PROTOCOL_FEATURES}
+use Rattle.vhost_protocol.specs.FrontendCall.{FrontendCall, GetFeatures, SetHdrFlags, Value, Number}
 use Rattle.vhost_protocol.specs.Joined.{JoinedRun}
 use Rattle.vhost_link.specs.declared.plain.PlainHandle.{PlainHandle}
 use Rattle.vhost_frontend_core.specs.declared.values.call.FrontendCall as code
@@ -12,7 +13,7 @@ use Rattle.vhost_pair.specs.declared.halt.Halt.{Halt}
 use Rattle.vhost_pair.specs.declared.halt.Halt.TheVariants as halt
 use Rattle.vhost_pair.specs.declared.halt.Stop.TheVariants.{Premise}
 use Rattle.vhost_pair.specs.Device.{Gives, opens_backend, opens_gpu}
-use Rattle.vhost_pair.specs.Joined.{View, IsReady, Offers, Keeps, Breaks, StepsAll}
+use Rattle.vhost_pair.specs.Joined.{View, IsReady, Offers, Keeps, Moves, StepsAll}
 
 -- the calls that were answered, with their answers
 abbrev pub entries : List code.FrontendCall → List FrontendAnswer → List (FrontendCall PlainHandle × Result (Value PlainHandle) Error)
@@ -28,6 +29,16 @@ IsPlain _ = ⊤
 abbrev pub ArePlain : List code.FrontendCall → Type 0
 ArePlain [] = ⊤
 ArePlain (c ∷ cs) = IsPlain (call_of c) × ArePlain cs
+
+-- if the answer shows the features of the device, they have the bit of protocol features, or have it not
+abbrev pub IsOffered : Bool → FrontendCall PlainHandle → Result (Value PlainHandle) Error → Type 0
+IsOffered bit GetFeatures (Ok (Number n)) = has_bit n PROTOCOL_FEATURES ≡ bit
+IsOffered bit _ _ = ⊤
+
+-- the same of the answers of many calls
+abbrev pub AreOffered : Bool → List code.FrontendCall → List FrontendAnswer → Type 0
+AreOffered bit (c ∷ cs) (a ∷ as') = IsOffered bit (call_of c) (answer_of a) × AreOffered bit cs as'
+AreOffered bit _ _ = ⊤
 
 module _ {Dev : Type 0} (gives : Gives Dev) (bit : Bool) where
   -- Answered calls one after another, each of which keeps the protocol. Both sides are in step after each but the last step, and behind that there is none.
@@ -58,17 +69,17 @@ module _ {Dev : Type 0} (gives : Gives Dev) (bit : Bool) where
     pub lockstep : InLockstep old before kept mid
     pub going : mid.stopped ≡ None
     pub stopped : new.stopped ≡ Some Premise
-    pub breaks : Breaks gives mid (call_of call) (answer_of answer) new
+    pub moves : Moves gives mid (call_of call) (answer_of answer) new
 
   -- Frontend and handler are in lockstep; or they were up to the last answered call, where a premise failed.
   abbrev pub Lockstep : View Dev → List code.FrontendCall → List FrontendAnswer → View Dev → Type 0
   Lockstep old calls answers new = (InLockstep old calls answers new × (new.stopped ≡ Some Premise → ⊥)) ⊎ BrokeAtLast old calls answers new
 
--- The headline, the contract of `Joined::run`: for every device, every list of calls and every pair of scripts. Where all features that the device offers agree on protocol
--- features, no request is sent as a reply, and both sides were in step, they are in lockstep.
+-- The headline, the contract of `Joined::run`: for every device, every list of calls and every pair of scripts. Where all features that were answered agree on protocol
+-- features (or all that the device could answer do), no request is sent as a reply, and both sides were in step, they are in lockstep.
 -- Whatever was before: the answers are appended, each call is a step, and where there is no room for the answers, no call is done.
 pub record RunsCalls {Dev : Type 0} (gives : Gives Dev) (old : View Dev) (calls : List code.FrontendCall) (before : List FrontendAnswer) (result : Result ⊤ Halt) (after : List FrontendAnswer) (new : View Dev) : Type 0 where
   pub answers : List FrontendAnswer
   pub appended : after ≡ before ++ answers
   pub steps : StepsAll gives old calls answers result new ⊎ ((result ≡ Err halt.OutOfMemory) × (answers ≡ []) × (new ≡ old))
-  pub lockstep : (bit : Bool) → Offers gives bit → IsReady bit old → old.stopped ≡ None → ArePlain calls → Lockstep gives bit old calls answers new
+  pub lockstep : (bit : Bool) → AreOffered bit calls answers ⊎ Offers gives bit → IsReady bit old → old.stopped ≡ None → ArePlain calls → Lockstep gives bit old calls answers new

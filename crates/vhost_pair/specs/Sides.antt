@@ -1,11 +1,12 @@
 -- Both sides of a joined run, as contracts see them, and one exchange between them.
-use Rattle.std.specs.Prelude.{◌≡◌, ℕ, ◌≤◌, List, [], ◌++◌, length, Option, Some, None, Bool, true, false, ◌||◌, Result, Ok, Err, ⊤}
+use Rattle.std.specs.Prelude.{◌≡◌, ℕ, ◌≤◌, List, [], ◌++◌, ◌⊎◌, length, Option, Some, None, Bool, true, false, ◌||◌, Result, Ok, Err, ⊤}
 use Rattle.vhost_message.specs.declared.error.Error as declared
 use Rattle.vhost_message.specs.declared.error.Error.TheVariants.{OutOfMemory}
 use Rattle.vhost_message.specs.MsgHeader.{fields_of}
 use Rattle.vhost_message.specs.declared.limits.TheConstants.{MAX_MSG_TEXT}
+use Rattle.vhost_protocol.specs.Error as protocol
 use Rattle.vhost_protocol.specs.Error.{Error, seen}
-use Rattle.vhost_protocol.specs.FrontendCall.{FrontendCall, PostcopyEnd, SetHdrFlags, Value, Nothing, Frontend, new_frontend}
+use Rattle.vhost_protocol.specs.FrontendCall.{FrontendCall, SetHdrFlags, Value, Nothing, Frontend, new_frontend}
 use Rattle.vhost_protocol.specs.Ask.{ask}
 use Rattle.vhost_protocol.specs.declared.asked.Awaited.{Awaited}
 use Rattle.vhost_protocol.specs.declared.asked.Awaited.TheVariants.{Nobody}
@@ -30,7 +31,7 @@ use Rattle.vhost_pair.specs.declared.sides.Sides.{Sides}
 use Rattle.vhost_frontend_core.specs.Values.{answer_of}
 use Rattle.vhost_pair.specs.Device.{Gives, opens_backend, opens_gpu}
 use Rattle.vhost_frontend_core.specs.ValueHalves.{IsProper, TakesResult}
-use Rattle.vhost_pair.specs.Joined.{View, Cuts}
+use Rattle.vhost_pair.specs.Joined.{View, Cuts, ends}
 use Rattle.vhost_pair.specs.OnWay.{incoming, outgoing, Carries}
 use Rattle.vhost_pair.specs.Text.{Text, text_of, no_text}
 use Rattle.vhost_pair.specs.Wire.{text_in}
@@ -74,7 +75,7 @@ fresh_parts device queues budget asking serving = record {
 
 -- what a caller of a joined run sees of a link
 abbrev pub cuts_of : Ends → Cuts
-cuts_of l = record { script = l.script; starved = l.starved }
+cuts_of l = record { script = l.script; wants = l.wants }
 
 -- what it sees of both sides
 abbrev pub as_view : {Dev : Type 0} → Parts Dev → Option Stop → View Dev
@@ -83,8 +84,8 @@ as_view p stopped = record {
   awaited = p.awaited;
   session = p.session;
   device = p.device;
-  to_handler = outgoing p.asking ++ incoming p.serving;
-  to_frontend = outgoing p.serving ++ incoming p.asking;
+  to_handler = incoming p.serving ++ outgoing p.asking;
+  to_frontend = incoming p.asking ++ outgoing p.serving;
   asking = cuts_of p.asking.link;
   serving = cuts_of p.serving.link;
   budget = p.asking.budget;
@@ -107,11 +108,6 @@ pub record IsSound {Dev : Type 0} (p : Parts Dev) : Type 0 where
 -- both endpoints have their lists of handles
 abbrev pub HaveLists : {Dev : Type 0} → Parts Dev → Type 0
 HaveLists p = (p.asking.list ≡ true) × (p.serving.list ≡ true)
-
--- the call that ends postcopy
-abbrev pub ends : {H : Type 0} → FrontendCall H → Bool
-ends PostcopyEnd = true
-ends _ = false
 
 -- why a run stops: one of the endpoints met a fault, or there was no memory; or the handler erred in silence, or at the end of postcopy
 abbrev pub stop_of : (ends faulted : Bool) → Result ⊤ declared.Error → List ℕ → Option Stop
@@ -137,49 +133,58 @@ pub record IsAskedBy {Dev : Type 0} (call : FrontendCall PlainHandle) (old : Par
   pub same : asked ≡ record old { asking = asked.asking; frontend = asked.frontend; awaited = asked.awaited }
 
 module _ {Dev : Type 0} (gives : Gives Dev) where
-  -- What the frontend sent is carried to the handler, which serves it, and what the handler sent is carried back.
+  -- What the frontend sent is carried to the handler, which serves it.
+  pub record Reached (old : Parts Dev) (result : Result ⊤ declared.Error) (asking_then serving_after : State Ends PlainHandle) (reply : Text) (session : Session) (device : Dev) : Type 0 where
+    -- the handler's endpoint once the request was carried
+    pub serving_then : State Ends PlainHandle
+    pub there : Carries old.asking old.serving asking_then serving_then
+    pub handled : old.session.failed ≡ None → HandlesOne event gives opens_backend opens_gpu serving_then old.session old.device result serving_after session device
+    pub copied : length (outgoing serving_after) ≤ MAX_MSG_TEXT → reply ≡ text_of (outgoing serving_after)
+
+  -- What the frontend sent was served, and what the handler sent is carried back.
   pub record HandedOver (old : Parts Dev) (result : Result ⊤ declared.Error) (new : Parts Dev) : Type 0 where
     -- the endpoints once the request was carried, and the handler's once it was served
     pub asking_then : State Ends PlainHandle
-    pub serving_then : State Ends PlainHandle
-    pub there : Carries old.asking old.serving asking_then serving_then
     pub serving_after : State Ends PlainHandle
-    pub handled : old.session.failed ≡ None → HandlesOne event gives opens_backend opens_gpu serving_then old.session old.device result serving_after new.session new.device
+    pub reached : Reached old result asking_then serving_after new.reply new.session new.device
     pub back : Carries serving_after asking_then new.serving new.asking
-    pub reply : length (outgoing serving_after) ≤ MAX_MSG_TEXT → new.reply ≡ text_of (outgoing serving_after)
     pub same : new ≡ record old { asking = new.asking; serving = new.serving; session = new.session; device = new.device; reply = new.reply }
 
   -- The same; or the request found no room where the handler had more to receive, or the reply where the frontend had.
   pub data HandsOver (old : Parts Dev) : Option (Result ⊤ declared.Error) → Parts Dev → Type 0 where
     handed : {result : Result ⊤ declared.Error} {new : Parts Dev} → HandedOver old result new → HandsOver old (Some result) new
-    no_room_there : {new : Parts Dev} → (old.serving.link.pending ≡ [] → ⊥) → HandsOver old None new
-    no_room_back : {new : Parts Dev} (asking_then serving_then : State Ends PlainHandle) → Carries old.asking old.serving asking_then serving_then
-        → (asking_then.link.pending ≡ [] → ⊥) → HandsOver old None new
+    no_room_there : {new : Parts Dev} → (old.serving.link.pending ≡ [] → ⊥) → new ≡ record old { reply = no_text } → HandsOver old None new
+    no_room_back : {new : Parts Dev} (result : Result ⊤ declared.Error) → Reached old result new.asking new.serving new.reply new.session new.device → (new.asking.link.pending ≡ [] → ⊥)
+        → new ≡ record old { asking = new.asking; serving = new.serving; session = new.session; device = new.device; reply = new.reply } → HandsOver old None new
 
 module _ {Dev : Type 0} (gives : Gives Dev) (call : FrontendCall PlainHandle) where
   -- A request that was sent is carried to the handler, which serves it; what the handler wrote is carried back, and the frontend takes its answer.
   pub record Served (sent : Sent) (old : Parts Dev) (answer : Result (Value PlainHandle) Error) (stop : Option Stop) (new : Parts Dev) : Type 0 where
-    -- the endpoints once the request was carried, once it was served, and once the reply was carried
+    -- the frontend's endpoint once the request was carried, and once the reply was; the handler's once it was served
     pub asking_then : State Ends PlainHandle
-    pub serving_then : State Ends PlainHandle
-    pub there : Carries old.asking old.serving asking_then serving_then
     pub result : Result ⊤ declared.Error
     pub serving_after : State Ends PlainHandle
-    pub handled : old.session.failed ≡ None → HandlesOne event gives opens_backend opens_gpu serving_then old.session old.device result serving_after new.session new.device
+    pub reached : Reached gives old result asking_then serving_after new.reply new.session new.device
     pub asking_after : State Ends PlainHandle
     pub back : Carries serving_after asking_then new.serving asking_after
     pub takes : TakesResult call sent.awaited (fields_of sent.request) asking_after old.frontend answer new.asking new.frontend
     pub quiet : new.awaited ≡ Nobody
     pub request : length (outgoing old.asking) ≤ MAX_MSG_TEXT → new.request ≡ text_of (outgoing old.asking)
-    pub reply : length (outgoing serving_after) ≤ MAX_MSG_TEXT → new.reply ≡ text_of (outgoing serving_after)
     pub stops : stop ≡ stop_of (ends call) (new.asking.faulted || new.serving.faulted) result new.reply.bytes
 
-  -- The same; or the request found no room where the handler had more to receive, or the reply where the frontend had.
+  -- There was no room on the way: where the handler had more to receive, or the frontend.
+  pub record FoundNoRoom (old : Parts Dev) (given : Result (Value PlainHandle) Error) (stop : Option Stop) (new : Parts Dev) : Type 0 where
+    pub answer : given ≡ Err protocol.OutOfMemory
+    pub stops : stop ≡ Some Premise
+    pub request : length (outgoing old.asking) ≤ MAX_MSG_TEXT → new.request ≡ text_of (outgoing old.asking)
+    pub place : ((old.serving.link.pending ≡ [] → ⊥) × (new ≡ record old { request = new.request; reply = no_text }))
+        ⊎ ((result : Result ⊤ declared.Error) × Reached gives old result new.asking new.serving new.reply new.session new.device × (new.asking.link.pending ≡ [] → ⊥)
+        × (new ≡ record old { asking = new.asking; serving = new.serving; session = new.session; device = new.device; request = new.request; reply = new.reply }))
+
+  -- one of the two
   pub data Serves (sent : Sent) (old : Parts Dev) : Exchanged → Parts Dev → Type 0 where
     served : {x : Exchanged} {new : Parts Dev} → Served sent old (answer_of x.answer) x.stop new → Serves sent old x new
-    no_way : {x : Exchanged} {new : Parts Dev} → (old.serving.link.pending ≡ [] → ⊥) → x.stop ≡ Some Premise → Serves sent old x new
-    no_way_back : {x : Exchanged} {new : Parts Dev} (asking_then serving_then : State Ends PlainHandle) → Carries old.asking old.serving asking_then serving_then
-        → (asking_then.link.pending ≡ [] → ⊥) → x.stop ≡ Some Premise → Serves sent old x new
+    no_way : {x : Exchanged} {new : Parts Dev} → FoundNoRoom old (answer_of x.answer) x.stop new → Serves sent old x new
 
   -- one call: it was answered at once; or it was not sent; or it was sent and served; or there was no room for its answer, and nothing changed
   pub data Exchanges (old : Parts Dev) : Result Exchanged Halt → Parts Dev → Type 0 where

@@ -4,7 +4,7 @@ ghost use Rattle.std.specs.Prelude.{◌≡◌, ◌||◌, Some, None, Ok, IfOk, I
 ghost use Rattle.vhost_message.specs.declared.error.Error.TheVariants.{OutOfMemory};
 ghost use Rattle.vhost_frontend_core.specs.Values.{call_of, answer_of};
 ghost use Rattle.vhost_pair.specs.Lists.{IsListedFor};
-ghost use Rattle.vhost_pair.specs.Sides.{ends};
+ghost use Rattle.vhost_pair.specs.Joined.{ends};
 ghost use Rattle.vhost_protocol.specs.declared.asked.Awaited.TheVariants.{Nobody};
 ghost use Rattle.vhost_pair.specs.declared.halt.Stop.TheVariants.{Premise};
 
@@ -162,14 +162,13 @@ impl<D: VhostUserBackendReqHandlerMut<Link = MemLink>> Sides<D> {
         ensures listed { IsListedFor (call_of call.now) (answer_of result.answer) }
     {
         copy_request(&mut self.frontend, &mut self.request);
-        let served = self.hand_over();
-        let answer = take(&mut self.frontend, call, sent);
-        let Some(served) = served else {
+        let Some(served) = self.hand_over() else {
             return Exchanged {
-                answer,
+                answer: FrontendAnswer::Failed(Error::OutOfMemory),
                 stop: Some(Stop::Premise),
             };
         };
+        let answer = take(&mut self.frontend, call, sent);
         let stop = self.stop_after(call, &served);
         Exchanged { answer, stop }
     }

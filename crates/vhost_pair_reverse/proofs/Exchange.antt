@@ -1,8 +1,9 @@
 -- What an exchange is worth, where both sides were sound.
-use Rattle.std.proofs.Common.{◌≡◌, ℕ, ◌⊎◌, inl, inr, Bool, true, false, List, [], ◌++◌, ◌≤◌, length, Option, Some, None, Result, Ok, Err, refl, sym, ◌∙◌, ap, subst}
+use Rattle.std.proofs.Common.{◌≡◌, ℕ, ◌⊎◌, inl, inr, Bool, true, false, List, [], ◌++◌, ◌≤◌, length, Option, Some, None, Result, Ok, Err, arith, refl, sym, ◌∙◌, ap, subst}
 use Rattle.std.specs.Prelude.{◌||◌, ◌&&◌, if◌then◌else◌, is_err}
 use Rattle.std.proofs.Math.Bool.{or-true}
-use Rattle.vhost_message.specs.BackendReq.{backend_request_number}
+use Rattle.std.proofs.lemmas.List.{length-take}
+use Rattle.vhost_message.specs.BackendReq.{backend_request_of, backend_request_number}
 use Rattle.vhost_message.specs.Bits.{has_bit}
 use Rattle.vhost_message.specs.declared.backend_req.BackendReq.{BackendReq}
 use Rattle.vhost_message.specs.declared.error.Error as declared
@@ -14,7 +15,9 @@ use Rattle.vhost_protocol.specs.Error.{seen, seen_result}
 use Rattle.vhost_protocol.specs.IoError.{IoError, Of, seen_io_result}
 use Rattle.vhost_protocol.specs.Joined.{is_silent, read_as}
 use Rattle.vhost_protocol.specs.JoinedReverse.{Asks, ReverseInStep, ReverseShown, ReverseExchanges}
-use Rattle.vhost_protocol.specs.Reverse.{ReverseCall, Server, Sends, reverse_ask, reverse_take, ReverseOutcome, ReverseFollows, reverse_row, is_reverse_last}
+use Rattle.vhost_protocol.specs.Reverse.{ReverseCall, Server, Sends, reverse_ask, reverse_take, ReverseOutcome, ReverseFollows, reverse_row, is_reverse_last, backend_allows_handles}
+use Rattle.vhost_protocol.proofs.TextLaws.{IsSendable}
+use Rattle.vhost_frontend_req_handler.specs.Handling.{fitting}
 use Rattle.vhost_protocol.specs.ReverseLaws.{IsAnswered}
 use Rattle.vhost_protocol.specs.Served.{Served, Silent, Replied, reply, cells_of}
 use Rattle.vhost_protocol.specs.Stream.{Cell, bytes}
@@ -32,13 +35,13 @@ use Rattle.vhost_pair.specs.Sides.{cuts_of}
 use Rattle.vhost_pair.specs.Text.{Text, text_of}
 use Rattle.vhost_pair.proofs.Asked.{End, both-empty, arrived, emptied, kept, held, sender-cuts, receiver-cuts}
 use Rattle.vhost_pair.proofs.OnWay.{incoming-handed, outgoing-taken}
-use Rattle.vhost_pair.proofs.Served.{pair-first, pair-second, ServingFaults, last_stop}
-use Rattle.vhost_pair.proofs.Spent.{Faults, faults, passes}
+use Rattle.vhost_pair.proofs.Served.{pair-first, pair-second, last_stop}
+use Rattle.vhost_pair.proofs.Spent.{Faults, faults, sent-passes}
 use Rattle.vhost_pair_reverse.specs.Joined as joined
-use Rattle.vhost_pair_reverse.specs.Joined.{Gives, View, Took, Keeps, Answers}
+use Rattle.vhost_pair_reverse.specs.Joined.{Gives, Keeps, Answers}
 use Rattle.vhost_pair_reverse.specs.Sides.{Parts, as_view, to_server, to_backend, IsSound, HaveLists, HandedOver, stop_of}
 use Rattle.vhost_pair_reverse.proofs.Messages.{sendable, few-written, few-answered, answers-number, answered-so, follows-plainly, served-taken, IsNumber}
-use Rattle.vhost_pair_reverse.proofs.Served.{IsHandled, split-handled, IsServed, is-served}
+use Rattle.vhost_pair_reverse.proofs.Served.{Handled1, ServingFaults, split-handled, faulted-so, IsServed, is-served, IsUnserved, unread, unanswered, is-unserved, both-passed, served-budget}
 use Rattle.vhost_pair_reverse.proofs.Taken.{IsTaken, Lost, taken-or-lost}
 
 -- a request is no reply
@@ -97,21 +100,32 @@ module _ {Dev : Type 0} (gives : Gives Dev) (call : ReverseCall PlainHandle) (pr
       abbrev after : Parts Dev
       after = record mid { channel = record mid.channel { endpoint = fe4 } }
 
+      sent_well : IsSendable backend_request_of backend_allows_handles backend_request_number w
+      sent_well = (sendable (backend_of old.channel) call proper w awaited asked).0
+
       came : incoming he1 ≡ written_cells backend_request_number w
       came = arrived fe1 old.serving fe2 he1 h.there (clear-requests old sound).1 ∙ asked-whole
 
       clear : outgoing he1 ≡ []
       clear = held fe1 old.serving fe2 he1 h.there ∙ (clear-replies old sound).0
 
-      abbrev IsServed1 : Type 0
-      IsServed1 = IsServed gives he1 he2 old.server mid.server old.device mid.device w (seen_result result)
+      -- nothing had been heard before
+      request-fresh : he1.ahead ≡ []
+      request-fresh = ap {A = End} (λ e. e.ahead) h.there.receiver ∙ (both-empty old.serving.ahead old.serving.link.pending (clear-requests old sound).1).0
 
-      served-or-not : IsServed1 ⊎ ServingFaults he1 he2
-      served-or-not = by-cases (split-handled gives he1 he2 old.server mid.server old.device mid.device sound.in_step.serves result (h.handled sound.in_step.serves) (ap {A = End} (λ e. e.broken) h.there.receiver ∙ sound.serves) (ap {A = End} (λ e. e.list) h.there.receiver ∙ lists.1))
+      abbrev IsServed1 : Type 0
+      IsServed1 = IsServed gives he1 he2 old.server mid.server old.device mid.device w sent_well came clear (seen_result result)
+
+      abbrev IsUnserved1 : Type 0
+      IsUnserved1 = IsUnserved gives he1 he2 old.server mid.server old.device mid.device w sent_well came clear
+
+      -- it was served, or a fault of its link stopped that
+      served-or-not : IsServed1 ⊎ (IsUnserved1 × (he2.faulted ≡ true))
+      served-or-not = by-cases (split-handled gives he1 he2 old.server mid.server old.device mid.device result (h.handled sound.in_step.serves) (ap {A = End} (λ e. e.broken) h.there.receiver ∙ sound.serves) (ap {A = End} (λ e. e.list) h.there.receiver ∙ lists.1))
         where
-          by-cases : (IsHandled gives he1 he2 old.server mid.server old.device mid.device (seen_result result) × PassesBoth he1.budget (cuts_of he1.link) (cuts_of he2.link)) ⊎ ServingFaults he1 he2 → IsServed1 ⊎ ServingFaults he1 he2
-          by-cases (inl (k, passed)) = inl (is-served gives he1 he2 old.server mid.server old.device mid.device w (seen_result result) (sendable (backend_of old.channel) call proper w awaited asked).0 k passed came clear sound.in_step.serves)
-          by-cases (inr k) = inr k
+          by-cases : Handled1 gives he1 he2 old.server mid.server old.device mid.device (seen_result result) ⊎ ServingFaults gives he1 he2 old.server mid.server old.device mid.device → IsServed1 ⊎ (IsUnserved1 × (he2.faulted ≡ true))
+          by-cases (inl k) = inl (is-served gives he1 he2 old.server mid.server old.device mid.device w sent_well came clear (seen_result result) k)
+          by-cases (inr k) = inr (is-unserved gives he1 he2 old.server mid.server old.device mid.device w sent_well came clear request-fresh k, faulted-so gives he1 he2 old.server mid.server old.device mid.device k)
 
       -- the asking side has nothing more to receive, before the reply comes
       nothing-left : incoming fe2 ≡ []
@@ -132,8 +146,8 @@ module _ {Dev : Type 0} (gives : Gives Dev) (call : ReverseCall PlainHandle) (pr
       serving-budget : he1.budget ≡ fe0.budget
       serving-budget = ap {A = End} (λ e. e.budget) h.there.receiver ∙ sound.budget
 
-      asking-passed : Passes fe0.budget (cuts_of fe0.link) (cuts_of fe3.link)
-      asking-passed = subst (λ c. Passes fe0.budget (cuts_of fe0.link) c) (sym (receiver-cuts he2 fe2 mid.serving fe3 h.back ∙ sender-cuts fe1 old.serving fe2 he1 h.there)) (passes fe0 fe1 _ _ out.serves)
+      asking-passed : Passes fe0.budget (written_cells backend_request_number w) (cuts_of fe0.link) (cuts_of fe3.link)
+      asking-passed = subst (λ c. Passes fe0.budget (written_cells backend_request_number w) (cuts_of fe0.link) c) (sym (receiver-cuts he2 fe2 mid.serving fe3 h.back ∙ sender-cuts fe1 old.serving fe2 he1 h.there)) (sent-passes _ fe0 fe1 _ _ out.serves)
 
       -- the serving side's link between the two carries
       of-serving : (P : Cuts → Cuts → Type 0) → P (cuts_of he1.link) (cuts_of he2.link) → P (cuts_of old.serving.link) (cuts_of mid.serving.link)
@@ -149,43 +163,80 @@ module _ {Dev : Type 0} (gives : Gives Dev) (call : ReverseCall PlainHandle) (pr
       abbrev Goal : Type 0
       Goal = Answers gives (as_view old None) (Asks call) (seen_io_result answer) (as_view after stop) × (stop ≡ None → IsSound after)
 
+      -- ---- where a link failed
+
+      -- what was written of a number is short
+      few-of : (o : ReverseOutcome PlainHandle) → ReverseFollows (fitting gives) old.device (reverse_row old.server (read_as w)) o mid.device → length (cells_of backend_request_number (reply w.request o.served)) ≤ MAX_MSG_TEXT
+      few-of o follows = few-answered w.request o.served (answers-number gives old.device mid.device old.server (read_as w) o follows)
+
+      plainly : (o : ReverseOutcome PlainHandle) → ReverseFollows (fitting gives) old.device (reverse_row old.server (read_as w)) o mid.device → ReverseFollows gives old.device (reverse_row old.server (read_as w)) o mid.device
+      plainly o follows = follows-plainly gives old.device mid.device (reverse_row old.server (read_as w)) o follows
+
       -- a fault on one side stops the run
-      premise : (fe4.faulted || mid.serving.faulted) ≡ true → joined.Breaks (as_view old None) (Asks call) (seen_io_result answer) (as_view after stop) → Goal
-      premise faulted breaks =
-          let why : stop ≡ Some Premise = stops ∙ ap (λ b. stop_of b result mid.reply.bytes) faulted in
-          (inr (why, breaks), λ on. absurd (cc (sym why ∙ on)))
+      broke : (stopped lost : Bool) → mid.server ≡ old.server → joined.Serves gives (as_view old None) w (outgoing he2) (as_view after stop) stopped → length (outgoing he2) ≤ MAX_MSG_TEXT
+          → joined.Takes gives fe0.budget w awaited (cuts_of fe3.link) (outgoing he2) (seen_io_result answer) (cuts_of fe4.link) lost → (stopped || lost) ≡ true → (fe4.faulted || mid.serving.faulted) ≡ true → Goal
+      broke stopped lost server serves few takes failed faulted =
+          let why : stop ≡ Some Premise = stops ∙ ap (λ b. stop_of b result mid.reply.bytes) faulted in (
+            inr (
+              why,
+              joined.broke (record {
+                call = call;
+                is_call = refl;
+                message = w;
+                awaited = awaited;
+                asked = asked;
+                mid = cuts_of fe3.link;
+                passed = asking-passed;
+                request = h.request ∙ copied few-asked ∙ ap text_of asked-whole;
+                came = outgoing he2;
+                stopped = stopped;
+                serves = serves;
+                reply = h.reply few;
+                lost = lost;
+                takes = takes;
+                failed = failed;
+                backend = same-backend;
+                server = server;
+              }),
+            ),
+            λ on. absurd (cc (sym why ∙ on)),
+          )
 
-      took : length (outgoing he2) ≤ MAX_MSG_TEXT → IsTaken head fe3 awaited answer fe4 → Took (as_view old None) (Asks call) (seen_io_result answer) (as_view after stop)
-      took few t = record {
-        call = call;
-        is_call = refl;
-        message = w;
-        awaited = awaited;
-        asked = asked;
-        request = h.request ∙ copied few-asked ∙ ap text_of asked-whole;
-        came = outgoing he2;
-        reply = h.reply few;
-        left = incoming fe4;
-        taken = ap (λ header. reverse_take awaited header (outgoing he2)) (sym out.header) ∙ ap (λ cells. reverse_take awaited (fields_of head) cells) (sym came-back) ∙ t.cut;
-      }
+      serves-stopped : IsUnserved1 → joined.Serves gives (as_view old None) w (outgoing he2) (as_view after stop) true × (length (outgoing he2) ≤ MAX_MSG_TEXT) × (mid.server ≡ old.server)
+      serves-stopped (unread c p none session device) = (
+        joined.unread c (of-serving (λ a b. Stops fe0.budget c a b) (subst (λ n. Stops n c (cuts_of he1.link) (cuts_of he2.link)) serving-budget p)) none device,
+        subst (λ cells. length cells ≤ MAX_MSG_TEXT) (sym none) (omega arith),
+        session,
+      )
+      serves-stopped (unanswered c o count p follows short few front session) = (
+        joined.unanswered c o count (of-serving (λ a b. StopsReply fe0.budget c (written_cells backend_request_number w) a b) (subst (λ n. StopsReply n c (written_cells backend_request_number w) (cuts_of he1.link) (cuts_of he2.link)) serving-budget p)) (plainly o follows) short front,
+        subst (λ cells. length cells ≤ MAX_MSG_TEXT) (sym front) (let long = length-take count (cells_of backend_request_number (reply w.request o.served)) in omega (arith, long, few)),
+        session,
+      )
 
-      serving-fault : ServingFaults he1 he2 → IsTaken head fe3 awaited answer fe4 → Goal
-      serving-fault k t = premise (ap (λ b. fe4.faulted || b) (ap {A = End} (λ e. e.faulted) h.back.sender ∙ k.faulted) ∙ or-true fe4.faulted) (by-message k.stopped)
+      takes-so : IsTaken head fe3 awaited answer fe4 → joined.Takes gives fe0.budget w awaited (cuts_of fe3.link) (outgoing he2) (seen_io_result answer) (cuts_of fe4.link) false
+      takes-so t = joined.taken (incoming fe4)
+          (ap (λ header. reverse_take awaited header (outgoing he2)) (sym out.header) ∙ ap (λ cells. reverse_take awaited (fields_of head) cells) (sym came-back) ∙ t.cut)
+
+      serving-fault : IsUnserved1 → he2.faulted ≡ true → IsTaken head fe3 awaited answer fe4 → Goal
+      serving-fault k faulted t =
+          let (serves, few, server) = serves-stopped k in
+          broke true false server serves few (takes-so t) refl (ap (λ b. fe4.faulted || b) (ap {A = End} (λ e. e.faulted) h.back.sender ∙ faulted) ∙ or-true fe4.faulted)
+
+      asking-fault : (e : declared.Error) → answer ≡ Err (code.Of e) → Faults fe3 fe4 e → IsServed1 ⊎ (IsUnserved1 × (he2.faulted ≡ true)) → Goal
+      asking-fault e is k handled = by-cases handled
         where
-          few : length (outgoing he2) ≤ MAX_MSG_TEXT
-          few = subst (λ cells. length cells ≤ MAX_MSG_TEXT) (sym (k.sent ∙ ap (λ xs. xs ++ k.gone) clear)) k.few
+          lost : joined.Takes gives fe0.budget w awaited (cuts_of fe3.link) (outgoing he2) (seen_io_result answer) (cuts_of fe4.link) true
+          lost = joined.lost k.cause (subst (λ n. Stops n k.cause (cuts_of fe3.link) (cuts_of fe4.link)) asking-budget k.stopped) (ap seen_io_result is ∙ ap {A = declared.Error} {B = Result ℕ IoError} (λ x. Err (Of (seen x))) k.error)
 
-          by-message : Stops he1.budget k.cause (cuts_of he1.link) (cuts_of he2.link) ⊎ StopsReply he1.budget k.cause (cuts_of he1.link) (cuts_of he2.link) → joined.Breaks (as_view old None) (Asks call) (seen_io_result answer) (as_view after stop)
-          by-message (inl p) = joined.unread k.cause (of-serving (λ a b. Stops fe0.budget k.cause a b) (subst (λ n. Stops n k.cause (cuts_of he1.link) (cuts_of he2.link)) serving-budget p)) (took few t)
-          by-message (inr p) = joined.unanswered k.cause (of-serving (λ a b. StopsReply fe0.budget k.cause a b) (subst (λ n. StopsReply n k.cause (cuts_of he1.link) (cuts_of he2.link)) serving-budget p)) (took few t)
+          by-cases : IsServed1 ⊎ (IsUnserved1 × (he2.faulted ≡ true)) → Goal
+          by-cases (inl v) = broke false true v.session (joined.served v.outcome (plainly v.outcome v.follows) v.written) (subst (λ cells. length cells ≤ MAX_MSG_TEXT) (sym v.written) (few-of v.outcome v.follows)) lost refl (ap (λ b. b || mid.serving.faulted) k.faulted)
+          by-cases (inr (u, faulted)) = let (serves, few, server) = serves-stopped u in broke true true server serves few lost refl (ap (λ b. b || mid.serving.faulted) k.faulted)
 
-      asking-fault : (e : declared.Error) → answer ≡ Err (code.Of e) → Faults fe3 fe4 e → Goal
-      asking-fault e is k = premise (ap (λ b. b || mid.serving.faulted) k.faulted)
-          (joined.lost k.cause (record {
-            mid = cuts_of fe3.link;
-            request = asking-passed;
-            reply = subst (λ n. Stops n k.cause (cuts_of fe3.link) (cuts_of fe4.link)) asking-budget k.stopped;
-          }) (ap seen_io_result is ∙ ap {A = declared.Error} {B = Result ℕ IoError} (λ x. Err (Of (seen x))) k.error))
+      -- ---- where none did
+
+      reply-fresh : fe3.ahead ≡ []
+      reply-fresh = ap {A = End} (λ e. e.ahead) h.back.receiver ∙ (both-empty fe2.ahead fe2.link.pending nothing-left).0
 
       both-served : IsServed1 → IsTaken head fe3 awaited answer fe4 → Goal
       both-served k t = (inl keeps, λ on. is-sound)
@@ -197,7 +248,7 @@ module _ {Dev : Type 0} (gives : Gives Dev) (call : ReverseCall PlainHandle) (pr
           number = answers-number gives old.device mid.device old.server (read_as w) o k.follows
 
           follows : ReverseFollows gives old.device (reverse_row old.server (read_as w)) o mid.device
-          follows = follows-plainly gives old.device mid.device (reverse_row old.server (read_as w)) o k.follows
+          follows = plainly o k.follows
 
           known : IsAnswered awaited o
           known = answered-so gives (backend_of old.channel) old.server call w awaited sound.in_step.agree asked old.device mid.device o follows
@@ -219,7 +270,7 @@ module _ {Dev : Type 0} (gives : Gives Dev) (call : ReverseCall PlainHandle) (pr
               ∙ served-taken w.request awaited (head_of backend_request_number w) o.served known.0 refl plain number known.1
 
           faultless : (fe4.faulted || mid.serving.faulted) ≡ false
-          faultless = ap (λ b. b || mid.serving.faulted) t.faulted ∙ ap {A = End} (λ e. e.faulted) h.back.sender ∙ k.faulted
+          faultless = ap (λ b. b || mid.serving.faulted) t.faulted ∙ ap {A = End} (λ e. e.faulted) h.back.sender ∙ k.handled.replies.serves.faulted
 
           last : Bool
           last = is_reverse_last o
@@ -249,27 +300,33 @@ module _ {Dev : Type 0} (gives : Gives Dev) (call : ReverseCall PlainHandle) (pr
             reply = is_reply;
             stopped = at_last;
             in_step = in_step;
-            asking = record { mid = cuts_of fe3.link; request = asking-passed; reply = subst (λ n. Passes n (cuts_of fe3.link) (cuts_of fe4.link)) asking-budget t.passed };
-            serving = of-serving (λ a b. PassesBoth fe0.budget a b) (subst (λ n. PassesBoth n (cuts_of he1.link) (cuts_of he2.link)) serving-budget k.passed);
+            asking = record {
+              mid = cuts_of fe3.link;
+              asked = asking-passed;
+              answered = subst (λ n. Passes n replied (cuts_of fe3.link) (cuts_of fe4.link)) asking-budget (t.passed replied (λ some. (reply-fresh, came-back ∙ k.written, pair-second cut)));
+            };
+            serving = of-serving (λ a b. PassesBoth fe0.budget (written_cells backend_request_number w) replied a b)
+                (subst (λ n. PassesBoth n (written_cells backend_request_number w) replied (cuts_of he1.link) (cuts_of he2.link)) serving-budget
+                (both-passed gives he1 he2 old.server mid.server old.device mid.device w sent_well came clear (seen_result result) k request-fresh));
             budget = t.budget ∙ asking-budget;
           }
 
           is-sound : IsSound after
           is-sound = record {
             asks = t.broken;
-            serves = ap {A = End} (λ e. e.broken) h.back.sender ∙ k.broken;
+            serves = ap {A = End} (λ e. e.broken) h.back.sender ∙ k.handled.replies.serves.after;
             sound = t.faulted;
-            budget = ap {A = End} (λ e. e.budget) h.back.sender ∙ k.budget ∙ serving-budget ∙ sym (t.budget ∙ asking-budget);
+            budget = ap {A = End} (λ e. e.budget) h.back.sender ∙ served-budget gives he1 he2 old.server mid.server old.device mid.device w sent_well came clear (seen_result result) k ∙ serving-budget ∙ sym (t.budget ∙ asking-budget);
             in_step = in_step;
           }
 
       pub exchanged : TakesHalf event (if awaited then Some head else None) fe3 answer fe4 → Goal
       exchanged takes = by-cases served-or-not (taken-or-lost head fe3 awaited answer fe4 asking-whole asking-sound takes)
         where
-          by-cases : IsServed1 ⊎ ServingFaults he1 he2 → IsTaken head fe3 awaited answer fe4 ⊎ Lost head fe3 answer fe4 → Goal
+          by-cases : IsServed1 ⊎ (IsUnserved1 × (he2.faulted ≡ true)) → IsTaken head fe3 awaited answer fe4 ⊎ Lost head fe3 answer fe4 → Goal
           by-cases (inl k) (inl t) = both-served k t
-          by-cases (inr k) (inl t) = serving-fault k t
-          by-cases x (inr (e, is, fails)) = asking-fault e is (faults fe3 fe4 true e fails asking-whole asking-list)
+          by-cases (inr (k, faulted)) (inl t) = serving-fault k faulted t
+          by-cases x (inr (e, is, fails)) = asking-fault e is (faults fe3 fe4 true e fails asking-whole asking-list) x
 
       -- nothing is in the reply's way
       pub none-in-way : fe2.link.pending ≡ []

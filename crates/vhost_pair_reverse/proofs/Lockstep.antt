@@ -118,7 +118,7 @@ module _ {Dev : Type 0} (gives : Gives Dev) where
         lockstep = unstepped old old [] ready refl;
         going = going;
         stopped = ap (λ v. v.stopped) ended.0 ∙ premise;
-        breaks = subst (λ v. Breaks old (input_of c) (seen_io_result a) v) (sym ended.0) breaks;
+        breaks = subst (λ v. Breaks gives old (input_of c) (seen_io_result a) v) (sym ended.0) breaks;
       })
 
   pub lockstep : (old new : View Dev) (calls : List Call) (answers : List Answer) (end : Result ⊤ Halt) → IsReady old → old.stopped ≡ None → StepsAll gives old calls answers end new → Lockstep gives old calls answers new

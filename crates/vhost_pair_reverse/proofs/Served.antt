@@ -1,9 +1,10 @@
--- A request that was served.
-use Rattle.std.proofs.Common.{◌≡◌, ℕ, ◌⊎◌, inl, inr, true, false, List, [], ◌++◌, take, None, Result, Ok, Err, arith, refl, sym, ◌∙◌, ap, subst}
-use Rattle.std.proofs.lemmas.List.{append-nil, length-take}
-use Rattle.vhost_message.specs.Cause.{is_retry}
+-- A request that was served, or not.
+use Rattle.std.proofs.Common.{◌≡◌, ℕ, ◌<◌, ◌≤◌, ◌⊎◌, inl, inr, true, List, [], ◌++◌, length, take, None, Result, Ok, Err, sym, ◌∙◌, ap, subst}
+use Rattle.std.proofs.lemmas.List.{append-nil}
+use Rattle.vhost_message.specs.declared.cause.IoCause.{IoCause}
 use Rattle.vhost_message.specs.declared.error.Error as declared
 use Rattle.vhost_message.specs.declared.backend_req.BackendReq.{BackendReq}
+use Rattle.vhost_message.specs.declared.limits.TheConstants.{MAX_MSG_TEXT}
 use Rattle.vhost_message.specs.BackendReq.{backend_request_of, backend_request_number}
 use Rattle.vhost_protocol.specs.Error.{Error, seen_result}
 use Rattle.vhost_protocol.specs.Joined.{read_as}
@@ -11,108 +12,100 @@ use Rattle.vhost_protocol.specs.Reverse.{Server, ReverseOutcome, ReverseFollows,
 use Rattle.vhost_protocol.specs.Run as run
 use Rattle.vhost_protocol.specs.Served.{reply, cells_of}
 use Rattle.vhost_protocol.specs.Split.{split, Message}
-use Rattle.vhost_protocol.specs.Stream.{Cell, items}
+use Rattle.vhost_protocol.specs.Stream.{Cell}
 use Rattle.vhost_protocol.specs.Written.{Written, written_cells}
 use Rattle.vhost_protocol.proofs.TextLaws.{IsSendable, written-split}
 use Rattle.vhost_link.specs.declared.plain.PlainHandle.{PlainHandle}
 use Rattle.vhost_link.specs.Mem.{event}
-use Rattle.vhost_link.specs.Law.{Move}
-use Rattle.vhost_connection.specs.Pass.{receives, sends}
-use Rattle.vhost_connection.specs.Hearing.{Hears}
-use Rattle.vhost_connection.specs.Requests as endpoint
-use Rattle.vhost_connection.specs.Talk.{First}
-use Rattle.vhost_connection.proofs.Failing.{fell-talks, refused-taken, trouble-fails}
-use Rattle.vhost_connection.specs.Serving.{Handled, Breaks, unread, unanswered}
-use Rattle.vhost_connection.proofs.Serving.{Entry, as-entry}
+use Rattle.vhost_connection.specs.Serving.{Handled}
 use Rattle.vhost_frontend_req_handler.specs.Handling.{HandlesOne, fitting, kept as kept_all}
 use Rattle.vhost_pair.specs.OnWay.{incoming, outgoing}
-use Rattle.vhost_pair.specs.Joined.{Passes, PassesBoth, Stops}
+use Rattle.vhost_pair.specs.Joined.{PassesBoth, Stops, StopsReply}
 use Rattle.vhost_pair.specs.Sides.{cuts_of}
 use Rattle.vhost_pair.proofs.Asked.{End}
-use Rattle.vhost_pair.proofs.OnWay.{incoming-cut, outgoing-taken}
-use Rattle.vhost_pair.proofs.Served.{pair-first, pair-second, ServingFaults}
-use Rattle.vhost_pair.proofs.Spent.{Faults, faults, passes, stops}
+use Rattle.vhost_pair.proofs.Handled as handling
+use Rattle.vhost_pair.proofs.Handled.{Faults}
+use Rattle.vhost_pair.proofs.Served.{pair-first, pair-second}
 use Rattle.vhost_pair_reverse.specs.Joined.{Gives}
 
 module _ {Dev : Type 0} (gives : Gives Dev) (he he' : End) (s s' : Server) (d d' : Dev) where
-  abbrev pub IsHandled : Result ℕ Error → Type 0
-  IsHandled r = Entry event backend_request_of backend_allows_handles (λ (t : Server). t.failed) kept_all (ReverseMeets (fitting gives)) he s d r he' s' d'
+  abbrev Met : Server → Dev → Message BackendReq PlainHandle → Result ℕ Error → List (Cell PlainHandle) → Server → Dev → Type 0
+  Met = ReverseMeets (fitting gives)
 
-  abbrev Handled1 : Result ℕ Error → Type 0
-  Handled1 a = Handled event backend_request_of backend_allows_handles (λ (t : Server). t.failed) kept_all (ReverseMeets (fitting gives)) he s d a he' s' d'
+  abbrev pub Handled1 : Result ℕ Error → Type 0
+  Handled1 a = Handled event backend_request_of backend_allows_handles (λ (t : Server). t.failed) kept_all Met he s d a he' s' d'
 
-  abbrev pub PassedBoth : Type 0
-  PassedBoth = PassesBoth he.budget (cuts_of he.link) (cuts_of he'.link)
+  -- the serving side's link failed
+  abbrev pub ServingFaults : Type 0
+  ServingFaults = Faults backend_request_of backend_allows_handles (λ (t : Server). t.failed) kept_all Met he he' s s' d d'
 
-  -- the reply was stopped once the request had come in
-  stopped-faults : (m : Message BackendReq PlainHandle) (mid : End) (cells : List (Cell PlainHandle)) (e : declared.Error) → Hears event (split backend_request_of backend_allows_handles) he (Ok m) mid → endpoint.Stops event mid cells e he' → ServingFaults he he'
-  stopped-faults m mid cells e h p =
-      let part : Move PlainHandle = sends (take p.count cells) p.retries in
-      record {
-        cause = p.cause;
-        stopped = inr (record {
-          mid = cuts_of mid.link;
-          request = passes he mid _ _ h.serves;
-          reply = subst (λ n. Stops n p.cause (cuts_of mid.link) (cuts_of he'.link)) h.serves.talks.budget (stops mid he' mid.budget p.cause part p.fell refl p.within p.spent);
-        });
-        gone = take p.count cells;
-        sent = outgoing-taken mid he' _ (fell-talks p.cause p.fell) ∙ ap (λ xs. outgoing mid ++ xs) (refused-taken part p.cause (is_retry p.cause))
-            ∙ ap (λ xs. xs ++ take p.count cells) (outgoing-taken he mid _ h.serves.talks ∙ append-nil (outgoing he));
-        few = rw (length-take p.count cells) (omega (arith, p.few));
-        faulted = p.faulted;
-      }
+  pub split-handled : (r : Result ℕ declared.Error) → HandlesOne event gives he s d r he' s' d' → he.broken ≡ None → he.list ≡ true → Handled1 (seen_result r) ⊎ ServingFaults
+  split-handled = handling.split-handled backend_request_of backend_allows_handles (λ (t : Server). t.failed) kept_all Met he he' s s' d d'
 
-  as-unread : (e : declared.Error) → Faults he he' e → ServingFaults he he'
-  as-unread e k = record { cause = k.cause; stopped = inl k.stopped; gone = k.gone; sent = k.sent; few = k.few; faulted = k.faulted }
+  pub faulted-so : ServingFaults → he'.faulted ≡ true
+  faulted-so = handling.faulted-so backend_request_of backend_allows_handles (λ (t : Server). t.failed) kept_all Met he he' s s' d d'
 
-  broke-faults : (e : declared.Error) → Breaks event backend_request_of backend_allows_handles (λ (t : Server). t.failed) kept_all (ReverseMeets (fitting gives)) he s d e he' s' d' → he.broken ≡ None → he.list ≡ true → ServingFaults he he'
-  broke-faults e (unread p same kept) whole list = as-unread e (faults he he' false e (trouble-fails event he First false (receives (items p.cells) p.retries) e he' p.trouble refl refl (omega arith)) whole list)
-  broke-faults e (unanswered m mid h p) whole list = stopped-faults m mid p.written e h p.stops
+  module _ (w : Written BackendReq PlainHandle) (sendable : IsSendable backend_request_of backend_allows_handles backend_request_number w) (came : incoming he ≡ written_cells backend_request_number w) (clear : outgoing he ≡ []) where
+    -- what is heard is this request
+    own : (heard : Result (Message BackendReq PlainHandle) Error) (left : List (Cell PlainHandle)) → split backend_request_of backend_allows_handles (incoming he) ≡ (heard, left)
+        → ◌≡◌ {A = Result (Message BackendReq PlainHandle) Error × List (Cell PlainHandle)} (heard, left) (Ok (read_as w), [])
+    own heard left first =
+        sym first ∙ ap (λ cells. split backend_request_of backend_allows_handles cells) (came ∙ sym (append-nil (written_cells backend_request_number w)))
+        ∙ written-split backend_request_of backend_allows_handles backend_request_number w [] sendable
 
-  -- each of the two messages has its own budget
-  both-passed : {a : Result ℕ Error} → Handled1 a → PassedBoth
-  both-passed h = record {
-    mid = cuts_of h.mid.link;
-    request = passes he h.mid _ _ h.hears.serves;
-    reply = subst (λ n. Passes n (cuts_of h.mid.link) (cuts_of he'.link)) h.hears.serves.talks.budget (passes h.mid he' _ _ h.replies.serves);
-  }
+    -- The request was served.
+    pub record IsServed (r : Result ℕ Error) : Type 0 where
+      pub handled : Handled1 r
+      pub outcome : ReverseOutcome PlainHandle
+      pub follows : ReverseFollows (fitting gives) d (reverse_row s (read_as w)) outcome d'
+      pub answer : r ≡ outcome.answer
+      pub wrote : handled.written ≡ cells_of backend_request_number (reply w.request outcome.served)
+      pub written : outgoing he' ≡ cells_of backend_request_number (reply w.request outcome.served)
+      pub session : s' ≡ s
+      pub nothing : incoming he' ≡ []
 
-  pub split-handled : s.failed ≡ None → (r : Result ℕ declared.Error) → HandlesOne event gives he s d r he' s' d' → he.broken ≡ None → he.list ≡ true → (IsHandled (seen_result r) × PassedBoth) ⊎ ServingFaults he he'
-  split-handled alive (Ok n) h whole list = inl (as-entry event backend_request_of backend_allows_handles (λ (t : Server). t.failed) kept_all (ReverseMeets (fitting gives)) he he' s s' d d' _ alive h, both-passed h)
-  split-handled alive (Err e) (inl h) whole list = inl (as-entry event backend_request_of backend_allows_handles (λ (t : Server). t.failed) kept_all (ReverseMeets (fitting gives)) he he' s s' d d' _ alive h, both-passed h)
-  split-handled alive (Err e) (inr k) whole list = inr (broke-faults e k whole list)
+    pub is-served : (r : Result ℕ Error) → Handled1 r → IsServed r
+    is-served r h =
+        let both = own h.heard (incoming he') (handling.handled-first backend_request_of backend_allows_handles (λ (t : Server). t.failed) kept_all Met he he' s s' d d' r h) in
+        let m : Met s d (read_as w) r h.written s' d' =
+        subst (λ x. run.Handles backend_request_of backend_allows_handles (λ (t : Server). t.failed) Met s d x r h.written s' d') (pair-first both) h.handles in
+        record {
+          handled = h;
+          outcome = m.0;
+          follows = m.1;
+          answer = m.2;
+          wrote = m.3;
+          written = handling.handled-written backend_request_of backend_allows_handles (λ (t : Server). t.failed) kept_all Met he he' s s' d d' r h ∙ ap (λ xs. xs ++ h.written) clear ∙ m.3;
+          session = m.4;
+          nothing = pair-second both;
+        }
 
-  -- The request was served.
-  pub record IsServed (w : Written BackendReq PlainHandle) (r : Result ℕ Error) : Type 0 where
-    pub outcome : ReverseOutcome PlainHandle
-    pub follows : ReverseFollows (fitting gives) d (reverse_row s (read_as w)) outcome d'
-    pub answer : r ≡ outcome.answer
-    pub written : outgoing he' ≡ cells_of backend_request_number (reply w.request outcome.served)
-    pub session : s' ≡ s
-    pub nothing : incoming he' ≡ []
-    pub passed : PassedBoth
-    pub broken : he'.broken ≡ None
-    pub faulted : he'.faulted ≡ false
-    pub budget : he'.budget ≡ he.budget
+    -- each of the two messages has its own budget
+    pub both-passed : (r : Result ℕ Error) (k : IsServed r) → he.ahead ≡ []
+        → PassesBoth he.budget (written_cells backend_request_number w) (cells_of backend_request_number (reply w.request k.outcome.served)) (cuts_of he.link) (cuts_of he'.link)
+    both-passed r k fresh =
+        subst (λ cells. PassesBoth he.budget (written_cells backend_request_number w) cells (cuts_of he.link) (cuts_of he'.link)) k.wrote
+        (handling.both-passed backend_request_of backend_allows_handles (λ (t : Server). t.failed) kept_all Met he he' s s' d d' r k.handled (written_cells backend_request_number w) (λ some. (fresh, came, k.nothing)))
 
-  pub is-served : (w : Written BackendReq PlainHandle) (r : Result ℕ Error) → IsSendable backend_request_of backend_allows_handles backend_request_number w → IsHandled r → PassedBoth → incoming he ≡ written_cells backend_request_number w → outgoing he ≡ [] → s.failed ≡ None → IsServed w r
-  is-served w r sendable h passed came clear failed =
-      let sv : run.ServesUnless backend_request_of backend_allows_handles (λ (t : Server). t.failed) (ReverseMeets (fitting gives)) None s d h.move.handed r h.move.taken s' d' =
-      subst (λ x. run.ServesUnless backend_request_of backend_allows_handles (λ (t : Server). t.failed) (ReverseMeets (fitting gives)) x s d h.move.handed r h.move.taken s' d') failed h.handles in
-      let cut = incoming-cut he he' h.move h.talks (split backend_request_of backend_allows_handles) sv.1.0 sv.1.1 sv.0 sv.1.2 sv.1.3 in
-      let whole = written-split backend_request_of backend_allows_handles backend_request_number w [] sendable in
-      let both = sym cut ∙ ap (λ cells. split backend_request_of backend_allows_handles cells) (came ∙ sym (append-nil (written_cells backend_request_number w))) ∙ whole in
-      let m : ReverseMeets (fitting gives) s d (read_as w) r h.move.taken s' d' =
-      subst (λ x. run.Handles backend_request_of backend_allows_handles (λ (t : Server). t.failed) (ReverseMeets (fitting gives)) s d x r h.move.taken s' d') (pair-first both) sv.2 in
-      record {
-        outcome = m.0;
-        follows = m.1;
-        answer = m.2;
-        written = outgoing-taken he he' h.move h.talks ∙ ap (λ xs. xs ++ h.move.taken) clear ∙ m.3;
-        session = m.4;
-        nothing = pair-second both;
-        passed = passed;
-        broken = h.after;
-        faulted = h.faulted;
-        budget = h.talks.budget;
-      }
+    pub served-budget : (r : Result ℕ Error) (k : IsServed r) → he'.budget ≡ he.budget
+    served-budget r k = handling.handled-budget backend_request_of backend_allows_handles (λ (t : Server). t.failed) kept_all Met he he' s s' d d' r k.handled
+
+    -- It was not: what was written is none, or a front of the row's reply.
+    pub data IsUnserved : Type 0 where
+      unread : (c : IoCause) → Stops he.budget c (cuts_of he.link) (cuts_of he'.link) → outgoing he' ≡ [] → s' ≡ s → d' ≡ d → IsUnserved
+      unanswered : (c : IoCause) (o : ReverseOutcome PlainHandle) (count : ℕ) → StopsReply he.budget c (written_cells backend_request_number w) (cuts_of he.link) (cuts_of he'.link) → ReverseFollows (fitting gives) d (reverse_row s (read_as w)) o d'
+          → count < length (cells_of backend_request_number (reply w.request o.served)) → length (cells_of backend_request_number (reply w.request o.served)) ≤ MAX_MSG_TEXT
+          → outgoing he' ≡ take count (cells_of backend_request_number (reply w.request o.served)) → s' ≡ s → IsUnserved
+
+    message-of : Message BackendReq PlainHandle → Result (Message BackendReq PlainHandle) Error → Message BackendReq PlainHandle
+    message-of m (Ok x) = x
+    message-of m (Err e) = m
+
+    pub is-unserved : he.ahead ≡ [] → ServingFaults → IsUnserved
+    unfolding message-of
+    is-unserved fresh (inl k) = unread k.reading.cause k.reading.stopped (k.reading.sent ∙ clear) k.session k.device
+    is-unserved fresh (inr k) =
+        let same : k.message ≡ read_as w = ap (message-of k.message) (pair-first (own (Ok k.message) (incoming he') k.first)) in
+        let m : Met s d (read_as w) k.answer k.reply k.after d' = subst (λ (x : Message BackendReq PlainHandle). Met s d x k.answer k.reply k.after d') same k.meets in
+        unanswered k.cause m.0 k.count (k.stopped (written_cells backend_request_number w) (λ some. (fresh, came, pair-second (own (Ok k.message) (incoming he') k.first)))) m.1 (subst (λ cells. k.count < length cells) m.3 k.short) (subst (λ cells. length cells ≤ MAX_MSG_TEXT) m.3 k.few)
+        (k.sent ∙ ap (λ xs. xs ++ take k.count k.reply) clear ∙ ap (λ cells. take k.count cells) m.3) (k.session ∙ m.4)

@@ -33,8 +33,8 @@ use Rattle.vhost_pair_reverse.specs.declared.sides.Exchanged.{Exchanged}
 use Rattle.vhost_pair_reverse.proofs.Exchange.{clear-requests, asked-incoming, exchanged}
 
 -- a step for which no link was called
-passed-none : (budget : ℕ) (old new : Cuts) → new ≡ old → PassesBoth budget old new
-passed-none budget old new same = record { mid = old; request = passes-none budget old old refl; reply = passes-none budget old new same }
+passed-none : (budget : ℕ) (old new : Cuts) → new ≡ old → PassesBoth budget [] [] old new
+passed-none budget old new same = record { mid = old; asked = passes-none budget old old refl; answered = passes-none budget old new same }
 
 module _ {Dev : Type 0} (gives : Gives Dev) (old : Parts Dev) (sound : IsSound old) (lists : HaveLists old) where
   abbrev fe0 : End
@@ -84,7 +84,8 @@ module _ {Dev : Type 0} (gives : Gives Dev) (old : Parts Dev) (sound : IsSound o
         inr (
           why,
           joined.unsent k.cause (subst (λ (s : End). Stops fe0.budget k.cause (cuts_of fe0.link) (cuts_of s.link)) (sym link) k.stopped)
-              (ap seen_io_result end.answer ∙ ap {A = declared.Error} {B = Result ℕ IoError} (λ y. Err (Of (seen y))) k.error),
+              (ap seen_io_result end.answer ∙ ap {A = declared.Error} {B = Result ℕ IoError} (λ y. Err (Of (seen y))) k.error) (ap {A = Parts Dev} (λ p. p.device) end.same)
+              (ap {A = Parts Dev} (λ p. backend_of p.channel) end.same) (ap {A = Parts Dev} (λ p. p.server) end.same),
         ),
         λ on. absurd (cc (sym why ∙ on)),
       )

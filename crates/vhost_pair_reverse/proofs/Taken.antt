@@ -1,5 +1,5 @@
 -- An answer that was taken.
-use Rattle.std.proofs.Common.{◌≡◌, ℕ, ◌⊎◌, inl, inr, Bool, true, false, Some, None, Result, Err, refl, ◌∙◌}
+use Rattle.std.proofs.Common.{◌≡◌, ℕ, ◌⊎◌, inl, inr, Bool, true, false, List, [], Some, None, Result, Err, refl, sym, ◌∙◌}
 use Rattle.std.specs.Prelude.{if◌then◌else◌}
 use Rattle.std.proofs.lemmas.List.{append-nil}
 use Rattle.vhost_message.specs.declared.error.Error.{Error}
@@ -8,6 +8,8 @@ use Rattle.vhost_message.specs.declared.io_error.IoError.TheVariants.{Of}
 use Rattle.vhost_message.specs.MsgHeader.{fields_of}
 use Rattle.vhost_protocol.specs.IoError.{seen_io_result}
 use Rattle.vhost_protocol.specs.Reverse.{reverse_take}
+use Rattle.vhost_protocol.specs.Stream.{Cell, has_some}
+use Rattle.vhost_link.specs.declared.plain.PlainHandle.{PlainHandle}
 use Rattle.vhost_link.specs.Mem.{event}
 use Rattle.vhost_connection.specs.Hearing.{Fails}
 use Rattle.vhost_backend_req.specs.Asking as asking
@@ -18,14 +20,15 @@ use Rattle.vhost_pair.specs.OnWay.{incoming, outgoing}
 use Rattle.vhost_pair.specs.Sides.{cuts_of}
 use Rattle.vhost_pair.proofs.Asked.{End}
 use Rattle.vhost_pair.proofs.OnWay.{incoming-cut, outgoing-taken}
-use Rattle.vhost_pair.proofs.Spent.{passes, passes-none}
+use Rattle.vhost_pair.proofs.Spent.{passes, all-moved, still-passes}
 
 module _ (head : Head) (fe : End) where
   -- The answer is that of all that was coming.
   pub record IsTaken (awaited : Bool) (answer : Result ℕ io.IoError) (fe' : End) : Type 0 where
     pub cut : reverse_take awaited (fields_of head) (incoming fe) ≡ (seen_io_result answer, incoming fe')
     pub outgoing : outgoing fe' ≡ outgoing fe
-    pub passed : Passes fe.budget (cuts_of fe.link) (cuts_of fe'.link)
+    -- all that had been sent, where nothing had been heard before
+    pub passed : (cells : List (Cell PlainHandle)) → (has_some cells ≡ true → (fe.ahead ≡ []) × (incoming fe ≡ cells) × (incoming fe' ≡ [])) → Passes fe.budget cells (cuts_of fe.link) (cuts_of fe'.link)
     pub broken : fe'.broken ≡ None
     pub faulted : fe'.faulted ≡ false
     pub budget : fe'.budget ≡ fe.budget
@@ -38,7 +41,7 @@ module _ (head : Head) (fe : End) where
   heard-or-lost answer fe' (asking.heard came listed) = let h = came.hears in inl (record {
     cut = incoming-cut fe fe' _ h.serves.talks (reverse_take true (fields_of head)) h.cells h.ended (seen_io_result answer) refl h.splits;
     outgoing = outgoing-taken fe fe' _ h.serves.talks ∙ append-nil (outgoing fe);
-    passed = passes fe fe' _ _ h.serves;
+    passed = λ cells all. passes cells fe fe' _ _ h.serves (λ some. let a = all some in all-moved cells fe fe' _ h.serves.talks a.0 a.1 a.2 some);
     broken = h.serves.after;
     faulted = h.serves.faulted;
     budget = h.serves.talks.budget;
@@ -50,7 +53,7 @@ module _ (head : Head) (fe : End) where
   taken-or-lost false answer fe' whole sound (is, same) = inl (rw (is, same) (record {
     cut = refl;
     outgoing = refl;
-    passed = passes-none fe.budget (cuts_of fe.link) (cuts_of fe.link) refl;
+    passed = λ cells all. still-passes fe cells (λ some. sym (all some).1 ∙ (all some).2);
     broken = whole;
     faulted = sound;
     budget = refl;

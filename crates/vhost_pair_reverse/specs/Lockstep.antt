@@ -42,7 +42,7 @@ module _ {Dev : Type 0} (gives : Gives Dev) where
     pub lockstep : InLockstep old before kept mid
     pub going : mid.stopped ≡ None
     pub stopped : new.stopped ≡ Some Premise
-    pub breaks : Breaks mid (input_of call) (seen_io_result answer) new
+    pub breaks : Breaks gives mid (input_of call) (seen_io_result answer) new
 
   -- Both sides are in lockstep; or they were up to the last answered call, where a premise failed.
   abbrev pub Lockstep : View Dev → List (ReverseCall PlainHandle) → List (Result ℕ io.IoError) → View Dev → Type 0

@@ -1,5 +1,5 @@
 -- What a call of a channel adds up to.
-use Rattle.std.proofs.Common.{◌≡◌, ℕ, ◌+◌, ◌++◌, List, [], ◌∷◌, take, drop, Bool, true, false, Some, None, Result, Ok, Err, refl, sym, ap, subst, ◌∙◌, arith}
+use Rattle.std.proofs.Common.{◌≡◌, ℕ, ◌+◌, List, [], ◌∷◌, take, drop, Bool, true, false, Some, None, Result, Ok, Err, refl, sym, ap, subst, ◌∙◌, arith}
 use Rattle.std.specs.Prelude.{◌&&◌, ◌||◌, not, if◌then◌else◌}
 use Rattle.std.proofs.lemmas.List.{append-nil}
 use Rattle.vhost_message.specs.declared.error.Error as declared
@@ -17,9 +17,9 @@ use Rattle.vhost_connection.specs.Talk.{State, Serves, Talks, Never, Trouble, ha
 use Rattle.vhost_connection.specs.Talk.Trouble.{was_broken as trouble_broken, no_memory as trouble_memory, fault as trouble_fault}
 use Rattle.vhost_connection.specs.Hearing.{Fails}
 use Rattle.vhost_connection.specs.Hearing.Fails.{was_broken as fails_broken, no_memory as fails_memory, fault as fails_fault}
-use Rattle.vhost_connection.proofs.Talking.{Serves-then, Talks-as}
 use Rattle.vhost_promises.specs.Calls.{is_fault, is_io_fault, Exchanges, HasReason}
 use Rattle.vhost_promises.specs.Calls.HasReason.{was_broken, no_list, failed}
+use Rattle.vhost_promises.proofs.TwoCalls.{talks-both}
 
 -- ---- the endpoint
 
@@ -27,18 +27,17 @@ module _ {L H : Type 0} (event : L → Event H → L → Type 0) where
   -- a message out and a message in
   pub exchange : (old mid new : State L H) (out : List (Cell H)) (came : List (Item H)) (r q : ℕ) → Serves event old old.budget (sends out r) mid → Serves event mid mid.budget (receives came q) new
       → Exchanges event (old.budget + old.budget) out came old new
-  exchange old mid new out came r q s t =
-      let both = Serves-then s t in (
-        r + q,
-        record {
-          talks = Talks-as {m = move came (out ++ []) (r + q) 0} (ap (λ xs. move came xs (r + q) 0) (append-nil out)) both.talks;
-          retries = omega (arith, s.retries, t.retries, s.talks.budget);
-          failures = refl;
-          before = both.before;
-          after = both.after;
-          faulted = both.faulted;
-        },
-      )
+  exchange old mid new out came r q s t = (
+    r + q,
+    record {
+      talks = subst (λ m. Talks event old m new) (ap (λ xs. move came xs (r + q) 0) (append-nil out)) (talks-both event old mid new (sends out r) (receives came q) s.talks t.talks);
+      retries = omega (arith, s.retries, t.retries, s.talks.budget);
+      failures = refl;
+      before = s.before;
+      after = t.after;
+      faulted = t.faulted;
+    },
+  )
 
   -- nothing was done yet, but that the list of handles was made
   not-yet : (old : State L H) (listed : Bool) → Talks event old nothing (record old { list = listed })

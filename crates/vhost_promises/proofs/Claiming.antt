@@ -26,7 +26,7 @@ use Rattle.vhost_frontend_core.specs.Values.{answer_of}
 use Rattle.vhost_frontend_core.specs.declared.values.answer.FrontendAnswer.{FrontendAnswer}
 use Rattle.vhost_frontend_core.specs.declared.values.call.FrontendCall.TheVariants as call
 use Rattle.vhost_pair.specs.Joined.{View, IsReady, Offers, Answers, Steps, StepsAll}
-use Rattle.vhost_pair.specs.Lockstep.{ArePlain, InLockstep, Lockstep}
+use Rattle.vhost_pair.specs.Lockstep.{ArePlain, AreOffered, InLockstep, Lockstep}
 use Rattle.vhost_pair.specs.Sides.{as_view, fresh_parts}
 use Rattle.vhost_pair.specs.Text.{text_of}
 use Rattle.vhost_pair.specs.declared.halt.Halt.{Halt}
@@ -147,9 +147,9 @@ pub claimed : (alloc : Global) (spare : List PlainHandle) (old new : View Device
     → (device : Device) (script script' : List Cut) → device ≡ dummy.fresh alloc spare → script ≡ [] → script' ≡ [] → old ≡ as_view (fresh_parts device 2 3 script script') None
     → StepsAll moves old (call.GetFeatures ∷ call.SetOwner ∷ []) answers end new ⊎ ((end ≡ Err OutOfMemory) × (answers ≡ []) × (new ≡ old))
     → end ≡ Ok tt
-    → ((bit : Bool) → Offers moves bit → IsReady bit old → old.stopped ≡ None → ArePlain (call.GetFeatures ∷ call.SetOwner ∷ []) → Lockstep moves bit old (call.GetFeatures ∷ call.SetOwner ∷ []) answers new)
+    → ((bit : Bool) → AreOffered bit (call.GetFeatures ∷ call.SetOwner ∷ []) answers ⊎ Offers moves bit → IsReady bit old → old.stopped ≡ None → ArePlain (call.GetFeatures ∷ call.SetOwner ∷ []) → Lockstep moves bit old (call.GetFeatures ∷ call.SetOwner ∷ []) answers new)
     → IsReady true old → (new.stopped ≡ Some Premise → ⊥) → Claims (dummy.fresh alloc spare) answers new
-claimed alloc spare old new answers (Ok u) device script script' is_device is_script is_script' is_old (inl steps) done contract ready goes_on = go (contract true offers ready (ap (λ v. v.stopped) is_old) (tt, (tt, tt)))
+claimed alloc spare old new answers (Ok u) device script script' is_device is_script is_script' is_old (inl steps) done contract ready goes_on = go (contract true (inr offers) ready (ap (λ v. v.stopped) is_old) (tt, (tt, tt)))
   where
     is : old ≡ begun alloc spare
     is = is_old ∙ ap (λ d. as_view (fresh_parts d 2 3 script script') None) is_device ∙ ap (λ c. as_view (fresh_parts (dummy.fresh alloc spare) 2 3 c script') None) is_script
@@ -166,7 +166,7 @@ claimed alloc spare old new answers (Err e) device script script' is_device is_s
 -- the step after a claim, from its contract: it is refused in silence, and the run stops there
 pub claimed-again : (device : Device) (done : List FrontendAnswer) (old new : View Device) (a : FrontendAnswer)
     → Claims device done old → Steps moves old SetOwner (Ok a) new → (new.stopped ≡ Some Premise → ⊥) → RefusesAgain a new
-claimed-again device done old new a claim (going, steps) goes_on = go (steps true claim.ready)
+claimed-again device done old new a claim (going, moved, steps) goes_on = go (steps true claim.ready)
   where
     go : Answers moves old SetOwner (answer_of a) new → RefusesAgain a new
     go (inl kept) =
@@ -174,4 +174,4 @@ claimed-again device done old new a claim (going, steps) goes_on = go (steps tru
         (subst (λ f. JoinedStep moves opens_backend opens_gpu f serving old.device SetOwner kept.shown new.frontend new.session new.device) claim.frontend
         (subst (λ s. JoinedStep moves opens_backend opens_gpu old.frontend s old.device SetOwner kept.shown new.frontend new.session new.device) claim.session kept.step)) in
         record { answered = kept.answered ∙ told; asked = (kept.request ∙ request, kept.reply ∙ reply); stopped = kept.stopped ∙ ap (λ x. if x then Some Table else None) last }
-    go (inr (premise, _)) = absurd (goes_on premise)
+    go (inr premise) = absurd (goes_on premise)

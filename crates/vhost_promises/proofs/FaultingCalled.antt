@@ -25,8 +25,8 @@ use Rattle.vhost_frontend_core.specs.Values.{answer_of}
 use Rattle.vhost_frontend_core.specs.declared.asked.Sent.{Sent}
 use Rattle.vhost_frontend_core.specs.declared.internal.FrontendInternal.{FrontendInternal}
 use Rattle.vhost_frontend_core.specs.declared.values.answer.FrontendAnswer.{FrontendAnswer}
-use Rattle.vhost_frontend_core.proofs.Awaiting.{may-await-with-room}
 use Rattle.vhost_promises.specs.Faults.{MeetsFaultAs}
+use Rattle.vhost_promises.proofs.Awaiting.{may-be-awaited}
 use Rattle.vhost_promises.proofs.FaultingRead.{unmet, met-first, met-later, went, read-unmet}
 
 abbrev Link : Type 0
@@ -66,7 +66,7 @@ module _ (call : FrontendCall PlainHandle) where
         → TakesWell call sent middle answer new → (endpoint_of new).faulted ≡ true → MeetsFaultAs event (endpoint_of old) (says (answer_of answer)) (endpoint_of new)
     met-sent sent middle answer new h kept takes met =
         let (m, s, moved) = went-with-room (endpoint_of old) (session_of old) (awaits old) sent (endpoint_of middle) (session_of middle) (awaits middle) h in
-        met-taking sent.awaited (fields_of sent.request) (endpoint_of old) (endpoint_of middle) (session_of middle) m (answer_of answer) (endpoint_of new) (session_of new) s moved (takes.taken (may-await-with-room call h) kept) met
+        met-taking sent.awaited (fields_of sent.request) (endpoint_of old) (endpoint_of middle) (session_of middle) m (answer_of answer) (endpoint_of new) (session_of new) s moved (takes.taken (may-be-awaited event call (endpoint_of old) (endpoint_of middle) (session_of old) (session_of middle) (awaits old) (awaits middle) sent h) kept) met
 
     -- its request went out, and its answer was taken
     pub met-answered : (o : Option Sent) (sent : Sent) (middle : FrontendInternal Ends PlainHandle) (answer : FrontendAnswer) (new : FrontendInternal Ends PlainHandle) → o ≡ Some sent → AsksCall call old (Ok o) middle

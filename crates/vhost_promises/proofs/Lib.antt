@@ -1,3 +1,5 @@
+pub mod TwoCalls
+pub mod Awaiting
 pub mod Whole
 pub mod Lockstep
 pub mod OwnAnswer
@@ -18,3 +20,5 @@ pub mod Sharing
 pub mod Showing
 pub mod Listed
 pub mod ListedRead
+pub mod ByScript
+pub mod Whatever

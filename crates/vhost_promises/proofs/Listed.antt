@@ -1,5 +1,5 @@
 -- Calls one after another: an answer without a handle leaves the list of handles, and with it no call wants memory.
-use Rattle.std.proofs.Common.{◌≡◌, ℕ, [], Bool, true, false, Option, Some, None, Ok, Err, refl, sym, ap, ◌∙◌}
+use Rattle.std.proofs.Common.{◌≡◌, ℕ, [], Bool, true, false, Option, Some, None, Ok, Err, sym, ap, ◌∙◌}
 use Rattle.std.specs.Prelude.{ℤ, codes, if◌then◌else◌}
 use Rattle.vhost_message.specs.declared.backend_req.BackendReq.TheVariants.{SHARED_OBJECT_ADD}
 use Rattle.vhost_message.specs.declared.error.Error as declared
@@ -15,13 +15,13 @@ use Rattle.vhost_protocol.specs.Reverse.{Backend, ReverseAsked, Refuses, SharedO
 use Rattle.vhost_protocol.specs.Written.{ObjectName}
 use Rattle.vhost_link.specs.Law.{Event}
 use Rattle.vhost_connection.specs.Talk.{State}
-use Rattle.vhost_connection.proofs.Errors.{no_memory_error}
 use Rattle.vhost_backend_req.specs.Asking.{AsksCall}
 use Rattle.vhost_backend_req.specs.Channel.{Channel, backend_of}
 use Rattle.vhost_promises.specs.Asks.{IsNotDone}
 use Rattle.vhost_promises.specs.Asks.IsNotDone.{refused, answered, fault}
 use Rattle.vhost_promises.specs.Calls.{HasReason, is_io_fault}
 use Rattle.vhost_promises.specs.Calls.HasReason.{was_broken, no_list, failed}
+use Rattle.vhost_promises.proofs.TwoCalls.{no-want}
 use Rattle.vhost_promises.proofs.FrontendAnswers.{answers-call}
 
 -- no call is refused for want of memory
@@ -36,7 +36,7 @@ module _ {L H : Type 0} (event : L → Event H → L → Type 0) where
   listed-reason : (e : declared.Error) (old new : State L H) → old.list ≡ true → e ≡ OutOfMemory → HasReason event old e new → ⊥
   listed-reason e old new listed is (was_broken b s) = absurd cc
   listed-reason e old new listed is (no_list away s) = absurd (cc (sym listed ∙ away))
-  listed-reason e old new listed is (failed c talks none broken fell once spent breaks) = no_memory_error _ c refl is
+  listed-reason e old new listed is (failed c talks none broken fell once spent breaks) = no-want c is
 
   -- ---- a device's call to its frontend
 

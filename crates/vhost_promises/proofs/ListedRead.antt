@@ -24,7 +24,6 @@ use Rattle.vhost_link.specs.Law.{Event}
 use Rattle.vhost_connection.specs.Hearing.{Fails}
 use Rattle.vhost_connection.specs.Hearing.Fails.{was_broken, no_memory, fault}
 use Rattle.vhost_connection.specs.Talk.{State}
-use Rattle.vhost_connection.proofs.Errors.{no_memory_error}
 use Rattle.vhost_frontend.specs.Whole.{Whole}
 use Rattle.vhost_frontend.specs.Whole.Calls.{ended, answered as replied}
 use Rattle.vhost_frontend_core.specs.Asking as core
@@ -35,6 +34,7 @@ use Rattle.vhost_frontend_core.specs.Taking.Reads.{unread, read}
 use Rattle.vhost_frontend_core.specs.Taking.Takes.{taken, stopped}
 use Rattle.vhost_frontend_core.specs.declared.asked.Sent.{Sent}
 use Rattle.vhost_frontend_core.specs.declared.internal.FrontendInternal.{FrontendInternal}
+use Rattle.vhost_promises.proofs.TwoCalls.{no-want as no-memory}
 use Rattle.vhost_promises.specs.Calls.{is_fault}
 use Rattle.vhost_promises.proofs.Calls.{splits-all}
 
@@ -138,7 +138,7 @@ module _ {L H : Type 0} (event : L → Event H → L → Type 0) where
   failing : (between : Bool) (e : declared.Error) (old new : State L H) → Fails event old between e new → old.list ≡ true → e ≡ OutOfMemory → ⊥
   failing between e old new (was_broken b same) listed is = absurd cc
   failing between e old new (no_memory b away same) listed is = absurd (cc (sym listed ∙ away))
-  failing between e old new (fault c m b fell none most spent few breaks faulted kept) listed is = no_memory_error _ c refl is
+  failing between e old new (fault c m b fell none most spent few breaks faulted kept) listed is = no-memory c is
 
   -- ---- whole calls
 

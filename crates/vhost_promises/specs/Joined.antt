@@ -1,20 +1,28 @@
 -- What a run of both sides is, in the words of the definitions.
-use Rattle.std.specs.Prelude.{◌≡◌, ℕ, List, ◌++◌, None, false, true, Result}
-use Rattle.vhost_protocol.specs.FrontendCall as calls
+use Rattle.std.specs.Prelude.{◌≡◌, ℕ, ◌<◌, ℤ, List, ◌∷◌, ◌++◌, None, false, Result, Err}
+use Rattle.vhost_message.specs.Cause.{is_retry}
+use Rattle.vhost_message.specs.declared.cause.IoCause.TheVariants.{Raw}
+use Rattle.vhost_message.specs.declared.frontend_req.FrontendReq.{FrontendReq}
+use Rattle.vhost_protocol.specs.Error.{OutOfMemory}
 use Rattle.vhost_protocol.specs.FrontendCall.{new_frontend}
-use Rattle.vhost_protocol.specs.Joined.{JoinedRun}
+use Rattle.vhost_protocol.specs.Handler.{Meets}
+use Rattle.vhost_protocol.specs.Joined.{JoinedRun, read_as}
 use Rattle.vhost_message.specs.declared.io_error.IoError.{IoError}
 use Rattle.vhost_protocol.specs.JoinedReverse.{ReverseJoinedRun}
 use Rattle.vhost_protocol.specs.Reverse.{Backend, Server}
 use Rattle.vhost_protocol.specs.Session.{fresh}
+use Rattle.vhost_protocol.specs.Step.{Outcome}
+use Rattle.vhost_protocol.specs.Written.{Written}
 use Rattle.vhost_backend_req.specs.declared.call.ReverseCall.{ReverseCall}
+use Rattle.vhost_link.specs.declared.cut.Cut.{Cut}
+use Rattle.vhost_link.specs.declared.cut.Cut.TheVariants.{Fault}
 use Rattle.vhost_link.specs.declared.plain.PlainHandle.{PlainHandle}
 use Rattle.vhost_pair_reverse.specs.Joined as back
 use Rattle.vhost_pair_reverse.specs.Lockstep as back_lockstep
 use Rattle.vhost_frontend_core.specs.declared.values.answer.FrontendAnswer.{FrontendAnswer}
 use Rattle.vhost_frontend_core.specs.declared.values.call.FrontendCall.{FrontendCall}
 use Rattle.vhost_pair.specs.Device.{Gives, opens_backend, opens_gpu}
-use Rattle.vhost_pair.specs.Joined.{View, Starves}
+use Rattle.vhost_pair.specs.Joined.{View, Cuts}
 use Rattle.vhost_pair.specs.Lockstep.{entries}
 
 -- The answers that were appended are those of a joined run from two fresh sessions and this device to those of now.
@@ -23,11 +31,16 @@ pub record AnswersFresh {Dev : Type 0} (gives : Gives Dev) (queues : ℕ) (devic
   pub appended : after ≡ before ++ answers
   pub run : JoinedRun gives opens_backend opens_gpu (new_frontend queues) fresh device (entries calls answers) now.frontend now.session now.device
 
+-- the next cut of a link is a fault for good
+abbrev pub FailsAtOnce : Cuts → Type 0
+FailsAtOnce link = (e : ℤ) × (cuts : List Cut) × (link.script ≡ Fault e ∷ cuts) × (is_retry (Raw e) ≡ false)
+
 -- Memory was wanted: by one of the links, or behind the handler.
 pub data WantsMemory {Dev : Type 0} (gives : Gives Dev) (now : View Dev) : Type 0 where
-  of_asking : now.asking.starved ≡ true → WantsMemory gives now
-  of_serving : now.serving.starved ≡ true → WantsMemory gives now
-  of_handler : (before : View Dev) (call : calls.FrontendCall PlainHandle) → Starves gives before.frontend before.session before.device call now.device → WantsMemory gives now
+  of_asking : 0 < now.asking.wants → WantsMemory gives now
+  of_serving : 0 < now.serving.wants → WantsMemory gives now
+  of_handler : (before : View Dev) (w : Written FrontendReq PlainHandle) (o : Outcome PlainHandle) → Meets gives opens_backend opens_gpu before.session before.device (read_as w) o now.device → o.answer ≡ Err OutOfMemory
+      → WantsMemory gives now
 
 -- what both sides of the reverse channel remember as they begin
 abbrev pub new_backend : Backend

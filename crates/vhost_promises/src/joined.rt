@@ -1,10 +1,14 @@
 //! Both sides joined.
 
-ghost use Rattle.std.specs.Prelude.{◌≡◌, ◌≢◌, ◌++◌, [], None, Some, IfOk, Bool, List};
+ghost use Rattle.std.specs.Prelude.{◌≡◌, ◌≢◌, ◌++◌, [], None, Some, Err, IfOk, Bool, List};
 ghost use Rattle.vhost_pair.specs.declared.halt.Stop.TheVariants.{Premise};
 ghost use Rattle.vhost_pair.specs.Joined.{IsReady, Offers};
-ghost use Rattle.vhost_pair.specs.Lockstep.{ArePlain, Lockstep};
-ghost use Rattle.vhost_promises.specs.Joined.{AnswersFresh, AnswersFreshBack, WantsMemory};
+ghost use Rattle.vhost_pair.specs.Lockstep.{ArePlain, AreOffered, Lockstep};
+ghost use Rattle.vhost_frontend_core.specs.Values.{answer_of, call_of};
+ghost use Rattle.vhost_pair.specs.Text.{no_text};
+ghost use Rattle.vhost_promises.specs.Joined.{AnswersFresh, AnswersFreshBack, FailsAtOnce, WantsMemory};
+ghost use Rattle.vhost_protocol.specs.Ask.{Refuses, ask};
+ghost use Rattle.vhost_protocol.specs.Error.{Error};
 
 use std::alloc::Global;
 use vhost_device::VhostUserBackendReqHandlerMut;
@@ -20,7 +24,7 @@ use vhost_pair_reverse::{JoinedReverse, ReverseCall};
 ///
 /// This is so where all features that the device offers agree on protocol features (`bit`), and no request is sent as a reply;
 /// the links are cut as the scripts say. Where no script cuts a call, the premise that failed is memory that was wanted: by a link,
-/// or behind the handler.
+/// or behind the handler. The run is kept where it halts, with the halt: what was answered until then stands.
 pub fn runs_in_lockstep<D: VhostUserBackendReqHandlerMut<Link = MemLink>>(
     alloc: Global,
     device: D,
@@ -29,29 +33,53 @@ pub fn runs_in_lockstep<D: VhostUserBackendReqHandlerMut<Link = MemLink>>(
     scripts: (Vec<Cut>, Vec<Cut>),
     calls: &[FrontendCall],
     answers: &mut Vec<FrontendAnswer>,
-) -> Result<Joined<D>, Halt>
-    ensures run { IfOk result (λ joined. (bit : Bool) → Offers D.gives bit → ArePlain calls.now → joined.stopped ≢ Some Premise
-        → AnswersFresh D.gives max_queue_num device calls.now answers.old.items answers.new.items joined) }
-    ensures memory { IfOk result (λ joined. (bit : Bool) → Offers D.gives bit → ArePlain calls.now → scripts.0.items ≡ [] → scripts.1.items ≡ [] → joined.stopped ≡ Some Premise
-        → WantsMemory D.gives joined) }
+) -> Result<(Joined<D>, Result<(), Halt>), Halt>
+    ensures run { IfOk result (λ kept. (bit : Bool) → Offers D.gives bit → ArePlain calls.now → kept.0.stopped ≢ Some Premise
+        → AnswersFresh D.gives max_queue_num device calls.now answers.old.items answers.new.items kept.0) }
+    ensures memory { IfOk result (λ kept. (bit : Bool) → Offers D.gives bit → ArePlain calls.now → scripts.0.items ≡ [] → scripts.1.items ≡ [] → kept.0.stopped ≡ Some Premise
+        → WantsMemory D.gives kept.0) }
 {
     let mut joined = Joined::new(alloc, device, max_queue_num, budget, scripts)?;
-    joined.run(calls, answers)?;
-    Ok(joined)
+    let ended = joined.run(calls, answers);
+    Ok((joined, ended))
 }
 
 /// Does these calls of sides that are in step: they are in lockstep, or they were up to the last answered call, which broke a premise.
+/// Of the device it is enough that all features which it answered here agree on protocol features. The answers are kept where the run
+/// halts, with the halt.
 pub fn stays_in_step<D: VhostUserBackendReqHandlerMut<Link = MemLink>>(
     alloc: Global,
     joined: &mut Joined<D>,
     calls: &[FrontendCall],
-) -> Result<Vec<FrontendAnswer>, Halt>
-    ensures { (bit : Bool) → Offers D.gives bit → IsReady bit joined.old → joined.old.stopped ≡ None → ArePlain calls.now
-        → IfOk result (λ answers. Lockstep D.gives bit joined.old calls.now answers.items joined.new) }
+) -> (Vec<FrontendAnswer>, Result<(), Halt>)
+    ensures { (bit : Bool) → AreOffered bit calls.now result.0.items → IsReady bit joined.old → joined.old.stopped ≡ None → ArePlain calls.now
+        → Lockstep D.gives bit joined.old calls.now result.0.items joined.new }
 {
     let mut answers = Vec::new(alloc);
-    joined.run(calls, &mut answers)?;
-    Ok(answers)
+    let ended = joined.run(calls, &mut answers);
+    (answers, ended)
+}
+
+/// Does one call which its tests refuse: whatever was before, and however requests are sent, the answer is that refusal, and nothing
+/// else changed but that no message was written last.
+pub fn refuses_whatever_was<D: VhostUserBackendReqHandlerMut<Link = MemLink>>(
+    joined: &mut Joined<D>,
+    call: &FrontendCall,
+) -> Result<FrontendAnswer, Halt>
+    ensures { (e : Error) → ask joined.old.frontend (call_of call.now) ≡ Refuses e
+        → IfOk result (λ answer. (answer_of answer ≡ Err e) × (joined.new ≡ record joined.old { request = no_text; reply = no_text })) }
+{
+    joined.step(call)
+}
+
+/// Does one call where the handler's link fails at once for good, and nothing is on the way: no reply is shown, for none was written.
+pub fn shows_no_reply<D: VhostUserBackendReqHandlerMut<Link = MemLink>>(
+    joined: &mut Joined<D>,
+    call: &FrontendCall,
+) -> Result<FrontendAnswer, Halt>
+    ensures { FailsAtOnce joined.old.serving → joined.old.to_handler ≡ [] → IfOk result (λ _. joined.new.reply ≡ no_text) }
+{
+    joined.step(call)
 }
 
 /// The same of both sides of the reverse channel, over every device and every list of calls and flags.
@@ -62,10 +90,10 @@ pub fn runs_back_in_lockstep<D: VhostUserFrontendReqHandlerMut<Handle = PlainHan
     scripts: (Vec<Cut>, Vec<Cut>),
     calls: &[ReverseCall],
     answers: &mut Vec<HandlerResult<u64>>,
-) -> Result<JoinedReverse<D>, Halt>
-    ensures { IfOk result (λ joined. joined.stopped ≢ Some Premise → AnswersFreshBack D.gives device calls.now answers.old.items answers.new.items joined) }
+) -> Result<(JoinedReverse<D>, Result<(), Halt>), Halt>
+    ensures { IfOk result (λ kept. kept.0.stopped ≢ Some Premise → AnswersFreshBack D.gives device calls.now answers.old.items answers.new.items kept.0) }
 {
     let mut joined = JoinedReverse::new(alloc, device, budget, scripts)?;
-    joined.run(calls, answers)?;
-    Ok(joined)
+    let ended = joined.run(calls, answers);
+    Ok((joined, ended))
 }

@@ -16,6 +16,7 @@ mod read;
 mod recorder;
 mod records;
 mod runs;
+mod scripts;
 mod served;
 mod shared;
 mod streams;
@@ -28,7 +29,9 @@ pub use example_back::{OneObject, shares_object, shares_twice};
 pub use faults::{meets_fault, meets_fault_back, stays_broken, stays_broken_back};
 pub use faults_asking::{adds_broken, asks_broken, displays_broken, meets_fault_asking};
 pub use faults_calling::meets_fault_calling;
-pub use joined::{runs_back_in_lockstep, runs_in_lockstep, stays_in_step};
+pub use joined::{
+    refuses_whatever_was, runs_back_in_lockstep, runs_in_lockstep, shows_no_reply, stays_in_step,
+};
 pub use lines::runs_two_lines;
 pub use read::{reads_features, reads_features_new};
 pub use recorder::{finds_own, first_answer, records_two, two_callers};
@@ -37,6 +40,7 @@ pub use records::{
     same_number, same_region, same_scanout, there_and_back,
 };
 pub use runs::{serves_no_broken, serves_no_broken_back, serves_whole, serves_whole_back};
+pub use scripts::{passes_its_script, stops_by_its_script};
 pub use served::{serves_three, serves_three_new};
 pub use shared::own_features;
 pub use streams::{finds_none, finds_none_back};

@@ -79,7 +79,8 @@ fn two_callers_in<L: Ledger, R: Wait>(
     Ok((recorder.close(all), asked, claimed))
 }
 
-/// Caller 1 asks for the features of a new example device, and then caller 2 claims it: the log, with an entry for each receipt.
+/// Caller 1 asks for the features of a new example device, and then caller 2 claims it: a log of two entries, and the receipt of each
+/// caller.
 ///
 /// Errors are those of the calls.
 pub fn two_callers<R: Wait>(rt: &R, alloc: Global) -> Result<(Log<Device>, Receipt, Receipt), Halt>

@@ -204,11 +204,11 @@ module _ {Dev : Type 0} (gives : Gives Dev) where
               go false is = failed is
 
         kept-answered : IsKept gives more
-        kept-answered = go (step.1 (chosen (bit_after None old.entries)).0 (going.ready (chosen (bit_after None old.entries)).0 (chosen (bit_after None old.entries)).1))
+        kept-answered = go (step.2 (chosen (bit_after None old.entries)).0 (going.ready (chosen (bit_after None old.entries)).0 (chosen (bit_after None old.entries)).1))
           where
             go : Answers gives old.joined e.call (answer_of answer) w → IsKept gives more
             go (inl k) = kept-kept k
-            go (inr (premise, breaks)) = broke premise
+            go (inr premise) = broke premise
 
       -- whatever came of the call
       pub kept-step : IsKept gives more

@@ -24,6 +24,34 @@ struct Desk<D: VhostUserBackendReqHandlerMut<Link = MemLink>, L: Ledger> {
 }
 
 impl<D: VhostUserBackendReqHandlerMut<Link = MemLink>, L: Ledger> Desk<D, L> {
+    ghost use Rattle.std.specs.Prelude.{[], None};
+    ghost use Rattle.vhost_pair.specs.Sides.{as_view, fresh_parts};
+
+    /// A recording over two new sides with these queues and this budget, and a count of nothing, with all parts of the ledger.
+    ///
+    /// `Halt::OutOfMemory`: a growth was refused.
+    fn open(
+        blank: Blank,
+        alloc: Global,
+        device: D,
+        max_queue_num: u64,
+        budget: u32,
+        scripts: (Vec<Cut>, Vec<Cut>),
+    ) -> Result<(Self, Share<L>), Halt>
+        requires ledger { (blank.name ≡ L.name) × (blank.parts ≡ L.parts) }
+        ensures fresh { IfOk result (λ opened. opened.0.recorded ≡ record { joined = as_view (fresh_parts device max_queue_num budget scripts.0.items scripts.1.items) None; entries = []; queues = max_queue_num }) }
+        ensures share { IfOk result (λ opened. (parts_of opened.1 ≡ L.parts) × (count_of opened.1 ≡ 0) × (caller_of opened.1 ≡ 0)) }
+        ensures memory { IfErr result (λ halt. halt ≡ OutOfMemory) }
+    {
+        match Recorded::new(alloc, device, max_queue_num, budget, scripts) {
+            Ok(recorded) => {
+                let (calls, part) = blank.open::<L>();
+                Ok((Desk { recorded, calls }, Share { part, caller: 0 }))
+            }
+            Err(halt) => Err(halt),
+        }
+    }
+
     /// Does one call for the share's caller, and counts it.
     fn call(&mut self, share: &mut Share<L>, call: &FrontendCall) -> Result<Receipt, Halt>
         requires { 0 < parts_of share.old }
@@ -66,11 +94,10 @@ impl<D: VhostUserBackendReqHandlerMut<Link = MemLink>, L: Ledger> Recorder<D, L>
         ensures share { IfOk result (λ opened. (parts_of opened.1 ≡ L.parts) × (count_of opened.1 ≡ 0) × (caller_of opened.1 ≡ 0)) }
         ensures memory { IfErr result (λ halt. halt ≡ OutOfMemory) }
     {
-        match Recorded::new(alloc, device, max_queue_num, budget, scripts) {
-            Ok(recorded) => {
-                let (calls, part) = blank.open::<L>();
-                let desk = Mutex::new(Desk { recorded, calls });
-                Ok((Recorder { desk }, Share { part, caller: 0 }))
+        match Desk::open(blank, alloc, device, max_queue_num, budget, scripts) {
+            Ok((desk, share)) => {
+                let desk = Mutex::new(desk);
+                Ok((Recorder { desk }, share))
             }
             Err(halt) => Err(halt),
         }

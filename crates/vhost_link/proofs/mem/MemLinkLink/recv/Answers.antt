@@ -25,7 +25,7 @@ returns-clause-law c =
           front
           (omega (arith, length-take n c.get.new.room))
           (sym (ap (λ e. e.pending) is) ∙ c.get.ensures.got)
-          (handed-is c.args.self.now _ (ap (λ e. e.sent) is) (c.next_cut.ensures.rest ∙ ap (λ e. drop 1 e.script) is) (ap (λ e. e.starved) is))
+          (handed-is c.args.self.now _ (ap (λ e. e.sent) is) (c.next_cut.ensures.rest ∙ ap (λ e. drop 1 e.script) is) (ap (λ e. e.wants) is))
           c.get.ensures.few
           c.get.ensures.none,
     )

@@ -1,9 +1,10 @@
 use Rattle.std.proofs.Common.{refl}
+use Rattle.vhost_protocol.specs.Error.{OutOfMemory}
 use Rattle.vhost_frontend_core.specs.Values.{call_of}
 use Rattle.vhost_pair.specs.Sides as sides
 use Rattle.vhost_pair.specs.Sides.{parts_of}
 use Rattle.vhost_pair.proofs.Handing.{same-asked, served-copied, lost-copied}
-use Rattle.vhost_pair.proofs.Lists.{result-listed}
+use Rattle.vhost_pair.proofs.Lists.{error-listed, result-listed}
 use Rattle.vhost_pair.proofs.sides.Sides.serve.Goals as goal
 
 pub returns : goal.returns
@@ -19,6 +20,6 @@ pub returns-in_default : goal.returns-in_default
 returns-in_default g c =
     let copied = same-asked (record (parts_of c.args.self.now) { request = _ }) _ _ _ c.copy_request.ensures.same c.copy_request.ensures.frontend.0 c.copy_request.ensures.frontend.1 in
     record {
-      served = lost-copied g.D.VhostUserBackendReqHandlerMut.gives (call_of c.args.call.now) c.args.sent (parts_of c.args.self.now) _ _ _ _ _ copied c.in_default.ensures.handed refl;
-      listed = result-listed (call_of c.args.call.now) _ _ _ _ _ _ _ (c.take-answer.ensures.taken c.requires.awaited c.requires.kept);
+      served = sides.no_way (lost-copied g.D.VhostUserBackendReqHandlerMut.gives (call_of c.args.call.now) c.args.sent (parts_of c.args.self.now) _ c.copy_request.ensures.text _ _ _ refl refl _ copied c.in_default.ensures.handed);
+      listed = error-listed (call_of c.args.call.now) _ OutOfMemory refl;
     }

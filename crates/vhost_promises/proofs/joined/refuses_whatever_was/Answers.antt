@@ -1,0 +1,7 @@
+-- A refusal, whatever was before.
+use Rattle.vhost_frontend_core.specs.Values.{call_of}
+use Rattle.vhost_promises.proofs.Whatever.{step-refuses}
+use Rattle.vhost_promises.proofs.joined.refuses_whatever_was.Goals as goal
+
+pub returns : goal.returns
+returns g c e is = step-refuses g.D.VhostUserBackendReqHandlerMut.gives c.args.joined.now c.step.new.self (call_of c.args.call.now) e c.step.result is c.step.ensures.step

@@ -1,0 +1,7 @@
+-- Nothing comes back where nothing was read.
+use Rattle.vhost_frontend_core.specs.Values.{call_of}
+use Rattle.vhost_promises.proofs.Whatever.{step-shows-nothing}
+use Rattle.vhost_promises.proofs.joined.shows_no_reply.Goals as goal
+
+pub returns : goal.returns
+returns g c fails none = step-shows-nothing g.D.VhostUserBackendReqHandlerMut.gives c.args.joined.now c.step.new.self (call_of c.args.call.now) fails none c.step.result c.step.ensures.step
