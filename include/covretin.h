@@ -311,11 +311,11 @@ enum covretin_error covretin_ask_set_vring_base(covretin_session *session, size_
 enum covretin_error covretin_ask_get_vring_base(covretin_session *session, size_t index);
 /* The eventfd by which the backend announces used buffers, that by which the driver announces available ones, and that by
  * which the backend tells of an error. index is 255 at most. fd negative: the ring has none, and who would wait for it polls
- * the ring. Few backends poll for a kick. */
+ * the ring. No real frontend was seen to send that. */
 enum covretin_error covretin_ask_set_vring_call(covretin_session *session, size_t index, int32_t fd);
 enum covretin_error covretin_ask_set_vring_kick(covretin_session *session, size_t index, int32_t fd);
 enum covretin_error covretin_ask_set_vring_err(covretin_session *session, size_t index, int32_t fd);
-/* INACTIVE_FEATURE: PROTOCOL_FEATURES was not accepted; then a ring is enabled by its kick. */
+/* INACTIVE_FEATURE: PROTOCOL_FEATURES was not accepted; then a ring is enabled from its start. */
 enum covretin_error covretin_ask_set_vring_enable(covretin_session *session, size_t index, bool enable);
 
 /* size is 1 to COVRETIN_MAX_CONFIG, and offset and size together are 4096 at most; flags are those of covretin_config. The
@@ -352,7 +352,7 @@ enum covretin_error covretin_ask_postcopy_end(covretin_session *session);
 /* The request that brought the regions: 5, SET_MEM_TABLE, or 37, ADD_MEM_REG. */
 enum covretin_error covretin_ask_postcopy_ack_mem_regions(covretin_session *session, uint32_t request);
 
-/* The greatest size of a frame. INACTIVE_OPERATION: MTU was not accepted. */
+/* The greatest size of what a frame carries. INACTIVE_OPERATION: MTU was not accepted. */
 enum covretin_error covretin_ask_set_mtu(covretin_session *session, uint16_t mtu);
 
 #ifdef __cplusplus
