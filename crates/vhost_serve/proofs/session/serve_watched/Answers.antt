@@ -2,7 +2,7 @@
 use Rattle.std.proofs.Common.{arith, ◌<◌, ◌^◌, suc, refl}
 use Rattle.vhost_backend_req_handler.specs.Sharing.{core_of}
 use Rattle.vhost_serve.specs.Session.{begins, goes_on, gate, call}
-use Rattle.vhost_serve.proofs.session.serve_session.Goals as goal
+use Rattle.vhost_serve.proofs.session.serve_watched.Goals as goal
 
 pub requests-init : goal.requests-init
 requests-init g c = record { count = 0; served = begins; requests = λ small. refl; next = tt; finite = tt }
