@@ -7,6 +7,7 @@ use Rattle.vhost_message.specs.declared.records.config.VhostUserConfig.{VhostUse
 use Rattle.vhost_message.specs.declared.records.memory.VhostUserMemoryRegion.{VhostUserMemoryRegion}
 use Rattle.vhost_message.specs.Records.{regions_of}
 use Rattle.vhost_message.specs.Transfer.{direction_number, phase_number}
+use Rattle.vhost_protocol.specs.Answered.{calls}
 use Rattle.vhost_protocol.specs.DeviceCall as device
 use Rattle.vhost_protocol.specs.DeviceCall.{Call}
 use Rattle.vhost_protocol.specs.Error.{InvalidMessage, seen, test}
@@ -15,7 +16,6 @@ use Rattle.vhost_protocol.specs.Session.{Session}
 use Rattle.vhost_protocol.specs.Split.{Message}
 use Rattle.vhost_protocol.specs.Step as step
 use Rattle.vhost_protocol.specs.Step.{Refusal, Step, ◌>>=◌, silently, acknowledged}
-use Rattle.vhost_backend_core.specs.Answered.{calls}
 use Rattle.vhost_backend_core.specs.Session.{session_of}
 use Rattle.vhost_backend_core.specs.declared.session.Session as code
 use Rattle.vhost_backend_core.specs.declared.incoming.Incoming.{Incoming}

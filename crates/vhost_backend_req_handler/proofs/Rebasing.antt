@@ -4,7 +4,7 @@ use Rattle.std.proofs.lemmas.List.{drop_all, get_or_default, take_all}
 use Rattle.std.specs.declared.vec.Vec.{Vec}
 use Rattle.vhost_device.specs.Answers.{seen_bases}
 use Rattle.vhost_message.specs.declared.records.memory.VhostUserMemoryRegion.{VhostUserMemoryRegion}
-use Rattle.vhost_protocol.specs.Row.{rebased}
+use Rattle.vhost_protocol.specs.Answered.{rebased}
 
 -- the next region gets its address
 placed : (i : ℕ) (rs : List VhostUserMemoryRegion) (bases : List ℕ) (d : VhostUserMemoryRegion) → length rs ≡ length bases → i < length rs

@@ -1,7 +1,7 @@
 //! Where a device has mapped the regions of a table.
 
 ghost use Rattle.std.specs.Prelude.{◌≡◌, ◌<◌, ◌^◌, ◌==◌, All, IsTrue, length};
-ghost use Rattle.vhost_protocol.specs.Row.{rebased};
+ghost use Rattle.vhost_protocol.specs.Answered.{rebased};
 
 use vhost_message::VhostUserMemoryRegion;
 

@@ -11,7 +11,8 @@ ghost use Rattle.vhost_message.specs.Records.{config_of};
 ghost use Rattle.vhost_message.specs.declared.limits.TheConstants.{MAX_MSG_SIZE};
 ghost use Rattle.vhost_message.specs.declared.frontend_req.FrontendReq.{FrontendReq};
 ghost use Rattle.vhost_message.specs.declared.frontend_req.FrontendReq.TheVariants.{GET_CONFIG, SET_CONFIG};
-ghost use Rattle.vhost_protocol.specs.Row.{is_valid_area, with_config};
+ghost use Rattle.vhost_protocol.specs.Answered.{with_config};
+ghost use Rattle.vhost_protocol.specs.Row.{is_valid_area};
 ghost use Rattle.vhost_protocol.specs.Split.{Message};
 
 use crate::request::{Request, part};

@@ -12,8 +12,9 @@ ghost use Rattle.vhost_connection.specs.Calls.{HandsOver};
 ghost use Rattle.vhost_device.specs.Answers.{seen_bases};
 ghost use Rattle.vhost_message.specs.declared.frontend_req.FrontendReq.{FrontendReq};
 ghost use Rattle.vhost_message.specs.declared.frontend_req.FrontendReq.TheVariants.{SET_MEM_TABLE, ADD_MEM_REG, REM_MEM_REG};
+ghost use Rattle.vhost_protocol.specs.Answered.{with_bases};
 ghost use Rattle.vhost_protocol.specs.Row as row;
-ghost use Rattle.vhost_protocol.specs.Row.{is_mapped, is_valid_table, mapped_row, region_row, table, table_row, with_bases};
+ghost use Rattle.vhost_protocol.specs.Row.{is_mapped, is_valid_table, mapped_row, region_row, table, table_row};
 ghost use Rattle.vhost_protocol.specs.Split.{Message};
 
 use crate::bases::rebase_all;
@@ -179,8 +180,8 @@ impl<L: Link> SessionCore<L> {
     ) -> Result<()>
         requires { length table.old ≤ MAX_MEM_REGIONS }
         ensures sends { (m : Message FrontendReq L.Handle) → Reads self.old.body.value request m → request.code ≡ SET_MEM_TABLE → IsReady (endpoint_of self.old) → table.old ≡ row.table m
-            → let outcome = with_bases (session_in self.old) m (seen_bases (Ok bases)) in Tells L.event (endpoint_of self.old) (reply_cells SET_MEM_TABLE outcome.served) outcome.answer result (endpoint_of self.new) }
-        ensures session { (m : Message FrontendReq L.Handle) → session_in self.new ≡ (with_bases (session_in self.old) m (seen_bases (Ok bases))).session }
+            → let outcome = with_bases (session_in self.old) m (row.table m) (seen_bases (Ok bases)) in Tells L.event (endpoint_of self.old) (reply_cells SET_MEM_TABLE outcome.served) outcome.answer result (endpoint_of self.new) }
+        ensures session { (m : Message FrontendReq L.Handle) → session_in self.new ≡ (with_bases (session_in self.old) m (row.table m) (seen_bases (Ok bases))).session }
         ensures fits { IfSome bases (λ v. All (λ base. base < 2 ^ 64) v.items) }
     {
         match bases {

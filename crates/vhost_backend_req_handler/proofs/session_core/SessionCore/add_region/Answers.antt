@@ -9,7 +9,7 @@ use Rattle.vhost_message.specs.Records.{single_region_text}
 use Rattle.vhost_message.specs.RecordLaws.{SingleRegionFits}
 use Rattle.vhost_message.specs.declared.records.memory.VhostUserMemoryRegion.{VhostUserMemoryRegion}
 use Rattle.vhost_message.specs.declared.records.memory.VhostUserSingleMemoryRegion.{VhostUserSingleMemoryRegion}
-use Rattle.vhost_protocol.specs.Row.{rebased_region}
+use Rattle.vhost_protocol.specs.Answered.{rebased_region}
 use Rattle.vhost_backend_req_handler.proofs.session_core.SessionCore.add_region.Goals as goal
 
 pub returns-in_err-file : goal.returns-in_err-file

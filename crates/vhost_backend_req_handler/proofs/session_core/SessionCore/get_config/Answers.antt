@@ -5,7 +5,7 @@ use Rattle.vhost_backend_req_handler.proofs.Arms.{by_row, called, ends, fails_pl
 use Rattle.vhost_device.specs.Answers.{seen_bytes}
 use Rattle.vhost_message.specs.FlagBits.{config_bits}
 use Rattle.vhost_protocol.specs.DeviceCall.{GetConfig}
-use Rattle.vhost_protocol.specs.Row.{with_config}
+use Rattle.vhost_protocol.specs.Answered.{with_config}
 use Rattle.vhost_protocol.specs.Step.{Calls}
 use Rattle.vhost_backend_req_handler.proofs.session_core.SessionCore.get_config.Goals as goal
 
