@@ -2,12 +2,15 @@
 #![tactic(auto)]
 
 mod bases;
+mod calling;
 mod gate;
 mod handler;
 mod listener;
-mod request;
-mod session;
+mod opening;
+mod server;
 mod session_core;
+mod sizes;
+mod telling;
 
 pub use gate::{Gate, Open};
 pub use handler::BackendReqHandler;

@@ -1,0 +1,182 @@
+//! What a call became goes out.
+
+ghost use Rattle.std.specs.Prelude.{◌≡◌, ◌≤◌, ◌+◌, ◌++◌, length, map, Ok, if◌then◌else◌};
+ghost use Rattle.vhost_message.specs.declared.limits.TheConstants.{MAX_ATTACHED_FD_ENTRIES, MAX_MEM_REGIONS, MAX_MSG_SIZE};
+ghost use Rattle.vhost_protocol.specs.Answered.{rebased};
+ghost use Rattle.vhost_protocol.specs.Served.{Acknowledged, Replied};
+ghost use Rattle.vhost_protocol.specs.Written.{Payload, Regions, payload_text};
+ghost use Rattle.vhost_connection.specs.Requests.{IsReady, Tells};
+ghost use Rattle.vhost_connection.specs.State.{state};
+ghost use Rattle.vhost_backend_core.specs.Beginning.{regions_in};
+ghost use Rattle.vhost_backend_core.specs.Concluding.{concluded, payload_in, served_in};
+ghost use Rattle.vhost_backend_core.specs.Session.{session_of};
+ghost use Rattle.vhost_backend_req_handler.specs.Serving.{Finishes, kept_unsent, reply_cells};
+
+use crate::bases::rebase;
+use crate::server::{Header, Server};
+use vhost_backend_core::{
+    Conclusion, Conclusions, DeviceAnswer, Incoming, RegionTable, Reply, Session, Then, Told,
+};
+use vhost_connection::Endpoint;
+use vhost_link::Link;
+use vhost_message::{
+    ByteValued, FrontendReq, MAX_MEM_REGIONS, MEMORY_REGION_SIZE, Result, VhostUserEmpty,
+    VhostUserMemory, VhostUserMemoryRegion, VhostUserU64, put_regions,
+};
+
+/// Replies with a record and the bytes behind it, and with the handles on the first byte.
+fn reply<L: Link, T: ByteValued>(
+    endpoint: &mut Endpoint<Header, L>,
+    code: FrontendReq,
+    body: &T,
+    payload: &[u8],
+    handles: &[&L::Handle],
+) -> Result<()>
+    requires size { T.SIZE + length payload.now ≤ MAX_MSG_SIZE }
+    requires handles { length handles.now ≤ MAX_ATTACHED_FD_ENTRIES }
+    ensures { (whole : Payload) → T.text body.now ++ payload.now ≡ payload_text whole → IsReady (state endpoint.old)
+        → Tells L.event (state endpoint.old) (reply_cells code (Replied whole (map (λ h. h.now) handles.now))) (Ok tt) result (state endpoint.new) }
+{
+    endpoint.reply(code, body, payload, handles)
+}
+
+/// Replies with a table of regions.
+fn send_table<L: Link>(
+    endpoint: &mut Endpoint<Header, L>,
+    code: FrontendReq,
+    regions: &[VhostUserMemoryRegion],
+    handles: &[&L::Handle],
+) -> Result<()>
+    requires handles { length handles.now ≤ MAX_ATTACHED_FD_ENTRIES }
+    requires regions { length regions.now ≤ MAX_MEM_REGIONS }
+    ensures { IsReady (state endpoint.old) → Tells L.event (state endpoint.old) (reply_cells code (Replied (Regions regions.now) (map (λ h. h.now) handles.now))) (Ok tt) result (state endpoint.new) }
+{
+    let mut text = [0; MEMORY_REGION_SIZE * MAX_MEM_REGIONS];
+    let payload = &mut text[..];
+    let payload = &mut payload[..MEMORY_REGION_SIZE * regions.len()];
+    put_regions(regions, payload);
+    let head = VhostUserMemory::new(regions.len() as u32);
+    reply(endpoint, code, &head, payload, handles)
+}
+
+/// Replies with the regions of a table, each with the base at the same place.
+fn send_based<L: Link>(
+    endpoint: &mut Endpoint<Header, L>,
+    code: FrontendReq,
+    table: &RegionTable,
+    bases: &[u64],
+    handles: &[&L::Handle],
+) -> Result<()>
+    requires { length handles.now ≤ MAX_ATTACHED_FD_ENTRIES }
+    ensures { IsReady (state endpoint.old) → Tells L.event (state endpoint.old) (reply_cells code (Replied (Regions (rebased (regions_in table.now) bases.now)) (map (λ h. h.now) handles.now))) (Ok tt) result (state endpoint.new) }
+{
+    let mut places = [VhostUserMemoryRegion::default(); MAX_MEM_REGIONS];
+    let regions = &mut places[..];
+    let regions = &mut regions[..table.len()];
+    table.read(regions);
+    let count = rebase(regions, bases);
+    send_table(endpoint, code, &regions[..count], handles)
+}
+
+/// 0 for success, else 1.
+fn ack_body(agreed: bool) -> VhostUserU64
+    ensures { result ≡ record { value = if agreed then 0 else 1 } }
+{
+    if agreed {
+        VhostUserU64::new(0)
+    } else {
+        VhostUserU64::new(1)
+    }
+}
+
+impl<L: Link> Server<L> {
+    ghost use Rattle.vhost_backend_req_handler.specs.Calling.{beside};
+
+    /// Sends a reply.
+    fn send(
+        &mut self,
+        code: FrontendReq,
+        table: &RegionTable,
+        body: &Reply,
+        handles: &[&L::Handle],
+    ) -> Result<()>
+        requires { length handles.now ≤ MAX_ATTACHED_FD_ENTRIES }
+        ensures sends { IsReady (state self.old.endpoint) → Tells L.event (state self.old.endpoint) (reply_cells code (Replied (payload_in (beside (regions_in table.now) self.old.shmem) body.now) (map (λ h. h.now) handles.now))) (Ok tt) result (state self.new.endpoint) }
+        ensures session { self.new.session ≡ self.old.session }
+    {
+        let endpoint = &mut self.endpoint;
+        match body {
+            Reply::Empty => reply(endpoint, code, &VhostUserEmpty, &[], handles),
+            Reply::U64(number) => reply(endpoint, code, &VhostUserU64::new(*number), &[], handles),
+            Reply::OneRegion(region) => reply(endpoint, code, region, &[], handles),
+            Reply::RingState(ring) => reply(endpoint, code, ring, &[], handles),
+            Reply::Config(config) => reply(endpoint, code, config, &[], handles),
+            Reply::ConfigBytes(part) => {
+                reply(endpoint, code, &part.config(), part.bytes(), handles)
+            }
+            Reply::InflightArea(area) => reply(endpoint, code, area, &[], handles),
+            Reply::LogArea(log) => reply(endpoint, code, log, &[], handles),
+            Reply::Shmem => reply(endpoint, code, &self.shmem, &[], handles),
+            Reply::Regions(bases) => send_based(endpoint, code, table, bases, handles),
+        }
+    }
+
+    /// Acknowledges a request.
+    fn send_ack_message(&mut self, code: FrontendReq, agreed: bool) -> Result<()>
+        ensures sends { IsReady (state self.old.endpoint) → Tells L.event (state self.old.endpoint) (reply_cells code (Acknowledged agreed)) (Ok tt) result (state self.new.endpoint) }
+        ensures session { self.new.session ≡ self.old.session }
+    {
+        reply(&mut self.endpoint, code, &ack_body(agreed), &[], &[])
+    }
+
+    /// Lets the peer know.
+    fn tell(&mut self, code: FrontendReq, table: &RegionTable, told: &Told<L::Handle>) -> Result<()>
+        ensures sends { IsReady (state self.old.endpoint) → Tells L.event (state self.old.endpoint) (reply_cells code (served_in (beside (regions_in table.now) self.old.shmem) told.now)) (Ok tt) result (state self.new.endpoint) }
+        ensures session { self.new.session ≡ self.old.session }
+    {
+        match told {
+            Told::Silent => Ok(()),
+            Told::Acknowledged(agreed) => self.send_ack_message(code, *agreed),
+            Told::Replied(body) => self.send(code, table, body, &[]),
+            Told::RepliedWith(body, handle) => self.send(code, table, body, &[*handle]),
+        }
+    }
+
+    /// Lets the peer know what the answer of a call became, and keeps the session. The offered features are remembered
+    /// once they are sent.
+    pub(crate) fn finish(
+        &mut self,
+        message: &Incoming,
+        table: RegionTable,
+        then: Then,
+        answer: DeviceAnswer<L::Handle>,
+    ) -> Result<()>
+        ensures { IsReady (state self.old.endpoint) → Finishes L.event message.now.code (concluded (session_of self.old.session) message.now.need_reply (beside (regions_in table.entry) self.old.shmem) then answer) (state self.old.endpoint) (session_of self.old.session) result (state self.new.endpoint) (session_of self.new.session) }
+    {
+        let Conclusion {
+            verdict,
+            told,
+            session,
+        } = Conclusions::conclude(&self.session, message.need_reply, then, &answer);
+        match self.tell(message.code, &table, &told) {
+            Ok(()) => {
+                self.session = session;
+                answer.by(verdict)
+            }
+            Err(error) => {
+                self.session = unsent(message.code, self.session, session);
+                Err(error)
+            }
+        }
+    }
+}
+
+/// What is kept of a session where a fault stopped the reply.
+fn unsent(code: FrontendReq, before: Session, after: Session) -> Session
+    ensures { session_of result ≡ kept_unsent code (session_of before) (session_of after) }
+{
+    match code {
+        FrontendReq::GET_FEATURES => before,
+        _ => after,
+    }
+}
