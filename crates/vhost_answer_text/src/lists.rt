@@ -1,4 +1,4 @@
-//! Bytes, numbers and handles, one after another.
+//! Bytes, numbers and descriptors, one after another.
 
 ghost use Rattle.std.specs.Prelude.{◌≡◌, ◌≤◌, length};
 ghost use Rattle.std.specs.Fmt.{WritesOnOk};
@@ -57,7 +57,7 @@ pub(crate) fn show_numbers<W: fmt::Write>(numbers: &[u64], f: &mut Formatter<W>)
     Ok(())
 }
 
-/// Shows handles by their numbers, as `[1,2]`, and nothing where there is none.
+/// Shows descriptors by their numbers, as `[1,2]`, and nothing where there is none.
 pub(crate) fn show_handles<W: fmt::Write>(
     handles: &[PlainHandle],
     f: &mut Formatter<W>,

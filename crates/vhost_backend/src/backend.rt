@@ -31,7 +31,7 @@ pub trait VhostBackend: Drop {
         regions: &[VhostUserMemoryRegionInfo<'_, Self::Handle>],
     ) -> Result<Option<Vec<VhostUserMemoryRegionBase>>>;
 
-    /// Gives the device the log of dirty pages: its address, or a region with a handle.
+    /// Gives the device the log of dirty pages: its address, or a region with a descriptor.
     fn set_log_base(
         &self,
         rt: &impl Wait,
@@ -39,7 +39,7 @@ pub trait VhostBackend: Drop {
         region: Option<VhostUserDirtyLogRegion<'_, Self::Handle>>,
     ) -> Result<()>;
 
-    /// Gives the device a handle by which it tells of writes to the log.
+    /// Gives the device a descriptor by which it tells of writes to the log.
     fn set_log_fd(&self, rt: &impl Wait, fd: &Self::Handle) -> Result<()>;
 
     /// Sets a ring's size, in descriptors.
@@ -59,13 +59,13 @@ pub trait VhostBackend: Drop {
     /// Stops a ring, and answers at which descriptor it would go on.
     fn get_vring_base(&self, rt: &impl Wait, queue_index: usize) -> Result<u32>;
 
-    /// Gives a ring the handle by which the device tells of used buffers.
+    /// Gives a ring the descriptor by which the device tells of used buffers.
     fn set_vring_call(&self, rt: &impl Wait, queue_index: usize, fd: &Self::Handle) -> Result<()>;
 
-    /// Gives a ring the handle by which the driver tells of available buffers.
+    /// Gives a ring the descriptor by which the driver tells of available buffers.
     fn set_vring_kick(&self, rt: &impl Wait, queue_index: usize, fd: &Self::Handle) -> Result<()>;
 
-    /// Gives a ring the handle by which the device tells of errors.
+    /// Gives a ring the descriptor by which the device tells of errors.
     fn set_vring_err(&self, rt: &impl Wait, queue_index: usize, fd: &Self::Handle) -> Result<()>;
 }
 
@@ -92,14 +92,14 @@ pub trait VhostBackendMut: Drop {
         regions: &[VhostUserMemoryRegionInfo<'_, Self::Handle>],
     ) -> Result<Option<Vec<VhostUserMemoryRegionBase>>>;
 
-    /// Gives the device the log of dirty pages: its address, or a region with a handle.
+    /// Gives the device the log of dirty pages: its address, or a region with a descriptor.
     fn set_log_base(
         &mut self,
         base: u64,
         region: Option<VhostUserDirtyLogRegion<'_, Self::Handle>>,
     ) -> Result<()>;
 
-    /// Gives the device a handle by which it tells of writes to the log.
+    /// Gives the device a descriptor by which it tells of writes to the log.
     fn set_log_fd(&mut self, fd: &Self::Handle) -> Result<()>;
 
     /// Sets a ring's size, in descriptors.
@@ -114,12 +114,12 @@ pub trait VhostBackendMut: Drop {
     /// Stops a ring, and answers at which descriptor it would go on.
     fn get_vring_base(&mut self, queue_index: usize) -> Result<u32>;
 
-    /// Gives a ring the handle by which the device tells of used buffers.
+    /// Gives a ring the descriptor by which the device tells of used buffers.
     fn set_vring_call(&mut self, queue_index: usize, fd: &Self::Handle) -> Result<()>;
 
-    /// Gives a ring the handle by which the driver tells of available buffers.
+    /// Gives a ring the descriptor by which the driver tells of available buffers.
     fn set_vring_kick(&mut self, queue_index: usize, fd: &Self::Handle) -> Result<()>;
 
-    /// Gives a ring the handle by which the device tells of errors.
+    /// Gives a ring the descriptor by which the device tells of errors.
     fn set_vring_err(&mut self, queue_index: usize, fd: &Self::Handle) -> Result<()>;
 }

@@ -140,7 +140,7 @@ pub enum Told<'t, H> {
     /// Whether it succeeded.
     Acknowledged(bool),
     Replied(Reply<'t>),
-    /// With the handle on the first byte.
+    /// With the descriptor on the first byte.
     RepliedWith(Reply<'t>, &'t H),
 }
 

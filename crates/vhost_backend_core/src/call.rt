@@ -82,7 +82,7 @@ impl Area {
     }
 }
 
-/// A call of the device with its arguments. Regions and bytes are lent by the body of the request. Its handles lie beside
+/// A call of the device with its arguments. Regions and bytes are lent by the body of the request. Its descriptors lie beside
 /// it, in the list that came with the request.
 #[derive(Clone, Copy)]
 pub enum DeviceCall<'a> {
@@ -91,9 +91,9 @@ pub enum DeviceCall<'a> {
     ResetDevice,
     GetFeatures,
     SetFeatures(u64),
-    /// The regions, and whether postcopy listens. Each region comes with a handle.
+    /// The regions, and whether postcopy listens. Each region comes with a descriptor.
     SetMemTable(RegionTable<'a>, bool),
-    /// The log's area; it comes with one handle.
+    /// The log's area; it comes with one descriptor.
     SetLogBase(VhostUserLog),
     /// The index of a ring, and its size.
     SetVringNum(u32, u32),
@@ -101,7 +101,7 @@ pub enum DeviceCall<'a> {
     SetVringBase(u32, u32),
     SetVringAddr(VhostUserVringAddr),
     GetVringBase(u32),
-    /// The index of a ring, and whether one handle comes with it.
+    /// The index of a ring, and whether one descriptor comes with it.
     SetVringKick(u8, bool),
     SetVringCall(u8, bool),
     SetVringErr(u8, bool),
@@ -113,18 +113,18 @@ pub enum DeviceCall<'a> {
     SetMtu(u16),
     GetConfig(Area),
     SetConfig(Area, &'a [u8]),
-    /// The one handle is opened as the channel to the frontend first.
+    /// The one descriptor is opened as the channel to the frontend first.
     SetBackendReqFd,
-    /// The one handle is opened as the channel to a display first.
+    /// The one descriptor is opened as the channel to a display first.
     SetGpuSocket,
     GetSharedObject(VhostUserSharedMsg),
     GetInflightFd(VhostUserInflight),
-    /// It comes with one handle.
+    /// It comes with one descriptor.
     SetInflightFd(VhostUserInflight),
-    /// A region, and whether postcopy listens. It comes with one handle.
+    /// A region, and whether postcopy listens. It comes with one descriptor.
     AddMemRegion(VhostUserSingleMemoryRegion, bool),
     RemoveMemRegion(VhostUserSingleMemoryRegion),
-    /// It comes with one handle.
+    /// It comes with one descriptor.
     SetDeviceStateFd(VhostTransferStateDirection, VhostTransferStatePhase),
     CheckDeviceState,
     GetShmemConfig,

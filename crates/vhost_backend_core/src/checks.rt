@@ -19,7 +19,7 @@ use vhost_message::{
     VhostUserProtocolFeatures, VhostUserTransferDeviceState, VhostUserVirtioFeatures, has_bit,
 };
 
-/// The tests, over handles of a type. A test that fails refuses in silence.
+/// The tests, over descriptors of a type. A test that fails refuses in silence.
 pub(crate) struct Checks<H> {
     of: PhantomData<H>,
 }
@@ -128,7 +128,7 @@ impl<H: Drop> Checks<H> {
         Ok(())
     }
 
-    /// This error: the message has not exactly one handle.
+    /// This error: the message has not exactly one descriptor.
     pub(crate) fn one_handle(handles: &Option<Vec<H>>, error: Error) -> Result<()>
         ensures none { IfErr result (λ e. row.only (silently {H = H} (seen error)) (handles_in handles.now) ≡ tested (Err e)) }
         ensures one { IfOk result (λ _. (h : H) × (handles_in handles.now ≡ h ∷ [])) }
@@ -139,7 +139,7 @@ impl<H: Drop> Checks<H> {
         }
     }
 
-    /// InvalidMessage: the message has exactly one handle.
+    /// InvalidMessage: the message has exactly one descriptor.
     pub(crate) fn not_one(handles: &Option<Vec<H>>) -> Result<()>
         ensures { test (not (length (handles_in handles.now) == 1)) (silently {H = H} InvalidMessage) ≡ tested result }
     {
@@ -154,7 +154,7 @@ impl<H: Drop> Checks<H> {
     }
 }
 
-/// The one handle of a message, where it has exactly one.
+/// The one descriptor of a message, where it has exactly one.
 pub fn take_single_file<H: Drop>(handles: Option<Vec<H>>) -> Option<H>
     ensures { result ≡ single (handles_in handles) }
 {

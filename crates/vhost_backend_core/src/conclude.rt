@@ -23,7 +23,7 @@ use vhost_message::{
     VhostUserSingleMemoryRegion, protocol_bit,
 };
 
-/// The second halves, over handles of this type.
+/// The second halves, over descriptors of this type.
 pub struct Conclusions<H> {
     of: PhantomData<H>,
 }
@@ -127,7 +127,7 @@ impl<H: Drop> Conclusions<H> {
         }
     }
 
-    /// Success, with a reply and a handle.
+    /// Success, with a reply and a descriptor.
     fn replied_with<'t>(session: Session, reply: Reply<'t>, handle: &'t H) -> Conclusion<'t, H>
         ensures { result ≡ record { verdict = verdict_.Fine; told = told_.RepliedWith reply.entry handle.entry; session = session } }
     {

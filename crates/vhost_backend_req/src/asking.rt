@@ -39,7 +39,7 @@ impl<L: Link> BackendInternal<L> {
     ///
     /// Named: shared objects were not agreed on. Of(SocketBroken): the channel was marked as failed. Of(InvalidMessage): what came
     /// is no answer. Of(FrontendInternalError): the frontend answered another number than 0. Of(OutOfMemory): the endpoint lacks
-    /// memory for a list of handles, and nothing was sent. Of: the link failed, or the stream ended.
+    /// memory for a list of descriptors, and nothing was sent. Of: the link failed, or the stream ended.
     pub fn shared_object_add(&mut self, name: &VhostUserSharedMsg) -> HandlerResult<u64>
         ensures { AsksCall L.event (SharedObjectAdd name.now) (channel self.old) result (channel self.new) }
     {
@@ -53,7 +53,7 @@ impl<L: Link> BackendInternal<L> {
         self.ask_object(BackendReq::SHARED_OBJECT_REMOVE, name, &[])
     }
 
-    /// Looks a shared object up by its name, and hands a handle over for it. Answers and errors are those of `shared_object_add`.
+    /// Looks a shared object up by its name, and hands a descriptor over for it. Answers and errors are those of `shared_object_add`.
     pub fn shared_object_lookup(
         &mut self,
         name: &VhostUserSharedMsg,

@@ -25,7 +25,7 @@ pub struct Backend<L: Link> {
 impl<L: Link> Backend<L> {
     /// A channel over a link. A message may take so many retries.
     ///
-    /// OutOfMemory: a growth was refused.
+    /// OutOfMemory: an allocation failed.
     pub fn from_stream(alloc: Global, link: L, budget: u32) -> Result<Self>
         ensures memory { IfErr result (λ e. e ≡ OutOfMemory) }
     {

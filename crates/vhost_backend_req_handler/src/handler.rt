@@ -29,7 +29,7 @@ impl<L: Link, S: VhostUserBackendReqHandler<Link = L>> BackendReqHandler<L, S> {
 
     /// A new session over a link. A message may take so many retries.
     ///
-    /// OutOfMemory: a growth was refused.
+    /// OutOfMemory: an allocation failed.
     pub fn from_stream(alloc: Global, link: L, budget: u32, backend: Arc<S, Global>) -> Result<Self>
         ensures endpoint { IfOk result (λ h. endpoint_of h.core ≡ fresh link budget) }
         ensures session { IfOk result (λ h. session_in h.core ≡ new_session) }
@@ -93,7 +93,7 @@ impl<S: VhostUserBackendReqHandler<Link = UnixLink>> BackendReqHandler<UnixLink,
 
     /// Connects to the socket at a path, for a new session. A message may take so many retries.
     ///
-    /// SocketConnect: the system refused, whatever the number. OutOfMemory: a growth was refused.
+    /// SocketConnect: the system refused, whatever the number. OutOfMemory: an allocation failed.
     pub fn connect(
         rt: &impl Net,
         alloc: Global,

@@ -51,7 +51,7 @@ impl<'a, R: Files + Drop, S: VhostUserBackendReqHandler<Link = UnixLink>> Backen
     /// Takes the next connection, and hands the device out for it. None: the listener would have to wait for one, or the
     /// other side gave up; the device is still there.
     ///
-    /// InvalidOperation: the device was handed out before, and no connection is taken. OutOfMemory: a growth was refused,
+    /// InvalidOperation: the device was handed out before, and no connection is taken. OutOfMemory: an allocation failed,
     /// and no connection is taken. SocketError: the listener failed. The device stays where it was.
     pub fn accept(&mut self) -> Result<Option<BackendReqHandler<UnixLink, S>>>
         ensures device { Accepts self.old.backend self.old.budget result self.new.backend }

@@ -57,7 +57,7 @@ impl<L: Link> SessionCore<L> {
 
     /// A new session over a link. A message may take so many retries.
     ///
-    /// OutOfMemory: a growth was refused.
+    /// OutOfMemory: an allocation failed.
     pub fn new(alloc: Global, link: L, budget: u32) -> Result<Self>
         ensures endpoint { IfOk result (λ c. endpoint_of c ≡ fresh link budget) }
         ensures session { IfOk result (λ c. session_in c ≡ new_session) }
@@ -88,7 +88,7 @@ impl<L: Link> SessionCore<L> {
         self.endpoint.try_clone_sock()
     }
 
-    /// Whether the last call that sent or received met a fault: the link failed, or retried once too often.
+    /// Whether the last call that sent or received met an I/O error: the link failed, or retried once too often.
     pub fn faulted(&self) -> bool
         ensures { result ≡ (endpoint_of self.now).faulted }
     {
@@ -107,10 +107,10 @@ impl<L: Link> SessionCore<L> {
 
     /// Reads one request and serves it.
     ///
-    /// SocketBroken: the session is marked as failed, and nothing was read; or the endpoint is broken.
+    /// SocketBroken: the session is marked as failed, and nothing was read; or the endpoint is poisoned.
     /// Disconnected: the stream ended between two requests. PartialMessage: it ended in a header.
     /// InvalidMessage: the message is malformed, or its request is not served. OutOfMemory: the endpoint had given its
-    /// list of handles away, and no memory for another was found; nothing was read. Other errors are those of the
+    /// list of descriptors away, and another could not be allocated; nothing was read. Other errors are those of the
     /// request's row, and those of the link, which break the endpoint once a byte of the request has moved.
     pub fn handle_request<D: VhostUserBackendReqHandlerMut<Link = L>>(
         &mut self,
@@ -160,7 +160,7 @@ impl<L: Link> SessionCore<L> {
         &mut self.endpoint
     }
 
-    /// Answers a request that was read: the row of its code. It may take the handles.
+    /// Answers a request that was read: the row of its code. It may take the descriptors.
     #[tactic(auto, using(crate::proofs::Arms::refused))]
     fn answer<D: VhostUserBackendReqHandlerMut<Link = L>>(
         &mut self,

@@ -86,7 +86,7 @@ pub extern "C" fn covretin_answer_fd(alloc: Global, session: &mut Holder, fd: &m
     }
 }
 
-/// Reads the buffer for descriptors in flight, and the descriptor that maps it.
+/// Reads the inflight region, and the descriptor that maps it.
 #[unsafe(no_mangle)]
 pub extern "C" fn covretin_answer_inflight(
     alloc: Global,

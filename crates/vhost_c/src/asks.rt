@@ -202,7 +202,7 @@ pub extern "C" fn covretin_ask_set_vring_enable(
     asked(alloc, session, FrontendCall::SetVringEnable(index, enable))
 }
 
-/// Asks for the buffer for descriptors in flight.
+/// Asks for the inflight region.
 #[unsafe(no_mangle)]
 pub extern "C" fn covretin_ask_get_inflight_fd(
     alloc: Global,

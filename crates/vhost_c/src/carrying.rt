@@ -19,7 +19,7 @@ type End = Endpoint<VhostUserMsgHeader<FrontendReq>, MemLink>;
 
 /// What a frontend sent goes behind what is to be sent.
 ///
-/// OutOfMemory: a growth was refused, and nothing changed.
+/// OutOfMemory: an allocation failed, and nothing changed.
 pub(crate) fn collect(
     frontend: &mut FrontendInternal<MemLink>,
     outgoing: &mut MemLink,
@@ -70,7 +70,7 @@ fn empty(end: &mut End)
 
 /// Gives a frontend what came for it.
 ///
-/// OutOfMemory: a growth was refused, and nothing changed.
+/// OutOfMemory: an allocation failed, and nothing changed.
 pub(crate) fn give(
     frontend: &mut FrontendInternal<MemLink>,
     bytes: &[u8],

@@ -115,7 +115,7 @@ pub extern "C" fn covretin_ask_set_backend_request_fd(
     asked_with(alloc, session, FdAsk::SetBackendRequestFd, fd)
 }
 
-/// Gives the buffer for descriptors in flight.
+/// Gives the inflight region.
 #[unsafe(no_mangle)]
 pub extern "C" fn covretin_ask_set_inflight_fd(
     alloc: Global,

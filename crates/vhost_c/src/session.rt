@@ -61,7 +61,7 @@ impl Session {
 
     /// A new session with a device of at most so many queues.
     ///
-    /// OutOfMemory: a growth was refused.
+    /// OutOfMemory: an allocation failed.
     pub(crate) fn new(alloc: Global, max_queue_num: u64) -> std::result::Result<Session, Error>
         ensures { IfOk result (IsNew max_queue_num) }
     {
@@ -181,7 +181,7 @@ impl Session {
     /// Takes in bytes of the answer, with the descriptors that came with the first of them.
     ///
     /// TooManyBytes: they are more than are missing. InvalidParam: descriptors without a byte, more than a message may
-    /// have, or a negative one. OutOfMemory: a growth was refused. After each, nothing changed.
+    /// have, or a negative one. OutOfMemory: an allocation failed. After each, nothing changed.
     pub(crate) fn receive(&mut self, bytes: &[u8], fds: &[i32]) -> Outcome<()>
         ensures { Receiving bytes.now fds.now self.old result self.new }
     {

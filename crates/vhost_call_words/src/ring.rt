@@ -28,7 +28,7 @@ pub(crate) fn set_vring_base(args: &[&str]) -> Option<FrontendCall>
     Some(FrontendCall::SetVringBase(index(ring)?, number_16(word)?))
 }
 
-/// A ring and the handle by which the device tells of used buffers.
+/// A ring and the descriptor by which the device tells of used buffers.
 pub(crate) fn set_vring_call(args: &[&str]) -> Option<FrontendCall>
     ensures { called result ≡ two u64 handle (λ i h. value.SetVringCall i (Some h)) (texts args.now) }
 {
@@ -36,7 +36,7 @@ pub(crate) fn set_vring_call(args: &[&str]) -> Option<FrontendCall>
     Some(FrontendCall::SetVringCall(index(ring)?, Some(handle(word)?)))
 }
 
-/// A ring and the handle by which the device is told of available buffers.
+/// A ring and the descriptor by which the device is told of available buffers.
 pub(crate) fn set_vring_kick(args: &[&str]) -> Option<FrontendCall>
     ensures { called result ≡ two u64 handle (λ i h. value.SetVringKick i (Some h)) (texts args.now) }
 {
@@ -44,7 +44,7 @@ pub(crate) fn set_vring_kick(args: &[&str]) -> Option<FrontendCall>
     Some(FrontendCall::SetVringKick(index(ring)?, Some(handle(word)?)))
 }
 
-/// A ring and the handle by which the device tells of errors.
+/// A ring and the descriptor by which the device tells of errors.
 pub(crate) fn set_vring_err(args: &[&str]) -> Option<FrontendCall>
     ensures { called result ≡ two u64 handle (λ i h. value.SetVringErr i (Some h)) (texts args.now) }
 {

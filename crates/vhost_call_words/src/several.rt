@@ -73,7 +73,7 @@ pub(crate) fn get_inflight_fd(args: &[&str]) -> Option<FrontendCall>
     Some(FrontendCall::GetInflightFd(area))
 }
 
-/// The area that is given, and its handle.
+/// The area that is given, and its descriptor.
 pub(crate) fn set_inflight_fd(args: &[&str]) -> Option<FrontendCall>
     ensures { called result ≡ set_inflight_fd (texts args.now) }
 {
@@ -84,7 +84,7 @@ pub(crate) fn set_inflight_fd(args: &[&str]) -> Option<FrontendCall>
     Some(FrontendCall::SetInflightFd(area, handle(mapping)?))
 }
 
-/// Which way the state of the device goes, when, and over which handle.
+/// Which way the state of the device goes, when, and over which descriptor.
 pub(crate) fn set_device_state_fd(args: &[&str]) -> Option<FrontendCall>
     ensures { called result ≡ set_device_state_fd (texts args.now) }
 {

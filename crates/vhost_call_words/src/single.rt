@@ -37,7 +37,7 @@ pub(crate) fn get_vring_base(args: &[&str]) -> Option<FrontendCall>
     Some(FrontendCall::GetVringBase(index(word)?))
 }
 
-/// The handle that tells of log writes.
+/// The descriptor that tells of log writes.
 #[tactic(auto, using(crate::proofs::OtherCounts::not_one))]
 pub(crate) fn set_log_fd(args: &[&str]) -> Option<FrontendCall>
     ensures { called result ≡ one handle value.SetLogFd (texts args.now) }

@@ -1,4 +1,4 @@
-//! Lists with room for the handles of one message.
+//! Lists with room for the descriptors of one message.
 
 ghost use Rattle.std.specs.Prelude.{◌≡◌, ◌≤◌, [], IfErr, IfOk, false, is_some, vec_capacity, vec_len};
 ghost use Rattle.vhost_message.specs.declared.limits.TheConstants.{MAX_ATTACHED_FD_ENTRIES};
@@ -6,7 +6,7 @@ ghost use Rattle.vhost_message.specs.declared.limits.TheConstants.{MAX_ATTACHED_
 use std::alloc::{AllocError, Global};
 use vhost_message::MAX_ATTACHED_FD_ENTRIES;
 
-/// An empty list with room for the handles of a message.
+/// An empty list with room for the descriptors of a message.
 #[derive(Drop)]
 pub struct HandleList<H> {
     pub list: Vec<H>,
@@ -36,7 +36,7 @@ pub fn take_list<H>(place: &mut Option<HandleList<H>>, alloc: Global) -> Result<
 }
 
 /// What came of a message: how many bytes of its front and how many more, how many retries are left for what lies behind
-/// them, and the handles of the first.
+/// them, and the descriptors of the first.
 #[derive(Drop)]
 pub struct Front<H> {
     pub count: usize,

@@ -34,7 +34,7 @@ pub struct Listener<R: Files + Drop> {
 impl<R: Files + Net + Drop> Listener<R> {
     /// Listens at a path; with `unlink`, what is there is removed first, and a failure to do so is ignored.
     ///
-    /// OutOfMemory: a growth was refused, and nothing was done. SocketError: the system made no socket there.
+    /// OutOfMemory: an allocation failed, and nothing was done. SocketError: the system made no socket there.
     pub fn new(rt: R, alloc: Global, path: &str, unlink: bool) -> Result<Listener<R>>
         ensures { IfErr result IsListenError }
     {

@@ -27,7 +27,7 @@ use vhost_message::{
 ///
 /// Mirrors `vhost::vhost_user::VhostUserBackendReqHandlerMut`, call by call.
 pub trait VhostUserBackendReqHandlerMut: Drop {
-    /// The links over which the device may be reached. Their handles stand for memory, events and channels that are
+    /// The links over which the device may be reached. Their descriptors stand for memory, events and channels that are
     /// lent to the device.
     type Link: Link;
 
@@ -54,7 +54,7 @@ pub trait VhostUserBackendReqHandlerMut: Drop {
     fn set_features(&mut self, features: u64) -> Result<()>
         ensures { gives self.old (SetFeatures features) (seen_result result) self.new };
 
-    /// Gives the device the guest's memory: its regions, and the handle that maps each, in their order
+    /// Gives the device the guest's memory: its regions, and the descriptor that maps each, in their order
     /// (VHOST_USER_SET_MEM_TABLE). While postcopy listens, the answer is where the device has mapped each
     /// region.
     fn set_mem_table(
@@ -90,17 +90,17 @@ pub trait VhostUserBackendReqHandlerMut: Drop {
     fn get_vring_base(&mut self, index: u32) -> Result<VhostUserVringState>
         ensures { gives self.old (GetVringBase index) (seen_result result) self.new };
 
-    /// Gives a ring the handle that tells of available buffers, or none if the device is to look for them
+    /// Gives a ring the descriptor that tells of available buffers, or none if the device is to look for them
     /// itself (VHOST_USER_SET_VRING_KICK).
     fn set_vring_kick(&mut self, index: u8, fd: Option<<Self::Link as Link>::Handle>) -> Result<()>
         ensures { gives self.old (SetVringKick index fd) (seen_result result) self.new };
 
-    /// Gives a ring the handle by which the device tells of used buffers, or none if nobody is to be told
+    /// Gives a ring the descriptor by which the device tells of used buffers, or none if nobody is to be told
     /// (VHOST_USER_SET_VRING_CALL).
     fn set_vring_call(&mut self, index: u8, fd: Option<<Self::Link as Link>::Handle>) -> Result<()>
         ensures { gives self.old (SetVringCall index fd) (seen_result result) self.new };
 
-    /// Gives a ring the handle by which the device tells of errors, or none (VHOST_USER_SET_VRING_ERR).
+    /// Gives a ring the descriptor by which the device tells of errors, or none (VHOST_USER_SET_VRING_ERR).
     fn set_vring_err(&mut self, index: u8, fd: Option<<Self::Link as Link>::Handle>) -> Result<()>
         ensures { gives self.old (SetVringErr index fd) (seen_result result) self.new };
 
@@ -140,22 +140,22 @@ pub trait VhostUserBackendReqHandlerMut: Drop {
     fn set_gpu_socket(&mut self, gpu_backend: GpuBackend<Self::Link>) -> Result<()>
         ensures { gives self.old (SetGpuSocket gpu_backend) (seen_result result) self.new };
 
-    /// The handle of a shared object, by its name (VHOST_USER_GET_SHARED_OBJECT).
+    /// The descriptor of a shared object, by its name (VHOST_USER_GET_SHARED_OBJECT).
     fn get_shared_object(
         &mut self,
         uuid: VhostUserSharedMsg,
     ) -> Result<<Self::Link as Link>::Handle>
         ensures { gives self.old (GetSharedObject uuid) (seen_result result) self.new };
 
-    /// Makes an area for descriptors in flight, of these queues; the answer is where it lies in what the
-    /// handle maps (VHOST_USER_GET_INFLIGHT_FD).
+    /// Makes an inflight region, of these queues; the answer is where it lies in what the
+    /// descriptor maps (VHOST_USER_GET_INFLIGHT_FD).
     fn get_inflight_fd(
         &mut self,
         inflight: &VhostUserInflight,
     ) -> Result<(VhostUserInflight, <Self::Link as Link>::Handle)>
         ensures { gives self.old (GetInflightFd inflight.now) (seen_result result) self.new };
 
-    /// Gives the device an area for descriptors in flight, and the handle that maps it
+    /// Gives the device an inflight region, and the descriptor that maps it
     /// (VHOST_USER_SET_INFLIGHT_FD).
     fn set_inflight_fd(
         &mut self,
@@ -168,7 +168,7 @@ pub trait VhostUserBackendReqHandlerMut: Drop {
     fn get_max_mem_slots(&mut self) -> Result<u64>
         ensures { gives self.old GetMaxMemSlots (seen_result result) self.new };
 
-    /// Adds one region of the guest's memory, and the handle that maps it (VHOST_USER_ADD_MEM_REG). While
+    /// Adds one region of the guest's memory, and the descriptor that maps it (VHOST_USER_ADD_MEM_REG). While
     /// postcopy listens, the answer is where the device has mapped it.
     fn add_mem_region(
         &mut self,
@@ -182,7 +182,7 @@ pub trait VhostUserBackendReqHandlerMut: Drop {
     fn remove_mem_region(&mut self, region: &VhostUserSingleMemoryRegion) -> Result<()>
         ensures { gives self.old (RemoveMemRegion region.now) (seen_result result) self.new };
 
-    /// Begins to save or load the device's state over a handle; the answer is another one where the device
+    /// Begins to save or load the device's state over a descriptor; the answer is another one where the device
     /// would rather use that (VHOST_USER_SET_DEVICE_STATE_FD).
     fn set_device_state_fd(
         &mut self,
@@ -200,7 +200,7 @@ pub trait VhostUserBackendReqHandlerMut: Drop {
     fn get_shmem_config(&mut self) -> Result<VhostUserShMemConfig>
         ensures { gives self.old GetShmemConfig (seen_result result) self.new };
 
-    /// Prepares for postcopy; the answer is a handle for page faults (VHOST_USER_POSTCOPY_ADVISE).
+    /// Prepares for postcopy; the answer is a descriptor for page faults (VHOST_USER_POSTCOPY_ADVISE).
     fn postcopy_advice(&mut self) -> Result<<Self::Link as Link>::Handle>
         ensures { gives self.old PostcopyAdvice (seen_result result) self.new };
 
@@ -217,7 +217,7 @@ pub trait VhostUserBackendReqHandlerMut: Drop {
     fn postcopy_ack_mem_regions(&mut self) -> Result<()>
         ensures { gives self.old PostcopyAckMemRegions (seen_result result) self.new };
 
-    /// Gives the device the log of dirty pages, in bytes, and the handle that maps it
+    /// Gives the device the log of dirty pages, in bytes, and the descriptor that maps it
     /// (VHOST_USER_SET_LOG_BASE).
     fn set_log_base(&mut self, log: &VhostUserLog, file: <Self::Link as Link>::Handle) -> Result<()>
         ensures { gives self.old (SetLogBase log.now file) (seen_result result) self.new };

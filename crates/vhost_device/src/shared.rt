@@ -19,7 +19,7 @@ use vhost_message::{
 ///
 /// Mirrors `vhost::vhost_user::VhostUserBackendReqHandler`, call by call.
 pub trait VhostUserBackendReqHandler: Drop {
-    /// The links over which the device may be reached. Their handles stand for memory, events and channels that are
+    /// The links over which the device may be reached. Their descriptors stand for memory, events and channels that are
     /// lent to the device.
     type Link: Link;
 
@@ -38,7 +38,7 @@ pub trait VhostUserBackendReqHandler: Drop {
     /// Chooses virtio features, as bits (VHOST_USER_SET_FEATURES).
     fn set_features(&self, rt: &impl Wait, features: u64) -> Result<()>;
 
-    /// Gives the device the guest's memory: its regions, and the handle that maps each, in their order
+    /// Gives the device the guest's memory: its regions, and the descriptor that maps each, in their order
     /// (VHOST_USER_SET_MEM_TABLE). While postcopy listens, the answer is where the device has mapped each
     /// region.
     fn set_mem_table(
@@ -71,7 +71,7 @@ pub trait VhostUserBackendReqHandler: Drop {
     /// Stops a ring, and answers at which descriptor it would go on (VHOST_USER_GET_VRING_BASE).
     fn get_vring_base(&self, rt: &impl Wait, index: u32) -> Result<VhostUserVringState>;
 
-    /// Gives a ring the handle that tells of available buffers, or none if the device is to look for them
+    /// Gives a ring the descriptor that tells of available buffers, or none if the device is to look for them
     /// itself (VHOST_USER_SET_VRING_KICK).
     fn set_vring_kick(
         &self,
@@ -80,7 +80,7 @@ pub trait VhostUserBackendReqHandler: Drop {
         fd: Option<<Self::Link as Link>::Handle>,
     ) -> Result<()>;
 
-    /// Gives a ring the handle by which the device tells of used buffers, or none if nobody is to be told
+    /// Gives a ring the descriptor by which the device tells of used buffers, or none if nobody is to be told
     /// (VHOST_USER_SET_VRING_CALL).
     fn set_vring_call(
         &self,
@@ -89,7 +89,7 @@ pub trait VhostUserBackendReqHandler: Drop {
         fd: Option<<Self::Link as Link>::Handle>,
     ) -> Result<()>;
 
-    /// Gives a ring the handle by which the device tells of errors, or none (VHOST_USER_SET_VRING_ERR).
+    /// Gives a ring the descriptor by which the device tells of errors, or none (VHOST_USER_SET_VRING_ERR).
     fn set_vring_err(
         &self,
         rt: &impl Wait,
@@ -137,22 +137,22 @@ pub trait VhostUserBackendReqHandler: Drop {
     /// Gives the device the channel to a display (VHOST_USER_GPU_SET_SOCKET).
     fn set_gpu_socket(&self, rt: &impl Wait, gpu_backend: GpuBackend<Self::Link>) -> Result<()>;
 
-    /// The handle of a shared object, by its name (VHOST_USER_GET_SHARED_OBJECT).
+    /// The descriptor of a shared object, by its name (VHOST_USER_GET_SHARED_OBJECT).
     fn get_shared_object(
         &self,
         rt: &impl Wait,
         uuid: VhostUserSharedMsg,
     ) -> Result<<Self::Link as Link>::Handle>;
 
-    /// Makes an area for descriptors in flight, of these queues; the answer is where it lies in what the
-    /// handle maps (VHOST_USER_GET_INFLIGHT_FD).
+    /// Makes an inflight region, of these queues; the answer is where it lies in what the
+    /// descriptor maps (VHOST_USER_GET_INFLIGHT_FD).
     fn get_inflight_fd(
         &self,
         rt: &impl Wait,
         inflight: &VhostUserInflight,
     ) -> Result<(VhostUserInflight, <Self::Link as Link>::Handle)>;
 
-    /// Gives the device an area for descriptors in flight, and the handle that maps it
+    /// Gives the device an inflight region, and the descriptor that maps it
     /// (VHOST_USER_SET_INFLIGHT_FD).
     fn set_inflight_fd(
         &self,
@@ -164,7 +164,7 @@ pub trait VhostUserBackendReqHandler: Drop {
     /// How many regions of memory the device takes at most (VHOST_USER_GET_MAX_MEM_SLOTS).
     fn get_max_mem_slots(&self, rt: &impl Wait) -> Result<u64>;
 
-    /// Adds one region of the guest's memory, and the handle that maps it (VHOST_USER_ADD_MEM_REG). While
+    /// Adds one region of the guest's memory, and the descriptor that maps it (VHOST_USER_ADD_MEM_REG). While
     /// postcopy listens, the answer is where the device has mapped it.
     fn add_mem_region(
         &self,
@@ -177,7 +177,7 @@ pub trait VhostUserBackendReqHandler: Drop {
     /// Takes one region of the guest's memory away (VHOST_USER_REM_MEM_REG).
     fn remove_mem_region(&self, rt: &impl Wait, region: &VhostUserSingleMemoryRegion) -> Result<()>;
 
-    /// Begins to save or load the device's state over a handle; the answer is another one where the device
+    /// Begins to save or load the device's state over a descriptor; the answer is another one where the device
     /// would rather use that (VHOST_USER_SET_DEVICE_STATE_FD).
     fn set_device_state_fd(
         &self,
@@ -193,7 +193,7 @@ pub trait VhostUserBackendReqHandler: Drop {
     /// The device's regions of shared memory (VHOST_USER_GET_SHMEM_CONFIG).
     fn get_shmem_config(&self, rt: &impl Wait) -> Result<VhostUserShMemConfig>;
 
-    /// Prepares for postcopy; the answer is a handle for page faults (VHOST_USER_POSTCOPY_ADVISE).
+    /// Prepares for postcopy; the answer is a descriptor for page faults (VHOST_USER_POSTCOPY_ADVISE).
     fn postcopy_advice(&self, rt: &impl Wait) -> Result<<Self::Link as Link>::Handle>;
 
     /// Begins to listen for page faults, before the regions of memory come (VHOST_USER_POSTCOPY_LISTEN).
@@ -206,7 +206,7 @@ pub trait VhostUserBackendReqHandler: Drop {
     /// postcopy listens).
     fn postcopy_ack_mem_regions(&self, rt: &impl Wait) -> Result<()>;
 
-    /// Gives the device the log of dirty pages, in bytes, and the handle that maps it
+    /// Gives the device the log of dirty pages, in bytes, and the descriptor that maps it
     /// (VHOST_USER_SET_LOG_BASE).
     fn set_log_base(
         &self,

@@ -22,7 +22,7 @@ pub const MAX_MEM_SLOTS: usize = 509;
 /// The virtio features that it offers: two of the device's own, and the protocol features.
 pub const VIRTIO_FEATURES: u64 = (1 << virtio_bit::PROTOCOL_FEATURES) | 0b11;
 
-/// A device without any function, that keeps the rules of the protocol. Where it has to give a handle, it gives one of
+/// A device without any function, that keeps the rules of the protocol. Where it has to give a descriptor, it gives one of
 /// those that it was made with, the last one first.
 ///
 /// Mirrors the example device of the crate `vhost`, which makes temporary files.
@@ -54,9 +54,9 @@ pub struct DummyBackendReqHandler<L: Link> {
     pub vring_started: [bool; MAX_QUEUE_NUM],
     /// Whether each ring is on.
     pub vring_enabled: [bool; MAX_QUEUE_NUM],
-    /// A copy of the handle that it gave out last for descriptors in flight.
+    /// A copy of the descriptor that it gave out last for descriptors in flight.
     pub inflight_file: Option<L::Handle>,
-    /// A copy of the handle that it gave out last for a shared object.
+    /// A copy of the descriptor that it gave out last for a shared object.
     pub shared_file: Option<L::Handle>,
     /// Its regions of shared memory, if any.
     pub shmem_config: Option<VhostUserShMemConfig>,
@@ -67,7 +67,7 @@ pub struct DummyBackendReqHandler<L: Link> {
 impl<L: Link> DummyBackendReqHandler<L> {
     ghost use Rattle.vhost_dummy_backend.specs.Dummy.{fresh, has_ring};
 
-    /// A device that nobody owns, with handles to give out.
+    /// A device that nobody owns, with descriptors to give out.
     pub fn new(alloc: Global, spare: Vec<L::Handle>) -> Self
         ensures { result ≡ fresh alloc spare.items }
     {

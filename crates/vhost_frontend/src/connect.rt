@@ -22,7 +22,7 @@ impl Frontend<UnixLink> {
     /// Connects to the socket at a path, for a new session with a device of at most so many queues. A message may take so
     /// many retries. Where nobody listens yet, it tries up to five times more, after 100 ms each.
     ///
-    /// SocketConnect: the system refused, whatever the number. OutOfMemory: a growth was refused.
+    /// SocketConnect: the system refused, whatever the number. OutOfMemory: an allocation failed.
     pub fn connect(
         rt: &(impl Net + Clock),
         alloc: Global,

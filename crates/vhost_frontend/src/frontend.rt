@@ -47,7 +47,7 @@ impl<L: Link> Clone for Frontend<L> {
 impl<L: Link> Frontend<L> {
     /// A new session over a link, with a device of at most so many queues. A message may take so many retries.
     ///
-    /// OutOfMemory: a growth was refused.
+    /// OutOfMemory: an allocation failed.
     pub fn from_stream(
         alloc: Global,
         link: L,

@@ -54,21 +54,21 @@ pub trait VhostUserFrontend: VhostBackend {
     /// Gives the channel on which the device may ask.
     fn set_backend_request_fd(&mut self, rt: &impl Wait, fd: &Self::Handle) -> Result<()>;
 
-    /// The handle of a shared object.
+    /// The descriptor of a shared object.
     fn get_shared_object(
         &mut self,
         rt: &impl Wait,
         shared_msg: &VhostUserSharedMsg,
     ) -> Result<Self::Handle>;
 
-    /// The buffer for descriptors in flight: where it lies, and its handle.
+    /// The inflight region: where it lies, and its descriptor.
     fn get_inflight_fd(
         &mut self,
         rt: &impl Wait,
         inflight: &VhostUserInflight,
     ) -> Result<(VhostUserInflight, Self::Handle)>;
 
-    /// Gives the buffer for descriptors in flight.
+    /// Gives the inflight region.
     fn set_inflight_fd(
         &mut self,
         rt: &impl Wait,
@@ -96,7 +96,7 @@ pub trait VhostUserFrontend: VhostBackend {
     /// The regions of shared memory.
     fn get_shmem_config(&mut self, rt: &impl Wait) -> Result<VhostUserShMemConfig>;
 
-    /// Begins a transfer of the device's state over this handle. The answer is the handle that the device wants in its place,
+    /// Begins a transfer of the device's state over this descriptor. The answer is the descriptor that the device wants in its place,
     /// if any.
     fn set_device_state_fd(
         &self,
@@ -109,7 +109,7 @@ pub trait VhostUserFrontend: VhostBackend {
     /// Tells whether the transfer succeeded.
     fn check_device_state(&self, rt: &impl Wait) -> Result<()>;
 
-    /// Tells that postcopy is going to begin. The answer is the handle of page faults.
+    /// Tells that postcopy is going to begin. The answer is the descriptor of page faults.
     fn postcopy_advise(&mut self, rt: &impl Wait) -> Result<Self::Handle>;
 
     /// Tells the device to listen for page faults.

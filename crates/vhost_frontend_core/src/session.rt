@@ -105,7 +105,7 @@ impl FrontendSession {
     }
 
     /// InvalidParam: the device has no queue of this index, or the index has more than the eight bits that it has beside a
-    /// handle.
+    /// descriptor.
     pub fn small_index(&self, index: usize) -> Result<u64>
         ensures test { ask.small_index (frontend_of self.now) index ≡ tested result }
         ensures same { IfOk result (λ i. i ≡ index) }

@@ -1,4 +1,4 @@
-//! A frontend's side of the reverse channel, as its handler calls it.
+//! A frontend's side of the backend channel, as its handler calls it.
 
 ghost use Rattle.std.specs.Prelude.{ℕ, Result};
 ghost use Rattle.vhost_protocol.specs.IoError.{IoError, seen_io_result};
@@ -13,7 +13,7 @@ use vhost_message::{HandlerResult, VhostUserMMap, VhostUserSharedMsg};
 ///
 /// Mirrors `vhost::vhost_user::VhostUserFrontendReqHandlerMut`, call by call.
 pub trait VhostUserFrontendReqHandlerMut: Drop {
-    /// The handles that a request may bring, in the crate `vhost` file descriptors. They are lent to the call.
+    /// The descriptors that a request may bring, in the crate `vhost` file descriptors. They are lent to the call.
     type Handle: Drop;
 
     /// Old state, call, answer and new state.
@@ -31,7 +31,7 @@ pub trait VhostUserFrontendReqHandlerMut: Drop {
     fn shared_object_remove(&mut self, uuid: &VhostUserSharedMsg) -> HandlerResult<u64>
         ensures { gives self.old (SharedObjectRemove uuid.now) (seen_io_result result) self.new };
 
-    /// It looks up an object of this name, with a handle (VHOST_USER_BACKEND_SHARED_OBJECT_LOOKUP).
+    /// It looks up an object of this name, with a descriptor (VHOST_USER_BACKEND_SHARED_OBJECT_LOOKUP).
     fn shared_object_lookup(
         &mut self,
         uuid: &VhostUserSharedMsg,

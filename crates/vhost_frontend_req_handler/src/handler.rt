@@ -1,4 +1,4 @@
-//! Serving the reverse channel by what others may share.
+//! Serving the backend channel by what others may share.
 
 ghost use Rattle.std.specs.Prelude.{◌≡◌, ◌≢◌, pos, Some, None, false, IfErr, IfOk};
 ghost use Rattle.vhost_message.specs.declared.error.Error.TheVariants.{OutOfMemory};
@@ -11,7 +11,7 @@ use std::sync::{Arc, Wait};
 use vhost_link::Link;
 use vhost_message::Result;
 
-/// The frontend's side of the reverse channel: the end by which it serves, the other end to be given to the device, and
+/// The frontend's side of the backend channel: the end by which it serves, the other end to be given to the device, and
 /// what serves the requests, which others may share.
 ///
 /// Mirrors `vhost::vhost_user::FrontendReqHandler`.
@@ -30,7 +30,7 @@ impl<L: Link, S: VhostUserFrontendReqHandler<Handle = L::Handle>> FrontendReqHan
 
     /// A handler over both ends of a connection, without acknowledgements. A message may take so many retries.
     ///
-    /// OutOfMemory: a growth was refused.
+    /// OutOfMemory: an allocation failed.
     pub fn new(
         alloc: Global,
         tx: L::Handle,

@@ -1,4 +1,4 @@
-//! Serving the reverse channel: each request of a device is read whole, tested, and answered by its row of the protocol
+//! Serving the backend channel: each request of a device is read whole, tested, and answered by its row of the protocol
 //! table.
 #![tactic(auto)]
 

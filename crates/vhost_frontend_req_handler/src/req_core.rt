@@ -1,4 +1,4 @@
-//! The frontend's side of the reverse channel over any link.
+//! The frontend's side of the backend channel over any link.
 
 ghost use Rattle.std.specs.Prelude.{◌≡◌, ◌≢◌, ◌+◌, ◌<◌, ◌&&◌, ℤ, pos, Some, None, Err, false, IfOk, IfErr, vec_len, vec_capacity};
 ghost use Rattle.vhost_message.specs.declared.cause.IoCause.TheVariants.{Raw};
@@ -19,7 +19,7 @@ type Header = VhostUserMsgHeader<BackendReq>;
 /// A request of a device as it was read.
 type Request = vhost_connection::Request<BackendReq>;
 
-/// The frontend's side of the reverse channel over a link, without what serves the requests.
+/// The frontend's side of the backend channel over a link, without what serves the requests.
 ///
 /// Mirrors `vhost::vhost_user::FrontendReqHandler`, which holds that behind an `Arc`.
 #[derive(Drop)]
@@ -45,7 +45,7 @@ impl<L: Link> FrontendReqCore<L> {
 
     /// The frontend's side over a link, without acknowledgements. A message may take so many retries.
     ///
-    /// OutOfMemory: a growth was refused.
+    /// OutOfMemory: an allocation failed.
     pub fn new(alloc: Global, rx: L, budget: u32) -> Result<Self>
         ensures endpoint { IfOk result (λ c. endpoint_of c ≡ fresh rx budget) }
         ensures server { IfOk result (λ c. server_in c ≡ record { reply_ack = false; failed = None }) }
@@ -60,7 +60,7 @@ impl<L: Link> FrontendReqCore<L> {
         })
     }
 
-    /// Whether the last call that sent or received met a fault: the link failed, or retried once too often.
+    /// Whether the last call that sent or received met an I/O error: the link failed, or retried once too often.
     pub fn faulted(&self) -> bool
         ensures { result ≡ (endpoint_of self.now).faulted }
     {
@@ -87,10 +87,10 @@ impl<L: Link> FrontendReqCore<L> {
 
     /// Reads one request and serves it; the answer is the number of the one that serves it.
     ///
-    /// SocketBroken: it is marked as failed, and nothing was read; or the endpoint is broken. Disconnected: the stream
+    /// SocketBroken: it is marked as failed, and nothing was read; or the endpoint is poisoned. Disconnected: the stream
     /// ended between two requests. PartialMessage: it ended in a header. InvalidMessage: the message is malformed, or its
     /// request is not served. ReqHandlerError: the error of the one that serves it, as its cause. OutOfMemory: the endpoint
-    /// had given its list of handles away, and no memory for another was found; nothing was read. Other errors are those
+    /// had given its list of descriptors away, and another could not be allocated; nothing was read. Other errors are those
     /// of the link, which break the endpoint once a byte of the request has moved.
     pub fn handle_request<D: VhostUserFrontendReqHandlerMut<Handle = L::Handle>>(
         &mut self,

@@ -15,7 +15,7 @@ const ENOSYS: i32 = 38;
 ///
 /// Mirrors `vhost::vhost_user::VhostUserFrontendReqHandler`, call by call.
 pub trait VhostUserFrontendReqHandler: Drop {
-    /// The handles that a request may bring, in the crate `vhost` file descriptors. They are lent to the call.
+    /// The descriptors that a request may bring, in the crate `vhost` file descriptors. They are lent to the call.
     type Handle: Drop;
 
     /// The device's configuration changed (VHOST_USER_BACKEND_CONFIG_CHANGE_MSG).
@@ -37,7 +37,7 @@ pub trait VhostUserFrontendReqHandler: Drop {
         not_there()
     }
 
-    /// It looks up an object of this name, with a handle (VHOST_USER_BACKEND_SHARED_OBJECT_LOOKUP).
+    /// It looks up an object of this name, with a descriptor (VHOST_USER_BACKEND_SHARED_OBJECT_LOOKUP).
     fn shared_object_lookup(
         &self,
         _rt: &impl Wait,

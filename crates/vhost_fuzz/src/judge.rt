@@ -47,7 +47,7 @@ fn any_cuts(alloc: Global, dice: &mut Dice) -> Result<Vec<Cut>, Failure> {
     Ok(cuts)
 }
 
-/// A fault, or a retry more than a message may take, behind other calls of the link.
+/// An I/O error, or a retry more than a message may take, behind other calls of the link.
 fn fault_after(dice: &mut Dice, mut cuts: Vec<Cut>) -> Result<Vec<Cut>, Failure> {
     let number = match dice.below(6) {
         0 => 5,
@@ -158,7 +158,7 @@ fn wrong_front(whole: &Trace, front: &Trace, answered: usize) -> Option<&'static
     None
 }
 
-/// What met the fault of a link, and what came after it; none where no answer is another.
+/// What met the I/O error of a link, and what came after it; none where no answer is another.
 fn since_fault<'a>(whole: &Trace, faulted: &'a Trace) -> Option<(&'a Shown, &'a [Shown])> {
     let same = alike(&whole.shown, &faulted.shown);
     faulted
@@ -340,7 +340,7 @@ impl Session {
         }))
     }
 
-    /// A call that meets a fault says so; where a byte of it had moved nothing more is sent, and else the next calls go on.
+    /// A call that meets an I/O error says so; where a byte of it had moved nothing more is sent, and else the next calls go on.
     fn judge_asked_fault(
         &self,
         alloc: Global,
@@ -418,7 +418,7 @@ impl Session {
         Ok(found(what, cuts, front))
     }
 
-    /// A fault breaks the endpoint where a byte of a message had moved, and else costs one answer.
+    /// An I/O error poisons the endpoint where a byte of a message had moved, and else costs one answer.
     fn judge_fault(
         &self,
         alloc: Global,
@@ -462,7 +462,7 @@ impl Session {
         Ok(moved.saturating_sub(reply).min(self.calls()))
     }
 
-    /// The same of a fault behind pieces of any size, where more may have been received than one message.
+    /// The same of an I/O error behind pieces of any size, where more may have been received than one message.
     fn judge_late_fault(
         &self,
         alloc: Global,

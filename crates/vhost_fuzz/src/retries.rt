@@ -95,7 +95,7 @@ impl Session {
         Ok(found(what, cuts, trace))
     }
 
-    /// What doesn't hold behind a fault, where a byte of the message that met it had moved or not.
+    /// What doesn't hold behind an I/O error, where a byte of the message that met it had moved or not.
     fn wrong_behind(&self, whole: &Trace, trace: &Trace, has_moved: bool) -> Option<&'static str> {
         if self.kind.makes_calls() {
             wrong_asked(whole, trace, Some(has_moved))

@@ -27,7 +27,7 @@ const FILLING: usize = 700;
 pub(crate) enum Kind {
     /// A handler over the example device.
     Served,
-    /// A frontend's side of the reverse channel.
+    /// A frontend's side of the backend channel.
     Reverse,
     /// A frontend, to which replies come.
     Frontend,
@@ -67,7 +67,7 @@ pub(crate) struct Session {
     pub(crate) pieces: Vec<Piece>,
     /// The calls that the side makes.
     pub(crate) calls: Vec<&'static str>,
-    /// Whether messages come without handles, and as they should be otherwise.
+    /// Whether messages come without descriptors, and as they should be otherwise.
     is_bare: bool,
     /// How many messages it was made of.
     pub(crate) messages: u64,
@@ -144,7 +144,7 @@ impl Session {
         self.put(alloc, dice, piece)
     }
 
-    /// Messages without handles, more than a side receives ahead by one call of its link.
+    /// Messages without descriptors, more than a side receives ahead by one call of its link.
     fn fill(&mut self, alloc: Global, dice: &mut Dice) -> Result<(), Failure> {
         self.is_bare = true;
         for _ in 0..FILLING {

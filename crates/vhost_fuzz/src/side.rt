@@ -21,7 +21,7 @@ pub(crate) trait Side: Drop {
     fn link(&mut self) -> &mut MemLink;
 }
 
-/// Puts bytes on their way to a link's side, and handles with the first of them; 32 at most.
+/// Puts bytes on their way to a link's side, and descriptors with the first of them; 32 at most.
 pub(crate) fn push_piece(
     link: &mut MemLink,
     bytes: &[u8],

@@ -21,11 +21,11 @@ impl<L: Link> BackendInternal<L> {
     /// Asks for the features of the display's side: GET_PROTOCOL_FEATURES without a record, answered by their bits.
     ///
     /// Each error names the step of the call that met it. In("check_state", SocketBroken): the channel was marked as failed;
-    /// In("check_state", OutOfMemory): the endpoint lacks memory for a list of handles; both times nothing was sent.
+    /// In("check_state", OutOfMemory): the endpoint lacks memory for a list of descriptors; both times nothing was sent.
     /// In("send_header", error): the link failed while the message was sent, or had broken the endpoint before.
-    /// In("recv_body", error): it failed before the reply was there, which breaks the endpoint; with PartialMessage the
+    /// In("recv_body", error): it failed before the reply was there, which poisons the endpoint; with PartialMessage the
     /// stream ended before, and with InvalidMessage the reply's header is not valid. In("Unexpected reply",
-    /// InvalidMessage): what came answers no such request, or brings handles.
+    /// InvalidMessage): what came answers no such request, or brings descriptors.
     pub fn get_protocol_features(&mut self) -> HandlerResult<VhostUserU64>
         ensures { AsksCall L.event (λ bs. record { value = u64_at 0 bs }) GetProtocolFeatures (channel self.old) result (channel self.new) }
     {
@@ -88,7 +88,7 @@ impl<L: Link> BackendInternal<L> {
         self.tell("send_message_with_payload", code, update, pixels, &[])
     }
 
-    /// Shows a rectangle of a buffer of the graphics card: DMABUF_SCANOUT with the buffer's form, and its handle, if any.
+    /// Shows a rectangle of a buffer of the graphics card: DMABUF_SCANOUT with the buffer's form, and its descriptor, if any.
     /// Nothing is awaited, and errors are those of `set_protocol_features`.
     pub fn set_dmabuf_scanout(
         &mut self,

@@ -135,7 +135,7 @@ impl<L: Link> BackendInternal<L> {
         }
     }
 
-    /// Sends a record with a handle, if there is one, and awaits nothing.
+    /// Sends a record with a descriptor, if there is one, and awaits nothing.
     pub(crate) fn tell_with<T: ByteValued>(
         &mut self,
         code: GpuBackendReq,

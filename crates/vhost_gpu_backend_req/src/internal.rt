@@ -31,7 +31,7 @@ impl<L: Link> BackendInternal<L> {
 
     /// A channel over a link, that is not marked as failed. A message may take so many retries.
     ///
-    /// OutOfMemory: a growth was refused.
+    /// OutOfMemory: an allocation failed.
     pub fn from_stream(alloc: Global, link: L, budget: u32) -> Result<Self>
         ensures opened { IfOk result (λ b. channel b ≡ opened link budget) }
         ensures memory { IfErr result (λ e. e ≡ OutOfMemory) }
@@ -57,7 +57,7 @@ impl<L: Link> BackendInternal<L> {
         &mut self.endpoint
     }
 
-    /// Whether the last call that sent or received met a fault: the link failed, or retried once too often.
+    /// Whether the last call that sent or received met an I/O error: the link failed, or retried once too often.
     pub fn faulted(&self) -> bool
         ensures { result ≡ (channel self.now).endpoint.faulted }
     {

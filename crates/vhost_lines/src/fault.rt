@@ -13,7 +13,7 @@ pub enum Fault {
     Input(io::Error),
     /// The output could not be written. Nothing is written from then on.
     Output(io::Error),
-    /// A link failed, a budget was spent, or a growth of memory was refused, in the middle of a call.
+    /// A link failed, a retry limit was spent, or a growth of memory was refused, in the middle of a call.
     Link,
     /// A growth of memory was refused.
     OutOfMemory,
@@ -42,7 +42,7 @@ impl fmt::Display for Fault {
     }
 }
 
-/// The fault of a reader, or of the memory for what it read.
+/// The I/O error of a reader, or of the memory for what it read.
 pub(crate) fn input_fault(error: io::Error) -> Fault {
     match error.kind() {
         ErrorKind::OutOfMemory => Fault::OutOfMemory,

@@ -28,7 +28,7 @@ type Session = Joined<Device>;
 /// Runs the calls of the input, one a line, on one session over the example device, and shows each line's request,
 /// reply and answer.
 ///
-/// The status is 0 at the end of the input; 1 after a line that is no call, which `errors` is told; 2 after a fault
+/// The status is 0 at the end of the input; 1 after a line that is no call, which `errors` is told; 2 after an I/O error
 /// of a reader, a writer or a link, or for want of memory, which `errors` is told in one line, and then the line that met
 /// it isn't shown. Nothing is written to `output` after a write or a flush of it that failed: whatever the status, what was
 /// written is a front of what the lines show.

@@ -67,7 +67,7 @@ impl MemLink {
 
     /// Moves what one end took in behind what the other will hand out.
     ///
-    /// Where memory is refused, nothing moved. It is never asked for if the other end had nothing to hand out.
+    /// Where an allocation fails, nothing moved. It is never asked for if the other end had nothing to hand out.
     pub fn carry(from: &mut MemLink, to: &mut MemLink) -> Result<(), AllocError>
         ensures carried { OnOk result (Carried from.old to.old from.new to.new) }
         ensures refused { OnErr result ((from.new ≡ from.old) × (to.new ≡ to.old)) }
@@ -87,9 +87,9 @@ impl MemLink {
         self.pending = Flow::new(self.alloc);
     }
 
-    /// Puts bytes behind what it will hand out, with the handles on the first of them.
+    /// Puts bytes behind what it will hand out, with the descriptors on the first of them.
     ///
-    /// There are at most `MAX_ATTACHED_FD_ENTRIES` handles; without a byte they go nowhere. Where memory is refused, nothing changed.
+    /// There are at most `MAX_ATTACHED_FD_ENTRIES` descriptors; without a byte they go nowhere. Where an allocation fails, nothing changed.
     pub fn push(&mut self, bytes: &[u8], handles: &[PlainHandle]) -> Result<(), AllocError>
         requires { length handles.now ≤ MAX_ATTACHED_FD_ENTRIES }
         ensures pushed { OnOk result (self.new ≡ record self.old { pending = self.old.pending ++ carrying handles.now bytes.now }) }
@@ -135,7 +135,7 @@ impl Link for MemLink {
         Ok(count)
     }
 
-    /// Hands out all that the cut, the room and the next byte with handles allow. It fails only where the script says so.
+    /// Hands out all that the cut, the room and the next byte with descriptors allow. It fails only where the script says so.
     fn recv(&mut self, room: &mut [u8], handles: &mut Vec<PlainHandle>) -> Result<usize, IoCause>
         requires room { 0 < length room.old }
         requires list { handles.old.items ≡ [] }
@@ -157,7 +157,7 @@ impl Link for MemLink {
     }
 }
 
-/// The stream of a link in memory is known, however it is cut: what is handed out stood at the front, the end is told only where nothing is left, what is taken in is appended, and a failure is one of the script or a want of memory.
+/// The stream of a link in memory is known, however it is split: what is handed out stood at the front, the end is told only where nothing is left, what is taken in is appended, and a failure is one of the script or a want of memory.
 pub fn stream_law()
     ensures stream { StreamLaw }
     ensures gives { GivesLaw }

@@ -15,10 +15,10 @@ use vhost_message::errno::{EACCES, EAGAIN, ECONNRESET, EINTR, EPIPE};
 /// How many bytes one receive hands out at most.
 const MAX_PIECE: usize = 8192;
 
-/// Why a handle cannot travel over a socket.
+/// Why a descriptor cannot travel over a socket.
 const NOT_CARRIED: IoCause = IoCause::Named("handles cannot be carried");
 
-/// The handles of a link that carries none: nothing makes one.
+/// The descriptors of a link that carries none: nothing makes one.
 #[derive(Drop)]
 pub struct NoHandle {
     none: (),
@@ -38,7 +38,7 @@ impl Handle for NoHandle {
     }
 }
 
-/// One end of a connection over a Unix stream socket. It carries no handles.
+/// One end of a connection over a Unix stream socket. It carries no descriptors.
 #[derive(Drop)]
 pub struct UnixLink {
     stream: UnixStream,

@@ -25,7 +25,7 @@ pub enum IoError {
     In(&'static str, Error),
 }
 
-/// What the handler of a request on the reverse channel answers.
+/// What the handler of a request on the backend channel answers.
 pub type HandlerResult<T> = std::result::Result<T, IoError>;
 
 impl IoError {

@@ -30,7 +30,7 @@ pub const PAGEFAULT: u32 = 8;
 /// GET_CONFIG and SET_CONFIG.
 pub const CONFIG: u32 = 9;
 
-/// The backend may send handles over its channel.
+/// The backend may send descriptors over its channel.
 pub const BACKEND_SEND_FD: u32 = 10;
 
 /// The backend may register notifiers of the host.

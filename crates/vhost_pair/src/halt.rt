@@ -14,6 +14,6 @@ pub enum Halt {
 pub enum Stop {
     /// The handler refused a request in silence, or the device refused the end of postcopy.
     Table,
-    /// A link failed, a budget was spent, or a growth of memory was refused in the middle of a step.
+    /// A link failed, a retry limit was spent, or a growth of memory was refused in the middle of a step.
     Premise,
 }

@@ -40,7 +40,7 @@ impl<D: VhostUserBackendReqHandlerMut<Link = MemLink>> Joined<D> {
     /// Two new sessions over two new links, which are cut as the scripts say: the first that of the frontend. The
     /// device has at most so many queues, and a message may take so many retries.
     ///
-    /// `Halt::OutOfMemory`: a growth was refused.
+    /// `Halt::OutOfMemory`: an allocation failed.
     #[inline(never)]
     pub fn new(
         alloc: Global,
@@ -65,7 +65,7 @@ impl<D: VhostUserBackendReqHandlerMut<Link = MemLink>> Joined<D> {
 
     /// Does one call: the request goes to the handler, which asks the device, and the reply comes back.
     ///
-    /// `Halt::Stopped`: the run has stopped before. `Halt::OutOfMemory`: a growth was refused before the first byte.
+    /// `Halt::Stopped`: the run has stopped before. `Halt::OutOfMemory`: an allocation failed before the first byte.
     /// In both cases nothing changed.
     pub fn step(&mut self, call: &FrontendCall) -> Result<FrontendAnswer, Halt>
         ensures step { Steps D.gives self.old (call_of call.now) result self.new }
@@ -109,7 +109,7 @@ impl<D: VhostUserBackendReqHandlerMut<Link = MemLink>> Joined<D> {
         self.stopped
     }
 
-    /// The bytes of the request that the last answered step wrote, and the handles on the first of them.
+    /// The bytes of the request that the last answered step wrote, and the descriptors on the first of them.
     pub fn last_request(&self) -> (&[u8], &[PlainHandle])
         ensures bytes { result.0.now ≡ self.now.request.bytes }
         ensures handles { result.1.now ≡ self.now.request.handles }
@@ -118,7 +118,7 @@ impl<D: VhostUserBackendReqHandlerMut<Link = MemLink>> Joined<D> {
         (request.bytes(), request.handles())
     }
 
-    /// The bytes of the reply that the last answered step wrote, and the handles on the first of them.
+    /// The bytes of the reply that the last answered step wrote, and the descriptors on the first of them.
     pub fn last_reply(&self) -> (&[u8], &[PlainHandle])
         ensures bytes { result.0.now ≡ self.now.reply.bytes }
         ensures handles { result.1.now ≡ self.now.reply.handles }

@@ -50,7 +50,7 @@ impl<D: VhostUserBackendReqHandlerMut<Link = MemLink>> Sides<D> {
 
     /// Two new sessions over two new links, which are cut as the scripts say.
     ///
-    /// OutOfMemory: a growth was refused.
+    /// OutOfMemory: an allocation failed.
     #[inline(never)]
     pub fn new(
         alloc: Global,
@@ -77,7 +77,7 @@ impl<D: VhostUserBackendReqHandlerMut<Link = MemLink>> Sides<D> {
 
     /// Makes what a step may need before its first byte.
     ///
-    /// OutOfMemory: a growth was refused.
+    /// OutOfMemory: an allocation failed.
     pub fn prepare(&mut self) -> Result<()>
         ensures lists { IfOk result (λ _. HaveLists (parts_of self.new)) }
         ensures asking { (parts_of self.new).asking ≡ record (parts_of self.old).asking { list = (parts_of self.new).asking.list } }

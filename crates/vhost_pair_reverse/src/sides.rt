@@ -42,7 +42,7 @@ impl<D: VhostUserFrontendReqHandlerMut<Handle = PlainHandle>> Sides<D> {
 
     /// Two new sides over two new links, which are cut as the scripts say.
     ///
-    /// OutOfMemory: a growth was refused.
+    /// OutOfMemory: an allocation failed.
     pub fn new(
         alloc: Global,
         device: D,
@@ -67,7 +67,7 @@ impl<D: VhostUserFrontendReqHandlerMut<Handle = PlainHandle>> Sides<D> {
 
     /// Makes what a step may need before its first byte.
     ///
-    /// OutOfMemory: a growth was refused.
+    /// OutOfMemory: an allocation failed.
     pub fn prepare(&mut self) -> Result<()>
         ensures lists { IfOk result (λ _. HaveLists (parts_of self.new)) }
         ensures asking { (parts_of self.new).channel.endpoint ≡ record (parts_of self.old).channel.endpoint { list = (parts_of self.new).channel.endpoint.list } }

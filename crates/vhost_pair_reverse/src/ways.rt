@@ -17,7 +17,7 @@ use vhost_pair::{Wire, carry, copy};
 
 /// The request goes to the serving side.
 ///
-/// OutOfMemory: that side had more to receive, and its growth was refused; then nothing changed.
+/// OutOfMemory: that side had more to receive, and its allocation failed; then nothing changed.
 pub fn carry_request(
     backend: &mut BackendInternal<MemLink>,
     server: &mut FrontendReqCore<MemLink>,
@@ -32,7 +32,7 @@ pub fn carry_request(
 
 /// The reply goes to the asking side.
 ///
-/// OutOfMemory: that side had more to receive, and its growth was refused; then nothing changed.
+/// OutOfMemory: that side had more to receive, and its allocation failed; then nothing changed.
 pub fn carry_reply(
     server: &mut FrontendReqCore<MemLink>,
     backend: &mut BackendInternal<MemLink>,
@@ -62,9 +62,9 @@ pub fn copy_reply(server: &mut FrontendReqCore<MemLink>, wire: &mut Wire)
     copy(server.endpoint_mut(), wire);
 }
 
-/// Makes the list for the handles of the next answer, where the last one was given away.
+/// Makes the list for the descriptors of the next answer, where the last one was given away.
 ///
-/// OutOfMemory: its growth was refused, and nothing changed.
+/// OutOfMemory: its allocation failed, and nothing changed.
 pub fn make_reply_list(backend: &mut BackendInternal<MemLink>) -> Result<()>
     ensures made { IfOk result (λ _. (channel backend.new).endpoint.list ≡ true) }
     ensures kept { (channel backend.new).endpoint ≡ record (channel backend.old).endpoint { list = (channel backend.new).endpoint.list } }
@@ -73,9 +73,9 @@ pub fn make_reply_list(backend: &mut BackendInternal<MemLink>) -> Result<()>
     backend.endpoint_mut().make_list()
 }
 
-/// Makes the list for the handles of the next request, where the last one was given away.
+/// Makes the list for the descriptors of the next request, where the last one was given away.
 ///
-/// OutOfMemory: its growth was refused, and nothing changed.
+/// OutOfMemory: its allocation failed, and nothing changed.
 pub fn make_request_list(server: &mut FrontendReqCore<MemLink>) -> Result<()>
     ensures made { IfOk result (λ _. (endpoint_of server.new).list ≡ true) }
     ensures kept { endpoint_of server.new ≡ record (endpoint_of server.old) { list = (endpoint_of server.new).list } }

@@ -16,7 +16,7 @@ use vhost_frontend::Quiet;
 use vhost_link::Link;
 use vhost_message::{HandlerResult, Result, VhostUserSharedMsg};
 
-/// Asks a device for its features so many times, or until that fails. Where the endpoint had its list of handles it has it again
+/// Asks a device for its features so many times, or until that fails. Where the endpoint had its list of descriptors it has it again
 /// after each answer, so no call wants memory.
 pub fn asks_again<L: Link>(frontend: &mut Quiet<L>, count: usize) -> Result<()>
     ensures made { Repeats (Whole L.event GetFeatures Number) frontend.old.inner count result frontend.new.inner }

@@ -1,4 +1,4 @@
-//! Both sides of the reverse channel joined over a frontend that takes one object, with exact answers.
+//! Both sides of the backend channel joined over a frontend that takes one object, with exact answers.
 
 ghost use Rattle.std.specs.Prelude.{◌≡◌, ◌≢◌, ◌++◌, [], ◌∷◌, Some, IfOk, List, Result, ℕ};
 ghost use Rattle.vhost_message.specs.declared.io_error.IoError as declared;

@@ -18,7 +18,7 @@ use vhost_gpu_backend_req::BackendInternal as Display;
 use vhost_link::Link;
 use vhost_message::{HandlerResult, Result as VhostResult, VhostUserSharedMsg, VhostUserU64};
 
-/// Asks for the features of a device. Where the endpoint says that it met a fault, the answer is the error of the link's last event,
+/// Asks for the features of a device. Where the endpoint says that it met an I/O error, the answer is the error of the link's last event,
 /// and that broke the endpoint if a byte of request or reply had moved before, and only then.
 pub fn meets_fault_asking<L: Link>(frontend: &mut Quiet<L>) -> VhostResult<u64>
     ensures { (endpoint_of frontend.new.inner).faulted ≡ true → MeetsFault L.event (endpoint_of frontend.old.inner) result (endpoint_of frontend.new.inner) }
@@ -26,7 +26,7 @@ pub fn meets_fault_asking<L: Link>(frontend: &mut Quiet<L>) -> VhostResult<u64>
     frontend.get_features()
 }
 
-/// Asks so many times over an endpoint that a fault has broken and that has its list of handles: each answer is SocketBroken with
+/// Asks so many times over an endpoint that an I/O error has broken and that has its list of descriptors: each answer is SocketBroken with
 /// its cause, and neither the endpoint nor the session changes.
 pub fn asks_broken<L: Link>(
     alloc: Global,

@@ -82,7 +82,7 @@ pub fn shows_no_reply<D: VhostUserBackendReqHandlerMut<Link = MemLink>>(
     joined.step(call)
 }
 
-/// The same of both sides of the reverse channel, over every device and every list of calls and flags.
+/// The same of both sides of the backend channel, over every device and every list of calls and flags.
 pub fn runs_back_in_lockstep<D: VhostUserFrontendReqHandlerMut<Handle = PlainHandle>>(
     alloc: Global,
     device: D,

@@ -28,7 +28,7 @@ pub fn reads_features(frontend: &mut Quiet<MemLink>) -> Result<u64>
 
 /// The same over a link in memory that is cut as the script says.
 ///
-/// OutOfMemory: a growth was refused.
+/// OutOfMemory: an allocation failed.
 pub fn reads_features_new(
     alloc: Global,
     script: Vec<Cut>,

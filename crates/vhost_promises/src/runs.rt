@@ -46,7 +46,7 @@ pub fn serves_whole_back<L: Link, D: VhostUserFrontendReqHandlerMut<Handle = L::
     Ok(answers)
 }
 
-/// Serves one request of a frontend, of a session that is not marked as failed. Where its endpoint is broken, the answer says why,
+/// Serves one request of a frontend, of a session that is not marked as failed. Where its endpoint is poisoned, the answer says why,
 /// and neither the session nor the device has changed.
 pub fn serves_no_broken<L: Link, D: VhostUserBackendReqHandlerMut<Link = L>>(
     core: &mut SessionCore<L>,

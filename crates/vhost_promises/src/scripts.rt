@@ -2,7 +2,7 @@
 
 ghost use Rattle.vhost_promises.specs.Scripts.{TakesACut, StopsByItsCut, PassesNoFault, CountsItsWants};
 
-/// What passes a link takes cuts of its script, and no message passes a fault.
+/// What passes a link takes cuts of its script, and no message passes an I/O error.
 pub fn passes_its_script()
     ensures cut { TakesACut }
     ensures fault { PassesNoFault }

@@ -38,7 +38,7 @@ pub fn serves_three(
 
 /// A new handler over a new example device, whose link in memory holds the three requests and is cut as the script says, serves them.
 ///
-/// OutOfMemory: a growth was refused.
+/// OutOfMemory: an allocation failed.
 pub fn serves_three_new(
     alloc: Global,
     spare: Vec<PlainHandle>,

@@ -23,7 +23,7 @@ pub struct Ended {
 }
 
 /// Serves requests until one ends the session, or the gate does. A session is ended by the end of its stream, a message that is
-/// malformed, a fault of its link, and want of memory; after any other refusal it goes on.
+/// malformed, an I/O error of its link, and want of memory; after any other refusal it goes on.
 pub fn serve_session<R: Wait, G: Gate, L: Link, S: VhostUserBackendReqHandler<Link = L>>(
     rt: &R,
     session: u32,

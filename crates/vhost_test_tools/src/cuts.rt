@@ -35,7 +35,7 @@ fn cut_of(alloc: Global, n: usize, word: &str) -> Result<Cut, Miss> {
     }
 }
 
-/// The number of a fault.
+/// The number of an I/O error.
 pub(crate) fn fault_of(alloc: Global, word: &str) -> Result<i32, Miss> {
     match i32::try_from(narrow::<u32>(alloc, word)?) {
         Ok(number) => Ok(number),

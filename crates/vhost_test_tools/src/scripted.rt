@@ -72,7 +72,7 @@ impl<L> Scripted<L> {
         }
     }
 
-    /// It is asked a call that answers a handle.
+    /// It is asked a call that answers a descriptor.
     fn handle(&mut self, call: std::result::Result<String, AllocError>) -> Result<PlainHandle> {
         match self.ask(call)? {
             Value::Handle(handle) => Ok(handle),
@@ -80,7 +80,7 @@ impl<L> Scripted<L> {
         }
     }
 
-    /// It is asked a call about a ring and its handle.
+    /// It is asked a call about a ring and its descriptor.
     fn ring<H: ScriptHandle>(&mut self, name: &str, index: u8, fd: &Option<H>) -> Result<()> {
         let Ok(file) = file_text(self.alloc, fd) else {
             return Err(Error::OutOfMemory);

@@ -15,7 +15,7 @@ pub enum Over<'a> {
     Scripted,
     /// The same behind a lock.
     Locked,
-    /// The example device, with these handles to give out.
+    /// The example device, with these descriptors to give out.
     Dummy(&'a str),
 }
 
@@ -31,7 +31,7 @@ pub struct Settings<'a> {
     /// The cuts of the link, and of the serving side's link where both sides are joined.
     pub cuts: &'a str,
     pub serving_cuts: &'a str,
-    /// The handles that can't say of what kind they are.
+    /// The descriptors that can't say of what kind they are.
     pub silent: &'a str,
     /// Whether messages have the headers of the display's channel.
     pub gpu: bool,

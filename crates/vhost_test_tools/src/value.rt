@@ -164,7 +164,7 @@ fn base_of(alloc: Global, text: &str) -> Result<Value, Miss> {
     Ok(Value::Base(Some(number_of(alloc, text)?)))
 }
 
-/// A handle, or `none`.
+/// A descriptor, or `none`.
 fn state_handle_of(alloc: Global, text: &str) -> Result<Value, Miss> {
     if text == "none" {
         return Ok(Value::StateHandle(None));
@@ -181,7 +181,7 @@ fn numbers_of(alloc: Global, text: &str) -> Result<Vec<u64>, Miss> {
     Ok(numbers)
 }
 
-/// One handle in brackets.
+/// One descriptor in brackets.
 fn only_handle(alloc: Global, text: &str) -> Result<PlainHandle, Miss> {
     let (handles, rest) = handles_in(alloc, text)?;
     match handles.first() {
@@ -199,7 +199,7 @@ fn state_of(alloc: Global, text: &str) -> Result<Value, Miss> {
     Ok(Value::State(VhostUserVringState::new(ring, number)))
 }
 
-/// Size, offset, number of queues, their size, and a handle.
+/// Size, offset, number of queues, their size, and a descriptor.
 fn area_of(alloc: Global, text: &str) -> Result<Value, Miss> {
     let Some((area, handle)) = text.rsplit_once(" ") else {
         return Err(unreadable(alloc, "an area and its handle", text));

@@ -1,4 +1,4 @@
-//! Served sessions of the reverse channel: a frontend's side over a link in memory.
+//! Served sessions of the backend channel: a frontend's side over a link in memory.
 
 use crate::player::Player;
 use std::alloc::{AllocError, Global};
@@ -34,7 +34,7 @@ pub(crate) trait Server: Sized + Drop {
     /// Says whether requests that ask for it are acknowledged.
     fn set_reply_ack_flag(&mut self, on: bool);
 
-    /// Whether the last request met a fault of the link. None: behind a lock this is not told.
+    /// Whether the last request met an I/O error of the link. None: behind a lock this is not told.
     fn faulted(&self) -> Option<bool>;
 
     /// Takes what was not received. None: behind a lock this is not seen.

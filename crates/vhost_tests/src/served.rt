@@ -177,7 +177,7 @@ impl<H: Handler> Served<H> {
             .push(&mut lend(self.alloc, &self.wire)?.mem, requests.as_str())
     }
 
-    /// Tests whether the last request met a fault of the link.
+    /// Tests whether the last request met an I/O error of the link.
     fn expect_link(&mut self, wanted: &str) -> Result<(), Miss> {
         match self.handler.faulted() {
             Some(true) => expect(self.alloc, wanted, "faulted"),
@@ -193,7 +193,7 @@ impl<H: Handler> Served<H> {
         Ok(())
     }
 
-    /// From now on the link opens each handle, or none.
+    /// From now on the link opens each descriptor, or none.
     fn set_opening(&mut self, text: &str) -> Result<(), Miss> {
         let shut = match text.strip_prefix("fault:") {
             Some(number) => {

@@ -1,4 +1,4 @@
-//! Channels that a handle opens.
+//! Channels that a descriptor opens.
 
 ghost use Rattle.std.specs.Prelude.{◌≡◌};
 ghost use Rattle.vhost_message.specs.declared.frontend_req.FrontendReq.TheVariants.{SET_BACKEND_REQ_FD, GPU_SET_SOCKET};
@@ -61,7 +61,7 @@ impl<L: Link> SessionCore<L> {
         }
     }
 
-    /// Opens a handle as the channel to the frontend, with the session's budget.
+    /// Opens a descriptor as the channel to the frontend, with the session's retry limit.
     fn open_backend(&mut self, file: L::Handle) -> Result<Backend<L>>
         ensures opened { OpensAs L.opens L.Handle.kinds file (seen_result result) }
         ensures same { self.new ≡ self.old }
@@ -72,7 +72,7 @@ impl<L: Link> SessionCore<L> {
         }
     }
 
-    /// Opens a handle as the channel to a display, with the session's budget.
+    /// Opens a descriptor as the channel to a display, with the session's retry limit.
     fn open_gpu(&mut self, file: L::Handle) -> Result<GpuBackend<L>>
         ensures opened { OpensAs L.opens L.Handle.kinds file (seen_result result) }
         ensures same { self.new ≡ self.old }
@@ -83,7 +83,7 @@ impl<L: Link> SessionCore<L> {
         }
     }
 
-    /// Opens a handle as a link. InvalidSocketFd, NotUnixSocket, NotStreamSocket: it is no Unix stream socket, or could
+    /// Opens a descriptor as a link. InvalidSocketFd, NotUnixSocket, NotStreamSocket: it is no Unix stream socket, or could
     /// not be opened.
     fn open(&mut self, file: L::Handle) -> Result<L>
         ensures opened { OpensLink L.opens L.Handle.kinds file (seen_result result) }

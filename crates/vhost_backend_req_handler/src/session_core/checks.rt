@@ -135,7 +135,7 @@ impl<L: Link> SessionCore<L> {
         Ok(())
     }
 
-    /// The one handle of a message, or this error where it has none or several.
+    /// The one descriptor of a message, or this error where it has none or several.
     pub(crate) fn one_handle(
         &self,
         handles: Option<Vec<L::Handle>>,
@@ -147,7 +147,7 @@ impl<L: Link> SessionCore<L> {
     }
 }
 
-/// The one handle of a message, where it has exactly one.
+/// The one descriptor of a message, where it has exactly one.
 pub(crate) fn only<H: Drop>(handles: Option<Vec<H>>) -> Option<H>
     ensures { (hs : List H) → HandsOver handles hs → (refusal : Refusal H) → row.only refusal hs ≡ ok_or result refusal }
 {

@@ -116,7 +116,7 @@ impl<L: Link> SessionCore<L> {
         }
     }
 
-    /// The table of a request, at the front of these places, and its handles; where it has as many regions and handles
+    /// The table of a request, at the front of these places, and its descriptors; where it has as many regions and descriptors
     /// as it says, all valid.
     fn read_table(
         &self,
@@ -142,7 +142,7 @@ impl<L: Link> SessionCore<L> {
         }
     }
 
-    /// How many regions the table of a request has, where it has as many bytes and handles as it says.
+    /// How many regions the table of a request has, where it has as many bytes and descriptors as it says.
     fn table_len(&self, request: Request, handles: usize) -> Option<usize>
         ensures valid { (m : Message FrontendReq L.Handle) → Reads self.now.body.value request m
             → (not m.reply && nat_le MEMORY_HEAD_SIZE (length m.body) && is_valid_memory (memory_of m.body) && length m.body == MEMORY_HEAD_SIZE + MEMORY_REGION_SIZE * (memory_of m.body).num_regions && handles == (memory_of m.body).num_regions) ≡ is_some result }

@@ -11,7 +11,7 @@ use vhost_message::{PostcopyState, Result, VhostUserEmpty, protocol_bit};
 impl<L: Link> SessionCore<L> {
     ghost use Rattle.vhost_backend_req_handler.specs.Core.{MeetsRow};
 
-    /// POSTCOPY_ADVISE: the reply brings the handle for page faults, or none for the device's error.
+    /// POSTCOPY_ADVISE: the reply brings the descriptor for page faults, or none for the device's error.
     pub(crate) fn postcopy_advise<D: VhostUserBackendReqHandlerMut<Link = L>>(
         &mut self,
         device: &mut D,

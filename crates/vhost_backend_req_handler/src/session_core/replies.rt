@@ -44,8 +44,8 @@ impl<L: Link> SessionCore<L> {
         }
     }
 
-    /// Replies to a request, with the handles on the first byte. A fault here is one between a request and the end of
-    /// its answer: it breaks the endpoint.
+    /// Replies to a request, with the descriptors on the first byte. An I/O error here is one between a request and the end of
+    /// its answer: it poisons the endpoint.
     pub(crate) fn send_reply<T: ByteValued>(
         &mut self,
         request: Request,

@@ -11,7 +11,7 @@ use vhost_message::{Result, VhostUserEmpty, VhostUserSharedMsg, protocol_bit};
 impl<L: Link> SessionCore<L> {
     ghost use Rattle.vhost_backend_req_handler.specs.Core.{MeetsRow};
 
-    /// GET_SHARED_OBJECT: the reply brings the object's handle, or none where the device has none.
+    /// GET_SHARED_OBJECT: the reply brings the object's descriptor, or none where the device has none.
     pub(crate) fn get_shared_object<D: VhostUserBackendReqHandlerMut<Link = L>>(
         &mut self,
         device: &mut D,

@@ -32,7 +32,7 @@ impl<L: Link> SessionCore<L> {
     ghost use Rattle.vhost_backend_req_handler.specs.Serving.{reply_cells};
     ghost use Rattle.vhost_protocol.specs.Row.{with_state};
 
-    /// SET_DEVICE_STATE_FD: the reply is 0 with the device's handle, 0x100 without one, 0x101 for its error.
+    /// SET_DEVICE_STATE_FD: the reply is 0 with the device's descriptor, 0x100 without one, 0x101 for its error.
     pub(crate) fn set_device_state_fd<D: VhostUserBackendReqHandlerMut<Link = L>>(
         &mut self,
         device: &mut D,

@@ -1,4 +1,4 @@
-//! The buffer for descriptors in flight.
+//! The inflight region.
 
 ghost use Rattle.vhost_protocol.specs.FrontendCall as call;
 
@@ -10,9 +10,9 @@ use vhost_message::{Result, VhostUserInflight};
 impl<L: Link> Quiet<L> {
     ghost use Rattle.vhost_frontend.specs.Whole.{Whole};
 
-    /// The buffer: where it lies, and its handle.
+    /// The buffer: where it lies, and its descriptor.
     ///
-    /// InactiveOperation: INFLIGHT_SHMFD is not acknowledged. InvalidMessage: no handle came. IncorrectFds: several did.
+    /// InactiveOperation: INFLIGHT_SHMFD is not acknowledged. InvalidMessage: no descriptor came. IncorrectFds: several did.
     pub fn get_inflight_fd(
         &mut self,
         inflight: &VhostUserInflight,

@@ -14,7 +14,7 @@ impl<L: Link> Quiet<L> {
 
     /// Gives the device the table of all regions. While postcopy listens, the answer is where each one is mapped, else nothing.
     ///
-    /// InvalidParam: there are no regions or more than a table may have, or the size of one is 0, or one has no handle. InvalidMessage: the
+    /// InvalidParam: there are no regions or more than a table may have, or the size of one is 0, or one has no descriptor. InvalidMessage: the
     /// reply is of other regions.
     pub fn set_mem_table(
         &mut self,
@@ -42,7 +42,7 @@ impl<L: Link> Quiet<L> {
 
     /// Gives the device a region. While postcopy listens, the answer is where it is mapped, else nothing.
     ///
-    /// InactiveOperation: CONFIGURE_MEM_SLOTS is not acknowledged. InvalidParam: the region's size is 0, or it has no handle.
+    /// InactiveOperation: CONFIGURE_MEM_SLOTS is not acknowledged. InvalidParam: the region's size is 0, or it has no descriptor.
     /// InvalidMessage: the reply is of another region.
     pub fn add_mem_region(
         &mut self,

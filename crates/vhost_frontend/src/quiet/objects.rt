@@ -1,4 +1,4 @@
-//! Shared objects, shared memory and the reverse channel.
+//! Shared objects, shared memory and the backend channel.
 
 ghost use Rattle.vhost_protocol.specs.FrontendCall as call;
 
@@ -10,9 +10,9 @@ use vhost_message::{Result, VhostUserShMemConfig, VhostUserSharedMsg};
 impl<L: Link> Quiet<L> {
     ghost use Rattle.vhost_frontend.specs.Whole.{Whole};
 
-    /// The handle of a shared object.
+    /// The descriptor of a shared object.
     ///
-    /// InactiveOperation: SHARED_OBJECT is not acknowledged. InvalidParam: the name is not valid. InvalidMessage: no handle
+    /// InactiveOperation: SHARED_OBJECT is not acknowledged. InvalidParam: the name is not valid. InvalidMessage: no descriptor
     /// came. IncorrectFds: several did.
     pub fn get_shared_object(&mut self, name: &VhostUserSharedMsg) -> Result<L::Handle>
         ensures { Whole L.event (call.GetSharedObject name.now) call.HandleOf self.old.inner result self.new.inner }

@@ -10,9 +10,9 @@ use vhost_message::{FrontendReq, Result};
 impl<L: Link> Quiet<L> {
     ghost use Rattle.vhost_frontend.specs.Whole.{Whole};
 
-    /// Tells that postcopy is going to begin. The answer is the handle of page faults.
+    /// Tells that postcopy is going to begin. The answer is the descriptor of page faults.
     ///
-    /// InactiveOperation: PAGEFAULT is not acknowledged. InvalidMessage: no handle came. IncorrectFds: several did.
+    /// InactiveOperation: PAGEFAULT is not acknowledged. InvalidMessage: no descriptor came. IncorrectFds: several did.
     pub fn postcopy_advise(&mut self) -> Result<L::Handle>
         ensures { Whole L.event call.PostcopyAdvise call.HandleOf self.old.inner result self.new.inner }
     {

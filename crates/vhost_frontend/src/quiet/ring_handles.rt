@@ -1,4 +1,4 @@
-//! The handles of rings.
+//! The descriptors of rings.
 
 ghost use Rattle.std.specs.Prelude.{Some};
 ghost use Rattle.vhost_protocol.specs.FrontendCall as call;
@@ -11,7 +11,7 @@ use vhost_message::Result;
 impl<L: Link> Quiet<L> {
     ghost use Rattle.vhost_frontend.specs.Whole.{Whole};
 
-    /// Gives the handle by which the device tells that it used descriptors.
+    /// Gives the descriptor by which the device tells that it used descriptors.
     ///
     /// InvalidParam: the device has no queue of this index, or the index is greater than 255.
     pub fn set_vring_call(&mut self, index: usize, handle: &L::Handle) -> Result<()>
@@ -21,7 +21,7 @@ impl<L: Link> Quiet<L> {
         acknowledged(&mut self.inner, asked)
     }
 
-    /// Gives the handle by which the driver tells that it added descriptors.
+    /// Gives the descriptor by which the driver tells that it added descriptors.
     ///
     /// InvalidParam: the device has no queue of this index, or the index is greater than 255.
     pub fn set_vring_kick(&mut self, index: usize, handle: &L::Handle) -> Result<()>
@@ -31,7 +31,7 @@ impl<L: Link> Quiet<L> {
         acknowledged(&mut self.inner, asked)
     }
 
-    /// Gives the handle by which the device tells of an error.
+    /// Gives the descriptor by which the device tells of an error.
     ///
     /// InvalidParam: the device has no queue of this index, or the index is greater than 255.
     pub fn set_vring_err(&mut self, index: usize, handle: &L::Handle) -> Result<()>

@@ -11,10 +11,10 @@ use vhost_message::{Result, VhostTransferStateDirection, VhostTransferStatePhase
 impl<L: Link> Quiet<L> {
     ghost use Rattle.vhost_frontend.specs.Whole.{Whole};
 
-    /// Begins a transfer over this handle. The answer is the handle that the device wants in its place, if any.
+    /// Begins a transfer over this descriptor. The answer is the descriptor that the device wants in its place, if any.
     ///
     /// InactiveOperation: DEVICE_STATE is not acknowledged. BackendInternalError: the device failed. IncorrectFds: several
-    /// handles came.
+    /// descriptors came.
     pub fn set_device_state_fd(
         &mut self,
         direction: VhostTransferStateDirection,

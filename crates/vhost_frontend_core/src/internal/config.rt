@@ -45,7 +45,7 @@ impl<L: Link> FrontendInternal<L> {
         self.send(request, &part, buffer, &[])
     }
 
-    /// Takes the acknowledgement, where there is one.
+    /// Receives the acknowledgement, where there is one.
     pub fn take_set_config(&mut self, sent: Sent) -> Result<()>
         requires { IsAwaited sent self.old }
         ensures taken { (offset flags : ℕ) (buffer : List ℕ) → TakesAck L.event (call.SetConfig offset flags buffer) sent self.old result self.new }

@@ -54,7 +54,7 @@ impl<L: Link> FrontendInternal<L> {
         self.ask(RecordCall::SetFeatures(features))
     }
 
-    /// Takes the acknowledgement, where there is one.
+    /// Receives the acknowledgement, where there is one.
     pub fn take_set_features(&mut self, sent: Sent) -> Result<()>
         requires { IsAwaited sent self.old }
         ensures taken { (features : ℕ) → TakesAck L.event (call.SetFeatures features) sent self.old result self.new }
@@ -96,7 +96,7 @@ impl<L: Link> FrontendInternal<L> {
         self.ask(RecordCall::SetProtocolFeatures(features))
     }
 
-    /// Takes the acknowledgement, where there is one.
+    /// Receives the acknowledgement, where there is one.
     pub fn take_set_protocol_features(&mut self, sent: Sent) -> Result<()>
         requires { IsAwaited sent self.old }
         ensures taken { (features : ℕ) → TakesAck L.event (call.SetProtocolFeatures features) sent self.old result self.new }

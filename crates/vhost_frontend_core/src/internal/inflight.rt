@@ -1,4 +1,4 @@
-//! The buffer for descriptors in flight.
+//! The inflight region.
 
 ghost use Rattle.std.specs.Prelude.{◌≡◌};
 ghost use Rattle.vhost_protocol.specs.FrontendCall as call;
@@ -28,9 +28,9 @@ impl<L: Link> FrontendInternal<L> {
         self.ask(RecordCall::GetInflightFd(*inflight))
     }
 
-    /// Takes the buffer: where it lies, and its handle.
+    /// Takes the buffer: where it lies, and its descriptor.
     ///
-    /// InvalidMessage: no handle came. IncorrectFds: several did.
+    /// InvalidMessage: no descriptor came. IncorrectFds: several did.
     pub fn take_get_inflight_fd(&mut self, sent: Sent) -> Result<(VhostUserInflight, L::Handle)>
         requires { IsAwaited sent self.old }
         ensures taken { (asked : VhostUserInflight) → TakesHalf L.event (call.GetInflightFd asked) (λ buffer. call.InflightOf buffer.0 buffer.1) (Reply shape.Inflight) sent self.old result self.new }
@@ -57,7 +57,7 @@ impl<L: Link> FrontendInternal<L> {
         self.ask_with(HandleCall::SetInflightFd(*inflight), handle)
     }
 
-    /// Takes the acknowledgement, where there is one.
+    /// Receives the acknowledgement, where there is one.
     pub fn take_set_inflight_fd(&mut self, sent: Sent) -> Result<()>
         requires { IsAwaited sent self.old }
         ensures taken { (inflight : VhostUserInflight) (handle : L.Handle) → TakesAck L.event (call.SetInflightFd inflight handle) sent self.old result self.new }

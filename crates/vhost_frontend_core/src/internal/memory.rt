@@ -54,7 +54,7 @@ impl<L: Link> FrontendInternal<L> {
     /// Gives the device a region.
     ///
     /// InactiveOperation: CONFIGURE_MEM_SLOTS is not acknowledged. InvalidParam: the region's size is 0, or it has no
-    /// handle.
+    /// descriptor.
     pub fn ask_add_mem_region(
         &mut self,
         region: &VhostUserMemoryRegionInfo<L::Handle>,
@@ -82,7 +82,7 @@ impl<L: Link> FrontendInternal<L> {
         self.ask_with(HandleCall::AddMemRegion(region.to_region()), handle)
     }
 
-    /// Takes the acknowledgement, where there is one; or, while postcopy listens, where the region is mapped.
+    /// Receives the acknowledgement, where there is one; or, while postcopy listens, where the region is mapped.
     ///
     /// InvalidMessage: the reply is of another region.
     pub fn take_add_mem_region(&mut self, sent: Sent) -> Result<Option<u64>>
@@ -130,7 +130,7 @@ impl<L: Link> FrontendInternal<L> {
         self.ask(RecordCall::RemoveMemRegion(region.to_region()))
     }
 
-    /// Takes the acknowledgement, where there is one.
+    /// Receives the acknowledgement, where there is one.
     pub fn take_remove_mem_region(&mut self, sent: Sent) -> Result<()>
         requires { IsAwaited sent self.old }
         ensures taken { (info : call.Info L.Handle) → TakesAck L.event (call.RemoveMemRegion info) sent self.old result self.new }

@@ -24,7 +24,7 @@ impl<L: Link> FrontendInternal<L> {
         self.ask(RecordCall::SetMtu(mtu))
     }
 
-    /// Takes the acknowledgement, where there is one.
+    /// Receives the acknowledgement, where there is one.
     pub fn take_set_mtu(&mut self, sent: Sent) -> Result<()>
         requires { IsAwaited sent self.old }
         ensures taken { (mtu : ℕ) → TakesAck L.event (call.SetMtu mtu) sent self.old result self.new }

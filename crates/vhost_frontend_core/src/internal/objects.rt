@@ -1,4 +1,4 @@
-//! Shared objects, shared memory and the reverse channel.
+//! Shared objects, shared memory and the backend channel.
 
 ghost use Rattle.std.specs.Prelude.{◌≡◌, [], Ok, IfOk};
 ghost use Rattle.vhost_protocol.specs.FrontendCall as call;
@@ -20,7 +20,7 @@ impl<L: Link> FrontendInternal<L> {
     ghost use Rattle.vhost_frontend_core.specs.Halves.{AsksHalf, AsksHalfWithRoom, TakesHalf, TakesAck};
     ghost use Rattle.vhost_frontend_core.specs.Kept.{KeepsPlace};
 
-    /// Asks for the handle of a shared object.
+    /// Asks for the descriptor of a shared object.
     ///
     /// InactiveOperation: SHARED_OBJECT is not acknowledged. InvalidParam: the name is not valid.
     pub fn ask_get_shared_object(&mut self, name: &VhostUserSharedMsg) -> Result<Sent>
@@ -30,7 +30,7 @@ impl<L: Link> FrontendInternal<L> {
         self.ask(RecordCall::GetSharedObject(*name))
     }
 
-    /// Takes the handle.
+    /// Takes the descriptor.
     ///
     /// InvalidMessage: none came. IncorrectFds: several did.
     pub fn take_get_shared_object(&mut self, sent: Sent) -> Result<L::Handle>
@@ -68,7 +68,7 @@ impl<L: Link> FrontendInternal<L> {
 
     /// Asks for the regions of shared memory, with a place made that they can be taken to.
     ///
-    /// InactiveOperation: SHMEM is not acknowledged. OutOfMemory: a growth was refused, and nothing changed.
+    /// InactiveOperation: SHMEM is not acknowledged. OutOfMemory: an allocation failed, and nothing changed.
     #[inline(never)]
     pub fn ask_get_shmem_config_with_place(&mut self) -> Result<Sent>
         requires { MayAsk self.old }
@@ -137,7 +137,7 @@ impl<L: Link> FrontendInternal<L> {
         self.ask_with(HandleCall::SetBackendRequestFd, handle)
     }
 
-    /// Takes the acknowledgement, where there is one.
+    /// Receives the acknowledgement, where there is one.
     pub fn take_set_backend_request_fd(&mut self, sent: Sent) -> Result<()>
         requires { IsAwaited sent self.old }
         ensures taken { (handle : L.Handle) → TakesAck L.event (call.SetBackendRequestFd handle) sent self.old result self.new }

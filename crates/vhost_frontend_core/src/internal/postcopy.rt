@@ -18,7 +18,7 @@ impl<L: Link> FrontendInternal<L> {
     ghost use Rattle.vhost_frontend_core.specs.Frontend.{awaits, MayAsk, IsAwaited};
     ghost use Rattle.vhost_frontend_core.specs.Halves.{AsksHalf, TakesHalf, TakesAck};
 
-    /// Tells that postcopy is going to begin, and asks for the handle of page faults.
+    /// Tells that postcopy is going to begin, and asks for the descriptor of page faults.
     ///
     /// InactiveOperation: PAGEFAULT is not acknowledged.
     pub fn ask_postcopy_advise(&mut self) -> Result<Sent>
@@ -28,7 +28,7 @@ impl<L: Link> FrontendInternal<L> {
         self.ask(RecordCall::PostcopyAdvise)
     }
 
-    /// Takes the handle; postcopy is advised from now on.
+    /// Takes the descriptor; postcopy is advised from now on.
     ///
     /// InvalidMessage: none came. IncorrectFds: several did.
     pub fn take_postcopy_advise(&mut self, sent: Sent) -> Result<L::Handle>
@@ -55,7 +55,7 @@ impl<L: Link> FrontendInternal<L> {
         self.ask(RecordCall::PostcopyListen)
     }
 
-    /// Takes the acknowledgement, where there is one. The device listens from now on.
+    /// Receives the acknowledgement, where there is one. The device listens from now on.
     pub fn take_postcopy_listen(&mut self, sent: Sent) -> Result<()>
         requires { IsAwaited sent self.old }
         ensures taken { TakesAck L.event call.PostcopyListen sent self.old result self.new }
@@ -80,7 +80,7 @@ impl<L: Link> FrontendInternal<L> {
         self.ask(RecordCall::PostcopyEnd)
     }
 
-    /// Takes the acknowledgement, where there is one. Postcopy has ended from now on.
+    /// Receives the acknowledgement, where there is one. Postcopy has ended from now on.
     pub fn take_postcopy_end(&mut self, sent: Sent) -> Result<()>
         requires { IsAwaited sent self.old }
         ensures taken { TakesAck L.event call.PostcopyEnd sent self.old result self.new }

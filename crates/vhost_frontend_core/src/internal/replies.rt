@@ -20,7 +20,7 @@ impl<L: Link> FrontendInternal<L> {
     ghost use Rattle.vhost_frontend_core.specs.Halves.{TakesAck};
     ghost use Rattle.vhost_frontend_core.specs.Taking.{Recvs, Awaits, AwaitsAlone, AwaitsOne, RecvsAck, Acks};
 
-    /// Receives the reply for a request: a record, and the handles.
+    /// Receives the reply for a request: a record, and the descriptors.
     fn recv_record<T: VhostUserMsgValidator + Drop>(
         &mut self,
         request: &Header,
@@ -37,7 +37,7 @@ impl<L: Link> FrontendInternal<L> {
 
     /// Takes an acknowledgement where one is awaited: 0 is success.
     ///
-    /// BackendInternalError: another number. InvalidMessage: what came has handles, is not valid, or does not acknowledge
+    /// BackendInternalError: another number. InvalidMessage: what came has descriptors, is not valid, or does not acknowledge
     /// the request. PartialMessage: the stream ended.
     pub(crate) fn take_ack(&mut self, sent: Sent) -> Result<()>
         ensures session { session_of self.new ≡ session_of self.old }
@@ -79,7 +79,7 @@ impl<L: Link> FrontendInternal<L> {
         Ok(())
     }
 
-    /// Takes a reply: a record, and the handles.
+    /// Takes a reply: a record, and the descriptors.
     ///
     /// InvalidParam: the request was sent as a reply, so there is none.
     pub(crate) fn take_reply<T: VhostUserMsgValidator + Drop>(
@@ -98,7 +98,7 @@ impl<L: Link> FrontendInternal<L> {
         self.recv_record(&sent.request)
     }
 
-    /// Takes a reply that has no handle.
+    /// Takes a reply that has no descriptor.
     pub(crate) fn take_plain_reply<T: VhostUserMsgValidator + Drop>(
         &mut self,
         sent: Sent,
@@ -115,7 +115,7 @@ impl<L: Link> FrontendInternal<L> {
         Ok(body)
     }
 
-    /// Takes a reply that has one handle.
+    /// Takes a reply that has one descriptor.
     ///
     /// InvalidMessage: it has none. IncorrectFds: it has several.
     pub(crate) fn take_reply_with_handle<T: VhostUserMsgValidator + Drop>(
@@ -133,7 +133,7 @@ impl<L: Link> FrontendInternal<L> {
     }
 }
 
-/// The one handle that came. InvalidMessage: none came. IncorrectFds: several did.
+/// The one descriptor that came. InvalidMessage: none came. IncorrectFds: several did.
 pub(crate) fn one_of<H: Drop>(handles: Option<Vec<H>>) -> Result<H>
     ensures { (hs : List H) → HandsOver handles hs → with_one hs (λ h. h) ≡ seen_result result }
 {

@@ -1,4 +1,4 @@
-//! The handles of rings.
+//! The descriptors of rings.
 
 ghost use Rattle.std.specs.Prelude.{◌≡◌, ℕ, Option, Some, None};
 ghost use Rattle.vhost_protocol.specs.FrontendCall as call;
@@ -14,7 +14,7 @@ impl<L: Link> FrontendInternal<L> {
     ghost use Rattle.vhost_frontend_core.specs.Frontend.{awaits, MayAsk, IsAwaited};
     ghost use Rattle.vhost_frontend_core.specs.Halves.{AsksHalf, TakesAck};
 
-    /// Gives the handle by which the device tells that it used descriptors.
+    /// Gives the descriptor by which the device tells that it used descriptors.
     ///
     /// InvalidParam: the device has no queue of this index, or the index is greater than 255.
     pub fn ask_set_vring_call(&mut self, index: usize, handle: &L::Handle) -> Result<Sent>
@@ -24,7 +24,7 @@ impl<L: Link> FrontendInternal<L> {
         self.ask_with(HandleCall::SetVringCall(index), handle)
     }
 
-    /// The same of a ring that has no handle by which the device tells that it used descriptors.
+    /// The same of a ring that has no descriptor by which the device tells that it used descriptors.
     ///
     /// InvalidParam: the device has no queue of this index, or the index is greater than 255.
     pub fn ask_set_vring_call_bare(&mut self, index: usize) -> Result<Sent>
@@ -34,7 +34,7 @@ impl<L: Link> FrontendInternal<L> {
         self.ask(RecordCall::SetVringCall(index))
     }
 
-    /// Takes the acknowledgement, where there is one.
+    /// Receives the acknowledgement, where there is one.
     pub fn take_set_vring_call(&mut self, sent: Sent) -> Result<()>
         requires { IsAwaited sent self.old }
         ensures taken { (index : ℕ) (handle : Option L.Handle) → TakesAck L.event (call.SetVringCall index handle) sent self.old result self.new }
@@ -43,7 +43,7 @@ impl<L: Link> FrontendInternal<L> {
         self.take_done(sent)
     }
 
-    /// Gives the handle by which the driver tells that it added descriptors.
+    /// Gives the descriptor by which the driver tells that it added descriptors.
     ///
     /// InvalidParam: the device has no queue of this index, or the index is greater than 255.
     pub fn ask_set_vring_kick(&mut self, index: usize, handle: &L::Handle) -> Result<Sent>
@@ -53,7 +53,7 @@ impl<L: Link> FrontendInternal<L> {
         self.ask_with(HandleCall::SetVringKick(index), handle)
     }
 
-    /// The same of a ring that has no handle by which the driver tells that it added descriptors.
+    /// The same of a ring that has no descriptor by which the driver tells that it added descriptors.
     ///
     /// InvalidParam: the device has no queue of this index, or the index is greater than 255.
     pub fn ask_set_vring_kick_bare(&mut self, index: usize) -> Result<Sent>
@@ -63,7 +63,7 @@ impl<L: Link> FrontendInternal<L> {
         self.ask(RecordCall::SetVringKick(index))
     }
 
-    /// Takes the acknowledgement, where there is one.
+    /// Receives the acknowledgement, where there is one.
     pub fn take_set_vring_kick(&mut self, sent: Sent) -> Result<()>
         requires { IsAwaited sent self.old }
         ensures taken { (index : ℕ) (handle : Option L.Handle) → TakesAck L.event (call.SetVringKick index handle) sent self.old result self.new }
@@ -72,7 +72,7 @@ impl<L: Link> FrontendInternal<L> {
         self.take_done(sent)
     }
 
-    /// Gives the handle by which the device tells of an error.
+    /// Gives the descriptor by which the device tells of an error.
     ///
     /// InvalidParam: the device has no queue of this index, or the index is greater than 255.
     pub fn ask_set_vring_err(&mut self, index: usize, handle: &L::Handle) -> Result<Sent>
@@ -82,7 +82,7 @@ impl<L: Link> FrontendInternal<L> {
         self.ask_with(HandleCall::SetVringErr(index), handle)
     }
 
-    /// The same of a ring that has no handle by which the device tells of an error.
+    /// The same of a ring that has no descriptor by which the device tells of an error.
     ///
     /// InvalidParam: the device has no queue of this index, or the index is greater than 255.
     pub fn ask_set_vring_err_bare(&mut self, index: usize) -> Result<Sent>
@@ -92,7 +92,7 @@ impl<L: Link> FrontendInternal<L> {
         self.ask(RecordCall::SetVringErr(index))
     }
 
-    /// Takes the acknowledgement, where there is one.
+    /// Receives the acknowledgement, where there is one.
     pub fn take_set_vring_err(&mut self, sent: Sent) -> Result<()>
         requires { IsAwaited sent self.old }
         ensures taken { (index : ℕ) (handle : Option L.Handle) → TakesAck L.event (call.SetVringErr index handle) sent self.old result self.new }

@@ -27,7 +27,7 @@ impl<L: Link> FrontendInternal<L> {
         self.ask(RecordCall::SetVringNum(index, num))
     }
 
-    /// Takes the acknowledgement, where there is one.
+    /// Receives the acknowledgement, where there is one.
     pub fn take_set_vring_num(&mut self, sent: Sent) -> Result<()>
         requires { IsAwaited sent self.old }
         ensures taken { (index num : ℕ) → TakesAck L.event (call.SetVringNum index num) sent self.old result self.new }
@@ -46,7 +46,7 @@ impl<L: Link> FrontendInternal<L> {
         self.ask(RecordCall::SetVringBase(index, base))
     }
 
-    /// Takes the acknowledgement, where there is one.
+    /// Receives the acknowledgement, where there is one.
     pub fn take_set_vring_base(&mut self, sent: Sent) -> Result<()>
         requires { IsAwaited sent self.old }
         ensures taken { (index base : ℕ) → TakesAck L.event (call.SetVringBase index base) sent self.old result self.new }
@@ -69,7 +69,7 @@ impl<L: Link> FrontendInternal<L> {
         self.ask(RecordCall::SetVringAddr(index, *config_data))
     }
 
-    /// Takes the acknowledgement, where there is one.
+    /// Receives the acknowledgement, where there is one.
     pub fn take_set_vring_addr(&mut self, sent: Sent) -> Result<()>
         requires { IsAwaited sent self.old }
         ensures taken { (index : ℕ) (config : VringConfigData) → TakesAck L.event (call.SetVringAddr index config) sent self.old result self.new }
@@ -110,7 +110,7 @@ impl<L: Link> FrontendInternal<L> {
         self.ask(RecordCall::SetVringEnable(index, enable))
     }
 
-    /// Takes the acknowledgement, where there is one.
+    /// Receives the acknowledgement, where there is one.
     pub fn take_set_vring_enable(&mut self, sent: Sent) -> Result<()>
         requires { IsAwaited sent self.old }
         ensures taken { (index : ℕ) (enable : Bool) → TakesAck L.event (call.SetVringEnable index enable) sent self.old result self.new }

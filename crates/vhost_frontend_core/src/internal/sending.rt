@@ -70,7 +70,7 @@ impl<L: Link> FrontendInternal<L> {
         }
     }
 
-    /// Sends what was planned, with these handles; the session is the next one once it went out.
+    /// Sends what was planned, with these descriptors; the session is the next one once it went out.
     pub(crate) fn carry_out(&mut self, plan: Plan, handles: &[&L::Handle]) -> Result<Sent>
         requires handles { length handles.now ≤ MAX_ATTACHED_FD_ENTRIES }
         ensures { Asks L.event (planned_as (map (λ h. h.now) handles.now) (Ok plan)) (endpoint_of self.old) (session_of self.old) (awaits self.old) result (endpoint_of self.new) (session_of self.new) (awaits self.new) }
@@ -96,7 +96,7 @@ impl<L: Link> FrontendInternal<L> {
         }
     }
 
-    /// The same of a call with a handle.
+    /// The same of a call with a descriptor.
     pub(crate) fn ask_with(&mut self, call: HandleCall, handle: &L::Handle) -> Result<Sent>
         ensures { AsksHalf L.event (call_with call handle.now) self.old result self.new }
     {

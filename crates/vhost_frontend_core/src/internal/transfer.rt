@@ -25,7 +25,7 @@ impl<L: Link> FrontendInternal<L> {
     ghost use Rattle.vhost_frontend_core.specs.Frontend.{awaits, MayAsk, IsAwaited};
     ghost use Rattle.vhost_frontend_core.specs.Halves.{AsksHalf, TakesHalf};
 
-    /// Begins a transfer over this handle.
+    /// Begins a transfer over this descriptor.
     ///
     /// InactiveOperation: DEVICE_STATE is not acknowledged.
     pub fn ask_set_device_state_fd(
@@ -41,9 +41,9 @@ impl<L: Link> FrontendInternal<L> {
         self.ask_with(HandleCall::SetDeviceStateFd(transfer), handle)
     }
 
-    /// Takes the handle that the device wants in place of the one it was given, if any.
+    /// Takes the descriptor that the device wants in place of the one it was given, if any.
     ///
-    /// BackendInternalError: the device failed. IncorrectFds: several handles came.
+    /// BackendInternalError: the device failed. IncorrectFds: several descriptors came.
     pub fn take_set_device_state_fd(&mut self, sent: Sent) -> Result<Option<L::Handle>>
         requires { IsAwaited sent self.old }
         ensures taken { (transfer : VhostUserTransferDeviceState) (handle : L.Handle) → TakesHalf L.event (call.SetDeviceStateFd transfer handle) call.StateHandle (Reply shape.U64) sent self.old result self.new }
@@ -85,7 +85,7 @@ impl<L: Link> FrontendInternal<L> {
     }
 }
 
-/// What a device answers that was given a handle for its state: 0x100 without a handle, or 0 with one in its place.
+/// What a device answers that was given a descriptor for its state: 0x100 without a descriptor, or 0 with one in its place.
 fn handle_for<H: Drop>(number: u64, handles: Option<Vec<H>>) -> Result<Option<H>>
     ensures { (hs : List H) → HandsOver handles hs → state_reply number hs ≡ valued call.StateHandle result }
 {

@@ -28,9 +28,9 @@ pub enum FrontendAnswer {
     /// A part of the configuration space, and its bytes.
     Config(VhostUserConfig, Vec<u8>),
     Handle(PlainHandle),
-    /// The buffer for descriptors in flight.
+    /// The inflight region.
     Inflight(VhostUserInflight, PlainHandle),
-    /// The handle over which the device's state goes, if the device gives another one.
+    /// The descriptor over which the device's state goes, if the device gives another one.
     StateHandle(Option<PlainHandle>),
     /// The regions of shared memory, which are too large to be moved about.
     ShmemConfig(Box<VhostUserShMemConfig>),
@@ -106,7 +106,7 @@ pub(crate) fn config(outcome: Result<(VhostUserConfig, Vec<u8>)>) -> FrontendAns
     }
 }
 
-/// The answer of a call that shows a handle.
+/// The answer of a call that shows a descriptor.
 pub(crate) fn handle(outcome: Result<PlainHandle>) -> FrontendAnswer
     ensures { answer_of result ≡ valued (value.HandleOf) outcome }
 {
@@ -116,7 +116,7 @@ pub(crate) fn handle(outcome: Result<PlainHandle>) -> FrontendAnswer
     }
 }
 
-/// The answer of a call that shows the buffer for descriptors in flight.
+/// The answer of a call that shows the inflight region.
 pub(crate) fn inflight(outcome: Result<(VhostUserInflight, PlainHandle)>) -> FrontendAnswer
     ensures { answer_of result ≡ valued (λ b. value.InflightOf b.0 b.1) outcome }
 {
@@ -126,7 +126,7 @@ pub(crate) fn inflight(outcome: Result<(VhostUserInflight, PlainHandle)>) -> Fro
     }
 }
 
-/// The answer of a call that shows another handle for the state, if there is one.
+/// The answer of a call that shows another descriptor for the state, if there is one.
 pub(crate) fn state_handle(outcome: Result<Option<PlainHandle>>) -> FrontendAnswer
     ensures { answer_of result ≡ valued (value.StateHandle) outcome }
 {

@@ -109,7 +109,7 @@ fn ask_object(frontend: &mut FrontendInternal<MemLink>, name: &VhostUserSharedMs
     frontend.ask_get_shared_object(name)
 }
 
-/// The half of SET_VRING_CALL, with a handle or without.
+/// The half of SET_VRING_CALL, with a descriptor or without.
 fn ask_ring_call(
     frontend: &mut FrontendInternal<MemLink>,
     index: usize,
@@ -124,7 +124,7 @@ fn ask_ring_call(
     frontend.ask_set_vring_call(index, handle)
 }
 
-/// The half of SET_VRING_KICK, with a handle or without.
+/// The half of SET_VRING_KICK, with a descriptor or without.
 fn ask_ring_kick(
     frontend: &mut FrontendInternal<MemLink>,
     index: usize,
@@ -139,7 +139,7 @@ fn ask_ring_kick(
     frontend.ask_set_vring_kick(index, handle)
 }
 
-/// The half of SET_VRING_ERR, with a handle or without.
+/// The half of SET_VRING_ERR, with a descriptor or without.
 fn ask_ring_err(
     frontend: &mut FrontendInternal<MemLink>,
     index: usize,

@@ -14,7 +14,7 @@ use vhost_message::{
     VhostUserSharedMsg, VringConfigData,
 };
 
-/// A region of guest memory, and the handle that maps it.
+/// A region of guest memory, and the descriptor that maps it.
 #[derive(Clone, Copy)]
 pub struct RegionInfo {
     pub region: VhostUserMemoryRegion,
@@ -22,7 +22,7 @@ pub struct RegionInfo {
 }
 
 impl RegionInfo {
-    /// The same, with its handle lent.
+    /// The same, with its descriptor lent.
     pub(crate) fn lent(&self) -> VhostUserMemoryRegionInfo<'_, PlainHandle>
         ensures same { info_in result ≡ info_of self.now }
         ensures fits { RegionFits self.now.region }
@@ -58,7 +58,7 @@ fn lent_region(
     )
 }
 
-/// Where the dirty log is kept: a part of what a handle maps, in bytes.
+/// Where the dirty log is kept: a part of what a descriptor maps, in bytes.
 #[derive(Clone, Copy)]
 pub struct LogRegion {
     pub mmap_size: u64,
@@ -67,7 +67,7 @@ pub struct LogRegion {
 }
 
 impl LogRegion {
-    /// The same, with its handle lent.
+    /// The same, with its descriptor lent.
     pub(crate) fn lent(&self) -> VhostUserDirtyLogRegion<'_, PlainHandle>
         ensures same { log_region_in (Some result) ≡ log_region_of (Some self.now) }
         ensures fits { (self.now.mmap_size < 2 ^ 64) × (self.now.mmap_offset < 2 ^ 64) }
@@ -113,7 +113,7 @@ pub enum FrontendCall {
     SetVringBase(usize, u16),
     SetVringAddr(usize, VringConfigData),
     GetVringBase(usize),
-    /// Where there is no handle, the device polls.
+    /// Where there is no descriptor, the device polls.
     SetVringCall(usize, Option<PlainHandle>),
     SetVringKick(usize, Option<PlainHandle>),
     SetVringErr(usize, Option<PlainHandle>),

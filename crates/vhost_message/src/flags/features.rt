@@ -113,7 +113,7 @@ impl VhostUserProtocolFeatures {
         bits: 1 << protocol_bit::CONFIG,
     };
 
-    /// The backend may send handles over its channel.
+    /// The backend may send descriptors over its channel.
     pub const BACKEND_SEND_FD: VhostUserProtocolFeatures = VhostUserProtocolFeatures {
         bits: 1 << protocol_bit::BACKEND_SEND_FD,
     };

@@ -1,4 +1,4 @@
-//! The buffer for descriptors in flight.
+//! The inflight region.
 
 ghost use Rattle.std.specs.Prelude.{◌≡◌, refl};
 ghost use Rattle.vhost_message.specs.Records.{inflight_text, inflight_of};

@@ -11,7 +11,7 @@ pub fn heard_as_served<H, B, G>()
     ensures hears { HearsTheAnswer H }
 {}
 
-/// What each call sends can be sent: its handles are wanted, and there is room for its body.
+/// What each call sends can be sent: its descriptors are wanted, and there is room for its body.
 pub fn sent_whole<H>()
     ensures { SendsWhole H }
 {}

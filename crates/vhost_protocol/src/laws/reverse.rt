@@ -1,4 +1,4 @@
-//! The reverse channel.
+//! The backend channel.
 
 ghost use Rattle.vhost_protocol.specs.ReverseLaws.{ReverseAnswers, ReverseTakes};
 

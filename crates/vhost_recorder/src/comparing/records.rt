@@ -18,7 +18,7 @@ fn is_same_region(a: &VhostUserMemoryRegion, b: &VhostUserMemoryRegion) -> bool
         && a.mmap_offset == b.mmap_offset
 }
 
-/// Of two regions with their handles.
+/// Of two regions with their descriptors.
 pub fn is_same_info(a: &RegionInfo, b: &RegionInfo) -> bool
     ensures { IsTrue result ↔ info_of a.now ≡ info_of b.now }
 {

@@ -45,7 +45,7 @@ pub(crate) trait Side: Sized + Drop {
     /// Tests that nothing was received ahead, once nothing is on the link.
     fn end(&mut self, alloc: Global, rt: &impl Wait) -> Result<(), Miss>;
 
-    /// Whether the last call met a fault. None where this is not told.
+    /// Whether the last call met an I/O error. None where this is not told.
     fn has_faulted(&self) -> Option<bool>;
 }
 

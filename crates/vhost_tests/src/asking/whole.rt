@@ -11,7 +11,7 @@ use vhost_frontend_core::{FrontendAnswer, FrontendCall, LogRegion, RegionInfo};
 use vhost_link::PlainHandle;
 use vhost_message::VhostUserShMemConfig;
 
-/// A region, with its handle lent.
+/// A region, with its descriptor lent.
 fn lent(info: &RegionInfo) -> VhostUserMemoryRegionInfo<'_, PlainHandle> {
     let region = info.region;
     VhostUserMemoryRegionInfo::new(
@@ -23,7 +23,7 @@ fn lent(info: &RegionInfo) -> VhostUserMemoryRegionInfo<'_, PlainHandle> {
     )
 }
 
-/// Where the log is kept, with its handle lent.
+/// Where the log is kept, with its descriptor lent.
 fn lent_log(region: &LogRegion) -> VhostUserDirtyLogRegion<'_, PlainHandle> {
     VhostUserDirtyLogRegion {
         mmap_size: region.mmap_size,

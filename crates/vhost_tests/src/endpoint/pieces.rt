@@ -24,7 +24,7 @@ pub(crate) fn send_pieces<M: MsgHeader>(
     }
 }
 
-/// Makes the call, with pieces and handles that are lent.
+/// Makes the call, with pieces and descriptors that are lent.
 fn send_lent<M: MsgHeader>(
     alloc: Global,
     end: &mut Endpoint<M, MemLink>,

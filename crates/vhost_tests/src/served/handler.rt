@@ -29,7 +29,7 @@ pub(crate) trait Handler: Sized + Drop {
     /// Serves so many requests in one run.
     fn run(&mut self, alloc: Global, count: usize) -> Result<Vec<Outcome<()>>, Miss>;
 
-    /// Whether the last request met a fault of the link. None: behind a lock this is not told.
+    /// Whether the last request met an I/O error of the link. None: behind a lock this is not told.
     fn faulted(&self) -> Option<bool>;
 
     /// Takes what was not received. None: behind a lock this is not seen.

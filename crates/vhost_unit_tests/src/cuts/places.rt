@@ -1,4 +1,4 @@
-//! Every way to cut a stream, to end it early, and to put a handle among its bytes.
+//! Every way to cut a stream, to end it early, and to put a descriptor among its bytes.
 
 use crate::cuts::exchange::Cuts;
 use crate::cuts::over::{Over, told};
@@ -89,7 +89,7 @@ fn ended_early<R: System>(
     Ok(counts)
 }
 
-/// With a handle at each byte in turn: how often its message is InvalidMessage because of its first byte, how often all is answered as
+/// With a descriptor at each byte in turn: how often its message is InvalidMessage because of its first byte, how often all is answered as
 /// without, how often the message is InvalidMessage and the next is served, and how often it is otherwise.
 fn stray_handles<R: System>(rt: &R, alloc: Global, stream: &Stream) -> Result<[usize; 4], Fail> {
     let mut counts = [0usize; 4];

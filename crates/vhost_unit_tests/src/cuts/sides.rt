@@ -100,7 +100,7 @@ impl Side for UnixLink {
     }
 }
 
-/// Takes requests with this device, or those of the reverse channel.
+/// Takes requests with this device, or those of the backend channel.
 fn take<L: Link, D: VhostUserBackendReqHandlerMut<Link = L>>(
     alloc: Global,
     link: L,

@@ -36,7 +36,7 @@ struct Seen {
     stopped: Option<Stop>,
 }
 
-/// What a caller alone sees over a device, with a budget of retries, and a link of the frontend that is cut by a script.
+/// What a caller alone sees over a device, with a retry limit, and a link of the frontend that is cut by a script.
 fn seen_over<D: VhostUserBackendReqHandlerMut<Link = MemLink>, R: Wait>(
     rt: &R,
     alloc: Global,
@@ -271,7 +271,7 @@ fn has_features(seen: &Seen) -> bool {
     }
 }
 
-/// Whether the only receipt says that the budget was spent, and the run stopped for it.
+/// Whether the only receipt says that the retry limit was spent, and the run stopped for it.
 fn has_spent(seen: &Seen) -> bool {
     match seen.receipts.as_slice() {
         [only] => {

@@ -27,7 +27,7 @@ pub(crate) trait Trial: Drop {
     ) -> Self::Output;
 }
 
-/// What is seen of a trial with the example device behind a lock, over sockets. Nobody owns it, and it has no handles to
+/// What is seen of a trial with the example device behind a lock, over sockets. Nobody owns it, and it has no descriptors to
 /// give out, since a socket carries none.
 pub(crate) fn with_device<R: System, T: Trial>(
     rt: &R,

@@ -11,7 +11,7 @@ use vhost_message::{
     VhostUserHeaderFlag, VhostUserInflight, VhostUserSharedMsg, VringConfigData,
 };
 
-/// A handle with this number, which is no socket.
+/// A descriptor with this number, which is no socket.
 fn handle(id: u32) -> PlainHandle {
     PlainHandle {
         id,
@@ -37,7 +37,7 @@ pub(crate) fn agree<L: Link>(frontend: &mut Quiet<L>, out: &mut Answers) {
     out.done("set_mtu", frontend.set_mtu(1500));
 }
 
-/// Sets a ring up, but for its handles.
+/// Sets a ring up, but for its descriptors.
 pub(crate) fn set_ring<L: Link>(frontend: &mut Quiet<L>, out: &mut Answers) {
     let config = VringConfigData {
         queue_max_size: 256,
@@ -54,7 +54,7 @@ pub(crate) fn set_ring<L: Link>(frontend: &mut Quiet<L>, out: &mut Answers) {
     out.done("set_vring_enable", frontend.set_vring_enable(0, true));
 }
 
-/// Gives a ring its handles, and stops it.
+/// Gives a ring its descriptors, and stops it.
 pub(crate) fn start_ring<L: Link<Handle = PlainHandle>>(
     frontend: &mut Quiet<L>,
     out: &mut Answers,
@@ -66,7 +66,7 @@ pub(crate) fn start_ring<L: Link<Handle = PlainHandle>>(
     out.number("get_vring_base", base);
 }
 
-/// Gives the device eight regions of memory with a handle each, and then one more that it gives back.
+/// Gives the device eight regions of memory with a descriptor each, and then one more that it gives back.
 pub(crate) fn share_memory<L: Link<Handle = PlainHandle>>(
     frontend: &mut Quiet<L>,
     out: &mut Answers,
@@ -103,7 +103,7 @@ pub(crate) fn configure<L: Link<Handle = PlainHandle>>(frontend: &mut Quiet<L>, 
     out.done("set_log_base", frontend.set_log_base(0x2000, Some(log)));
 }
 
-/// Asks for the handles and the shared memory that the device gives out, and gives it its own.
+/// Asks for the descriptors and the shared memory that the device gives out, and gives it its own.
 pub(crate) fn exchange_handles<L: Link<Handle = PlainHandle>>(
     frontend: &mut Quiet<L>,
     out: &mut Answers,

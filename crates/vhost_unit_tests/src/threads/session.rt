@@ -18,7 +18,7 @@ use vhost_message::{Error, VhostUserShMemConfig};
 /// How many retries a message may take: a ring is full until the other side has taken something.
 pub(crate) const BUDGET: u32 = u32::MAX;
 
-/// An example device with three handles to give out, and one region of shared memory.
+/// An example device with three descriptors to give out, and one region of shared memory.
 fn new_device<L: Link<Handle = PlainHandle>>(
     alloc: Global,
 ) -> Result<DummyBackendReqHandler<L>, AllocError> {
