@@ -29,7 +29,7 @@ pub struct Conclusions<H> {
 }
 
 impl<H: Drop> Conclusions<H> {
-    /// What the answer of a call becomes, by how it is told. The request wanted an acknowledgement, or did not.
+    /// What the answer of a call becomes, by how it is reported. The request wanted an acknowledgement, or did not.
     pub fn conclude<'t>(
         session: &Session,
         need_reply: bool,
@@ -105,7 +105,7 @@ impl<H: Drop> Conclusions<H> {
         }
     }
 
-    /// The answer alone.
+    /// The answer alone, without a reply.
     fn silent<'t>(session: Session, says: Verdict) -> Conclusion<'t, H>
         ensures { result ≡ record { verdict = says; told = told_.Silent; session = session } }
     {
@@ -152,7 +152,7 @@ impl<H: Drop> Conclusions<H> {
         }
     }
 
-    /// The call, whatever was answered.
+    /// Success and its acknowledgement, whatever was answered.
     fn told<'t>(
         session: Session,
         need_reply: bool,

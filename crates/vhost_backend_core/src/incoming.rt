@@ -38,7 +38,7 @@ impl<'a> Incoming<'a> {
         }
     }
 
-    /// The record at the front of the body, where it is valid and has as many bytes behind it as it says.
+    /// The record at the start of the body, where it is valid and has as many bytes behind it as it says.
     pub(crate) fn area(&self) -> Option<Area>
         ensures valid { (nat_le 12 (length self.now.body.now) && is_valid_config (config_of self.now.body.now) && length self.now.body.now == 12 + (config_of self.now.body.now).size) ≡ is_some result }
         ensures record { IfSome result (λ a. a.config ≡ config_of self.now.body.now) }

@@ -15,7 +15,7 @@ pub(crate) type Text = [u8; MAX_MSG_TEXT];
 /// Room for the body of a request.
 pub type Body = Box<[u8; MAX_MSG_SIZE]>;
 
-/// What an endpoint allocates: a buffer for what is received ahead and one for a message, and lists of descriptors.
+/// What an endpoint allocates: a buffer for what is received ahead and one for a message, and descriptor buffers.
 #[derive(Drop)]
 pub struct Buffers<H> {
     pub(crate) ahead: ReadAhead,

@@ -20,9 +20,9 @@ use vhost_message::{Error, IoCause, MsgHeader, Result};
 /// One end of a connection, by which whole messages go out and come in: the header type is `M`.
 ///
 /// A call that sends or receives a whole message calls its link again after a retry, up to a retry limit for
-/// each message. An I/O error, or one retry more than the retry limit, after the first byte of a message moved breaks the
+/// each message. An I/O error, or one retry more than the retry limit, after the first byte of a message moved poisons the
 /// endpoint: from then on each call that sends or receives answers `SocketBroken` with that cause. `send_slice`,
-/// `send_iovec` and `recv_into_buf` call their link once at most, whatever the retry limit, and break nothing.
+/// `send_iovec` and `recv_into_buf` call their link once at most, whatever the retry limit, and never poison the endpoint.
 ///
 /// It receives ahead: its link is called only where a message still needs a byte and nothing waits, with room for 8192
 /// bytes. What comes beyond the message waits in the endpoint. Descriptors belong to the first byte of a receive alone, so
@@ -33,14 +33,14 @@ use vhost_message::{Error, IoCause, MsgHeader, Result};
 pub struct Endpoint<M, L: Link> {
     /// Its link, with what was received ahead.
     source: Source<L>,
-    /// How many retries one message may take, and how many are left for what lies behind the last header.
+    /// The retry limit for each message, and how many retries are left for what lies behind the last header.
     budget: u32,
     left: u32,
-    /// The I/O error that broke it.
+    /// The I/O error that poisoned it.
     broken: Option<IoCause>,
     /// Whether the last call that sent or received met an I/O error.
     faulted: bool,
-    /// For the descriptors of the next message, unless it was given away.
+    /// The descriptor buffer for the next message, unless it was moved out.
     list: Option<HandleList<L::Handle>>,
     /// For descriptors that are dropped.
     spare: HandleList<L::Handle>,
@@ -130,7 +130,7 @@ impl<M: MsgHeader, L: Link> Endpoint<M, L> {
         &mut source.link
     }
 
-    /// Makes the list for the next message's descriptors, where the last one was given away.
+    /// Makes the descriptor buffer for the next message, where the last one was moved out.
     ///
     /// OutOfMemory: its allocation failed, and nothing changed.
     #[tactic(auto, unfolding(crate::specs::State::ahead_of))]
@@ -147,7 +147,7 @@ impl<M: MsgHeader, L: Link> Endpoint<M, L> {
         Ok(())
     }
 
-    /// Poisons the endpoint with this cause, unless it is broken already.
+    /// Poisons the endpoint with this cause, unless it is poisoned already.
     #[tactic(auto, unfolding(crate::specs::State::ahead_of))]
     pub fn break_with(&mut self, cause: IoCause)
         ensures { state self.new ≡ record (state self.old) { broken = first_cause (state self.old).broken cause } }
@@ -166,7 +166,7 @@ impl<M: MsgHeader, L: Link> Endpoint<M, L> {
         self.source.ahead.clear();
     }
 
-    /// How many retries a message may take.
+    /// The retry limit for each message.
     pub fn budget(&self) -> u32
         ensures { result ≡ (state self.now).budget }
     {

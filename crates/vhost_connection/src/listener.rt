@@ -16,7 +16,7 @@ use vhost_message::{Error, IoCause, Result};
 /// How often one `accept` may be interrupted.
 const MAX_INTERRUPTIONS: u32 = 1024;
 
-/// A path that is removed at the end of its listener, and what that takes.
+/// A path that is removed at the end of its listener, and the capability to remove it.
 #[derive(Drop)]
 struct Kept<R> {
     path: String,
@@ -63,7 +63,7 @@ impl<R: Files + Drop> Listener<R> {
         }
     }
 
-    /// Takes the next connection. None: it would have to wait for one, or the other side gave up.
+    /// Accepts the next connection. None: it would have to wait for one, or the other side gave up.
     ///
     /// SocketError: the system failed, or interrupted the call 1024 times (`Raw(EINTR)`).
     pub fn accept(&self) -> Result<Option<UnixLink>>

@@ -318,7 +318,7 @@ fn recv_whole<L: Link>(
     }
 }
 
-/// Receives so many bytes to the front of the text, and keeps the descriptors of the first.
+/// Receives so many bytes to the start of the buffer, and keeps the descriptors of the first.
 fn recv_message<L: Link>(
     source: &mut Source<L>,
     text: &mut [u8],
@@ -350,7 +350,7 @@ pub struct Parts {
     pub stop: PassEnd,
 }
 
-/// Receives so many bytes to the front of the text, and then into the room until it is full; keeps the descriptors of the
+/// Receives so many bytes to the start of the buffer, and then into the room until it is full; keeps the descriptors of the
 /// first byte.
 pub fn recv_parts<L: Link>(
     source: &mut Source<L>,
@@ -390,7 +390,7 @@ pub fn recv_parts<L: Link>(
     }
 }
 
-/// Receives at most so many bytes to the front of the text by one call of the link, and their descriptors.
+/// Receives at most so many bytes to the start of the buffer by one call of the link, and their descriptors.
 pub fn recv_once<L: Link>(
     source: &mut Source<L>,
     text: &mut [u8],
@@ -407,7 +407,7 @@ pub fn recv_once<L: Link>(
     recv_piece(source, &mut text[..len], 0, list)
 }
 
-/// Receives so many bytes to the front of the text, and drops all descriptors.
+/// Receives so many bytes to the start of the buffer, and drops all descriptors.
 pub fn recv_bytes<L: Link>(
     source: &mut Source<L>,
     text: &mut [u8],

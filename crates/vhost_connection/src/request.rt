@@ -61,7 +61,7 @@ impl RequestCode for FrontendReq {
     }
 }
 
-/// A device's request comes with exactly one, or with none ("Back-end message types").
+/// A backend's request comes with exactly one, or with none ("Back-end message types").
 impl RequestCode for BackendReq {
     ghost allowed = { backend_allows_handles };
 

@@ -11,7 +11,7 @@ use std::alloc::{AllocError, Global};
 use std::collections::VecDeque;
 use std::marker::Model;
 
-/// Bytes on their way, and the descriptors that some of them bring. A contract sees the cells of a stream.
+/// Bytes on their way, and the descriptors that some of them bring. A contract sees a stream's bytes, each with its descriptors.
 #[derive(Drop)]
 pub struct Flow {
     /// All bytes since the buffer was last empty.
@@ -80,7 +80,7 @@ impl Flow {
         find_handles(&self.marks, self.from + index)
     }
 
-    /// Begins again at the front of the buffer, where at least half of it has gone.
+    /// Begins again at the start of the buffer, where at least half of it has gone.
     fn restart(&mut self)
         ensures { self.new ≡ self.old }
     {
@@ -125,7 +125,7 @@ impl Flow {
         Ok(())
     }
 
-    /// Takes what one receive hands out: bytes into the room, and the descriptors of the first of them into the list.
+    /// Hands out the bytes of one receive into the room, and the descriptors of the first of them into the list.
     pub(crate) fn get(&mut self, room: &mut [u8], handles: &mut Vec<PlainHandle>) -> usize
         requires room { 0 < length room.old }
         requires list { handles.old.items ≡ [] }

@@ -19,7 +19,7 @@ pub trait Link: Drop {
     /// What one call may have done, from the link before it to the link after it.
     ghost event: { Self → Event Self.Handle → Self → Type 0 };
 
-    /// Where this holds, a send takes in all the bytes, unless it fails. A link need not promise it.
+    /// Where this holds, a send accepts all the bytes, unless it fails. A link need not promise it.
     ghost takes_all: { Self → Type 0 } = { λ _. ⊥ };
 
     /// What duplicating the link may answer.
@@ -28,7 +28,7 @@ pub trait Link: Drop {
     /// What opening a descriptor may answer.
     ghost opens: { Self → Self.Handle → Result Self IoCause → Type 0 };
 
-    /// Sends a front of the bytes, at least one, and all the descriptors with the first of them; the answer is how many.
+    /// Sends a prefix of the bytes, at least one, and all the descriptors with the first of them; the answer is how many.
     ///
     /// The caller has at least one byte, and at most `MAX_ATTACHED_FD_ENTRIES` descriptors. After an error nothing was sent.
     fn send(&mut self, bytes: &[u8], handles: &[&Self::Handle]) -> Result<usize, IoCause>

@@ -18,7 +18,7 @@ pub(crate) struct Mark {
     pub(crate) handles: Vec<PlainHandle>,
 }
 
-/// Takes the mark of a place, if it is the first one: its descriptors go into the list.
+/// Removes the mark of a place, if it is the first one: its descriptors go into the list.
 pub(crate) fn take_mark(marks: &mut VecDeque<Mark>, at: usize, handles: &mut Vec<PlainHandle>)
     requires few { length (brought at marks.old.items) ≤ MAX_ATTACHED_FD_ENTRIES }
     requires list { handles.old.items ≡ [] }

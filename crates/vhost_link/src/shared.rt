@@ -70,10 +70,10 @@ impl<R: Copy + Drop> SharedLink<R> {
 }
 
 impl<R: Drop> SharedLink<R> {
-    /// Takes in the descriptors and as many bytes as there is room for behind them, and waits for no one; the answer is how many.
+    /// Accepts the descriptors and as many bytes as there is room for behind them, and waits for no one; the answer is how many.
     ///
     /// The caller has at least one byte, and at most `MAX_ATTACHED_FD_ENTRIES` descriptors.
-    /// `Raw(EAGAIN)`: there is no room for the descriptors and one byte. Nothing was taken in.
+    /// `Raw(EAGAIN)`: there is no room for the descriptors and one byte. Nothing was accepted.
     pub fn send(&mut self, bytes: &[u8], handles: &[&PlainHandle]) -> Result<usize, IoCause>
         requires bytes { 0 < length bytes.now }
         requires handles { length handles.now ≤ MAX_ATTACHED_FD_ENTRIES }
@@ -98,7 +98,7 @@ impl<R: Drop> SharedLink<R> {
         self.ends.try_recv(room, handles)
     }
 
-    /// Drops the link, and shows what it sent. `None` if the other end was dropped before.
+    /// Drops the link, and reports what it sent. `None` if the other end was dropped before.
     pub fn finish(self) -> Option<Token>
         ensures { IfSome result (λ t. (t.ring ≡ self.output) × (t.cells ≡ self.sent)) }
     {
@@ -116,7 +116,7 @@ impl<R: Drop> SharedLink<R> {
         self.ends.compare(token)
     }
 
-    /// The two ring ends, which a hub takes.
+    /// The two ring ends, which a hub accepts.
     pub fn into_ends(self) -> Ends
         ensures { result ≡ self }
     {
@@ -129,7 +129,7 @@ impl<R: Drop> SharedLink<R> {
     }
 }
 
-/// What single calls of a link between threads add up to: it took in what was appended to all that it sent, and handed out what
+/// What single calls of a link between threads add up to: it accepted what was appended to all that it sent, and handed out what
 /// was appended to all that it received. It never fails for good.
 pub fn ring_law()
     ensures { RingLaw }

@@ -76,7 +76,7 @@ impl Link for UnixLink {
 
     ghost opens = { λ _ _ _. ⊤ };
 
-    /// Sends as many of the bytes as the system takes at once.
+    /// Sends as many of the bytes as the system accepts at once.
     fn send(&mut self, bytes: &[u8], handles: &[&NoHandle]) -> Result<usize, IoCause> {
         let [] = handles else {
             return Err(NOT_CARRIED);
@@ -101,7 +101,7 @@ impl Link for UnixLink {
         }
     }
 
-    /// One more descriptor of the same socket.
+    /// A duplicate: one more file descriptor of the same socket.
     fn duplicate(&self) -> Result<UnixLink, IoCause> {
         match self.stream.try_clone() {
             Ok(stream) => Ok(UnixLink { stream }),

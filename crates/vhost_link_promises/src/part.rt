@@ -18,7 +18,7 @@ pub struct Part {
     pub handles: Vec<PlainHandle>,
 }
 
-/// How many bytes of the front of some one send takes in, with the descriptors; 0 where it takes none.
+/// The length of the prefix of some bytes that one send accepts, with the descriptors; 0 where it accepts none.
 pub(crate) fn send_part(link: &mut SharedLink<()>, bytes: &[u8], handles: &[&PlainHandle]) -> usize
     requires bytes { 0 < length bytes.now }
     requires handles { length handles.now ≤ MAX_ATTACHED_FD_ENTRIES }

@@ -15,15 +15,15 @@ use vhost_message::MAX_ATTACHED_FD_ENTRIES;
 /// What went over a link.
 #[derive(Drop)]
 pub struct Carried {
-    /// How many bytes each send took in.
+    /// How many bytes each send accepted.
     pub counts: Vec<usize>,
     /// What each receive handed out.
     pub parts: Vec<Part>,
-    /// How many pieces were left, unless the sender could not tell what it sent.
+    /// How many pieces were left, unless the sender could not report what it sent.
     pub left: Option<usize>,
 }
 
-/// Sends bytes in parts, each with the descriptors, until all went in or so many calls were made. Then it finishes.
+/// Sends bytes in parts, each with the descriptors, until all were accepted or so many calls were made. Then it finishes.
 fn send_all(
     link: SharedLink<()>,
     alloc: Global,

@@ -82,7 +82,7 @@ pub enum Error {
     /// The memory file could not be sealed.
     #[error("handler failed to apply seals to memfd during get_inflight_fd")]
     MemFdSealError,
-    /// A growth of memory was refused.
+    /// An allocation failed.
     #[error("out of memory")]
     OutOfMemory,
 }

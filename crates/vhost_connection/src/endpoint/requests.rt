@@ -23,12 +23,12 @@ impl<R: RequestCode, L: Link> Endpoint<VhostUserMsgHeader<R>, L> {
     ghost use Rattle.vhost_connection.specs.Calls.{ByOneCall};
     ghost use Rattle.vhost_connection.specs.Requests.{ReadsRequest, RequestHead, ReadsBehind, Tells, reply_text};
 
-    /// Reads one request: its header and descriptors, and its body whole, however it is split, to the front of `body`.
+    /// Reads one request: its header and descriptors, and its body whole, however it is split, to the start of `body`.
     ///
     /// Disconnected: the stream ended before the first byte. PartialMessage: it ended within the header. InvalidMessage:
     /// the header is not valid, or its request may not come with these descriptors, and the body is unread; or the stream
-    /// ended within the body, or a byte of it brought descriptors. OutOfMemory: the endpoint had given its list of descriptors
-    /// away, and another could not be allocated, also where it is broken; nothing was received, and nothing changed.
+    /// ended within the body, or a byte of it brought descriptors. OutOfMemory: the endpoint's descriptor buffer was moved
+    /// out, and another could not be allocated, also where the endpoint is poisoned; nothing was received, and nothing changed.
     pub fn recv_request(&mut self, body: &mut [u8]) -> Result<(Request<R>, Option<Vec<L::Handle>>)>
         requires { MAX_MSG_SIZE ≤ length body.old }
         ensures { ReadsRequest L.event R.code R.allowed (state self.old) result body.new (state self.new) }

@@ -36,7 +36,7 @@ fn put_all<M: ByteValued, T: ByteValued>(out: &mut [u8], header: &M, body: &T, p
     rest.copy_from_slice(payload);
 }
 
-/// Writes a header to the front of a text.
+/// Writes a header to the start of a buffer.
 fn put_header<M: ByteValued>(text: &mut Text, header: &M)
     requires { M.SIZE ≤ MAX_MSG_TEXT }
     ensures { take M.SIZE text.new ≡ M.text header.now }
@@ -44,7 +44,7 @@ fn put_header<M: ByteValued>(text: &mut Text, header: &M)
     header.encode_into(&mut text[..M::SIZE]);
 }
 
-/// Writes a header and the body behind it to the front of a text.
+/// Writes a header and the body behind it to the start of a buffer.
 fn put_message<M: ByteValued, T: ByteValued>(text: &mut Text, header: &M, body: &T)
     requires { M.SIZE + T.SIZE ≤ MAX_MSG_TEXT }
     ensures text { take (M.SIZE + T.SIZE) text.new ≡ M.text header.now ++ T.text body.now }
@@ -53,7 +53,7 @@ fn put_message<M: ByteValued, T: ByteValued>(text: &mut Text, header: &M, body: 
     put(&mut text[..M::SIZE + T::SIZE], header, body);
 }
 
-/// Writes a header, the body behind it and a payload behind both to the front of a text; the answer is how many bytes.
+/// Writes a header, the body behind it and a payload behind both to the start of a buffer; the answer is how many bytes.
 fn put_whole<M: ByteValued, T: ByteValued>(
     text: &mut Text,
     header: &M,
@@ -164,7 +164,7 @@ impl<M: MsgHeader, L: Link> Endpoint<M, L> {
         self.send_text(whole, handles)
     }
 
-    /// Sends the first bytes of the text: by one call, where the link takes in all that it is given.
+    /// Sends the first bytes of the buffer: by one call, where the link accepts all that it is given.
     fn send_text(&mut self, len: usize, handles: &[&L::Handle]) -> Result<()>
         requires len { len ≤ MAX_MSG_TEXT }
         requires handles { length handles.now ≤ MAX_ATTACHED_FD_ENTRIES }
@@ -186,7 +186,7 @@ impl<M: MsgHeader, L: Link> Endpoint<M, L> {
         }
     }
 
-    /// Sends the first bytes of the text, and a payload behind them.
+    /// Sends the first bytes of the buffer, and a payload behind them.
     fn send_with_behind(&mut self, len: usize, payload: &[u8], handles: &[&L::Handle]) -> Result<()>
         requires len { len ≤ MAX_MSG_TEXT }
         requires handles { length handles.now ≤ MAX_ATTACHED_FD_ENTRIES }
@@ -231,10 +231,10 @@ impl<M: MsgHeader, L: Link> Endpoint<M, L> {
         }
     }
 
-    /// Sends a front of the bytes by one call of the link, with the descriptors on the first byte; the answer is how many.
+    /// Sends a prefix of the bytes by one call of the link, with the descriptors on the first byte; the answer is how many.
     ///
     /// Without bytes and descriptors the link is not called. IncorrectFds: there are more than `MAX_ATTACHED_FD_ENTRIES` descriptors, or descriptors
-    /// without a byte; nothing was written, and nothing changed. An I/O error or a retry breaks nothing.
+    /// without a byte; nothing was written, and nothing changed. An I/O error or a retry poisons nothing.
     #[tactic(auto, unfolding(crate::specs::State::ahead_of))]
     pub fn send_slice(&mut self, bytes: &[u8], handles: &[&L::Handle]) -> Result<usize>
         ensures many { MAX_ATTACHED_FD_ENTRIES < length handles.now → Refuses (state self.old) IncorrectFds result (state self.new) }
@@ -254,11 +254,11 @@ impl<M: MsgHeader, L: Link> Endpoint<M, L> {
         }
     }
 
-    /// Sends a front of the bytes of all pieces by one call of the link, with the descriptors on the first byte; the answer
+    /// Sends a prefix of the bytes of all pieces by one call of the link, with the descriptors on the first byte; the answer
     /// is how many, `MAX_MSG_TEXT` at most.
     ///
     /// Without bytes and descriptors the link is not called. IncorrectFds: there are more than `MAX_ATTACHED_FD_ENTRIES` descriptors, or descriptors
-    /// without a byte; nothing was written, and nothing changed. An I/O error or a retry breaks nothing.
+    /// without a byte; nothing was written, and nothing changed. An I/O error or a retry poisons nothing.
     #[tactic(auto, unfolding(crate::specs::State::ahead_of))]
     pub fn send_iovec(&mut self, iovs: &[&[u8]], handles: &[&L::Handle]) -> Result<usize>
         ensures many { MAX_ATTACHED_FD_ENTRIES < length handles.now → Refuses (state self.old) IncorrectFds result (state self.new) }

@@ -1,4 +1,4 @@
-//! Endpoints over sockets, and a second descriptor of one.
+//! Endpoints over sockets, and a duplicate of the link of one.
 
 ghost use Rattle.std.specs.Prelude.{◌≡◌, IfOk, IfErr};
 

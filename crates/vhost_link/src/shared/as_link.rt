@@ -25,7 +25,7 @@ impl<R: Wait + Copy + Drop> Link for SharedLink<R> {
 
     ghost opens = { λ link handle result. OpensEnd result };
 
-    /// Takes in what there is room for, and waits for no one. A full ring is `Raw(EAGAIN)`.
+    /// Accepts what there is room for, and waits for no one. A full ring is `Raw(EAGAIN)`.
     fn send(&mut self, bytes: &[u8], handles: &[&PlainHandle]) -> Result<usize, IoCause> {
         self.ends.send(bytes, handles)
     }

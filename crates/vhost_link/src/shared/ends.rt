@@ -52,7 +52,7 @@ impl Ends {
         Ok((first, second))
     }
 
-    /// Takes in the descriptors and a front of the bytes, or nothing.
+    /// Accepts the descriptors and a prefix of the bytes, or nothing.
     pub(crate) fn send(&mut self, bytes: &[u8], handles: &[&PlainHandle]) -> Result<usize, IoCause>
         requires bytes { 0 < length bytes.now }
         requires handles { length handles.now ≤ MAX_ATTACHED_FD_ENTRIES }
