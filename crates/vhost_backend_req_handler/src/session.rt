@@ -2,7 +2,7 @@
 
 use vhost_message::{PostcopyState, has_bit, protocol_bit, virtio_bit};
 
-/// The features offered and acknowledged, how far postcopy has come, and the failure that marks the session, if any.
+/// The features offered and accepted, how far postcopy has come, and the failure that marks the session, if any.
 #[derive(Clone, Copy, Debug)]
 pub struct Session {
     pub offered: u64,
@@ -31,7 +31,7 @@ impl Session {
     }
 
     /// Whether requests that ask for it are acknowledged: the protocol features were offered, and among them
-    /// acknowledgements are agreed on.
+    /// acknowledgements are negotiated.
     pub fn ack_on(&self) -> bool
         ensures { result ≡ ack_on (session_of self.now) }
     {

@@ -38,7 +38,7 @@ pub(crate) type Header = VhostUserMsgHeader<FrontendReq>;
 pub struct SessionCore<L: Link> {
     endpoint: Endpoint<Header, L>,
     session: Session,
-    /// The body of the request that is served lies at its front.
+    /// The body of the request that is served lies at its start.
     body: Body,
     alloc: Global,
 }
@@ -55,7 +55,7 @@ impl<L: Link> SessionCore<L> {
     ghost use Rattle.vhost_backend_req_handler.specs.Opening.{OpensAs};
     ghost use Rattle.vhost_backend_req_handler.specs.Serving.{HandlesOne, Runs};
 
-    /// A new session over a link. A message may take so many retries.
+    /// A new session over a link. Each message may use at most so many retries.
     ///
     /// OutOfMemory: an allocation failed.
     pub fn new(alloc: Global, link: L, budget: u32) -> Result<Self>
@@ -109,9 +109,9 @@ impl<L: Link> SessionCore<L> {
     ///
     /// SocketBroken: the session is marked as failed, and nothing was read; or the endpoint is poisoned.
     /// Disconnected: the stream ended between two requests. PartialMessage: it ended in a header.
-    /// InvalidMessage: the message is malformed, or its request is not served. OutOfMemory: the endpoint had given its
-    /// list of descriptors away, and another could not be allocated; nothing was read. Other errors are those of the
-    /// request's row, and those of the link, which break the endpoint once a byte of the request has moved.
+    /// InvalidMessage: the message is malformed, or its request is not served. OutOfMemory: the endpoint's descriptor
+    /// buffer was moved out, and another could not be allocated; nothing was read. Other errors are those of the
+    /// request's handling rule, and those of the link, which poison the endpoint once a byte of the request has moved.
     pub fn handle_request<D: VhostUserBackendReqHandlerMut<Link = L>>(
         &mut self,
         device: &mut D,
@@ -160,7 +160,7 @@ impl<L: Link> SessionCore<L> {
         &mut self.endpoint
     }
 
-    /// Answers a request that was read: the row of its code. It may take the descriptors.
+    /// Answers a request that was read, by the handling rule of its code. It may move the descriptors out.
     #[tactic(auto, using(crate::proofs::Arms::refused))]
     fn answer<D: VhostUserBackendReqHandlerMut<Link = L>>(
         &mut self,

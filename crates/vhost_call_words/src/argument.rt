@@ -17,10 +17,10 @@ use vhost_message::{
     VhostUserHeaderFlag, VhostUserInflight, VhostUserProtocolFeatures, VhostUserSharedMsg,
 };
 
-/// The first number of a descriptor that is a Unix stream socket.
+/// The first number of a file descriptor that is a Unix stream socket.
 const FIRST_SOCKET: u32 = 1000;
 
-/// Off, which is 0, or on, which is 1.
+/// A flag: disable, which is 0, or enable, which is 1.
 pub(crate) fn switch(word: &str) -> Option<bool>
     ensures { result ≡ switch word.now }
 {
@@ -56,7 +56,7 @@ pub(crate) fn header_flags(word: &str) -> Option<VhostUserHeaderFlag>
     Some(VhostUserHeaderFlag::from_bits_retain(flags))
 }
 
-/// The descriptor of a number.
+/// The file descriptor of a number.
 pub(crate) fn handle(word: &str) -> Option<PlainHandle>
     ensures { result ≡ handle word.now }
 {

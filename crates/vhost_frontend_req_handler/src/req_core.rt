@@ -16,7 +16,7 @@ mod rows;
 
 type Header = VhostUserMsgHeader<BackendReq>;
 
-/// A request of a device as it was read.
+/// A request of a backend as it was read.
 type Request = vhost_connection::Request<BackendReq>;
 
 /// The frontend's side of the backend channel over a link, without what serves the requests.
@@ -29,7 +29,7 @@ pub struct FrontendReqCore<L: Link> {
     reply_ack: bool,
     /// The failure that marks it, if any.
     failed: Option<i32>,
-    /// The body of the request that is served lies at its front.
+    /// The body of the request that is served lies at its start.
     body: Body,
 }
 
@@ -43,7 +43,7 @@ impl<L: Link> FrontendReqCore<L> {
     ghost use Rattle.vhost_frontend_req_handler.specs.Core.{endpoint_of, server_in, with_endpoint, MeetsRow, Acknowledges};
     ghost use Rattle.vhost_frontend_req_handler.specs.Handling.{HandlesOne, Runs};
 
-    /// The frontend's side over a link, without acknowledgements. A message may take so many retries.
+    /// The frontend's side over a link, without acknowledgements. Each message may use at most so many retries.
     ///
     /// OutOfMemory: an allocation failed.
     pub fn new(alloc: Global, rx: L, budget: u32) -> Result<Self>
@@ -76,7 +76,7 @@ impl<L: Link> FrontendReqCore<L> {
     }
 
     /// Marks it as failed with the number of a system's error: from now on each request is answered `SocketBroken` with
-    /// that number, and nothing is read. The number 0 takes the mark away.
+    /// that number, and nothing is read. The number 0 removes the mark.
     pub fn set_failed(&mut self, error: i32)
         ensures endpoint { endpoint_of self.new ≡ endpoint_of self.old }
         ensures cleared { error ≡ pos 0 → server_in self.new ≡ record (server_in self.old) { failed = None } }
@@ -89,9 +89,9 @@ impl<L: Link> FrontendReqCore<L> {
     ///
     /// SocketBroken: it is marked as failed, and nothing was read; or the endpoint is poisoned. Disconnected: the stream
     /// ended between two requests. PartialMessage: it ended in a header. InvalidMessage: the message is malformed, or its
-    /// request is not served. ReqHandlerError: the error of the one that serves it, as its cause. OutOfMemory: the endpoint
-    /// had given its list of descriptors away, and another could not be allocated; nothing was read. Other errors are those
-    /// of the link, which break the endpoint once a byte of the request has moved.
+    /// request is not served. ReqHandlerError: the error of the one that serves it, as its cause. OutOfMemory: the endpoint's
+    /// descriptor buffer was moved out, and another could not be allocated; nothing was read. Other errors are those of the
+    /// link, which poison the endpoint once a byte of the request has moved.
     pub fn handle_request<D: VhostUserFrontendReqHandlerMut<Handle = L::Handle>>(
         &mut self,
         device: &mut D,
@@ -140,7 +140,7 @@ impl<L: Link> FrontendReqCore<L> {
         &mut self.endpoint
     }
 
-    /// Answers a request that was read: the row of its code. A bad body is refused in silence.
+    /// Answers a request that was read, by the handling rule of its code. A bad body is refused without a reply.
     fn answer<D: VhostUserFrontendReqHandlerMut<Handle = L::Handle>>(
         &mut self,
         device: &mut D,

@@ -37,8 +37,8 @@ impl<D: VhostUserBackendReqHandlerMut<Link = MemLink>> Joined<D> {
     ghost use Rattle.vhost_pair.specs.Lockstep.{RunsCalls};
     ghost use Rattle.vhost_pair.specs.Sides.{as_view, fresh_parts};
 
-    /// Two new sessions over two new links, which are cut as the scripts say: the first that of the frontend. The
-    /// device has at most so many queues, and a message may take so many retries.
+    /// Two new sessions over two new links, which move bytes or fail as the scripts say: the first is the frontend's. The
+    /// device has at most so many queues, and each message may use at most so many retries.
     ///
     /// `Halt::OutOfMemory`: an allocation failed.
     #[inline(never)]
@@ -63,7 +63,7 @@ impl<D: VhostUserBackendReqHandlerMut<Link = MemLink>> Joined<D> {
         }
     }
 
-    /// Does one call: the request goes to the handler, which asks the device, and the reply comes back.
+    /// Does one call: the request goes to the handler, which calls the device, and the reply comes back.
     ///
     /// `Halt::Stopped`: the run has stopped before. `Halt::OutOfMemory`: an allocation failed before the first byte.
     /// In both cases nothing changed.

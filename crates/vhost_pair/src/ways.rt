@@ -92,7 +92,7 @@ pub fn copy_reply(handler: &mut SessionCore<MemLink>, wire: &mut Wire)
     copy(handler.endpoint_mut(), wire);
 }
 
-/// Makes the list for the descriptors of the frontend's next reply, where the last one was given away.
+/// Allocates the descriptor buffer for the next reply to the frontend, where the last one was moved out.
 ///
 /// OutOfMemory: its allocation failed, and nothing changed.
 pub fn make_reply_list(frontend: &mut FrontendInternal<MemLink>) -> Result<()>
@@ -103,7 +103,7 @@ pub fn make_reply_list(frontend: &mut FrontendInternal<MemLink>) -> Result<()>
     frontend.endpoint_mut().make_list()
 }
 
-/// Makes the list for the descriptors of the handler's next request, where the last one was given away.
+/// Allocates the descriptor buffer for the next request to the handler, where the last one was moved out.
 ///
 /// OutOfMemory: its allocation failed, and nothing changed.
 pub fn make_request_list(handler: &mut SessionCore<MemLink>) -> Result<()>

@@ -59,8 +59,8 @@ impl Wire {
         self.handles.clear();
     }
 
-    /// Copies the bytes that a link took in, and the descriptors on the first. More than the greatest message is no message:
-    /// nothing is copied of it.
+    /// Copies the bytes that a link accepted, and the descriptors on the first. More than the greatest message is no
+    /// message: nothing is copied of it.
     pub fn copy(&mut self, sent: &Flow)
         ensures { length sent.now ≤ MAX_MSG_TEXT → text_in self.new ≡ text_of sent.now }
     {

@@ -11,7 +11,7 @@ use vhost_link::{Cut, MemLink, PlainHandle};
 use vhost_message::HandlerResult;
 use vhost_pair::{Halt, Stop};
 
-/// What is asked of a joined run: a call, or a flag.
+/// A call of a joined run, or a flag.
 pub type ReverseCall = vhost_backend_req::ReverseCall<PlainHandle>;
 
 /// Both sides of the backend channel joined over two links in memory, with what serves the requests behind one of them.
@@ -39,8 +39,8 @@ impl<D: VhostUserFrontendReqHandlerMut<Handle = PlainHandle>> JoinedReverse<D> {
     ghost use Rattle.vhost_pair_reverse.specs.Lockstep.{RunsReverse};
     ghost use Rattle.vhost_pair_reverse.specs.Sides.{as_view, fresh_parts};
 
-    /// Two new sides over two new links, which are cut as the scripts say: the first that of the asking side. A message
-    /// may take so many retries.
+    /// Two new sides over two new links, which move bytes or fail as the scripts say: the first is the backend's. Each
+    /// message may use at most so many retries.
     ///
     /// `Halt::OutOfMemory`: an allocation failed.
     pub fn new(
@@ -63,8 +63,8 @@ impl<D: VhostUserFrontendReqHandlerMut<Handle = PlainHandle>> JoinedReverse<D> {
         }
     }
 
-    /// Does one call: the request goes to the serving side, which asks the device, and its answer comes back where one
-    /// is awaited. A flag is set at once, and its answer is 0.
+    /// Does one call: the request goes to the frontend, which serves it, and its reply comes back where one is
+    /// awaited. A flag is set at once, and its answer is 0.
     ///
     /// `Halt::Stopped`: the run has stopped before. `Halt::OutOfMemory`: an allocation failed before the first byte.
     /// In both cases nothing changed.

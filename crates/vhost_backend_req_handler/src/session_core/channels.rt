@@ -1,4 +1,4 @@
-//! Channels that a descriptor opens.
+//! Channels that a file descriptor opens.
 
 ghost use Rattle.std.specs.Prelude.{◌≡◌};
 ghost use Rattle.vhost_message.specs.declared.frontend_req.FrontendReq.TheVariants.{SET_BACKEND_REQ_FD, GPU_SET_SOCKET};
@@ -40,7 +40,7 @@ impl<L: Link> SessionCore<L> {
         }
     }
 
-    /// GPU_SET_SOCKET: the device gets the channel to a display.
+    /// GPU_SET_SOCKET: the device gets the vhost-user-gpu channel.
     pub(crate) fn gpu_set_socket<D: VhostUserBackendReqHandlerMut<Link = L>>(
         &mut self,
         device: &mut D,
@@ -61,7 +61,7 @@ impl<L: Link> SessionCore<L> {
         }
     }
 
-    /// Opens a descriptor as the channel to the frontend, with the session's retry limit.
+    /// Opens a file descriptor as the backend channel, with the session's retry limit.
     fn open_backend(&mut self, file: L::Handle) -> Result<Backend<L>>
         ensures opened { OpensAs L.opens L.Handle.kinds file (seen_result result) }
         ensures same { self.new ≡ self.old }
@@ -72,7 +72,7 @@ impl<L: Link> SessionCore<L> {
         }
     }
 
-    /// Opens a descriptor as the channel to a display, with the session's retry limit.
+    /// Opens a file descriptor as the vhost-user-gpu channel, with the session's retry limit.
     fn open_gpu(&mut self, file: L::Handle) -> Result<GpuBackend<L>>
         ensures opened { OpensAs L.opens L.Handle.kinds file (seen_result result) }
         ensures same { self.new ≡ self.old }
@@ -83,7 +83,7 @@ impl<L: Link> SessionCore<L> {
         }
     }
 
-    /// Opens a descriptor as a link. InvalidSocketFd, NotUnixSocket, NotStreamSocket: it is no Unix stream socket, or could
+    /// Opens a file descriptor as a link. InvalidSocketFd, NotUnixSocket, NotStreamSocket: it is no Unix stream socket, or could
     /// not be opened.
     fn open(&mut self, file: L::Handle) -> Result<L>
         ensures opened { OpensLink L.opens L.Handle.kinds file (seen_result result) }

@@ -1,4 +1,4 @@
-//! The tests that rows have in common.
+//! The checks that handling rules have in common.
 
 ghost use Rattle.std.specs.Prelude.{◌≡◌, ◌≤◌, ◌<◌, ◌^◌, ◌==◌, List, Ok, Err, IfOk, IfErr, true, ok_or, nat_le};
 ghost use Rattle.vhost_message.specs.declared.frontend_req.FrontendReq.{FrontendReq};
@@ -58,7 +58,7 @@ impl<L: Link> SessionCore<L> {
         Ok(number.value)
     }
 
-    /// InactiveOperation: the protocol feature of this bit is not acknowledged.
+    /// InactiveOperation: the protocol feature of this bit is not accepted.
     pub(crate) fn operation(&self, bit: u32) -> Result<()>
         requires { bit < 64 }
         ensures { row.session_feature {H = L.Handle} (session_in self.now) bit ≡ tested result }
@@ -72,7 +72,7 @@ impl<L: Link> SessionCore<L> {
         Ok(())
     }
 
-    /// InactiveFeature: the virtio feature of this bit is not acknowledged.
+    /// InactiveFeature: the virtio feature of this bit is not accepted.
     pub(crate) fn feature(&self, bit: u32) -> Result<()>
         requires { bit < 64 }
         ensures { test (has_bit (session_in self.now).acked bit) (silently {H = L.Handle} (InactiveFeature (2 ^ bit))) ≡ tested result }
@@ -84,7 +84,7 @@ impl<L: Link> SessionCore<L> {
         Ok(())
     }
 
-    /// InvalidParam: the number of a switch is neither 0 nor 1.
+    /// InvalidParam: the number of a flag is neither 0 nor 1.
     pub(crate) fn switch(&self, num: u32) -> Result<()>
         ensures { test (nat_le num 1) (silently {H = L.Handle} InvalidParam) ≡ tested result }
     {
@@ -94,7 +94,7 @@ impl<L: Link> SessionCore<L> {
         Ok(())
     }
 
-    /// The number in 16 bits. InvalidParam: it takes more.
+    /// The number in 16 bits. InvalidParam: it needs more.
     pub(crate) fn short(&self, number: u64) -> Result<u16>
         ensures fits { IfOk result (λ n. (n ≡ number) × (test (nat_le number 65535) (silently {H = L.Handle} InvalidParam) ≡ Ok tt)) }
         ensures great { IfErr result (λ e. test (nat_le number 65535) (silently {H = L.Handle} InvalidParam) ≡ tested (Err e)) }

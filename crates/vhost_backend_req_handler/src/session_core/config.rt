@@ -104,7 +104,7 @@ impl<L: Link> SessionCore<L> {
         self.area(request).ok_or(Error::InvalidMessage)
     }
 
-    /// The record at the front of the body, where it is valid and has as many bytes behind it as it says.
+    /// The record at the start of the body, where it is valid and has as many bytes behind it as it says.
     fn area(&self, request: Request) -> Option<VhostUserConfig>
         ensures valid { (m : Message FrontendReq L.Handle) → Reads self.now.body.value request m → is_valid_area m ≡ is_some result }
         ensures record { (m : Message FrontendReq L.Handle) → Reads self.now.body.value request m → IfSome result (λ c. c ≡ config_of m.body) }

@@ -1,4 +1,4 @@
-//! What both sides agree on.
+//! What both sides negotiate.
 
 ghost use Rattle.vhost_message.specs.declared.frontend_req.FrontendReq.TheVariants.{GET_FEATURES, SET_FEATURES, GET_PROTOCOL_FEATURES, SET_PROTOCOL_FEATURES, GET_QUEUE_NUM, GET_MAX_MEM_SLOTS};
 
@@ -27,7 +27,7 @@ impl<L: Link> SessionCore<L> {
         Ok(())
     }
 
-    /// SET_FEATURES: the features are remembered, whatever the device answers.
+    /// SET_FEATURES: the accepted features are remembered, whatever the device answers.
     pub(crate) fn set_features<D: VhostUserBackendReqHandlerMut<Link = L>>(
         &mut self,
         device: &mut D,
@@ -55,7 +55,7 @@ impl<L: Link> SessionCore<L> {
         self.send_reply(request, &VhostUserU64::new(offered), &[])
     }
 
-    /// SET_PROTOCOL_FEATURES: they are remembered, whatever the device answers, and decide whether that is acknowledged.
+    /// SET_PROTOCOL_FEATURES: the accepted ones are remembered, whatever the device answers, and decide whether that is acknowledged.
     pub(crate) fn set_protocol_features<D: VhostUserBackendReqHandlerMut<Link = L>>(
         &mut self,
         device: &mut D,

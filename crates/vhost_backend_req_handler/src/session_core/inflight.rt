@@ -11,7 +11,7 @@ use vhost_message::{Error, Result, VhostUserInflight, protocol_bit};
 impl<L: Link> SessionCore<L> {
     ghost use Rattle.vhost_backend_req_handler.specs.Core.{MeetsRow, MeetsRowWith};
 
-    /// GET_INFLIGHT_FD: the device's area is the reply, with its descriptor.
+    /// GET_INFLIGHT_FD: the device's inflight region is the reply, with its file descriptor.
     pub(crate) fn get_inflight_fd<D: VhostUserBackendReqHandlerMut<Link = L>>(
         &mut self,
         device: &mut D,
@@ -25,7 +25,7 @@ impl<L: Link> SessionCore<L> {
         self.send_reply(request, &inflight, &[&file])
     }
 
-    /// SET_INFLIGHT_FD: the device gets an area and its descriptor.
+    /// SET_INFLIGHT_FD: the device gets an inflight region and its file descriptor.
     pub(crate) fn set_inflight_fd<D: VhostUserBackendReqHandlerMut<Link = L>>(
         &mut self,
         device: &mut D,

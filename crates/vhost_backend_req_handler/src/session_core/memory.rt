@@ -42,7 +42,7 @@ impl<L: Link> SessionCore<L> {
     ghost use Rattle.vhost_connection.specs.Requests.{IsReady, Reads, Tells};
     ghost use Rattle.vhost_backend_req_handler.specs.Serving.{reply_cells};
 
-    /// REM_MEM_REG: one region goes away; while postcopy listens, a body of eight bytes says that the regions are
+    /// REM_MEM_REG: one region is removed; while postcopy listens, a body of eight bytes says that the regions are
     /// mapped.
     pub(crate) fn rem_mem_reg<D: VhostUserBackendReqHandlerMut<Link = L>>(
         &mut self,
@@ -60,7 +60,7 @@ impl<L: Link> SessionCore<L> {
         self.send_ack(request, answer)
     }
 
-    /// ADD_MEM_REG: one region comes; while postcopy listens, a body of eight bytes says that the regions are mapped.
+    /// ADD_MEM_REG: one region is added; while postcopy listens, a body of eight bytes says that the regions are mapped.
     pub(crate) fn add_mem_reg<D: VhostUserBackendReqHandlerMut<Link = L>>(
         &mut self,
         device: &mut D,
@@ -76,7 +76,7 @@ impl<L: Link> SessionCore<L> {
         self.add_region(device, request, handles)
     }
 
-    /// SET_MEM_TABLE: a table of regions comes; while postcopy listens, a body of eight bytes says that they are mapped.
+    /// SET_MEM_TABLE: a table of regions is set; while postcopy listens, a body of eight bytes says that they are mapped.
     pub(crate) fn set_mem_table<D: VhostUserBackendReqHandlerMut<Link = L>>(
         &mut self,
         device: &mut D,
@@ -116,8 +116,8 @@ impl<L: Link> SessionCore<L> {
         }
     }
 
-    /// The table of a request, at the front of these places, and its descriptors; where it has as many regions and descriptors
-    /// as it says, all valid.
+    /// The table of a request, in the first of these places, and its file descriptors; where it has as many regions and
+    /// file descriptors as it says, all valid.
     fn read_table(
         &self,
         request: Request,
@@ -142,7 +142,7 @@ impl<L: Link> SessionCore<L> {
         }
     }
 
-    /// How many regions the table of a request has, where it has as many bytes and descriptors as it says.
+    /// How many regions the table of a request has, where it has as many bytes and file descriptors as it says.
     fn table_len(&self, request: Request, handles: usize) -> Option<usize>
         ensures valid { (m : Message FrontendReq L.Handle) → Reads self.now.body.value request m
             → (not m.reply && nat_le MEMORY_HEAD_SIZE (length m.body) && is_valid_memory (memory_of m.body) && length m.body == MEMORY_HEAD_SIZE + MEMORY_REGION_SIZE * (memory_of m.body).num_regions && handles == (memory_of m.body).num_regions) ≡ is_some result }
@@ -256,7 +256,7 @@ impl<L: Link> SessionCore<L> {
         self.session.is_listening() && request.len == VhostUserU64::SIZE
     }
 
-    /// The frontend has mapped the regions. The answer stays unwritten.
+    /// The frontend has mapped the regions. There is no reply.
     fn mapped<D: VhostUserBackendReqHandlerMut<Link = L>>(
         &mut self,
         device: &mut D,

@@ -1,4 +1,4 @@
-//! What a network device is told.
+//! The request for a network device.
 
 ghost use Rattle.vhost_message.specs.declared.frontend_req.FrontendReq.TheVariants.{NET_SET_MTU};
 

@@ -1,4 +1,4 @@
-//! Descriptors of rings.
+//! File descriptors of rings.
 
 ghost use Rattle.std.specs.Prelude.{◌≡◌, ◌==◌, ℕ, List, Option, length};
 ghost use Rattle.vhost_backend_req.specs.declared.backend.Backend.{Backend};
@@ -16,10 +16,10 @@ use vhost_device::VhostUserBackendReqHandlerMut;
 use vhost_link::Link;
 use vhost_message::{Error, Result, has_bit};
 
-/// The bit of a ring's number that says that it comes without a descriptor.
+/// The bit of a ring's number that says that it comes without a file descriptor.
 const NO_HANDLE: u32 = 8;
 
-/// Whether a message has exactly one descriptor.
+/// Whether a message has exactly one file descriptor.
 fn is_one<H: Drop>(handles: &Option<Vec<H>>) -> bool
     ensures { (hs : List H) → HandsOver handles.now hs → result ≡ (length hs == 1) }
 {
@@ -34,7 +34,7 @@ impl<L: Link> SessionCore<L> {
     ghost use Rattle.vhost_connection.specs.Requests.{Reads};
     ghost use Rattle.vhost_backend_req_handler.specs.Serving.{goes_on};
 
-    /// SET_VRING_KICK: the descriptor that tells of available buffers.
+    /// SET_VRING_KICK: the kick descriptor, by which the driver signals available buffers.
     pub(crate) fn set_vring_kick<D: VhostUserBackendReqHandlerMut<Link = L>>(
         &mut self,
         device: &mut D,
@@ -48,7 +48,7 @@ impl<L: Link> SessionCore<L> {
         self.send_ack(request, answer)
     }
 
-    /// SET_VRING_CALL: the descriptor that tells of used buffers.
+    /// SET_VRING_CALL: the call descriptor, by which the backend signals used buffers.
     pub(crate) fn set_vring_call<D: VhostUserBackendReqHandlerMut<Link = L>>(
         &mut self,
         device: &mut D,
@@ -62,7 +62,7 @@ impl<L: Link> SessionCore<L> {
         self.send_ack(request, answer)
     }
 
-    /// SET_VRING_ERR: the descriptor that tells of errors.
+    /// SET_VRING_ERR: the error descriptor, by which the backend signals errors.
     pub(crate) fn set_vring_err<D: VhostUserBackendReqHandlerMut<Link = L>>(
         &mut self,
         device: &mut D,
@@ -76,7 +76,7 @@ impl<L: Link> SessionCore<L> {
         self.send_ack(request, answer)
     }
 
-    /// The ring of a request, and its descriptor where its number says that there is one.
+    /// The ring of a request, and its file descriptor where its number says that there is one.
     fn ring_handle(
         &self,
         request: Request,

@@ -1,4 +1,4 @@
-//! Numbers, places and switches of rings.
+//! Sizes, bases, addresses and enabling of rings.
 
 ghost use Rattle.vhost_message.specs.declared.frontend_req.FrontendReq.TheVariants.{SET_VRING_NUM, SET_VRING_BASE, SET_VRING_ADDR, GET_VRING_BASE, SET_VRING_ENABLE};
 
@@ -27,7 +27,7 @@ impl<L: Link> SessionCore<L> {
         self.send_ack(request, answer)
     }
 
-    /// SET_VRING_BASE: the ring's next descriptor.
+    /// SET_VRING_BASE: the ring's first index to look for available descriptors.
     pub(crate) fn set_vring_base<D: VhostUserBackendReqHandlerMut<Link = L>>(
         &mut self,
         device: &mut D,
@@ -61,7 +61,7 @@ impl<L: Link> SessionCore<L> {
         self.send_ack(request, answer)
     }
 
-    /// GET_VRING_BASE: the ring's next descriptor is the reply.
+    /// GET_VRING_BASE: the ring's next index to look for available descriptors is the reply.
     pub(crate) fn get_vring_base<D: VhostUserBackendReqHandlerMut<Link = L>>(
         &mut self,
         device: &mut D,
@@ -74,7 +74,7 @@ impl<L: Link> SessionCore<L> {
         self.send_reply(request, &base, &[])
     }
 
-    /// SET_VRING_ENABLE: the ring is switched on or off.
+    /// SET_VRING_ENABLE: the ring is enabled or disabled.
     pub(crate) fn set_vring_enable<D: VhostUserBackendReqHandlerMut<Link = L>>(
         &mut self,
         device: &mut D,

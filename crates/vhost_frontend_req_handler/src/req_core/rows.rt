@@ -85,7 +85,7 @@ impl<L: Link> FrontendReqCore<L> {
         Asked::Answered(device.shared_object_remove(&uuid))
     }
 
-    /// SHARED_OBJECT_LOOKUP: the name of an object, and a descriptor.
+    /// SHARED_OBJECT_LOOKUP: the name of an object, and a file descriptor.
     fn object_lookup<D: VhostUserFrontendReqHandlerMut<Handle = L::Handle>>(
         &self,
         device: &mut D,
@@ -103,7 +103,7 @@ impl<L: Link> FrontendReqCore<L> {
         Asked::Answered(device.shared_object_lookup(&uuid, &fd))
     }
 
-    /// SHMEM_MAP: a mapping, and the descriptor of the file.
+    /// SHMEM_MAP: a mapping, and the file descriptor.
     fn map<D: VhostUserFrontendReqHandlerMut<Handle = L::Handle>>(
         &self,
         device: &mut D,
