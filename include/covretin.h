@@ -15,8 +15,8 @@
  * Every call must be taken before the next is asked, also one that awaits no reply (covretin_missing is 0 at once).
  *
  * WHO OWNS WHAT
- * Buffers: each pointer is borrowed for the call alone. What is `const` is only read; the others are only written, and at
- *   their front. Two of them must not overlap. A count says how many elements its array has, and a pointer is never NULL
+ * Buffers: each pointer is borrowed for the call alone. What is `const` is only read; the others are only written, from
+ *   their start. Two of them must not overlap. A count says how many elements its array has, and a pointer is never NULL
  *   (also where its count is 0).
  * Descriptors: a session owns none, and neither opens, duplicates nor closes one: it only passes on numbers. What an ask
  *   was given stays the caller's, who may close it once the bytes that covretin_to_send hands out with it were sent. What
@@ -41,7 +41,7 @@
 extern "C" {
 #endif
 
-/* The version of this header. covretin_version() tells that of the library. */
+/* The version of this header. covretin_version() returns that of the library. */
 #define COVRETIN_VERSION "0.1.0"
 
 /* The greatest number of descriptors that come with a message. */
@@ -299,7 +299,7 @@ enum covretin_error covretin_ask_remove_mem_region(covretin_session *session, co
  * send none, which a limit of time shows. */
 enum covretin_error covretin_ask_set_log_base(covretin_session *session, uint64_t base, const covretin_region *region);
 enum covretin_error covretin_ask_set_log_base_alone(covretin_session *session, uint64_t base);
-/* By this descriptor the backend tells that it logged. */
+/* The eventfd by which the backend signals that it logged. */
 enum covretin_error covretin_ask_set_log_fd(covretin_session *session, int32_t fd);
 
 /* A ring's index is below max_queue_num of covretin_open, or what get_queue_num replied since. num and base are in
@@ -309,8 +309,8 @@ enum covretin_error covretin_ask_set_vring_addr(covretin_session *session, size_
 enum covretin_error covretin_ask_set_vring_base(covretin_session *session, size_t index, uint16_t base);
 /* Stops the ring, and asks at which descriptor it goes on. */
 enum covretin_error covretin_ask_get_vring_base(covretin_session *session, size_t index);
-/* The eventfd by which the backend announces used buffers, that by which the driver announces available ones, and that by
- * which the backend tells of an error. index is 255 at most. fd negative: the ring has none, and who would wait for it polls
+/* The eventfd by which the backend signals used buffers, that by which the guest's driver signals available ones, and that
+ * by which the backend signals an error. index is 255 at most. fd negative: the ring has none, and who would wait for it polls
  * the ring. No real frontend was seen to send that. */
 enum covretin_error covretin_ask_set_vring_call(covretin_session *session, size_t index, int32_t fd);
 enum covretin_error covretin_ask_set_vring_kick(covretin_session *session, size_t index, int32_t fd);

@@ -24,10 +24,10 @@
  *   under way returns anything but NOT_YET, TIMED_OUT and OUT_OF_MEMORY.
  * What the backend sends: the connection's. It closes each descriptor that is not the reply's, at once, and all of a reply
  *   that is refused. The reply's own it keeps until the next reply was taken, or until it is disconnected; covretin_claim_fd
- *   hands it over to the caller, who closes it then. The number that covretin_answer_fd or covretin_answer_inflight tells is
+ *   hands it over to the caller, who closes it then. The number that covretin_answer_fd or covretin_answer_inflight gives is
  *   only lent before that.
  *
- * ERRORS are those of covretin.h. errno tells more after SOCKET_ERROR and SOCKET_CONNECT, and after no other.
+ * ERRORS are those of covretin.h. errno says more after SOCKET_ERROR and SOCKET_CONNECT, and after no other.
  */
 #ifndef COVRETIN_SOCKET_H
 #define COVRETIN_SOCKET_H
