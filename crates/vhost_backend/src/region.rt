@@ -7,7 +7,7 @@ ghost use Rattle.vhost_backend.specs.Region.{region_in, no_region};
 use std::alloc::AllocError;
 use vhost_message::{VhostUserMemoryRegion, VhostUserSingleMemoryRegion};
 
-/// How many regions of memory a device may be given at most.
+/// How many regions of memory a backend may be given at most.
 pub const VHOST_MAX_MEMORY_REGIONS: usize = 255;
 
 /// A region of guest memory, all in bytes, and the descriptor that maps it.

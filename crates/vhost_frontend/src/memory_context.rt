@@ -5,8 +5,8 @@ ghost use Rattle.vhost_message.specs.declared.limits.TheConstants.{MAX_MEM_REGIO
 
 use vhost_message::{MAX_MEM_REGIONS, VhostUserMemoryRegion};
 
-/// The regions of a memory table and the descriptors that map them, one for each. It has places for as many as a table may have, and
-/// takes no memory.
+/// The regions of a memory table and the descriptors that map them, one for each. It has places for as many as a table may
+/// have, and allocates nothing.
 ///
 /// Mirrors the upstream type of this name.
 #[derive(Drop)]

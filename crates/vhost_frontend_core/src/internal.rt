@@ -33,11 +33,11 @@ mod transfer;
 
 type Header = VhostUserMsgHeader<FrontendReq>;
 
-/// A frontend's session over a link. Each call has a half that asks and a half that takes the answer.
+/// A frontend's session over a link. Each call has a half that sends the request and a half that receives the answer.
 ///
-/// Before the half of a call that asks, nothing is awaited, or the endpoint is poisoned; the half that takes is given what
-/// that call's other half answered last. An I/O error of the link between a request and the end of its answer breaks the
-/// endpoint.
+/// Before the half of a call that sends, nothing is awaited, or the endpoint is poisoned; the half that receives is given
+/// what that call's other half answered last. An I/O error of the link between a request and the end of its answer poisons
+/// the endpoint.
 ///
 /// Mirrors what `vhost::vhost_user::Frontend` holds behind its lock.
 #[derive(Drop)]
@@ -58,7 +58,7 @@ impl<L: Link> FrontendInternal<L> {
     ghost use Rattle.vhost_frontend_core.specs.contracts.internal.FrontendInternal.{the_row};
     ghost use Rattle.vhost_frontend_core.specs.Frontend.{endpoint_of, session_of, awaits, with_endpoint};
 
-    /// A new session over a link, with a device of at most so many queues. A message may take so many retries.
+    /// A new session over a link, with a backend of at most so many queues and a retry limit for each message.
     ///
     /// OutOfMemory: an allocation failed.
     pub fn new(alloc: Global, link: L, max_queue_num: u64, budget: u32) -> Result<Self>

@@ -1,4 +1,5 @@
-//! The regions of a memory table: which may be sent, their bytes and descriptors, and where a reply says that they are mapped.
+//! The regions of a memory table: which may be sent, their bytes and descriptors, and where a reply says that they are
+//! mapped.
 
 ghost use Rattle.std.specs.Prelude.{◌≡◌, ◌≤◌, ◌*◌, ◌&&◌, ◌==◌, true, IfOk, IfSome, is_some, length, map, nat_le, take};
 ghost use Rattle.std.specs.List.{list_all};
@@ -57,7 +58,7 @@ pub fn first_handle<'a, H>(regions: &[VhostUserMemoryRegionInfo<'a, H>]) -> Resu
     Ok(handle)
 }
 
-/// The descriptors of regions that all have one, at the front of a table's places; in the other places is this one.
+/// The descriptors of regions that all have one, at the start of a table's places; in the other places is this one.
 pub fn handles_of<'a, H>(
     regions: &[VhostUserMemoryRegionInfo<'a, H>],
     other: &'a H,
@@ -74,7 +75,7 @@ pub fn handles_of<'a, H>(
     handles
 }
 
-/// The regions of a table, at the front of a table's places.
+/// The regions of a table, at the start of a table's places.
 pub fn table_of<H>(
     regions: &[VhostUserMemoryRegionInfo<H>],
 ) -> [VhostUserMemoryRegion; MAX_MEM_REGIONS]
@@ -88,7 +89,7 @@ pub fn table_of<H>(
     table
 }
 
-/// Where a table's regions are mapped, as the text of a reply's regions says. None: they are other regions.
+/// Where a table's regions are mapped, as the wire bytes of a reply's regions say. None: they are other regions.
 pub fn bases_of(table: KeptTable, text: &[u8]) -> Option<Vec<u64>>
     requires { length text.now ≡ MEMORY_REGION_SIZE * table.count }
     ensures same { is_some result ≡ are_same_ranges (take table.count table.regions.items) (regions_of table.count text.now) }

@@ -23,7 +23,8 @@ impl<L: Link> FrontendInternal<L> {
 
     /// Changes the configuration space from this byte on.
     ///
-    /// InvalidParam: there is no byte, or they are more than fit, or lie beyond the space. InactiveOperation: CONFIG is not acknowledged.
+    /// InvalidParam: there is no byte, or they are more than fit, or lie beyond the space. InactiveOperation: CONFIG is not
+    /// accepted.
     pub fn ask_set_config(
         &mut self,
         offset: u32,

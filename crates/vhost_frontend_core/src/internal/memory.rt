@@ -29,9 +29,9 @@ impl<L: Link> FrontendInternal<L> {
     ghost use Rattle.vhost_frontend_core.specs.Taking.{IsAck};
     ghost use Rattle.vhost_frontend_core.specs.Halves.{AsksHalf, TakesHalf, TakesAck};
 
-    /// Asks how many regions the device can be given.
+    /// Asks how many regions the backend can be given.
     ///
-    /// InactiveOperation: CONFIGURE_MEM_SLOTS is not acknowledged.
+    /// InactiveOperation: CONFIGURE_MEM_SLOTS is not accepted.
     pub fn ask_get_max_mem_slots(&mut self) -> Result<Sent>
         requires { MayAsk self.old }
         ensures { AsksHalf L.event call.GetMaxMemSlots self.old result self.new }
@@ -39,7 +39,7 @@ impl<L: Link> FrontendInternal<L> {
         self.ask(RecordCall::GetMaxMemSlots)
     }
 
-    /// Takes the number.
+    /// Receives the number.
     pub fn take_get_max_mem_slots(&mut self, sent: Sent) -> Result<u64>
         requires { IsAwaited sent self.old }
         ensures taken { TakesHalf L.event call.GetMaxMemSlots call.Number (Reply shape.U64) sent self.old result self.new }
@@ -51,9 +51,9 @@ impl<L: Link> FrontendInternal<L> {
         }
     }
 
-    /// Gives the device a region.
+    /// Gives the backend a region.
     ///
-    /// InactiveOperation: CONFIGURE_MEM_SLOTS is not acknowledged. InvalidParam: the region's size is 0, or it has no
+    /// InactiveOperation: CONFIGURE_MEM_SLOTS is not accepted. InvalidParam: the region's size is 0, or it has no
     /// descriptor.
     pub fn ask_add_mem_region(
         &mut self,
@@ -72,7 +72,7 @@ impl<L: Link> FrontendInternal<L> {
         }
     }
 
-    /// Gives the device a region, before it is kept.
+    /// Gives the backend a region, before it is kept.
     fn ask_region(&mut self, region: &VhostUserMemoryRegionInfo<L::Handle>) -> Result<Sent>
         ensures { AsksHalf L.event (call.AddMemRegion (info_in region.now)) self.old result self.new }
     {
@@ -101,7 +101,7 @@ impl<L: Link> FrontendInternal<L> {
         }
     }
 
-    /// Takes where the region is mapped.
+    /// Receives where the region is mapped.
     fn take_mapped(&mut self, sent: Sent) -> Result<Option<u64>>
         ensures taken { (info : call.Info L.Handle) → sent.kept ≡ Region info.region → TakesHalf L.event (call.AddMemRegion info) call.Base (Reply shape.SingleMemoryRegion) sent self.old result self.new }
         ensures quiet { awaits self.new ≡ Nobody }
@@ -117,9 +117,9 @@ impl<L: Link> FrontendInternal<L> {
         }
     }
 
-    /// Takes a region from the device.
+    /// Removes a region from the backend.
     ///
-    /// InactiveOperation: CONFIGURE_MEM_SLOTS is not acknowledged. InvalidParam: the region's size is 0.
+    /// InactiveOperation: CONFIGURE_MEM_SLOTS is not accepted. InvalidParam: the region's size is 0.
     pub fn ask_remove_mem_region(
         &mut self,
         region: &VhostUserMemoryRegionInfo<L::Handle>,

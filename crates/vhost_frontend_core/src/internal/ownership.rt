@@ -50,7 +50,7 @@ impl<L: Link> FrontendInternal<L> {
 
     /// Asks for the device to be reset.
     ///
-    /// InactiveOperation: RESET_DEVICE is not acknowledged.
+    /// InactiveOperation: RESET_DEVICE is not accepted.
     pub fn ask_reset_device(&mut self) -> Result<Sent>
         requires { MayAsk self.old }
         ensures { AsksHalf L.event call.ResetDevice self.old result self.new }

@@ -30,10 +30,10 @@ impl<L: Link> FrontendInternal<L> {
     ghost use Rattle.vhost_frontend_core.specs.Taking.{IsAck, RecvsTable};
     ghost use Rattle.vhost_frontend_core.specs.Halves.{AsksHalfWithRoom, TakesHalf};
 
-    /// Gives the device its memory: 1 region or more, each with the descriptor that maps it.
+    /// Gives the backend the guest's memory: 1 region or more, each with the descriptor that maps it.
     ///
-    /// InvalidParam: there is no region, there are more than a table may have, or one has the size 0 or no descriptor. OutOfMemory: a growth
-    /// was refused, and nothing changed.
+    /// InvalidParam: there is no region, there are more than a table may have, or one has the size 0 or no descriptor.
+    /// OutOfMemory: an allocation failed, and nothing changed.
     pub fn ask_set_mem_table(
         &mut self,
         regions: &[VhostUserMemoryRegionInfo<L::Handle>],
@@ -128,7 +128,7 @@ impl<L: Link> FrontendInternal<L> {
         }
     }
 
-    /// Takes where each region is mapped.
+    /// Receives where each region is mapped.
     ///
     /// InvalidParam: the request was sent as a reply, so there is none.
     fn take_bases(&mut self, sent: Sent) -> Result<Option<Vec<u64>>>
@@ -156,7 +156,7 @@ impl<L: Link> FrontendInternal<L> {
         }
     }
 
-    /// Receives the reply with a table of so many regions, whose text lies in the room now.
+    /// Receives the reply with a table of so many regions, whose wire bytes are in the buffer now.
     ///
     /// InvalidMessage: it has another number of regions, or a descriptor.
     fn recv_table(&mut self, request: &Header, count: usize, room: &mut [u8]) -> Result<()>

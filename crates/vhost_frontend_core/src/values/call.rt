@@ -92,8 +92,8 @@ fn lent_log(
     }
 }
 
-/// A call of the frontend with its arguments: each is the call of its name, and is refused where that is. A ring is named by
-/// its index.
+/// A call of the frontend with its arguments: each is the call of its name, and is refused where that is. A ring is named
+/// by its index.
 #[derive(Drop)]
 pub enum FrontendCall {
     GetFeatures,
@@ -113,7 +113,7 @@ pub enum FrontendCall {
     SetVringBase(usize, u16),
     SetVringAddr(usize, VringConfigData),
     GetVringBase(usize),
-    /// Where there is no descriptor, the device polls.
+    /// Where there is no file descriptor, the driver polls.
     SetVringCall(usize, Option<PlainHandle>),
     SetVringKick(usize, Option<PlainHandle>),
     SetVringErr(usize, Option<PlainHandle>),
@@ -136,7 +136,7 @@ pub enum FrontendCall {
     PostcopyEnd,
     /// Which request brought the regions.
     PostcopyAckMemRegions(FrontendReq),
-    /// The greatest size of a packet, in bytes.
+    /// The MTU, in bytes.
     SetMtu(u16),
     /// The flags of each request from then on. Nothing is sent for it.
     SetHdrFlags(VhostUserHeaderFlag),
