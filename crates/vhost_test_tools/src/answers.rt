@@ -25,7 +25,7 @@ pub fn answer_text(alloc: Global, answer: &FrontendAnswer) -> Result<String, All
     }
 }
 
-/// The inflight region, and its descriptor.
+/// The inflight region, and its file descriptor.
 fn inflight_text(
     alloc: Global,
     area: &VhostUserInflight,

@@ -14,7 +14,7 @@ use vhost_message::VhostUserHeaderFlag;
 /// The first number of a descriptor that stands for a word of the line.
 const FIRST: u32 = 4_000_000_000;
 
-/// The call of a line: as `vhost-run` takes it, where moreover a descriptor may have its kind, as `7:unix`, a region or a log may
+/// The call of a line: as `vhost-run` reads it, where moreover a descriptor may have its kind, as `7:unix`, a region or a log may
 /// have `none` in the place of its descriptor, `set_hdr_flags` takes any flags, and `get_config` may end with `buffer BYTES`.
 pub fn call_in(alloc: Global, text: &str) -> Result<FrontendCall, Miss> {
     if let Some(flags) = text.strip_prefix("set_hdr_flags ") {

@@ -26,7 +26,7 @@ fn fill<'a>(alloc: Global, handles: &mut Vec<PlainHandle>, text: &'a str) -> Res
     Ok(rest.strip_prefix(" ").unwrap_or(rest))
 }
 
-/// Puts a descriptor of the list behind others, as often as is told.
+/// Puts a descriptor of the list behind others, as often as the word says.
 fn put(alloc: Global, handles: &mut Vec<PlainHandle>, word: &str) -> Result<(), Miss> {
     let (word, count) = match word.split_once("*") {
         Some((word, count)) => (word, number_of(alloc, count)?),

@@ -75,7 +75,7 @@ pub struct Wire {
     pub silent: Vec<PlainHandle>,
 }
 
-/// What is on the way, with these cuts, to a link that opens each descriptor.
+/// What is on the way, with this script, to a link that opens each descriptor.
 fn new_wire(
     alloc: Global,
     cuts: Vec<Cut>,
@@ -97,7 +97,7 @@ pub struct TestLink {
 }
 
 impl TestLink {
-    /// A link whose calls are cut so, and opens each descriptor.
+    /// A link with this script, which opens each descriptor.
     pub fn new(alloc: Global, cuts: Vec<Cut>, silent: Vec<PlainHandle>) -> Result<TestLink, Miss> {
         let wire = new_wire(alloc, cuts, silent)?;
         Ok(TestLink { wire, alloc })
@@ -180,7 +180,7 @@ pub struct PlainLink {
 }
 
 impl PlainLink {
-    /// A link whose calls are cut so.
+    /// A link with this script.
     pub fn new(alloc: Global, cuts: Vec<Cut>) -> Result<PlainLink, Miss> {
         let wire = new_wire(alloc, cuts, Vec::new(alloc))?;
         Ok(PlainLink { wire })

@@ -68,7 +68,7 @@ pub(crate) fn listening_text(listening: Option<bool>) -> &'static str {
     }
 }
 
-/// Size, offset, number of queues, and their size.
+/// The inflight region: size, offset, number of queues, and their size.
 pub(crate) fn area_text(alloc: Global, area: &VhostUserInflight) -> Result<String, AllocError> {
     let (size, offset) = (area.mmap_size, area.mmap_offset);
     let (queues, length) = (area.num_queues, area.queue_size);

@@ -102,7 +102,7 @@ pub(crate) fn shape_of(name: &str) -> Option<Shape> {
     None
 }
 
-/// The value of a kind that words tell, or the error.
+/// The value of a kind that words give, or the error.
 pub(crate) fn value_of(alloc: Global, shape: Shape, text: &str) -> Result<Value, Miss> {
     match text.strip_prefix("err ") {
         Some(error) if shape != Shape::Back => failure_of(alloc, error),
@@ -199,7 +199,7 @@ fn state_of(alloc: Global, text: &str) -> Result<Value, Miss> {
     Ok(Value::State(VhostUserVringState::new(ring, number)))
 }
 
-/// Size, offset, number of queues, their size, and a descriptor.
+/// The inflight region: size, offset, number of queues, their size, and its file descriptor.
 fn area_of(alloc: Global, text: &str) -> Result<Value, Miss> {
     let Some((area, handle)) = text.rsplit_once(" ") else {
         return Err(unreadable(alloc, "an area and its handle", text));

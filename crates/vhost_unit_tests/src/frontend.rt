@@ -16,7 +16,7 @@ static FEATURES: [u8; 20] = [
     1, 0, 0, 0, 5, 0, 0, 0, 8, 0, 0, 0, 1, 0, 0, 0x40, 0, 0, 0, 0,
 ];
 
-/// Whether the first call meets the link's error 5, the second succeeds, and after each the session tells which it was.
+/// Whether the first call meets the link's error 5, the second succeeds, and after each the session reports which.
 fn tells(quiet: &mut Quiet<MemLink>) -> [bool; 4] {
     quiet.set_hdr_flags(VhostUserHeaderFlag::NEED_REPLY);
     let first = quiet.set_owner();
@@ -64,7 +64,7 @@ fn failure(answer: FrontendAnswer) -> Option<(i32, bool)> {
     }
 }
 
-/// What two calls of a ring's size are answered over a link that is cut so.
+/// What two calls of a ring's size are answered over a link with this script.
 fn sizes_twice(alloc: Global, cuts: Vec<Cut>) -> Option<[Option<(i32, bool)>; 2]> {
     let mut frontend = FrontendInternal::new(alloc, MemLink::new(alloc, cuts), 4, 2).ok()?;
     let call = FrontendCall::SetVringNum(0, 128);

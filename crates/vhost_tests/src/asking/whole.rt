@@ -32,7 +32,7 @@ fn lent_log(region: &LogRegion) -> VhostUserDirtyLogRegion<'_, PlainHandle> {
     }
 }
 
-/// Gives a device its memory.
+/// Gives a backend its memory.
 fn set_table<B: VhostBackend<Handle = PlainHandle>>(
     alloc: Global,
     backend: &B,
@@ -77,7 +77,7 @@ fn done(outcome: Result<()>) -> Result<FrontendAnswer> {
     }
 }
 
-/// Makes a call that is any vhost device's. InvalidOperation: it is another.
+/// Makes a call that any vhost backend has. InvalidOperation: it is another.
 fn ask_device<B: VhostBackend<Handle = PlainHandle>>(
     alloc: Global,
     backend: &B,
@@ -113,7 +113,7 @@ fn ask_device<B: VhostBackend<Handle = PlainHandle>>(
     }
 }
 
-/// Makes a call of a hypervisor's side that shows nothing, or any vhost device's.
+/// Makes a call of a vhost-user frontend that answers nothing, or one that any vhost backend has.
 fn ask_hypervisor<F: VhostUserFrontend + VhostBackend<Handle = PlainHandle>>(
     alloc: Global,
     frontend: &mut F,

@@ -1,4 +1,4 @@
-//! The channel from a device to a display: records are words of bytes.
+//! The vhost-user-gpu channel, from a device to a display: records are words of bytes.
 
 use crate::channels::Channel;
 use crate::records::{last_handles, record_of, record_text, word_of};

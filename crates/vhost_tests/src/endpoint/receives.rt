@@ -17,7 +17,7 @@ use vhost_test_tools::{Miss, bytes_of, narrow, unreadable};
 pub(crate) struct Room {
     /// The buffer of the last call that had one.
     pub(crate) buffer: Vec<u8>,
-    /// The descriptors of the last call that puts them into a place of the caller's.
+    /// The descriptors of the last call that puts them into a buffer of the caller's.
     handles: Option<Vec<PlainHandle>>,
 }
 

@@ -1,4 +1,4 @@
-//! What a device asks its frontend: what is written, and how each answer is taken.
+//! What a device asks its frontend: what is written, and how each answer is received.
 
 ghost use Rattle.std.specs.Prelude.{◌≤◌, length};
 ghost use Rattle.vhost_message.specs.declared.limits.TheConstants.{MAX_ATTACHED_FD_ENTRIES};

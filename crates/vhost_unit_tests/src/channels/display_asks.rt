@@ -1,4 +1,4 @@
-//! What a device asks a display: what is written, and how each reply is taken.
+//! What a device asks a display: what is written, and how each reply is received.
 
 ghost use Rattle.std.specs.Prelude.{◌≤◌, length};
 ghost use Rattle.vhost_message.specs.declared.limits.TheConstants.{MAX_ATTACHED_FD_ENTRIES};

@@ -137,7 +137,7 @@ fn broken(rt: HostRuntime) -> Outcome<()> {
     Ok(())
 }
 
-/// Whether a request that the link's error 5 tears after five bytes is answered so, and each one behind it that the endpoint is poisoned.
+/// Whether a request that the link's error 5 stops after five bytes is answered so, and each one behind it that the endpoint is poisoned.
 fn is_torn(alloc: Global) -> Outcome<bool> {
     let mut script = Vec::new(alloc);
     script.push(Cut::Give(5))?;

@@ -1,4 +1,4 @@
-//! A stream in pieces, from one thread to another that takes it.
+//! A stream in pieces, from one thread to another that receives it.
 
 use crate::cuts::peer::Peer;
 use crate::cuts::sides::Side;

@@ -1,4 +1,4 @@
-//! Every way to cut a stream, to end it early, and to put a descriptor among its bytes.
+//! Every way to split a stream, to end it early, and to put a descriptor among its bytes.
 
 use crate::cuts::exchange::Cuts;
 use crate::cuts::over::{Over, told};
@@ -45,7 +45,7 @@ fn differs_in_pieces<R: System>(
     Ok(None)
 }
 
-/// The first place at which the stream is cut into two, and something differs.
+/// The first place at which the stream is split into two, and something differs.
 fn differs_in_two<R: System>(
     rt: &R,
     alloc: Global,
@@ -61,7 +61,7 @@ fn differs_in_two<R: System>(
     Ok(None)
 }
 
-/// After the whole requests: how many fronts of the stream are answered Disconnected, PartialMessage and InvalidMessage, and how many
+/// After the whole requests: how many prefixes of the stream are answered Disconnected, PartialMessage and InvalidMessage, and how many
 /// otherwise.
 fn ended_early<R: System>(
     rt: &R,

@@ -1,4 +1,4 @@
-//! Streams of requests, and what is wanted of a side that takes them.
+//! Streams of requests, and what is wanted of a side that receives them.
 
 /// Requests, where each begins, and what is wanted.
 #[derive(Clone, Copy)]
@@ -81,7 +81,7 @@ pub(crate) static TWO: Stream = Stream {
 };
 
 impl Stream {
-    /// How many requests a front of so many bytes has whole.
+    /// How many requests a prefix of so many bytes has whole.
     pub(crate) fn whole_in(&self, len: usize) -> usize {
         let mut count: usize = 0;
         for start in self.starts.iter().skip(1) {

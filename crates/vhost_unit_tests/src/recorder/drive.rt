@@ -167,8 +167,8 @@ fn one_calls<D: VhostUserBackendReqHandlerMut<Link = MemLink>, L: Ledger, R: Wai
     })
 }
 
-/// A caller makes these calls alone, with a retry limit, and a link of the frontend that is cut by a script. The log has as many
-/// entries as it has receipts.
+/// A caller makes these calls alone, with a retry limit, and a script of the frontend's link. The log has as many entries as it has
+/// receipts.
 ///
 /// `Halt::OutOfMemory`: an allocation failed before the first call.
 pub(crate) fn call_alone<D: VhostUserBackendReqHandlerMut<Link = MemLink>, R: Wait>(
