@@ -13,13 +13,13 @@ use vhost_frontend_core::FrontendAnswer;
 use vhost_link::PlainHandle;
 use vhost_message::{VhostUserConfig, VhostUserInflight, VhostUserShMemConfig};
 
-/// An answer: `err` and the name of the error, or `ok` and what it shows.
+/// An answer: `err` and the name of the error, or `ok` and its value.
 ///
-/// Numbers are in hexadecimal, as `0x10`, and with commas between them where they are a list (`-` for an empty one);
-/// bytes are in hexadecimal (`-` where there is none); a handle is its number, as `[1]`; `none` stands for an option
-/// that holds nothing. A part of the configuration space is its offset, size, flags and bytes. The buffer for
-/// descriptors in flight is its size, offset, number of queues, their size, and the handle. Regions of shared memory are
-/// their number and the list of all 256 sizes.
+/// Numbers are in hexadecimal, as `0x10`, and with commas between them where they are a list (`-` for an empty one); bytes
+/// are in hexadecimal (`-` where there is none); a file descriptor is its number, as `[1]`; `none` stands for an option
+/// that holds nothing. A part of the configuration space is its offset, size, flags and bytes. The inflight region is its
+/// size, offset, number of queues, their size, and the file descriptor. Regions of shared memory are their number and the
+/// list of all 256 sizes.
 #[derive(Clone, Copy)]
 pub struct Answer<'a>(pub &'a FrontendAnswer);
 
@@ -53,7 +53,7 @@ fn show_bases<W: fmt::Write>(bases: &[u64], f: &mut Formatter<W>) -> fmt::Result
     show_numbers(bases, f)
 }
 
-/// Shows a handle by its number.
+/// Shows a file descriptor by its number.
 fn show_handle<W: fmt::Write>(handle: &PlainHandle, f: &mut Formatter<W>) -> fmt::Result
     ensures { WritesOnOk W.write_str_gives f.old result (codes "ok " ++ handle_text handle.now) f.new }
 {
@@ -74,7 +74,7 @@ fn show_part<W: fmt::Write>(
     show_bytes(bytes, f)
 }
 
-/// Shows the buffer for descriptors in flight.
+/// Shows the inflight region.
 fn show_area<W: fmt::Write>(
     area: &VhostUserInflight,
     handle: &PlainHandle,

@@ -1,4 +1,4 @@
-//! Bytes, numbers and handles, one after another.
+//! Bytes, numbers and file descriptors, one after another.
 
 ghost use Rattle.std.specs.Prelude.{◌≡◌, ◌≤◌, length};
 ghost use Rattle.std.specs.Fmt.{WritesOnOk};
@@ -10,7 +10,7 @@ use std::fmt;
 use std::fmt::Formatter;
 use vhost_link::PlainHandle;
 
-/// How many bytes are shown by one write.
+/// How many bytes go into one write.
 const CHUNK: usize = 128;
 
 /// Shows bytes in hexadecimal, two digits each, and `-` where there is none.
@@ -27,7 +27,7 @@ pub(crate) fn show_bytes<W: fmt::Write>(bytes: &[u8], f: &mut Formatter<W>) -> f
     Ok(())
 }
 
-/// The digits of a chunk, two each byte, in the front of the room that there is for them.
+/// The digits of a chunk, two each byte, at the start of the buffer for them.
 fn digits_of<'a>(chunk: &[u8], room: &'a mut [u8; 2 * CHUNK]) -> &'a str
     requires { length chunk.now ≤ 128 }
     ensures { result.now ≡ flat_map byte_text chunk.now }
@@ -57,7 +57,7 @@ pub(crate) fn show_numbers<W: fmt::Write>(numbers: &[u64], f: &mut Formatter<W>)
     Ok(())
 }
 
-/// Shows handles by their numbers, as `[1,2]`, and nothing where there is none.
+/// Shows file descriptors by their numbers, as `[1,2]`, and nothing where there is none.
 pub(crate) fn show_handles<W: fmt::Write>(
     handles: &[PlainHandle],
     f: &mut Formatter<W>,

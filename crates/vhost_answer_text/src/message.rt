@@ -8,13 +8,13 @@ use std::fmt;
 use std::fmt::Formatter;
 use vhost_link::PlainHandle;
 
-/// A message: its bytes in hexadecimal, and after them its handles, as `[1,2]`, where it has some. `-` where there is no
-/// byte.
+/// A message: its bytes in hexadecimal, and after them its descriptors, as `[1,2]`, where it has some. `-` where there is
+/// no byte.
 #[derive(Clone, Copy)]
 pub struct Message<'a> {
     /// Its bytes.
     pub bytes: &'a [u8],
-    /// The handles that came with them.
+    /// The descriptors that came with them.
     pub handles: &'a [PlainHandle],
 }
 

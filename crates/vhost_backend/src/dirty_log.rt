@@ -5,11 +5,11 @@ ghost use Rattle.vhost_backend.specs.Region.{no_log_region};
 
 use std::alloc::AllocError;
 
-/// Where the log of dirty pages lies, in bytes, and the handle that maps it.
+/// Where the log of dirty pages lies, in bytes, and the descriptor that maps it.
 #[derive(Drop)]
 pub struct VhostUserDirtyLogRegion<'a, H> {
     pub mmap_size: u64,
-    /// Where the log begins in what the handle maps.
+    /// Where the log begins in what the descriptor maps.
     pub mmap_offset: u64,
     pub mmap_handle: Option<&'a H>,
 }

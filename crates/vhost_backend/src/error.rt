@@ -1,4 +1,4 @@
-//! The errors of vhost devices.
+//! The errors of vhost backends.
 
 ghost use Rattle.std.specs.Prelude.{◌≡◌};
 ghost use Rattle.vhost_backend.specs.declared.error.Error.TheVariants.{VhostUserProtocol};
@@ -6,7 +6,7 @@ ghost use Rattle.vhost_backend.specs.declared.error.Error.TheVariants.{VhostUser
 use thiserror::Error as ErrorText;
 use vhost_message::IoCause;
 
-/// Why a call of a vhost device failed.
+/// Why a call of a vhost backend failed.
 #[derive(Debug, Drop, ErrorText)]
 pub enum Error {
     /// The operation is not allowed in this state.
@@ -24,7 +24,7 @@ pub enum Error {
     /// A queue can't be used.
     #[error("invalid virtqueue")]
     InvalidQueue,
-    /// A table of descriptors does not lie in the guest's memory.
+    /// A ring's descriptor table does not lie in the guest's memory.
     #[error("invalid virtqueue descriptor table address")]
     DescriptorTableAddress,
     /// A used ring does not lie in the guest's memory.
@@ -44,7 +44,7 @@ pub enum Error {
     VhostUserProtocol(vhost_message::Error),
 }
 
-/// What a call of a vhost device answers.
+/// What a call of a vhost backend answers.
 pub type Result<T> = std::result::Result<T, Error>;
 
 impl From<vhost_message::Error> for Error {

@@ -1,4 +1,4 @@
-//! What a driver asks of a vhost device, and the data that such calls take.
+//! What a VMM asks of a vhost backend, and the data that such calls take.
 #![tactic(auto)]
 
 mod backend;

@@ -1,4 +1,4 @@
-//! Regions of guest memory, with the handles that map them.
+//! Regions of guest memory, with the descriptors that map them.
 
 ghost use Rattle.std.specs.Prelude.{◌≡◌, ⊤};
 ghost use Rattle.vhost_message.specs.Records.{single_region};
@@ -7,10 +7,10 @@ ghost use Rattle.vhost_backend.specs.Region.{region_in, no_region};
 use std::alloc::AllocError;
 use vhost_message::{VhostUserMemoryRegion, VhostUserSingleMemoryRegion};
 
-/// How many regions of memory a device may be given at most.
+/// How many regions of memory a backend may be given at most.
 pub const VHOST_MAX_MEMORY_REGIONS: usize = 255;
 
-/// A region of guest memory, all in bytes, and the handle that maps it.
+/// A region of guest memory, all in bytes, and the descriptor that maps it.
 #[derive(Drop)]
 pub struct VhostUserMemoryRegionInfo<'a, H> {
     /// Where the region begins in the guest.
@@ -18,7 +18,7 @@ pub struct VhostUserMemoryRegionInfo<'a, H> {
     pub memory_size: u64,
     /// Where the region begins in the frontend's memory.
     pub userspace_addr: u64,
-    /// Where the region begins in what the handle maps.
+    /// Where the region begins in what the descriptor maps.
     pub mmap_offset: u64,
     pub mmap_handle: Option<&'a H>,
 }

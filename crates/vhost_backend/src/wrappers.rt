@@ -1,4 +1,4 @@
-//! Devices behind a lock or in a cell.
+//! Backends behind an `RwLock` or in a `RefCell`.
 
 use crate::backend::{VhostBackend, VhostBackendMut};
 use crate::dirty_log::VhostUserDirtyLogRegion;
@@ -8,7 +8,7 @@ use std::cell::RefCell;
 use std::sync::{RwLock, Wait};
 use vhost_message::{VhostUserMemoryRegionBase, VringConfigData};
 
-// Each call waits until it has the device for itself.
+// Each call waits until it has the backend for itself.
 impl<T: VhostBackendMut> VhostBackend for RwLock<T> {
     type Handle = T::Handle;
 
@@ -83,7 +83,7 @@ impl<T: VhostBackendMut> VhostBackend for RwLock<T> {
     }
 }
 
-// A device that is in use answers InvalidOperation; nothing waits.
+// A backend that is in use answers InvalidOperation; nothing waits.
 impl<T: VhostBackendMut> VhostBackend for RefCell<T> {
     type Handle = T::Handle;
 

@@ -1,4 +1,4 @@
-//! What a device answered, and what is told of it.
+//! What a device answered, and what is replied.
 
 ghost use Rattle.std.specs.Prelude.{◌≡◌, length};
 
@@ -35,7 +35,7 @@ pub enum DeviceAnswer<H> {
     Shmem(Result<()>),
 }
 
-/// How the answer of a call is told.
+/// How the answer of a call is reported to the frontend.
 #[derive(Clone, Copy)]
 pub enum Then {
     /// It is acknowledged.
@@ -131,14 +131,14 @@ pub enum Reply<'t> {
     Regions(&'t [u64]),
 }
 
-/// What the peer is told.
+/// What is replied to the frontend.
 #[derive(Clone, Copy)]
 pub enum Told<'t, H> {
     Silent,
     /// Whether it succeeded.
     Acknowledged(bool),
     Replied(Reply<'t>),
-    /// With the handle on the first byte.
+    /// With the descriptor on the first byte.
     RepliedWith(Reply<'t>, &'t H),
 }
 
@@ -153,7 +153,7 @@ pub enum Verdict {
     Internal,
 }
 
-/// What a call became: the session's answer, what the peer is told, and the session from then on.
+/// What a call became: the session's answer, what is replied, and the session from then on.
 #[derive(Clone, Copy)]
 pub struct Conclusion<'t, H> {
     pub verdict: Verdict,

@@ -82,8 +82,8 @@ impl Area {
     }
 }
 
-/// A call of the device with its arguments. Regions and bytes are lent by the body of the request. Its handles lie beside
-/// it, in the list that came with the request.
+/// A call of the device with its arguments. Regions and bytes are lent by the body of the request. Its file descriptors lie
+/// beside it, in the list that came with the request.
 #[derive(Clone, Copy)]
 pub enum DeviceCall<'a> {
     SetOwner,
@@ -91,9 +91,9 @@ pub enum DeviceCall<'a> {
     ResetDevice,
     GetFeatures,
     SetFeatures(u64),
-    /// The regions, and whether postcopy listens. Each region comes with a handle.
+    /// The regions, and whether postcopy listens. Each region comes with a file descriptor.
     SetMemTable(RegionTable<'a>, bool),
-    /// The log's area; it comes with one handle.
+    /// The log's area; it comes with one file descriptor.
     SetLogBase(VhostUserLog),
     /// The index of a ring, and its size.
     SetVringNum(u32, u32),
@@ -101,7 +101,7 @@ pub enum DeviceCall<'a> {
     SetVringBase(u32, u32),
     SetVringAddr(VhostUserVringAddr),
     GetVringBase(u32),
-    /// The index of a ring, and whether one handle comes with it.
+    /// The index of a ring, and whether one file descriptor comes with it.
     SetVringKick(u8, bool),
     SetVringCall(u8, bool),
     SetVringErr(u8, bool),
@@ -113,18 +113,18 @@ pub enum DeviceCall<'a> {
     SetMtu(u16),
     GetConfig(Area),
     SetConfig(Area, &'a [u8]),
-    /// The one handle is opened as the channel to the frontend first.
+    /// The one file descriptor is opened as the backend channel first.
     SetBackendReqFd,
-    /// The one handle is opened as the channel to a display first.
+    /// The one file descriptor is opened as the vhost-user-gpu channel first.
     SetGpuSocket,
     GetSharedObject(VhostUserSharedMsg),
     GetInflightFd(VhostUserInflight),
-    /// It comes with one handle.
+    /// It comes with one file descriptor.
     SetInflightFd(VhostUserInflight),
-    /// A region, and whether postcopy listens. It comes with one handle.
+    /// A region, and whether postcopy listens. It comes with one file descriptor.
     AddMemRegion(VhostUserSingleMemoryRegion, bool),
     RemoveMemRegion(VhostUserSingleMemoryRegion),
-    /// It comes with one handle.
+    /// It comes with one file descriptor.
     SetDeviceStateFd(VhostTransferStateDirection, VhostTransferStatePhase),
     CheckDeviceState,
     GetShmemConfig,
@@ -135,7 +135,7 @@ pub enum DeviceCall<'a> {
     PostcopyAckMemRegions,
 }
 
-/// What a request becomes that is not refused in silence.
+/// What a request becomes that is not refused without a reply.
 #[derive(Drop)]
 pub enum Begun<'a> {
     /// The device is to be called.

@@ -1,4 +1,4 @@
-//! The tests that rows have in common.
+//! The tests that handling rules have in common.
 
 ghost use Rattle.std.specs.Prelude.{◌≡◌, ◌<◌, ◌^◌, ◌==◌, ◌∷◌, [], Ok, Err, IfOk, IfErr, IfSome, is_some, nat_le, not, length};
 ghost use Rattle.vhost_message.specs.Bits.{has_bit};
@@ -19,7 +19,7 @@ use vhost_message::{
     VhostUserProtocolFeatures, VhostUserTransferDeviceState, VhostUserVirtioFeatures, has_bit,
 };
 
-/// The tests, over handles of a type. A test that fails refuses in silence.
+/// The tests, over descriptors of a type. A test that fails refuses without a reply.
 pub(crate) struct Checks<H> {
     of: PhantomData<H>,
 }
@@ -51,7 +51,7 @@ impl<H: Drop> Checks<H> {
         Ok(record)
     }
 
-    /// InactiveOperation: the protocol feature of this bit is not acknowledged.
+    /// InactiveOperation: the protocol feature of this bit is not accepted.
     pub(crate) fn check_proto_feature(session: &Session, bit: u32) -> Result<()>
         requires { bit < 64 }
         ensures { row.session_feature {H = H} (session_of session.now) bit ≡ tested result }
@@ -65,7 +65,7 @@ impl<H: Drop> Checks<H> {
         Ok(())
     }
 
-    /// InactiveFeature: the virtio feature of this bit is not acknowledged.
+    /// InactiveFeature: the virtio feature of this bit is not accepted.
     pub(crate) fn check_feature(session: &Session, bit: u32) -> Result<()>
         requires { bit < 64 }
         ensures { test (has_bit (session_of session.now).acked bit) (silently {H = H} (InactiveFeature (2 ^ bit))) ≡ tested result }
@@ -77,7 +77,7 @@ impl<H: Drop> Checks<H> {
         Ok(())
     }
 
-    /// InvalidParam: the number of a switch is neither 0 nor 1.
+    /// InvalidParam: the number of a flag is neither 0 nor 1.
     pub(crate) fn switch(num: u32) -> Result<()>
         ensures { test (nat_le num 1) (silently {H = H} InvalidParam) ≡ tested result }
     {
@@ -87,7 +87,7 @@ impl<H: Drop> Checks<H> {
         Ok(())
     }
 
-    /// The number in 16 bits. InvalidParam: it takes more.
+    /// The number in 16 bits. InvalidParam: it needs more.
     pub(crate) fn short(number: u64) -> Result<u16>
         ensures fits { IfOk result (λ n. (n ≡ number) × (test (nat_le number 65535) (silently {H = H} InvalidParam) ≡ Ok tt)) }
         ensures great { IfErr result (λ e. test (nat_le number 65535) (silently {H = H} InvalidParam) ≡ tested (Err e)) }
@@ -128,7 +128,7 @@ impl<H: Drop> Checks<H> {
         Ok(())
     }
 
-    /// This error: the message has not exactly one handle.
+    /// This error: the message has not exactly one descriptor.
     pub(crate) fn one_handle(handles: &Option<Vec<H>>, error: Error) -> Result<()>
         ensures none { IfErr result (λ e. row.only (silently {H = H} (seen error)) (handles_in handles.now) ≡ tested (Err e)) }
         ensures one { IfOk result (λ _. (h : H) × (handles_in handles.now ≡ h ∷ [])) }
@@ -139,7 +139,7 @@ impl<H: Drop> Checks<H> {
         }
     }
 
-    /// InvalidMessage: the message has exactly one handle.
+    /// InvalidMessage: the message has exactly one descriptor.
     pub(crate) fn not_one(handles: &Option<Vec<H>>) -> Result<()>
         ensures { test (not (length (handles_in handles.now) == 1)) (silently {H = H} InvalidMessage) ≡ tested result }
     {
@@ -154,7 +154,7 @@ impl<H: Drop> Checks<H> {
     }
 }
 
-/// The one handle of a message, where it has exactly one.
+/// The one descriptor of a message, where it has exactly one.
 pub fn take_single_file<H: Drop>(handles: Option<Vec<H>>) -> Option<H>
     ensures { result ≡ single (handles_in handles) }
 {

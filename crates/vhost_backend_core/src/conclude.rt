@@ -22,13 +22,13 @@ use vhost_message::{
     VhostUserSingleMemoryRegion, protocol_bit,
 };
 
-/// The second halves, over handles of this type.
+/// The second halves, over descriptors of this type.
 pub struct Conclusions<H> {
     of: PhantomData<H>,
 }
 
 impl<H: Drop> Conclusions<H> {
-    /// What the answer of a call becomes, by how it is told. The request wanted an acknowledgement, or did not.
+    /// What the answer of a call becomes, by how it is reported. The request wanted an acknowledgement, or did not.
     pub fn conclude<'t>(
         session: &Session,
         need_reply: bool,
@@ -103,7 +103,7 @@ impl<H: Drop> Conclusions<H> {
         }
     }
 
-    /// The answer alone.
+    /// The answer alone, without a reply.
     fn silent<'t>(session: Session, says: Verdict) -> Conclusion<'t, H>
         ensures { result ≡ record { verdict = says; told = told_.Silent; session = session } }
     {
@@ -125,7 +125,7 @@ impl<H: Drop> Conclusions<H> {
         }
     }
 
-    /// Success, with a reply and a handle.
+    /// Success, with a reply and a descriptor.
     fn replied_with<'t>(session: Session, reply: Reply<'t>, handle: &'t H) -> Conclusion<'t, H>
         ensures { result ≡ record { verdict = verdict_.Fine; told = told_.RepliedWith reply.entry handle.entry; session = session } }
     {

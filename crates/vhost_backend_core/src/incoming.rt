@@ -12,7 +12,7 @@ use vhost_message::{
     VhostUserConfig, VhostUserMemory, VhostUserMemoryRegion, VhostUserMsgValidator, read_front,
 };
 
-/// A request: its code and flags, and its body, which is lent. Its handles lie beside it.
+/// A request: its code and flags, and its body, which is lent. Its file descriptors lie beside it.
 #[derive(Drop)]
 pub struct Incoming<'a> {
     pub code: FrontendReq,
@@ -59,7 +59,7 @@ impl<'a> Incoming<'a> {
         }
     }
 
-    /// The record at the front of the body, where it is valid and has as many bytes behind it as it says.
+    /// The record at the start of the body, where it is valid and has as many bytes behind it as it says.
     pub(crate) fn area(&self) -> Option<Area>
         ensures valid { (nat_le 12 (length self.now.body.now) && is_valid_config (config_of self.now.body.now) && length self.now.body.now == 12 + (config_of self.now.body.now).size) ≡ is_some result }
         ensures record { IfSome result (λ a. a.config ≡ config_of self.now.body.now) }
@@ -77,7 +77,7 @@ impl<'a> Incoming<'a> {
         Some(Area { config })
     }
 
-    /// The table of a request, where it has as many regions and handles as it says, all valid.
+    /// The table of a request, where it has as many regions and file descriptors as it says, all valid.
     pub(crate) fn table(&self, handles: usize) -> Option<RegionTable<'a>>
         ensures valid { let n = (memory_of self.now.body.now).num_regions in
             (not self.now.reply && nat_le MEMORY_HEAD_SIZE (length self.now.body.now) && is_valid_memory (memory_of self.now.body.now)
@@ -95,7 +95,7 @@ impl<'a> Incoming<'a> {
         }
     }
 
-    /// How many regions the table of a request has, where it has as many bytes and handles as it says.
+    /// How many regions the table of a request has, where it has as many bytes and file descriptors as it says.
     fn table_len(&self, handles: usize) -> Option<usize>
         ensures valid { (not self.now.reply && nat_le MEMORY_HEAD_SIZE (length self.now.body.now) && is_valid_memory (memory_of self.now.body.now)
             && length self.now.body.now == MEMORY_HEAD_SIZE + MEMORY_REGION_SIZE * (memory_of self.now.body.now).num_regions && handles == (memory_of self.now.body.now).num_regions) ≡ is_some result }

@@ -4,7 +4,7 @@ ghost use Rattle.vhost_backend_core.specs.Concluding.{ConcludesRow};
 
 use std::marker::PhantomData;
 
-/// Laws of the halves, over handles and channels of these types.
+/// Laws of the halves, over descriptors and channels of these types.
 pub struct Laws<H, B, G> {
     of: PhantomData<(H, B, G)>,
 }
@@ -16,7 +16,7 @@ impl<H: Drop, B: Drop, G: Drop> Laws<H, B, G> {
     {}
 }
 
-/// The law with numbers for handles and channels, so that its bounds are seen to be met.
+/// The law with numbers for descriptors and channels, so that its bounds are seen to be met.
 pub fn laws_of_halves() {
     Laws::<u32, u32, u32>::concludes_row();
 }

@@ -18,13 +18,13 @@ use vhost_message::{
     VhostUserVringState, has_bit, protocol_bit, virtio_bit,
 };
 
-/// The rows of the protocol table, over handles and channels of these types.
+/// The handling rules, over file descriptors and channels of these types.
 pub struct Rows<H, B, G> {
     of: PhantomData<(H, B, G)>,
 }
 
 impl<H: Drop, B: Drop, G: Drop> Rows<H, B, G> {
-    /// What a request becomes. An error refuses it in silence.
+    /// What a request becomes. An error refuses it without a reply.
     pub fn begin<'a>(
         session: &Session,
         message: &Incoming<'a>,
@@ -181,7 +181,7 @@ impl<H: Drop, B: Drop, G: Drop> Rows<H, B, G> {
         Ok(Begun::Calls(DeviceCall::GetVringBase(ring.index)))
     }
 
-    /// The index of a ring, and whether one handle comes with it.
+    /// The index of a ring, and whether one file descriptor comes with it.
     fn handle_vring_fd_request(message: &Incoming, handles: &Option<Vec<H>>) -> Result<(u8, bool)>
         ensures { (next : ℕ → Option H → Step H B G) → (tested result then (λ ring. with_wanted ring.1 (handles_in handles.now) (next ring.0))) ≡ row.ring_row (message_in message.now (handles_in handles.now)) next }
     {

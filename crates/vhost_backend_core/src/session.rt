@@ -2,7 +2,7 @@
 
 use vhost_message::{PostcopyState, has_bit, protocol_bit, virtio_bit};
 
-/// The features offered and acknowledged, how far postcopy has come, and the failure that marks the session, if any.
+/// The features offered and accepted, how far postcopy has come, and the failure that marks the session, if any.
 #[derive(Clone, Copy, Debug)]
 pub struct Session {
     pub offered: u64,

@@ -1,4 +1,4 @@
-//! How the answer of a call is told, and what the session answers.
+//! How the answer of a call is reported, and what the session answers.
 
 ghost use Rattle.std.specs.Prelude.{◌≡◌};
 ghost use Rattle.vhost_protocol.specs.Error.{seen_result};
@@ -9,7 +9,7 @@ use crate::call::DeviceCall;
 use vhost_message::{Error, Result};
 
 impl DeviceCall<'_> {
-    /// How the answer of this call is told.
+    /// How the answer of this call is reported to the frontend.
     pub fn then(&self) -> Then
         ensures { result ≡ then_of self.now }
     {

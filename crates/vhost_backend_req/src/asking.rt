@@ -1,4 +1,4 @@
-//! What a device asks its frontend, and the frontend's answer.
+//! What a backend asks its frontend, and the frontend's reply.
 
 ghost use Rattle.std.specs.Prelude.{◌≡◌, ◌≤◌, [], ◌∷◌, length, map, false, ℤ};
 ghost use Rattle.vhost_message.specs.Bits.{has_bit};
@@ -25,9 +25,9 @@ impl<L: Link> BackendInternal<L> {
     ghost use Rattle.vhost_message.specs.declared.error.Error.TheVariants.{SocketBroken};
     ghost use Rattle.vhost_message.specs.declared.cause.IoCause.TheVariants.{Raw};
 
-    /// Tells the frontend that the configuration space has changed. The answer is that of the other calls.
+    /// Reports to the frontend that the configuration space has changed. The answer is that of the other calls.
     ///
-    /// Raw(38): it was not agreed on; nothing was sent.
+    /// Raw(38): it was not negotiated; nothing was sent.
     pub fn handle_config_change(&mut self) -> HandlerResult<u64>
         ensures { AsksCall L.event HandleConfigChange (channel self.old) result (channel self.new) }
     {
@@ -37,9 +37,9 @@ impl<L: Link> BackendInternal<L> {
 
     /// Adds a shared object by its name. The answer is 0; where none is awaited, it is given at once.
     ///
-    /// Named: shared objects were not agreed on. Of(SocketBroken): the channel was marked as failed. Of(InvalidMessage): what came
-    /// is no answer. Of(FrontendInternalError): the frontend answered another number than 0. Of(OutOfMemory): the endpoint lacks
-    /// memory for a list of handles, and nothing was sent. Of: the link failed, or the stream ended.
+    /// Named: shared objects were not negotiated. Of(SocketBroken): the channel was marked as failed. Of(InvalidMessage): what came
+    /// is no reply. Of(FrontendInternalError): the frontend replied with another number than 0. Of(OutOfMemory): a descriptor buffer
+    /// could not be allocated, and nothing was sent. Of: the link failed, or the stream ended.
     pub fn shared_object_add(&mut self, name: &VhostUserSharedMsg) -> HandlerResult<u64>
         ensures { AsksCall L.event (SharedObjectAdd name.now) (channel self.old) result (channel self.new) }
     {
@@ -53,7 +53,7 @@ impl<L: Link> BackendInternal<L> {
         self.ask_object(BackendReq::SHARED_OBJECT_REMOVE, name, &[])
     }
 
-    /// Looks a shared object up by its name, and hands a handle over for it. Answers and errors are those of `shared_object_add`.
+    /// Looks a shared object up by its name, and sends a file descriptor for it. Answers and errors are those of `shared_object_add`.
     pub fn shared_object_lookup(
         &mut self,
         name: &VhostUserSharedMsg,
@@ -65,14 +65,14 @@ impl<L: Link> BackendInternal<L> {
     }
 
     /// Maps memory of a file into a region of shared memory. Answers and errors are those of `shared_object_add`; Named where
-    /// shared memory was not agreed on.
+    /// shared memory was not negotiated.
     pub fn shmem_map(&mut self, mapping: &VhostUserMMap, handle: &L::Handle) -> HandlerResult<u64>
         ensures { AsksCall L.event (ShmemMap mapping.now handle.now) (channel self.old) result (channel self.new) }
     {
         self.ask_mapping(BackendReq::SHMEM_MAP, mapping, &[handle])
     }
 
-    /// Takes a mapping back. Answers and errors are those of `shmem_map`.
+    /// Removes a mapping. Answers and errors are those of `shmem_map`.
     pub fn shmem_unmap(&mut self, mapping: &VhostUserMMap) -> HandlerResult<u64>
         ensures { AsksCall L.event (ShmemUnmap mapping.now) (channel self.old) result (channel self.new) }
     {
@@ -107,7 +107,7 @@ impl<L: Link> BackendInternal<L> {
         self.take_half(sent)
     }
 
-    /// Sends that the configuration space has changed, where that was agreed on.
+    /// Sends that the configuration space has changed, where that was negotiated.
     pub(crate) fn send_config_change(&mut self) -> HandlerResult<Option<Header>>
         ensures { AsksHalfFor L.event (reverse_ask (backend_of (channel self.old)) HandleConfigChange) (channel self.old) result (channel self.new) }
     {
@@ -117,7 +117,7 @@ impl<L: Link> BackendInternal<L> {
         self.send(BackendReq::CONFIG_CHANGE_MSG, &VhostUserEmpty, &[])
     }
 
-    /// Sends a request about a shared object, where those were agreed on.
+    /// Sends a request about a shared object, where those were negotiated.
     pub(crate) fn send_object(
         &mut self,
         code: BackendReq,
@@ -133,7 +133,7 @@ impl<L: Link> BackendInternal<L> {
         self.send(code, name, handles)
     }
 
-    /// Sends a request about a mapping, where shared memory was agreed on.
+    /// Sends a request about a mapping, where shared memory was negotiated.
     pub(crate) fn send_mapping(
         &mut self,
         code: BackendReq,
@@ -149,7 +149,7 @@ impl<L: Link> BackendInternal<L> {
         self.send(code, mapping, handles)
     }
 
-    /// Sends a request, unless the channel was marked as failed: its header, where an answer is awaited.
+    /// Sends a request, unless the channel was marked as failed: its header, where a reply is awaited.
     fn send<T: ByteValued>(
         &mut self,
         code: BackendReq,
@@ -177,7 +177,7 @@ impl<L: Link> BackendInternal<L> {
         }
     }
 
-    /// Takes the answer to a request that was sent: the number that answers it, where one is awaited; else 0, and nothing is
+    /// Receives the reply to a request that was sent: the number that it brings, where one is awaited; else 0, and nothing is
     /// read. Errors are those of `shared_object_add` once its request was sent.
     pub fn take_half(&mut self, sent: Option<Header>) -> HandlerResult<u64>
         ensures same { channel self.new ≡ record (channel self.old) { endpoint = (channel self.new).endpoint } }
@@ -189,7 +189,7 @@ impl<L: Link> BackendInternal<L> {
         }
     }
 
-    /// Receives the number that answers a request: 0 is success.
+    /// Receives the number that replies to a request: 0 is success.
     fn recv_number(&mut self, request: &Header) -> HandlerResult<u64>
         ensures same { self.new ≡ record self.old { endpoint = self.new.endpoint } }
         ensures received { RecvsNumber L.event (fields_of request.now) (state self.old.endpoint) result (state self.new.endpoint) }
@@ -209,7 +209,7 @@ impl<L: Link> BackendInternal<L> {
     }
 }
 
-/// The flags of a request that wants an answer, or wants none.
+/// The flags of a request that wants a reply, or wants none.
 fn flags_of(need_reply: bool) -> u32
     ensures no_reply { has_bit result REPLY ≡ false }
     ensures need_reply { has_bit result NEED_REPLY ≡ need_reply }

@@ -1,4 +1,4 @@
-//! What a device asks its frontend.
+//! What a backend asks its frontend.
 
 ghost use Rattle.std.specs.Prelude.{◌≡◌, IfErr};
 ghost use Rattle.vhost_message.specs.declared.error.Error.TheVariants.{OutOfMemory};
@@ -11,7 +11,7 @@ use vhost_frontend_req_handler::VhostUserFrontendReqHandler;
 use vhost_link::Link;
 use vhost_message::{Error, HandlerResult, Result, VhostUserMMap, VhostUserSharedMsg};
 
-/// The channel from a device to its frontend, which the device is given by VHOST_USER_SET_BACKEND_REQ_FD. It can be
+/// The channel from a backend to its frontend, which the device is given by VHOST_USER_SET_BACKEND_REQ_FD. It can be
 /// shared: clones are the same channel.
 ///
 /// Its calls are those of `VhostUserFrontendReqHandler`, since it stands for its frontend.
@@ -23,9 +23,9 @@ pub struct Backend<L: Link> {
 }
 
 impl<L: Link> Backend<L> {
-    /// A channel over a link. A message may take so many retries.
+    /// A channel over a link. Each message may use at most so many retries.
     ///
-    /// OutOfMemory: a growth was refused.
+    /// OutOfMemory: an allocation failed.
     pub fn from_stream(alloc: Global, link: L, budget: u32) -> Result<Self>
         ensures memory { IfErr result (λ e. e ≡ OutOfMemory) }
     {
@@ -36,7 +36,7 @@ impl<L: Link> Backend<L> {
         }
     }
 
-    /// Whether requests are answered by a number.
+    /// Whether requests are acknowledged by a number.
     pub fn set_reply_ack_flag(&self, rt: &impl Wait, on: bool) {
         self.inner.lock(rt).set_reply_ack_flag(on);
     }
@@ -51,7 +51,7 @@ impl<L: Link> Backend<L> {
         self.inner.lock(rt).set_shmem_flag(on);
     }
 
-    /// Whether a change of the configuration is told.
+    /// Whether a change of the configuration is reported.
     pub fn set_config_change_flag(&self, rt: &impl Wait, on: bool) {
         self.inner.lock(rt).set_config_change_flag(on);
     }

@@ -1,17 +1,17 @@
-//! What is asked of a channel, as a value.
+//! A call of the backend channel, as a value.
 
 use vhost_message::{BackendReq, VhostUserMMap, VhostUserMsgHeader, VhostUserSharedMsg};
 
 /// A call of a channel, or one of its flags.
 #[derive(Drop)]
 pub enum ReverseCall<H> {
-    /// Whether requests are answered by a number.
+    /// Whether requests are acknowledged by a number.
     SetReplyAck(bool),
     /// Whether calls about shared objects are sent.
     SetSharedObject(bool),
     /// Whether calls about shared memory are sent.
     SetShmem(bool),
-    /// Whether a change of the configuration is told.
+    /// Whether a change of the configuration is reported.
     SetConfigChange(bool),
     /// `handle_config_change`.
     HandleConfigChange,
@@ -32,6 +32,6 @@ pub enum ReverseCall<H> {
 pub enum Asked {
     /// It was a flag, which is set; nothing was sent.
     Set,
-    /// Its request was sent: the header, where an answer is awaited.
+    /// Its request was sent: the header, where a reply is awaited.
     Sent(Option<VhostUserMsgHeader<BackendReq>>),
 }

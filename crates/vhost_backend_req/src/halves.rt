@@ -1,4 +1,4 @@
-//! The half of a call that asks, where the call is a value.
+//! The half of a call that sends, where the call is a value.
 
 ghost use Rattle.std.specs.Prelude.{◌≡◌, length};
 ghost use Rattle.vhost_message.specs.Records.{mmap_text};
@@ -13,7 +13,7 @@ impl<L: Link> BackendInternal<L> {
     ghost use Rattle.vhost_backend_req.specs.Channel.{channel};
     ghost use Rattle.vhost_backend_req.specs.Halves.{AsksValue};
 
-    /// Sets a flag, or sends the request of a call. Its errors are those of the whole call before an answer is awaited.
+    /// Sets a flag, or sends the request of a call. Its errors are those of the whole call before a reply is awaited.
     pub fn ask_half(&mut self, call: &ReverseCall<L::Handle>) -> HandlerResult<Asked>
         ensures asked { AsksValue L.event (input_of call.now) (channel self.old) result (channel self.new) }
         ensures proper { IsProper (input_of call.now) }

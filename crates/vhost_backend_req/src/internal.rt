@@ -1,4 +1,4 @@
-//! One end of the channel from a device to its frontend.
+//! The backend's end of the channel to its frontend.
 
 ghost use Rattle.std.specs.Prelude.{◌≡◌, Some, IfOk, IfErr};
 ghost use Rattle.vhost_message.specs.declared.error.Error.TheVariants.{OutOfMemory};
@@ -10,7 +10,7 @@ use vhost_message::{BackendReq, Result, VhostUserMsgHeader};
 
 pub(crate) type Header = VhostUserMsgHeader<BackendReq>;
 
-/// One end of the channel from a device to its frontend: what both sides agreed on, and whether it was marked as
+/// The backend's end of the channel to its frontend: what both sides negotiated, and whether it was marked as
 /// failed. `Backend` holds it behind a lock.
 ///
 /// Mirrors `BackendInternal` of `vhost::vhost_user::backend_req`.
@@ -33,9 +33,9 @@ impl<L: Link> BackendInternal<L> {
     ghost use Rattle.vhost_message.specs.contracts.backend_req.BackendReq.{the_row as code_row};
     ghost use Rattle.vhost_message.specs.contracts.header.VhostUserMsgHeader.{the_row as header_row};
 
-    /// A channel over a link, with nothing agreed on yet and not marked as failed. A message may take so many retries.
+    /// A channel over a link, with nothing negotiated yet and not marked as failed. Each message may use at most so many retries.
     ///
-    /// OutOfMemory: a growth was refused.
+    /// OutOfMemory: an allocation failed.
     pub fn from_stream(alloc: Global, link: L, budget: u32) -> Result<Self>
         ensures opened { IfOk result (λ b. channel b ≡ opened link budget) }
         ensures memory { IfErr result (λ e. e ≡ OutOfMemory) }
@@ -57,7 +57,7 @@ impl<L: Link> BackendInternal<L> {
         self.failed = Some(error);
     }
 
-    /// Whether requests are answered by a number.
+    /// Whether requests are acknowledged by a number.
     pub fn set_reply_ack_flag(&mut self, on: bool)
         ensures { channel self.new ≡ record (channel self.old) { reply_ack = on } }
     {
@@ -78,7 +78,7 @@ impl<L: Link> BackendInternal<L> {
         self.shmem = on;
     }
 
-    /// Whether a change of the configuration is told.
+    /// Whether a change of the configuration is reported.
     pub fn set_config_change_flag(&mut self, on: bool)
         ensures { channel self.new ≡ record (channel self.old) { config_change = on } }
     {
@@ -93,7 +93,7 @@ impl<L: Link> BackendInternal<L> {
         &mut self.endpoint
     }
 
-    /// Whether the last call that sent or received met a fault: the link failed, or retried once too often.
+    /// Whether the last call that sent or received met an I/O error: the link failed, or retried once too often.
     pub fn faulted(&self) -> bool
         ensures { result ≡ (channel self.now).endpoint.faulted }
     {

@@ -1,4 +1,4 @@
-//! The channel from a device to its frontend.
+//! The backend's channel to its frontend.
 #![tactic(auto)]
 
 mod asking;

@@ -132,7 +132,7 @@ fn set_vring_err<L: Link, D: VhostUserBackendReqHandlerMut<Link = L>>(
     }
 }
 
-/// The list of handles, which is empty where none came.
+/// The file descriptors as a list, which is empty where none came.
 fn list_of<H: Drop>(alloc: Global, handles: Option<Vec<H>>) -> Vec<H>
     ensures { result.items ≡ handles_in handles }
 {
@@ -209,7 +209,7 @@ fn set_mem_table<L: Link, D: VhostUserBackendReqHandlerMut<Link = L>>(
 
 impl<L: Link> Server<L> {
     /// Calls the device. A channel that the call wants is opened first; where it can't be, that is the answer. None: the
-    /// handles are not those of this call.
+    /// descriptors are not those of this call.
     pub(crate) fn call_device<D: VhostUserBackendReqHandlerMut<Link = L>>(
         &mut self,
         device: &mut D,
@@ -310,7 +310,7 @@ impl<L: Link> Server<L> {
         }
     }
 
-    /// The regions of shared memory come to their place.
+    /// The regions of shared memory go to their place.
     fn get_shmem_config<D: VhostUserBackendReqHandlerMut<Link = L>>(
         &mut self,
         device: &mut D,

@@ -1,4 +1,4 @@
-//! What a driver of many sessions asks before and after each request.
+//! What a server of many sessions asks before and after each request.
 
 /// Holds the requests of sessions, or ends sessions. Sessions and requests are counted from 1.
 pub trait Gate: Drop {

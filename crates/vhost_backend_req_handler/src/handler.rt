@@ -1,4 +1,4 @@
-//! Serving a frontend with a device that others may share.
+//! Serving a frontend with a shared device.
 
 ghost use Rattle.std.specs.Prelude.{◌≡◌, IfErr, IfOk, Some};
 ghost use Rattle.vhost_message.specs.declared.error.Error.TheVariants.{OutOfMemory};
@@ -13,7 +13,7 @@ use vhost_device::{SharedDevice, VhostUserBackendReqHandler};
 use vhost_link::{Link, UnixLink};
 use vhost_message::{IoCause, Result};
 
-/// The backend's side of a connection, and its device, which others may share.
+/// The backend's side of a connection, and its shared device.
 ///
 /// Mirrors `vhost::vhost_user::BackendReqHandler`.
 #[derive(Drop)]
@@ -28,9 +28,9 @@ impl<L: Link, S: VhostUserBackendReqHandler<Link = L>> BackendReqHandler<L, S> {
     ghost use Rattle.vhost_backend_req_handler.specs.Core.{endpoint_of, session_in};
     ghost use Rattle.vhost_backend_req_handler.specs.Sharing.{ServesShared};
 
-    /// A new session over a link. A message may take so many retries.
+    /// A new session over a link. Each message may use at most so many retries.
     ///
-    /// OutOfMemory: a growth was refused.
+    /// OutOfMemory: an allocation failed.
     pub fn from_stream(alloc: Global, link: L, budget: u32, backend: Arc<S, Global>) -> Result<Self>
         ensures endpoint { IfOk result (λ h. endpoint_of h.core ≡ fresh link budget) }
         ensures session { IfOk result (λ h. session_in h.core ≡ new_session) }
@@ -92,9 +92,9 @@ impl<S: VhostUserBackendReqHandler<Link = UnixLink>> BackendReqHandler<UnixLink,
     ghost use Rattle.vhost_connection.specs.Sockets.{IsConnectError};
     ghost use Rattle.vhost_backend_req_handler.specs.Accepting.{IsNew};
 
-    /// Connects to the socket at a path, for a new session. A message may take so many retries.
+    /// Connects to the socket at a path, for a new session. Each message may use at most so many retries.
     ///
-    /// SocketConnect: the system refused, whatever the number. OutOfMemory: a growth was refused.
+    /// SocketConnect: the system refused, whatever the number. OutOfMemory: an allocation failed.
     pub fn connect(
         rt: &impl Net,
         alloc: Global,

@@ -1,4 +1,4 @@
-//! Serving a frontend: each request is read whole, tested, and answered by its row of the protocol table.
+//! Serving a frontend: each request is read whole, checked, and answered by its handling rule.
 #![tactic(auto)]
 
 mod bases;

@@ -31,7 +31,7 @@ impl<'a, R: Files + Drop, S: VhostUserBackendReqHandler<Link = UnixLink>> Backen
     ghost use Rattle.vhost_backend_req_handler.specs.Accepting.{Accepts};
     ghost use Rattle.vhost_connection.specs.Sockets.{IsSocketError, IsListenError};
 
-    /// With the device that the first connection is for. A message of its session may take so many retries.
+    /// With the device that the first connection is for. Each message of its session may use at most so many retries.
     pub fn new(
         alloc: Global,
         listener: &'a mut Listener<R>,
@@ -48,11 +48,11 @@ impl<'a, R: Files + Drop, S: VhostUserBackendReqHandler<Link = UnixLink>> Backen
         })
     }
 
-    /// Takes the next connection, and hands the device out for it. None: the listener would have to wait for one, or the
-    /// other side gave up; the device is still there.
+    /// Accepts the next connection, and hands the device out for it. None: the listener would have to wait for one, or
+    /// the other side gave up; the device is still there.
     ///
-    /// InvalidOperation: the device was handed out before, and no connection is taken. OutOfMemory: a growth was refused,
-    /// and no connection is taken. SocketError: the listener failed. The device stays where it was.
+    /// InvalidOperation: the device was handed out before, and no connection is accepted. OutOfMemory: an allocation
+    /// failed, and no connection is accepted. SocketError: the listener failed. The device stays where it was.
     pub fn accept(&mut self) -> Result<Option<BackendReqHandler<UnixLink, S>>>
         ensures device { Accepts self.old.backend self.old.budget result self.new.backend }
         ensures budget { self.new.budget ≡ self.old.budget }

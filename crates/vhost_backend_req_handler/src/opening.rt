@@ -1,4 +1,4 @@
-//! Channels that a handle opens.
+//! Channels that a file descriptor opens.
 
 ghost use Rattle.std.specs.Prelude.{◌≡◌};
 ghost use Rattle.vhost_protocol.specs.Error.{seen_result};
@@ -14,7 +14,7 @@ impl<L: Link> Server<L> {
     ghost use Rattle.vhost_backend_req_handler.specs.Calling.{GivesBackend, GivesGpu};
     ghost use Rattle.vhost_backend_req_handler.specs.Opening.{OpensAs, OpensLink};
 
-    /// Opens a handle as the channel to the frontend, and gives it to the device.
+    /// Opens a file descriptor as the backend channel, and gives that to the device.
     pub(crate) fn give_backend<D: VhostUserBackendReqHandlerMut<Link = L>>(
         &mut self,
         device: &mut D,
@@ -32,7 +32,7 @@ impl<L: Link> Server<L> {
         }
     }
 
-    /// Opens a handle as the channel to a display, and gives it to the device.
+    /// Opens a file descriptor as the vhost-user-gpu channel, and gives that to the device.
     pub(crate) fn give_gpu<D: VhostUserBackendReqHandlerMut<Link = L>>(
         &mut self,
         device: &mut D,
@@ -47,7 +47,7 @@ impl<L: Link> Server<L> {
         }
     }
 
-    /// Opens a handle as the channel to the frontend, with the session's budget.
+    /// Opens a file descriptor as the backend channel, with the session's retry limit.
     fn open_backend(&mut self, file: L::Handle) -> Result<Backend<L>>
         ensures opened { OpensAs L.opens L.Handle.kinds file (seen_result result) }
         ensures same { self.new ≡ self.old }
@@ -58,7 +58,7 @@ impl<L: Link> Server<L> {
         }
     }
 
-    /// Opens a handle as the channel to a display, with the session's budget.
+    /// Opens a file descriptor as the vhost-user-gpu channel, with the session's retry limit.
     fn open_gpu(&mut self, file: L::Handle) -> Result<GpuBackend<L>>
         ensures opened { OpensAs L.opens L.Handle.kinds file (seen_result result) }
         ensures same { self.new ≡ self.old }
@@ -69,7 +69,7 @@ impl<L: Link> Server<L> {
         }
     }
 
-    /// Opens a handle as a link. InvalidSocketFd, NotUnixSocket, NotStreamSocket: it is no Unix stream socket, or could
+    /// Opens a file descriptor as a link. InvalidSocketFd, NotUnixSocket, NotStreamSocket: it is no Unix stream socket, or could
     /// not be opened.
     fn open(&mut self, file: L::Handle) -> Result<L>
         ensures opened { OpensLink L.opens L.Handle.kinds file (seen_result result) }

@@ -35,7 +35,7 @@ pub(crate) struct Server<L: Link> {
 }
 
 impl<L: Link> Server<L> {
-    /// Serves a request, by its row. It may take the handles.
+    /// Serves a request, by its handling rule. It may move the descriptors out.
     pub(crate) fn serve<D: VhostUserBackendReqHandlerMut<Link = L>>(
         &mut self,
         device: &mut D,
@@ -52,7 +52,7 @@ impl<L: Link> Server<L> {
         }
     }
 
-    /// Calls the device, and lets the peer know. InvalidMessage: the handles are not those of this call.
+    /// Calls the device, and replies. InvalidMessage: the descriptors are not those of this call.
     fn make<D: VhostUserBackendReqHandlerMut<Link = L>>(
         &mut self,
         device: &mut D,
@@ -72,7 +72,7 @@ impl<L: Link> Server<L> {
         self.finish(message, table, then, answer)
     }
 
-    /// Refuses a request, and acknowledges that where it asks for it.
+    /// Refuses a request, and acknowledges that where it wants an acknowledgement.
     fn refuse(&mut self, message: &Incoming, error: Error) -> Result<()>
         ensures { IsReady (state self.old.endpoint) → Finishes L.event message.now.code (failed_with (session_of self.old.session) (wanting {H = L.Handle} message.now.need_reply) (seen error)) (state self.old.endpoint) (session_of self.old.session) result (state self.new.endpoint) (session_of self.new.session) }
     {

@@ -19,7 +19,7 @@ use vhost_message::{Error, FrontendReq, IoCause, Result, VhostUserShMemConfig};
 #[derive(Drop)]
 pub struct SessionCore<L: Link> {
     server: Server<L>,
-    /// The body of the request that is served lies at its front.
+    /// The body of the request that is served lies at its start.
     body: Body,
 }
 
@@ -35,9 +35,9 @@ impl<L: Link> SessionCore<L> {
     ghost use Rattle.vhost_backend_req_handler.specs.Opening.{OpensAs};
     ghost use Rattle.vhost_backend_req_handler.specs.Serving.{HandlesOne, Runs};
 
-    /// A new session over a link. A message may take so many retries.
+    /// A new session over a link. Each message may use at most so many retries.
     ///
-    /// OutOfMemory: a growth was refused.
+    /// OutOfMemory: an allocation failed.
     pub fn new(alloc: Global, link: L, budget: u32) -> Result<Self>
         ensures endpoint { IfOk result (λ c. endpoint_of c ≡ fresh link budget) }
         ensures session { IfOk result (λ c. session_in c ≡ new_session) }
@@ -69,7 +69,7 @@ impl<L: Link> SessionCore<L> {
         self.server.endpoint.try_clone_sock()
     }
 
-    /// Whether the last call that sent or received met a fault: the link failed, or retried once too often.
+    /// Whether the last call that sent or received met an I/O error: the link failed, or retried once too often.
     pub fn faulted(&self) -> bool
         ensures { result ≡ (endpoint_of self.now).faulted }
     {
@@ -88,11 +88,11 @@ impl<L: Link> SessionCore<L> {
 
     /// Reads one request and serves it.
     ///
-    /// SocketBroken: the session is marked as failed, and nothing was read; or the endpoint is broken.
+    /// SocketBroken: the session is marked as failed, and nothing was read; or the endpoint is poisoned.
     /// Disconnected: the stream ended between two requests. PartialMessage: it ended in a header.
-    /// InvalidMessage: the message is malformed, or its request is not served. OutOfMemory: the endpoint had given its
-    /// list of handles away, and no memory for another was found; nothing was read. Other errors are those of the
-    /// request's row, and those of the link, which break the endpoint once a byte of the request has moved.
+    /// InvalidMessage: the message is malformed, or its request is not served. OutOfMemory: the endpoint's descriptor
+    /// buffer was moved out, and another could not be allocated; nothing was read. Other errors are those of the
+    /// request's handling rule, and those of the link, which poison the endpoint once a byte of the request has moved.
     pub fn handle_request<D: VhostUserBackendReqHandlerMut<Link = L>>(
         &mut self,
         device: &mut D,
@@ -142,7 +142,7 @@ impl<L: Link> SessionCore<L> {
         &mut server.endpoint
     }
 
-    /// Answers a request that was read, by its row. It may take the handles.
+    /// Answers a request that was read, by its handling rule. It may move the descriptors out.
     fn answer<D: VhostUserBackendReqHandlerMut<Link = L>>(
         &mut self,
         device: &mut D,

@@ -1,4 +1,4 @@
-//! What a call became goes out.
+//! What a call became is sent.
 
 ghost use Rattle.std.specs.Prelude.{◌≡◌, ◌≤◌, ◌+◌, ◌++◌, length, map, Ok, if◌then◌else◌};
 ghost use Rattle.vhost_message.specs.declared.limits.TheConstants.{MAX_ATTACHED_FD_ENTRIES, MAX_MEM_REGIONS, MAX_MSG_SIZE};
@@ -24,7 +24,7 @@ use vhost_message::{
     VhostUserMemory, VhostUserMemoryRegion, VhostUserU64, put_regions,
 };
 
-/// Replies with a record and the bytes behind it, and with the handles on the first byte.
+/// Replies with a record and the bytes behind it, and with the descriptors on the first byte.
 fn reply<L: Link, T: ByteValued>(
     endpoint: &mut Endpoint<Header, L>,
     code: FrontendReq,
@@ -129,7 +129,7 @@ impl<L: Link> Server<L> {
         reply(&mut self.endpoint, code, &ack_body(agreed), &[], &[])
     }
 
-    /// Lets the peer know.
+    /// Replies, acknowledges, or does neither.
     fn tell(&mut self, code: FrontendReq, table: &RegionTable, told: &Told<L::Handle>) -> Result<()>
         ensures sends { IsReady (state self.old.endpoint) → Tells L.event (state self.old.endpoint) (reply_cells code (served_in (beside (regions_in table.now) self.old.shmem) told.now)) (Ok tt) result (state self.new.endpoint) }
         ensures session { self.new.session ≡ self.old.session }
@@ -142,8 +142,8 @@ impl<L: Link> Server<L> {
         }
     }
 
-    /// Lets the peer know what the answer of a call became, and keeps the session. The offered features are remembered
-    /// once they are sent.
+    /// Replies by what the answer of a call became, and keeps the session. The offered features are remembered once they
+    /// are sent.
     pub(crate) fn finish(
         &mut self,
         message: &Incoming,
@@ -171,7 +171,7 @@ impl<L: Link> Server<L> {
     }
 }
 
-/// What is kept of a session where a fault stopped the reply.
+/// What is kept of a session where an I/O error stopped the reply.
 fn unsent(code: FrontendReq, before: Session, after: Session) -> Session
     ensures { session_of result ≡ kept_unsent code (session_of before) (session_of after) }
 {

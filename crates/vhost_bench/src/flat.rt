@@ -1,4 +1,4 @@
-//! A link that costs nothing: it hands out the same bytes again and again, and takes in what it is given.
+//! A link that costs nothing: it hands out the same bytes again and again, and accepts what it is given.
 
 use std::alloc::Global;
 use vhost_link::{Link, PlainHandle};

@@ -24,14 +24,14 @@ use std::thread::Threads;
 use std::time::Clock;
 use std::{env, io};
 
-/// How often each figure is measured; the middle is shown.
+/// How often each figure is measured; the middle is printed.
 const TURNS: u32 = 9;
 
-/// How many times the work of a figure is done where only its success is shown.
+/// How many times the work of a figure is done where only its success is printed.
 const TRIED: u64 = 10;
 
-/// Measures each figure in turns, and shows nanoseconds each; with `--try`, only whether each work succeeds; with `--one NAME COUNT`, does
-/// one figure's work so often, and shows how often it succeeded.
+/// Measures each figure in turns, and prints nanoseconds each; with `--try`, only whether each work succeeds; with
+/// `--one NAME COUNT`, does one figure's work so often, and prints how often it succeeded.
 ///
 /// Status 0 where all was done, 1 after other arguments, 2 where memory, a socket, the clock or the output failed.
 fn main(rt: HostRuntime) -> ExitCode {
@@ -110,7 +110,7 @@ fn figure_of(name: &str) -> Option<Figure> {
     None
 }
 
-/// Does the work of a figure so often, and shows how often it succeeded.
+/// Does the work of a figure so often, and prints how often it succeeded.
 fn show_good<R: Threads + Wait + Clock + Net + Sync, O: Write>(
     rt: &R,
     alloc: Global,
@@ -123,7 +123,7 @@ fn show_good<R: Threads + Wait + Clock + Net + Sync, O: Write>(
     Ok(writeln!(output, "{name} {good}")?)
 }
 
-/// Does the work of each figure a few times, and shows how often it succeeded.
+/// Does the work of each figure a few times, and prints how often it succeeded.
 fn attempt<R: Threads + Wait + Clock + Net + Sync, O: Write>(
     rt: &R,
     alloc: Global,
@@ -135,7 +135,7 @@ fn attempt<R: Threads + Wait + Clock + Net + Sync, O: Write>(
     Ok(output.flush()?)
 }
 
-/// Measures all figures in turns, and shows the middle of each.
+/// Measures all figures in turns, and prints the middle of each.
 fn measure<R: Threads + Wait + Clock + Net + Sync, O: Write>(
     rt: &R,
     alloc: Global,
@@ -161,7 +161,7 @@ fn turn<R: Threads + Wait + Clock + Net + Sync>(rt: &R, alloc: Global) -> Result
     Ok(turn)
 }
 
-/// Shows the middle of what the turns measured of each figure.
+/// Prints the middle of what the turns measured of each figure.
 fn show_all<O: Write>(alloc: Global, turns: &[Vec<u64>], output: &mut O) -> Result<(), Failed> {
     for (place, (name, _, _, limit)) in FIGURES.iter().enumerate() {
         let each = middle(alloc, turns, place)?;
@@ -197,7 +197,7 @@ fn limit_of(
     Ok(None)
 }
 
-/// Shows a figure: its name, nanoseconds each, and where there is a limit, how many times that it takes.
+/// Prints a figure: its name, nanoseconds each, and where there is a limit, the ratio to it.
 fn show<O: Write>(name: &str, each: u64, limit: Option<u64>, output: &mut O) -> Result<(), Failed> {
     let (whole, tenth) = (each / 10, each % 10);
     write!(output, "{name} {whole}.{tenth}")?;

@@ -16,7 +16,7 @@ use vhost_message::{
     VhostUserSingleMemoryRegion, VhostUserVringAddrFlags, VhostUserVringState,
 };
 
-/// What gives a handle is refused so: the device has none.
+/// What gives a file descriptor is refused so: the device has none.
 const NO_HANDLE: Error = Error::ReqHandlerError(IoCause::Named("no handle to give"));
 
 /// Agrees to each call, so that what is measured is not the device's.

@@ -1,6 +1,7 @@
 //! Headers and records alone.
 //!
-//! Each message is another than the one before, and what is written stays where it can be read, so that a compiler can leave none of it out.
+//! Each message is another than the one before, and what is written stays where it can be read, so that a compiler can
+//! leave none of it out.
 
 use crate::messages::Message;
 use crate::watch::{Failed, Taken, Watch};
@@ -70,7 +71,7 @@ fn kept(slots: &[u8], good: u64) -> u64 {
     if slots.contains(&8) { good } else { 0 }
 }
 
-/// Whether the text is a valid header, and a number behind it.
+/// Whether the bytes are a valid header, and a number behind it.
 fn is_valid(text: &[u8]) -> bool {
     if text.len() != SIZE {
         return false;
@@ -123,7 +124,7 @@ fn regions(alloc: Global) -> Result<Vec<u8>, AllocError> {
     Ok(regions)
 }
 
-/// Whether the text is a valid region.
+/// Whether the bytes are a valid region.
 fn is_region(text: &[u8]) -> bool {
     text.len() == REGION.len() && VhostUserMemoryRegion::decode(text).is_valid()
 }

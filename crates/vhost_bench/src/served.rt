@@ -9,7 +9,7 @@ use std::time::Clock;
 use vhost_backend_req_handler::SessionCore;
 use vhost_link::{Link, MemLink};
 
-/// How many retries a message may take.
+/// The retry limit of each message.
 pub(crate) const BUDGET: u32 = 3;
 
 /// Has a handler serve so many messages; how many succeeded.

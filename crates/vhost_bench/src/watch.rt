@@ -68,7 +68,7 @@ impl Watch {
         })
     }
 
-    /// What was taken since then for so many, of which these succeeded.
+    /// The time since then for so many, of which these succeeded.
     pub(crate) fn stop(self, clock: &impl Clock, count: u64, good: u64) -> Result<Taken, Failed> {
         let nanoseconds = self.began.elapsed(clock)?.as_nanos();
         Ok(Taken {

@@ -1,4 +1,4 @@
-//! The answer that was taken last is read, by its form.
+//! The answer that was decoded last is read, by its form.
 
 ghost use Rattle.vhost_c.specs.Answers.{Puts, ReadsNumber, ReadsBases, ReadsConfig, ReadsFd, ReadsInflight, ReadsShmem};
 ghost use Rattle.vhost_c.specs.Session.{By, Reading};
@@ -30,7 +30,7 @@ pub extern "C" fn covretin_answer_number(
     }
 }
 
-/// Reads where regions are mapped, if the device listens for page faults; else their count is 0.
+/// Reads where regions are mapped, if the backend listens for page faults; else their count is 0.
 #[unsafe(no_mangle)]
 pub extern "C" fn covretin_answer_bases(
     alloc: Global,
@@ -71,7 +71,7 @@ pub extern "C" fn covretin_answer_config(
     }
 }
 
-/// Reads a descriptor; -1 is none, where the call may do without.
+/// Reads a file descriptor; -1 is none, where the call may do without.
 #[unsafe(no_mangle)]
 pub extern "C" fn covretin_answer_fd(alloc: Global, session: &mut Holder, fd: &mut i32) -> u32
     ensures { By (Reading (ReadsFd fd.new)) session.old.session result session.new.session }
@@ -86,7 +86,7 @@ pub extern "C" fn covretin_answer_fd(alloc: Global, session: &mut Holder, fd: &m
     }
 }
 
-/// Reads the buffer for descriptors in flight, and the descriptor that maps it.
+/// Reads the inflight region, and the file descriptor that maps it.
 #[unsafe(no_mangle)]
 pub extern "C" fn covretin_answer_inflight(
     alloc: Global,
@@ -213,9 +213,9 @@ fn read_shmem(answer: &FrontendAnswer, sizes: &mut [u64], count: &mut usize) -> 
     }
 }
 
-/// Copies a list to the front of a place; `count` is how long it is.
+/// Copies a list to the start of a buffer; `count` is how long it is.
 ///
-/// NoRoom: the place is too small, and nothing changed.
+/// NoRoom: the buffer is too small, and nothing changed.
 fn put<T: Copy>(list: &[T], place: &mut [T], count: &mut usize) -> Outcome
     ensures { Puts list.now place.old place.new count.new result }
 {

@@ -1,4 +1,4 @@
-//! Asks whose arguments are numbers and records.
+//! Calls whose arguments are numbers and records.
 
 ghost use Rattle.std.specs.Prelude.{◌≡◌, ◌≢◌, ◌<◌, length, map, replicate};
 ghost use Rattle.vhost_message.specs.declared.limits.TheConstants.{MAX_MSG_SIZE, MAX_MEM_REGIONS};
@@ -45,8 +45,8 @@ pub(crate) fn refused(error: Error) -> u32
     number_of(Err(Refusal::Protocol(error)))
 }
 
-/// The flags of each request from now on: none, or that which asks for an acknowledgement. Nothing is sent for it, and nothing
-/// to be taken.
+/// The flags of each request from now on: none, or that which asks for an acknowledgement. Nothing is sent for it, and
+/// nothing is to be received.
 #[unsafe(no_mangle)]
 pub extern "C" fn covretin_set_hdr_flags(alloc: Global, session: &mut Holder, flags: u32) -> u32
     ensures { AsksAllowed (is_header_flag flags) (calls.SetHdrFlags flags) session.old.session result session.new.session }
@@ -58,7 +58,7 @@ pub extern "C" fn covretin_set_hdr_flags(alloc: Global, session: &mut Holder, fl
     asked(alloc, session, FrontendCall::SetHdrFlags(flags))
 }
 
-/// Asks for the features that the device offers.
+/// Asks for the virtio features that the backend offers.
 #[unsafe(no_mangle)]
 pub extern "C" fn covretin_ask_get_features(alloc: Global, session: &mut Holder) -> u32
     ensures { AsksBy calls.GetFeatures session.old.session result session.new.session }
@@ -66,7 +66,7 @@ pub extern "C" fn covretin_ask_get_features(alloc: Global, session: &mut Holder)
     asked(alloc, session, FrontendCall::GetFeatures)
 }
 
-/// Acknowledges features.
+/// Accepts virtio features.
 #[unsafe(no_mangle)]
 pub extern "C" fn covretin_ask_set_features(
     alloc: Global,
@@ -78,7 +78,7 @@ pub extern "C" fn covretin_ask_set_features(
     asked(alloc, session, FrontendCall::SetFeatures(features))
 }
 
-/// Takes the device.
+/// Asks to become the owner of the session.
 #[unsafe(no_mangle)]
 pub extern "C" fn covretin_ask_set_owner(alloc: Global, session: &mut Holder) -> u32
     ensures { AsksBy calls.SetOwner session.old.session result session.new.session }
@@ -86,7 +86,7 @@ pub extern "C" fn covretin_ask_set_owner(alloc: Global, session: &mut Holder) ->
     asked(alloc, session, FrontendCall::SetOwner)
 }
 
-/// Gives the device back.
+/// Gives the session up.
 #[unsafe(no_mangle)]
 pub extern "C" fn covretin_ask_reset_owner(alloc: Global, session: &mut Holder) -> u32
     ensures { AsksBy calls.ResetOwner session.old.session result session.new.session }
@@ -94,7 +94,7 @@ pub extern "C" fn covretin_ask_reset_owner(alloc: Global, session: &mut Holder) 
     asked(alloc, session, FrontendCall::ResetOwner)
 }
 
-/// Asks for the protocol features that the device offers.
+/// Asks for the protocol features that the backend offers.
 #[unsafe(no_mangle)]
 pub extern "C" fn covretin_ask_get_protocol_features(alloc: Global, session: &mut Holder) -> u32
     ensures { AsksBy calls.GetProtocolFeatures session.old.session result session.new.session }
@@ -102,7 +102,7 @@ pub extern "C" fn covretin_ask_get_protocol_features(alloc: Global, session: &mu
     asked(alloc, session, FrontendCall::GetProtocolFeatures)
 }
 
-/// Acknowledges protocol features.
+/// Accepts protocol features.
 #[unsafe(no_mangle)]
 pub extern "C" fn covretin_ask_set_protocol_features(
     alloc: Global,
@@ -118,7 +118,7 @@ pub extern "C" fn covretin_ask_set_protocol_features(
     )
 }
 
-/// Asks how many queues the device has.
+/// Asks how many queues the backend has.
 #[unsafe(no_mangle)]
 pub extern "C" fn covretin_ask_get_queue_num(alloc: Global, session: &mut Holder) -> u32
     ensures { AsksBy calls.GetQueueNum session.old.session result session.new.session }
@@ -164,7 +164,7 @@ pub extern "C" fn covretin_ask_set_vring_addr(
     )
 }
 
-/// Sets at which descriptor a ring begins.
+/// Sets a ring's next descriptor index.
 #[unsafe(no_mangle)]
 pub extern "C" fn covretin_ask_set_vring_base(
     alloc: Global,
@@ -177,7 +177,7 @@ pub extern "C" fn covretin_ask_set_vring_base(
     asked(alloc, session, FrontendCall::SetVringBase(index, base))
 }
 
-/// Stops a ring, and asks at which descriptor it goes on.
+/// Stops a ring, and asks for its next descriptor index.
 #[unsafe(no_mangle)]
 pub extern "C" fn covretin_ask_get_vring_base(
     alloc: Global,
@@ -202,7 +202,7 @@ pub extern "C" fn covretin_ask_set_vring_enable(
     asked(alloc, session, FrontendCall::SetVringEnable(index, enable))
 }
 
-/// Asks for the buffer for descriptors in flight.
+/// Asks for the inflight region.
 #[unsafe(no_mangle)]
 pub extern "C" fn covretin_ask_get_inflight_fd(
     alloc: Global,
@@ -214,7 +214,7 @@ pub extern "C" fn covretin_ask_get_inflight_fd(
     asked(alloc, session, FrontendCall::GetInflightFd(inflight.data()))
 }
 
-/// Asks how many regions of memory the device takes.
+/// Asks how many regions of memory the backend accepts.
 #[unsafe(no_mangle)]
 pub extern "C" fn covretin_ask_get_max_mem_slots(alloc: Global, session: &mut Holder) -> u32
     ensures { AsksBy calls.GetMaxMemSlots session.old.session result session.new.session }
@@ -254,7 +254,7 @@ pub extern "C" fn covretin_ask_get_shmem_config(alloc: Global, session: &mut Hol
     asked(alloc, session, FrontendCall::GetShmemConfig)
 }
 
-/// Asks whether the transfer of the device's state succeeded.
+/// Asks whether the transfer of the backend's state succeeded.
 #[unsafe(no_mangle)]
 pub extern "C" fn covretin_ask_check_device_state(alloc: Global, session: &mut Holder) -> u32
     ensures { AsksBy calls.CheckDeviceState session.old.session result session.new.session }
@@ -262,7 +262,7 @@ pub extern "C" fn covretin_ask_check_device_state(alloc: Global, session: &mut H
     asked(alloc, session, FrontendCall::CheckDeviceState)
 }
 
-/// Tells that postcopy is going to begin, and asks for the descriptor of page faults.
+/// Announces that postcopy is going to begin, and asks for the userfaultfd.
 #[unsafe(no_mangle)]
 pub extern "C" fn covretin_ask_postcopy_advise(alloc: Global, session: &mut Holder) -> u32
     ensures { AsksBy calls.PostcopyAdvise session.old.session result session.new.session }
@@ -270,7 +270,7 @@ pub extern "C" fn covretin_ask_postcopy_advise(alloc: Global, session: &mut Hold
     asked(alloc, session, FrontendCall::PostcopyAdvise)
 }
 
-/// Tells the device to listen for page faults.
+/// Asks the backend to listen for page faults.
 #[unsafe(no_mangle)]
 pub extern "C" fn covretin_ask_postcopy_listen(alloc: Global, session: &mut Holder) -> u32
     ensures { AsksBy calls.PostcopyListen session.old.session result session.new.session }
@@ -278,7 +278,7 @@ pub extern "C" fn covretin_ask_postcopy_listen(alloc: Global, session: &mut Hold
     asked(alloc, session, FrontendCall::PostcopyListen)
 }
 
-/// Tells that postcopy has ended.
+/// Announces that postcopy has ended.
 #[unsafe(no_mangle)]
 pub extern "C" fn covretin_ask_postcopy_end(alloc: Global, session: &mut Holder) -> u32
     ensures { AsksBy calls.PostcopyEnd session.old.session result session.new.session }
@@ -286,7 +286,7 @@ pub extern "C" fn covretin_ask_postcopy_end(alloc: Global, session: &mut Holder)
     asked(alloc, session, FrontendCall::PostcopyEnd)
 }
 
-/// Tells the greatest size of a packet, in bytes.
+/// Sets the MTU, in bytes.
 #[unsafe(no_mangle)]
 pub extern "C" fn covretin_ask_set_mtu(alloc: Global, session: &mut Holder, mtu: u16) -> u32
     ensures { AsksBy (calls.SetMtu mtu) session.old.session result session.new.session }

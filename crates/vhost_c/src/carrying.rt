@@ -19,7 +19,7 @@ type End = Endpoint<VhostUserMsgHeader<FrontendReq>, MemLink>;
 
 /// What a frontend sent goes behind what is to be sent.
 ///
-/// OutOfMemory: a growth was refused, and nothing changed.
+/// OutOfMemory: an allocation failed, and nothing changed.
 pub(crate) fn collect(
     frontend: &mut FrontendInternal<MemLink>,
     outgoing: &mut MemLink,
@@ -53,7 +53,7 @@ pub(crate) fn forget(alloc: Global, frontend: &mut FrontendInternal<MemLink>)
     let _ = carry_out(frontend.endpoint_mut(), &mut nowhere);
 }
 
-/// Forgets what came for a frontend and was not taken.
+/// Forgets what came for a frontend and was not received by it.
 pub(crate) fn forget_arrived(frontend: &mut FrontendInternal<MemLink>)
     ensures forgotten { endpoint_of frontend.new ≡ emptied (endpoint_of frontend.old) }
     ensures rest { (session_of frontend.new ≡ session_of frontend.old) × (awaits frontend.new ≡ awaits frontend.old) }
@@ -70,7 +70,7 @@ fn empty(end: &mut End)
 
 /// Gives a frontend what came for it.
 ///
-/// OutOfMemory: a growth was refused, and nothing changed.
+/// OutOfMemory: an allocation failed, and nothing changed.
 pub(crate) fn give(
     frontend: &mut FrontendInternal<MemLink>,
     bytes: &[u8],
@@ -95,7 +95,7 @@ fn push(end: &mut End, bytes: &[u8], handles: &[PlainHandle]) -> Result<()>
     }
 }
 
-/// Takes the answer of a device that sent nothing: what came is forgotten.
+/// Receives the answer of a backend that sent nothing: what came is forgotten.
 pub(crate) fn take_nothing(
     frontend: &mut FrontendInternal<MemLink>,
     call: &FrontendCall,

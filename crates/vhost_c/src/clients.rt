@@ -1,4 +1,4 @@
-//! Clients of the exports: what follows of their contracts alone.
+//! Worked consequences of the exports: what follows of their contracts alone.
 
 ghost use Rattle.std.specs.Prelude.{◌≡◌, ◌⊎◌, ◌∷◌, [], None, negsuc};
 ghost use Rattle.std.specs.Option.{IsSomeAnd};
@@ -14,8 +14,8 @@ use crate::moving::{covretin_receive, covretin_take};
 use crate::opening::covretin_open;
 use std::alloc::Global;
 
-/// A session is opened, and asked for the device's features. Where both are answered 0, exactly the bytes of this request are to be
-/// sent.
+/// A session is opened, and asked for the backend's features. Where both are answered 0, exactly the bytes of this request
+/// are to be sent.
 pub fn opens_and_asks(alloc: Global, session: &mut Holder) -> (u32, u32)
     ensures { session.old.session ≡ None → result ≡ (0, 0) → IsSomeAnd session.new.session (λ s. bytes (queued s) ≡ 1 ∷ 0 ∷ 0 ∷ 0 ∷ 1 ∷ 0 ∷ 0 ∷ 0 ∷ 0 ∷ 0 ∷ 0 ∷ 0 ∷ []) }
 {
@@ -24,7 +24,7 @@ pub fn opens_and_asks(alloc: Global, session: &mut Holder) -> (u32, u32)
     (opened, asked)
 }
 
-/// The same, and its answer is taken before anything came: that is too early.
+/// The same, and its answer is to be decoded before anything came: that is too early.
 pub fn takes_too_early(alloc: Global, session: &mut Holder) -> (u32, u32, u32)
     ensures { session.old.session ≡ None → result.0 ≡ 0 → result.1 ≡ 0 → result.2 ≡ number NotYet }
 {
@@ -34,8 +34,8 @@ pub fn takes_too_early(alloc: Global, session: &mut Holder) -> (u32, u32, u32)
     (opened, asked, taken)
 }
 
-/// A descriptor is asked for, and an answer comes with these. Where all is answered 0, they are one, which the answer names, or it
-/// names none, whatever came to the session before.
+/// A file descriptor is asked for, and an answer comes with these. Where all is answered 0, they are one, which the answer
+/// names, or it names none, whatever came to the session before.
 pub fn names_what_came(
     alloc: Global,
     session: &mut Holder,

@@ -1,4 +1,4 @@
-//! Asks that give a descriptor.
+//! Calls that give a file descriptor.
 
 ghost use Rattle.std.specs.Prelude.{◌≡◌, Some, None};
 ghost use Rattle.vhost_protocol.specs.FrontendCall as calls;
@@ -16,7 +16,7 @@ use vhost_frontend_core::FrontendCall;
 use vhost_link::PlainHandle;
 use vhost_message::{Error, VhostTransferStateDirection, VhostTransferStatePhase};
 
-/// A call that gives a descriptor, without it.
+/// A call that gives a file descriptor, without it.
 #[derive(Drop)]
 pub(crate) enum FdAsk {
     SetLogFd,
@@ -41,7 +41,7 @@ impl FdAsk {
     }
 }
 
-/// Asks with the descriptor of this number.
+/// Asks with this file descriptor.
 ///
 /// InvalidParam: it is negative.
 fn asked_with(alloc: Global, holder: &mut Holder, ask: FdAsk, fd: i32) -> u32
@@ -53,7 +53,7 @@ fn asked_with(alloc: Global, holder: &mut Holder, ask: FdAsk, fd: i32) -> u32
     }
 }
 
-/// Gives a descriptor that is signalled when the log was written.
+/// Gives the descriptor by which the backend signals that it logged.
 #[unsafe(no_mangle)]
 pub extern "C" fn covretin_ask_set_log_fd(alloc: Global, session: &mut Holder, fd: i32) -> u32
     ensures { AsksWith (handle_in fd) (call_with SetLogFd) session.old.session result session.new.session }
@@ -61,7 +61,7 @@ pub extern "C" fn covretin_ask_set_log_fd(alloc: Global, session: &mut Holder, f
     asked_with(alloc, session, FdAsk::SetLogFd, fd)
 }
 
-/// Gives the descriptor by which the device interrupts for a ring; negative: none, and the driver polls.
+/// Gives the call descriptor, by which the backend signals used buffers; negative: none, and the driver polls.
 #[unsafe(no_mangle)]
 pub extern "C" fn covretin_ask_set_vring_call(
     alloc: Global,
@@ -75,7 +75,7 @@ pub extern "C" fn covretin_ask_set_vring_call(
     asked(alloc, session, call)
 }
 
-/// Gives the descriptor by which a ring is kicked; negative: none, and the device polls.
+/// Gives the kick descriptor, by which the driver signals available buffers; negative: none, and the backend polls.
 #[unsafe(no_mangle)]
 pub extern "C" fn covretin_ask_set_vring_kick(
     alloc: Global,
@@ -89,7 +89,7 @@ pub extern "C" fn covretin_ask_set_vring_kick(
     asked(alloc, session, call)
 }
 
-/// Gives the descriptor by which the device reports an error of a ring; negative: none.
+/// Gives the error descriptor, by which the backend signals an error of a ring; negative: none.
 #[unsafe(no_mangle)]
 pub extern "C" fn covretin_ask_set_vring_err(
     alloc: Global,
@@ -103,7 +103,7 @@ pub extern "C" fn covretin_ask_set_vring_err(
     asked(alloc, session, call)
 }
 
-/// Gives the socket on which the device may ask.
+/// Gives the socket of the backend channel, on which the backend may send requests.
 #[unsafe(no_mangle)]
 pub extern "C" fn covretin_ask_set_backend_request_fd(
     alloc: Global,
@@ -115,7 +115,7 @@ pub extern "C" fn covretin_ask_set_backend_request_fd(
     asked_with(alloc, session, FdAsk::SetBackendRequestFd, fd)
 }
 
-/// Gives the buffer for descriptors in flight.
+/// Gives the inflight region.
 #[unsafe(no_mangle)]
 pub extern "C" fn covretin_ask_set_inflight_fd(
     alloc: Global,
@@ -128,7 +128,7 @@ pub extern "C" fn covretin_ask_set_inflight_fd(
     asked_with(alloc, session, FdAsk::SetInflightFd(*inflight), fd)
 }
 
-/// Sets where the log of written pages begins, and where it is kept: a part of what the region's descriptor maps.
+/// Sets where the log of dirty pages begins, and where it is kept: a part of what the region's descriptor maps.
 #[unsafe(no_mangle)]
 pub extern "C" fn covretin_ask_set_log_base(
     alloc: Global,
@@ -142,7 +142,7 @@ pub extern "C" fn covretin_ask_set_log_base(
     asked(alloc, session, call)
 }
 
-/// Sets where the log of written pages begins, and nothing more.
+/// Sets where the log of dirty pages begins, and nothing more.
 #[unsafe(no_mangle)]
 pub extern "C" fn covretin_ask_set_log_base_alone(
     alloc: Global,
@@ -154,7 +154,7 @@ pub extern "C" fn covretin_ask_set_log_base_alone(
     asked(alloc, session, FrontendCall::SetLogBase(base, None))
 }
 
-/// Begins a transfer of the device's state over a descriptor.
+/// Begins a transfer of the backend's state over a file descriptor.
 #[unsafe(no_mangle)]
 pub extern "C" fn covretin_ask_set_device_state_fd(
     alloc: Global,

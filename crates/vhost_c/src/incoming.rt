@@ -36,8 +36,8 @@ impl Incoming {
         }
     }
 
-    /// How many bytes can be told to be missing: those of the header, and then those of the body that the header
-    /// announces. The body of a reply that is longer than a message may be is not waited for.
+    /// How many bytes are known to be missing: those of the header, and then those of the body that the header announces.
+    /// The body of a reply that is longer than a message may be is not waited for.
     pub(crate) fn missing(&self) -> usize
         ensures missing { result ≡ missing_in self.now }
         ensures within { result ≤ MAX_MSG_TEXT }

@@ -1,4 +1,4 @@
-//! The asking side for programs in C: a session whose link is its caller's.
+//! The frontend for programs in C: a session whose link is its caller's.
 #![tactic(auto)]
 
 mod answers;

@@ -1,4 +1,4 @@
-//! What a session sends goes out, what came for it is taken in, and its answers are taken.
+//! What a session sends goes out, what came for it is received, and its answers are decoded.
 
 ghost use Rattle.std.specs.Prelude.{◌≡◌};
 ghost use Rattle.vhost_c.specs.Session.{By, Sending, Receiving, Takes, missing_at, inactive_at};
@@ -36,7 +36,7 @@ pub extern "C" fn covretin_to_send(
     }
 }
 
-/// How many bytes can be told to be missing of the answer: 0 where it may be taken.
+/// How many bytes are known to be missing of the answer: 0 where it may be decoded.
 #[unsafe(no_mangle)]
 pub extern "C" fn covretin_missing(alloc: Global, session: &mut Holder) -> usize
     ensures missing { result ≡ missing_at session.old.session }
@@ -50,7 +50,8 @@ pub extern "C" fn covretin_missing(alloc: Global, session: &mut Holder) -> usize
     missing
 }
 
-/// The feature that was not active, as a number with its bit, where the call that was asked last was refused for that; else 0.
+/// The feature that was not active, as a number with its bit, where the call that was asked last was refused for that; else
+/// 0.
 #[unsafe(no_mangle)]
 pub extern "C" fn covretin_inactive(alloc: Global, session: &mut Holder) -> u64
     ensures inactive { result ≡ inactive_at session.old.session }
@@ -64,7 +65,7 @@ pub extern "C" fn covretin_inactive(alloc: Global, session: &mut Holder) -> u64
     inactive
 }
 
-/// Takes in bytes of the answer, with the descriptors that came with the first of them.
+/// Receives bytes of the answer, with the descriptors that came with the first of them.
 #[unsafe(no_mangle)]
 pub extern "C" fn covretin_receive(
     alloc: Global,
@@ -84,7 +85,7 @@ pub extern "C" fn covretin_receive(
     }
 }
 
-/// Takes the answer of the call that was asked.
+/// Decodes the answer of the call that was asked.
 #[unsafe(no_mangle)]
 pub extern "C" fn covretin_take(alloc: Global, session: &mut Holder) -> u32
     ensures { By (λ s o s'. Takes s s' o) session.old.session result session.new.session }

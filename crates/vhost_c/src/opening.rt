@@ -9,7 +9,7 @@ use crate::session::Session;
 use std::alloc::Global;
 use vhost_message::Error;
 
-/// Opens a session with a device of at most so many queues.
+/// Opens a session with a backend of at most so many queues.
 #[unsafe(no_mangle)]
 pub extern "C" fn covretin_open(alloc: Global, session: &mut Holder, max_queue_num: u64) -> u32
     ensures { Opens max_queue_num session.old.session result session.new.session }

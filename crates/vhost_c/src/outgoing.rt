@@ -8,7 +8,7 @@ use std::alloc::{AllocError, Global};
 use vhost_link::{Link, MemLink, PlainHandle};
 use vhost_message::{Error, MAX_ATTACHED_FD_ENTRIES, Result};
 
-/// What is to be sent: a link that hands it out, and a list for the handles of one piece.
+/// What is to be sent: a link that hands it out, and a list for the descriptors of one piece.
 #[derive(Drop)]
 pub(crate) struct Outgoing {
     pub(crate) link: MemLink,

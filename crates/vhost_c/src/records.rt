@@ -46,7 +46,7 @@ pub struct Vring {
     pub has_log_addr: bool,
 }
 
-/// The buffer for descriptors in flight: `covretin_inflight`.
+/// The inflight region: `covretin_inflight`.
 #[repr(C)]
 #[derive(Drop, Clone, Copy)]
 pub struct Inflight {
@@ -119,7 +119,7 @@ impl Vring {
 }
 
 impl Inflight {
-    /// The buffer of a call.
+    /// The inflight region of a call.
     pub(crate) fn data(&self) -> VhostUserInflight
         ensures { result ≡ inflight_in self.now }
     {
@@ -131,7 +131,7 @@ impl Inflight {
         )
     }
 
-    /// The buffer of an answer.
+    /// The inflight region of an answer.
     pub(crate) fn of(area: &VhostUserInflight) -> Inflight
         ensures { inflight_in result ≡ area.now }
     {
@@ -146,7 +146,7 @@ impl Inflight {
 
 /// The regions of a table.
 ///
-/// InvalidParam: there are more than a table may have. OutOfMemory: a growth was refused.
+/// InvalidParam: there are more than a table may have. OutOfMemory: an allocation failed.
 pub(crate) fn infos_of(alloc: Global, regions: &[Region]) -> Result<Vec<RegionInfo>>
     ensures infos { IfOk result (λ infos. map info_of infos.items ≡ map info_in regions.now) }
     ensures reason { IfErr result (λ e. (e ≡ OutOfMemory) ⊎ ((e ≡ InvalidParam) × (MAX_MEM_REGIONS < length regions.now))) }
@@ -163,7 +163,7 @@ pub(crate) fn infos_of(alloc: Global, regions: &[Region]) -> Result<Vec<RegionIn
     Ok(infos)
 }
 
-/// The handle whose number is that of the descriptor. None: it is negative.
+/// The `PlainHandle` of a file descriptor. None: it is negative.
 pub(crate) fn handle_of(fd: i32) -> Option<PlainHandle>
     ensures { result ≡ handle_in fd }
 {
@@ -176,9 +176,9 @@ pub(crate) fn handle_of(fd: i32) -> Option<PlainHandle>
     })
 }
 
-/// The handles of descriptors.
+/// The `PlainHandle` of each of these file descriptors.
 ///
-/// InvalidParam: one is negative. OutOfMemory: a growth was refused.
+/// InvalidParam: one is negative. OutOfMemory: an allocation failed.
 pub(crate) fn handles_of(alloc: Global, fds: &[i32]) -> Result<Vec<PlainHandle>>
     ensures { IfOk result (λ handles. map handle_in fds.now ≡ map Some handles.items) }
 {
@@ -194,7 +194,7 @@ pub(crate) fn handles_of(alloc: Global, fds: &[i32]) -> Result<Vec<PlainHandle>>
     Ok(handles)
 }
 
-/// The descriptor whose number a handle has, or -1.
+/// The file descriptor of a `PlainHandle`, or -1.
 pub(crate) fn fd_of(handle: PlainHandle) -> i32
     ensures { result ≡ fd_in handle }
 {
@@ -204,7 +204,7 @@ pub(crate) fn fd_of(handle: PlainHandle) -> i32
     handle.id as i32
 }
 
-/// Writes the numbers of descriptors to the front of a place.
+/// Writes file descriptors to the start of a buffer.
 pub(crate) fn put_fds(handles: &[PlainHandle], fds: &mut [i32])
     requires { length handles.now ≤ length fds.old }
     ensures { take (length handles.now) fds.new ≡ map fd_in handles.now }

@@ -9,13 +9,13 @@ use vhost_message::Error;
 /// Why a call from C was refused.
 #[derive(Drop)]
 pub(crate) enum Refusal {
-    /// By the protocol, or for want of memory.
+    /// By the protocol, or because an allocation failed.
     Protocol(Error),
     /// There is no session.
     NoSession,
     /// There is a session already.
     SessionOpen,
-    /// An answer is still to be taken.
+    /// An answer is still to be decoded.
     NotTaken,
     /// Nothing was asked.
     NothingAsked,
@@ -23,7 +23,7 @@ pub(crate) enum Refusal {
     NotYet,
     /// More bytes than are missing.
     TooManyBytes,
-    /// The caller's place is too small.
+    /// The caller's buffer is too small.
     NoRoom,
     /// The answer has another form.
     OtherAnswer,

@@ -28,7 +28,7 @@ type Outcome<T> = std::result::Result<T, Refusal>;
 /// A link in memory is asked once: what it can't do it will not do.
 const BUDGET: u32 = 0;
 
-/// A call whose answer is still to be taken: it was sent, and what is awaited and kept of its request is the call's.
+/// A call whose answer is still to be decoded: it was sent, and what is awaited and kept of its request is the call's.
 #[derive(Drop)]
 struct Asked {
     call: FrontendCall,
@@ -37,8 +37,8 @@ struct Asked {
     ghost kept: { ∥ IsKeptFor (call_of call) sent.awaited sent.kept ∥₁ },
 }
 
-/// A session: the frontend, what is to be sent, and the call whose answer the frontend awaits. No call of its link is cut, so nothing breaks it but a
-/// want of memory.
+/// A session: the frontend, what is to be sent, and the call whose answer the frontend awaits. Its link makes no short read
+/// or write, so only a failed allocation poisons the session.
 #[derive(Drop)]
 pub struct Session {
     frontend: FrontendInternal<MemLink>,
@@ -59,9 +59,9 @@ impl Session {
     ghost use Rattle.vhost_c.specs.Moving.{HandsOut};
     ghost use Rattle.vhost_c.specs.Session.{IsNew, Asks, Asking, Becomes, Stays, Hands, Fails, Receiving, Takes, queued, remembers, missing_of};
 
-    /// A new session with a device of at most so many queues.
+    /// A new session with a backend of at most so many queues.
     ///
-    /// OutOfMemory: a growth was refused.
+    /// OutOfMemory: an allocation failed.
     pub(crate) fn new(alloc: Global, max_queue_num: u64) -> std::result::Result<Session, Error>
         ensures { IfOk result (IsNew max_queue_num) }
     {
@@ -85,9 +85,9 @@ impl Session {
 
     /// Asks. What is to be sent then waits to be handed out.
     ///
-    /// NotTaken: the answer of the call before is still to be taken. The errors of the call's own tests. OutOfMemory: a growth
-    /// was refused; SocketRetry, SocketBroken: one was refused to the link, now or before. After each, nothing more is to be
-    /// sent than before.
+    /// NotTaken: the answer of the call before is still to be decoded. The errors of the call's own tests. OutOfMemory: an
+    /// allocation failed; SocketRetry, SocketBroken: one of the link's failed, now or before. After each, nothing more is
+    /// to be sent than before.
     pub(crate) fn ask(&mut self, call: FrontendCall) -> Outcome<()>
         ensures { Asking (call_of call) self.old result self.new }
     {
@@ -145,8 +145,8 @@ impl Session {
     /// Hands out a piece of what is to be sent; the answer is how many bytes and descriptors. Nothing is left to be sent
     /// where it is 0.
     ///
-    /// NoRoom: there is no room for a byte, or not for all descriptors that one may bring. OutOfMemory: a growth was
-    /// refused. After each, nothing changed.
+    /// NoRoom: there is no room for a byte, or not for all descriptors that one may bring. OutOfMemory: an allocation
+    /// failed. After each, nothing changed.
     pub(crate) fn hand_out(&mut self, bytes: &mut [u8], fds: &mut [i32]) -> Outcome<(usize, usize)>
         ensures out { IfOk result (λ n. HandsOut (queued self.old) (queued self.new) bytes.new fds.new n) }
         ensures refused { IfErr result (λ _. queued self.new ≡ queued self.old) }
@@ -164,7 +164,7 @@ impl Session {
         }
     }
 
-    /// How many bytes can be told to be missing of the answer.
+    /// How many bytes are known to be missing of the answer.
     pub(crate) fn missing(&self) -> usize
         ensures missing { result ≡ missing_of self.now }
         ensures within { result ≤ MAX_MSG_TEXT }
@@ -178,10 +178,10 @@ impl Session {
         }
     }
 
-    /// Takes in bytes of the answer, with the descriptors that came with the first of them.
+    /// Receives bytes of the answer, with the descriptors that came with the first of them.
     ///
     /// TooManyBytes: they are more than are missing. InvalidParam: descriptors without a byte, more than a message may
-    /// have, or a negative one. OutOfMemory: a growth was refused. After each, nothing changed.
+    /// have, or a negative one. OutOfMemory: an allocation failed. After each, nothing changed.
     pub(crate) fn receive(&mut self, bytes: &[u8], fds: &[i32]) -> Outcome<()>
         ensures { Receiving bytes.now fds.now self.old result self.new }
     {
@@ -205,11 +205,11 @@ impl Session {
         }
     }
 
-    /// Takes the answer of the call that was asked.
+    /// Decodes the answer of the call that was asked.
     ///
-    /// NothingAsked: no call awaits to be taken. NotYet: bytes are missing. After both, nothing changed. InvalidMessage: the
-    /// answer has another size than this call's, and nothing of it was read. The errors of the call. After these, nothing is
-    /// asked any more.
+    /// NothingAsked: no call's answer is still to be decoded. NotYet: bytes are missing. After both, nothing changed.
+    /// InvalidMessage: the answer has another size than this call's, and nothing of it was read. The errors of the call.
+    /// After these, nothing is asked any more.
     pub(crate) fn take(&mut self) -> Outcome<()>
         ensures { Takes self.old self.new result }
     {
@@ -247,7 +247,7 @@ impl Session {
         self.inactive
     }
 
-    /// The answer that was taken last.
+    /// The answer that was decoded last.
     pub(crate) fn answer(&self) -> &FrontendAnswer
         ensures { result.now ≡ self.now.answer }
     {

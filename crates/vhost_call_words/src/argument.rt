@@ -17,10 +17,10 @@ use vhost_message::{
     VhostUserHeaderFlag, VhostUserInflight, VhostUserProtocolFeatures, VhostUserSharedMsg,
 };
 
-/// The first number of a handle that is a Unix stream socket.
+/// The first number of a file descriptor that is a Unix stream socket.
 const FIRST_SOCKET: u32 = 1000;
 
-/// Off, which is 0, or on, which is 1.
+/// A flag: disable, which is 0, or enable, which is 1.
 pub(crate) fn switch(word: &str) -> Option<bool>
     ensures { result ≡ switch word.now }
 {
@@ -56,7 +56,7 @@ pub(crate) fn header_flags(word: &str) -> Option<VhostUserHeaderFlag>
     Some(VhostUserHeaderFlag::from_bits_retain(flags))
 }
 
-/// The handle of a number.
+/// The file descriptor of a number.
 pub(crate) fn handle(word: &str) -> Option<PlainHandle>
     ensures { result ≡ handle word.now }
 {
@@ -90,7 +90,7 @@ pub(crate) fn phase(word: &str) -> Option<VhostTransferStatePhase>
     VhostTransferStatePhase::try_from(number_32(word)?).ok()
 }
 
-/// The bytes that hexadecimal digits write: at least one, by two digits each. AllocError: a growth was refused.
+/// The bytes that hexadecimal digits write: at least one, by two digits each. AllocError: an allocation failed.
 pub(crate) fn byte_string(alloc: Global, word: &str) -> Result<Option<Vec<u8>>, AllocError>
     ensures { IfOk result (λ bytes. bytes_of bytes ≡ byte_string word.now) }
 {
@@ -114,7 +114,7 @@ pub(crate) fn object_name(word: &str) -> Option<VhostUserSharedMsg>
     })
 }
 
-/// The area for descriptors in flight, each number in a word of its own.
+/// The inflight region, each number in a word of its own.
 pub(crate) fn area(
     size: &str,
     offset: &str,

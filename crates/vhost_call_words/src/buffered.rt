@@ -13,7 +13,7 @@ use vhost_frontend_core::{FrontendCall, RegionInfo};
 /// The greatest buffer for a part of configuration space, in bytes.
 const MAX_BUFFER: u32 = 4096;
 
-/// The regions of a text, of five words each. AllocError: a growth was refused.
+/// The regions of a text, of five words each. AllocError: an allocation failed.
 fn regions(alloc: Global, text: Option<&str>) -> Result<Option<Vec<RegionInfo>>, AllocError>
     ensures { IfOk result (λ found. infos_of found ≡ regions (words_of text.entry)) }
 {
@@ -29,7 +29,7 @@ fn regions(alloc: Global, text: Option<&str>) -> Result<Option<Vec<RegionInfo>>,
     Ok(Some(found))
 }
 
-/// A table of memory, of any number of regions. AllocError: a growth was refused.
+/// A table of memory, of any number of regions. AllocError: an allocation failed.
 pub(crate) fn set_mem_table(
     alloc: Global,
     text: Option<&str>,
@@ -42,7 +42,7 @@ pub(crate) fn set_mem_table(
     Ok(Some(FrontendCall::SetMemTable(regions)))
 }
 
-/// A part of configuration space, and a buffer for it. AllocError: a growth was refused.
+/// A part of configuration space, and a buffer for it. AllocError: an allocation failed.
 pub(crate) fn get_config(alloc: Global, args: &[&str]) -> Result<Option<FrontendCall>, AllocError>
     ensures { IfOk result (λ call. called call ≡ get_config (texts args.now)) }
 {
@@ -62,7 +62,7 @@ pub(crate) fn get_config(alloc: Global, args: &[&str]) -> Result<Option<Frontend
     Ok(Some(FrontendCall::GetConfig(offset, size, flags, buffer)))
 }
 
-/// Bytes for a part of configuration space. AllocError: a growth was refused.
+/// Bytes for a part of configuration space. AllocError: an allocation failed.
 pub(crate) fn set_config(alloc: Global, args: &[&str]) -> Result<Option<FrontendCall>, AllocError>
     ensures { IfOk result (λ call. called call ≡ set_config (texts args.now)) }
 {

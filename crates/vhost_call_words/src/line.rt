@@ -10,7 +10,7 @@ use crate::words::{first_word, first_words};
 use std::alloc::{AllocError, Global};
 use vhost_frontend_core::FrontendCall;
 
-/// The call that a text asks for. AllocError: a growth was refused.
+/// The call that a text asks for. AllocError: an allocation failed.
 fn call_of_text(alloc: Global, text: &str) -> Result<Option<FrontendCall>, AllocError>
     ensures { IfOk result (λ call. called call ≡ call_named (words text.now)) }
 {
@@ -20,7 +20,7 @@ fn call_of_text(alloc: Global, text: &str) -> Result<Option<FrontendCall>, Alloc
 }
 
 /// The call that a line asks for. None where it asks for none, or says more.
-/// AllocError: a growth was refused.
+/// AllocError: an allocation failed.
 pub fn call_of(alloc: Global, line: &[u8]) -> Result<Option<FrontendCall>, AllocError>
     ensures { IfOk result (λ call. called call ≡ call_in line.now) }
 {

@@ -12,7 +12,7 @@ use crate::words::first_word;
 use vhost_frontend_core::RegionInfo;
 use vhost_message::VhostUserMemoryRegion;
 
-/// A region of guest memory and its handle, each number in a word of its own.
+/// A region of guest memory and its file descriptor, each number in a word of its own.
 fn region(guest: &str, size: &str, user: &str, offset: &str, mapping: &str) -> Option<RegionInfo>
     ensures { option_map info_of result ≡ region guest.now size.now user.now offset.now mapping.now }
 {

@@ -20,7 +20,7 @@ pub(crate) fn set_vring_num(args: &[&str]) -> Option<FrontendCall>
     Some(FrontendCall::SetVringNum(index(ring)?, number_16(word)?))
 }
 
-/// A ring and the index of its first descriptor.
+/// A ring and its first index to look for available descriptors.
 pub(crate) fn set_vring_base(args: &[&str]) -> Option<FrontendCall>
     ensures { called result ≡ two u64 u16 value.SetVringBase (texts args.now) }
 {
@@ -28,7 +28,7 @@ pub(crate) fn set_vring_base(args: &[&str]) -> Option<FrontendCall>
     Some(FrontendCall::SetVringBase(index(ring)?, number_16(word)?))
 }
 
-/// A ring and the handle by which the device tells of used buffers.
+/// A ring and its call descriptor, by which the backend signals used buffers.
 pub(crate) fn set_vring_call(args: &[&str]) -> Option<FrontendCall>
     ensures { called result ≡ two u64 handle (λ i h. value.SetVringCall i (Some h)) (texts args.now) }
 {
@@ -36,7 +36,7 @@ pub(crate) fn set_vring_call(args: &[&str]) -> Option<FrontendCall>
     Some(FrontendCall::SetVringCall(index(ring)?, Some(handle(word)?)))
 }
 
-/// A ring and the handle by which the device is told of available buffers.
+/// A ring and its kick descriptor, by which the driver signals available buffers.
 pub(crate) fn set_vring_kick(args: &[&str]) -> Option<FrontendCall>
     ensures { called result ≡ two u64 handle (λ i h. value.SetVringKick i (Some h)) (texts args.now) }
 {
@@ -44,7 +44,7 @@ pub(crate) fn set_vring_kick(args: &[&str]) -> Option<FrontendCall>
     Some(FrontendCall::SetVringKick(index(ring)?, Some(handle(word)?)))
 }
 
-/// A ring and the handle by which the device tells of errors.
+/// A ring and its error descriptor, by which the backend signals errors.
 pub(crate) fn set_vring_err(args: &[&str]) -> Option<FrontendCall>
     ensures { called result ≡ two u64 handle (λ i h. value.SetVringErr i (Some h)) (texts args.now) }
 {
@@ -52,7 +52,7 @@ pub(crate) fn set_vring_err(args: &[&str]) -> Option<FrontendCall>
     Some(FrontendCall::SetVringErr(index(ring)?, Some(handle(word)?)))
 }
 
-/// A ring, and whether it is on.
+/// A ring, and whether it is enabled.
 pub(crate) fn set_vring_enable(args: &[&str]) -> Option<FrontendCall>
     ensures { called result ≡ two u64 switch value.SetVringEnable (texts args.now) }
 {

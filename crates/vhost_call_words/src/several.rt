@@ -62,7 +62,7 @@ pub(crate) fn set_vring_addr(args: &[&str]) -> Option<FrontendCall>
     Some(FrontendCall::SetVringAddr(ring, config))
 }
 
-/// The area that is asked for.
+/// The inflight region that is asked for.
 pub(crate) fn get_inflight_fd(args: &[&str]) -> Option<FrontendCall>
     ensures { called result ≡ get_inflight_fd (texts args.now) }
 {
@@ -73,7 +73,7 @@ pub(crate) fn get_inflight_fd(args: &[&str]) -> Option<FrontendCall>
     Some(FrontendCall::GetInflightFd(area))
 }
 
-/// The area that is given, and its handle.
+/// The inflight region that is given, and its file descriptor.
 pub(crate) fn set_inflight_fd(args: &[&str]) -> Option<FrontendCall>
     ensures { called result ≡ set_inflight_fd (texts args.now) }
 {
@@ -84,7 +84,7 @@ pub(crate) fn set_inflight_fd(args: &[&str]) -> Option<FrontendCall>
     Some(FrontendCall::SetInflightFd(area, handle(mapping)?))
 }
 
-/// Which way the state of the device goes, when, and over which handle.
+/// Which way the state of the device goes, when, and over which file descriptor.
 pub(crate) fn set_device_state_fd(args: &[&str]) -> Option<FrontendCall>
     ensures { called result ≡ set_device_state_fd (texts args.now) }
 {
@@ -101,7 +101,7 @@ pub(crate) fn add_mem_region(args: &[&str]) -> Option<FrontendCall>
     Some(FrontendCall::AddMemRegion(only_region(args)?))
 }
 
-/// The region that is taken away.
+/// The region that is removed.
 pub(crate) fn remove_mem_region(args: &[&str]) -> Option<FrontendCall>
     ensures { called result ≡ remove_mem_region (texts args.now) }
 {

@@ -11,7 +11,7 @@ use crate::argument::{handle, header_flags, object_name, protocol_features, requ
 use crate::number::{index, number, number_16};
 use vhost_frontend_core::FrontendCall;
 
-/// Virtio features to acknowledge.
+/// Virtio features to accept.
 #[tactic(auto, using(crate::proofs::OtherCounts::not_one))]
 pub(crate) fn set_features(args: &[&str]) -> Option<FrontendCall>
     ensures { called result ≡ one u64 value.SetFeatures (texts args.now) }
@@ -20,7 +20,7 @@ pub(crate) fn set_features(args: &[&str]) -> Option<FrontendCall>
     Some(FrontendCall::SetFeatures(number(word)?))
 }
 
-/// Protocol features to acknowledge.
+/// Protocol features to accept.
 pub(crate) fn set_protocol_features(args: &[&str]) -> Option<FrontendCall>
     ensures { called result ≡ one protocol_features value.SetProtocolFeatures (texts args.now) }
 {
@@ -37,7 +37,7 @@ pub(crate) fn get_vring_base(args: &[&str]) -> Option<FrontendCall>
     Some(FrontendCall::GetVringBase(index(word)?))
 }
 
-/// The handle that tells of log writes.
+/// The descriptor by which the backend signals that it logged.
 #[tactic(auto, using(crate::proofs::OtherCounts::not_one))]
 pub(crate) fn set_log_fd(args: &[&str]) -> Option<FrontendCall>
     ensures { called result ≡ one handle value.SetLogFd (texts args.now) }
@@ -46,7 +46,7 @@ pub(crate) fn set_log_fd(args: &[&str]) -> Option<FrontendCall>
     Some(FrontendCall::SetLogFd(handle(word)?))
 }
 
-/// The socket of the device's own requests.
+/// The socket of the backend's own requests.
 #[tactic(auto, using(crate::proofs::OtherCounts::not_one))]
 pub(crate) fn set_backend_request_fd(args: &[&str]) -> Option<FrontendCall>
     ensures { called result ≡ one handle value.SetBackendRequestFd (texts args.now) }

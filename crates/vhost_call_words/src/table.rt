@@ -21,7 +21,7 @@ use std::alloc::{AllocError, Global};
 use vhost_frontend_core::FrontendCall;
 
 /// The call of a name and its arguments: a table of memory has those of a text, any other call the first words of it.
-/// AllocError: a growth was refused.
+/// AllocError: an allocation failed.
 pub(crate) fn call_named(
     alloc: Global,
     name: &str,

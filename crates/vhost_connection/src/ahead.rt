@@ -57,7 +57,7 @@ impl ReadAhead {
     }
 }
 
-/// Asks the link, with room for as much as can wait. All that it brings waits.
+/// Receives from the link, with room for as much as can wait. All that it brings waits.
 fn ask<L: Link>(
     link: &mut L,
     ahead: &mut ReadAhead,

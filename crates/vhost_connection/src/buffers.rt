@@ -15,7 +15,7 @@ pub(crate) type Text = [u8; MAX_MSG_TEXT];
 /// Room for the body of a request.
 pub type Body = Box<[u8; MAX_MSG_SIZE]>;
 
-/// What an endpoint allocates: a buffer for what is received ahead and one for a message, and lists of handles.
+/// What an endpoint allocates: a buffer for what is received ahead and one for a message, and descriptor buffers.
 #[derive(Drop)]
 pub struct Buffers<H> {
     pub(crate) ahead: ReadAhead,
@@ -27,7 +27,7 @@ pub struct Buffers<H> {
 }
 
 impl<H: Drop> Buffers<H> {
-    /// OutOfMemory: a growth was refused.
+    /// OutOfMemory: an allocation failed.
     pub fn new(alloc: Global) -> Result<Self>
         ensures { IfErr result (λ e. e ≡ OutOfMemory) }
     {
@@ -51,7 +51,7 @@ impl<H: Drop> Buffers<H> {
 
 /// Room for the body of a request.
 ///
-/// OutOfMemory: its growth was refused.
+/// OutOfMemory: its allocation failed.
 pub fn new_body(alloc: Global) -> Result<Body>
     ensures { IfErr result (λ e. e ≡ OutOfMemory) }
 {

@@ -19,13 +19,13 @@ use vhost_message::{Error, IoCause, MsgHeader, Result};
 
 /// One end of a connection, by which whole messages go out and come in: the header type is `M`.
 ///
-/// A call that sends or receives a whole message calls its link again after a retry, up to a budget of retries for
-/// each message. A fault, or one retry more than the budget, after the first byte of a message moved breaks the
+/// A call that sends or receives a whole message calls its link again after a retry, up to a retry limit for
+/// each message. An I/O error, or one retry more than the retry limit, after the first byte of a message moved poisons the
 /// endpoint: from then on each call that sends or receives answers `SocketBroken` with that cause. `send_slice`,
-/// `send_iovec` and `recv_into_buf` call their link once at most, whatever the budget, and break nothing.
+/// `send_iovec` and `recv_into_buf` call their link once at most, whatever the retry limit, and never poison the endpoint.
 ///
 /// It receives ahead: its link is called only where a message still needs a byte and nothing waits, with room for 8192
-/// bytes. What comes beyond the message waits in the endpoint. Handles belong to the first byte of a receive alone, so
+/// bytes. What comes beyond the message waits in the endpoint. Descriptors belong to the first byte of a receive alone, so
 /// that a byte that waits has none.
 ///
 /// Mirrors `vhost::vhost_user::connection::Endpoint`.
@@ -33,16 +33,16 @@ use vhost_message::{Error, IoCause, MsgHeader, Result};
 pub struct Endpoint<M, L: Link> {
     /// Its link, with what was received ahead.
     source: Source<L>,
-    /// How many retries one message may take, and how many are left for what lies behind the last header.
+    /// The retry limit for each message, and how many retries are left for what lies behind the last header.
     budget: u32,
     left: u32,
-    /// The fault that broke it.
+    /// The I/O error that poisoned it.
     broken: Option<IoCause>,
-    /// Whether the last call that sent or received met a fault.
+    /// Whether the last call that sent or received met an I/O error.
     faulted: bool,
-    /// For the handles of the next message, unless it was given away.
+    /// The descriptor buffer for the next message, unless it was moved out.
     list: Option<HandleList<L::Handle>>,
-    /// For handles that are dropped.
+    /// For descriptors that are dropped.
     spare: HandleList<L::Handle>,
     /// A message on its way out or in.
     text: Box<Text>,
@@ -59,9 +59,9 @@ impl<M: MsgHeader, L: Link> Endpoint<M, L> {
     ghost use Rattle.vhost_connection.specs.Talk.{IsBroken};
     ghost use Rattle.vhost_connection.specs.State.{state, fresh, first_cause, with_link};
 
-    /// An endpoint over a link, with a budget of retries for each message.
+    /// An endpoint over a link, with a retry limit for each message.
     ///
-    /// OutOfMemory: a growth was refused.
+    /// OutOfMemory: an allocation failed.
     pub fn from_stream(alloc: Global, link: L, budget: u32) -> Result<Self>
         ensures opened { IfOk result (λ e. state e ≡ fresh link budget) }
         ensures memory { IfErr result (λ e. e ≡ OutOfMemory) }
@@ -95,7 +95,7 @@ impl<M: MsgHeader, L: Link> Endpoint<M, L> {
         }
     }
 
-    /// SocketBroken: the endpoint is broken.
+    /// SocketBroken: the endpoint is poisoned.
     #[tactic(auto, unfolding(crate::specs::State::ahead_of))]
     fn expect_sound(&self) -> Result<()>
         ensures sound { IfOk result (λ _. (state self.now).broken ≡ None) }
@@ -107,7 +107,7 @@ impl<M: MsgHeader, L: Link> Endpoint<M, L> {
         }
     }
 
-    /// The link failed: this breaks the endpoint if something has moved.
+    /// The link failed: this poisons the endpoint if something has moved.
     #[tactic(auto, using(crate::proofs::Errors::no_memory_error), unfolding(crate::specs::State::ahead_of))]
     fn fail(&mut self, cause: IoCause, moved: bool) -> Error
         ensures error { result ≡ error_of cause }
@@ -130,9 +130,9 @@ impl<M: MsgHeader, L: Link> Endpoint<M, L> {
         &mut source.link
     }
 
-    /// Makes the list for the next message's handles, where the last one was given away.
+    /// Makes the descriptor buffer for the next message, where the last one was moved out.
     ///
-    /// OutOfMemory: its growth was refused, and nothing changed.
+    /// OutOfMemory: its allocation failed, and nothing changed.
     #[tactic(auto, unfolding(crate::specs::State::ahead_of))]
     pub fn make_list(&mut self) -> Result<()>
         ensures made { IfOk result (λ _. state self.new ≡ record (state self.old) { list = true }) }
@@ -147,7 +147,7 @@ impl<M: MsgHeader, L: Link> Endpoint<M, L> {
         Ok(())
     }
 
-    /// Breaks the endpoint with this cause, unless it is broken already.
+    /// Poisons the endpoint with this cause, unless it is poisoned already.
     #[tactic(auto, unfolding(crate::specs::State::ahead_of))]
     pub fn break_with(&mut self, cause: IoCause)
         ensures { state self.new ≡ record (state self.old) { broken = first_cause (state self.old).broken cause } }
@@ -166,14 +166,14 @@ impl<M: MsgHeader, L: Link> Endpoint<M, L> {
         self.source.ahead.clear();
     }
 
-    /// How many retries a message may take.
+    /// The retry limit for each message.
     pub fn budget(&self) -> u32
         ensures { result ≡ (state self.now).budget }
     {
         self.budget
     }
 
-    /// Whether the last call that sent or received met a fault: the link failed, or retried once too often.
+    /// Whether the last call that sent or received met an I/O error: the link failed, or retried once too often.
     pub fn faulted(&self) -> bool
         ensures { result ≡ (state self.now).faulted }
     {

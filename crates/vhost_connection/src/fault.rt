@@ -1,4 +1,4 @@
-//! A fault between a request and the end of its answer.
+//! An I/O error between a request and the end of its answer.
 
 ghost use Rattle.std.specs.Prelude.{◌≡◌};
 ghost use Rattle.vhost_connection.specs.State.{state};
@@ -8,8 +8,8 @@ use crate::endpoint::Endpoint;
 use vhost_link::Link;
 use vhost_message::{Error, MsgHeader};
 
-/// Breaks the endpoint where a call between a request and the end of its answer met a fault of the link, whether or not a
-/// byte had moved. Its cause is that of the error, unless the endpoint was broken before.
+/// Poisons the endpoint where a call between a request and the end of its answer met an I/O error of the link, whether or not a
+/// byte had moved. Its cause is that of the error, unless the endpoint was poisoned before.
 pub fn break_on_fault<M: MsgHeader, L: Link>(end: &mut Endpoint<M, L>, error: &Error)
     ensures { state end.new ≡ broken_on error.now (state end.old) }
 {

@@ -1,4 +1,4 @@
-//! Lists with room for the handles of one message.
+//! Descriptor buffers: lists with room for the descriptors of one message.
 
 ghost use Rattle.std.specs.Prelude.{◌≡◌, ◌≤◌, [], IfErr, IfOk, false, is_some, vec_capacity, vec_len};
 ghost use Rattle.vhost_message.specs.declared.limits.TheConstants.{MAX_ATTACHED_FD_ENTRIES};
@@ -6,7 +6,7 @@ ghost use Rattle.vhost_message.specs.declared.limits.TheConstants.{MAX_ATTACHED_
 use std::alloc::{AllocError, Global};
 use vhost_message::MAX_ATTACHED_FD_ENTRIES;
 
-/// An empty list with room for the handles of a message.
+/// An empty descriptor buffer, with room for the descriptors of a message.
 #[derive(Drop)]
 pub struct HandleList<H> {
     pub list: Vec<H>,
@@ -15,7 +15,7 @@ pub struct HandleList<H> {
 }
 
 impl<H> HandleList<H> {
-    /// A list of its own, unless its growth is refused.
+    /// A new buffer, unless its allocation failed.
     pub fn new(alloc: Global) -> Result<HandleList<H>, AllocError> {
         Ok(HandleList {
             list: Vec::with_capacity(alloc, MAX_ATTACHED_FD_ENTRIES)?,
@@ -23,7 +23,7 @@ impl<H> HandleList<H> {
     }
 }
 
-/// Takes the list out, or makes one where it was given away.
+/// Moves the buffer out, or makes one where it was moved out before.
 pub fn take_list<H>(place: &mut Option<HandleList<H>>, alloc: Global) -> Result<Vec<H>, AllocError>
     ensures taken { IfOk result (λ v. (v.items ≡ []) × (MAX_ATTACHED_FD_ENTRIES ≤ vec_capacity v)) }
     ensures memory { IfErr result (λ _. is_some place.old ≡ false) }
@@ -35,8 +35,8 @@ pub fn take_list<H>(place: &mut Option<HandleList<H>>, alloc: Global) -> Result<
     }
 }
 
-/// What came of a message: how many bytes of its front and how many more, how many retries are left for what lies behind
-/// them, and the handles of the first.
+/// What came of a message: how many bytes of its prefix and how many more, how many retries are left for what lies
+/// behind them, and the descriptors of the first.
 #[derive(Drop)]
 pub struct Front<H> {
     pub count: usize,

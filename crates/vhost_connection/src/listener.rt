@@ -16,7 +16,7 @@ use vhost_message::{Error, IoCause, Result};
 /// How often one `accept` may be interrupted.
 const MAX_INTERRUPTIONS: u32 = 1024;
 
-/// A path that is removed at the end of its listener, and what that takes.
+/// A path that is removed at the end of its listener, and the capability to remove it.
 #[derive(Drop)]
 struct Kept<R> {
     path: String,
@@ -34,7 +34,7 @@ pub struct Listener<R: Files + Drop> {
 impl<R: Files + Net + Drop> Listener<R> {
     /// Listens at a path; with `unlink`, what is there is removed first, and a failure to do so is ignored.
     ///
-    /// OutOfMemory: a growth was refused, and nothing was done. SocketError: the system made no socket there.
+    /// OutOfMemory: an allocation failed, and nothing was done. SocketError: the system made no socket there.
     pub fn new(rt: R, alloc: Global, path: &str, unlink: bool) -> Result<Listener<R>>
         ensures { IfErr result IsListenError }
     {
@@ -63,7 +63,7 @@ impl<R: Files + Drop> Listener<R> {
         }
     }
 
-    /// Takes the next connection. None: it would have to wait for one, or the other side gave up.
+    /// Accepts the next connection. None: it would have to wait for one, or the other side gave up.
     ///
     /// SocketError: the system failed, or interrupted the call 1024 times (`Raw(EINTR)`).
     pub fn accept(&self) -> Result<Option<UnixLink>>

@@ -4,7 +4,7 @@ ghost use Rattle.vhost_connection.specs.Memory.{TalksLaw};
 
 use vhost_link::stream_law;
 
-/// However its link is cut, an endpoint over a link in memory hands on its stream in order, and its link appends what it takes in.
+/// However its stream is split, an endpoint over a link in memory hands it on in order, and its link appends what it accepts.
 pub fn talks_law()
     ensures talks { TalksLaw }
 {

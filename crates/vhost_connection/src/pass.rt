@@ -1,4 +1,4 @@
-//! One pass over a link, with a budget of retries.
+//! One pass over a link, with a retry limit.
 
 ghost use Rattle.std.specs.Prelude.{◌≡◌, ◌<◌, ◌≤◌, [], length, take, vec_capacity, map, if◌then◌else◌};
 ghost use Rattle.vhost_message.specs.declared.limits.TheConstants.{MAX_ATTACHED_FD_ENTRIES};
@@ -12,7 +12,7 @@ use crate::buffer::Source;
 use vhost_link::Link;
 use vhost_message::IoCause;
 
-/// How bytes went out: whether any did, how many retries are left, and the fault that stopped them.
+/// How bytes went out: whether any did, how many retries are left, and the I/O error that stopped them.
 #[derive(Drop)]
 pub struct SendPass {
     pub moved: bool,
@@ -20,7 +20,7 @@ pub struct SendPass {
     pub fault: Option<IoCause>,
 }
 
-/// Sends some of the bytes from this count on, the handles with the first of all.
+/// Sends some of the bytes from this count on, the descriptors with the first of all.
 fn send_part<L: Link>(
     link: &mut L,
     bytes: &[u8],
@@ -54,7 +54,7 @@ pub fn send_once<L: Link>(
     link.send(bytes, handles)
 }
 
-/// Sends all of the bytes, with the handles on the first of them.
+/// Sends all of the bytes, with the descriptors on the first of them.
 pub fn send_whole<L: Link>(
     link: &mut L,
     bytes: &[u8],
@@ -89,7 +89,7 @@ pub fn send_whole<L: Link>(
     }
 }
 
-/// Sends the next piece of a message, with the handles on its first byte unless something went out before.
+/// Sends the next piece of a message, with the descriptors on its first byte unless something went out before.
 fn send_piece<L: Link>(
     link: &mut L,
     piece: &[u8],
@@ -107,7 +107,7 @@ fn send_piece<L: Link>(
     }
 }
 
-/// Sends all of the pieces, one after another, with the handles on the first byte of all.
+/// Sends all of the pieces, one after another, with the descriptors on the first byte of all.
 pub fn send_pieces<L: Link>(
     link: &mut L,
     pieces: &[&[u8]],
@@ -149,7 +149,7 @@ pub enum PassEnd {
     Fault(IoCause),
 }
 
-/// What came: how many bytes, whether one of them brought handles, how many retries are left, and why it stopped.
+/// What came: how many bytes, whether one of them brought descriptors, how many retries are left, and why it stopped.
 #[derive(Drop)]
 pub struct RecvPass {
     pub count: usize,
@@ -174,7 +174,7 @@ fn recv_piece<L: Link>(
     recv_some(source, &mut room[count..], list)
 }
 
-/// What came first: how many bytes, how many retries are left, and the fault, if any. No bytes and no fault is the
+/// What came first: how many bytes, how many retries are left, and the I/O error, if any. No bytes and no I/O error is the
 /// stream's end.
 #[derive(Drop)]
 pub struct First {
@@ -183,7 +183,7 @@ pub struct First {
     pub fault: Option<IoCause>,
 }
 
-/// Receives the first bytes, and their handles.
+/// Receives the first bytes, and their descriptors.
 fn recv_first<L: Link>(
     source: &mut Source<L>,
     room: &mut [u8],
@@ -220,7 +220,7 @@ fn recv_first<L: Link>(
     }
 }
 
-/// Receives until the room is full. The handles of what comes are dropped.
+/// Receives until the room is full. The descriptors of what comes are dropped.
 pub fn recv_rest<L: Link>(
     source: &mut Source<L>,
     room: &mut [u8],
@@ -274,7 +274,7 @@ pub fn recv_rest<L: Link>(
     }
 }
 
-/// Receives until the room is full, and keeps the handles of the first byte.
+/// Receives until the room is full, and keeps the descriptors of the first byte.
 fn recv_whole<L: Link>(
     source: &mut Source<L>,
     room: &mut [u8],
@@ -318,7 +318,7 @@ fn recv_whole<L: Link>(
     }
 }
 
-/// Receives so many bytes to the front of the text, and keeps the handles of the first.
+/// Receives so many bytes to the start of the buffer, and keeps the descriptors of the first.
 fn recv_message<L: Link>(
     source: &mut Source<L>,
     text: &mut [u8],
@@ -350,7 +350,7 @@ pub struct Parts {
     pub stop: PassEnd,
 }
 
-/// Receives so many bytes to the front of the text, and then into the room until it is full; keeps the handles of the
+/// Receives so many bytes to the start of the buffer, and then into the room until it is full; keeps the descriptors of the
 /// first byte.
 pub fn recv_parts<L: Link>(
     source: &mut Source<L>,
@@ -390,7 +390,7 @@ pub fn recv_parts<L: Link>(
     }
 }
 
-/// Receives at most so many bytes to the front of the text by one call of the link, and their handles.
+/// Receives at most so many bytes to the start of the buffer by one call of the link, and their descriptors.
 pub fn recv_once<L: Link>(
     source: &mut Source<L>,
     text: &mut [u8],
@@ -407,7 +407,7 @@ pub fn recv_once<L: Link>(
     recv_piece(source, &mut text[..len], 0, list)
 }
 
-/// Receives so many bytes to the front of the text, and drops all handles.
+/// Receives so many bytes to the start of the buffer, and drops all descriptors.
 pub fn recv_bytes<L: Link>(
     source: &mut Source<L>,
     text: &mut [u8],

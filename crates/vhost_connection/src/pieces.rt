@@ -38,7 +38,7 @@ pub(crate) fn total_len(pieces: &[&[u8]]) -> Option<usize>
     Some(total)
 }
 
-/// Writes as many of the bytes as there is room for to its front.
+/// Writes as many of the bytes as there is room for to the start of a buffer.
 fn put_front(out: &mut [u8], bytes: &[u8]) -> usize
     ensures count { result ≡ min (length out.old) (length bytes.now) }
     ensures bytes { out.new ≡ take result bytes.now ++ drop result out.old }

@@ -40,14 +40,14 @@ impl<R> Request<R> {
     }
 }
 
-/// Codes of requests, that come with handles or without.
+/// Codes of requests, that come with descriptors or without.
 pub trait RequestCode: Req {
     ghost use Rattle.std.specs.Prelude.{◌≡◌, ℕ, Bool};
 
-    /// Whether a request of this code may come with so many handles.
+    /// Whether a request of this code may come with so many descriptors.
     ghost allowed: { Self → ℕ → Bool };
 
-    /// Whether a request of this code may come with so many handles.
+    /// Whether a request of this code may come with so many descriptors.
     fn allows_handles(self, count: usize) -> bool
         ensures { result ≡ allowed self count };
 }
@@ -61,7 +61,7 @@ impl RequestCode for FrontendReq {
     }
 }
 
-/// A device's request comes with exactly one, or with none ("Back-end message types").
+/// A backend's request comes with exactly one, or with none ("Back-end message types").
 impl RequestCode for BackendReq {
     ghost allowed = { backend_allows_handles };
 
@@ -73,7 +73,7 @@ impl RequestCode for BackendReq {
     }
 }
 
-/// Whether a frontend's request of this code may come with handles.
+/// Whether a frontend's request of this code may come with descriptors.
 fn carries_handles(code: FrontendReq) -> bool
     ensures { result ≡ may_carry code }
 {

@@ -12,7 +12,7 @@ use vhost_backend_req_handler::Open;
 use vhost_connection::Listener;
 use vhost_serve::serve;
 
-/// The most connections that one run takes.
+/// The most connections that one run accepts.
 const MAX_COUNT: u32 = 1024;
 
 /// The bits of a mode that say what a file is, and those of a socket.

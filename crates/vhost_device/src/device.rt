@@ -28,8 +28,8 @@ use vhost_message::{
 ///
 /// Mirrors `vhost::vhost_user::VhostUserBackendReqHandlerMut`, call by call.
 pub trait VhostUserBackendReqHandlerMut: Drop {
-    /// The links over which the device may be reached. Their handles stand for memory, events and channels that are
-    /// lent to the device.
+    /// The links over which the device may be reached. Their file descriptors stand for memory, events and channels that
+    /// are lent to the device.
     type Link: Link;
 
     /// Old state, call, answer and new state.
@@ -51,11 +51,11 @@ pub trait VhostUserBackendReqHandlerMut: Drop {
     fn get_features(&mut self) -> Result<u64>
         ensures { gives self.old GetFeatures (seen_result result) self.new };
 
-    /// Chooses virtio features, as bits (VHOST_USER_SET_FEATURES).
+    /// Sets the accepted virtio features, as bits (VHOST_USER_SET_FEATURES).
     fn set_features(&mut self, features: u64) -> Result<()>
         ensures { gives self.old (SetFeatures features) (seen_result result) self.new };
 
-    /// Gives the device the guest's memory: its regions, and the handle that maps each, in their order
+    /// Gives the device the guest's memory: its regions, and the file descriptor that maps each, in order
     /// (VHOST_USER_SET_MEM_TABLE). While postcopy listens, the answer is where the device has mapped each
     /// region.
     fn set_mem_table(
@@ -83,33 +83,33 @@ pub trait VhostUserBackendReqHandlerMut: Drop {
     ) -> Result<()>
         ensures { gives self.old (SetVringAddr (record { index = index; flags = vring_addr_bits flags; descriptor = descriptor; used = used; available = available; log = log })) (seen_result result) self.new };
 
-    /// Says at which descriptor a ring goes on (VHOST_USER_SET_VRING_BASE).
+    /// Sets the first index of a ring to look for available descriptors (VHOST_USER_SET_VRING_BASE).
     fn set_vring_base(&mut self, index: u32, base: u32) -> Result<()>
         ensures { gives self.old (SetVringBase index base) (seen_result result) self.new };
 
-    /// Stops a ring, and answers at which descriptor it would go on (VHOST_USER_GET_VRING_BASE).
+    /// Stops a ring, and answers its next index to look for available descriptors (VHOST_USER_GET_VRING_BASE).
     fn get_vring_base(&mut self, index: u32) -> Result<VhostUserVringState>
         ensures { gives self.old (GetVringBase index) (seen_result result) self.new };
 
-    /// Gives a ring the handle that tells of available buffers, or none if the device is to look for them
-    /// itself (VHOST_USER_SET_VRING_KICK).
+    /// Gives a ring its kick descriptor, by which the driver signals available buffers, or none if the device is to
+    /// poll for them (VHOST_USER_SET_VRING_KICK).
     fn set_vring_kick(&mut self, index: u8, fd: Option<<Self::Link as Link>::Handle>) -> Result<()>
         ensures { gives self.old (SetVringKick index fd) (seen_result result) self.new };
 
-    /// Gives a ring the handle by which the device tells of used buffers, or none if nobody is to be told
-    /// (VHOST_USER_SET_VRING_CALL).
+    /// Gives a ring its call descriptor, by which the device signals used buffers, or none if nobody is to be
+    /// signalled (VHOST_USER_SET_VRING_CALL).
     fn set_vring_call(&mut self, index: u8, fd: Option<<Self::Link as Link>::Handle>) -> Result<()>
         ensures { gives self.old (SetVringCall index fd) (seen_result result) self.new };
 
-    /// Gives a ring the handle by which the device tells of errors, or none (VHOST_USER_SET_VRING_ERR).
+    /// Gives a ring its error descriptor, by which the device signals errors, or none (VHOST_USER_SET_VRING_ERR).
     fn set_vring_err(&mut self, index: u8, fd: Option<<Self::Link as Link>::Handle>) -> Result<()>
         ensures { gives self.old (SetVringErr index fd) (seen_result result) self.new };
 
-    /// The features of the protocol that the device offers (VHOST_USER_GET_PROTOCOL_FEATURES).
+    /// The protocol features that the device offers (VHOST_USER_GET_PROTOCOL_FEATURES).
     fn get_protocol_features(&mut self) -> Result<VhostUserProtocolFeatures>
         ensures { gives self.old GetProtocolFeatures (seen_bits result) self.new };
 
-    /// Chooses features of the protocol, as bits (VHOST_USER_SET_PROTOCOL_FEATURES).
+    /// Sets the accepted protocol features, as bits (VHOST_USER_SET_PROTOCOL_FEATURES).
     fn set_protocol_features(&mut self, features: u64) -> Result<()>
         ensures { gives self.old (SetProtocolFeatures features) (seen_result result) self.new };
 
@@ -117,7 +117,7 @@ pub trait VhostUserBackendReqHandlerMut: Drop {
     fn get_queue_num(&mut self) -> Result<u64>
         ensures { gives self.old GetQueueNum (seen_result result) self.new };
 
-    /// Turns a ring on or off (VHOST_USER_SET_VRING_ENABLE).
+    /// Enables or disables a ring (VHOST_USER_SET_VRING_ENABLE).
     fn set_vring_enable(&mut self, index: u32, enable: bool) -> Result<()>
         ensures { gives self.old (SetVringEnable index enable) (seen_result result) self.new };
 
@@ -137,27 +137,26 @@ pub trait VhostUserBackendReqHandlerMut: Drop {
     fn set_backend_req_fd(&mut self, backend: Backend<Self::Link>)
         ensures { gives self.old (SetBackendReqFd backend) tt self.new };
 
-    /// Gives the device the channel to a display (VHOST_USER_GPU_SET_SOCKET).
+    /// Gives the device the vhost-user-gpu channel (VHOST_USER_GPU_SET_SOCKET).
     fn set_gpu_socket(&mut self, gpu_backend: GpuBackend<Self::Link>) -> Result<()>
         ensures { gives self.old (SetGpuSocket gpu_backend) (seen_result result) self.new };
 
-    /// The handle of a shared object, by its name (VHOST_USER_GET_SHARED_OBJECT).
+    /// The file descriptor of a shared object, by its name (VHOST_USER_GET_SHARED_OBJECT).
     fn get_shared_object(
         &mut self,
         uuid: VhostUserSharedMsg,
     ) -> Result<<Self::Link as Link>::Handle>
         ensures { gives self.old (GetSharedObject uuid) (seen_result result) self.new };
 
-    /// Makes an area for descriptors in flight, of these queues; the answer is where it lies in what the
-    /// handle maps (VHOST_USER_GET_INFLIGHT_FD).
+    /// Makes an inflight region for these queues; the answer is where it lies in what the file descriptor maps
+    /// (VHOST_USER_GET_INFLIGHT_FD).
     fn get_inflight_fd(
         &mut self,
         inflight: &VhostUserInflight,
     ) -> Result<(VhostUserInflight, <Self::Link as Link>::Handle)>
         ensures { gives self.old (GetInflightFd inflight.now) (seen_result result) self.new };
 
-    /// Gives the device an area for descriptors in flight, and the handle that maps it
-    /// (VHOST_USER_SET_INFLIGHT_FD).
+    /// Gives the device an inflight region, and the file descriptor that maps it (VHOST_USER_SET_INFLIGHT_FD).
     fn set_inflight_fd(
         &mut self,
         inflight: &VhostUserInflight,
@@ -165,12 +164,12 @@ pub trait VhostUserBackendReqHandlerMut: Drop {
     ) -> Result<()>
         ensures { gives self.old (SetInflightFd inflight.now file) (seen_result result) self.new };
 
-    /// How many regions of memory the device takes at most (VHOST_USER_GET_MAX_MEM_SLOTS).
+    /// How many regions of memory the device supports at most (VHOST_USER_GET_MAX_MEM_SLOTS).
     fn get_max_mem_slots(&mut self) -> Result<u64>
         ensures { gives self.old GetMaxMemSlots (seen_result result) self.new };
 
-    /// Adds one region of the guest's memory, and the handle that maps it (VHOST_USER_ADD_MEM_REG). While
-    /// postcopy listens, the answer is where the device has mapped it.
+    /// Adds one region of the guest's memory, and the file descriptor that maps it (VHOST_USER_ADD_MEM_REG).
+    /// While postcopy listens, the answer is where the device has mapped it.
     fn add_mem_region(
         &mut self,
         region: &VhostUserSingleMemoryRegion,
@@ -179,11 +178,11 @@ pub trait VhostUserBackendReqHandlerMut: Drop {
     ) -> Result<Option<VhostUserMemoryRegionBase>>
         ensures { gives self.old (AddMemRegion region.now fd postcopy_listening) (seen_result result) self.new };
 
-    /// Takes one region of the guest's memory away (VHOST_USER_REM_MEM_REG).
+    /// Removes one region of the guest's memory (VHOST_USER_REM_MEM_REG).
     fn remove_mem_region(&mut self, region: &VhostUserSingleMemoryRegion) -> Result<()>
         ensures { gives self.old (RemoveMemRegion region.now) (seen_result result) self.new };
 
-    /// Begins to save or load the device's state over a handle; the answer is another one where the device
+    /// Begins to save or load the device's state over a file descriptor; the answer is another one where the device
     /// would rather use that (VHOST_USER_SET_DEVICE_STATE_FD).
     fn set_device_state_fd(
         &mut self,
@@ -201,7 +200,7 @@ pub trait VhostUserBackendReqHandlerMut: Drop {
     fn get_shmem_config(&mut self) -> Result<VhostUserShMemConfig>
         ensures { gives self.old GetShmemConfig (seen_result result) self.new };
 
-    /// Prepares for postcopy; the answer is a handle for page faults (VHOST_USER_POSTCOPY_ADVISE).
+    /// Prepares for postcopy; the answer is a file descriptor for page faults (VHOST_USER_POSTCOPY_ADVISE).
     fn postcopy_advice(&mut self) -> Result<<Self::Link as Link>::Handle>
         ensures { gives self.old PostcopyAdvice (seen_result result) self.new };
 
@@ -218,7 +217,7 @@ pub trait VhostUserBackendReqHandlerMut: Drop {
     fn postcopy_ack_mem_regions(&mut self) -> Result<()>
         ensures { gives self.old PostcopyAckMemRegions (seen_result result) self.new };
 
-    /// Gives the device the log of dirty pages, in bytes, and the handle that maps it
+    /// Gives the device the log of dirty pages, in bytes, and the file descriptor that maps it
     /// (VHOST_USER_SET_LOG_BASE).
     fn set_log_base(&mut self, log: &VhostUserLog, file: <Self::Link as Link>::Handle) -> Result<()>
         ensures { gives self.old (SetLogBase log.now file) (seen_result result) self.new };

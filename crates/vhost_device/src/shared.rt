@@ -12,15 +12,15 @@ use vhost_message::{
 };
 
 /// A device that is called through a shared reference; a call may wait for its turn. What its calls do to it is known
-/// only to its implementer, so no promise speaks of it beyond its type.
+/// only to its implementer, so no contract speaks of it beyond its type.
 ///
 /// A ring is named by its index. Errors are the device's own. Regions and areas of memory are in bytes, by the addresses
 /// that their records say.
 ///
 /// Mirrors `vhost::vhost_user::VhostUserBackendReqHandler`, call by call.
 pub trait VhostUserBackendReqHandler: Drop {
-    /// The links over which the device may be reached. Their handles stand for memory, events and channels that are
-    /// lent to the device.
+    /// The links over which the device may be reached. Their file descriptors stand for memory, events and channels that
+    /// are lent to the device.
     type Link: Link;
 
     /// Makes the frontend the owner of the session (VHOST_USER_SET_OWNER).
@@ -35,10 +35,10 @@ pub trait VhostUserBackendReqHandler: Drop {
     /// The virtio features that the device offers, as bits (VHOST_USER_GET_FEATURES).
     fn get_features(&self, rt: &impl Wait) -> Result<u64>;
 
-    /// Chooses virtio features, as bits (VHOST_USER_SET_FEATURES).
+    /// Sets the accepted virtio features, as bits (VHOST_USER_SET_FEATURES).
     fn set_features(&self, rt: &impl Wait, features: u64) -> Result<()>;
 
-    /// Gives the device the guest's memory: its regions, and the handle that maps each, in their order
+    /// Gives the device the guest's memory: its regions, and the file descriptor that maps each, in order
     /// (VHOST_USER_SET_MEM_TABLE). While postcopy listens, the answer is where the device has mapped each
     /// region.
     fn set_mem_table(
@@ -65,14 +65,14 @@ pub trait VhostUserBackendReqHandler: Drop {
         log: u64,
     ) -> Result<()>;
 
-    /// Says at which descriptor a ring goes on (VHOST_USER_SET_VRING_BASE).
+    /// Sets the first index of a ring to look for available descriptors (VHOST_USER_SET_VRING_BASE).
     fn set_vring_base(&self, rt: &impl Wait, index: u32, base: u32) -> Result<()>;
 
-    /// Stops a ring, and answers at which descriptor it would go on (VHOST_USER_GET_VRING_BASE).
+    /// Stops a ring, and answers its next index to look for available descriptors (VHOST_USER_GET_VRING_BASE).
     fn get_vring_base(&self, rt: &impl Wait, index: u32) -> Result<VhostUserVringState>;
 
-    /// Gives a ring the handle that tells of available buffers, or none if the device is to look for them
-    /// itself (VHOST_USER_SET_VRING_KICK).
+    /// Gives a ring its kick descriptor, by which the driver signals available buffers, or none if the device is to
+    /// poll for them (VHOST_USER_SET_VRING_KICK).
     fn set_vring_kick(
         &self,
         rt: &impl Wait,
@@ -80,8 +80,8 @@ pub trait VhostUserBackendReqHandler: Drop {
         fd: Option<<Self::Link as Link>::Handle>,
     ) -> Result<()>;
 
-    /// Gives a ring the handle by which the device tells of used buffers, or none if nobody is to be told
-    /// (VHOST_USER_SET_VRING_CALL).
+    /// Gives a ring its call descriptor, by which the device signals used buffers, or none if nobody is to be
+    /// signalled (VHOST_USER_SET_VRING_CALL).
     fn set_vring_call(
         &self,
         rt: &impl Wait,
@@ -89,7 +89,7 @@ pub trait VhostUserBackendReqHandler: Drop {
         fd: Option<<Self::Link as Link>::Handle>,
     ) -> Result<()>;
 
-    /// Gives a ring the handle by which the device tells of errors, or none (VHOST_USER_SET_VRING_ERR).
+    /// Gives a ring its error descriptor, by which the device signals errors, or none (VHOST_USER_SET_VRING_ERR).
     fn set_vring_err(
         &self,
         rt: &impl Wait,
@@ -97,16 +97,16 @@ pub trait VhostUserBackendReqHandler: Drop {
         fd: Option<<Self::Link as Link>::Handle>,
     ) -> Result<()>;
 
-    /// The features of the protocol that the device offers (VHOST_USER_GET_PROTOCOL_FEATURES).
+    /// The protocol features that the device offers (VHOST_USER_GET_PROTOCOL_FEATURES).
     fn get_protocol_features(&self, rt: &impl Wait) -> Result<VhostUserProtocolFeatures>;
 
-    /// Chooses features of the protocol, as bits (VHOST_USER_SET_PROTOCOL_FEATURES).
+    /// Sets the accepted protocol features, as bits (VHOST_USER_SET_PROTOCOL_FEATURES).
     fn set_protocol_features(&self, rt: &impl Wait, features: u64) -> Result<()>;
 
     /// How many queues the device has at most (VHOST_USER_GET_QUEUE_NUM).
     fn get_queue_num(&self, rt: &impl Wait) -> Result<u64>;
 
-    /// Turns a ring on or off (VHOST_USER_SET_VRING_ENABLE).
+    /// Enables or disables a ring (VHOST_USER_SET_VRING_ENABLE).
     fn set_vring_enable(&self, rt: &impl Wait, index: u32, enable: bool) -> Result<()>;
 
     /// The greatest size of a packet, in bytes (VHOST_USER_NET_SET_MTU).
@@ -134,26 +134,25 @@ pub trait VhostUserBackendReqHandler: Drop {
     /// for it may leave this out: the channel is let go.
     fn set_backend_req_fd(&self, _rt: &impl Wait, _backend: Backend<Self::Link>) {}
 
-    /// Gives the device the channel to a display (VHOST_USER_GPU_SET_SOCKET).
+    /// Gives the device the vhost-user-gpu channel (VHOST_USER_GPU_SET_SOCKET).
     fn set_gpu_socket(&self, rt: &impl Wait, gpu_backend: GpuBackend<Self::Link>) -> Result<()>;
 
-    /// The handle of a shared object, by its name (VHOST_USER_GET_SHARED_OBJECT).
+    /// The file descriptor of a shared object, by its name (VHOST_USER_GET_SHARED_OBJECT).
     fn get_shared_object(
         &self,
         rt: &impl Wait,
         uuid: VhostUserSharedMsg,
     ) -> Result<<Self::Link as Link>::Handle>;
 
-    /// Makes an area for descriptors in flight, of these queues; the answer is where it lies in what the
-    /// handle maps (VHOST_USER_GET_INFLIGHT_FD).
+    /// Makes an inflight region for these queues; the answer is where it lies in what the file descriptor maps
+    /// (VHOST_USER_GET_INFLIGHT_FD).
     fn get_inflight_fd(
         &self,
         rt: &impl Wait,
         inflight: &VhostUserInflight,
     ) -> Result<(VhostUserInflight, <Self::Link as Link>::Handle)>;
 
-    /// Gives the device an area for descriptors in flight, and the handle that maps it
-    /// (VHOST_USER_SET_INFLIGHT_FD).
+    /// Gives the device an inflight region, and the file descriptor that maps it (VHOST_USER_SET_INFLIGHT_FD).
     fn set_inflight_fd(
         &self,
         rt: &impl Wait,
@@ -161,11 +160,11 @@ pub trait VhostUserBackendReqHandler: Drop {
         file: <Self::Link as Link>::Handle,
     ) -> Result<()>;
 
-    /// How many regions of memory the device takes at most (VHOST_USER_GET_MAX_MEM_SLOTS).
+    /// How many regions of memory the device supports at most (VHOST_USER_GET_MAX_MEM_SLOTS).
     fn get_max_mem_slots(&self, rt: &impl Wait) -> Result<u64>;
 
-    /// Adds one region of the guest's memory, and the handle that maps it (VHOST_USER_ADD_MEM_REG). While
-    /// postcopy listens, the answer is where the device has mapped it.
+    /// Adds one region of the guest's memory, and the file descriptor that maps it (VHOST_USER_ADD_MEM_REG).
+    /// While postcopy listens, the answer is where the device has mapped it.
     fn add_mem_region(
         &self,
         rt: &impl Wait,
@@ -174,10 +173,10 @@ pub trait VhostUserBackendReqHandler: Drop {
         postcopy_listening: Option<bool>,
     ) -> Result<Option<VhostUserMemoryRegionBase>>;
 
-    /// Takes one region of the guest's memory away (VHOST_USER_REM_MEM_REG).
+    /// Removes one region of the guest's memory (VHOST_USER_REM_MEM_REG).
     fn remove_mem_region(&self, rt: &impl Wait, region: &VhostUserSingleMemoryRegion) -> Result<()>;
 
-    /// Begins to save or load the device's state over a handle; the answer is another one where the device
+    /// Begins to save or load the device's state over a file descriptor; the answer is another one where the device
     /// would rather use that (VHOST_USER_SET_DEVICE_STATE_FD).
     fn set_device_state_fd(
         &self,
@@ -193,7 +192,7 @@ pub trait VhostUserBackendReqHandler: Drop {
     /// The device's regions of shared memory (VHOST_USER_GET_SHMEM_CONFIG).
     fn get_shmem_config(&self, rt: &impl Wait) -> Result<VhostUserShMemConfig>;
 
-    /// Prepares for postcopy; the answer is a handle for page faults (VHOST_USER_POSTCOPY_ADVISE).
+    /// Prepares for postcopy; the answer is a file descriptor for page faults (VHOST_USER_POSTCOPY_ADVISE).
     fn postcopy_advice(&self, rt: &impl Wait) -> Result<<Self::Link as Link>::Handle>;
 
     /// Begins to listen for page faults, before the regions of memory come (VHOST_USER_POSTCOPY_LISTEN).
@@ -206,7 +205,7 @@ pub trait VhostUserBackendReqHandler: Drop {
     /// postcopy listens).
     fn postcopy_ack_mem_regions(&self, rt: &impl Wait) -> Result<()>;
 
-    /// Gives the device the log of dirty pages, in bytes, and the handle that maps it
+    /// Gives the device the log of dirty pages, in bytes, and the file descriptor that maps it
     /// (VHOST_USER_SET_LOG_BASE).
     fn set_log_base(
         &self,

@@ -16,13 +16,13 @@ pub const MAX_QUEUE_NUM: usize = 2;
 /// The greatest size of a ring, in descriptors.
 pub const MAX_VRING_NUM: usize = 256;
 
-/// How many regions of memory it takes.
+/// How many regions of memory it supports.
 pub const MAX_MEM_SLOTS: usize = 509;
 
 /// The virtio features that it offers: two of the device's own, and the protocol features.
 pub const VIRTIO_FEATURES: u64 = (1 << virtio_bit::PROTOCOL_FEATURES) | 0b11;
 
-/// A device without any function, that keeps the rules of the protocol. Where it has to give a handle, it gives one of
+/// A device without any function, that keeps the rules of the protocol. Where it has to give a file descriptor, it gives one of
 /// those that it was made with, the last one first.
 ///
 /// Mirrors the example device of the crate `vhost`, which makes temporary files.
@@ -30,11 +30,11 @@ pub const VIRTIO_FEATURES: u64 = (1 << virtio_bit::PROTOCOL_FEATURES) | 0b11;
 pub struct DummyBackendReqHandler<L: Link> {
     /// Whether a frontend owns the session.
     pub owned: bool,
-    /// Whether virtio features were chosen.
+    /// Whether virtio features were accepted.
     pub features_acked: bool,
-    /// The virtio features that were chosen.
+    /// The virtio features that were accepted.
     pub acked_features: u64,
-    /// The features of the protocol that were chosen, and SHMEM where a configuration was set.
+    /// The protocol features that were accepted, and SHMEM where a configuration was set.
     pub acked_protocol_features: u64,
     /// The greatest size of a packet that was set, in bytes; 0 before.
     pub mtu: u16,
@@ -42,21 +42,21 @@ pub struct DummyBackendReqHandler<L: Link> {
     pub queue_num: usize,
     /// The size of each ring, in descriptors.
     pub vring_num: [u32; MAX_QUEUE_NUM],
-    /// At which descriptor each ring goes on.
+    /// The first index of each ring to look for available descriptors.
     pub vring_base: [u32; MAX_QUEUE_NUM],
-    /// By what it would tell of used buffers.
+    /// The call descriptor of each ring, by which it would signal used buffers.
     pub call_fd: [Option<L::Handle>; MAX_QUEUE_NUM],
-    /// By what it is told of available buffers.
+    /// The kick descriptor of each ring, by which the driver signals available buffers.
     pub kick_fd: [Option<L::Handle>; MAX_QUEUE_NUM],
-    /// By what it would tell of errors.
+    /// The error descriptor of each ring, by which it would signal errors.
     pub err_fd: [Option<L::Handle>; MAX_QUEUE_NUM],
     /// Whether each ring was kicked, and not stopped since.
     pub vring_started: [bool; MAX_QUEUE_NUM],
-    /// Whether each ring is on.
+    /// Whether each ring is enabled.
     pub vring_enabled: [bool; MAX_QUEUE_NUM],
-    /// A copy of the handle that it gave out last for descriptors in flight.
+    /// A copy of the file descriptor that it gave out last for an inflight region.
     pub inflight_file: Option<L::Handle>,
-    /// A copy of the handle that it gave out last for a shared object.
+    /// A copy of the file descriptor that it gave out last for a shared object.
     pub shared_file: Option<L::Handle>,
     /// Its regions of shared memory, if any.
     pub shmem_config: Option<VhostUserShMemConfig>,
@@ -67,7 +67,7 @@ pub struct DummyBackendReqHandler<L: Link> {
 impl<L: Link> DummyBackendReqHandler<L> {
     ghost use Rattle.vhost_dummy_backend.specs.Dummy.{fresh, has_ring};
 
-    /// A device that nobody owns, with handles to give out.
+    /// A device that nobody owns, with file descriptors to give out.
     pub fn new(alloc: Global, spare: Vec<L::Handle>) -> Self
         ensures { result ≡ fresh alloc spare.items }
     {
@@ -93,7 +93,7 @@ impl<L: Link> DummyBackendReqHandler<L> {
         }
     }
 
-    /// Gives it regions of shared memory, and the feature SHMEM of the protocol.
+    /// Gives it regions of shared memory, and the protocol feature SHMEM.
     pub fn set_shmem_config(&mut self, config: VhostUserShMemConfig)
         ensures { self.new ≡ record self.old { shmem_config = Some config; acked_protocol_features = bit_or self.old.acked_protocol_features (2 ^ SHMEM) } }
     {

@@ -102,7 +102,7 @@ impl<L: Link> VhostUserBackendReqHandlerMut for DummyBackendReqHandler<L> {
         }
         self.acked_features = features;
         self.features_acked = true;
-        // Without the features of the protocol there is no request that would enable a ring.
+        // Without the protocol features there is no request that would enable a ring.
         self.vring_enabled = [!has_bit(features, virtio_bit::PROTOCOL_FEATURES); MAX_QUEUE_NUM];
         Ok(())
     }

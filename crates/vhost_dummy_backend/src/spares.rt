@@ -1,4 +1,4 @@
-//! Handles that the example device has to give out.
+//! File descriptors that the example device has to give out.
 
 ghost use Rattle.std.specs.Prelude.{◌≡◌, List, is_ok};
 ghost use Rattle.vhost_dummy_backend.specs.Spares.{IsLast, IsLastCopied, left};
@@ -8,7 +8,7 @@ use std::marker::Model;
 use vhost_link::Handle;
 use vhost_message::{Error, Result};
 
-/// Handles that are given out, the last one first.
+/// File descriptors that are given out, the last one first.
 #[derive(Drop)]
 pub struct Spares<H: Handle> {
     handles: Vec<H>,
@@ -21,14 +21,14 @@ impl<H: Handle> Model for Spares<H> {
 }
 
 impl<H: Handle> Spares<H> {
-    /// These handles.
+    /// These file descriptors.
     pub fn new(handles: Vec<H>) -> Self
         ensures { result ≡ handles.items }
     {
         Spares { handles }
     }
 
-    /// Takes the last handle away.
+    /// Moves the last file descriptor out.
     ///
     /// InvalidParam: there is none.
     pub fn take(&mut self) -> Result<H>
@@ -38,7 +38,7 @@ impl<H: Handle> Spares<H> {
         self.handles.pop().ok_or(Error::InvalidParam)
     }
 
-    /// Takes the last handle away, and a copy of it.
+    /// Moves the last file descriptor out, and a copy of it.
     ///
     /// InvalidParam: there is none. ReqHandlerError: it can't be copied, and stays.
     pub fn take_copied(&mut self) -> Result<(H, H)>

@@ -6,7 +6,7 @@ use vhost_frontend::Quiet;
 use vhost_link::{Link, MemLink};
 use vhost_message::{Result, VhostUserConfigFlags, VhostUserHeaderFlag, VhostUserProtocolFeatures};
 
-/// How many rings the frontend has at first, and how many retries a message may take.
+/// How many rings the frontend has at first, and the retry limit of each message.
 const RINGS: u64 = 2;
 
 const BUDGET: u32 = 3;
@@ -25,7 +25,8 @@ const ANSWERS: [&[u8]; 5] = [
     ],
 ];
 
-/// Negotiates features with the backend, and wants each request acknowledged from then on; the protocol features that were accepted.
+/// Negotiates features with the backend, and wants each request acknowledged from then on; the protocol features that were
+/// accepted.
 fn negotiate<L: Link>(frontend: &mut Quiet<L>) -> Result<VhostUserProtocolFeatures> {
     let features = frontend.get_features()?;
     frontend.set_features(features)?;

@@ -7,7 +7,7 @@ use vhost_message::{FrontendReq, VhostUserMsgHeader, VhostUserU64};
 
 type Header = VhostUserMsgHeader<FrontendReq>;
 
-/// How many retries a message may take. This link never asks for one.
+/// The retry limit of each message. This link never asks for a retry.
 const BUDGET: u32 = 3;
 
 /// Prints the message that comes next.

@@ -7,7 +7,7 @@ use std::os::unix::net::UnixStream;
 use vhost_backend_req_handler::SessionCore;
 use vhost_link::UnixLink;
 
-/// How many retries a message may take.
+/// The retry limit of each message.
 const BUDGET: u32 = 3;
 
 /// What a frontend sends: a request's name, its bytes.

@@ -13,10 +13,10 @@ use vhost_frontend::{Frontend, VhostUserFrontend};
 use vhost_link::UnixLink;
 use vhost_message::{Error, Result, VhostUserProtocolFeatures};
 
-/// Where the device listens.
+/// Where the backend listens.
 pub(crate) const PATH: &str = "device.sock";
 
-/// How many rings the frontend has at first, and how many retries a message may take.
+/// How many rings the frontend has at first, and the retry limit of each message.
 const RINGS: u64 = 1;
 
 const BUDGET: u32 = 3;
@@ -71,7 +71,7 @@ fn serve_all<D: VhostUserBackendReqHandler<Link = UnixLink>>(
     Ok(u64::MAX)
 }
 
-/// Connects, and asks for the device's features and for how many rings it has.
+/// Connects, and asks for the backend's features and for how many rings it has.
 pub(crate) fn ask(
     rt: &(impl Net + Clock + Wait),
     alloc: Global,

@@ -1,4 +1,4 @@
-//! Connecting to a device over a Unix socket.
+//! Connecting to a backend over a Unix socket.
 
 ghost use Rattle.std.specs.Prelude.{IfErr};
 ghost use Rattle.vhost_connection.specs.Sockets.{IsConnectError};
@@ -19,10 +19,10 @@ const MORE_TRIES: u32 = 5;
 const MILLISECONDS_BETWEEN: u64 = 100;
 
 impl Frontend<UnixLink> {
-    /// Connects to the socket at a path, for a new session with a device of at most so many queues. A message may take so
-    /// many retries. Where nobody listens yet, it tries up to five times more, after 100 ms each.
+    /// Connects to the socket at a path, for a new session with a backend of at most so many queues and a retry limit for
+    /// each message. Where nobody listens yet, it tries up to five times more, after 100 ms each.
     ///
-    /// SocketConnect: the system refused, whatever the number. OutOfMemory: a growth was refused.
+    /// SocketConnect: the system refused, whatever the number. OutOfMemory: an allocation failed.
     pub fn connect(
         rt: &(impl Net + Clock),
         alloc: Global,

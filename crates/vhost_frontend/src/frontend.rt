@@ -21,9 +21,9 @@ use vhost_message::{
     VhostUserProtocolFeatures, VhostUserShMemConfig, VhostUserSharedMsg, VringConfigData,
 };
 
-/// A frontend's session, shared: a clone is the same session. Each call waits until it has the session for itself: it finds a
-/// session that awaits nothing, is whole there as `Quiet`'s call of its name, and leaves a session that awaits nothing. Its
-/// errors are those of `Quiet`'s calls, within `VhostUserProtocol`.
+/// A frontend's session, shared: a clone is the same session. Each call waits until it has the session for itself: it finds
+/// a session that awaits nothing, is whole there as `Quiet`'s call of its name, and leaves a session that awaits nothing.
+/// Its errors are those of `Quiet`'s calls, within `VhostUserProtocol`.
 ///
 /// Mirrors `vhost::vhost_user::Frontend`.
 #[derive(Drop)]
@@ -45,9 +45,9 @@ impl<L: Link> Clone for Frontend<L> {
 }
 
 impl<L: Link> Frontend<L> {
-    /// A new session over a link, with a device of at most so many queues. A message may take so many retries.
+    /// A new session over a link, with a backend of at most so many queues and a retry limit for each message.
     ///
-    /// OutOfMemory: a growth was refused.
+    /// OutOfMemory: an allocation failed.
     pub fn from_stream(
         alloc: Global,
         link: L,
@@ -353,7 +353,7 @@ impl<L: Link> VhostUserFrontend for Frontend<L> {
     }
 }
 
-/// What the protocol answered, as the answer of a vhost device.
+/// What the protocol answered, as the answer of a vhost backend.
 fn within<A: Drop>(answer: vhost_message::Result<A>) -> Result<A>
     ensures { result ≡ answer_within answer }
 {

@@ -1,4 +1,4 @@
-//! The side that asks: each call of a frontend whole, and a session that many threads may use.
+//! The frontend: each call of a frontend whole, and a session that many threads may use.
 #![tactic(auto)]
 
 mod connect;

@@ -1,12 +1,12 @@
-//! Regions of memory and the handles that map them, side by side.
+//! Regions of memory and the descriptors that map them, side by side.
 
 ghost use Rattle.std.specs.Prelude.{◌≡◌, ◌<◌, ◌≤◌, ◌++◌, ◌∷◌, [], length, map};
 ghost use Rattle.vhost_message.specs.declared.limits.TheConstants.{MAX_MEM_REGIONS};
 
 use vhost_message::{MAX_MEM_REGIONS, VhostUserMemoryRegion};
 
-/// The regions of a memory table and the handles that map them, one for each. It has places for as many as a table may have, and
-/// takes no memory.
+/// The regions of a memory table and the descriptors that map them, one for each. It has places for as many as a table may
+/// have, and allocates nothing.
 ///
 /// Mirrors the upstream type of this name.
 #[derive(Drop)]
@@ -27,7 +27,7 @@ struct Held<'a, H> {
 impl<'a, H> VhostUserMemoryContext<'a, H> {
     ghost use Rattle.vhost_frontend.specs.MemoryContext.{regions_of, handles_of};
 
-    /// No region, and no handle.
+    /// No region, and no descriptor.
     pub fn new() -> Self
         ensures regions { regions_of result ≡ [] }
         ensures handles { handles_of result ≡ [] }
@@ -35,7 +35,7 @@ impl<'a, H> VhostUserMemoryContext<'a, H> {
         VhostUserMemoryContext { held: None }
     }
 
-    /// Adds a region, and the handle that maps it. The caller knows that fewer are held than a table may have.
+    /// Adds a region, and the descriptor that maps it. The caller knows that fewer are held than a table may have.
     pub fn append(&mut self, region: &VhostUserMemoryRegion, handle: &'a H)
         requires { length (regions_of self.old) < MAX_MEM_REGIONS }
         ensures regions { regions_of self.new ≡ regions_of self.old ++ region.now ∷ [] }
@@ -69,7 +69,7 @@ impl<'a, H> VhostUserMemoryContext<'a, H> {
         }
     }
 
-    /// Lends the handles, each at the place of its region.
+    /// Lends the descriptors, each at the place of its region.
     pub fn handles(&self) -> &[&'a H]
         ensures { map (λ h. h.now) result.now ≡ handles_of self.now }
     {

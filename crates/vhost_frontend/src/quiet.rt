@@ -30,12 +30,12 @@ mod rings;
 mod transfer;
 
 /// A frontend's session that awaits nothing: whoever finds it between two calls finds no answer to another's request on the
-/// way. Each call is whole; it asks, and takes the answer.
+/// way. Each call is whole: it sends the request, and receives the answer.
 ///
-/// Beside the errors that a call names, each answers those of its link, and those of its answer: PartialMessage where the stream
-/// ended, InvalidMessage where what came is not the answer. A call that is only acknowledged answers Ok once its request went
-/// out, if both sides did not agree on acknowledgements or its header asks for none; else BackendInternalError says that the
-/// device refused it. OutOfMemory: a growth was refused before the first byte, and nothing changed.
+/// Beside the errors that a call names, each answers those of its link, and those of its answer: PartialMessage where the
+/// stream ended, InvalidMessage where what came is not the answer. A call that is only acknowledged answers Ok once its
+/// request went out, if both sides did not agree on acknowledgements or its header asks for none; else BackendInternalError
+/// says that the backend refused it. OutOfMemory: an allocation failed before the first byte, and nothing changed.
 #[derive(Drop)]
 pub struct Quiet<L: Link> {
     /// The session.
@@ -44,9 +44,9 @@ pub struct Quiet<L: Link> {
 }
 
 impl<L: Link> Quiet<L> {
-    /// A new session over a link, with a device of at most so many queues. A message may take so many retries.
+    /// A new session over a link, with a backend of at most so many queues and a retry limit for each message.
     ///
-    /// OutOfMemory: a growth was refused.
+    /// OutOfMemory: an allocation failed.
     pub fn new(alloc: Global, link: L, max_queue_num: u64, budget: u32) -> Result<Self>
         ensures endpoint { IfOk result (λ q. endpoint_of q.inner ≡ fresh link budget) }
         ensures session { IfOk result (λ q. session_of q.inner ≡ new_frontend max_queue_num) }
@@ -65,7 +65,7 @@ impl<L: Link> Quiet<L> {
         self.inner.set_hdr_flags(flags);
     }
 
-    /// Whether the last call that sent or received met a fault: the link failed, or retried once too often.
+    /// Whether the last call that sent or received met an I/O error: the link failed, or retried once too often.
     pub fn faulted(&self) -> bool
         ensures { result ≡ (endpoint_of self.now.inner).faulted }
     {
@@ -73,7 +73,7 @@ impl<L: Link> Quiet<L> {
     }
 }
 
-/// Takes the acknowledgement of a call that was asked just now, where its request went out.
+/// Receives the acknowledgement of a call that was asked just now, where its request went out.
 ///
 /// Errors are those of both halves.
 fn acknowledged<L: Link>(inner: &mut FrontendInternal<L>, asked: Result<Sent>) -> Result<()>

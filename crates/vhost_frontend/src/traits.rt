@@ -1,4 +1,4 @@
-//! What a hypervisor asks of a device beside the calls of any vhost device.
+//! What a VMM asks of a vhost-user backend beside the calls of any vhost backend.
 
 use std::sync::Wait;
 use vhost_backend::{Result, VhostBackend, VhostUserMemoryRegionInfo};
@@ -8,30 +8,30 @@ use vhost_message::{
     VhostUserSharedMsg,
 };
 
-/// What a hypervisor asks of a device by the protocol vhost-user. A call may wait for its turn. A ring is named by its index.
+/// What a VMM asks of a backend by the vhost-user protocol. A call may wait for its turn. A ring is named by its index.
 ///
 /// Mirrors `vhost::vhost_user::VhostUserFrontend`.
 pub trait VhostUserFrontend: VhostBackend {
-    /// The protocol features that the device offers.
+    /// The protocol features that the backend offers.
     fn get_protocol_features(&mut self, rt: &impl Wait) -> Result<VhostUserProtocolFeatures>;
 
-    /// Chooses protocol features.
+    /// Accepts protocol features.
     fn set_protocol_features(
         &mut self,
         rt: &impl Wait,
         features: VhostUserProtocolFeatures,
     ) -> Result<()>;
 
-    /// How many queues the device has at most.
+    /// How many queues the backend has at most.
     fn get_queue_num(&mut self, rt: &impl Wait) -> Result<u64>;
 
     /// Resets the device.
     fn reset_device(&mut self, rt: &impl Wait) -> Result<()>;
 
-    /// Switches a ring on or off.
+    /// Enables or disables a ring.
     fn set_vring_enable(&mut self, rt: &impl Wait, queue_index: usize, enable: bool) -> Result<()>;
 
-    /// The bytes of the configuration space from this one on, as many as the buffer has, and the part that the device says
+    /// The bytes of the configuration space from this one on, as many as the buffer has, and the part that the backend says
     /// they are.
     fn get_config(
         &mut self,
@@ -51,24 +51,24 @@ pub trait VhostUserFrontend: VhostBackend {
         buf: &[u8],
     ) -> Result<()>;
 
-    /// Gives the channel on which the device may ask.
+    /// Gives the backend channel, on which the backend may send requests.
     fn set_backend_request_fd(&mut self, rt: &impl Wait, fd: &Self::Handle) -> Result<()>;
 
-    /// The handle of a shared object.
+    /// The descriptor of a shared object.
     fn get_shared_object(
         &mut self,
         rt: &impl Wait,
         shared_msg: &VhostUserSharedMsg,
     ) -> Result<Self::Handle>;
 
-    /// The buffer for descriptors in flight: where it lies, and its handle.
+    /// The inflight region: where it lies, and its file descriptor.
     fn get_inflight_fd(
         &mut self,
         rt: &impl Wait,
         inflight: &VhostUserInflight,
     ) -> Result<(VhostUserInflight, Self::Handle)>;
 
-    /// Gives the buffer for descriptors in flight.
+    /// Gives the inflight region.
     fn set_inflight_fd(
         &mut self,
         rt: &impl Wait,
@@ -76,17 +76,17 @@ pub trait VhostUserFrontend: VhostBackend {
         fd: &Self::Handle,
     ) -> Result<()>;
 
-    /// How many regions of memory the device can be given.
+    /// How many regions of memory the backend can be given.
     fn get_max_mem_slots(&mut self, rt: &impl Wait) -> Result<u64>;
 
-    /// Gives the device a region of memory; while postcopy listens, where the device has mapped it.
+    /// Gives the backend a region of memory; while postcopy listens, where the backend has mapped it.
     fn add_mem_region(
         &mut self,
         rt: &impl Wait,
         region: &VhostUserMemoryRegionInfo<'_, Self::Handle>,
     ) -> Result<Option<u64>>;
 
-    /// Takes a region of memory from the device.
+    /// Removes a region of memory from the backend.
     fn remove_mem_region(
         &mut self,
         rt: &impl Wait,
@@ -96,8 +96,8 @@ pub trait VhostUserFrontend: VhostBackend {
     /// The regions of shared memory.
     fn get_shmem_config(&mut self, rt: &impl Wait) -> Result<VhostUserShMemConfig>;
 
-    /// Begins a transfer of the device's state over this handle. The answer is the handle that the device wants in its place,
-    /// if any.
+    /// Begins a transfer of the backend's state over this descriptor. The answer is the descriptor that the backend wants
+    /// in its place, if any.
     fn set_device_state_fd(
         &self,
         rt: &impl Wait,
@@ -106,21 +106,21 @@ pub trait VhostUserFrontend: VhostBackend {
         fd: Self::Handle,
     ) -> Result<Option<Self::Handle>>;
 
-    /// Tells whether the transfer succeeded.
+    /// Checks whether the transfer succeeded.
     fn check_device_state(&self, rt: &impl Wait) -> Result<()>;
 
-    /// Tells that postcopy is going to begin. The answer is the handle of page faults.
+    /// Announces that postcopy is going to begin. The answer is the userfaultfd.
     fn postcopy_advise(&mut self, rt: &impl Wait) -> Result<Self::Handle>;
 
-    /// Tells the device to listen for page faults.
+    /// Asks the backend to listen for page faults.
     fn postcopy_listen(&mut self, rt: &impl Wait) -> Result<()>;
 
-    /// Tells that postcopy has ended.
+    /// Announces that postcopy has ended.
     fn postcopy_end(&mut self, rt: &impl Wait) -> Result<()>;
 
     /// Acknowledges that the regions are mapped which this request brought: SET_MEM_TABLE or ADD_MEM_REG.
     fn postcopy_ack_mem_regions(&mut self, rt: &impl Wait, code: FrontendReq) -> Result<()>;
 
-    /// Tells the greatest size of a packet, in bytes.
+    /// Sets the MTU, in bytes.
     fn set_mtu(&mut self, rt: &impl Wait, mtu: u16) -> Result<()>;
 }

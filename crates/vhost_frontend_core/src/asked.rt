@@ -36,7 +36,7 @@ pub enum Kept {
     Place(Box<VhostUserShMemConfig>),
 }
 
-/// A request that was sent. Only the half of a call that asks makes one, and the half that takes uses it up.
+/// A request that was sent. The half of a call that sends makes it, and the half that receives uses it up.
 #[derive(Drop)]
 pub struct Sent {
     pub(crate) request: VhostUserMsgHeader<FrontendReq>,

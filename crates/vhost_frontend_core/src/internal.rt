@@ -33,11 +33,11 @@ mod transfer;
 
 type Header = VhostUserMsgHeader<FrontendReq>;
 
-/// A frontend's session over a link. Each call has a half that asks and a half that takes the answer.
+/// A frontend's session over a link. Each call has a half that sends the request and a half that receives the answer.
 ///
-/// Before the half of a call that asks, nothing is awaited, or the endpoint is broken; the half that takes is given what
-/// that call's other half answered last. A fault of the link between a request and the end of its answer breaks the
-/// endpoint.
+/// Before the half of a call that sends, nothing is awaited, or the endpoint is poisoned; the half that receives is given
+/// what that call's other half answered last. An I/O error of the link between a request and the end of its answer poisons
+/// the endpoint.
 ///
 /// Mirrors what `vhost::vhost_user::Frontend` holds behind its lock.
 #[derive(Drop)]
@@ -58,9 +58,9 @@ impl<L: Link> FrontendInternal<L> {
     ghost use Rattle.vhost_frontend_core.specs.contracts.internal.FrontendInternal.{the_row};
     ghost use Rattle.vhost_frontend_core.specs.Frontend.{endpoint_of, session_of, awaits, with_endpoint};
 
-    /// A new session over a link, with a device of at most so many queues. A message may take so many retries.
+    /// A new session over a link, with a backend of at most so many queues and a retry limit for each message.
     ///
-    /// OutOfMemory: a growth was refused.
+    /// OutOfMemory: an allocation failed.
     pub fn new(alloc: Global, link: L, max_queue_num: u64, budget: u32) -> Result<Self>
         ensures endpoint { IfOk result (λ f. endpoint_of f ≡ fresh link budget) }
         ensures session { IfOk result (λ f. session_of f ≡ new_frontend max_queue_num) }
@@ -92,7 +92,7 @@ impl<L: Link> FrontendInternal<L> {
         self.awaited
     }
 
-    /// Whether the last call that sent or received met a fault: the link failed, or retried once too often.
+    /// Whether the last call that sent or received met an I/O error: the link failed, or retried once too often.
     pub fn faulted(&self) -> bool
         ensures { result ≡ (endpoint_of self.now).faulted }
     {

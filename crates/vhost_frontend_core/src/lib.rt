@@ -1,4 +1,4 @@
-//! The side that asks: a frontend's session over a link, each call in two halves; and its calls as values.
+//! The frontend: a frontend's session over a link, each call in two halves; and its calls as values.
 #![tactic(auto)]
 
 mod asked;

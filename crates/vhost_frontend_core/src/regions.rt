@@ -1,4 +1,5 @@
-//! The regions of a memory table: which may be sent, their bytes and handles, and where a reply says that they are mapped.
+//! The regions of a memory table: which may be sent, their bytes and descriptors, and where a reply says that they are
+//! mapped.
 
 ghost use Rattle.std.specs.Prelude.{◌≡◌, ◌≤◌, ◌*◌, ◌&&◌, ◌==◌, true, IfOk, IfSome, is_some, length, map, nat_le, take};
 ghost use Rattle.std.specs.List.{list_all};
@@ -20,7 +21,7 @@ pub fn is_same(region: &VhostUserMemoryRegion, other: &VhostUserMemoryRegion) ->
     region.guest_phys_addr == other.guest_phys_addr && region.memory_size == other.memory_size
 }
 
-/// Whether the region's size is not 0, and it has a handle.
+/// Whether the region's size is not 0, and it has a descriptor.
 fn is_usable<H>(region: &VhostUserMemoryRegionInfo<H>) -> bool
     ensures { result ≡ ask.is_usable (info_in region.now) }
 {
@@ -39,9 +40,9 @@ fn are_usable<H>(regions: &[VhostUserMemoryRegionInfo<H>]) -> bool
     true
 }
 
-/// The handle of the first region of a table, where the table may be sent.
+/// The descriptor of the first region of a table, where the table may be sent.
 ///
-/// InvalidParam: there is no region, there are more than a table may have, or one has the size 0 or no handle.
+/// InvalidParam: there is no region, there are more than a table may have, or one has the size 0 or no descriptor.
 pub fn first_handle<'a, H>(regions: &[VhostUserMemoryRegionInfo<'a, H>]) -> Result<&'a H>
     ensures test { ask.param (nat_le 1 (length (infos_in regions.now)) && nat_le (length (infos_in regions.now)) MAX_MEM_REGIONS && list_all ask.is_usable (infos_in regions.now)) ≡ tested result }
     ensures few { IfOk result (λ _. length regions.now ≤ MAX_MEM_REGIONS) }
@@ -57,7 +58,7 @@ pub fn first_handle<'a, H>(regions: &[VhostUserMemoryRegionInfo<'a, H>]) -> Resu
     Ok(handle)
 }
 
-/// The handles of regions that all have one, at the front of a table's places; in the other places is this one.
+/// The descriptors of regions that all have one, at the start of a table's places; in the other places is this one.
 pub fn handles_of<'a, H>(
     regions: &[VhostUserMemoryRegionInfo<'a, H>],
     other: &'a H,
@@ -74,7 +75,7 @@ pub fn handles_of<'a, H>(
     handles
 }
 
-/// The regions of a table, at the front of a table's places.
+/// The regions of a table, at the start of a table's places.
 pub fn table_of<H>(
     regions: &[VhostUserMemoryRegionInfo<H>],
 ) -> [VhostUserMemoryRegion; MAX_MEM_REGIONS]
@@ -88,7 +89,7 @@ pub fn table_of<H>(
     table
 }
 
-/// Where a table's regions are mapped, as the text of a reply's regions says. None: they are other regions.
+/// Where a table's regions are mapped, as the wire bytes of a reply's regions say. None: they are other regions.
 pub fn bases_of(table: KeptTable, text: &[u8]) -> Option<Vec<u64>>
     requires { length text.now ≡ MEMORY_REGION_SIZE * table.count }
     ensures same { is_some result ≡ are_same_ranges (take table.count table.regions.items) (regions_of table.count text.now) }

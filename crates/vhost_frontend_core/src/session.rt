@@ -16,7 +16,7 @@ use vhost_message::{
 };
 use vhost_protocol::Awaited;
 
-/// The features offered and acknowledged, the number of queues, the flags of each request, and how far postcopy has come.
+/// The features offered and accepted, the number of queues, the flags of each request, and how far postcopy has come.
 #[derive(Clone, Copy, Debug)]
 pub struct FrontendSession {
     pub offered: u64,
@@ -28,7 +28,7 @@ pub struct FrontendSession {
 }
 
 impl FrontendSession {
-    /// A new session with a device of at most so many queues.
+    /// A new session with a backend of at most so many queues.
     pub fn new(max_queue_num: u64) -> FrontendSession
         ensures { frontend_of result ≡ new_frontend max_queue_num }
     {
@@ -80,7 +80,7 @@ impl FrontendSession {
         matches!(self.postcopy, PostcopyState::Listen)
     }
 
-    /// InactiveOperation: the protocol feature of this bit is not acknowledged.
+    /// InactiveOperation: the protocol feature of this bit is not accepted.
     pub fn needs(&self, bit: u32) -> Result<()>
         requires { bit < 64 }
         ensures { ask.frontend_feature (frontend_of self.now) bit ≡ tested result }
@@ -93,7 +93,7 @@ impl FrontendSession {
         Ok(())
     }
 
-    /// InvalidParam: the device has no queue of this index, or the index has more than 32 bits.
+    /// InvalidParam: the backend has no queue of this index, or the index has more than 32 bits.
     pub fn index(&self, index: usize) -> Result<u32>
         ensures test { ask.index (frontend_of self.now) index ≡ tested result }
         ensures same { IfOk result (λ i. i ≡ index) }
@@ -104,8 +104,8 @@ impl FrontendSession {
         Ok(index as u32)
     }
 
-    /// InvalidParam: the device has no queue of this index, or the index has more than the eight bits that it has beside a
-    /// handle.
+    /// InvalidParam: the backend has no queue of this index, or the index has more than the eight bits that it has beside
+    /// a file descriptor.
     pub fn small_index(&self, index: usize) -> Result<u64>
         ensures test { ask.small_index (frontend_of self.now) index ≡ tested result }
         ensures same { IfOk result (λ i. i ≡ index) }

@@ -1,4 +1,4 @@
-//! A frontend's calls as values: each is asked, and its answer taken, by the halves of its name.
+//! A frontend's calls as values: each is sent and its answer received by the halves of its name.
 
 mod answer;
 mod asking;

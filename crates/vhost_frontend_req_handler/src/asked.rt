@@ -2,10 +2,10 @@
 
 use vhost_message::HandlerResult;
 
-/// A request was brought before the device, or why not.
+/// The frontend's side was called, or why not.
 #[derive(Drop)]
 pub enum Asked {
-    /// The device's answer.
+    /// The answer of the frontend's side.
     Answered(HandlerResult<u64>),
     /// The body is not what the request brings.
     BadBody,

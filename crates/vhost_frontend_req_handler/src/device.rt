@@ -1,4 +1,4 @@
-//! A frontend's side of the reverse channel, as its handler calls it.
+//! A frontend's side of the backend channel, as its handler calls it.
 
 ghost use Rattle.std.specs.Prelude.{ℕ, Result};
 ghost use Rattle.vhost_protocol.specs.IoError.{IoError, seen_io_result};
@@ -6,14 +6,14 @@ ghost use Rattle.vhost_protocol.specs.Reverse.{ReverseCall, HandleConfigChange, 
 
 use vhost_message::{HandlerResult, VhostUserMMap, VhostUserSharedMsg};
 
-/// What a device asks of its frontend, called through an exclusive reference. Its implementer chooses how each call may
+/// What a backend asks of its frontend, called through an exclusive reference. Its implementer chooses how each call may
 /// change it and what it may answer; every call of a handler is one of these, with the arguments of the request.
 ///
 /// An answer is a number, 0 for success. There are no default bodies: the implementer's relation says what each answers.
 ///
 /// Mirrors `vhost::vhost_user::VhostUserFrontendReqHandlerMut`, call by call.
 pub trait VhostUserFrontendReqHandlerMut: Drop {
-    /// The handles that a request may bring, in the crate `vhost` file descriptors. They are lent to the call.
+    /// The descriptors that a request may bring, file descriptors in the crate `vhost`. They are lent to the call.
     type Handle: Drop;
 
     /// Old state, call, answer and new state.
@@ -23,7 +23,7 @@ pub trait VhostUserFrontendReqHandlerMut: Drop {
     fn handle_config_change(&mut self) -> HandlerResult<u64>
         ensures { gives self.old HandleConfigChange (seen_io_result result) self.new };
 
-    /// The device shares an object of this name (VHOST_USER_BACKEND_SHARED_OBJECT_ADD).
+    /// The backend shares an object of this name (VHOST_USER_BACKEND_SHARED_OBJECT_ADD).
     fn shared_object_add(&mut self, uuid: &VhostUserSharedMsg) -> HandlerResult<u64>
         ensures { gives self.old (SharedObjectAdd uuid.now) (seen_io_result result) self.new };
 
@@ -31,7 +31,7 @@ pub trait VhostUserFrontendReqHandlerMut: Drop {
     fn shared_object_remove(&mut self, uuid: &VhostUserSharedMsg) -> HandlerResult<u64>
         ensures { gives self.old (SharedObjectRemove uuid.now) (seen_io_result result) self.new };
 
-    /// It looks up an object of this name, with a handle (VHOST_USER_BACKEND_SHARED_OBJECT_LOOKUP).
+    /// It looks up an object of this name, with a file descriptor (VHOST_USER_BACKEND_SHARED_OBJECT_LOOKUP).
     fn shared_object_lookup(
         &mut self,
         uuid: &VhostUserSharedMsg,

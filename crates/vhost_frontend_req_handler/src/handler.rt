@@ -1,4 +1,4 @@
-//! Serving the reverse channel by what others may share.
+//! Serving the backend channel by a shared frontend's side.
 
 ghost use Rattle.std.specs.Prelude.{◌≡◌, ◌≢◌, pos, Some, None, false, IfErr, IfOk};
 ghost use Rattle.vhost_message.specs.declared.error.Error.TheVariants.{OutOfMemory};
@@ -11,14 +11,14 @@ use std::sync::{Arc, Wait};
 use vhost_link::Link;
 use vhost_message::Result;
 
-/// The frontend's side of the reverse channel: the end by which it serves, the other end to be given to the device, and
-/// what serves the requests, which others may share.
+/// The frontend's side of the backend channel: the end by which it serves, the other end to be given to the backend, and
+/// what serves the requests, which is shared.
 ///
 /// Mirrors `vhost::vhost_user::FrontendReqHandler`.
 #[derive(Drop)]
 pub struct FrontendReqHandler<L: Link, S> {
     core: FrontendReqCore<L>,
-    /// The device's end.
+    /// The backend's end.
     tx: L::Handle,
     backend: Arc<S, Global>,
 }
@@ -28,9 +28,9 @@ impl<L: Link, S: VhostUserFrontendReqHandler<Handle = L::Handle>> FrontendReqHan
     ghost use Rattle.vhost_frontend_req_handler.specs.Core.{endpoint_of, server_in};
     ghost use Rattle.vhost_frontend_req_handler.specs.Sharing.{ServesShared};
 
-    /// A handler over both ends of a connection, without acknowledgements. A message may take so many retries.
+    /// A handler over both ends of a connection, without acknowledgements. Each message may use at most so many retries.
     ///
-    /// OutOfMemory: a growth was refused.
+    /// OutOfMemory: an allocation failed.
     pub fn new(
         alloc: Global,
         tx: L::Handle,
@@ -50,7 +50,7 @@ impl<L: Link, S: VhostUserFrontendReqHandler<Handle = L::Handle>> FrontendReqHan
         })
     }
 
-    /// Lends the device's end.
+    /// Lends the backend's end.
     pub fn get_tx_raw_fd(&self) -> &L::Handle
         ensures { result.now ≡ self.now.tx }
     {
@@ -67,7 +67,7 @@ impl<L: Link, S: VhostUserFrontendReqHandler<Handle = L::Handle>> FrontendReqHan
     }
 
     /// Marks it as failed with the number of a system's error: from now on each request is answered `SocketBroken` with
-    /// that number, and nothing is read. The number 0 takes the mark away.
+    /// that number, and nothing is read. The number 0 removes the mark.
     pub fn set_failed(&mut self, error: i32)
         ensures endpoint { endpoint_of self.new.core ≡ endpoint_of self.old.core }
         ensures cleared { error ≡ pos 0 → server_in self.new.core ≡ record (server_in self.old.core) { failed = None } }

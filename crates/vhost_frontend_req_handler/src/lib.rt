@@ -1,5 +1,4 @@
-//! Serving the reverse channel: each request of a device is read whole, tested, and answered by its row of the protocol
-//! table.
+//! Serving the backend channel: each request of a backend is read whole, checked, and answered by its handling rule.
 #![tactic(auto)]
 
 mod asked;

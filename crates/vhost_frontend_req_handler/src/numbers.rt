@@ -47,7 +47,7 @@ fn negated(number: i32) -> u64
     0u64.wrapping_sub(size)
 }
 
-/// The device's answer, as the handler hands it on.
+/// The answer of the frontend's side, as the handler hands it on.
 pub fn hand_on(answer: HandlerResult<u64>) -> Result<u64>
     ensures { seen_result result ≡ handed_on (seen_io_result answer) }
 {

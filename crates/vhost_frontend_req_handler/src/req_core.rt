@@ -1,4 +1,4 @@
-//! The frontend's side of the reverse channel over any link.
+//! The frontend's side of the backend channel over any link.
 
 ghost use Rattle.std.specs.Prelude.{◌≡◌, ◌≢◌, ◌+◌, ◌<◌, ◌&&◌, ℤ, pos, Some, None, Err, false, IfOk, IfErr, vec_len, vec_capacity};
 ghost use Rattle.vhost_message.specs.declared.cause.IoCause.TheVariants.{Raw};
@@ -16,10 +16,10 @@ mod rows;
 
 type Header = VhostUserMsgHeader<BackendReq>;
 
-/// A request of a device as it was read.
+/// A request of a backend as it was read.
 type Request = vhost_connection::Request<BackendReq>;
 
-/// The frontend's side of the reverse channel over a link, without what serves the requests.
+/// The frontend's side of the backend channel over a link, without what serves the requests.
 ///
 /// Mirrors `vhost::vhost_user::FrontendReqHandler`, which holds that behind an `Arc`.
 #[derive(Drop)]
@@ -29,7 +29,7 @@ pub struct FrontendReqCore<L: Link> {
     reply_ack: bool,
     /// The failure that marks it, if any.
     failed: Option<i32>,
-    /// The body of the request that is served lies at its front.
+    /// The body of the request that is served lies at its start.
     body: Body,
 }
 
@@ -43,9 +43,9 @@ impl<L: Link> FrontendReqCore<L> {
     ghost use Rattle.vhost_frontend_req_handler.specs.Core.{endpoint_of, server_in, with_endpoint, MeetsRow, Acknowledges};
     ghost use Rattle.vhost_frontend_req_handler.specs.Handling.{HandlesOne, Runs};
 
-    /// The frontend's side over a link, without acknowledgements. A message may take so many retries.
+    /// The frontend's side over a link, without acknowledgements. Each message may use at most so many retries.
     ///
-    /// OutOfMemory: a growth was refused.
+    /// OutOfMemory: an allocation failed.
     pub fn new(alloc: Global, rx: L, budget: u32) -> Result<Self>
         ensures endpoint { IfOk result (λ c. endpoint_of c ≡ fresh rx budget) }
         ensures server { IfOk result (λ c. server_in c ≡ record { reply_ack = false; failed = None }) }
@@ -60,7 +60,7 @@ impl<L: Link> FrontendReqCore<L> {
         })
     }
 
-    /// Whether the last call that sent or received met a fault: the link failed, or retried once too often.
+    /// Whether the last call that sent or received met an I/O error: the link failed, or retried once too often.
     pub fn faulted(&self) -> bool
         ensures { result ≡ (endpoint_of self.now).faulted }
     {
@@ -76,7 +76,7 @@ impl<L: Link> FrontendReqCore<L> {
     }
 
     /// Marks it as failed with the number of a system's error: from now on each request is answered `SocketBroken` with
-    /// that number, and nothing is read. The number 0 takes the mark away.
+    /// that number, and nothing is read. The number 0 removes the mark.
     pub fn set_failed(&mut self, error: i32)
         ensures endpoint { endpoint_of self.new ≡ endpoint_of self.old }
         ensures cleared { error ≡ pos 0 → server_in self.new ≡ record (server_in self.old) { failed = None } }
@@ -87,11 +87,11 @@ impl<L: Link> FrontendReqCore<L> {
 
     /// Reads one request and serves it; the answer is the number of the one that serves it.
     ///
-    /// SocketBroken: it is marked as failed, and nothing was read; or the endpoint is broken. Disconnected: the stream
+    /// SocketBroken: it is marked as failed, and nothing was read; or the endpoint is poisoned. Disconnected: the stream
     /// ended between two requests. PartialMessage: it ended in a header. InvalidMessage: the message is malformed, or its
-    /// request is not served. ReqHandlerError: the error of the one that serves it, as its cause. OutOfMemory: the endpoint
-    /// had given its list of handles away, and no memory for another was found; nothing was read. Other errors are those
-    /// of the link, which break the endpoint once a byte of the request has moved.
+    /// request is not served. ReqHandlerError: the error of the one that serves it, as its cause. OutOfMemory: the endpoint's
+    /// descriptor buffer was moved out, and another could not be allocated; nothing was read. Other errors are those of the
+    /// link, which poison the endpoint once a byte of the request has moved.
     pub fn handle_request<D: VhostUserFrontendReqHandlerMut<Handle = L::Handle>>(
         &mut self,
         device: &mut D,
@@ -140,7 +140,7 @@ impl<L: Link> FrontendReqCore<L> {
         &mut self.endpoint
     }
 
-    /// Answers a request that was read: the row of its code. A bad body is refused in silence.
+    /// Answers a request that was read, by the handling rule of its code. A bad body is refused without a reply.
     fn answer<D: VhostUserFrontendReqHandlerMut<Handle = L::Handle>>(
         &mut self,
         device: &mut D,

@@ -9,13 +9,13 @@ use vhost_message::{HandlerResult, IoError, VhostUserMMap, VhostUserSharedMsg};
 /// The number of the system's error for a call that is not there.
 const ENOSYS: i32 = 38;
 
-/// What a device asks of its frontend, called through a shared reference; a call may wait for its turn. What its calls do
-/// is known only to its implementer, so no promise speaks of it beyond its type. A call that is left out answers the
+/// What a backend asks of its frontend, called through a shared reference; a call may wait for its turn. What its calls
+/// do is known only to its implementer, so no contract speaks of it beyond its type. A call that is left out answers the
 /// system's error 38.
 ///
 /// Mirrors `vhost::vhost_user::VhostUserFrontendReqHandler`, call by call.
 pub trait VhostUserFrontendReqHandler: Drop {
-    /// The handles that a request may bring, in the crate `vhost` file descriptors. They are lent to the call.
+    /// The descriptors that a request may bring, file descriptors in the crate `vhost`. They are lent to the call.
     type Handle: Drop;
 
     /// The device's configuration changed (VHOST_USER_BACKEND_CONFIG_CHANGE_MSG).
@@ -23,7 +23,7 @@ pub trait VhostUserFrontendReqHandler: Drop {
         not_there()
     }
 
-    /// The device shares an object of this name (VHOST_USER_BACKEND_SHARED_OBJECT_ADD).
+    /// The backend shares an object of this name (VHOST_USER_BACKEND_SHARED_OBJECT_ADD).
     fn shared_object_add(&self, _rt: &impl Wait, _uuid: &VhostUserSharedMsg) -> HandlerResult<u64> {
         not_there()
     }
@@ -37,7 +37,7 @@ pub trait VhostUserFrontendReqHandler: Drop {
         not_there()
     }
 
-    /// It looks up an object of this name, with a handle (VHOST_USER_BACKEND_SHARED_OBJECT_LOOKUP).
+    /// It looks up an object of this name, with a file descriptor (VHOST_USER_BACKEND_SHARED_OBJECT_LOOKUP).
     fn shared_object_lookup(
         &self,
         _rt: &impl Wait,

@@ -1,4 +1,4 @@
-//! A device, which asks its frontend over the reverse channel.
+//! A device, which asks its frontend over the backend channel.
 
 use crate::answer::Answer;
 use crate::asking::Caller;

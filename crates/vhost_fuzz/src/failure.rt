@@ -9,7 +9,7 @@ use vhost_test_tools::Miss;
 /// Why the fuzzer can't go on.
 #[derive(Drop)]
 pub(crate) enum Failure {
-    /// Memory was refused.
+    /// An allocation failed.
     OutOfMemory,
     /// A side could not be made.
     Side(Error),

@@ -9,7 +9,7 @@ use vhost_link::MemLink;
 use vhost_message::Error;
 use vhost_test_tools::call_in;
 
-/// How many rings the frontend is told of.
+/// How many rings the frontend knows of.
 const QUEUES: u64 = 2;
 
 impl Caller for FrontendInternal<MemLink> {
@@ -23,7 +23,7 @@ impl Caller for FrontendInternal<MemLink> {
         Ok(call_in(alloc, line)?)
     }
 
-    /// InvalidOperation: an answer is awaited that was not taken.
+    /// InvalidOperation: an answer is awaited that was not received.
     fn make(&mut self, call: &FrontendCall) -> Answer {
         let Awaited::Nobody = self.awaited() else {
             return Answer::failed(&Error::InvalidOperation("an answer was not taken"));

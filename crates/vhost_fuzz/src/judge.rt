@@ -8,7 +8,7 @@ use std::alloc::Global;
 use vhost_link::Cut;
 use vhost_message::MSG_HEADER_SIZE;
 
-/// What did not hold, and how the link was cut.
+/// What did not hold, and what the calls of the link did.
 #[derive(Drop)]
 pub(crate) struct Finding {
     pub(crate) what: &'static str,
@@ -32,7 +32,7 @@ pub(crate) fn ones(alloc: Global, count: usize) -> Result<Vec<Cut>, Failure> {
     Ok(cuts)
 }
 
-/// Pieces of any size, and as many retries as one message may take.
+/// Pieces of any size, and as many retries as one message may use.
 fn any_cuts(alloc: Global, dice: &mut Dice) -> Result<Vec<Cut>, Failure> {
     let mut cuts = Vec::new(alloc);
     let mut retries = 0;
@@ -47,7 +47,7 @@ fn any_cuts(alloc: Global, dice: &mut Dice) -> Result<Vec<Cut>, Failure> {
     Ok(cuts)
 }
 
-/// A fault, or a retry more than a message may take, behind other calls of the link.
+/// An I/O error, or a retry more than a message may use, behind other calls of the link.
 fn fault_after(dice: &mut Dice, mut cuts: Vec<Cut>) -> Result<Vec<Cut>, Failure> {
     let number = match dice.below(6) {
         0 => 5,
@@ -158,7 +158,7 @@ fn wrong_front(whole: &Trace, front: &Trace, answered: usize) -> Option<&'static
     None
 }
 
-/// What met the fault of a link, and what came after it; none where no answer is another.
+/// What met the I/O error of a link, and what came after it; none where no answer is another.
 fn since_fault<'a>(whole: &Trace, faulted: &'a Trace) -> Option<(&'a Shown, &'a [Shown])> {
     let same = alike(&whole.shown, &faulted.shown);
     faulted
@@ -247,7 +247,7 @@ pub(crate) fn found(what: Option<&'static str>, cuts: Vec<Cut>, trace: Trace) ->
 }
 
 impl Session {
-    /// Lets new sides take it: byte by byte, over other cuts, and over a link that fails; and holds what they show against each other.
+    /// Lets new sides receive it: byte by byte, in other pieces, and over a link that fails; and compares what they show.
     pub(crate) fn judge(&self, alloc: Global, dice: &mut Dice) -> Result<Verdict, Failure> {
         let trace = self.byte_by_byte(alloc, self.most())?;
         let finding = if self.kind.makes_calls() {
@@ -258,7 +258,7 @@ impl Session {
         Ok(Verdict { trace, finding })
     }
 
-    /// What does not hold of a side that takes messages.
+    /// What does not hold of a side that receives messages.
     fn judge_messages(
         &self,
         alloc: Global,
@@ -304,12 +304,12 @@ impl Session {
         Ok(finding)
     }
 
-    /// How many calls of a link move one byte each, where it is taken byte by byte.
+    /// How many calls of a link move one byte each, where it is received byte by byte.
     fn calls(&self) -> usize {
         self.len.saturating_mul(2).saturating_add(256)
     }
 
-    /// What is shown where it is taken byte by byte; once more where memory was refused.
+    /// What is shown where it is received byte by byte; once more where an allocation failed.
     pub(crate) fn byte_by_byte(&self, alloc: Global, most: usize) -> Result<Trace, Failure> {
         let trace = self.shown(alloc, ones(alloc, self.calls())?, most)?;
         if !trace.starved {
@@ -318,7 +318,7 @@ impl Session {
         self.shown(alloc, ones(alloc, self.calls())?, most)
     }
 
-    /// What is shown over a link that is cut so.
+    /// What is shown over a link with this script.
     pub(crate) fn over(&self, alloc: Global, cuts: &[Cut]) -> Result<Trace, Failure> {
         self.shown(alloc, Vec::from_slice(alloc, cuts)?, self.most())
     }
@@ -340,7 +340,7 @@ impl Session {
         }))
     }
 
-    /// A call that meets a fault says so; where a byte of it had moved nothing more is sent, and else the next calls go on.
+    /// A call that meets an I/O error says so; where a byte of it had moved nothing more is sent, and else the next calls go on.
     fn judge_asked_fault(
         &self,
         alloc: Global,
@@ -354,7 +354,7 @@ impl Session {
             return Ok(None);
         }
         let before = self.byte_by_byte(alloc, alike(&whole.shown, &faulted.shown))?;
-        // Where all was received, the end may have taken a call of the link, too.
+        // Where all was received, the end may have used a call of the link, too.
         let is_known = before.left > 0;
         let has_moved = is_known.then_some(place > self.moved(&before));
         let what = wrong_asked(whole, &faulted, has_moved);
@@ -386,7 +386,7 @@ impl Session {
         )
     }
 
-    /// Other cuts, and retries, change nothing.
+    /// Other pieces, and retries, change nothing.
     fn judge_cuts(
         &self,
         alloc: Global,
@@ -418,7 +418,7 @@ impl Session {
         Ok(found(what, cuts, front))
     }
 
-    /// A fault breaks the endpoint where a byte of a message had moved, and else costs one answer.
+    /// An I/O error poisons the endpoint where a byte of a message had moved, and else costs one answer.
     fn judge_fault(
         &self,
         alloc: Global,
@@ -462,7 +462,7 @@ impl Session {
         Ok(moved.saturating_sub(reply).min(self.calls()))
     }
 
-    /// The same of a fault behind pieces of any size, where more may have been received than one message.
+    /// The same of an I/O error behind pieces of any size, where more may have been received than one message.
     fn judge_late_fault(
         &self,
         alloc: Global,
@@ -482,12 +482,12 @@ impl Session {
         Ok(found(what, cuts, faulted))
     }
 
-    /// How many bytes were taken, where it was taken byte by byte.
+    /// How many bytes were received, where it was received byte by byte.
     pub(crate) fn taken(&self, trace: &Trace) -> usize {
         self.len.saturating_sub(trace.left)
     }
 
-    /// How many bytes were taken and sent, where it was taken byte by byte.
+    /// How many bytes were received and sent, where it was received byte by byte.
     pub(crate) fn moved(&self, trace: &Trace) -> usize {
         self.len
             .saturating_sub(trace.left)

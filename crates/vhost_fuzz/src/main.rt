@@ -44,8 +44,8 @@ struct Met {
 
 /// Makes messages from the seed of its first argument, as many as the second says, and sends them in sessions.
 ///
-/// Status 0 where nothing was found, 1 where the arguments are no seed and count, 2 where memory or the output failed, and 4 where something
-/// was found: each session that shows it is written as a script of tests.
+/// Status 0 where nothing was found, 1 where the arguments are no seed and count, 2 where an allocation or the output failed, and 4 where
+/// something was found: each session that shows it is written as a script of tests.
 fn main(rt: HostRuntime) -> ExitCode {
     let mut errors = rt.stderr();
     let Ok(words) = env::args(&rt) else {

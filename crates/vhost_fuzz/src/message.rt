@@ -6,7 +6,7 @@ use std::alloc::Global;
 use vhost_link::{Kind, PlainHandle};
 use vhost_message::MAX_ATTACHED_FD_ENTRIES;
 
-/// Some bytes, and the handles that come with the first of them.
+/// Some bytes, and the descriptors that come with the first of them.
 #[derive(Drop)]
 pub(crate) struct Piece {
     pub(crate) bytes: Vec<u8>,
@@ -41,7 +41,7 @@ impl Body {
         Ok(())
     }
 
-    /// A message of this body, with so many handles.
+    /// A message of this body, with so many descriptors.
     pub(crate) fn message(
         self,
         alloc: Global,
@@ -62,7 +62,7 @@ impl Body {
     }
 }
 
-/// So many handles, 32 at most. Most are Unix sockets, which every request takes.
+/// So many descriptors, 32 at most. Most are Unix sockets, which every request accepts.
 fn some_handles(alloc: Global, dice: &mut Dice, count: usize) -> Result<Vec<PlainHandle>, Failure> {
     let mut handles = Vec::new(alloc);
     for _ in 0..count.min(MAX_ATTACHED_FD_ENTRIES) {
@@ -87,7 +87,7 @@ fn set_byte(bytes: &mut [u8], place: usize, byte: u8) {
     }
 }
 
-/// Spoils a message, in one of seven ways: a byte, its size, its flags or its code is another, it is cut short or longer, or its handles
+/// Spoils a message, in one of seven ways: a byte, its size, its flags or its code is another, it is shorter or longer, or its descriptors
 /// are others.
 fn alter(alloc: Global, dice: &mut Dice, piece: &mut Piece, way: u64) -> Result<(), Failure> {
     let len = piece.bytes.len();
@@ -109,7 +109,7 @@ fn alter(alloc: Global, dice: &mut Dice, piece: &mut Piece, way: u64) -> Result<
     Ok(())
 }
 
-/// Takes what follows some byte of a message from it, and gives it handles of its own.
+/// Splits off what follows some byte of a message, and gives it descriptors of its own.
 fn split_off(alloc: Global, dice: &mut Dice, piece: &mut Piece) -> Result<Piece, Failure> {
     let len = piece.bytes.len();
     let place = dice.place(len).max(1).min(len);
@@ -119,7 +119,7 @@ fn split_off(alloc: Global, dice: &mut Dice, piece: &mut Piece) -> Result<Piece,
     Ok(Piece { bytes, handles })
 }
 
-/// Spoils a message: something of it is another, or its handles come with a later byte, too. It becomes one piece or two.
+/// Spoils a message: something of it is another, or its descriptors come with a later byte, too. It becomes one piece or two.
 pub(crate) fn spoil(
     alloc: Global,
     dice: &mut Dice,

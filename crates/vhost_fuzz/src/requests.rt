@@ -53,7 +53,7 @@ fn put_config(body: &mut Body, dice: &mut Dice) -> Result<(), Failure> {
     Ok(())
 }
 
-/// Buffers for descriptors in flight: size and offset in bytes, how many rings, and how long each is.
+/// The inflight region: size and offset in bytes, how many rings, and how long each is.
 fn put_inflight(body: &mut Body, dice: &mut Dice) -> Result<(), Failure> {
     body.put(dice.below(3).wrapping_mul(0x1000), 8)?;
     body.put(0, 8)?;
@@ -74,7 +74,7 @@ fn put_pair(body: &mut Body, dice: &mut Dice, bound: u64) -> Result<(), Failure>
     body.put(dice.below(bound), 4)
 }
 
-/// A ring's index, and whether a handle comes with it; how many.
+/// A ring's index, and whether a file descriptor comes with it; how many.
 fn put_ring_handle(body: &mut Body, dice: &mut Dice) -> Result<usize, Failure> {
     let handles = dice.place(2);
     let unset = if handles == 0 { 0x100 } else { 0 };
@@ -88,13 +88,13 @@ fn put_single(body: &mut Body, dice: &mut Dice) -> Result<(), Failure> {
     put_region(body, dice)
 }
 
-/// So many handles, for what was put.
+/// So many file descriptors, for what was put.
 fn with(handles: usize, put: Result<(), Failure>) -> Result<usize, Failure> {
     put?;
     Ok(handles)
 }
 
-/// The body of a frontend's request, as its row wants it; how many handles come with it.
+/// The body of a frontend's request, as its handling rule wants it; how many file descriptors come with it.
 fn put_request(body: &mut Body, dice: &mut Dice, request: FrontendReq) -> Result<usize, Failure> {
     match request {
         FrontendReq::SET_FEATURES | FrontendReq::SET_PROTOCOL_FEATURES | FrontendReq::NET_SET_MTU =>
@@ -119,7 +119,7 @@ fn put_request(body: &mut Body, dice: &mut Dice, request: FrontendReq) -> Result
     }
 }
 
-/// A request of a frontend, and its handles, as its row wants them.
+/// A request of a frontend, and its file descriptors, as its handling rule wants them.
 pub(crate) fn request_of_frontend(alloc: Global, dice: &mut Dice) -> Result<Piece, Failure> {
     let code = dice.small(46);
     let mut body = Body::new(alloc);
@@ -154,7 +154,7 @@ pub(crate) fn put_opening(
     Ok(())
 }
 
-/// The body of a device's request, as its row wants it; how many handles come with it.
+/// The body of a device's request, as its handling rule wants it; how many file descriptors come with it.
 fn put_request_of_device(
     body: &mut Body,
     dice: &mut Dice,
@@ -172,7 +172,7 @@ fn put_request_of_device(
     }
 }
 
-/// A request of a device, and its handles, as its row wants them.
+/// A request of a device, and its file descriptors, as its handling rule wants them.
 pub(crate) fn request_of_device(alloc: Global, dice: &mut Dice) -> Result<Piece, Failure> {
     let code = dice.small(12);
     let mut body = Body::new(alloc);

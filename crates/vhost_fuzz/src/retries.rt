@@ -1,4 +1,4 @@
-//! Retries: a message may take so many, wherever they stand in it, and one more is told.
+//! Retries: a message may use so many, wherever they stand in it, and one more is reported.
 
 use crate::dice::Dice;
 use crate::failure::Failure;
@@ -8,7 +8,7 @@ use crate::side::Trace;
 use std::alloc::Global;
 use vhost_link::Cut;
 
-/// One message of a call, where sides take it byte by byte: how many bytes move before it, and how many it has.
+/// One message of a call, where sides receive it byte by byte: how many bytes move before it, and how many it has.
 #[derive(Clone, Copy)]
 struct Span {
     before: usize,
@@ -34,7 +34,7 @@ fn put_some(
     Ok(left)
 }
 
-/// Calls of the link that move a message's bytes one by one, with so many retries among them; and how many bytes stand before the last retry.
+/// Calls of the link that move a message's bytes one by one, with so many retries among them; how many bytes stand before the last retry.
 fn spread(
     dice: &mut Dice,
     mut cuts: Vec<Cut>,
@@ -53,7 +53,7 @@ fn spread(
     Ok((cuts, last))
 }
 
-/// What doesn't hold where this call met one retry more than a message may take.
+/// What doesn't hold where this call met one retry more than a message may use.
 fn wrong_told(trace: &Trace, whole: &Trace, calls: usize) -> Option<&'static str> {
     let is_told = match trace.shown.get(calls) {
         Some(met) => met.answer.is("SocketRetry"),
@@ -67,7 +67,7 @@ fn wrong_told(trace: &Trace, whole: &Trace, calls: usize) -> Option<&'static str
 }
 
 impl Session {
-    /// Retries in one message of any call: as many as it may take change nothing, and one more is told.
+    /// Retries in one message of any call: as many as it may use change nothing, and one more is reported.
     pub(crate) fn judge_retries(
         &self,
         alloc: Global,
@@ -95,7 +95,7 @@ impl Session {
         Ok(found(what, cuts, trace))
     }
 
-    /// What doesn't hold behind a fault, where a byte of the message that met it had moved or not.
+    /// What doesn't hold behind an I/O error, where a byte of the message that met it had moved or not.
     fn wrong_behind(&self, whole: &Trace, trace: &Trace, has_moved: bool) -> Option<&'static str> {
         if self.kind.makes_calls() {
             wrong_asked(whole, trace, Some(has_moved))
@@ -104,7 +104,7 @@ impl Session {
         }
     }
 
-    /// One of the two messages of a call, behind so many calls; none where it has no byte, or where the end may have taken a call of the link.
+    /// One of the two messages of a call, behind so many calls; none where it has no byte, or the end may have used a call of the link.
     fn span(&self, alloc: Global, dice: &mut Dice, calls: usize) -> Result<Option<Span>, Failure> {
         let before = self.byte_by_byte(alloc, calls)?;
         let after = self.byte_by_byte(alloc, calls.saturating_add(1))?;

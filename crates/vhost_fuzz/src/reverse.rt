@@ -1,4 +1,4 @@
-//! A frontend's side of the reverse channel, over a device that counts its calls.
+//! A frontend's side of the backend channel, over a device that counts its calls.
 
 ghost use Rattle.std.specs.Prelude.{⊤};
 

@@ -74,7 +74,7 @@ fn write_answer<W: Write>(
     writeln!(output, "answer {answer}")
 }
 
-/// Writes how the link was cut.
+/// Writes what the calls of the link did.
 fn write_cuts<W: Write>(cuts: &[Cut], output: &mut W) -> io::Result<()> {
     write!(output, "cuts")?;
     for cut in cuts {

@@ -8,7 +8,7 @@ use vhost_backend_req_handler::SessionCore;
 use vhost_dummy_backend::DummyBackendReqHandler;
 use vhost_link::{Cut, Kind, MemLink, PlainHandle};
 
-/// How many handles the example device has to give out.
+/// How many file descriptors the example device has to give out.
 const SPARE: u32 = 40;
 
 #[derive(Drop)]
@@ -41,7 +41,7 @@ fn add(sum: u64, number: u64) -> u64 {
         .wrapping_add(number)
 }
 
-/// A handle's number, and none as another.
+/// A file descriptor's number, and none as another.
 fn id_of(handle: &Option<PlainHandle>) -> u64 {
     match handle {
         Some(handle) => u64::from(handle.id),
@@ -67,7 +67,7 @@ fn rings(device: &DummyBackendReqHandler<MemLink>) -> u64 {
     sum
 }
 
-/// The handles that the device keeps.
+/// The file descriptors that the device keeps.
 fn handles(device: &DummyBackendReqHandler<MemLink>) -> u64 {
     let mut sum = 0;
     for handle in &device.call_fd {

@@ -1,4 +1,4 @@
-//! One session: what its peer sends, and what is held of a side that takes it.
+//! One session: what its peer sends, and what is held of a side that receives it.
 
 use crate::asking::Asking;
 use crate::dice::Dice;
@@ -16,18 +16,18 @@ use vhost_link::{Cut, MemLink};
 use vhost_message::MSG_HEADER_SIZE;
 use vhost_test_tools::message_of;
 
-/// How many retries a message may take.
+/// How many retries a message may use.
 pub(crate) const BUDGET: u32 = 3;
 
 /// How many messages are more than what is received ahead by one call of a link: they have some 25 bytes each.
 const FILLING: usize = 700;
 
-/// Which side takes the messages.
+/// Which side receives the messages.
 #[derive(Clone, Copy, PartialEq, Eq)]
 pub(crate) enum Kind {
     /// A handler over the example device.
     Served,
-    /// A frontend's side of the reverse channel.
+    /// A frontend's side of the backend channel.
     Reverse,
     /// A frontend, to which replies come.
     Frontend,
@@ -67,7 +67,7 @@ pub(crate) struct Session {
     pub(crate) pieces: Vec<Piece>,
     /// The calls that the side makes.
     pub(crate) calls: Vec<&'static str>,
-    /// Whether messages come without handles, and as they should be otherwise.
+    /// Whether messages come without descriptors, and as they should be otherwise.
     is_bare: bool,
     /// How many messages it was made of.
     pub(crate) messages: u64,
@@ -144,7 +144,7 @@ impl Session {
         self.put(alloc, dice, piece)
     }
 
-    /// Messages without handles, more than a side receives ahead by one call of its link.
+    /// Messages without descriptors, more than a side receives ahead by one call of its link.
     fn fill(&mut self, alloc: Global, dice: &mut Dice) -> Result<(), Failure> {
         self.is_bare = true;
         for _ in 0..FILLING {
@@ -186,7 +186,7 @@ impl Session {
         self.put(alloc, dice, piece)
     }
 
-    /// How many calls take all of it at most: each takes a header, or ends, or is one of the calls that are made.
+    /// How many calls receive all of it at most: each receives a header, or ends, or is one that is made.
     pub(crate) fn most(&self) -> usize {
         if self.kind.makes_calls() {
             return self.calls.len();
@@ -194,7 +194,7 @@ impl Session {
         (self.len / MSG_HEADER_SIZE).saturating_add(8)
     }
 
-    /// What a new side shows that takes it over a link that is cut so, in so many calls at most.
+    /// What a new side shows that receives it over a link with this script, in so many calls at most.
     pub(crate) fn shown(
         &self,
         alloc: Global,
@@ -243,7 +243,7 @@ impl Session {
     }
 }
 
-/// Puts pieces on their way to a side, so many bytes in all, and lets it take them.
+/// Puts pieces on their way to a side, so many bytes in all, and lets it receive them.
 fn take<S: Side>(
     alloc: Global,
     mut side: S,

@@ -1,4 +1,4 @@
-//! A side that takes one message after another, and what is seen of it.
+//! A side that receives one message after another, and what is seen of it.
 
 use crate::answer::Answer;
 use crate::failure::Failure;
@@ -8,7 +8,7 @@ use vhost_message::MAX_ATTACHED_FD_ENTRIES;
 
 /// A side over a link in memory.
 pub(crate) trait Side: Drop {
-    /// Takes one message.
+    /// Receives one message, or makes one call.
     fn step(&mut self) -> Answer;
 
     /// Whether nothing follows an answer.
@@ -21,7 +21,7 @@ pub(crate) trait Side: Drop {
     fn link(&mut self) -> &mut MemLink;
 }
 
-/// Puts bytes on their way to a link's side, and handles with the first of them; 32 at most.
+/// Puts bytes on their way to a link's side, and descriptors with the first of them; 32 at most.
 pub(crate) fn push_piece(
     link: &mut MemLink,
     bytes: &[u8],
@@ -32,7 +32,7 @@ pub(crate) fn push_piece(
     Ok(())
 }
 
-/// How many bytes are on their way to a link's side; they are taken away. There are fewer than 2 to the power of 20.
+/// How many bytes are on their way to a link's side; they are removed. There are fewer than 2 to the power of 20.
 fn drain(alloc: Global, link: &mut MemLink) -> Result<usize, Failure> {
     let mut count: usize = 0;
     for _ in 0..1_048_576u32 {
@@ -62,14 +62,14 @@ pub(crate) struct Trace {
     pub(crate) opening: u64,
     pub(crate) shown: Vec<Shown>,
     pub(crate) output: Vec<u8>,
-    /// Whether memory was refused.
+    /// Whether an allocation failed.
     pub(crate) starved: bool,
     /// How many bytes were still on their way to it at the end.
     pub(crate) left: usize,
 }
 
-/// Lets a side take messages, or make calls, so many at most: to the end of its stream, or until it answered twice that it is broken. Where memory was refused,
-/// the call is made once more.
+/// Lets a side receive messages, or make calls, so many at most: to the end of its stream, or until it answered SocketBroken twice. Where
+/// an allocation failed, the call is made once more.
 pub(crate) fn play<S: Side>(alloc: Global, side: &mut S, most: usize) -> Result<Trace, Failure> {
     let mut trace = Trace {
         opening: side.state(),

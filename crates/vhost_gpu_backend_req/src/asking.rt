@@ -1,4 +1,4 @@
-//! What a device asks a display: the calls.
+//! The calls of the vhost-user-gpu channel.
 
 ghost use Rattle.std.specs.Option.{option_map};
 ghost use Rattle.vhost_gpu_message.specs.Replies.{display_info_of, edid_of};
@@ -18,14 +18,14 @@ impl<L: Link> BackendInternal<L> {
     ghost use Rattle.vhost_gpu_backend_req.specs.Channel.{channel};
     ghost use Rattle.vhost_gpu_backend_req.specs.Asking.{AsksCall};
 
-    /// Asks for the features of the display's side: GET_PROTOCOL_FEATURES without a record, answered by their bits.
+    /// Asks for the frontend's features of the vhost-user-gpu protocol: GET_PROTOCOL_FEATURES without a record. The reply is their bits.
     ///
     /// Each error names the step of the call that met it. In("check_state", SocketBroken): the channel was marked as failed;
-    /// In("check_state", OutOfMemory): the endpoint lacks memory for a list of handles; both times nothing was sent.
-    /// In("send_header", error): the link failed while the message was sent, or had broken the endpoint before.
-    /// In("recv_body", error): it failed before the reply was there, which breaks the endpoint; with PartialMessage the
+    /// In("check_state", OutOfMemory): a descriptor buffer could not be allocated; both times nothing was sent.
+    /// In("send_header", error): the link failed while the message was sent, or had poisoned the endpoint before.
+    /// In("recv_body", error): it failed before the reply was there, which poisons the endpoint; with PartialMessage the
     /// stream ended before, and with InvalidMessage the reply's header is not valid. In("Unexpected reply",
-    /// InvalidMessage): what came answers no such request, or brings handles.
+    /// InvalidMessage): what came is no reply to such a request, or brings file descriptors.
     pub fn get_protocol_features(&mut self) -> HandlerResult<VhostUserU64>
         ensures { AsksCall L.event (λ bs. record { value = u64_at 0 bs }) GetProtocolFeatures (channel self.old) result (channel self.new) }
     {
@@ -33,10 +33,10 @@ impl<L: Link> BackendInternal<L> {
         self.ask("send_header", code, &VhostUserEmpty)
     }
 
-    /// Tells which of the features were chosen: SET_PROTOCOL_FEATURES with their bits. Nothing is awaited.
+    /// Sends the accepted protocol features: SET_PROTOCOL_FEATURES with their bits. Nothing is awaited.
     ///
     /// In("check_state", error): as in `get_protocol_features`. In("send_message", error): the link failed while the
-    /// message was sent, or had broken the endpoint before.
+    /// message was sent, or had poisoned the endpoint before.
     pub fn set_protocol_features(&mut self, features: &VhostUserU64) -> HandlerResult<()>
         ensures { AsksCall L.event (λ _. tt) (SetProtocolFeatures features.now.value) (channel self.old) result (channel self.new) }
     {
@@ -76,7 +76,7 @@ impl<L: Link> BackendInternal<L> {
     ///
     /// In("check_state", error): as in `get_protocol_features`. In("send_message_with_payload", OversizedMsg): rectangle and
     /// pixels have more than `MAX_GPU_MSG_SIZE` bytes together, and nothing was sent. In("send_message_with_payload",
-    /// error): the link failed while the message was sent, or had broken the endpoint before.
+    /// error): the link failed while the message was sent, or had poisoned the endpoint before.
     pub fn update_scanout(
         &mut self,
         update: &VhostUserGpuUpdate,
@@ -88,7 +88,7 @@ impl<L: Link> BackendInternal<L> {
         self.tell("send_message_with_payload", code, update, pixels, &[])
     }
 
-    /// Shows a rectangle of a buffer of the graphics card: DMABUF_SCANOUT with the buffer's form, and its handle, if any.
+    /// Shows a rectangle of a buffer of the graphics card: DMABUF_SCANOUT with the buffer's form, and its file descriptor, if any.
     /// Nothing is awaited, and errors are those of `set_protocol_features`.
     pub fn set_dmabuf_scanout(
         &mut self,
@@ -112,8 +112,8 @@ impl<L: Link> BackendInternal<L> {
         self.tell_with(GpuBackendReq::DMABUF_SCANOUT2, scanout, handle)
     }
 
-    /// Tells that a rectangle of the buffer has changed: DMABUF_UPDATE. The display's reply, which has no record, is awaited;
-    /// errors are those of `get_edid`.
+    /// Reports that a rectangle of the buffer has changed: DMABUF_UPDATE. The frontend's reply, which has no record, is
+    /// awaited; errors are those of `get_edid`.
     pub fn update_dmabuf_scanout(&mut self, update: &VhostUserGpuUpdate) -> HandlerResult<()>
         ensures { AsksCall L.event (λ _. tt) (UpdateDmabufScanout update.now) (channel self.old) result (channel self.new) }
     {
@@ -143,7 +143,7 @@ impl<L: Link> BackendInternal<L> {
     /// Nothing is awaited.
     ///
     /// In("check_state", error): as in `get_protocol_features`. In("send_message_with_payload", error): the link failed
-    /// while the message was sent, or had broken the endpoint before.
+    /// while the message was sent, or had poisoned the endpoint before.
     pub fn cursor_update(
         &mut self,
         update: &VhostUserGpuCursorUpdate,

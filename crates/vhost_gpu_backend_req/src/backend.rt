@@ -1,4 +1,4 @@
-//! What a device tells a display.
+//! The vhost-user-gpu channel, which clones share.
 
 ghost use Rattle.std.specs.Prelude.{◌≡◌, IfErr};
 ghost use Rattle.std.specs.Option.{option_map};
@@ -18,8 +18,9 @@ use vhost_gpu_message::{
 use vhost_link::Link;
 use vhost_message::{Error, HandlerResult, Result, VhostUserU64};
 
-/// The channel to a display, which a device is given by VHOST_USER_GPU_SET_SOCKET. It can be shared: clones are the same
-/// channel. Each call is that of `BackendInternal`, whole in one turn with the lock: also a failure is that of the channel which it found there.
+/// The vhost-user-gpu channel, which a device is given by VHOST_USER_GPU_SET_SOCKET. It can be shared: clones are the same
+/// channel. Each call is that of `BackendInternal`, whole in one turn with the lock: also a failure is that of the channel
+/// which it found there.
 ///
 /// Mirrors `vhost::vhost_user::GpuBackend`.
 #[derive(Drop)]
@@ -31,9 +32,9 @@ impl<L: Link> GpuBackend<L> {
     ghost use Rattle.vhost_gpu_backend_req.specs.Asking.{AsksCall};
     ghost use Rattle.vhost_gpu_backend_req.specs.Turn.{Turn};
 
-    /// A channel over a link. A message may take so many retries.
+    /// A channel over a link. Each message may use at most so many retries.
     ///
-    /// OutOfMemory: a growth was refused.
+    /// OutOfMemory: an allocation failed.
     pub fn from_stream(alloc: Global, link: L, budget: u32) -> Result<Self>
         ensures memory { IfErr result (λ e. e ≡ OutOfMemory) }
     {

@@ -1,4 +1,4 @@
-//! What a device asks a display: one message out, and one reply in.
+//! A call of the vhost-user-gpu channel: one message out, and one reply in.
 
 ghost use Rattle.std.specs.Prelude.{◌≡◌, ◌≤◌, ℕ, ℤ, List, [], length, map, true, Option, Some, None, Ok, Err, codes};
 ghost use Rattle.std.specs.Option.{option_map};
@@ -97,7 +97,7 @@ impl<L: Link> BackendInternal<L> {
         }
     }
 
-    /// Sends a record, and takes the answer.
+    /// Sends a record, and receives the reply.
     pub(crate) fn ask<T: ByteValued, A: VhostUserMsgValidator + Drop>(
         &mut self,
         place: &'static str,
@@ -135,7 +135,7 @@ impl<L: Link> BackendInternal<L> {
         }
     }
 
-    /// Sends a record with a handle, if there is one, and awaits nothing.
+    /// Sends a record with a file descriptor, if there is one, and awaits nothing.
     pub(crate) fn tell_with<T: ByteValued>(
         &mut self,
         code: GpuBackendReq,

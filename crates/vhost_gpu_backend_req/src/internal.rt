@@ -1,4 +1,4 @@
-//! One end of the channel to a display.
+//! The backend's end of the vhost-user-gpu channel.
 
 ghost use Rattle.std.specs.Prelude.{◌≡◌, Some, IfOk, IfErr};
 ghost use Rattle.vhost_message.specs.declared.error.Error.TheVariants.{OutOfMemory};
@@ -11,7 +11,7 @@ use vhost_message::Result;
 
 pub(crate) type Header = VhostUserGpuMsgHeader<GpuBackendReq>;
 
-/// One end of the channel to a display, and whether it was marked as failed. `GpuBackend` holds it behind a lock.
+/// The backend's end of the vhost-user-gpu channel, and whether it was marked as failed. `GpuBackend` holds it behind a lock.
 ///
 /// Mirrors `BackendInternal` of `vhost::vhost_user::gpu_backend_req`.
 #[derive(Drop)]
@@ -29,9 +29,9 @@ impl<L: Link> BackendInternal<L> {
     ghost use Rattle.vhost_gpu_backend_req.specs.contracts.internal.BackendInternal.{the_row};
     ghost use Rattle.vhost_gpu_backend_req.specs.Channel.{channel, opened, with_endpoint};
 
-    /// A channel over a link, that is not marked as failed. A message may take so many retries.
+    /// A channel over a link, that is not marked as failed. Each message may use at most so many retries.
     ///
-    /// OutOfMemory: a growth was refused.
+    /// OutOfMemory: an allocation failed.
     pub fn from_stream(alloc: Global, link: L, budget: u32) -> Result<Self>
         ensures opened { IfOk result (λ b. channel b ≡ opened link budget) }
         ensures memory { IfErr result (λ e. e ≡ OutOfMemory) }
@@ -57,7 +57,7 @@ impl<L: Link> BackendInternal<L> {
         &mut self.endpoint
     }
 
-    /// Whether the last call that sent or received met a fault: the link failed, or retried once too often.
+    /// Whether the last call that sent or received met an I/O error: the link failed, or retried once too often.
     pub fn faulted(&self) -> bool
         ensures { result ≡ (channel self.now).endpoint.faulted }
     {

@@ -1,4 +1,4 @@
-//! The channel from a device to a display.
+//! A backend's vhost-user-gpu channel.
 #![tactic(auto)]
 
 mod asking;

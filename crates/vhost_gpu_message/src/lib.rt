@@ -1,4 +1,4 @@
-//! Messages of the channel from a backend to a display: codes, the header, records as bytes, and flags.
+//! Messages of the vhost-user-gpu channel: codes, the header, records as bytes, and flags.
 #![tactic(auto)]
 
 mod flags;

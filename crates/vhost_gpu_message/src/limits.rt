@@ -1,4 +1,4 @@
-//! Limits of the channel to a display.
+//! Limits of the vhost-user-gpu channel.
 
 /// The greatest size of a message's body, in bytes: any that a header can say.
 pub const MAX_GPU_MSG_SIZE: usize = u32::MAX as usize;

@@ -12,7 +12,7 @@ use vhost_link::{Kind, MemLink, PlainHandle};
 /// The device, over links in memory.
 pub type Device = DummyBackendReqHandler<MemLink>;
 
-/// A device that nobody owns, with eight handles to give out: 100 first.
+/// A device that nobody owns, with eight file descriptors to give: 100 first.
 pub fn new_device(alloc: Global) -> Result<Device, AllocError>
     ensures { IfOk result (λ device. device ≡ fresh alloc spares) }
 {
@@ -30,7 +30,7 @@ pub fn new_device(alloc: Global) -> Result<Device, AllocError>
     Ok(DummyBackendReqHandler::new(alloc, spare))
 }
 
-/// A handle with this number, which is no socket.
+/// A file descriptor with this number, which is no socket.
 fn spare(id: u32) -> PlainHandle
     ensures { result ≡ record { id = id; kind = NoSocket } }
 {

@@ -6,16 +6,16 @@ use std::io::ErrorKind;
 use std::{fmt, io};
 use vhost_pair::Halt;
 
-/// Why the lines can't go on. What it shows is one line: what failed, and the cause where one is known.
+/// Why the lines can't go on. It is displayed as one line: what failed, and the cause where one is known.
 #[derive(Clone, Copy)]
 pub enum Fault {
     /// The input could not be read.
     Input(io::Error),
     /// The output could not be written. Nothing is written from then on.
     Output(io::Error),
-    /// A link failed, a budget was spent, or a growth of memory was refused, in the middle of a call.
+    /// A link failed, a retry limit was spent, or an allocation failed, in the middle of a call.
     Link,
-    /// A growth of memory was refused.
+    /// An allocation failed.
     OutOfMemory,
 }
 
@@ -42,7 +42,7 @@ impl fmt::Display for Fault {
     }
 }
 
-/// The fault of a reader, or of the memory for what it read.
+/// The error of a reader, or of an allocation for what it read.
 pub(crate) fn input_fault(error: io::Error) -> Fault {
     match error.kind() {
         ErrorKind::OutOfMemory => Fault::OutOfMemory,

@@ -25,14 +25,14 @@ use vhost_pair::{Halt, Joined, Stop};
 /// A frontend joined to the example device.
 type Session = Joined<Device>;
 
-/// Runs the calls of the input, one a line, on one session over the example device, and shows each line's request,
+/// Runs the calls of the input, one a line, on one session over the example device, and writes each line's request,
 /// reply and answer.
 ///
-/// The status is 0 at the end of the input; 1 after a line that is no call, which `errors` is told; 2 after a fault
-/// of a reader, a writer or a link, or for want of memory, which `errors` is told in one line, and then the line that met
-/// it isn't shown. Nothing is written to `output` after a write or a flush of it that failed: whatever the status, what was
-/// written is a front of what the lines show.
-/// Where the device wants memory for bytes of its configuration space, it refuses the call, and the line shows that.
+/// The status is 0 at the end of the input; 1 after a line that is no call, which is reported to `errors`; 2 after an I/O
+/// error of a reader, a writer or a link, or a failed allocation, which is reported to `errors` in one line, and then the
+/// line that met it isn't written. Nothing is written to `output` after a write or a flush of it that failed: whatever the
+/// status, what was written is a prefix of the output of all lines.
+/// Where the device fails to allocate bytes of its configuration space, it refuses the call, and the line says that.
 #[tactic(auto, using(crate::proofs::InRun::lines_known, crate::proofs::InRun::front_known))]
 pub fn run_lines<I: BufRead, W: Write, E: Write>(
     alloc: Global,
@@ -59,7 +59,7 @@ pub fn run_lines<I: BufRead, W: Write, E: Write>(
     }
 }
 
-/// Tells which line is no call.
+/// Reports which line is no call.
 fn complain<E: Write>(number: u64, errors: &mut E) -> io::Result<()>
     ensures { OnOk result (Appends (E.contents errors.old) (E.contents errors.new) (complaint_of (Some number))) }
 {
@@ -67,7 +67,7 @@ fn complain<E: Write>(number: u64, errors: &mut E) -> io::Result<()>
     errors.flush()
 }
 
-/// Tells why the lines can't go on. Where that can't be written either, nobody can be told.
+/// Reports why the lines can't go on. Where that can't be written either, the report is lost.
 fn tell<E: Write>(fault: Fault, errors: &mut E) {
     if writeln!(errors, "{fault}").is_ok() {
         let _ = errors.flush();
@@ -143,7 +143,7 @@ fn show_call(session: &mut Session, call: &FrontendCall, shown: &mut Vec<u8>) ->
     }
 }
 
-/// Makes the line of an answered call, unless a link failed or memory was refused in its middle.
+/// Makes the line of an answered call, unless a link or an allocation failed in its middle.
 #[inline(never)]
 fn show_answer<D: VhostUserBackendReqHandlerMut<Link = MemLink>>(
     session: &Joined<D>,

@@ -8,7 +8,7 @@ use crate::fault::Fault;
 use std::io;
 use std::io::{ErrorKind, Write};
 
-/// Writes a line, and flushes it. Nothing is written after a write that failed: then a front of the line was.
+/// Writes a line, and flushes it. Nothing is written after a write that failed: then a prefix of the line was.
 pub(crate) fn write_line<W: Write>(output: &mut W, line: &[u8]) -> Result<(), Fault>
     ensures { MatchResult result (λ _. Appends (W.contents output.old) (W.contents output.new) line.now) (λ _. AppendsFront (W.contents output.old) (W.contents output.new) line.now) }
 {

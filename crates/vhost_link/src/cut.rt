@@ -1,4 +1,4 @@
-//! How a link in memory cuts its streams.
+//! How a link in memory splits its streams.
 
 ghost use Rattle.std.specs.Prelude.{◌≡◌, ◌<◌, ◌≤◌, drop, IfOk};
 ghost use Rattle.vhost_link.specs.Cuts.{allowed, Gives};

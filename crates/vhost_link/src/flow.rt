@@ -11,14 +11,14 @@ use std::alloc::{AllocError, Global};
 use std::collections::VecDeque;
 use std::marker::Model;
 
-/// Bytes on their way, and the handles that some of them bring. A contract sees the cells of a stream.
+/// Bytes on their way, and the descriptors that some of them bring. A contract sees a stream's bytes, each with its descriptors.
 #[derive(Drop)]
 pub struct Flow {
     /// All bytes since the buffer was last empty.
     bytes: Vec<u8>,
     /// How many of them have gone.
     from: usize,
-    /// Which of the others bring handles.
+    /// Which of the others bring descriptors.
     marks: VecDeque<Mark>,
 }
 
@@ -69,7 +69,7 @@ impl Flow {
         &self.bytes[self.from..]
     }
 
-    /// The handles that the byte at an index brings, `MAX_ATTACHED_FD_ENTRIES` at most; where there is no such byte, none.
+    /// The descriptors that the byte at an index brings, `MAX_ATTACHED_FD_ENTRIES` at most; where there is no such byte, none.
     pub fn handles(&self, index: usize) -> &[PlainHandle]
         ensures handles { result.now ≡ first_handles (drop index self.now) }
         ensures few { length result.now ≤ MAX_ATTACHED_FD_ENTRIES }
@@ -80,7 +80,7 @@ impl Flow {
         find_handles(&self.marks, self.from + index)
     }
 
-    /// Begins again at the front of the buffer, where at least half of it has gone.
+    /// Begins again at the start of the buffer, where at least half of it has gone.
     fn restart(&mut self)
         ensures { self.new ≡ self.old }
     {
@@ -94,7 +94,7 @@ impl Flow {
         self.from = 0;
     }
 
-    /// Puts bytes at the end, with the handles on the first of them; where memory is refused, nothing.
+    /// Puts bytes at the end, with the descriptors on the first of them; where an allocation fails, nothing.
     pub(crate) fn put(&mut self, bytes: &[u8], handles: Vec<PlainHandle>) -> Result<(), AllocError>
         requires { vec_len handles ≤ MAX_ATTACHED_FD_ENTRIES }
         ensures put { OnOk result (self.new ≡ self.old ++ carrying handles.items bytes.now) }
@@ -110,7 +110,7 @@ impl Flow {
         Ok(())
     }
 
-    /// Moves all bytes of another behind its own; where memory is refused, none.
+    /// Moves all bytes of another behind its own; where an allocation fails, none.
     pub(crate) fn append(&mut self, other: &mut Flow) -> Result<(), AllocError>
         ensures appended { OnOk result ((self.new ≡ self.old ++ other.old) × (other.new ≡ [])) }
         ensures refused { OnErr result ((self.new ≡ self.old) × (other.new ≡ other.old)) }
@@ -125,7 +125,7 @@ impl Flow {
         Ok(())
     }
 
-    /// Takes what one receive hands out: bytes into the room, and the handles of the first of them into the list.
+    /// Hands out the bytes of one receive into the room, and the descriptors of the first of them into the list.
     pub(crate) fn get(&mut self, room: &mut [u8], handles: &mut Vec<PlainHandle>) -> usize
         requires room { 0 < length room.old }
         requires list { handles.old.items ≡ [] }

@@ -1,10 +1,10 @@
-//! Handles: what a byte of a stream may bring along.
+//! Descriptors: what a byte of a stream may bring along.
 
 ghost use Rattle.std.specs.Prelude.{Result};
 
 use vhost_message::IoCause;
 
-/// What a handle stands for. The crate `vhost` asks a file descriptor for it.
+/// What a descriptor stands for. The crate `vhost` asks a file descriptor for it.
 #[derive(Clone, Copy, Debug, PartialEq, Eq)]
 pub enum Kind {
     /// No socket.
@@ -17,7 +17,7 @@ pub enum Kind {
     UnixStream,
 }
 
-/// A handle that travels with a byte: in the crate `vhost` a file descriptor.
+/// A descriptor that travels with a byte: in the crate `vhost` a file descriptor.
 pub trait Handle: Drop {
     ghost use Rattle.vhost_message.specs.declared.cause.IoCause.{IoCause};
     ghost use Rattle.vhost_link.specs.declared.handle.Kind.{Kind};
@@ -28,11 +28,11 @@ pub trait Handle: Drop {
     /// What duplicating may answer.
     ghost duplicates: { Self → Result Self IoCause → Type 0 };
 
-    /// What the handle stands for, or why that could not be found out.
+    /// What the descriptor stands for, or why that could not be found out.
     fn kind(&self) -> Result<Kind, IoCause>
         ensures { kinds self.now result };
 
-    /// One more handle of the same thing, or why there is none.
+    /// One more descriptor of the same thing, or why there is none.
     fn duplicate(&self) -> Result<Self, IoCause>
         ensures { duplicates self.now result };
 }

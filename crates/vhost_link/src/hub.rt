@@ -1,4 +1,4 @@
-//! Ends of links that travel as handles.
+//! Ends of links that travel as descriptors.
 
 ghost use Rattle.std.specs.Prelude.{◌≡◌, None, Some, [], ◌∷◌, ◌++◌, length, IfOk, IfErr, OnErr, slice_index_or, slice_set};
 ghost use Rattle.vhost_link.specs.Rings.{IsNoSuchEnd};
@@ -27,7 +27,7 @@ impl Hub {
 
     /// Puts ends under a number, which a `PlainHandle` may carry to another thread.
     ///
-    /// `AllocError`: a growth was refused, or 2^32 - 1 numbers were given out. The ends are dropped then.
+    /// `AllocError`: an allocation failed, or 2^32 - 1 numbers were given out. The ends are dropped then.
     pub fn register(&self, rt: &impl Wait, ends: Ends) -> Result<u32, AllocError> {
         self.shelf.lock(rt).put(ends)
     }

@@ -1,4 +1,4 @@
-//! Links: a stream of bytes each way, with handles.
+//! Links: a stream of bytes each way, with descriptors.
 #![tactic(auto)]
 
 mod cut;

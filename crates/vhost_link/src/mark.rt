@@ -1,4 +1,4 @@
-//! Marks: which bytes on their way bring handles.
+//! Marks: which bytes on their way bring descriptors.
 
 ghost use Rattle.std.specs.Prelude.{◌≡◌, [], ◌∷◌, ◌++◌, ◌+◌, ◌-◌, ◌^◌, ◌<◌, ◌≤◌, length, map, OnOk, OnErr, vec_len, vec_capacity};
 ghost use Rattle.std.specs.VecDeque.{deque_len, deque_capacity};
@@ -9,16 +9,16 @@ use crate::plain::PlainHandle;
 use std::alloc::AllocError;
 use std::collections::VecDeque;
 
-/// The handles that one byte brings.
+/// The descriptors that one byte brings.
 #[derive(Drop)]
 pub(crate) struct Mark {
     /// The place of the byte.
     pub(crate) at: usize,
-    /// Its handles: at least one.
+    /// Its descriptors: at least one.
     pub(crate) handles: Vec<PlainHandle>,
 }
 
-/// Takes the mark of a place, if it is the first one: its handles go into the list.
+/// Removes the mark of a place, if it is the first one: its descriptors go into the list.
 pub(crate) fn take_mark(marks: &mut VecDeque<Mark>, at: usize, handles: &mut Vec<PlainHandle>)
     requires few { length (brought at marks.old.items) ≤ MAX_ATTACHED_FD_ENTRIES }
     requires list { handles.old.items ≡ [] }
@@ -36,7 +36,7 @@ pub(crate) fn take_mark(marks: &mut VecDeque<Mark>, at: usize, handles: &mut Vec
     }
 }
 
-/// Where the first byte with handles stands, or else the end.
+/// Where the first byte with descriptors stands, or else the end.
 pub(crate) fn end_of_piece(marks: &VecDeque<Mark>, end: usize) -> usize
     ensures { result ≡ first_place marks.now.items end }
 {
@@ -46,7 +46,7 @@ pub(crate) fn end_of_piece(marks: &VecDeque<Mark>, end: usize) -> usize
     }
 }
 
-/// The handles of a place.
+/// The descriptors of a place.
 pub(crate) fn find_handles(marks: &VecDeque<Mark>, at: usize) -> &[PlainHandle]
     ensures { result.now ≡ found at marks.now.items }
 {
@@ -58,7 +58,7 @@ pub(crate) fn find_handles(marks: &VecDeque<Mark>, at: usize) -> &[PlainHandle]
     &[]
 }
 
-/// Puts a mark for some handles at the end, if there are any; where memory is refused, none.
+/// Puts a mark for some descriptors at the end, if there are any; where an allocation fails, none.
 pub(crate) fn put_mark(
     marks: &mut VecDeque<Mark>,
     at: usize,

@@ -19,7 +19,7 @@ use std::mem::swap;
 use vhost_message::IoCause;
 use vhost_message::errno::ENOMEM;
 
-/// One end of a connection in memory: what it will hand out, what it took in, and how its next calls are cut.
+/// One end of a connection in memory: what it will hand out, what it accepted, and how its next calls are split.
 #[derive(Drop)]
 pub struct MemLink {
     pending: Flow,
@@ -38,7 +38,7 @@ impl Model for MemLink {
 }
 
 impl MemLink {
-    /// A link that holds nothing. Its calls follow the script, one cut each, and move all they can once it is used up.
+    /// A link that holds nothing. Its calls follow the script, one entry each, and move all they can once it is used up.
     pub fn new(alloc: Global, script: Vec<Cut>) -> MemLink
         ensures { result ≡ empty script.items }
     {
@@ -51,23 +51,23 @@ impl MemLink {
         }
     }
 
-    /// What it took in and was not carried away, in order.
+    /// What it accepted and was not yet carried to another link, in order.
     pub fn taken(&self) -> &Flow
         ensures { result.now ≡ self.now.sent }
     {
         &self.sent
     }
 
-    /// Whether a send of it ever failed for want of memory.
+    /// Whether a send of it ever failed because an allocation failed.
     pub fn is_starved(&self) -> bool
         ensures { result ≡ nat_lt 0 self.now.wants }
     {
         self.wants > 0
     }
 
-    /// Moves what one end took in behind what the other will hand out.
+    /// Moves what one end accepted behind what the other will hand out.
     ///
-    /// Where memory is refused, nothing moved. It is never asked for if the other end had nothing to hand out.
+    /// Where an allocation fails, nothing moved. None is made if the other end had nothing to hand out.
     pub fn carry(from: &mut MemLink, to: &mut MemLink) -> Result<(), AllocError>
         ensures carried { OnOk result (Carried from.old to.old from.new to.new) }
         ensures refused { OnErr result ((from.new ≡ from.old) × (to.new ≡ to.old)) }
@@ -87,9 +87,9 @@ impl MemLink {
         self.pending = Flow::new(self.alloc);
     }
 
-    /// Puts bytes behind what it will hand out, with the handles on the first of them.
+    /// Puts bytes behind what it will hand out, with the descriptors on the first of them.
     ///
-    /// There are at most `MAX_ATTACHED_FD_ENTRIES` handles; without a byte they go nowhere. Where memory is refused, nothing changed.
+    /// There are at most `MAX_ATTACHED_FD_ENTRIES` descriptors; without a byte they go nowhere. Where an allocation fails, nothing changed.
     pub fn push(&mut self, bytes: &[u8], handles: &[PlainHandle]) -> Result<(), AllocError>
         requires { length handles.now ≤ MAX_ATTACHED_FD_ENTRIES }
         ensures pushed { OnOk result (self.new ≡ record self.old { pending = self.old.pending ++ carrying handles.now bytes.now }) }
@@ -115,7 +115,7 @@ impl Link for MemLink {
 
     ghost opens = { λ link handle result. result ≡ Ok (empty []) };
 
-    /// Takes in all that the cut allows. The only failure beside the script's is want of memory, `Raw(ENOMEM)`.
+    /// Accepts all that the script's entry allows. The only failure beside the script's is a failed allocation, `Raw(ENOMEM)`.
     fn send(&mut self, bytes: &[u8], handles: &[&PlainHandle]) -> Result<usize, IoCause>
         requires bytes { 0 < length bytes.now }
         requires handles { length handles.now ≤ MAX_ATTACHED_FD_ENTRIES }
@@ -135,7 +135,7 @@ impl Link for MemLink {
         Ok(count)
     }
 
-    /// Hands out all that the cut, the room and the next byte with handles allow. It fails only where the script says so.
+    /// Hands out all that the script's entry, the room and the next byte with descriptors allow. It fails only where the script says so.
     fn recv(&mut self, room: &mut [u8], handles: &mut Vec<PlainHandle>) -> Result<usize, IoCause>
         requires room { 0 < length room.old }
         requires list { handles.old.items ≡ [] }
@@ -157,7 +157,8 @@ impl Link for MemLink {
     }
 }
 
-/// The stream of a link in memory is known, however it is cut: what is handed out stood at the front, the end is told only where nothing is left, what is taken in is appended, and a failure is one of the script or a want of memory.
+/// The stream of a link in memory is known, however it is split: what is handed out stood at the start, the end is reported only where
+/// nothing is left, what is accepted is appended, and a failure is one of the script or a failed allocation.
 pub fn stream_law()
     ensures stream { StreamLaw }
     ensures gives { GivesLaw }

@@ -6,13 +6,13 @@ use rtrb::Protocol;
 /// A piece of a stream.
 #[derive(Clone, Copy, Debug, PartialEq, Eq)]
 pub enum Piece {
-    /// A byte, which brings the handles that stand before it.
+    /// A byte, which brings the descriptors that stand before it.
     Byte(u8),
-    /// A handle of the next byte: its number and its kind.
+    /// A descriptor of the next byte: its number and its kind.
     Handle(u32, Kind),
 }
 
-/// The order of pieces: no byte brings more than `MAX_ATTACHED_FD_ENTRIES` handles.
+/// The order of pieces: no byte brings more than `MAX_ATTACHED_FD_ENTRIES` descriptors.
 #[derive(Clone, Copy, Debug)]
 pub struct PieceOrder;
 

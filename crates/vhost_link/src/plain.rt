@@ -1,4 +1,4 @@
-//! A handle that stands for nothing outside the program.
+//! A descriptor that stands for nothing outside the program.
 
 ghost use Rattle.std.specs.Prelude.{◌≡◌, Ok, IfOk, length, map, vec_len};
 
@@ -6,7 +6,7 @@ use crate::handle::{Handle, Kind};
 use std::alloc::{AllocError, Global};
 use vhost_message::IoCause;
 
-/// A handle that is a number and a kind. What it stands for is known to whoever made it.
+/// A descriptor that is a number and a kind. What it stands for is known to whoever made it.
 #[derive(Clone, Copy, Debug, PartialEq, Eq)]
 pub struct PlainHandle {
     /// Its number.
@@ -29,7 +29,7 @@ impl Handle for PlainHandle {
     }
 }
 
-/// The same handles, in a list of their own.
+/// The same descriptors, in a list of their own.
 pub(crate) fn copied(
     alloc: Global,
     handles: &[&PlainHandle],

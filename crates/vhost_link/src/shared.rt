@@ -39,10 +39,10 @@ impl<R> Model for SharedLink<R> {
 }
 
 impl<R: Copy + Drop> SharedLink<R> {
-    /// Both ends of a new link, whose rings have room for so many pieces each: more than `MAX_ATTACHED_FD_ENTRIES`. Handles that
+    /// Both ends of a new link, whose rings have room for so many pieces each: more than `MAX_ATTACHED_FD_ENTRIES`. Descriptors that
     /// they are to open were given out by the hub.
     ///
-    /// `AllocError`: a growth was refused.
+    /// `AllocError`: an allocation failed.
     pub fn pair(
         rt: R,
         alloc: Global,
@@ -70,10 +70,10 @@ impl<R: Copy + Drop> SharedLink<R> {
 }
 
 impl<R: Drop> SharedLink<R> {
-    /// Takes in the handles and as many bytes as there is room for behind them, and waits for no one; the answer is how many.
+    /// Accepts the descriptors and as many bytes as there is room for behind them, and waits for no one; the answer is how many.
     ///
-    /// The caller has at least one byte, and at most `MAX_ATTACHED_FD_ENTRIES` handles.
-    /// `Raw(EAGAIN)`: there is no room for the handles and one byte. Nothing was taken in.
+    /// The caller has at least one byte, and at most `MAX_ATTACHED_FD_ENTRIES` descriptors.
+    /// `Raw(EAGAIN)`: there is no room for the descriptors and one byte. Nothing was accepted.
     pub fn send(&mut self, bytes: &[u8], handles: &[&PlainHandle]) -> Result<usize, IoCause>
         requires bytes { 0 < length bytes.now }
         requires handles { length handles.now ≤ MAX_ATTACHED_FD_ENTRIES }
@@ -83,10 +83,10 @@ impl<R: Drop> SharedLink<R> {
         self.ends.send(bytes, handles)
     }
 
-    /// Hands out what has come, and waits for no one: what fits into the room, up to the next byte that brings handles. The answer
+    /// Hands out what has come, and waits for no one: what fits into the room, up to the next byte that brings descriptors. The answer
     /// is how many bytes; `None` where nothing has come yet, and 0 where the other end is gone and nothing is left.
     ///
-    /// The handles are those of the first byte. The caller's list is empty, with room for `MAX_ATTACHED_FD_ENTRIES`.
+    /// The descriptors are those of the first byte. The caller's list is empty, with room for `MAX_ATTACHED_FD_ENTRIES`.
     pub fn try_recv(&mut self, room: &mut [u8], handles: &mut Vec<PlainHandle>) -> Option<usize>
         requires room { 0 < length room.old }
         requires list { handles.old.items ≡ [] }
@@ -98,14 +98,14 @@ impl<R: Drop> SharedLink<R> {
         self.ends.try_recv(room, handles)
     }
 
-    /// Drops the link, and shows what it sent. `None` if the other end was dropped before.
+    /// Drops the link, and reports what it sent. `None` if the other end was dropped before.
     pub fn finish(self) -> Option<Token>
         ensures { IfSome result (λ t. (t.ring ≡ self.output) × (t.cells ≡ self.sent)) }
     {
         self.into_ends().finish()
     }
 
-    /// How many pieces are left of what the other end sent: one for each byte and one for each handle. From now on a receive
+    /// How many pieces are left of what the other end sent: one for each byte and one for each descriptor. From now on a receive
     /// finds them all.
     ///
     /// The token is the other end's.
@@ -116,7 +116,7 @@ impl<R: Drop> SharedLink<R> {
         self.ends.compare(token)
     }
 
-    /// The two ring ends, which a hub takes.
+    /// The two ring ends, which a hub accepts.
     pub fn into_ends(self) -> Ends
         ensures { result ≡ self }
     {
@@ -129,7 +129,7 @@ impl<R: Drop> SharedLink<R> {
     }
 }
 
-/// What single calls of a link between threads add up to: it took in what was appended to all that it sent, and handed out what
+/// What single calls of a link between threads add up to: it accepted what was appended to all that it sent, and handed out what
 /// was appended to all that it received. It never fails for good.
 pub fn ring_law()
     ensures { RingLaw }

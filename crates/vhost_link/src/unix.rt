@@ -15,10 +15,10 @@ use vhost_message::errno::{EACCES, EAGAIN, ECONNRESET, EINTR, EPIPE};
 /// How many bytes one receive hands out at most.
 const MAX_PIECE: usize = 8192;
 
-/// Why a handle cannot travel over a socket.
+/// Why a descriptor cannot travel over a socket.
 const NOT_CARRIED: IoCause = IoCause::Named("handles cannot be carried");
 
-/// The handles of a link that carries none: nothing makes one.
+/// The descriptors of a link that carries none: nothing makes one.
 #[derive(Drop)]
 pub struct NoHandle {
     none: (),
@@ -38,7 +38,7 @@ impl Handle for NoHandle {
     }
 }
 
-/// One end of a connection over a Unix stream socket. It carries no handles.
+/// One end of a connection over a Unix stream socket. It carries no descriptors.
 #[derive(Drop)]
 pub struct UnixLink {
     stream: UnixStream,
@@ -76,7 +76,7 @@ impl Link for UnixLink {
 
     ghost opens = { λ _ _ _. ⊤ };
 
-    /// Sends as many of the bytes as the system takes at once.
+    /// Sends as many of the bytes as the system accepts at once.
     fn send(&mut self, bytes: &[u8], handles: &[&NoHandle]) -> Result<usize, IoCause> {
         let [] = handles else {
             return Err(NOT_CARRIED);
@@ -101,7 +101,7 @@ impl Link for UnixLink {
         }
     }
 
-    /// One more descriptor of the same socket.
+    /// A duplicate: one more file descriptor of the same socket.
     fn duplicate(&self) -> Result<UnixLink, IoCause> {
         match self.stream.try_clone() {
             Ok(stream) => Ok(UnixLink { stream }),

@@ -1,4 +1,4 @@
-//! A client of the promises of links between threads: from public contracts alone it derives that a ring loses nothing.
+//! A worked consequence of the promises of links between threads: by public contracts alone a ring loses nothing.
 #![tactic(auto)]
 
 mod part;

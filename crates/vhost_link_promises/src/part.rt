@@ -9,16 +9,16 @@ use std::alloc::{AllocError, Global};
 use vhost_link::{PlainHandle, SharedLink};
 use vhost_message::MAX_ATTACHED_FD_ENTRIES;
 
-/// What one receive handed out: bytes, and the handles of the first.
+/// What one receive handed out: bytes, and the descriptors of the first.
 #[derive(Drop)]
 pub struct Part {
     /// The bytes.
     pub bytes: Vec<u8>,
-    /// The handles.
+    /// The descriptors.
     pub handles: Vec<PlainHandle>,
 }
 
-/// How many bytes of the front of some one send takes in, with the handles; 0 where it takes none.
+/// The length of the prefix of some bytes that one send accepts, with the descriptors; 0 where it accepts none.
 pub(crate) fn send_part(link: &mut SharedLink<()>, bytes: &[u8], handles: &[&PlainHandle]) -> usize
     requires bytes { 0 < length bytes.now }
     requires handles { length handles.now ≤ MAX_ATTACHED_FD_ENTRIES }

@@ -15,15 +15,15 @@ use vhost_message::MAX_ATTACHED_FD_ENTRIES;
 /// What went over a link.
 #[derive(Drop)]
 pub struct Carried {
-    /// How many bytes each send took in.
+    /// How many bytes each send accepted.
     pub counts: Vec<usize>,
     /// What each receive handed out.
     pub parts: Vec<Part>,
-    /// How many pieces were left, unless the sender could not tell what it sent.
+    /// How many pieces were left, unless the sender could not report what it sent.
     pub left: Option<usize>,
 }
 
-/// Sends bytes in parts, each with the handles, until all went in or so many calls were made. Then it finishes.
+/// Sends bytes in parts, each with the descriptors, until all were accepted or so many calls were made. Then it finishes.
 fn send_all(
     link: SharedLink<()>,
     alloc: Global,
@@ -75,10 +75,10 @@ fn receive_all(
     Ok((link, parts))
 }
 
-/// Sends bytes from one thread to another over rings of the least size. Each send brings the handles along. Each thread makes
+/// Sends bytes from one thread to another over rings of the least size. Each send brings the descriptors along. Each thread makes
 /// so many calls at most.
 ///
-/// What was received and what is left are what was sent, with the handles at their bytes.
+/// What was received and what is left are what was sent, with the descriptors at their bytes.
 pub fn carries<R: Threads + Sync>(
     rt: &R,
     alloc: Global,

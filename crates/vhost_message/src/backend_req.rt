@@ -5,7 +5,7 @@ ghost use Rattle.vhost_message.specs.BackendReq.{backend_request_number, backend
 
 use crate::req::Req;
 
-/// What a backend asks of a frontend over the reverse channel, by the number in the header of the message (vhost-user
+/// What a backend asks of a frontend over the backend channel, by the number in the header of the message (vhost-user
 /// specification, "Back-end message types").
 #[derive(Clone, Copy, Debug, PartialEq, Eq, PartialOrd, Ord)]
 pub enum BackendReq {

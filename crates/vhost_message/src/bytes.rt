@@ -1,4 +1,4 @@
-//! Values that have one text of a fixed length.
+//! Values whose wire bytes have a fixed length.
 
 ghost use Rattle.std.specs.Prelude.{◌≡◌, ℕ, List, Bool, true, length};
 
@@ -12,7 +12,7 @@ pub trait ByteValued {
     /// The fields in order, each as its little-endian digits.
     ghost text: { Self → List ℕ };
 
-    /// The record that a text stands for.
+    /// The record that wire bytes stand for.
     ghost read: { List ℕ → Self };
 
     /// Holds of each value of the type: its numbers are within their fields.
@@ -30,7 +30,7 @@ pub trait ByteValued {
         ensures read { result ≡ read b.now }
         ensures fits { fits result };
 
-    /// Each text has the one length.
+    /// The wire bytes of each value have the one length.
     ghost text_length: { (v : Self) → fits v → length (text v) ≡ SIZE };
 
     /// What was written is read again.

@@ -1,4 +1,4 @@
-//! What the memory that tracks descriptors in flight holds.
+//! What the inflight region holds.
 
 ghost use Rattle.std.specs.Prelude.{◌≡◌};
 ghost use Rattle.vhost_message.specs.Descriptors.{empty_split, empty_packed, split_region, packed_region};

@@ -28,7 +28,7 @@ pub enum Error {
     /// A message is malformed.
     #[error("invalid message")]
     InvalidMessage,
-    /// An attached handle is no socket that can be used.
+    /// An attached descriptor is no socket that can be used.
     #[error("invalid AF_UNIX SOCK_STREAM socket fd: {0}")]
     InvalidSocketFd(IoCause),
     /// An attached socket is not of the family AF_UNIX.
@@ -46,7 +46,7 @@ pub enum Error {
     /// A message is longer than its header may say.
     #[error("oversized message")]
     OversizedMsg,
-    /// The number of attached handles is wrong.
+    /// The number of attached descriptors is wrong.
     #[error("wrong number of attached fds")]
     IncorrectFds,
     /// The socket failed.
@@ -70,7 +70,7 @@ pub enum Error {
     /// Both sides' features don't agree.
     #[error("virtio/protocol features mismatch")]
     FeatureMismatch,
-    /// The device, or the handler of the reverse channel, failed.
+    /// The device, or the handler of the backend channel, failed.
     #[error("handler failed to handle request: {0}")]
     ReqHandlerError(IoCause),
     /// No memory file could be made.
@@ -82,7 +82,7 @@ pub enum Error {
     /// The memory file could not be sealed.
     #[error("handler failed to apply seals to memfd during get_inflight_fd")]
     MemFdSealError,
-    /// A growth of memory was refused.
+    /// An allocation failed.
     #[error("out of memory")]
     OutOfMemory,
 }

@@ -1,4 +1,4 @@
-//! What the handler of a reverse request, and a call of a channel to the display, fail with.
+//! What the handler of the backend channel, and a call of the vhost-user-gpu channel, fail with.
 
 ghost use Rattle.std.specs.Prelude.{◌≡◌};
 ghost use Rattle.vhost_message.specs.IoError.{raw_of, IsCauseOf};
@@ -25,7 +25,7 @@ pub enum IoError {
     In(&'static str, Error),
 }
 
-/// What the handler of a request on the reverse channel answers.
+/// What the handler of a request on the backend channel answers.
 pub type HandlerResult<T> = std::result::Result<T, IoError>;
 
 impl IoError {

@@ -9,10 +9,10 @@ pub const MAX_MSG_SIZE: usize = 0x1000;
 /// The greatest size of a whole message, in bytes: its header and its body.
 pub const MAX_MSG_TEXT: usize = MSG_HEADER_SIZE + MAX_MSG_SIZE;
 
-/// The greatest number of handles that come with one message.
+/// The greatest number of file descriptors that come with one message.
 pub const MAX_ATTACHED_FD_ENTRIES: usize = 32;
 
-/// The greatest number of regions in a memory table: each comes with a handle.
+/// The greatest number of regions in a memory table: each has a file descriptor.
 pub const MAX_MEM_REGIONS: usize = MAX_ATTACHED_FD_ENTRIES;
 
 /// The size of the head of a memory table, in bytes.

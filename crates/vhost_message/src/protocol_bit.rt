@@ -15,7 +15,7 @@ pub const REPLY_ACK: u32 = 3;
 /// NET_SET_MTU.
 pub const MTU: u32 = 4;
 
-/// The backend may send requests, over a channel of its own.
+/// The backend may send requests, over the backend channel.
 pub const BACKEND_REQ: u32 = 5;
 
 /// SET_VRING_ENDIAN.
@@ -30,7 +30,7 @@ pub const PAGEFAULT: u32 = 8;
 /// GET_CONFIG and SET_CONFIG.
 pub const CONFIG: u32 = 9;
 
-/// The backend may send handles over its channel.
+/// The backend may send file descriptors over the backend channel.
 pub const BACKEND_SEND_FD: u32 = 10;
 
 /// The backend may register notifiers of the host.

@@ -6,9 +6,9 @@ ghost use Rattle.vhost_message.specs.Transfer.{direction_number, direction_at, p
 /// Which way the state of a device is transferred.
 #[derive(Clone, Copy, Debug, PartialEq, Eq, PartialOrd, Ord)]
 pub enum VhostTransferStateDirection {
-    /// From the device to the frontend.
+    /// From the backend to the frontend.
     SAVE = 0,
-    /// From the frontend to the device.
+    /// From the frontend to the backend.
     LOAD = 1,
 }
 

@@ -17,7 +17,7 @@ use vhost_message::Result;
 
 /// The frontend's session over its end of a link.
 ///
-/// OutOfMemory: a growth was refused.
+/// OutOfMemory: an allocation failed.
 #[inline(never)]
 pub fn new_asking(
     alloc: Global,
@@ -35,7 +35,7 @@ pub fn new_asking(
 
 /// The handler's session over its end of a link.
 ///
-/// OutOfMemory: a growth was refused.
+/// OutOfMemory: an allocation failed.
 #[inline(never)]
 pub fn new_serving(alloc: Global, link: MemLink, budget: u32) -> Result<SessionCore<MemLink>>
     ensures endpoint { IfOk result (λ c. serving c ≡ fresh link budget) }

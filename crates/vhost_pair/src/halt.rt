@@ -5,15 +5,15 @@
 pub enum Halt {
     /// The run has stopped before.
     Stopped,
-    /// There is no memory for the step.
+    /// An allocation for the step failed.
     OutOfMemory,
 }
 
 /// Why a joined run stopped.
 #[derive(Clone, Copy, Debug, PartialEq, Eq)]
 pub enum Stop {
-    /// The handler refused a request in silence, or the device refused the end of postcopy.
+    /// The handler refused a request without a reply, or the device refused the end of postcopy.
     Table,
-    /// A link failed, a budget was spent, or a growth of memory was refused in the middle of a step.
+    /// A link failed, a retry limit was spent, or an allocation failed in the middle of a step.
     Premise,
 }

@@ -37,10 +37,10 @@ impl<D: VhostUserBackendReqHandlerMut<Link = MemLink>> Joined<D> {
     ghost use Rattle.vhost_pair.specs.Lockstep.{RunsCalls};
     ghost use Rattle.vhost_pair.specs.Sides.{as_view, fresh_parts};
 
-    /// Two new sessions over two new links, which are cut as the scripts say: the first that of the frontend. The
-    /// device has at most so many queues, and a message may take so many retries.
+    /// Two new sessions over two new links, which move bytes or fail as the scripts say: the first is the frontend's. The
+    /// device has at most so many queues, and each message may use at most so many retries.
     ///
-    /// `Halt::OutOfMemory`: a growth was refused.
+    /// `Halt::OutOfMemory`: an allocation failed.
     #[inline(never)]
     pub fn new(
         alloc: Global,
@@ -63,9 +63,9 @@ impl<D: VhostUserBackendReqHandlerMut<Link = MemLink>> Joined<D> {
         }
     }
 
-    /// Does one call: the request goes to the handler, which asks the device, and the reply comes back.
+    /// Does one call: the request goes to the handler, which calls the device, and the reply comes back.
     ///
-    /// `Halt::Stopped`: the run has stopped before. `Halt::OutOfMemory`: a growth was refused before the first byte.
+    /// `Halt::Stopped`: the run has stopped before. `Halt::OutOfMemory`: an allocation failed before the first byte.
     /// In both cases nothing changed.
     pub fn step(&mut self, call: &FrontendCall) -> Result<FrontendAnswer, Halt>
         ensures step { Steps D.gives self.old (call_of call.now) result self.new }
@@ -109,7 +109,7 @@ impl<D: VhostUserBackendReqHandlerMut<Link = MemLink>> Joined<D> {
         self.stopped
     }
 
-    /// The bytes of the request that the last answered step wrote, and the handles on the first of them.
+    /// The bytes of the request that the last answered step wrote, and the descriptors on the first of them.
     pub fn last_request(&self) -> (&[u8], &[PlainHandle])
         ensures bytes { result.0.now ≡ self.now.request.bytes }
         ensures handles { result.1.now ≡ self.now.request.handles }
@@ -118,7 +118,7 @@ impl<D: VhostUserBackendReqHandlerMut<Link = MemLink>> Joined<D> {
         (request.bytes(), request.handles())
     }
 
-    /// The bytes of the reply that the last answered step wrote, and the handles on the first of them.
+    /// The bytes of the reply that the last answered step wrote, and the descriptors on the first of them.
     pub fn last_reply(&self) -> (&[u8], &[PlainHandle])
         ensures bytes { result.0.now ≡ self.now.reply.bytes }
         ensures handles { result.1.now ≡ self.now.reply.handles }

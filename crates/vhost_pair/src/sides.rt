@@ -48,9 +48,9 @@ impl<D: VhostUserBackendReqHandlerMut<Link = MemLink>> Sides<D> {
     ghost use Rattle.vhost_pair.specs.Wire.{text_in};
     ghost use Rattle.vhost_protocol.specs.FrontendCall.{Nothing};
 
-    /// Two new sessions over two new links, which are cut as the scripts say.
+    /// Two new sessions over two new links, which move bytes or fail as the scripts say.
     ///
-    /// OutOfMemory: a growth was refused.
+    /// OutOfMemory: an allocation failed.
     #[inline(never)]
     pub fn new(
         alloc: Global,
@@ -75,9 +75,9 @@ impl<D: VhostUserBackendReqHandlerMut<Link = MemLink>> Sides<D> {
         })
     }
 
-    /// Makes what a step may need before its first byte.
+    /// Allocates what a step may need before its first byte.
     ///
-    /// OutOfMemory: a growth was refused.
+    /// OutOfMemory: an allocation failed.
     pub fn prepare(&mut self) -> Result<()>
         ensures lists { IfOk result (λ _. HaveLists (parts_of self.new)) }
         ensures asking { (parts_of self.new).asking ≡ record (parts_of self.old).asking { list = (parts_of self.new).asking.list } }
@@ -102,9 +102,9 @@ impl<D: VhostUserBackendReqHandlerMut<Link = MemLink>> Sides<D> {
         &self.reply
     }
 
-    /// Does a call whose lists were made.
+    /// Does a call whose descriptor buffers were allocated.
     ///
-    /// `Halt::OutOfMemory`: there was no room for its answer; nothing changed.
+    /// `Halt::OutOfMemory`: an allocation for its answer failed; nothing changed.
     #[inline(never)]
     pub fn exchange(&mut self, call: &FrontendCall) -> std::result::Result<Exchanged, Halt>
         requires lists { HaveLists (parts_of self.old) }
@@ -152,7 +152,7 @@ impl<D: VhostUserBackendReqHandlerMut<Link = MemLink>> Sides<D> {
         Exchanged { answer, stop: None }
     }
 
-    /// Has a request served that was sent, and takes its answer.
+    /// Has a request served that was sent, and receives its reply.
     #[inline(never)]
     fn serve(&mut self, call: &FrontendCall, sent: Sent) -> Exchanged
         requires last { IsAwaited sent self.old.frontend }
@@ -173,8 +173,8 @@ impl<D: VhostUserBackendReqHandlerMut<Link = MemLink>> Sides<D> {
         Exchanged { answer, stop }
     }
 
-    /// Carries what the frontend sent to the handler, has it served, and carries back what the handler sent. None: it
-    /// found no room on its way.
+    /// Carries what the frontend sent to the handler, has it served, and carries back what the handler sent. None: an
+    /// allocation failed on the way.
     #[inline(never)]
     fn hand_over(&mut self) -> Option<Result<()>>
         ensures handed { HandsOver D.gives (parts_of self.old) result (parts_of self.new) }

@@ -19,7 +19,7 @@ use vhost_message::{Error, Req, Result, VhostUserMsgHeader};
 
 /// What one endpoint sent goes to another.
 ///
-/// OutOfMemory: the other had more to receive, and its growth was refused; then nothing changed.
+/// OutOfMemory: the other had more to receive, and its allocation failed; then nothing changed.
 pub fn carry<R: Req>(
     from: &mut Endpoint<VhostUserMsgHeader<R>, MemLink>,
     to: &mut Endpoint<VhostUserMsgHeader<R>, MemLink>,
@@ -44,7 +44,7 @@ pub fn copy<R: Req>(end: &mut Endpoint<VhostUserMsgHeader<R>, MemLink>, wire: &m
 
 /// The request goes to the handler.
 ///
-/// OutOfMemory: the handler had more to receive, and its growth was refused; then nothing changed.
+/// OutOfMemory: the handler had more to receive, and its allocation failed; then nothing changed.
 pub fn carry_request(
     frontend: &mut FrontendInternal<MemLink>,
     handler: &mut SessionCore<MemLink>,
@@ -60,7 +60,7 @@ pub fn carry_request(
 
 /// The reply goes to the frontend.
 ///
-/// OutOfMemory: the frontend had more to receive, and its growth was refused; then nothing changed.
+/// OutOfMemory: the frontend had more to receive, and its allocation failed; then nothing changed.
 pub fn carry_reply(
     handler: &mut SessionCore<MemLink>,
     frontend: &mut FrontendInternal<MemLink>,
@@ -92,9 +92,9 @@ pub fn copy_reply(handler: &mut SessionCore<MemLink>, wire: &mut Wire)
     copy(handler.endpoint_mut(), wire);
 }
 
-/// Makes the list for the handles of the frontend's next reply, where the last one was given away.
+/// Allocates the descriptor buffer for the next reply to the frontend, where the last one was moved out.
 ///
-/// OutOfMemory: its growth was refused, and nothing changed.
+/// OutOfMemory: its allocation failed, and nothing changed.
 pub fn make_reply_list(frontend: &mut FrontendInternal<MemLink>) -> Result<()>
     ensures made { IfOk result (λ _. asking frontend.new ≡ record (asking frontend.old) { list = true }) }
     ensures memory { IfErr result (λ e. (e ≡ OutOfMemory) × (asking frontend.new ≡ asking frontend.old)) }
@@ -103,9 +103,9 @@ pub fn make_reply_list(frontend: &mut FrontendInternal<MemLink>) -> Result<()>
     frontend.endpoint_mut().make_list()
 }
 
-/// Makes the list for the handles of the handler's next request, where the last one was given away.
+/// Allocates the descriptor buffer for the next request to the handler, where the last one was moved out.
 ///
-/// OutOfMemory: its growth was refused, and nothing changed.
+/// OutOfMemory: its allocation failed, and nothing changed.
 pub fn make_request_list(handler: &mut SessionCore<MemLink>) -> Result<()>
     ensures made { IfOk result (λ _. serving handler.new ≡ record (serving handler.old) { list = true }) }
     ensures memory { IfErr result (λ e. (e ≡ OutOfMemory) × (serving handler.new ≡ serving handler.old)) }

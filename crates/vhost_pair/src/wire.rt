@@ -8,7 +8,7 @@ use std::alloc::{AllocError, Global};
 use vhost_link::{Flow, PlainHandle};
 use vhost_message::{MAX_ATTACHED_FD_ENTRIES, MAX_MSG_TEXT};
 
-/// The bytes of a message and the handles on its first byte, with room for the greatest one.
+/// The bytes of a message and the descriptors on its first byte, with room for the greatest one.
 #[derive(Drop)]
 pub struct Wire {
     bytes: Vec<u8>,
@@ -44,7 +44,7 @@ impl Wire {
         &self.bytes
     }
 
-    /// The handles on the first byte.
+    /// The descriptors on the first byte.
     pub fn handles(&self) -> &[PlainHandle]
         ensures { result.now ≡ (text_in self.now).handles }
     {
@@ -59,8 +59,8 @@ impl Wire {
         self.handles.clear();
     }
 
-    /// Copies the bytes that a link took in, and the handles on the first. More than the greatest message is no message:
-    /// nothing is copied of it.
+    /// Copies the bytes that a link accepted, and the descriptors on the first. More than the greatest message is no
+    /// message: nothing is copied of it.
     pub fn copy(&mut self, sent: &Flow)
         ensures { length sent.now ≤ MAX_MSG_TEXT → text_in self.new ≡ text_of sent.now }
     {

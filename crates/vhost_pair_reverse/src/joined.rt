@@ -1,4 +1,4 @@
-//! Both sides of the reverse channel joined over two links in memory.
+//! Both sides of the backend channel joined over two links in memory.
 
 ghost use Rattle.std.specs.Prelude.{◌≡◌, None, IfOk, IfErr};
 ghost use Rattle.vhost_pair.specs.declared.halt.Halt.TheVariants.{OutOfMemory};
@@ -11,10 +11,10 @@ use vhost_link::{Cut, MemLink, PlainHandle};
 use vhost_message::HandlerResult;
 use vhost_pair::{Halt, Stop};
 
-/// What is asked of a joined run: a call, or a flag.
+/// A call of a joined run, or a flag.
 pub type ReverseCall = vhost_backend_req::ReverseCall<PlainHandle>;
 
-/// Both sides of the reverse channel joined over two links in memory, with what serves the requests behind one of them.
+/// Both sides of the backend channel joined over two links in memory, with what serves the requests behind one of them.
 #[derive(Drop)]
 pub struct JoinedReverse<D: Drop> {
     sides: Sides<D>,
@@ -39,10 +39,10 @@ impl<D: VhostUserFrontendReqHandlerMut<Handle = PlainHandle>> JoinedReverse<D> {
     ghost use Rattle.vhost_pair_reverse.specs.Lockstep.{RunsReverse};
     ghost use Rattle.vhost_pair_reverse.specs.Sides.{as_view, fresh_parts};
 
-    /// Two new sides over two new links, which are cut as the scripts say: the first that of the asking side. A message
-    /// may take so many retries.
+    /// Two new sides over two new links, which move bytes or fail as the scripts say: the first is the backend's. Each
+    /// message may use at most so many retries.
     ///
-    /// `Halt::OutOfMemory`: a growth was refused.
+    /// `Halt::OutOfMemory`: an allocation failed.
     pub fn new(
         alloc: Global,
         device: D,
@@ -63,10 +63,10 @@ impl<D: VhostUserFrontendReqHandlerMut<Handle = PlainHandle>> JoinedReverse<D> {
         }
     }
 
-    /// Does one call: the request goes to the serving side, which asks the device, and its answer comes back where one
-    /// is awaited. A flag is set at once, and its answer is 0.
+    /// Does one call: the request goes to the frontend, which serves it, and its reply comes back where one is
+    /// awaited. A flag is set at once, and its answer is 0.
     ///
-    /// `Halt::Stopped`: the run has stopped before. `Halt::OutOfMemory`: a growth was refused before the first byte.
+    /// `Halt::Stopped`: the run has stopped before. `Halt::OutOfMemory`: an allocation failed before the first byte.
     /// In both cases nothing changed.
     pub fn step(&mut self, call: &ReverseCall) -> Result<HandlerResult<u64>, Halt>
         ensures { Steps D.gives self.old (input_of call.now) result self.new }
@@ -109,7 +109,7 @@ impl<D: VhostUserFrontendReqHandlerMut<Handle = PlainHandle>> JoinedReverse<D> {
         self.stopped
     }
 
-    /// The bytes of the request that the last answered step wrote, and the handles on the first of them.
+    /// The bytes of the request that the last answered step wrote, and the descriptors on the first of them.
     pub fn last_request(&self) -> (&[u8], &[PlainHandle])
         ensures bytes { result.0.now ≡ self.now.request.bytes }
         ensures handles { result.1.now ≡ self.now.request.handles }
@@ -118,7 +118,7 @@ impl<D: VhostUserFrontendReqHandlerMut<Handle = PlainHandle>> JoinedReverse<D> {
         (request.bytes(), request.handles())
     }
 
-    /// The bytes of the reply that the last answered step wrote, and the handles on the first of them.
+    /// The bytes of the reply that the last answered step wrote, and the descriptors on the first of them.
     pub fn last_reply(&self) -> (&[u8], &[PlainHandle])
         ensures bytes { result.0.now ≡ self.now.reply.bytes }
         ensures handles { result.1.now ≡ self.now.reply.handles }

@@ -1,4 +1,4 @@
-//! Both sides of the reverse channel joined over links in memory, in lockstep.
+//! Both sides of the backend channel joined over links in memory, in lockstep.
 #![tactic(auto)]
 
 mod joined;

@@ -40,9 +40,9 @@ impl<D: VhostUserFrontendReqHandlerMut<Handle = PlainHandle>> Sides<D> {
     ghost use Rattle.vhost_pair.specs.Wire.{text_in};
     ghost use Rattle.vhost_pair_reverse.specs.Sides.{parts_of, fresh_parts, HaveLists, Exchanges, Serves, HandsOver, EndsUnsent, stop_of, acknowledging};
 
-    /// Two new sides over two new links, which are cut as the scripts say.
+    /// Two new sides over two new links, which move bytes or fail as the scripts say.
     ///
-    /// OutOfMemory: a growth was refused.
+    /// OutOfMemory: an allocation failed.
     pub fn new(
         alloc: Global,
         device: D,
@@ -65,9 +65,9 @@ impl<D: VhostUserFrontendReqHandlerMut<Handle = PlainHandle>> Sides<D> {
         })
     }
 
-    /// Makes what a step may need before its first byte.
+    /// Allocates what a step may need before its first byte.
     ///
-    /// OutOfMemory: a growth was refused.
+    /// OutOfMemory: an allocation failed.
     pub fn prepare(&mut self) -> Result<()>
         ensures lists { IfOk result (λ _. HaveLists (parts_of self.new)) }
         ensures asking { (parts_of self.new).channel.endpoint ≡ record (parts_of self.old).channel.endpoint { list = (parts_of self.new).channel.endpoint.list } }
@@ -93,7 +93,7 @@ impl<D: VhostUserFrontendReqHandlerMut<Handle = PlainHandle>> Sides<D> {
         &self.reply
     }
 
-    /// Sets a flag, or does a call whose lists were made.
+    /// Sets a flag, or does a call whose descriptor buffers were allocated.
     pub fn exchange(&mut self, call: &ReverseCall<PlainHandle>) -> Exchanged
         requires { HaveLists (parts_of self.old) }
         ensures { Exchanges D.gives (input_of call.now) (parts_of self.old) result (parts_of self.new) }
@@ -105,7 +105,7 @@ impl<D: VhostUserFrontendReqHandlerMut<Handle = PlainHandle>> Sides<D> {
         }
     }
 
-    /// Ends a call that set a flag of the asking side. The flag for acknowledgements is that of both sides.
+    /// Ends a call that set a flag of the backend. The flag for acknowledgements is that of both sides.
     fn set(&mut self, call: &ReverseCall<PlainHandle>) -> Exchanged
         ensures answer { (result.answer ≡ Ok 0) × (result.stop ≡ None) }
         ensures same { parts_of self.new ≡ record (parts_of self.old) { server = acknowledging (input_of call.now) (parts_of self.old).server; request = no_text; reply = no_text } }
@@ -137,7 +137,7 @@ impl<D: VhostUserFrontendReqHandlerMut<Handle = PlainHandle>> Sides<D> {
         Exchanged { answer, stop: None }
     }
 
-    /// Has a request served that was sent, and takes its answer.
+    /// Has a request served that was sent, and receives its reply.
     fn serve(&mut self, sent: Option<Header>) -> Exchanged
         ensures { Serves D.gives sent (parts_of self.old) result (parts_of self.new) }
     {
@@ -154,8 +154,8 @@ impl<D: VhostUserFrontendReqHandlerMut<Handle = PlainHandle>> Sides<D> {
         Exchanged { answer, stop }
     }
 
-    /// Carries what the asking side sent to the other, has it served, and carries back what that one sent. None: it
-    /// found no room on its way.
+    /// Carries what the backend sent to the frontend, has it served, and carries back what the frontend sent. None: an
+    /// allocation failed on the way.
     fn hand_over(&mut self) -> Option<Result<u64>>
         ensures { HandsOver D.gives (parts_of self.old) result (parts_of self.new) }
     {
@@ -171,7 +171,7 @@ impl<D: VhostUserFrontendReqHandlerMut<Handle = PlainHandle>> Sides<D> {
         Some(served)
     }
 
-    /// Why the run stops once the serving side answered so.
+    /// Why the run stops once the frontend answered so.
     fn stop_after(&self, served: &Result<u64>) -> Option<Stop>
         ensures { result ≡ stop_of ((channel self.now.backend).endpoint.faulted || (endpoint_of self.now.server).faulted) served.now (text_in self.now.reply).bytes }
     {

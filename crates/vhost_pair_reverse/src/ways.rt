@@ -15,9 +15,9 @@ use vhost_link::MemLink;
 use vhost_message::Result;
 use vhost_pair::{Wire, carry, copy};
 
-/// The request goes to the serving side.
+/// The request goes to the frontend.
 ///
-/// OutOfMemory: that side had more to receive, and its growth was refused; then nothing changed.
+/// OutOfMemory: that side had more to receive, and its allocation failed; then nothing changed.
 pub fn carry_request(
     backend: &mut BackendInternal<MemLink>,
     server: &mut FrontendReqCore<MemLink>,
@@ -30,9 +30,9 @@ pub fn carry_request(
     carry(backend.endpoint_mut(), server.endpoint_mut())
 }
 
-/// The reply goes to the asking side.
+/// The reply goes to the backend.
 ///
-/// OutOfMemory: that side had more to receive, and its growth was refused; then nothing changed.
+/// OutOfMemory: that side had more to receive, and its allocation failed; then nothing changed.
 pub fn carry_reply(
     server: &mut FrontendReqCore<MemLink>,
     backend: &mut BackendInternal<MemLink>,
@@ -45,7 +45,7 @@ pub fn carry_reply(
     carry(server.endpoint_mut(), backend.endpoint_mut())
 }
 
-/// Copies what the asking side sent.
+/// Copies what the backend sent.
 pub fn copy_request(backend: &mut BackendInternal<MemLink>, wire: &mut Wire)
     ensures text { length (outgoing (channel backend.old).endpoint) ≤ MAX_MSG_TEXT → text_in wire.new ≡ text_of (outgoing (channel backend.old).endpoint) }
     ensures same { channel backend.new ≡ channel backend.old }
@@ -53,7 +53,7 @@ pub fn copy_request(backend: &mut BackendInternal<MemLink>, wire: &mut Wire)
     copy(backend.endpoint_mut(), wire);
 }
 
-/// Copies what the serving side sent.
+/// Copies what the frontend sent.
 pub fn copy_reply(server: &mut FrontendReqCore<MemLink>, wire: &mut Wire)
     ensures text { length (outgoing (endpoint_of server.old)) ≤ MAX_MSG_TEXT → text_in wire.new ≡ text_of (outgoing (endpoint_of server.old)) }
     ensures same { endpoint_of server.new ≡ endpoint_of server.old }
@@ -62,9 +62,9 @@ pub fn copy_reply(server: &mut FrontendReqCore<MemLink>, wire: &mut Wire)
     copy(server.endpoint_mut(), wire);
 }
 
-/// Makes the list for the handles of the next answer, where the last one was given away.
+/// Allocates the descriptor buffer for the next reply to the backend, where the last one was moved out.
 ///
-/// OutOfMemory: its growth was refused, and nothing changed.
+/// OutOfMemory: its allocation failed, and nothing changed.
 pub fn make_reply_list(backend: &mut BackendInternal<MemLink>) -> Result<()>
     ensures made { IfOk result (λ _. (channel backend.new).endpoint.list ≡ true) }
     ensures kept { (channel backend.new).endpoint ≡ record (channel backend.old).endpoint { list = (channel backend.new).endpoint.list } }
@@ -73,9 +73,9 @@ pub fn make_reply_list(backend: &mut BackendInternal<MemLink>) -> Result<()>
     backend.endpoint_mut().make_list()
 }
 
-/// Makes the list for the handles of the next request, where the last one was given away.
+/// Allocates the descriptor buffer for the next request to the frontend, where the last one was moved out.
 ///
-/// OutOfMemory: its growth was refused, and nothing changed.
+/// OutOfMemory: its allocation failed, and nothing changed.
 pub fn make_request_list(server: &mut FrontendReqCore<MemLink>) -> Result<()>
     ensures made { IfOk result (λ _. (endpoint_of server.new).list ≡ true) }
     ensures kept { endpoint_of server.new ≡ record (endpoint_of server.old) { list = (endpoint_of server.new).list } }

@@ -1,4 +1,4 @@
-//! Calls of a side that asks, one after another.
+//! Calls of a side that sends requests, one after another.
 
 ghost use Rattle.std.specs.Prelude.{◌≡◌, true, IfErr};
 ghost use Rattle.vhost_backend_req.specs.Asking.{AsksCall};
@@ -16,8 +16,8 @@ use vhost_frontend::Quiet;
 use vhost_link::Link;
 use vhost_message::{HandlerResult, Result, VhostUserSharedMsg};
 
-/// Asks a device for its features so many times, or until that fails. Where the endpoint had its list of handles it has it again
-/// after each answer, so no call wants memory.
+/// Asks a backend for its features so many times, or until that fails. Where the endpoint had its descriptor buffer it has it again
+/// after each answer, so no allocation of a call fails.
 pub fn asks_again<L: Link>(frontend: &mut Quiet<L>, count: usize) -> Result<()>
     ensures made { Repeats (Whole L.event GetFeatures Number) frontend.old.inner count result frontend.new.inner }
     ensures listed { (endpoint_of frontend.old.inner).list ≡ true → IfErr result (λ e. e ≡ OutOfMemory → ⊥) }
@@ -31,7 +31,7 @@ pub fn asks_again<L: Link>(frontend: &mut Quiet<L>, count: usize) -> Result<()>
     Ok(())
 }
 
-/// The same of a device that tells its frontend of an object.
+/// The same of a device that announces an object to its frontend.
 pub fn adds_again<L: Link>(
     frontend: &mut BackendInternal<L>,
     name: &VhostUserSharedMsg,

@@ -14,9 +14,9 @@ use vhost_gpu_message::VhostUserGpuCursorPos;
 use vhost_link::Link;
 use vhost_message::{HandlerResult, VhostUserMMap, VhostUserSharedMsg, VhostUserU64};
 
-/// Tells a frontend of an object. Where that succeeds, exactly the call's message went out, and where an answer was awaited, the
-/// reply for it came, without handles, and says 0. Else the definitions refuse the call, and nothing changed; or the answer that
-/// came says so; or the link failed or memory was wanted, and there is evidence of it.
+/// Announces an object to a frontend. Where that succeeds, exactly the call's message went out, and where an answer was awaited, the reply
+/// for it came, without descriptors, and says 0. Else the definitions refuse the call, and nothing changed; or the answer that came says
+/// so; or the link or an allocation failed, and there is evidence of it.
 pub fn adds_object<L: Link>(
     frontend: &mut BackendInternal<L>,
     name: &VhostUserSharedMsg,
@@ -26,7 +26,7 @@ pub fn adds_object<L: Link>(
     frontend.shared_object_add(name)
 }
 
-/// The same of memory that is mapped, with its handle.
+/// The same of memory that is mapped, with its descriptor.
 pub fn maps_memory<L: Link>(
     frontend: &mut BackendInternal<L>,
     mapping: &VhostUserMMap,
@@ -37,8 +37,8 @@ pub fn maps_memory<L: Link>(
     frontend.shmem_map(mapping, handle)
 }
 
-/// Asks a display for its features. Where that succeeds, exactly the call's row went out, and the answer is the record of the reply
-/// that came for it, without handles. Else it has one of the reasons that a call of a frontend has.
+/// Asks a display for its features. Where that succeeds, exactly the call's message went out, and the answer is the record of the reply
+/// that came for it, without descriptors. Else it has one of the reasons that a call of a frontend has.
 pub fn asks_features<L: Link>(display: &mut Display<L>) -> HandlerResult<VhostUserU64>
     ensures { AnswersDisplay L.event (λ bs. record { value = u64_at 0 bs }) GetProtocolFeatures (display_channel display.old) result (display_channel display.new) }
 {

@@ -13,8 +13,8 @@ use vhost_connection::Endpoint;
 use vhost_link::Link;
 use vhost_message::{FrontendReq, Result, VhostUserConfig, VhostUserMsgHeader};
 
-/// Sends bytes of the configuration space behind their header and record. Where they fit and the link takes all that it is given, the
-/// whole message goes out by one call of the link, with nothing before it but retries.
+/// Sends bytes of the configuration space behind their header and record. Where they fit and the link makes no short write, the whole
+/// message goes out by one call of the link, with nothing before it but retries.
 pub fn sends_in_one<L: Link>(
     endpoint: &mut Endpoint<VhostUserMsgHeader<FrontendReq>, L>,
     header: &VhostUserMsgHeader<FrontendReq>,

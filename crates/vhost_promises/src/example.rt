@@ -34,8 +34,8 @@ pub fn claims_device(
     Ok(joined)
 }
 
-/// Claims it once more. The device refuses that in silence, so the frontend can't know: it is told that it succeeded, nothing came back,
-/// and the run has stopped there.
+/// Claims it once more. The device refuses that without a reply, so the frontend can't know: its call succeeds, nothing came back, and
+/// the run has stopped there.
 pub fn claims_twice(
     alloc: Global,
     spare: Vec<PlainHandle>,

@@ -1,4 +1,4 @@
-//! Both sides of the reverse channel joined over a frontend that takes one object, with exact answers.
+//! Both sides of the backend channel joined over a frontend that accepts one object, with exact answers.
 
 ghost use Rattle.std.specs.Prelude.{◌≡◌, ◌≢◌, ◌++◌, [], ◌∷◌, Some, IfOk, List, Result, ℕ};
 ghost use Rattle.vhost_message.specs.declared.io_error.IoError as declared;
@@ -15,7 +15,7 @@ use vhost_pair_reverse::{JoinedReverse, ReverseCall};
 /// The system's error for a call that is not there (ENOSYS).
 const ENOSYS: i32 = 38;
 
-/// A frontend that takes one object, and fails every other call with the system's error 38.
+/// A frontend that accepts one object, and fails every other call with the system's error 38.
 #[derive(Drop)]
 pub struct OneObject {
     /// Whether it has one.
@@ -82,7 +82,7 @@ pub fn shares_object(
     Ok(joined)
 }
 
-/// Shares it once more. The frontend fails with the number 38, its negative goes back, and the device is told that the frontend failed.
+/// Shares it once more. The frontend fails with the number 38, its negative goes back, and the device's call reports that failure.
 pub fn shares_twice(
     alloc: Global,
     answers: &mut Vec<HandlerResult<u64>>,

@@ -14,8 +14,8 @@ use vhost_frontend_req_handler::{FrontendReqCore, VhostUserFrontendReqHandlerMut
 use vhost_link::Link;
 use vhost_message::Result;
 
-/// Serves one request of a frontend. Where the endpoint says that it met a fault, the answer is the error of the link's last event, and
-/// that broke the endpoint if a byte of request or reply had moved before, and only then.
+/// Serves one request of a frontend. Where the endpoint says that it met an I/O error, the answer is the error of the link's last event,
+/// and that poisoned the endpoint if a byte of request or reply had moved before, and only then.
 pub fn meets_fault<L: Link, D: VhostUserBackendReqHandlerMut<Link = L>>(
     core: &mut SessionCore<L>,
     device: &mut D,
@@ -35,8 +35,8 @@ pub fn meets_fault_back<L: Link, D: VhostUserFrontendReqHandlerMut<Handle = L::H
     core.handle_request(device)
 }
 
-/// Serves so many requests over an endpoint that a fault has broken and that has its list of handles: each answer is SocketBroken with its cause, and neither the
-/// endpoint nor the session nor the device changes.
+/// Serves so many requests over an endpoint that an I/O error has poisoned and that has its descriptor buffer: each answer is SocketBroken
+/// with its cause, and neither the endpoint nor the session nor the device changes.
 pub fn stays_broken<L: Link, D: VhostUserBackendReqHandlerMut<Link = L>>(
     alloc: Global,
     core: &mut SessionCore<L>,

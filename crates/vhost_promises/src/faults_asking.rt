@@ -1,4 +1,4 @@
-//! A side that asks over a broken endpoint.
+//! A side that sends requests over a poisoned endpoint.
 
 ghost use Rattle.std.specs.Prelude.{◌≡◌, None, Some, true, IfOk, map, codes};
 ghost use Rattle.vhost_backend_req.specs.Channel.{channel};
@@ -18,15 +18,15 @@ use vhost_gpu_backend_req::BackendInternal as Display;
 use vhost_link::Link;
 use vhost_message::{HandlerResult, Result as VhostResult, VhostUserSharedMsg, VhostUserU64};
 
-/// Asks for the features of a device. Where the endpoint says that it met a fault, the answer is the error of the link's last event,
-/// and that broke the endpoint if a byte of request or reply had moved before, and only then.
+/// Asks for the features of a backend. Where the endpoint says that it met an I/O error, the answer is the error of the link's last event,
+/// and that poisoned the endpoint if a byte of request or reply had moved before, and only then.
 pub fn meets_fault_asking<L: Link>(frontend: &mut Quiet<L>) -> VhostResult<u64>
     ensures { (endpoint_of frontend.new.inner).faulted ≡ true → MeetsFault L.event (endpoint_of frontend.old.inner) result (endpoint_of frontend.new.inner) }
 {
     frontend.get_features()
 }
 
-/// Asks so many times over an endpoint that a fault has broken and that has its list of handles: each answer is SocketBroken with
+/// Asks so many times over an endpoint that an I/O error has poisoned and that has its descriptor buffer: each answer is SocketBroken with
 /// its cause, and neither the endpoint nor the session changes.
 pub fn asks_broken<L: Link>(
     alloc: Global,
@@ -44,7 +44,7 @@ pub fn asks_broken<L: Link>(
     Ok(answers)
 }
 
-/// The same of a device that tells its frontend of an object, over a channel that has agreed on objects and is not marked as failed.
+/// The same of a device that announces an object to its frontend, over a channel that has agreed on objects and is not marked as failed.
 pub fn adds_broken<L: Link>(
     alloc: Global,
     frontend: &mut BackendInternal<L>,

@@ -11,9 +11,9 @@ ghost use Rattle.vhost_protocol.specs.declared.asked.Awaited.TheVariants.{Nobody
 use vhost_frontend_core::{FrontendAnswer, FrontendCall, FrontendInternal, ask, take};
 use vhost_link::MemLink;
 
-/// Makes a call whole. Where the endpoint's last call had met no fault, and the endpoint says that it met one now, the answer is the
-/// error of the link's last event, and that broke the endpoint if a byte of request or reply had moved before, and only then. Nothing is awaited
-/// after it if nothing was before.
+/// Makes a call whole. Where the endpoint's last call had met no I/O error, and the endpoint says that it met one now, the answer is the
+/// error of the link's last event, and that poisoned the endpoint if a byte of request or reply had moved before, and only then. Nothing is
+/// awaited after it if nothing was before.
 pub fn meets_fault_calling(
     frontend: &mut FrontendInternal<MemLink>,
     call: &FrontendCall,

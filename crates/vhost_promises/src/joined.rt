@@ -19,12 +19,12 @@ use vhost_message::HandlerResult;
 use vhost_pair::{Halt, Joined};
 use vhost_pair_reverse::{JoinedReverse, ReverseCall};
 
-/// Joins two new sides over a device, and does these calls. Unless the run stopped because a premise failed, the calls that were
+/// Joins two new sides over a device, and does these calls. Unless the run stopped because an assumption failed, the calls that were
 /// answered are a joined run of the protocol from two fresh sessions to those of now, and the device moved by its own relation.
 ///
-/// This is so where all features that the device offers agree on protocol features (`bit`), and no request is sent as a reply;
-/// the links are cut as the scripts say. Where no script cuts a call, the premise that failed is memory that was wanted: by a link,
-/// or behind the handler. The run is kept where it halts, with the halt: what was answered until then stands.
+/// This is so where all features that the device offers agree on protocol features (`bit`), and no request is sent as a reply; the links'
+/// calls go as the scripts say. Where both scripts are empty, what failed is an allocation: of a link, or behind the handler. The run is
+/// kept where it halts, with the halt: what was answered until then stands.
 pub fn runs_in_lockstep<D: VhostUserBackendReqHandlerMut<Link = MemLink>>(
     alloc: Global,
     device: D,
@@ -44,9 +44,9 @@ pub fn runs_in_lockstep<D: VhostUserBackendReqHandlerMut<Link = MemLink>>(
     Ok((joined, ended))
 }
 
-/// Does these calls of sides that are in step: they are in lockstep, or they were up to the last answered call, which broke a premise.
-/// Of the device it is enough that all features which it answered here agree on protocol features. The answers are kept where the run
-/// halts, with the halt.
+/// Does these calls of sides that are in step: they are in lockstep, or they were up to the last answered call, which violated an
+/// assumption. Of the device it is enough that all features which it answered here agree on protocol features. The answers are kept where
+/// the run halts, with the halt.
 pub fn stays_in_step<D: VhostUserBackendReqHandlerMut<Link = MemLink>>(
     alloc: Global,
     joined: &mut Joined<D>,
@@ -72,7 +72,7 @@ pub fn refuses_whatever_was<D: VhostUserBackendReqHandlerMut<Link = MemLink>>(
     joined.step(call)
 }
 
-/// Does one call where the handler's link fails at once for good, and nothing is on the way: no reply is shown, for none was written.
+/// Does one call where the handler's link fails at once for good, and nothing is on the way: no reply is recorded, for none was written.
 pub fn shows_no_reply<D: VhostUserBackendReqHandlerMut<Link = MemLink>>(
     joined: &mut Joined<D>,
     call: &FrontendCall,
@@ -82,7 +82,7 @@ pub fn shows_no_reply<D: VhostUserBackendReqHandlerMut<Link = MemLink>>(
     joined.step(call)
 }
 
-/// The same of both sides of the reverse channel, over every device and every list of calls and flags.
+/// The same of both sides of the backend channel, over every device and every list of calls and flags.
 pub fn runs_back_in_lockstep<D: VhostUserFrontendReqHandlerMut<Handle = PlainHandle>>(
     alloc: Global,
     device: D,

@@ -1,5 +1,4 @@
-//! Clients of the promises: from public contracts alone each derives what the README says of one, and so shows that a
-//! caller can use it.
+//! Worked consequences: from public contracts alone each derives what a promise says, and so shows that callers can.
 #![tactic(auto)]
 
 mod again;

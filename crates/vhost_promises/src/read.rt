@@ -15,9 +15,9 @@ use vhost_frontend::Quiet;
 use vhost_link::{Cut, MemLink, stream_law};
 use vhost_message::{Error, Result};
 
-/// A new frontend asks for the features of a device whose reply came. However the link is cut, the answer is 0x40000003, exactly
-/// the request went out, nothing is left, and the frontend remembers the features; unless the answer is an error that a link or want
-/// of memory may bring.
+/// A new frontend asks for the features of a backend whose reply came. However the link splits it, the answer is 0x40000003, exactly the
+/// request went out, nothing is left, and the frontend remembers the features; unless the answer is an error that a link or a failed
+/// allocation may bring.
 pub fn reads_features(frontend: &mut Quiet<MemLink>) -> Result<u64>
     ensures { (queues : ℕ) → session_of frontend.old.inner ≡ new_frontend queues → stream (endpoint_of frontend.old.inner) ≡ plain features_reply → answer_of_link result ≡ false
         → ReadsFeatures (endpoint_of frontend.old.inner) (new_frontend queues) result (endpoint_of frontend.new.inner) (session_of frontend.new.inner) }
@@ -26,9 +26,9 @@ pub fn reads_features(frontend: &mut Quiet<MemLink>) -> Result<u64>
     frontend.get_features()
 }
 
-/// The same over a link in memory that is cut as the script says.
+/// The same over a link in memory whose calls go as the script says.
 ///
-/// OutOfMemory: a growth was refused.
+/// OutOfMemory: an allocation failed.
 pub fn reads_features_new(
     alloc: Global,
     script: Vec<Cut>,

@@ -45,7 +45,7 @@ pub fn finds_own<D: VhostUserBackendReqHandlerMut<Link = MemLink>>(
 }
 
 /// The answer of a log's first entry. Where that asked the example device for its features, it is exactly 0x40000003, however many callers
-/// there were and whoever came first; unless the run stopped because a premise failed.
+/// there were and whoever came first; unless the run stopped because an assumption failed.
 pub fn first_answer(log: &Log<Device>) -> Option<&FrontendAnswer>
     ensures answer { IfSome result (λ answer. Begins log.now.entries GetFeatures → log.now.joined.stopped ≢ Some Premise → answer_of answer.now ≡ Ok (Number 0x40000003)) }
     ensures none { result ≡ None → log.now.entries ≡ [] }

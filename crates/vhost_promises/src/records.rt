@@ -13,7 +13,7 @@ use vhost_message::{
     VhostUserMsgHeader, VhostUserMsgValidator, VhostUserSharedMsg, VhostUserU64,
 };
 
-/// Writes a record into a room of its size, and reads it again: it is the same, and the room has its text.
+/// Writes a record into a buffer of its size, and reads it again: it is the same, and the buffer has its wire bytes.
 pub fn there_and_back<T: ByteValued>(value: &T, room: &mut [u8]) -> T
     requires { length room.old ≡ T.SIZE }
     ensures value { result ≡ value.now }
@@ -96,7 +96,7 @@ pub fn same_scanout(scanout: &VhostUserGpuScanout) -> VhostUserGpuScanout
     there_and_back(scanout, &mut [0; 12])
 }
 
-/// The header of a display's message.
+/// The header of a vhost-user-gpu message.
 pub fn same_gpu_header(
     header: &VhostUserGpuMsgHeader<GpuBackendReq>,
 ) -> VhostUserGpuMsgHeader<GpuBackendReq>

@@ -15,7 +15,7 @@ use vhost_frontend_req_handler::{FrontendReqCore, VhostUserFrontendReqHandlerMut
 use vhost_link::Link;
 use vhost_message::Result;
 
-/// Serves so many requests of a frontend. Where none of the answers is an error that a link or want of memory may bring, they, what
+/// Serves so many requests of a frontend. Where none of the answers is an error that a link or a failed allocation may bring, they, what
 /// was received and what was written are a run of the protocol table, over every device and every link.
 pub fn serves_whole<L: Link, D: VhostUserBackendReqHandlerMut<Link = L>>(
     alloc: Global,
@@ -46,7 +46,7 @@ pub fn serves_whole_back<L: Link, D: VhostUserFrontendReqHandlerMut<Handle = L::
     Ok(answers)
 }
 
-/// Serves one request of a frontend, of a session that is not marked as failed. Where its endpoint is broken, the answer says why,
+/// Serves one request of a frontend, of a session that is not marked as failed. Where its endpoint is poisoned, the answer says why,
 /// and neither the session nor the device has changed.
 pub fn serves_no_broken<L: Link, D: VhostUserBackendReqHandlerMut<Link = L>>(
     core: &mut SessionCore<L>,

@@ -2,13 +2,13 @@
 
 ghost use Rattle.vhost_promises.specs.Scripts.{TakesACut, StopsByItsCut, PassesNoFault, CountsItsWants};
 
-/// What passes a link takes cuts of its script, and no message passes a fault.
+/// A message that passes a link uses up entries of its script, and none passes an I/O error.
 pub fn passes_its_script()
     ensures cut { TakesACut }
     ensures fault { PassesNoFault }
 {}
 
-/// A message is stopped by the cause of its script's next fault; where no cut is left, only by a want of memory, and that is counted.
+/// A message is stopped by the cause of its script's next I/O error; where it is empty, only by a counted failure of an allocation.
 pub fn stops_by_its_script()
     ensures cause { StopsByItsCut }
     ensures wants { CountsItsWants }

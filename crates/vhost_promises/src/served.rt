@@ -21,9 +21,9 @@ use vhost_message::{Error, Result};
 /// The example device, over links in memory.
 type Device = DummyBackendReqHandler<MemLink>;
 
-/// Serves three requests of a stream that holds them: the features, an owner, and an owner once more. However the link is cut, the
-/// answers are these, the bytes that went out are these, and the device has an owner; unless one of the answers is an error that a
-/// link or want of memory may bring.
+/// Serves three requests of a stream that holds them: the features, an owner, and an owner once more. However the link splits the stream,
+/// the answers are these, the bytes that went out are these, and the device has an owner; unless one of the answers is an error that a link
+/// or a failed allocation may bring.
 pub fn serves_three(
     alloc: Global,
     core: &mut SessionCore<MemLink>,
@@ -36,9 +36,9 @@ pub fn serves_three(
     serves_whole(alloc, core, device, 3)
 }
 
-/// A new handler over a new example device, whose link in memory holds the three requests and is cut as the script says, serves them.
+/// A new handler over a new example device, whose link in memory holds the three requests and splits them as the script says, serves them.
 ///
-/// OutOfMemory: a growth was refused.
+/// OutOfMemory: an allocation failed.
 pub fn serves_three_new(
     alloc: Global,
     spare: Vec<PlainHandle>,

@@ -19,11 +19,11 @@ use vhost_frontend_req_handler::{FrontendReqCore, VhostUserFrontendReqHandlerMut
 use vhost_link::{MemLink, PlainHandle, stream_law};
 use vhost_message::Result;
 
-/// Serves one request where the stream has none, over every device and however the link is cut. It answers the error that the
+/// Serves one request where the stream has none, over every device and however the link splits it. It answers the error that the
 /// definitions make of this stream, leaves what they leave of it, writes nothing, and changes neither session nor device.
 ///
-/// InvalidMessage: the stream ends inside a body, or it begins with a header of another version. PartialMessage: it ends inside a
-/// header. Disconnected: it is empty. This is so unless the answer is an error that a link or want of memory may bring.
+/// InvalidMessage: the stream ends inside a body, or it begins with a header of another version. PartialMessage: it ends inside a header.
+/// Disconnected: it is empty. This is so unless the answer is an error that a link or a failed allocation may bring.
 pub fn finds_none<D: VhostUserBackendReqHandlerMut<Link = MemLink>>(
     core: &mut SessionCore<MemLink>,
     device: &mut D,

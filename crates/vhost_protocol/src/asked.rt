@@ -17,7 +17,7 @@ pub enum Shape {
     VringState,
     /// A part of the configuration space.
     Config,
-    /// The buffer for descriptors in flight.
+    /// The inflight region.
     Inflight,
     /// The area of the dirty log.
     Log,

@@ -1,4 +1,5 @@
-//! A frontend and a handler joined, which callers in many threads share, with a log of their calls.
+//! A frontend and a handler joined, behind a lock that callers in many threads share, with a log of
+//! their calls.
 #![tactic(auto)]
 
 mod comparing;

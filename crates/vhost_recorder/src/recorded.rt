@@ -94,7 +94,7 @@ impl<D: VhostUserBackendReqHandlerMut<Link = MemLink>> Recorded<D> {
 
     /// Joins both sides as [`Joined::new`] does, with an empty log.
     ///
-    /// `Halt::OutOfMemory`: a growth was refused.
+    /// `Halt::OutOfMemory`: an allocation failed.
     pub fn new(
         alloc: Global,
         device: D,
@@ -118,7 +118,7 @@ impl<D: VhostUserBackendReqHandlerMut<Link = MemLink>> Recorded<D> {
 
     /// Does one call for a caller, appends it with its answer to the log, and answers a copy of that entry.
     ///
-    /// `Halt::Stopped`: the run has stopped before. `Halt::OutOfMemory`: a growth was refused before the first byte, also one
+    /// `Halt::Stopped`: the run has stopped before. `Halt::OutOfMemory`: an allocation failed before the first byte, also one
     /// for the entry or its copy. In both cases nothing changed.
     pub fn step(&mut self, caller: u32, call: &FrontendCall) -> Result<Receipt, Halt>
         ensures { Records D.gives self.old caller (call_of call.now) result self.new }

@@ -27,9 +27,9 @@ impl<D: VhostUserBackendReqHandlerMut<Link = MemLink>, L: Ledger> Desk<D, L> {
     ghost use Rattle.std.specs.Prelude.{[], None};
     ghost use Rattle.vhost_pair.specs.Sides.{as_view, fresh_parts};
 
-    /// A recording over two new sides with these queues and this budget, and a count of nothing, with all parts of the ledger.
+    /// A recording over two new sides with these queues and this retry limit, and a count of nothing, with all parts of the ledger.
     ///
-    /// `Halt::OutOfMemory`: a growth was refused.
+    /// `Halt::OutOfMemory`: an allocation failed.
     fn open(
         blank: Blank,
         alloc: Global,
@@ -81,7 +81,7 @@ impl<D: VhostUserBackendReqHandlerMut<Link = MemLink>, L: Ledger> Recorder<D, L>
     /// A recorder over two new sides, which are joined as [`Joined::new`](vhost_pair::Joined::new) does, and the share of
     /// caller 0, which has all parts of the ledger.
     ///
-    /// `Halt::OutOfMemory`: a growth was refused.
+    /// `Halt::OutOfMemory`: an allocation failed.
     pub fn open(
         blank: Blank,
         alloc: Global,
@@ -105,7 +105,7 @@ impl<D: VhostUserBackendReqHandlerMut<Link = MemLink>, L: Ledger> Recorder<D, L>
 
     /// Does one call for the share's caller, alone with the session, and answers what was recorded. The share has a part.
     ///
-    /// `Halt::Stopped`: the run has stopped before. `Halt::OutOfMemory`: a growth was refused before the first byte. In both
+    /// `Halt::Stopped`: the run has stopped before. `Halt::OutOfMemory`: an allocation failed before the first byte. In both
     /// cases nothing changed.
     pub fn call(
         &self,

@@ -8,7 +8,7 @@ use vhost_message::Error;
 pub enum Failure {
     /// The listening socket.
     Listener(Error),
-    /// A growth of memory was refused.
+    /// An allocation failed.
     OutOfMemory,
     /// No thread could be started.
     Thread,

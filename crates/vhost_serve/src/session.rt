@@ -10,7 +10,7 @@ use vhost_device::VhostUserBackendReqHandler;
 use vhost_link::Link;
 use vhost_message::{Error, Result};
 
-/// How many retries a message of a session may take.
+/// How many retries a message of a session may use.
 pub const BUDGET: u32 = 3;
 
 /// How a session ended.
@@ -23,7 +23,7 @@ pub struct Ended {
 }
 
 /// Serves requests until one ends the session, or the gate does. A session is ended by the end of its stream, a message that is
-/// malformed, a fault of its link, and want of memory; after any other refusal it goes on.
+/// malformed, an I/O error of its link, and a failed allocation; after any other refusal it goes on.
 pub fn serve_session<R: Wait, G: Gate, L: Link, S: VhostUserBackendReqHandler<Link = L>>(
     rt: &R,
     session: u32,

@@ -17,9 +17,9 @@ type Device = Mutex<DummyBackendReqHandler<UnixLink>>;
 
 type Handler = BackendReqHandler<UnixLink, Device>;
 
-/// Takes so many connections and serves each in a thread of its own, with an example device of its own. When all sessions have
-/// ended it writes a line for each, in the order of acceptance: `session N: K requests, end NAME`, K the requests that were answered before
-/// the one that ended it. The answer is the status: 0, or 2 where it failed outside of the sessions, which a line of `errors` tells.
+/// Accepts so many connections and serves each in a thread of its own, with an example device of its own. When all sessions have ended it
+/// writes a line for each, in the order of acceptance: `session N: K requests, end NAME`, K the requests that were answered before the one
+/// that ended it. The answer is the status: 0, or 2 where it failed outside of the sessions, which a line of `errors` says.
 pub fn serve<R, F, G, W, E>(
     rt: &R,
     alloc: Global,

@@ -8,7 +8,7 @@ use vhost_frontend_core::FrontendAnswer;
 use vhost_link::PlainHandle;
 use vhost_message::{Result as Outcome, VhostUserInflight};
 
-/// The answer of a frontend's call: as `vhost-run` shows it, and moreover what an error carries, and the kinds of handles.
+/// The answer of a frontend's call: as `vhost-run` shows it, and moreover what an error carries, and the kinds of descriptors.
 pub fn answer_text(alloc: Global, answer: &FrontendAnswer) -> Result<String, AllocError> {
     let shown = Answer(answer);
     match answer {
@@ -25,7 +25,7 @@ pub fn answer_text(alloc: Global, answer: &FrontendAnswer) -> Result<String, All
     }
 }
 
-/// The area for descriptors in flight, and its handle.
+/// The inflight region, and its file descriptor.
 fn inflight_text(
     alloc: Global,
     area: &VhostUserInflight,

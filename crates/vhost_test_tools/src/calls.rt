@@ -11,11 +11,11 @@ use vhost_frontend_core::FrontendCall;
 use vhost_link::PlainHandle;
 use vhost_message::VhostUserHeaderFlag;
 
-/// The first number of a handle that stands for a word of the line.
+/// The first number of a descriptor that stands for a word of the line.
 const FIRST: u32 = 4_000_000_000;
 
-/// The call of a line: as `vhost-run` takes it, where moreover a handle may have its kind, as `7:unix`, a region or a log may
-/// have `none` in the place of its handle, `set_hdr_flags` takes any flags, and `get_config` may end with `buffer BYTES`.
+/// The call of a line: as `vhost-run` reads it, where moreover a descriptor may have its kind, as `7:unix`, a region or a log may
+/// have `none` in the place of its descriptor, `set_hdr_flags` takes any flags, and `get_config` may end with `buffer BYTES`.
 pub fn call_in(alloc: Global, text: &str) -> Result<FrontendCall, Miss> {
     if let Some(flags) = text.strip_prefix("set_hdr_flags ") {
         return flags_call(alloc, flags);
@@ -44,7 +44,7 @@ fn plain_call(alloc: Global, words: &[u8]) -> Result<FrontendCall, Miss> {
     }
 }
 
-/// The words of a line where a number stands for each handle with a kind and each `none`; and what these were.
+/// The words of a line where a number stands for each descriptor with a kind and each `none`; and what these were.
 fn replaced(alloc: Global, text: &str) -> Result<(String, Vec<Option<PlainHandle>>), Miss> {
     let mut words = String::new(alloc);
     let mut handles = Vec::new(alloc);
@@ -80,7 +80,7 @@ fn lend_buffer(alloc: Global, call: &mut FrontendCall, digits: &str) -> Result<(
     Ok(())
 }
 
-/// The handle that a handle of the line stands for.
+/// The descriptor that a descriptor of the line stands for.
 fn meant(handle: PlainHandle, handles: &[Option<PlainHandle>]) -> Option<PlainHandle> {
     match handle.id.checked_sub(FIRST) {
         Some(place) => match handles.get(place as usize) {
@@ -99,7 +99,7 @@ fn meant_or_none(
     meant(handle?, handles)
 }
 
-/// Puts the handles back that numbers stand for. Whether a handle is where there has to be one.
+/// Puts the descriptors back that numbers stand for. Whether a descriptor is where there has to be one.
 fn put_back(call: &mut FrontendCall, handles: &[Option<PlainHandle>]) -> bool {
     match call {
         FrontendCall::SetMemTable(regions) => {

@@ -5,7 +5,7 @@ use crate::numbers::{count_of, narrow};
 use std::alloc::Global;
 use vhost_link::Cut;
 
-/// The cuts that words stand for: `3`, `retry`, `fault:5`, or `1*n` for n of one kind.
+/// A link's script from words: `3`, `retry`, `fault:5`, or `1*n` for n of one kind.
 pub fn cuts_of(alloc: Global, n: usize, text: &str) -> Result<Vec<Cut>, Miss> {
     let mut cuts = Vec::new(alloc);
     if text.is_empty() {
@@ -24,7 +24,7 @@ pub fn cuts_of(alloc: Global, n: usize, text: &str) -> Result<Vec<Cut>, Miss> {
     Ok(cuts)
 }
 
-/// One cut.
+/// One entry of such a script.
 fn cut_of(alloc: Global, n: usize, word: &str) -> Result<Cut, Miss> {
     if word == "retry" {
         return Ok(Cut::Retry);
@@ -35,7 +35,7 @@ fn cut_of(alloc: Global, n: usize, word: &str) -> Result<Cut, Miss> {
     }
 }
 
-/// The number of a fault.
+/// The number of an I/O error.
 pub(crate) fn fault_of(alloc: Global, word: &str) -> Result<i32, Miss> {
     match i32::try_from(narrow::<u32>(alloc, word)?) {
         Ok(number) => Ok(number),

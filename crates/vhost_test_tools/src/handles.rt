@@ -1,18 +1,18 @@
-//! Handles as words.
+//! Descriptors as words.
 
 use crate::miss::{Miss, unreadable};
 use crate::numbers::{narrow, number_of};
 use std::alloc::{AllocError, Global};
 use vhost_link::{Kind, PlainHandle};
 
-/// The handles of a list in brackets, as `[7,8:unix]` or `[7*33]`, and what follows it, where there is one.
+/// The descriptors of a list in brackets, as `[7,8:unix]` or `[7*33]`, and what follows it, where there is one.
 pub fn handles_in<'a>(alloc: Global, text: &'a str) -> Result<(Vec<PlainHandle>, &'a str), Miss> {
     let mut handles = Vec::new(alloc);
     let rest = fill(alloc, &mut handles, text)?;
     Ok((handles, rest))
 }
 
-/// Puts the handles of the list behind others, and answers what follows it.
+/// Puts the descriptors of the list behind others, and answers what follows it.
 fn fill<'a>(alloc: Global, handles: &mut Vec<PlainHandle>, text: &'a str) -> Result<&'a str, Miss> {
     let Some(list) = text.strip_prefix("[") else {
         return Ok(text);
@@ -26,7 +26,7 @@ fn fill<'a>(alloc: Global, handles: &mut Vec<PlainHandle>, text: &'a str) -> Res
     Ok(rest.strip_prefix(" ").unwrap_or(rest))
 }
 
-/// Puts a handle of the list behind others, as often as is told.
+/// Puts a descriptor of the list behind others, as often as the word says.
 fn put(alloc: Global, handles: &mut Vec<PlainHandle>, word: &str) -> Result<(), Miss> {
     let (word, count) = match word.split_once("*") {
         Some((word, count)) => (word, number_of(alloc, count)?),
@@ -39,7 +39,7 @@ fn put(alloc: Global, handles: &mut Vec<PlainHandle>, word: &str) -> Result<(), 
     Ok(())
 }
 
-/// A handle: its number, and its kind where it is a socket.
+/// A descriptor: its number, and its kind where it is a socket.
 pub(crate) fn handle_of(alloc: Global, word: &str) -> Result<PlainHandle, Miss> {
     let (number, kind) = word.split_once(":").unwrap_or((word, ""));
     let kind = match kind {
@@ -53,7 +53,7 @@ pub(crate) fn handle_of(alloc: Global, word: &str) -> Result<PlainHandle, Miss> 
     Ok(PlainHandle { id, kind })
 }
 
-/// A handle as a script writes it.
+/// A descriptor as a script writes it.
 pub fn handle_text(alloc: Global, handle: PlainHandle) -> Result<String, AllocError> {
     let id = handle.id;
     match handle.kind {
@@ -64,7 +64,7 @@ pub fn handle_text(alloc: Global, handle: PlainHandle) -> Result<String, AllocEr
     }
 }
 
-/// Puts handles behind a text, in brackets; nothing for none.
+/// Puts descriptors behind a text, in brackets; nothing for none.
 pub fn push_handles(
     alloc: Global,
     text: &mut String,

@@ -8,14 +8,14 @@ use vhost_connection::Endpoint;
 use vhost_link::{Link, PlainHandle};
 use vhost_message::{Error, MsgHeader};
 
-/// How many bytes are taken at once.
+/// How many bytes are received at once.
 const ROOM: usize = 64;
 
 /// How many calls at most show what is left.
 const CALLS: usize = 10_000;
 
-/// Takes what was not received of an endpoint: what waits in it, and what is on its link, each byte after the handles that
-/// it brings. What waits in a broken endpoint is handed out no more, so that only its link is looked at.
+/// Drains what was not received of an endpoint: what waits in it, and what is on its link, each byte after the descriptors
+/// that it brings. What waits in a poisoned endpoint is handed out no more, so that only its link is looked at.
 pub fn left_of_endpoint<M: MsgHeader, L: Link<Handle: ScriptHandle>>(
     alloc: Global,
     end: &mut Endpoint<M, L>,
@@ -39,7 +39,7 @@ pub fn left_of_endpoint<M: MsgHeader, L: Link<Handle: ScriptHandle>>(
     Ok(text)
 }
 
-/// Takes what is on a link, each byte after the handles that it brings.
+/// Drains what is on a link, each byte after the descriptors that it brings.
 pub fn left_of_link<L: Link<Handle: ScriptHandle>>(
     alloc: Global,
     link: &mut L,
@@ -60,7 +60,7 @@ pub fn left_of_link<L: Link<Handle: ScriptHandle>>(
     Ok(text)
 }
 
-/// The numbers and kinds of handles.
+/// The numbers and kinds of descriptors.
 fn plain<H: ScriptHandle>(alloc: Global, handles: &[H]) -> Result<Vec<PlainHandle>, AllocError> {
     let mut list = Vec::new(alloc);
     for handle in handles {

@@ -1,11 +1,11 @@
-//! Cells that a side and who plays it share.
+//! Each `RefCell` that a side and who plays it share.
 
 use crate::miss::{Miss, differs};
 use std::alloc::Global;
 use std::cell::{RefCell, RefMut};
 use std::rc::Rc;
 
-/// What a cell holds, while nobody else uses it.
+/// What a `RefCell` holds, while nobody else uses it.
 pub fn lend<'a, T>(alloc: Global, cell: &'a Rc<RefCell<T>>) -> Result<RefMut<'a, T>, Miss> {
     match cell.try_borrow_mut() {
         Ok(lent) => Ok(lent),

@@ -1,6 +1,6 @@
 //! Tools of tests that are scripts: reading them, what was wanted against what was met, devices and links for tests.
 //!
-//! The language of the scripts is told in `docs/TESTS.md`.
+//! The language of the scripts is defined in `docs/TESTS.md`.
 #![tactic(auto)]
 
 mod answers;

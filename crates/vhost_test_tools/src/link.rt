@@ -1,4 +1,4 @@
-//! Links in memory that a side and who plays it share, and handles that may not say what they are.
+//! Links in memory that a side and who plays it share, and descriptors that may not say what they are.
 
 ghost use Rattle.std.specs.Prelude.{⊤};
 
@@ -9,12 +9,12 @@ use std::rc::Rc;
 use vhost_link::{Cut, Handle, Kind, Link, MemLink, PlainHandle};
 use vhost_message::IoCause;
 
-/// A handle that a script can name.
+/// A descriptor that a script can name.
 pub trait ScriptHandle: Handle {
     /// Its number and kind.
     fn plain(&self) -> PlainHandle;
 
-    /// The handle of this number and kind, which may be silent: it can't say of what kind it is.
+    /// The descriptor of this number and kind, which may be silent: it can't say of what kind it is.
     fn of_plain(plain: PlainHandle, is_silent: bool) -> Self;
 }
 
@@ -28,7 +28,7 @@ impl ScriptHandle for PlainHandle {
     }
 }
 
-/// A handle that is a number and a kind, and may be silent.
+/// A descriptor that is a number and a kind, and may be silent.
 #[derive(Clone, Copy, Debug, PartialEq, Eq)]
 pub struct TestHandle {
     plain: PlainHandle,
@@ -69,13 +69,13 @@ impl ScriptHandle for TestHandle {
 pub struct Wire {
     /// What is on the way, and what was written.
     pub mem: MemLink,
-    /// Why it opens no handle, where it doesn't.
+    /// Why it opens no descriptor, where it doesn't.
     pub shut: Option<i32>,
-    /// The handles that can't say of what kind they are.
+    /// The descriptors that can't say of what kind they are.
     pub silent: Vec<PlainHandle>,
 }
 
-/// What is on the way, with these cuts, to a link that opens each handle.
+/// What is on the way, with this script, to a link that opens each descriptor.
 fn new_wire(
     alloc: Global,
     cuts: Vec<Cut>,
@@ -89,7 +89,7 @@ fn new_wire(
     Ok(Rc::new(alloc, RefCell::new(wire))?)
 }
 
-/// A link in memory that is shared with who plays its side, and whose handles may be silent.
+/// A link in memory that is shared with who plays its side, and whose descriptors may be silent.
 #[derive(Drop)]
 pub struct TestLink {
     wire: Rc<RefCell<Wire>>,
@@ -97,7 +97,7 @@ pub struct TestLink {
 }
 
 impl TestLink {
-    /// A link whose calls are cut so, and opens each handle.
+    /// A link with this script, which opens each descriptor.
     pub fn new(alloc: Global, cuts: Vec<Cut>, silent: Vec<PlainHandle>) -> Result<TestLink, Miss> {
         let wire = new_wire(alloc, cuts, silent)?;
         Ok(TestLink { wire, alloc })
@@ -173,14 +173,14 @@ impl Link for TestLink {
     }
 }
 
-/// A link in memory that is shared with who plays its side, and opens no handle.
+/// A link in memory that is shared with who plays its side, and opens no descriptor.
 #[derive(Drop)]
 pub struct PlainLink {
     wire: Rc<RefCell<Wire>>,
 }
 
 impl PlainLink {
-    /// A link whose calls are cut so.
+    /// A link with this script.
     pub fn new(alloc: Global, cuts: Vec<Cut>) -> Result<PlainLink, Miss> {
         let wire = new_wire(alloc, cuts, Vec::new(alloc))?;
         Ok(PlainLink { wire })

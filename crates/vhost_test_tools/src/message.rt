@@ -1,4 +1,4 @@
-//! Messages: bytes, and the handles with the first of them.
+//! Messages: bytes, and the descriptors with the first of them.
 
 use crate::bytes::bytes_of;
 use crate::handles::{handles_in, push_handles};
@@ -11,11 +11,11 @@ use vhost_link::PlainHandle;
 #[derive(Drop)]
 pub struct Message {
     pub bytes: Vec<u8>,
-    /// The handles that come with the first byte.
+    /// The descriptors that come with the first byte.
     pub handles: Vec<PlainHandle>,
 }
 
-/// The message of a line: `[7] 01000000`, `first COUNT MESSAGE`, `after COUNT MESSAGE`, where handles may stand before `after`,
+/// The message of a line: `[7] 01000000`, `first COUNT MESSAGE`, `after COUNT MESSAGE`, where descriptors may stand before `after`,
 /// and further bytes after `then`.
 pub fn message_of(alloc: Global, n: usize, text: &str) -> Result<Message, Miss> {
     let Some((front, more)) = text.split_once(" then ") else {
@@ -76,7 +76,7 @@ fn whole_message(alloc: Global, n: usize, text: &str) -> Result<Message, Miss> {
     Ok(Message { bytes, handles })
 }
 
-/// Puts a byte behind a text, after the handles that it brings, as `[1,2:unix]00`.
+/// Puts a byte behind a text, after the descriptors that it brings, as `[1,2:unix]00`.
 pub(crate) fn push_held(
     alloc: Global,
     text: &mut String,
@@ -96,7 +96,7 @@ pub(crate) fn push_message(
     push_some(alloc, text, &message.bytes, &message.handles)
 }
 
-/// Puts bytes behind a text, the first one after its handles.
+/// Puts bytes behind a text, the first one after its descriptors.
 pub(crate) fn push_some(
     alloc: Global,
     text: &mut String,

@@ -7,7 +7,7 @@ use std::fmt;
 /// Why a line was not met.
 #[derive(Drop)]
 pub enum Miss {
-    /// Memory was refused.
+    /// An allocation failed.
     OutOfMemory,
     /// A side could not be made.
     Failed(vhost_message::Error),

@@ -5,7 +5,7 @@ use crate::link::ScriptHandle;
 use std::alloc::{AllocError, Global};
 use vhost_message::{VhostUserInflight, VhostUserMMap, VhostUserMemoryRegion, VhostUserSharedMsg};
 
-/// A handle, or `none`.
+/// A descriptor, or `none`.
 pub(crate) fn file_text<H: ScriptHandle>(
     alloc: Global,
     file: &Option<H>,
@@ -16,13 +16,13 @@ pub(crate) fn file_text<H: ScriptHandle>(
     }
 }
 
-/// A handle in brackets.
+/// A descriptor in brackets.
 pub(crate) fn only_text<H: ScriptHandle>(alloc: Global, file: &H) -> Result<String, AllocError> {
     let handle = handle_text(alloc, file.plain())?;
     format!(in alloc; "[{handle}]")
 }
 
-/// Handles in brackets.
+/// Descriptors in brackets.
 pub(crate) fn files_text<H: ScriptHandle>(
     alloc: Global,
     files: &[H],
@@ -68,7 +68,7 @@ pub(crate) fn listening_text(listening: Option<bool>) -> &'static str {
     }
 }
 
-/// Size, offset, number of queues, and their size.
+/// The inflight region: size, offset, number of queues, and their size.
 pub(crate) fn area_text(alloc: Global, area: &VhostUserInflight) -> Result<String, AllocError> {
     let (size, offset) = (area.mmap_size, area.mmap_offset);
     let (queues, length) = (area.num_queues, area.queue_size);

@@ -13,7 +13,7 @@ use vhost_frontend_core::FrontendAnswer;
 use vhost_link::PlainHandle;
 use vhost_message::{Error, HandlerResult, IoError, VhostUserMMap, VhostUserSharedMsg};
 
-/// The call of a line: a flag and 0 or 1; or the call's name and its arguments, a handle as its number and its kind.
+/// The call of a line: a flag and 0 or 1; or the call's name and its arguments, a descriptor as its number and its kind.
 pub fn reverse_call_in(alloc: Global, text: &str) -> Result<ReverseCall<PlainHandle>, Miss> {
     let (name, rest) = text.split_once(" ").unwrap_or((text, ""));
     match name {
@@ -110,7 +110,7 @@ pub fn flag_of(alloc: Global, word: &str) -> Result<bool, Miss> {
     }
 }
 
-/// What stands before the last word, and the handle that it is.
+/// What stands before the last word, and the descriptor that it is.
 fn with_handle<'a>(alloc: Global, text: &'a str) -> Result<(&'a str, PlainHandle), Miss> {
     match text.rsplit_once(" ") {
         Some((rest, handle)) => Ok((rest, handle_of(alloc, handle)?)),

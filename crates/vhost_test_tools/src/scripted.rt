@@ -1,4 +1,4 @@
-//! A device whose calls and answers are told by a script.
+//! A device whose calls and answers are given by a script.
 
 ghost use Rattle.std.specs.Prelude.{⊤};
 
@@ -26,7 +26,7 @@ use vhost_message::{
     VhostUserSingleMemoryRegion, VhostUserVringAddrFlags, VhostUserVringState,
 };
 
-/// What a device answers that was told a value of another kind.
+/// What a device answers that was given a value of another kind.
 const UNTOLD: Error = Error::InvalidOperation("another answer was told");
 
 /// A device that is asked what its sheet says, and answers what stands there.
@@ -72,7 +72,7 @@ impl<L> Scripted<L> {
         }
     }
 
-    /// It is asked a call that answers a handle.
+    /// It is asked a call that answers a descriptor.
     fn handle(&mut self, call: std::result::Result<String, AllocError>) -> Result<PlainHandle> {
         match self.ask(call)? {
             Value::Handle(handle) => Ok(handle),
@@ -80,7 +80,7 @@ impl<L> Scripted<L> {
         }
     }
 
-    /// It is asked a call about a ring and its handle.
+    /// It is asked a call about a ring and its file descriptor.
     fn ring<H: ScriptHandle>(&mut self, name: &str, index: u8, fd: &Option<H>) -> Result<()> {
         let Ok(file) = file_text(self.alloc, fd) else {
             return Err(Error::OutOfMemory);

@@ -1,4 +1,4 @@
-//! A frontend that serves its device's calls as a script tells.
+//! A frontend that serves its device's calls as a script says.
 
 ghost use Rattle.std.specs.Prelude.{⊤};
 

@@ -39,7 +39,7 @@ pub fn read_sessions<'a>(alloc: Global, text: &'a str) -> Result<Vec<Session<'a>
     Ok(sessions)
 }
 
-/// Takes a line behind the sessions before it.
+/// Adds a line behind the sessions before it.
 fn take<'a>(alloc: Global, sessions: &mut Vec<Session<'a>>, line: Line<'a>) -> Result<(), Miss> {
     if line.text.is_empty() || line.text.starts_with("#") {
         return Ok(());
@@ -56,7 +56,7 @@ fn take<'a>(alloc: Global, sessions: &mut Vec<Session<'a>>, line: Line<'a>) -> R
 }
 
 impl<'a> Session<'a> {
-    /// Takes a line as what the session is set to, where it is before the first step; else as a step.
+    /// Reads a line as what the session is set to, where it is before the first step; else as a step.
     fn take(
         &mut self,
         alloc: Global,

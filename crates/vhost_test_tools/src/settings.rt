@@ -9,13 +9,13 @@ use std::alloc::Global;
 /// Which device a session has.
 #[derive(Clone, Copy, PartialEq, Eq)]
 pub enum Over<'a> {
-    /// It was not told.
+    /// The script does not say.
     Untold,
-    /// One whose calls and answers are told by the script.
+    /// One whose calls and answers are given by the script.
     Scripted,
     /// The same behind a lock.
     Locked,
-    /// The example device, with these handles to give out.
+    /// The example device, with these descriptors to give out.
     Dummy(&'a str),
 }
 
@@ -28,17 +28,17 @@ pub struct Settings<'a> {
     pub over: Over<'a>,
     pub queues: u64,
     pub budget: u32,
-    /// The cuts of the link, and of the serving side's link where both sides are joined.
+    /// What the calls of the link do, and in joined sessions those of the serving end.
     pub cuts: &'a str,
     pub serving_cuts: &'a str,
-    /// The handles that can't say of what kind they are.
+    /// The descriptors that can't say of what kind they are.
     pub silent: &'a str,
-    /// Whether messages have the headers of the display's channel.
+    /// Whether messages have the headers of the vhost-user-gpu channel.
     pub gpu: bool,
 }
 
 impl<'a> Settings<'a> {
-    /// Where nothing is told.
+    /// Where the script sets nothing.
     pub(crate) fn new() -> Settings<'a> {
         Settings {
             first: 0,
@@ -53,7 +53,7 @@ impl<'a> Settings<'a> {
         }
     }
 
-    /// Takes a setting of a session of this kind. Whether the word is a setting.
+    /// Reads a setting of a session of this kind. Whether the word is a setting.
     pub(crate) fn take(
         &mut self,
         alloc: Global,

@@ -11,7 +11,7 @@ use vhost_message::{Error, Result as Outcome};
 struct Asked {
     call: String,
     shape: Shape,
-    /// None: it was not told yet.
+    /// None: the script did not give it yet.
     value: Option<Value>,
 }
 
@@ -73,7 +73,7 @@ impl Sheet {
         }
     }
 
-    /// Tests that it was told what the device answers, where it answers something.
+    /// Tests that the script gave what the device answers, where it answers something.
     pub fn expect_told(&self) -> Result<(), Miss> {
         match self.asked.back() {
             Some(asked) if asked.value.is_none() && asked.shape != Shape::Nothing => Err(unreadable(
@@ -85,7 +85,8 @@ impl Sheet {
         }
     }
 
-    /// The device is asked this call. It answers what was told, or an error where another call was to come, or none.
+    /// The device is asked this call. It answers what the script gave, or an error where another call was due, or
+    /// none.
     pub(crate) fn ask(&mut self, call: &str) -> Outcome<Value> {
         let difference = match self.asked.pop_front() {
             Some(asked) => match expect(self.alloc, asked.call.as_str(), call) {
@@ -114,7 +115,7 @@ impl Sheet {
     }
 }
 
-/// What was told.
+/// What the script gave.
 fn answered(value: Option<Value>) -> Outcome<Value> {
     match value {
         Some(Value::Failed(error)) => Err(error),

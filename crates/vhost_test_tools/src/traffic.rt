@@ -71,7 +71,7 @@ impl Traffic {
         outcome
     }
 
-    /// Takes what the side has written as seen.
+    /// Marks what the side has written as seen.
     pub fn skip(&mut self, mem: &MemLink) {
         self.seen = mem.taken().len();
     }

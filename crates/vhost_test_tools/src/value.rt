@@ -102,7 +102,7 @@ pub(crate) fn shape_of(name: &str) -> Option<Shape> {
     None
 }
 
-/// The value of a kind that words tell, or the error.
+/// The value of a kind that words give, or the error.
 pub(crate) fn value_of(alloc: Global, shape: Shape, text: &str) -> Result<Value, Miss> {
     match text.strip_prefix("err ") {
         Some(error) if shape != Shape::Back => failure_of(alloc, error),
@@ -164,7 +164,7 @@ fn base_of(alloc: Global, text: &str) -> Result<Value, Miss> {
     Ok(Value::Base(Some(number_of(alloc, text)?)))
 }
 
-/// A handle, or `none`.
+/// A descriptor, or `none`.
 fn state_handle_of(alloc: Global, text: &str) -> Result<Value, Miss> {
     if text == "none" {
         return Ok(Value::StateHandle(None));
@@ -181,7 +181,7 @@ fn numbers_of(alloc: Global, text: &str) -> Result<Vec<u64>, Miss> {
     Ok(numbers)
 }
 
-/// One handle in brackets.
+/// One descriptor in brackets.
 fn only_handle(alloc: Global, text: &str) -> Result<PlainHandle, Miss> {
     let (handles, rest) = handles_in(alloc, text)?;
     match handles.first() {
@@ -199,7 +199,7 @@ fn state_of(alloc: Global, text: &str) -> Result<Value, Miss> {
     Ok(Value::State(VhostUserVringState::new(ring, number)))
 }
 
-/// Size, offset, number of queues, their size, and a handle.
+/// The inflight region: size, offset, number of queues, their size, and its file descriptor.
 fn area_of(alloc: Global, text: &str) -> Result<Value, Miss> {
     let Some((area, handle)) = text.rsplit_once(" ") else {
         return Err(unreadable(alloc, "an area and its handle", text));

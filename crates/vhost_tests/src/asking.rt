@@ -99,7 +99,7 @@ impl<S: Side> Asking<S> {
         expect(self.alloc, wanted, met.as_str())
     }
 
-    /// Tests whether the last call met a fault of the link, where this is told.
+    /// Tests whether the last call met an I/O error of the link, where this is known.
     fn expect_link(&mut self, wanted: &str) -> Result<(), Miss> {
         match self.side.has_faulted() {
             Some(true) => expect(self.alloc, wanted, "faulted"),

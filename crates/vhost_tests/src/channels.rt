@@ -14,7 +14,7 @@ use vhost_test_tools::{
     unreadable,
 };
 
-/// A channel by which a device asks.
+/// A channel by which a device sends requests.
 pub(crate) trait Channel: Sized + Drop {
     /// A channel over a link.
     fn open(alloc: Global, link: PlainLink, budget: u32) -> Result<Self, Miss>;
@@ -22,10 +22,10 @@ pub(crate) trait Channel: Sized + Drop {
     /// The same channel once more.
     fn same(&self) -> Result<Self, Miss>;
 
-    /// Makes the call that words tell; its answer as words.
+    /// Makes the call that words give; its answer as words.
     fn call(&self, rt: &impl Wait, alloc: Global, text: &str) -> Result<String, Miss>;
 
-    /// The answer that a line tells, in the words of [`Channel::call`].
+    /// The answer that a line gives, in the words of [`Channel::call`].
     fn answer_of(alloc: Global, text: &str) -> Result<String, Miss>;
 
     /// Sets the flag of this name. Whether there is one.
@@ -118,7 +118,7 @@ impl<C: Channel> ChannelPlayer<C> {
         expect(self.alloc, wanted.as_str(), met.as_str())
     }
 
-    /// Takes what is left on the link.
+    /// Drains what is left on the link.
     fn left(&mut self) -> Result<String, Miss> {
         left_of_link(self.alloc, &mut lend(self.alloc, &self.wire)?.mem)
     }

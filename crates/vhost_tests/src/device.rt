@@ -13,7 +13,7 @@ use vhost_test_tools::{
 
 /// A device of a session.
 pub(crate) trait TestDevice: Sized + Drop {
-    /// Whether its calls are told by the script.
+    /// Whether its calls are given by the script.
     const IS_SCRIPTED: bool;
 
     /// A new device; it goes by the sheet, if it goes by the script.
@@ -103,13 +103,13 @@ impl<L: Link<Handle: ScriptHandle>> TestDevice for DummyBackendReqHandler<L> {
     }
 }
 
-/// The handles of both rings.
+/// The file descriptors of both rings.
 fn pair_text<H: ScriptHandle>(alloc: Global, files: &[Option<H>; 2]) -> Result<String, AllocError> {
     let (first, second) = (file_text(alloc, &files[0])?, file_text(alloc, &files[1])?);
     format!(in alloc; "{first} {second}")
 }
 
-/// A handle, or `none`.
+/// A descriptor, or `none`.
 fn file_text<H: ScriptHandle>(alloc: Global, file: &Option<H>) -> Result<String, AllocError> {
     match file {
         Some(file) => handle_text(alloc, file.plain()),

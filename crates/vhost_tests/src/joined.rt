@@ -28,16 +28,16 @@ pub(crate) trait Sides: Sized + Drop {
         sheet: &Rc<RefCell<Sheet>>,
     ) -> Result<Self, Miss>;
 
-    /// The call that words tell.
+    /// The call that words give.
     fn call_in(alloc: Global, text: &str) -> Result<Self::Call, Miss>;
 
     /// Makes a call; its answer as words. None: the run had stopped.
     fn make(&mut self, alloc: Global, call: &Self::Call) -> Result<Option<String>, Miss>;
 
-    /// What the asking side wrote at the last call.
+    /// What the side that sends requests wrote at the last call.
     fn request(&self) -> (&[u8], &[PlainHandle]);
 
-    /// What the serving side wrote.
+    /// What the side that serves them wrote.
     fn reply(&self) -> (&[u8], &[PlainHandle]);
 
     /// Whether the run has stopped, and why.

@@ -85,7 +85,7 @@ fn push_line(text: &mut String, line: &str) -> Result<(), AllocError> {
     text.push('\n')
 }
 
-/// Tests that what was printed is what was wanted, and tells the first line that is not.
+/// Tests that what was printed is what was wanted, and reports the first other line.
 fn compare(alloc: Global, wanted: &str, printed: &[u8]) -> Result<(), Miss> {
     let Ok(met) = str::from_utf8(printed) else {
         return Err(differs(alloc, "text", "bytes that are none"));

@@ -1,4 +1,4 @@
-//! Plays scripts, one file each, and says which lines were not met. The language is told in `docs/TESTS.md`.
+//! Plays scripts, one file each, and says which lines were not met. The language is defined in `docs/TESTS.md`.
 #![tactic(auto)]
 
 mod asking;

@@ -50,7 +50,7 @@ impl fmt::Display for Tally {
     }
 }
 
-/// The headers of messages of a frontend, and of the display's channel.
+/// The headers of messages of a frontend, and of the vhost-user-gpu channel.
 type Requests = VhostUserMsgHeader<FrontendReq>;
 
 type Displays = VhostUserGpuMsgHeader<GpuBackendReq>;

@@ -26,7 +26,7 @@ pub(crate) fn word_of(text: &str) -> (&str, &str) {
     text.split_once(" ").unwrap_or((text, ""))
 }
 
-/// All handles of the last word of a call; none where there is no word.
+/// All descriptors of the last word of a call; none where there is no word.
 pub(crate) fn last_handles(alloc: Global, text: &str) -> Result<Vec<PlainHandle>, Miss> {
     let (handles, rest) = handles_in(alloc, text)?;
     if rest.is_empty() {
@@ -40,7 +40,7 @@ pub(crate) fn failed(alloc: Global, error: Error) -> Result<String, Miss> {
     Ok(outcome_text(alloc, Err(error))?)
 }
 
-/// The answer of a call that shows a text, and then handles where there are some.
+/// The answer of a call that shows a text, and then descriptors where there are some.
 pub(crate) fn shown(
     alloc: Global,
     text: String,

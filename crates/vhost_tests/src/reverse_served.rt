@@ -1,4 +1,4 @@
-//! Served sessions of the reverse channel: a frontend's side over a link in memory.
+//! Served sessions of the backend channel: a frontend's side over a link in memory.
 
 use crate::player::Player;
 use std::alloc::{AllocError, Global};
@@ -28,16 +28,16 @@ pub(crate) trait Server: Sized + Drop {
     /// Serves a request.
     fn serve(&mut self, rt: &impl Wait) -> Outcome<u64>;
 
-    /// Marks it as failed; 0 takes the mark away.
+    /// Marks it as failed; 0 removes the mark.
     fn set_failed(&mut self, number: i32);
 
-    /// Says whether requests that ask for it are acknowledged.
+    /// Sets whether requests that ask for it are acknowledged.
     fn set_reply_ack_flag(&mut self, on: bool);
 
-    /// Whether the last request met a fault of the link. None: behind a lock this is not told.
+    /// Whether the last request met an I/O error of the link. None: it is behind a lock.
     fn faulted(&self) -> Option<bool>;
 
-    /// Takes what was not received. None: behind a lock this is not seen.
+    /// Drains what was not received. None: it is behind a lock.
     fn left(&mut self, alloc: Global) -> Result<Option<String>, Miss>;
 }
 

@@ -21,7 +21,7 @@ pub(crate) struct Served<H: Handler> {
     wire: Rc<RefCell<Wire>>,
     sheet: Rc<RefCell<Sheet>>,
     traffic: Traffic,
-    /// How many answers of the next run are still to be told, and those that were.
+    /// How many answers of the next run are still to be given, and those that were.
     to_come: usize,
     answers: String,
     count: usize,
@@ -90,7 +90,7 @@ impl<H: Handler> Served<H> {
         }
     }
 
-    /// Serves a request, and compares; or takes an answer of the run that is told.
+    /// Serves a request, and compares; or notes an answer of the run that the script gives.
     fn answer(&mut self, rt: &impl Wait, wanted: &str) -> Result<(), Miss> {
         lend(self.alloc, &self.sheet)?.expect_told()?;
         if self.to_come == 0 {
@@ -118,7 +118,7 @@ impl<H: Handler> Served<H> {
         Ok(())
     }
 
-    /// Runs the handler for as many requests as answers were told, and compares.
+    /// Runs the handler for as many requests as answers were given, and compares.
     fn run(&mut self) -> Result<(), Miss> {
         let mut met = String::new(self.alloc);
         for outcome in self.handler.run(self.alloc, self.count)? {
@@ -150,7 +150,7 @@ impl<H: Handler> Served<H> {
         self.compare_agreement(offered.and(chosen))
     }
 
-    /// Compares the device's calls and the answers, and takes what was written as seen.
+    /// Compares the device's calls and the answers, and marks what was written as seen.
     fn compare_agreement(&mut self, outcome: Outcome<()>) -> Result<(), Miss> {
         self.traffic.skip(&lend(self.alloc, &self.wire)?.mem);
         lend(self.alloc, &self.sheet)?.check()?;
@@ -158,7 +158,7 @@ impl<H: Handler> Served<H> {
         expect(self.alloc, "ok", met.as_str())
     }
 
-    /// Tells the calls of the device by which it agrees.
+    /// Gives the calls of the device by which it agrees.
     fn tell_agreement(&mut self, features: u64) -> Result<(), Miss> {
         let choice = format!(in self.alloc; "set_protocol_features {features}")?;
         let mut sheet = lend(self.alloc, &self.sheet)?;
@@ -167,7 +167,7 @@ impl<H: Handler> Served<H> {
         sheet.want(choice.as_str())
     }
 
-    /// Sends the requests by which it is asked, and told the features.
+    /// Sends the requests that read its features and choose these.
     fn send_agreement(&mut self, features: u64) -> Result<(), Miss> {
         let features = hex::encode(self.alloc, features.to_le_bytes().as_slice())?;
         let requests = format!(in self.alloc;
@@ -177,7 +177,7 @@ impl<H: Handler> Served<H> {
             .push(&mut lend(self.alloc, &self.wire)?.mem, requests.as_str())
     }
 
-    /// Tests whether the last request met a fault of the link.
+    /// Tests whether the last request met an I/O error of the link.
     fn expect_link(&mut self, wanted: &str) -> Result<(), Miss> {
         match self.handler.faulted() {
             Some(true) => expect(self.alloc, wanted, "faulted"),
@@ -193,7 +193,7 @@ impl<H: Handler> Served<H> {
         Ok(())
     }
 
-    /// From now on the link opens each handle, or none.
+    /// From now on the link opens each descriptor, or none.
     fn set_opening(&mut self, text: &str) -> Result<(), Miss> {
         let shut = match text.strip_prefix("fault:") {
             Some(number) => {

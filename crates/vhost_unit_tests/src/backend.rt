@@ -1,4 +1,4 @@
-//! Devices as drivers see them: texts of errors, rings from outside, and each call through both wrappers.
+//! Backends as a VMM sees them: texts of errors, rings from outside, and each call through both wrappers.
 
 mod calls;
 mod errors;

@@ -1,4 +1,4 @@
-//! Streams over links between threads and over sockets, cut at every place, ended at every place, with a handle at every byte.
+//! Streams over links between threads and over sockets, split and ended at every place, with a file descriptor at every byte.
 
 mod exchange;
 mod over;

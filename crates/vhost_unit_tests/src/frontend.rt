@@ -1,4 +1,4 @@
-//! A session between two calls, and regions of memory beside their handles.
+//! A session between two calls, and regions of memory beside their descriptors.
 
 use std::alloc::Global;
 use std::sync::Wait;
@@ -16,7 +16,7 @@ static FEATURES: [u8; 20] = [
     1, 0, 0, 0, 5, 0, 0, 0, 8, 0, 0, 0, 1, 0, 0, 0x40, 0, 0, 0, 0,
 ];
 
-/// Whether the first call meets the link's error 5, the second succeeds, and after each the session tells which it was.
+/// Whether the first call meets the link's error 5, the second succeeds, and after each the session reports which.
 fn tells(quiet: &mut Quiet<MemLink>) -> [bool; 4] {
     quiet.set_hdr_flags(VhostUserHeaderFlag::NEED_REPLY);
     let first = quiet.set_owner();
@@ -55,7 +55,7 @@ fn reads_the_features(rt: HostRuntime) {
     assert!(rt; read_in_pieces(rt.alloc()) == Some(0x4000_0003));
 }
 
-/// Which number of the system a call failed with, and whether it was the link's error or that the endpoint is broken.
+/// Which number of the system a call failed with, and whether it was the link's error or that the endpoint is poisoned.
 fn failure(answer: FrontendAnswer) -> Option<(i32, bool)> {
     match answer {
         FrontendAnswer::Failed(Error::SocketError(IoCause::Raw(number))) => Some((number, false)),
@@ -64,7 +64,7 @@ fn failure(answer: FrontendAnswer) -> Option<(i32, bool)> {
     }
 }
 
-/// What two calls of a ring's size are answered over a link that is cut so.
+/// What two calls of a ring's size are answered over a link with this script.
 fn sizes_twice(alloc: Global, cuts: Vec<Cut>) -> Option<[Option<(i32, bool)>; 2]> {
     let mut frontend = FrontendInternal::new(alloc, MemLink::new(alloc, cuts), 4, 2).ok()?;
     let call = FrontendCall::SetVringNum(0, 128);
@@ -72,7 +72,7 @@ fn sizes_twice(alloc: Global, cuts: Vec<Cut>) -> Option<[Option<(i32, bool)>; 2]
     Some([first, failure(meets_fault_calling(&mut frontend, &call))])
 }
 
-/// A fault breaks the endpoint where a byte had moved, and only there.
+/// An I/O error poisons the endpoint where a byte had moved, and only there.
 #[test]
 fn meets_faults(rt: HostRuntime) -> Outcome<()> {
     let alloc = rt.alloc();
@@ -115,7 +115,7 @@ fn asks_one_after_another(rt: HostRuntime) {
     assert!(rt; asks_two(rt.alloc()) == Some(true));
 }
 
-/// The handle with this number.
+/// The descriptor with this number.
 fn handle(id: u32) -> PlainHandle {
     PlainHandle {
         id,
@@ -123,7 +123,7 @@ fn handle(id: u32) -> PlainHandle {
     }
 }
 
-/// The sizes of two regions that a context holds, and their handles.
+/// The sizes of two regions that a context holds, and their descriptors.
 fn held(first: &PlainHandle, second: &PlainHandle) -> ([u64; 2], [u32; 2]) {
     let mut context: VhostUserMemoryContext<'_, PlainHandle> = VhostUserMemoryContext::new();
     context.append(

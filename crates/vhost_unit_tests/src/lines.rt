@@ -100,7 +100,7 @@ fn failing_outputs(rt: HostRuntime) -> Result<(), Fail> {
     Ok(())
 }
 
-/// A writer that takes so many bytes, fails once, and takes all that comes then.
+/// A writer that accepts so many bytes, fails once, and accepts all that comes then.
 #[derive(Drop)]
 struct Breaking {
     taken: Vec<u8>,
@@ -154,7 +154,7 @@ fn nothing_after_a_fault(rt: HostRuntime) -> Result<(), Fail> {
     Ok(())
 }
 
-/// A writer that takes a byte at a time, and is interrupted before each.
+/// A writer that accepts a byte at a time, and is interrupted before each.
 #[derive(Drop)]
 struct Halting {
     taken: Vec<u8>,

@@ -1,4 +1,4 @@
-//! Clients of the promises, each run once with ample memory.
+//! Worked consequences, each run once with ample memory.
 
 use std::alloc::Global;
 use std::sync::Wait;
@@ -119,7 +119,7 @@ fn sends_config(end: &mut Endpoint<VhostUserMsgHeader<FrontendReq>, MemLink>) ->
     sent && end.link().taken().bytes() == CONFIG.as_slice()
 }
 
-/// The same over a new endpoint, whose link is cut so.
+/// The same over a new endpoint, whose link has this script.
 fn new_one_sends_config(alloc: Global, cuts: Vec<Cut>) -> bool {
     match Endpoint::from_stream(alloc, MemLink::new(alloc, cuts), 2) {
         Ok(mut end) => sends_config(&mut end),
@@ -127,7 +127,7 @@ fn new_one_sends_config(alloc: Global, cuts: Vec<Cut>) -> bool {
     }
 }
 
-/// Once over a link that takes all it is given, and once where a second call after the retry would fail.
+/// Once over a link that makes no short write, and once where a second call after the retry would fail.
 #[test]
 fn a_message_in_one_call(rt: HostRuntime) -> Outcome<()> {
     let alloc = rt.alloc();
@@ -140,7 +140,7 @@ fn a_message_in_one_call(rt: HostRuntime) -> Outcome<()> {
     Ok(())
 }
 
-/// What a client of a log saw, as plain values.
+/// What a reader of a log saw, as plain values.
 #[derive(Clone, Copy, Debug, PartialEq, Eq)]
 struct Seen {
     entries: usize,

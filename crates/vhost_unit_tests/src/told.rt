@@ -1,4 +1,4 @@
-//! What calls of devices as drivers see them answered, as plain values.
+//! What calls of a backend answered, as a VMM sees it, in plain values.
 
 use vhost_backend::{Error, Result};
 use vhost_message::Error as ProtocolError;
@@ -16,7 +16,7 @@ pub(crate) enum Told {
     Failed,
 }
 
-/// What an error tells.
+/// What an error says.
 fn told_error(error: Error) -> Told {
     match error {
         Error::VhostUserProtocol(ProtocolError::BackendInternalError) => Told::Refused,
@@ -25,7 +25,7 @@ fn told_error(error: Error) -> Told {
     }
 }
 
-/// What a call told that answers nothing.
+/// What a call answered that gives nothing.
 pub(crate) fn done(answer: Result<()>) -> Told {
     match answer {
         Ok(()) => Told::Done,
@@ -33,7 +33,7 @@ pub(crate) fn done(answer: Result<()>) -> Told {
     }
 }
 
-/// What a call told that answers a number.
+/// What a call answered that gives a number.
 pub(crate) fn number<N: Into<u64>>(answer: Result<N>) -> Told {
     match answer {
         Ok(number) => Told::Number(number.into()),
@@ -41,7 +41,7 @@ pub(crate) fn number<N: Into<u64>>(answer: Result<N>) -> Told {
     }
 }
 
-/// What a call told that may answer where regions are mapped; the number is how many are.
+/// What a call may answer of where regions are mapped; the number is how many are.
 pub(crate) fn mapped(answer: Result<Option<Vec<u64>>>) -> Told {
     match answer {
         Ok(Some(places)) => Told::Number(places.len() as u64),

@@ -1,4 +1,4 @@
-//! Asking: a request goes out, and the reply for it comes in.
+//! Sending requests: a request goes out, and the reply for it comes in.
 
 ghost use Rattle.std.specs.Prelude.{◌≡◌, ◌≤◌, ◌+◌, ◌++◌, IfOk, IfErr, length, map};
 ghost use Rattle.vhost_message.specs.MsgHeader.{fields_of};
@@ -16,9 +16,9 @@ impl<R: Req, L: Link> Endpoint<VhostUserMsgHeader<R>, L> {
     ghost use Rattle.vhost_connection.specs.Hearing.{Fails};
     ghost use Rattle.vhost_connection.specs.Asking.{SendsRequest, RecvsReply, request_with, is_known_by};
 
-    /// What comes before a request: the endpoint has a list of handles for the reply, and is sound.
+    /// What comes before a request: the endpoint has a descriptor buffer for the reply, and is not poisoned.
     ///
-    /// OutOfMemory: it had given its list away, and no memory for another was found. SocketBroken: it is broken.
+    /// OutOfMemory: its descriptor buffer was moved out, and another could not be allocated. SocketBroken: it is poisoned.
     #[tactic(auto, using(crate::proofs::Failing::broken_fails, crate::proofs::Failing::memory_fails), unfolding(crate::specs::State::ahead_of))]
     fn begin_request(&mut self) -> Result<()>
         ensures begun { IfOk result (λ _. ((state self.old).broken ≡ None) × (state self.new ≡ record (state self.old) { list = true; faulted = false })) }
@@ -29,11 +29,11 @@ impl<R: Req, L: Link> Endpoint<VhostUserMsgHeader<R>, L> {
         self.expect_sound()
     }
 
-    /// Sends a request of this code and with these flags: a record, the bytes behind it, and the handles on the first byte.
-    /// Its header is what the reply is compared with. The list of handles for the reply is made first.
+    /// Sends a request of this code and with these flags: a record, the bytes behind it, and the descriptors on the first byte.
+    /// Its header is what the reply is compared with. The descriptor buffer for the reply is made first.
     ///
-    /// OutOfMemory: the endpoint had given its list of handles away, and no memory for another was found, also where it is
-    /// broken; nothing was written, and nothing changed.
+    /// OutOfMemory: the endpoint's descriptor buffer was moved out, and another could not be allocated, also where the
+    /// endpoint is poisoned; nothing was written, and nothing changed.
     pub fn send_request<T: ByteValued>(
         &mut self,
         code: R,
@@ -56,7 +56,7 @@ impl<R: Req, L: Link> Endpoint<VhostUserMsgHeader<R>, L> {
     }
 
     /// Receives the reply for a request: the size that its header says, a record, how many bytes of payload lie in the room
-    /// now, and the handles. It stands between a request and the end of its answer: a fault breaks the endpoint.
+    /// now, and the descriptors. It stands between a request and the end of its answer: an I/O error poisons the endpoint.
     ///
     /// InvalidMessage: header or record are not valid, or what came is no reply for the request. PartialMessage: the
     /// stream ended before the record did.

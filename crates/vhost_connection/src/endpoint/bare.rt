@@ -16,10 +16,10 @@ impl<R: Req, L: Link> Endpoint<VhostUserMsgHeader<R>, L> {
     ghost use Rattle.vhost_connection.specs.State.{state};
 
     /// Receives the reply to a request for configuration bytes: a header and a record, and then what fits into the buffer,
-    /// up to the stream's end; the answer has how many bytes that was, and the handles of the first byte. The header's
+    /// up to the stream's end; the answer has how many bytes that was, and the descriptors of the first byte. The header's
     /// size is not looked at, nor whether it answers the request.
     ///
-    /// None: the reply is bare. Its header is valid, answers the request and says 12 bytes, no handles came with the first
+    /// None: the reply is bare. Its header is valid, answers the request and says 12 bytes, no descriptors came with the first
     /// byte, and the record says 0 bytes. Nothing is received behind it, and the buffer is as before.
     ///
     /// PartialMessage: the stream ended before or within header and record. InvalidMessage: all of it was received, and
@@ -72,7 +72,7 @@ impl<R: Req, L: Link> Endpoint<VhostUserMsgHeader<R>, L> {
     }
 }
 
-/// Whether header and record, which came with these handles, are a bare reply to this request.
+/// Whether header and record, which came with these descriptors, are a bare reply to this request.
 fn is_bare<R: Req, H>(
     header: &VhostUserMsgHeader<R>,
     request: &VhostUserMsgHeader<R>,

@@ -20,11 +20,11 @@ impl<M: MsgHeader, L: Link> Endpoint<M, L> {
     ghost use Rattle.vhost_connection.specs.Front.{ReadsFront, ReadsParts, ReadsHead, ReadsCount, ReadsCountOnce, ReadsMore, gives};
     ghost use Rattle.vhost_connection.specs.State.{state};
 
-    /// Receives a header, with the handles of its first byte.
+    /// Receives a header, with the descriptors of its first byte.
     ///
     /// Disconnected: the stream ended before the first byte. PartialMessage: it ended within the header.
-    /// InvalidMessage: the header was received, and is not valid. OutOfMemory: the endpoint had given its list of
-    /// handles away, and no memory for another was found; nothing was received.
+    /// InvalidMessage: the header was received, and is not valid. OutOfMemory: the endpoint's descriptor buffer
+    /// was moved out, and another could not be allocated; nothing was received.
     pub fn recv_header(&mut self) -> Result<(M, Option<Vec<L::Handle>>)>
         ensures { ReadsHeader L.event M.read M.valid (state self.old) result (state self.new) }
     {
@@ -32,7 +32,7 @@ impl<M: MsgHeader, L: Link> Endpoint<M, L> {
         Ok((header, self.give(front.list)))
     }
 
-    /// Receives a header, with the handles of its first byte in a list that is not given away yet.
+    /// Receives a header, with the descriptors of its first byte in a buffer that is not moved out yet.
     pub(super) fn recv_head(&mut self) -> Result<(M, Front<L::Handle>)>
         ensures { ReadsHead L.event M.read M.valid (state self.old) result (state self.new) }
     {
@@ -55,11 +55,11 @@ impl<M: MsgHeader, L: Link> Endpoint<M, L> {
     }
 
     /// Receives the next bytes of a message, up to so many, and lends them from the endpoint's buffer: fewer than
-    /// asked for are all up to the end of the stream. It may take the retries that the last `recv_header` and the calls of this
-    /// one since then have left of the budget; other calls leave them as they are.
+    /// asked for are all up to the end of the stream. It may use the retries that the last `recv_header` and the calls of this
+    /// one since then have left of the retry limit; other calls leave them as they are.
     ///
-    /// InvalidMessage: all of them were received, and one brought handles. A fault, or one retry more than were left
-    /// of the budget, breaks the endpoint.
+    /// InvalidMessage: all of them were received, and one brought descriptors. An I/O error, or one retry more than were left
+    /// of the retry limit, poisons the endpoint.
     pub fn recv_data(&mut self, len: usize) -> Result<(usize, &[u8])>
         requires { len ≤ MAX_MSG_SIZE }
         ensures* lender { sem 𝓛 (Leaves (the_row M.row L.row L.Handle.row) self.entry (λ end. ReadsData L.event (state self.old) len result (state end))) }
@@ -70,7 +70,7 @@ impl<M: MsgHeader, L: Link> Endpoint<M, L> {
         Ok((count, &self.text[..count]))
     }
 
-    /// Receives bytes to the front of the text, up to so many or the end.
+    /// Receives bytes to the start of the buffer, up to so many or the end.
     fn read_data(&mut self, len: usize) -> Result<usize>
         requires { len ≤ MAX_MSG_SIZE }
         ensures read { ReadsCount L.event (state self.old) len result self.new.text.value (state self.new) }
@@ -97,7 +97,7 @@ impl<M: MsgHeader, L: Link> Endpoint<M, L> {
         Ok(got.count)
     }
 
-    /// Receives a header and a record, with the handles of the first byte. The header's size is not looked at.
+    /// Receives a header and a record, with the descriptors of the first byte. The header's size is not looked at.
     ///
     /// OversizedMsg: the record is longer than `MAX_MSG_SIZE`; nothing was received, and nothing changed. PartialMessage:
     /// the stream ended before or within them. InvalidMessage: both were received, and one is not valid. OutOfMemory:
@@ -113,7 +113,7 @@ impl<M: MsgHeader, L: Link> Endpoint<M, L> {
     }
 
     /// Receives a header, and then what fits into the buffer, up to the stream's end; the answer has how many bytes that
-    /// was, and the handles of the first byte. The header's size is not looked at.
+    /// was, and the descriptors of the first byte. The header's size is not looked at.
     ///
     /// PartialMessage: the stream ended before or within the header. InvalidMessage: all of it was received, and the
     /// header is not valid. OutOfMemory: as in `recv_header`.
@@ -143,7 +143,7 @@ impl<M: MsgHeader, L: Link> Endpoint<M, L> {
     }
 
     /// Receives a header and a record, and then what fits into the buffer, up to the stream's end; the answer has how
-    /// many bytes that was, and the handles of the first byte. The header's size is not looked at.
+    /// many bytes that was, and the descriptors of the first byte. The header's size is not looked at.
     ///
     /// OversizedMsg: the record is longer than `MAX_MSG_SIZE`; nothing was received, and nothing changed. PartialMessage:
     /// the stream ended before or within header and record. InvalidMessage: all of it was received, and one of the two
@@ -193,9 +193,9 @@ impl<M: MsgHeader, L: Link> Endpoint<M, L> {
     }
 
     /// Receives at most so many bytes by one call of the link, and lends them from the endpoint's buffer: how many, which
-    /// is 0 at the stream's end. The handles of the first of them are put into `handles`, in the place of what is there.
+    /// is 0 at the stream's end. The descriptors of the first of them are put into `handles`, in the place of what is there.
     ///
-    /// With a length of 0 the link is not called. OutOfMemory: as in `recv_header`. A fault or a retry breaks nothing.
+    /// With a length of 0 the link is not called. OutOfMemory: as in `recv_header`. An I/O error or a retry poisons nothing.
     /// After an error `handles` is None.
     pub fn recv_into_buf(
         &mut self,
@@ -213,7 +213,7 @@ impl<M: MsgHeader, L: Link> Endpoint<M, L> {
         Ok((count, &self.text[..count]))
     }
 
-    /// Receives at most so many bytes to the front of the text by one call of the link.
+    /// Receives at most so many bytes to the start of the buffer by one call of the link.
     fn read_once(&mut self, len: usize) -> Result<(usize, Option<Vec<L::Handle>>)>
         requires { len ≤ MAX_MSG_SIZE }
         ensures { ReadsCountOnce L.event (state self.old) len result self.new.text.value (state self.new) }
@@ -235,7 +235,7 @@ impl<M: MsgHeader, L: Link> Endpoint<M, L> {
         }
     }
 
-    /// Receives so many bytes to the front of the text, or fewer and then the end, with the handles of the first.
+    /// Receives so many bytes to the start of the buffer, or fewer and then the end, with the descriptors of the first.
     pub(super) fn recv_front(&mut self, len: usize) -> Result<Front<L::Handle>>
         requires some { 0 < len }
         requires len { len ≤ MAX_MSG_TEXT }
@@ -244,8 +244,8 @@ impl<M: MsgHeader, L: Link> Endpoint<M, L> {
         self.recv_parts(len, &mut [])
     }
 
-    /// Receives so many bytes to the front of the text, and then what fits into the room, or fewer and then the end;
-    /// with the handles of the first.
+    /// Receives so many bytes to the start of the buffer, and then what fits into the room, or fewer and then the end;
+    /// with the descriptors of the first.
     fn recv_parts(&mut self, len: usize, room: &mut [u8]) -> Result<Front<L::Handle>>
         requires some { 0 < len }
         requires len { len ≤ MAX_MSG_TEXT }
@@ -277,8 +277,8 @@ impl<M: MsgHeader, L: Link> Endpoint<M, L> {
         })
     }
 
-    /// Receives what fits into the room behind the front of a message, with the retries that its front has left. Handles are
-    /// dropped.
+    /// Receives what fits into the room behind the prefix of a message, with the retries that the prefix has left. Descriptors
+    /// are dropped.
     pub(super) fn recv_more(&mut self, room: &mut [u8], left: u32) -> Result<usize>
         requires { (state self.old).broken ≡ None }
         ensures { ReadsMore L.event (state self.old) left room.old result room.new (state self.new) }
@@ -293,7 +293,7 @@ impl<M: MsgHeader, L: Link> Endpoint<M, L> {
 
     /// Receives the bytes behind a header until the room is full, or the stream ends; the answer is how many.
     ///
-    /// InvalidMessage: all of them were received, and one brought handles.
+    /// InvalidMessage: all of them were received, and one brought descriptors.
     pub(super) fn recv_rest_of_message(&mut self, room: &mut [u8]) -> Result<usize>
         ensures { ReadsCount L.event (state self.old) (length room.old) result room.new (state self.new) }
     {
@@ -312,7 +312,7 @@ impl<M: MsgHeader, L: Link> Endpoint<M, L> {
         Ok(got.count)
     }
 
-    /// Takes the list back; its handles are dropped.
+    /// Puts the descriptor buffer back; its descriptors are dropped.
     #[tactic(auto, unfolding(crate::specs::State::ahead_of))]
     pub(super) fn put_back(&mut self, mut list: Vec<L::Handle>)
         requires { MAX_ATTACHED_FD_ENTRIES ≤ vec_capacity list }
@@ -323,7 +323,7 @@ impl<M: MsgHeader, L: Link> Endpoint<M, L> {
         self.list = Some(HandleList { list });
     }
 
-    /// Gives the list away where it has handles, and else takes it back.
+    /// Moves the descriptor buffer out where it has descriptors, and else puts it back.
     #[tactic(auto, unfolding(crate::specs::State::ahead_of))]
     pub(super) fn give(&mut self, list: Vec<L::Handle>) -> Option<Vec<L::Handle>>
         requires { MAX_ATTACHED_FD_ENTRIES ≤ vec_capacity list }

@@ -23,12 +23,12 @@ impl<R: RequestCode, L: Link> Endpoint<VhostUserMsgHeader<R>, L> {
     ghost use Rattle.vhost_connection.specs.Calls.{ByOneCall};
     ghost use Rattle.vhost_connection.specs.Requests.{ReadsRequest, RequestHead, ReadsBehind, Tells, reply_text};
 
-    /// Reads one request: its header and handles, and its body whole, however it is cut, to the front of `body`.
+    /// Reads one request: its header and descriptors, and its body whole, however it is split, to the start of `body`.
     ///
     /// Disconnected: the stream ended before the first byte. PartialMessage: it ended within the header. InvalidMessage:
-    /// the header is not valid, or its request may not come with these handles, and the body is unread; or the stream
-    /// ended within the body, or a byte of it brought handles. OutOfMemory: the endpoint had given its list of handles
-    /// away, and no memory for another was found, also where it is broken; nothing was received, and nothing changed.
+    /// the header is not valid, or its request may not come with these descriptors, and the body is unread; or the stream
+    /// ended within the body, or a byte of it brought descriptors. OutOfMemory: the endpoint's descriptor buffer was moved
+    /// out, and another could not be allocated, also where the endpoint is poisoned; nothing was received, and nothing changed.
     pub fn recv_request(&mut self, body: &mut [u8]) -> Result<(Request<R>, Option<Vec<L::Handle>>)>
         requires { MAX_MSG_SIZE ≤ length body.old }
         ensures { ReadsRequest L.event R.code R.allowed (state self.old) result body.new (state self.new) }
@@ -45,7 +45,7 @@ impl<R: RequestCode, L: Link> Endpoint<VhostUserMsgHeader<R>, L> {
         }
     }
 
-    /// Reads the body of a request, whose header came with so many handles.
+    /// Reads the body of a request, whose header came with so many descriptors.
     fn recv_request_body(
         &mut self,
         header: &VhostUserMsgHeader<R>,
@@ -73,10 +73,10 @@ impl<R: RequestCode, L: Link> Endpoint<VhostUserMsgHeader<R>, L> {
         })
     }
 
-    /// Replies to a request of this code with a record and the bytes behind it, and with the handles on the first byte. It
-    /// stands between a request and the end of its answer: a fault, or one retry more than the budget, breaks the endpoint.
+    /// Replies to a request of this code with a record and the bytes behind it, and with the descriptors on the first byte. It
+    /// stands between a request and the end of its answer: an I/O error, or one retry more than the retry limit, poisons the endpoint.
     ///
-    /// SocketBroken: the endpoint was broken before; nothing was written.
+    /// SocketBroken: the endpoint was poisoned before; nothing was written.
     pub fn reply<T: ByteValued>(
         &mut self,
         code: R,

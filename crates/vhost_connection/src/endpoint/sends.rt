@@ -36,7 +36,7 @@ fn put_all<M: ByteValued, T: ByteValued>(out: &mut [u8], header: &M, body: &T, p
     rest.copy_from_slice(payload);
 }
 
-/// Writes a header to the front of a text.
+/// Writes a header to the start of a buffer.
 fn put_header<M: ByteValued>(text: &mut Text, header: &M)
     requires { M.SIZE ≤ MAX_MSG_TEXT }
     ensures { take M.SIZE text.new ≡ M.text header.now }
@@ -44,7 +44,7 @@ fn put_header<M: ByteValued>(text: &mut Text, header: &M)
     header.encode_into(&mut text[..M::SIZE]);
 }
 
-/// Writes a header and the body behind it to the front of a text.
+/// Writes a header and the body behind it to the start of a buffer.
 fn put_message<M: ByteValued, T: ByteValued>(text: &mut Text, header: &M, body: &T)
     requires { M.SIZE + T.SIZE ≤ MAX_MSG_TEXT }
     ensures text { take (M.SIZE + T.SIZE) text.new ≡ M.text header.now ++ T.text body.now }
@@ -53,7 +53,7 @@ fn put_message<M: ByteValued, T: ByteValued>(text: &mut Text, header: &M, body: 
     put(&mut text[..M::SIZE + T::SIZE], header, body);
 }
 
-/// Writes a header, the body behind it and a payload behind both to the front of a text; the answer is how many bytes.
+/// Writes a header, the body behind it and a payload behind both to the start of a buffer; the answer is how many bytes.
 fn put_whole<M: ByteValued, T: ByteValued>(
     text: &mut Text,
     header: &M,
@@ -76,9 +76,9 @@ impl<M: MsgHeader, L: Link> Endpoint<M, L> {
     ghost use Rattle.vhost_connection.specs.Calls.{Sends, ByOneCall, SendsAll, SendsOnce};
     ghost use Rattle.vhost_connection.specs.State.{state};
 
-    /// Sends a header, with the handles on its first byte.
+    /// Sends a header, with the descriptors on its first byte.
     ///
-    /// IncorrectFds: there are more than `MAX_ATTACHED_FD_ENTRIES` handles; nothing was written, and nothing changed.
+    /// IncorrectFds: there are more than `MAX_ATTACHED_FD_ENTRIES` descriptors; nothing was written, and nothing changed.
     #[tactic(auto, using(crate::proofs::AtOnce::unasked), unfolding(crate::specs::State::ahead_of))]
     pub fn send_header(&mut self, header: &M, handles: &[&L::Handle]) -> Result<()>
         ensures many { MAX_ATTACHED_FD_ENTRIES < length handles.now → Refuses (state self.old) IncorrectFds result (state self.new) }
@@ -93,10 +93,10 @@ impl<M: MsgHeader, L: Link> Endpoint<M, L> {
         self.send_text(M::SIZE, handles)
     }
 
-    /// Sends a header and a body, with the handles on the first byte.
+    /// Sends a header and a body, with the descriptors on the first byte.
     ///
     /// OversizedMsg: the body is longer than `MAX_MSG_SIZE`, or than a header of this type may say. IncorrectFds: there
-    /// are more than `MAX_ATTACHED_FD_ENTRIES` handles. In both cases nothing was written, and nothing changed.
+    /// are more than `MAX_ATTACHED_FD_ENTRIES` descriptors. In both cases nothing was written, and nothing changed.
     #[tactic(auto, using(crate::proofs::AtOnce::unasked), unfolding(crate::specs::State::ahead_of))]
     pub fn send_message<T: ByteValued>(
         &mut self,
@@ -122,11 +122,11 @@ impl<M: MsgHeader, L: Link> Endpoint<M, L> {
         self.send_text(M::SIZE + T::SIZE, handles)
     }
 
-    /// Sends a header, a body and a payload, with the handles on the first byte: as one piece where they have at most
+    /// Sends a header, a body and a payload, with the descriptors on the first byte: as one piece where they have at most
     /// `MAX_MSG_TEXT` bytes together, and else the payload goes out from where it lies.
     ///
     /// OversizedMsg: the body is longer than `MAX_MSG_SIZE`, or body and payload together than a header of this type may
-    /// say. IncorrectFds: there are more than `MAX_ATTACHED_FD_ENTRIES` handles. In both cases nothing was written, and nothing changed.
+    /// say. IncorrectFds: there are more than `MAX_ATTACHED_FD_ENTRIES` descriptors. In both cases nothing was written, and nothing changed.
     #[tactic(auto, using(crate::proofs::AtOnce::unasked), unfolding(crate::specs::State::ahead_of))]
     pub fn send_message_with_payload<T: ByteValued>(
         &mut self,
@@ -164,7 +164,7 @@ impl<M: MsgHeader, L: Link> Endpoint<M, L> {
         self.send_text(whole, handles)
     }
 
-    /// Sends the first bytes of the text: by one call, where the link takes in all that it is given.
+    /// Sends the first bytes of the buffer: by one call, where the link accepts all that it is given.
     fn send_text(&mut self, len: usize, handles: &[&L::Handle]) -> Result<()>
         requires len { len ≤ MAX_MSG_TEXT }
         requires handles { length handles.now ≤ MAX_ATTACHED_FD_ENTRIES }
@@ -186,7 +186,7 @@ impl<M: MsgHeader, L: Link> Endpoint<M, L> {
         }
     }
 
-    /// Sends the first bytes of the text, and a payload behind them.
+    /// Sends the first bytes of the buffer, and a payload behind them.
     fn send_with_behind(&mut self, len: usize, payload: &[u8], handles: &[&L::Handle]) -> Result<()>
         requires len { len ≤ MAX_MSG_TEXT }
         requires handles { length handles.now ≤ MAX_ATTACHED_FD_ENTRIES }
@@ -203,10 +203,10 @@ impl<M: MsgHeader, L: Link> Endpoint<M, L> {
         }
     }
 
-    /// Sends all bytes of the pieces, with the handles on the first byte; the answer is how many.
+    /// Sends all bytes of the pieces, with the descriptors on the first byte; the answer is how many.
     ///
-    /// OversizedMsg: there are more bytes than a `usize` can count. IncorrectFds: there are more than `MAX_ATTACHED_FD_ENTRIES` handles, or
-    /// handles without a byte. In both cases nothing was written, and nothing changed.
+    /// OversizedMsg: there are more bytes than a `usize` can count. IncorrectFds: there are more than `MAX_ATTACHED_FD_ENTRIES` descriptors, or
+    /// descriptors without a byte. In both cases nothing was written, and nothing changed.
     #[tactic(auto, unfolding(crate::specs::State::ahead_of))]
     pub fn send_iovec_all(&mut self, iovs: &[&[u8]], handles: &[&L::Handle]) -> Result<usize>
         ensures long { 2 ^ 64 ≤ length (joined iovs.now) → Refuses (state self.old) OversizedMsg result (state self.new) }
@@ -231,10 +231,10 @@ impl<M: MsgHeader, L: Link> Endpoint<M, L> {
         }
     }
 
-    /// Sends a front of the bytes by one call of the link, with the handles on the first byte; the answer is how many.
+    /// Sends a prefix of the bytes by one call of the link, with the descriptors on the first byte; the answer is how many.
     ///
-    /// Without bytes and handles the link is not called. IncorrectFds: there are more than `MAX_ATTACHED_FD_ENTRIES` handles, or handles
-    /// without a byte; nothing was written, and nothing changed. A fault or a retry breaks nothing.
+    /// Without bytes and descriptors the link is not called. IncorrectFds: there are more than `MAX_ATTACHED_FD_ENTRIES` descriptors, or descriptors
+    /// without a byte; nothing was written, and nothing changed. An I/O error or a retry poisons nothing.
     #[tactic(auto, unfolding(crate::specs::State::ahead_of))]
     pub fn send_slice(&mut self, bytes: &[u8], handles: &[&L::Handle]) -> Result<usize>
         ensures many { MAX_ATTACHED_FD_ENTRIES < length handles.now → Refuses (state self.old) IncorrectFds result (state self.new) }
@@ -254,11 +254,11 @@ impl<M: MsgHeader, L: Link> Endpoint<M, L> {
         }
     }
 
-    /// Sends a front of the bytes of all pieces by one call of the link, with the handles on the first byte; the answer
+    /// Sends a prefix of the bytes of all pieces by one call of the link, with the descriptors on the first byte; the answer
     /// is how many, `MAX_MSG_TEXT` at most.
     ///
-    /// Without bytes and handles the link is not called. IncorrectFds: there are more than `MAX_ATTACHED_FD_ENTRIES` handles, or handles
-    /// without a byte; nothing was written, and nothing changed. A fault or a retry breaks nothing.
+    /// Without bytes and descriptors the link is not called. IncorrectFds: there are more than `MAX_ATTACHED_FD_ENTRIES` descriptors, or descriptors
+    /// without a byte; nothing was written, and nothing changed. An I/O error or a retry poisons nothing.
     #[tactic(auto, unfolding(crate::specs::State::ahead_of))]
     pub fn send_iovec(&mut self, iovs: &[&[u8]], handles: &[&L::Handle]) -> Result<usize>
         ensures many { MAX_ATTACHED_FD_ENTRIES < length handles.now → Refuses (state self.old) IncorrectFds result (state self.new) }

@@ -1,4 +1,4 @@
-//! Endpoints over sockets, and a second descriptor of one.
+//! Endpoints over sockets, and a duplicate of the link of one.
 
 ghost use Rattle.std.specs.Prelude.{◌≡◌, IfOk, IfErr};
 
@@ -23,9 +23,9 @@ impl<M: MsgHeader> Endpoint<M, UnixLink> {
     ghost use Rattle.vhost_connection.specs.State.{state, fresh};
     ghost use Rattle.vhost_connection.specs.Sockets.{IsConnectError};
 
-    /// Connects to the socket at a path, with a budget of retries for each message.
+    /// Connects to the socket at a path, with a retry limit for each message.
     ///
-    /// SocketConnect: the system refused, whatever the number. OutOfMemory: a growth was refused.
+    /// SocketConnect: the system refused, whatever the number. OutOfMemory: an allocation failed.
     pub fn connect(rt: &impl Net, alloc: Global, path: &str, budget: u32) -> Result<Self>
         ensures opened { IfOk result (λ e. state e ≡ fresh (state e).link budget) }
         ensures refused { IfErr result IsConnectError }

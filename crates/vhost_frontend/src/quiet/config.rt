@@ -11,12 +11,12 @@ use vhost_message::{Result, VhostUserConfig, VhostUserConfigFlags};
 impl<L: Link> Quiet<L> {
     ghost use Rattle.vhost_frontend.specs.Whole.{Whole, WholeWithRoom};
 
-    /// The bytes of the configuration space from this one on, as many as the buffer has, and the part that the device says
+    /// The bytes of the configuration space from this one on, as many as the buffer has, and the part that the backend says
     /// they are. The buffer is sent along.
     ///
-    /// InvalidParam: `size` is 0, the part lies beyond the space, or the buffer is empty or has more bytes than fit; the request of
-    /// an empty one has gone out. InactiveOperation: CONFIG is not acknowledged. BackendInternalError: the device has no such bytes.
-    /// InvalidMessage: the reply is of another part.
+    /// InvalidParam: `size` is 0, the part lies beyond the space, or the buffer is empty or has more bytes than fit; the
+    /// request of an empty one has gone out. InactiveOperation: CONFIG is not accepted. BackendInternalError: the backend
+    /// has no such bytes. InvalidMessage: the reply is of another part.
     pub fn get_config(
         &mut self,
         offset: u32,
@@ -35,7 +35,7 @@ impl<L: Link> Quiet<L> {
     /// Changes the configuration space from this byte on.
     ///
     /// InvalidParam: there is no byte, or they are more than fit, or lie beyond the space. InactiveOperation: CONFIG is not
-    /// acknowledged.
+    /// accepted.
     pub fn set_config(
         &mut self,
         offset: u32,

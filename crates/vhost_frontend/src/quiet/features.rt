@@ -10,7 +10,7 @@ use vhost_message::{Result, VhostUserProtocolFeatures};
 impl<L: Link> Quiet<L> {
     ghost use Rattle.vhost_frontend.specs.Whole.{Whole};
 
-    /// The virtio features that the device offers, from now on remembered as offered.
+    /// The virtio features that the backend offers, from now on remembered as offered.
     pub fn get_features(&mut self) -> Result<u64>
         ensures { Whole L.event call.GetFeatures call.Number self.old.inner result self.new.inner }
     {
@@ -20,7 +20,7 @@ impl<L: Link> Quiet<L> {
         }
     }
 
-    /// Acknowledges virtio features.
+    /// Accepts virtio features.
     pub fn set_features(&mut self, features: u64) -> Result<()>
         ensures { Whole L.event (call.SetFeatures features) (λ _. call.Nothing) self.old.inner result self.new.inner }
     {
@@ -28,7 +28,7 @@ impl<L: Link> Quiet<L> {
         acknowledged(&mut self.inner, asked)
     }
 
-    /// The protocol features that the device offers; bits without a meaning are dropped.
+    /// The protocol features that the backend offers; bits without a meaning are dropped.
     ///
     /// InactiveFeature: it offers none.
     pub fn get_protocol_features(&mut self) -> Result<VhostUserProtocolFeatures>
@@ -40,9 +40,9 @@ impl<L: Link> Quiet<L> {
         }
     }
 
-    /// Chooses protocol features.
+    /// Accepts protocol features.
     ///
-    /// InactiveFeature: the device offers none.
+    /// InactiveFeature: the backend offers none.
     pub fn set_protocol_features(&mut self, features: VhostUserProtocolFeatures) -> Result<()>
         ensures { Whole L.event (call.SetProtocolFeatures features.bits) (λ _. call.Nothing) self.old.inner result self.new.inner }
     {
@@ -50,9 +50,9 @@ impl<L: Link> Quiet<L> {
         acknowledged(&mut self.inner, asked)
     }
 
-    /// How many queues the device has at most, from now on the bound of each index.
+    /// How many queues the backend has at most, from now on the bound of each index.
     ///
-    /// InactiveOperation: MQ is not acknowledged. InvalidMessage: the number is greater than 0x8000; the old one stays.
+    /// InactiveOperation: MQ is not accepted. InvalidMessage: the number is greater than 0x8000; the old one stays.
     pub fn get_queue_num(&mut self) -> Result<u64>
         ensures { Whole L.event call.GetQueueNum call.Number self.old.inner result self.new.inner }
     {

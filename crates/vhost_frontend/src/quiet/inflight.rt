@@ -1,4 +1,4 @@
-//! The buffer for descriptors in flight.
+//! The inflight region.
 
 ghost use Rattle.vhost_protocol.specs.FrontendCall as call;
 
@@ -10,9 +10,10 @@ use vhost_message::{Result, VhostUserInflight};
 impl<L: Link> Quiet<L> {
     ghost use Rattle.vhost_frontend.specs.Whole.{Whole};
 
-    /// The buffer: where it lies, and its handle.
+    /// The inflight region: where it lies, and its file descriptor.
     ///
-    /// InactiveOperation: INFLIGHT_SHMFD is not acknowledged. InvalidMessage: no handle came. IncorrectFds: several did.
+    /// InactiveOperation: INFLIGHT_SHMFD is not accepted. InvalidMessage: no file descriptor came. IncorrectFds: several
+    /// did.
     pub fn get_inflight_fd(
         &mut self,
         inflight: &VhostUserInflight,
@@ -25,10 +26,10 @@ impl<L: Link> Quiet<L> {
         }
     }
 
-    /// Gives the buffer.
+    /// Gives the inflight region.
     ///
-    /// InactiveOperation: INFLIGHT_SHMFD is not acknowledged. InvalidParam: the buffer's size, or one of the numbers of queues
-    /// and descriptors, is 0.
+    /// InactiveOperation: INFLIGHT_SHMFD is not accepted. InvalidParam: the region's size, the number of queues, or their
+    /// size is 0.
     pub fn set_inflight_fd(
         &mut self,
         inflight: &VhostUserInflight,

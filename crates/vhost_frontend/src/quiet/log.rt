@@ -14,7 +14,7 @@ impl<L: Link> Quiet<L> {
 
     /// Says where the log lies: at this base, or in this region where shared memory is agreed on.
     ///
-    /// InvalidParam: the region has no handle. InvalidMessage: the area in the reply is not valid.
+    /// InvalidParam: the region has no descriptor. InvalidMessage: the log region in the reply is not valid.
     pub fn set_log_base(
         &mut self,
         base: u64,
@@ -28,7 +28,7 @@ impl<L: Link> Quiet<L> {
         }
     }
 
-    /// Gives the handle by which the device tells that it logged.
+    /// Gives the descriptor by which the backend signals that it logged.
     pub fn set_log_fd(&mut self, handle: &L::Handle) -> Result<()>
         ensures { Whole L.event (call.SetLogFd handle.now) (λ _. call.Nothing) self.old.inner result self.new.inner }
     {

@@ -12,10 +12,11 @@ use vhost_message::Result;
 impl<L: Link> Quiet<L> {
     ghost use Rattle.vhost_frontend.specs.Whole.{Whole, WholeWithRoom};
 
-    /// Gives the device the table of all regions. While postcopy listens, the answer is where each one is mapped, else nothing.
+    /// Gives the backend the table of all regions. While postcopy listens, the answer is where each one is mapped, else
+    /// nothing.
     ///
-    /// InvalidParam: there are no regions or more than a table may have, or the size of one is 0, or one has no handle. InvalidMessage: the
-    /// reply is of other regions.
+    /// InvalidParam: there are no regions or more than a table may have, or the size of one is 0, or one has no descriptor.
+    /// InvalidMessage: the reply is of other regions.
     pub fn set_mem_table(
         &mut self,
         regions: &[VhostUserMemoryRegionInfo<L::Handle>],
@@ -28,9 +29,9 @@ impl<L: Link> Quiet<L> {
         }
     }
 
-    /// How many regions the device can be given.
+    /// How many regions the backend can be given.
     ///
-    /// InactiveOperation: CONFIGURE_MEM_SLOTS is not acknowledged.
+    /// InactiveOperation: CONFIGURE_MEM_SLOTS is not accepted.
     pub fn get_max_mem_slots(&mut self) -> Result<u64>
         ensures { Whole L.event call.GetMaxMemSlots call.Number self.old.inner result self.new.inner }
     {
@@ -40,10 +41,10 @@ impl<L: Link> Quiet<L> {
         }
     }
 
-    /// Gives the device a region. While postcopy listens, the answer is where it is mapped, else nothing.
+    /// Gives the backend a region. While postcopy listens, the answer is where it is mapped, else nothing.
     ///
-    /// InactiveOperation: CONFIGURE_MEM_SLOTS is not acknowledged. InvalidParam: the region's size is 0, or it has no handle.
-    /// InvalidMessage: the reply is of another region.
+    /// InactiveOperation: CONFIGURE_MEM_SLOTS is not accepted. InvalidParam: the region's size is 0, or it has no
+    /// descriptor. InvalidMessage: the reply is of another region.
     pub fn add_mem_region(
         &mut self,
         region: &VhostUserMemoryRegionInfo<L::Handle>,
@@ -56,9 +57,9 @@ impl<L: Link> Quiet<L> {
         }
     }
 
-    /// Takes a region from the device.
+    /// Removes a region from the backend.
     ///
-    /// InactiveOperation: CONFIGURE_MEM_SLOTS is not acknowledged. InvalidParam: the region's size is 0.
+    /// InactiveOperation: CONFIGURE_MEM_SLOTS is not accepted. InvalidParam: the region's size is 0.
     pub fn remove_mem_region(&mut self, region: &VhostUserMemoryRegionInfo<L::Handle>) -> Result<()>
         ensures { Whole L.event (call.RemoveMemRegion (info_in region.now)) (λ _. call.Nothing) self.old.inner result self.new.inner }
     {

@@ -9,9 +9,9 @@ use vhost_message::Result;
 impl<L: Link> Quiet<L> {
     ghost use Rattle.vhost_frontend.specs.Whole.{Whole};
 
-    /// Tells the greatest size of a packet, in bytes.
+    /// Sets the MTU, in bytes.
     ///
-    /// InactiveOperation: MTU is not acknowledged. BackendInternalError: the device refused the size.
+    /// InactiveOperation: MTU is not accepted. BackendInternalError: the backend refused the size.
     pub fn set_mtu(&mut self, mtu: u16) -> Result<()>
         ensures { Whole L.event (call.SetMtu mtu) (λ _. call.Nothing) self.old.inner result self.new.inner }
     {

@@ -1,4 +1,4 @@
-//! Shared objects, shared memory and the reverse channel.
+//! Shared objects, shared memory and the backend channel.
 
 ghost use Rattle.vhost_protocol.specs.FrontendCall as call;
 
@@ -10,9 +10,9 @@ use vhost_message::{Result, VhostUserShMemConfig, VhostUserSharedMsg};
 impl<L: Link> Quiet<L> {
     ghost use Rattle.vhost_frontend.specs.Whole.{Whole};
 
-    /// The handle of a shared object.
+    /// The descriptor of a shared object.
     ///
-    /// InactiveOperation: SHARED_OBJECT is not acknowledged. InvalidParam: the name is not valid. InvalidMessage: no handle
+    /// InactiveOperation: SHARED_OBJECT is not accepted. InvalidParam: the name is not valid. InvalidMessage: no descriptor
     /// came. IncorrectFds: several did.
     pub fn get_shared_object(&mut self, name: &VhostUserSharedMsg) -> Result<L::Handle>
         ensures { Whole L.event (call.GetSharedObject name.now) call.HandleOf self.old.inner result self.new.inner }
@@ -25,7 +25,7 @@ impl<L: Link> Quiet<L> {
 
     /// The regions of shared memory.
     ///
-    /// InactiveOperation: SHMEM is not acknowledged.
+    /// InactiveOperation: SHMEM is not accepted.
     pub fn get_shmem_config(&mut self) -> Result<VhostUserShMemConfig>
         ensures { Whole L.event call.GetShmemConfig call.ShmemOf self.old.inner result self.new.inner }
     {
@@ -35,9 +35,9 @@ impl<L: Link> Quiet<L> {
         }
     }
 
-    /// Gives the channel on which the device may ask.
+    /// Gives the backend channel, on which the backend may send requests.
     ///
-    /// InactiveOperation: BACKEND_REQ is not acknowledged.
+    /// InactiveOperation: BACKEND_REQ is not accepted.
     pub fn set_backend_request_fd(&mut self, handle: &L::Handle) -> Result<()>
         ensures { Whole L.event (call.SetBackendRequestFd handle.now) (λ _. call.Nothing) self.old.inner result self.new.inner }
     {

@@ -27,7 +27,7 @@ impl<L: Link> Quiet<L> {
 
     /// Resets the device.
     ///
-    /// InactiveOperation: RESET_DEVICE is not acknowledged.
+    /// InactiveOperation: RESET_DEVICE is not accepted.
     pub fn reset_device(&mut self) -> Result<()>
         ensures { Whole L.event call.ResetDevice (λ _. call.Nothing) self.old.inner result self.new.inner }
     {

@@ -10,9 +10,9 @@ use vhost_message::{FrontendReq, Result};
 impl<L: Link> Quiet<L> {
     ghost use Rattle.vhost_frontend.specs.Whole.{Whole};
 
-    /// Tells that postcopy is going to begin. The answer is the handle of page faults.
+    /// Announces that postcopy is going to begin. The answer is the userfaultfd.
     ///
-    /// InactiveOperation: PAGEFAULT is not acknowledged. InvalidMessage: no handle came. IncorrectFds: several did.
+    /// InactiveOperation: PAGEFAULT is not accepted. InvalidMessage: no descriptor came. IncorrectFds: several did.
     pub fn postcopy_advise(&mut self) -> Result<L::Handle>
         ensures { Whole L.event call.PostcopyAdvise call.HandleOf self.old.inner result self.new.inner }
     {
@@ -22,9 +22,9 @@ impl<L: Link> Quiet<L> {
         }
     }
 
-    /// Tells the device to listen for page faults, as it does from now on.
+    /// Asks the backend to listen for page faults, as it does from now on.
     ///
-    /// InactiveOperation: PAGEFAULT is not acknowledged.
+    /// InactiveOperation: PAGEFAULT is not accepted.
     pub fn postcopy_listen(&mut self) -> Result<()>
         ensures { Whole L.event call.PostcopyListen (λ _. call.Nothing) self.old.inner result self.new.inner }
     {
@@ -34,9 +34,9 @@ impl<L: Link> Quiet<L> {
         }
     }
 
-    /// Tells that postcopy has ended, as it has from now on.
+    /// Announces that postcopy has ended, as it has from now on.
     ///
-    /// InactiveOperation: PAGEFAULT is not acknowledged.
+    /// InactiveOperation: PAGEFAULT is not accepted.
     pub fn postcopy_end(&mut self) -> Result<()>
         ensures { Whole L.event call.PostcopyEnd (λ _. call.Nothing) self.old.inner result self.new.inner }
     {
@@ -46,7 +46,8 @@ impl<L: Link> Quiet<L> {
         }
     }
 
-    /// Acknowledges that the regions are mapped which this request brought: SET_MEM_TABLE or ADD_MEM_REG. Nothing is awaited.
+    /// Acknowledges that the regions are mapped which this request brought: SET_MEM_TABLE or ADD_MEM_REG. Nothing is
+    /// awaited.
     ///
     /// InvalidParam: it is another request.
     pub fn postcopy_ack_mem_regions(&mut self, code: FrontendReq) -> Result<()>

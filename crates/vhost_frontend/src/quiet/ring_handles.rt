@@ -1,4 +1,4 @@
-//! The handles of rings.
+//! The file descriptors of rings: call, kick and error.
 
 ghost use Rattle.std.specs.Prelude.{Some};
 ghost use Rattle.vhost_protocol.specs.FrontendCall as call;
@@ -11,9 +11,9 @@ use vhost_message::Result;
 impl<L: Link> Quiet<L> {
     ghost use Rattle.vhost_frontend.specs.Whole.{Whole};
 
-    /// Gives the handle by which the device tells that it used descriptors.
+    /// Gives the call descriptor, by which the backend signals used buffers.
     ///
-    /// InvalidParam: the device has no queue of this index, or the index is greater than 255.
+    /// InvalidParam: the backend has no queue of this index, or the index is greater than 255.
     pub fn set_vring_call(&mut self, index: usize, handle: &L::Handle) -> Result<()>
         ensures { Whole L.event (call.SetVringCall index (Some handle.now)) (λ _. call.Nothing) self.old.inner result self.new.inner }
     {
@@ -21,9 +21,9 @@ impl<L: Link> Quiet<L> {
         acknowledged(&mut self.inner, asked)
     }
 
-    /// Gives the handle by which the driver tells that it added descriptors.
+    /// Gives the kick descriptor, by which the driver signals available buffers.
     ///
-    /// InvalidParam: the device has no queue of this index, or the index is greater than 255.
+    /// InvalidParam: the backend has no queue of this index, or the index is greater than 255.
     pub fn set_vring_kick(&mut self, index: usize, handle: &L::Handle) -> Result<()>
         ensures { Whole L.event (call.SetVringKick index (Some handle.now)) (λ _. call.Nothing) self.old.inner result self.new.inner }
     {
@@ -31,9 +31,9 @@ impl<L: Link> Quiet<L> {
         acknowledged(&mut self.inner, asked)
     }
 
-    /// Gives the handle by which the device tells of an error.
+    /// Gives the error descriptor, by which the backend signals an error.
     ///
-    /// InvalidParam: the device has no queue of this index, or the index is greater than 255.
+    /// InvalidParam: the backend has no queue of this index, or the index is greater than 255.
     pub fn set_vring_err(&mut self, index: usize, handle: &L::Handle) -> Result<()>
         ensures { Whole L.event (call.SetVringErr index (Some handle.now)) (λ _. call.Nothing) self.old.inner result self.new.inner }
     {

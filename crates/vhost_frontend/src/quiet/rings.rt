@@ -1,4 +1,4 @@
-//! Numbers, places and switches of rings.
+//! The sizes, addresses and enable flags of rings.
 
 ghost use Rattle.vhost_protocol.specs.FrontendCall as call;
 
@@ -12,7 +12,7 @@ impl<L: Link> Quiet<L> {
 
     /// Sets a ring's size, in descriptors.
     ///
-    /// InvalidParam: the device has no queue of this index, or the index has more than 32 bits.
+    /// InvalidParam: the backend has no queue of this index, or the index has more than 32 bits.
     pub fn set_vring_num(&mut self, index: usize, num: u16) -> Result<()>
         ensures { Whole L.event (call.SetVringNum index num) (λ _. call.Nothing) self.old.inner result self.new.inner }
     {
@@ -20,9 +20,9 @@ impl<L: Link> Quiet<L> {
         acknowledged(&mut self.inner, asked)
     }
 
-    /// Sets a ring's next descriptor.
+    /// Sets a ring's next descriptor index.
     ///
-    /// InvalidParam: the device has no queue of this index, or the index has more than 32 bits.
+    /// InvalidParam: the backend has no queue of this index, or the index has more than 32 bits.
     pub fn set_vring_base(&mut self, index: usize, base: u16) -> Result<()>
         ensures { Whole L.event (call.SetVringBase index base) (λ _. call.Nothing) self.old.inner result self.new.inner }
     {
@@ -32,8 +32,8 @@ impl<L: Link> Quiet<L> {
 
     /// Says where a ring's parts lie.
     ///
-    /// InvalidParam: the device has no queue of this index, or the index has more than 32 bits. Or the
-    /// flags are neither 0 nor 1.
+    /// InvalidParam: the backend has no queue of this index, or the index has more than 32 bits. Or the flags are neither 0
+    /// nor 1.
     pub fn set_vring_addr(&mut self, index: usize, config_data: &VringConfigData) -> Result<()>
         ensures { Whole L.event (call.SetVringAddr index config_data.now) (λ _. call.Nothing) self.old.inner result self.new.inner }
     {
@@ -43,7 +43,7 @@ impl<L: Link> Quiet<L> {
 
     /// A ring's next descriptor; the ring stops.
     ///
-    /// InvalidParam: the device has no queue of this index, or the index has more than 32 bits.
+    /// InvalidParam: the backend has no queue of this index, or the index has more than 32 bits.
     pub fn get_vring_base(&mut self, index: usize) -> Result<u32>
         ensures { Whole L.event (call.GetVringBase index) call.Number self.old.inner result self.new.inner }
     {
@@ -53,10 +53,10 @@ impl<L: Link> Quiet<L> {
         }
     }
 
-    /// Switches a ring on or off.
+    /// Enables or disables a ring.
     ///
-    /// InactiveFeature: the protocol features are not acknowledged. InvalidParam: the device has no queue of this index, or the
-    /// index has more than 32 bits.
+    /// InactiveFeature: the protocol features are not accepted. InvalidParam: the backend has no queue of this index, or
+    /// the index has more than 32 bits.
     pub fn set_vring_enable(&mut self, index: usize, enable: bool) -> Result<()>
         ensures { Whole L.event (call.SetVringEnable index enable) (λ _. call.Nothing) self.old.inner result self.new.inner }
     {

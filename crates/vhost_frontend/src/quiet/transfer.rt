@@ -1,4 +1,4 @@
-//! The transfer of the device's state.
+//! The transfer of the backend's state.
 
 ghost use Rattle.vhost_protocol.specs.FrontendCall as call;
 ghost use Rattle.vhost_message.specs.Transfer.{direction_number, phase_number};
@@ -11,10 +11,10 @@ use vhost_message::{Result, VhostTransferStateDirection, VhostTransferStatePhase
 impl<L: Link> Quiet<L> {
     ghost use Rattle.vhost_frontend.specs.Whole.{Whole};
 
-    /// Begins a transfer over this handle. The answer is the handle that the device wants in its place, if any.
+    /// Begins a transfer over this descriptor. The answer is the descriptor that the backend wants in its place, if any.
     ///
-    /// InactiveOperation: DEVICE_STATE is not acknowledged. BackendInternalError: the device failed. IncorrectFds: several
-    /// handles came.
+    /// InactiveOperation: DEVICE_STATE is not accepted. BackendInternalError: the backend failed. IncorrectFds: several
+    /// descriptors came.
     pub fn set_device_state_fd(
         &mut self,
         direction: VhostTransferStateDirection,
@@ -29,9 +29,9 @@ impl<L: Link> Quiet<L> {
         }
     }
 
-    /// Tells whether the transfer succeeded.
+    /// Checks whether the transfer succeeded.
     ///
-    /// InactiveOperation: DEVICE_STATE is not acknowledged. BackendInternalError: it failed.
+    /// InactiveOperation: DEVICE_STATE is not accepted. BackendInternalError: it failed.
     pub fn check_device_state(&mut self) -> Result<()>
         ensures { Whole L.event call.CheckDeviceState (λ _. call.Nothing) self.old.inner result self.new.inner }
     {

@@ -23,7 +23,8 @@ impl<L: Link> FrontendInternal<L> {
 
     /// Changes the configuration space from this byte on.
     ///
-    /// InvalidParam: there is no byte, or they are more than fit, or lie beyond the space. InactiveOperation: CONFIG is not acknowledged.
+    /// InvalidParam: there is no byte, or they are more than fit, or lie beyond the space. InactiveOperation: CONFIG is not
+    /// accepted.
     pub fn ask_set_config(
         &mut self,
         offset: u32,
@@ -45,7 +46,7 @@ impl<L: Link> FrontendInternal<L> {
         self.send(request, &part, buffer, &[])
     }
 
-    /// Takes the acknowledgement, where there is one.
+    /// Receives the acknowledgement, where there is one.
     pub fn take_set_config(&mut self, sent: Sent) -> Result<()>
         requires { IsAwaited sent self.old }
         ensures taken { (offset flags : ℕ) (buffer : List ℕ) → TakesAck L.event (call.SetConfig offset flags buffer) sent self.old result self.new }

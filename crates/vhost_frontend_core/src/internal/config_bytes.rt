@@ -39,7 +39,7 @@ impl<L: Link> FrontendInternal<L> {
     /// Asks for `size` bytes of the configuration space from this byte on; as many as the buffer has, which is sent along.
     ///
     /// InvalidParam: there is no byte, the part lies beyond the space, or the buffer has more bytes than fit.
-    /// InactiveOperation: CONFIG is not acknowledged. OutOfMemory: a growth was refused, and nothing changed.
+    /// InactiveOperation: CONFIG is not accepted. OutOfMemory: an allocation failed, and nothing changed.
     pub fn ask_get_config(
         &mut self,
         offset: u32,
@@ -81,11 +81,11 @@ impl<L: Link> FrontendInternal<L> {
         }
     }
 
-    /// Takes the bytes: where they lie in the space, and as many as the buffer had.
+    /// Receives the bytes: where they lie in the space, and as many as the buffer had.
     ///
     /// InvalidParam: the buffer was empty, or the request was sent as a reply, so nothing was received.
-    /// BackendInternalError: the reply is bare, since the device has no such bytes. InvalidMessage: the reply is of another
-    /// part, or has a handle.
+    /// BackendInternalError: the reply is bare, since the backend has no such bytes. InvalidMessage: the reply is of
+    /// another part, or has a descriptor.
     pub fn take_get_config(&mut self, sent: Sent) -> Result<(VhostUserConfig, Vec<u8>)>
         requires { IsAwaited sent self.old }
         ensures taken { (offset size flags : ℕ) (buffer : List ℕ) → IsKeptFor {H = L.Handle} (call.GetConfig offset size flags buffer) (Reply shape.Config) sent.kept
@@ -118,7 +118,7 @@ impl<L: Link> FrontendInternal<L> {
 
     /// Receives the reply with configuration bytes, which fill the room, and answers which part they are.
     ///
-    /// InvalidMessage: it has another number of bytes, or a handle. BackendInternalError: it is bare.
+    /// InvalidMessage: it has another number of bytes, or a descriptor. BackendInternalError: it is bare.
     fn recv_config(&mut self, request: &Header, room: &mut [u8]) -> Result<VhostUserConfig>
         ensures same { self.new ≡ record self.old { endpoint = self.new.endpoint } }
         ensures received { RecvsConfig L.event (length room.old) (endpoint_of self.old) (fields_of request.now) result room.new (endpoint_of self.new) }

@@ -22,7 +22,7 @@ impl<L: Link> FrontendInternal<L> {
     ghost use Rattle.vhost_frontend_core.specs.Frontend.{awaits, MayAsk, IsAwaited};
     ghost use Rattle.vhost_frontend_core.specs.Halves.{AsksHalf, TakesHalf, TakesAck};
 
-    /// Asks for the virtio features that the device offers.
+    /// Asks for the virtio features that the backend offers.
     pub fn ask_get_features(&mut self) -> Result<Sent>
         requires { MayAsk self.old }
         ensures { AsksHalf L.event call.GetFeatures self.old result self.new }
@@ -30,7 +30,7 @@ impl<L: Link> FrontendInternal<L> {
         self.ask(RecordCall::GetFeatures)
     }
 
-    /// Takes the features, and remembers them as offered.
+    /// Receives the features, and remembers them as offered.
     pub fn take_get_features(&mut self, sent: Sent) -> Result<u64>
         requires { IsAwaited sent self.old }
         ensures taken { TakesHalf L.event call.GetFeatures call.Number (Reply shape.U64) sent self.old result self.new }
@@ -45,7 +45,7 @@ impl<L: Link> FrontendInternal<L> {
         }
     }
 
-    /// Acknowledges virtio features.
+    /// Accepts virtio features.
     pub fn ask_set_features(&mut self, features: u64) -> Result<Sent>
         requires { MayAsk self.old }
         ensures asked { AsksHalf L.event (call.SetFeatures features) self.old result self.new }
@@ -54,7 +54,7 @@ impl<L: Link> FrontendInternal<L> {
         self.ask(RecordCall::SetFeatures(features))
     }
 
-    /// Takes the acknowledgement, where there is one.
+    /// Receives the acknowledgement, where there is one.
     pub fn take_set_features(&mut self, sent: Sent) -> Result<()>
         requires { IsAwaited sent self.old }
         ensures taken { (features : ℕ) → TakesAck L.event (call.SetFeatures features) sent self.old result self.new }
@@ -63,7 +63,7 @@ impl<L: Link> FrontendInternal<L> {
         self.take_done(sent)
     }
 
-    /// Asks for the protocol features that the device offers.
+    /// Asks for the protocol features that the backend offers.
     ///
     /// InactiveFeature: it offers none.
     pub fn ask_get_protocol_features(&mut self) -> Result<Sent>
@@ -73,7 +73,7 @@ impl<L: Link> FrontendInternal<L> {
         self.ask(RecordCall::GetProtocolFeatures)
     }
 
-    /// Takes the features; bits without a meaning are dropped.
+    /// Receives the features; bits without a meaning are dropped.
     pub fn take_get_protocol_features(&mut self, sent: Sent) -> Result<VhostUserProtocolFeatures>
         requires { IsAwaited sent self.old }
         ensures taken { TakesHalf L.event call.GetProtocolFeatures (λ features. call.Number features.bits) (Reply shape.U64) sent self.old result self.new }
@@ -85,9 +85,9 @@ impl<L: Link> FrontendInternal<L> {
         }
     }
 
-    /// Chooses protocol features.
+    /// Accepts protocol features.
     ///
-    /// InactiveFeature: the device offers none.
+    /// InactiveFeature: the backend offers none.
     pub fn ask_set_protocol_features(&mut self, features: VhostUserProtocolFeatures) -> Result<Sent>
         requires { MayAsk self.old }
         ensures asked { AsksHalf L.event (call.SetProtocolFeatures features.bits) self.old result self.new }
@@ -96,7 +96,7 @@ impl<L: Link> FrontendInternal<L> {
         self.ask(RecordCall::SetProtocolFeatures(features))
     }
 
-    /// Takes the acknowledgement, where there is one.
+    /// Receives the acknowledgement, where there is one.
     pub fn take_set_protocol_features(&mut self, sent: Sent) -> Result<()>
         requires { IsAwaited sent self.old }
         ensures taken { (features : ℕ) → TakesAck L.event (call.SetProtocolFeatures features) sent self.old result self.new }
@@ -105,9 +105,9 @@ impl<L: Link> FrontendInternal<L> {
         self.take_done(sent)
     }
 
-    /// Asks how many queues the device has at most.
+    /// Asks how many queues the backend has at most.
     ///
-    /// InactiveOperation: MQ is not acknowledged.
+    /// InactiveOperation: MQ is not accepted.
     pub fn ask_get_queue_num(&mut self) -> Result<Sent>
         requires { MayAsk self.old }
         ensures { AsksHalf L.event call.GetQueueNum self.old result self.new }
@@ -115,7 +115,7 @@ impl<L: Link> FrontendInternal<L> {
         self.ask(RecordCall::GetQueueNum)
     }
 
-    /// Takes the number, and remembers it.
+    /// Receives the number, and remembers it.
     ///
     /// InvalidMessage: it is greater than 0x8000; the old number stays.
     pub fn take_get_queue_num(&mut self, sent: Sent) -> Result<u64>

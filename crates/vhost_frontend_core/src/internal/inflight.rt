@@ -1,4 +1,4 @@
-//! The buffer for descriptors in flight.
+//! The inflight region.
 
 ghost use Rattle.std.specs.Prelude.{◌≡◌};
 ghost use Rattle.vhost_protocol.specs.FrontendCall as call;
@@ -18,9 +18,9 @@ impl<L: Link> FrontendInternal<L> {
     ghost use Rattle.vhost_frontend_core.specs.Frontend.{awaits, MayAsk, IsAwaited};
     ghost use Rattle.vhost_frontend_core.specs.Halves.{AsksHalf, TakesHalf, TakesAck};
 
-    /// Asks for the buffer.
+    /// Asks for the inflight region.
     ///
-    /// InactiveOperation: INFLIGHT_SHMFD is not acknowledged.
+    /// InactiveOperation: INFLIGHT_SHMFD is not accepted.
     pub fn ask_get_inflight_fd(&mut self, inflight: &VhostUserInflight) -> Result<Sent>
         requires { MayAsk self.old }
         ensures { AsksHalf L.event (call.GetInflightFd inflight.now) self.old result self.new }
@@ -28,9 +28,9 @@ impl<L: Link> FrontendInternal<L> {
         self.ask(RecordCall::GetInflightFd(*inflight))
     }
 
-    /// Takes the buffer: where it lies, and its handle.
+    /// Receives the inflight region: where it lies, and its file descriptor.
     ///
-    /// InvalidMessage: no handle came. IncorrectFds: several did.
+    /// InvalidMessage: no file descriptor came. IncorrectFds: several did.
     pub fn take_get_inflight_fd(&mut self, sent: Sent) -> Result<(VhostUserInflight, L::Handle)>
         requires { IsAwaited sent self.old }
         ensures taken { (asked : VhostUserInflight) → TakesHalf L.event (call.GetInflightFd asked) (λ buffer. call.InflightOf buffer.0 buffer.1) (Reply shape.Inflight) sent self.old result self.new }
@@ -42,10 +42,10 @@ impl<L: Link> FrontendInternal<L> {
         }
     }
 
-    /// Gives the buffer.
+    /// Gives the inflight region.
     ///
-    /// InactiveOperation: INFLIGHT_SHMFD is not acknowledged. InvalidParam: the buffer's size, or one of the numbers of
-    /// queues and descriptors, is 0.
+    /// InactiveOperation: INFLIGHT_SHMFD is not accepted. InvalidParam: the region's size, the number of queues, or their
+    /// size is 0.
     pub fn ask_set_inflight_fd(
         &mut self,
         inflight: &VhostUserInflight,
@@ -57,7 +57,7 @@ impl<L: Link> FrontendInternal<L> {
         self.ask_with(HandleCall::SetInflightFd(*inflight), handle)
     }
 
-    /// Takes the acknowledgement, where there is one.
+    /// Receives the acknowledgement, where there is one.
     pub fn take_set_inflight_fd(&mut self, sent: Sent) -> Result<()>
         requires { IsAwaited sent self.old }
         ensures taken { (inflight : VhostUserInflight) (handle : L.Handle) → TakesAck L.event (call.SetInflightFd inflight handle) sent self.old result self.new }

@@ -21,7 +21,7 @@ impl<L: Link> FrontendInternal<L> {
 
     /// Says where the log lies: at this base, or in this region where shared memory is agreed on.
     ///
-    /// InvalidParam: the region has no handle.
+    /// InvalidParam: the region has no descriptor.
     pub fn ask_set_log_base(
         &mut self,
         base: u64,
@@ -46,9 +46,9 @@ impl<L: Link> FrontendInternal<L> {
         self.carry_out(plan, &[handle])
     }
 
-    /// Takes the reply, where there is one.
+    /// Receives the reply, where there is one.
     ///
-    /// InvalidMessage: the area in the reply is not valid.
+    /// InvalidMessage: the log region in the reply is not valid.
     pub fn take_set_log_base(&mut self, sent: Sent) -> Result<()>
         requires { IsAwaited sent self.old }
         ensures area { (base : ℕ) (region : Option (LogRegion L.Handle)) → sent.awaited ≡ Reply shape.Log
@@ -66,7 +66,7 @@ impl<L: Link> FrontendInternal<L> {
         }
     }
 
-    /// Gives the handle by which the device tells that it logged.
+    /// Gives the descriptor by which the backend signals that it logged.
     pub fn ask_set_log_fd(&mut self, handle: &L::Handle) -> Result<Sent>
         requires { MayAsk self.old }
         ensures { AsksHalf L.event (call.SetLogFd handle.now) self.old result self.new }
@@ -74,7 +74,7 @@ impl<L: Link> FrontendInternal<L> {
         self.ask_with(HandleCall::SetLogFd, handle)
     }
 
-    /// Takes the acknowledgement, where there is one.
+    /// Receives the acknowledgement, where there is one.
     pub fn take_set_log_fd(&mut self, sent: Sent) -> Result<()>
         requires { IsAwaited sent self.old }
         ensures taken { (handle : L.Handle) → TakesAck L.event (call.SetLogFd handle) sent self.old result self.new }

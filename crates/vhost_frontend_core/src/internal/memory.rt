@@ -29,9 +29,9 @@ impl<L: Link> FrontendInternal<L> {
     ghost use Rattle.vhost_frontend_core.specs.Taking.{IsAck};
     ghost use Rattle.vhost_frontend_core.specs.Halves.{AsksHalf, TakesHalf, TakesAck};
 
-    /// Asks how many regions the device can be given.
+    /// Asks how many regions the backend can be given.
     ///
-    /// InactiveOperation: CONFIGURE_MEM_SLOTS is not acknowledged.
+    /// InactiveOperation: CONFIGURE_MEM_SLOTS is not accepted.
     pub fn ask_get_max_mem_slots(&mut self) -> Result<Sent>
         requires { MayAsk self.old }
         ensures { AsksHalf L.event call.GetMaxMemSlots self.old result self.new }
@@ -39,7 +39,7 @@ impl<L: Link> FrontendInternal<L> {
         self.ask(RecordCall::GetMaxMemSlots)
     }
 
-    /// Takes the number.
+    /// Receives the number.
     pub fn take_get_max_mem_slots(&mut self, sent: Sent) -> Result<u64>
         requires { IsAwaited sent self.old }
         ensures taken { TakesHalf L.event call.GetMaxMemSlots call.Number (Reply shape.U64) sent self.old result self.new }
@@ -51,10 +51,10 @@ impl<L: Link> FrontendInternal<L> {
         }
     }
 
-    /// Gives the device a region.
+    /// Gives the backend a region.
     ///
-    /// InactiveOperation: CONFIGURE_MEM_SLOTS is not acknowledged. InvalidParam: the region's size is 0, or it has no
-    /// handle.
+    /// InactiveOperation: CONFIGURE_MEM_SLOTS is not accepted. InvalidParam: the region's size is 0, or it has no
+    /// descriptor.
     pub fn ask_add_mem_region(
         &mut self,
         region: &VhostUserMemoryRegionInfo<L::Handle>,
@@ -72,7 +72,7 @@ impl<L: Link> FrontendInternal<L> {
         }
     }
 
-    /// Gives the device a region, before it is kept.
+    /// Gives the backend a region, before it is kept.
     fn ask_region(&mut self, region: &VhostUserMemoryRegionInfo<L::Handle>) -> Result<Sent>
         ensures { AsksHalf L.event (call.AddMemRegion (info_in region.now)) self.old result self.new }
     {
@@ -82,7 +82,7 @@ impl<L: Link> FrontendInternal<L> {
         self.ask_with(HandleCall::AddMemRegion(region.to_region()), handle)
     }
 
-    /// Takes the acknowledgement, where there is one; or, while postcopy listens, where the region is mapped.
+    /// Receives the acknowledgement, where there is one; or, while postcopy listens, where the region is mapped.
     ///
     /// InvalidMessage: the reply is of another region.
     pub fn take_add_mem_region(&mut self, sent: Sent) -> Result<Option<u64>>
@@ -101,7 +101,7 @@ impl<L: Link> FrontendInternal<L> {
         }
     }
 
-    /// Takes where the region is mapped.
+    /// Receives where the region is mapped.
     fn take_mapped(&mut self, sent: Sent) -> Result<Option<u64>>
         ensures taken { (info : call.Info L.Handle) → sent.kept ≡ Region info.region → TakesHalf L.event (call.AddMemRegion info) call.Base (Reply shape.SingleMemoryRegion) sent self.old result self.new }
         ensures quiet { awaits self.new ≡ Nobody }
@@ -117,9 +117,9 @@ impl<L: Link> FrontendInternal<L> {
         }
     }
 
-    /// Takes a region from the device.
+    /// Removes a region from the backend.
     ///
-    /// InactiveOperation: CONFIGURE_MEM_SLOTS is not acknowledged. InvalidParam: the region's size is 0.
+    /// InactiveOperation: CONFIGURE_MEM_SLOTS is not accepted. InvalidParam: the region's size is 0.
     pub fn ask_remove_mem_region(
         &mut self,
         region: &VhostUserMemoryRegionInfo<L::Handle>,
@@ -130,7 +130,7 @@ impl<L: Link> FrontendInternal<L> {
         self.ask(RecordCall::RemoveMemRegion(region.to_region()))
     }
 
-    /// Takes the acknowledgement, where there is one.
+    /// Receives the acknowledgement, where there is one.
     pub fn take_remove_mem_region(&mut self, sent: Sent) -> Result<()>
         requires { IsAwaited sent self.old }
         ensures taken { (info : call.Info L.Handle) → TakesAck L.event (call.RemoveMemRegion info) sent self.old result self.new }

@@ -14,9 +14,9 @@ impl<L: Link> FrontendInternal<L> {
     ghost use Rattle.vhost_frontend_core.specs.Frontend.{awaits, MayAsk, IsAwaited};
     ghost use Rattle.vhost_frontend_core.specs.Halves.{AsksHalf, TakesAck};
 
-    /// Tells the greatest size of a packet, in bytes.
+    /// Sets the MTU, in bytes.
     ///
-    /// InactiveOperation: MTU is not acknowledged.
+    /// InactiveOperation: MTU is not accepted.
     pub fn ask_set_mtu(&mut self, mtu: u16) -> Result<Sent>
         requires { MayAsk self.old }
         ensures { AsksHalf L.event (call.SetMtu mtu) self.old result self.new }
@@ -24,7 +24,7 @@ impl<L: Link> FrontendInternal<L> {
         self.ask(RecordCall::SetMtu(mtu))
     }
 
-    /// Takes the acknowledgement, where there is one.
+    /// Receives the acknowledgement, where there is one.
     pub fn take_set_mtu(&mut self, sent: Sent) -> Result<()>
         requires { IsAwaited sent self.old }
         ensures taken { (mtu : ℕ) → TakesAck L.event (call.SetMtu mtu) sent self.old result self.new }

@@ -1,4 +1,4 @@
-//! Shared objects, shared memory and the reverse channel.
+//! Shared objects, shared memory and the backend channel.
 
 ghost use Rattle.std.specs.Prelude.{◌≡◌, [], Ok, IfOk};
 ghost use Rattle.vhost_protocol.specs.FrontendCall as call;
@@ -20,9 +20,9 @@ impl<L: Link> FrontendInternal<L> {
     ghost use Rattle.vhost_frontend_core.specs.Halves.{AsksHalf, AsksHalfWithRoom, TakesHalf, TakesAck};
     ghost use Rattle.vhost_frontend_core.specs.Kept.{KeepsPlace};
 
-    /// Asks for the handle of a shared object.
+    /// Asks for the descriptor of a shared object.
     ///
-    /// InactiveOperation: SHARED_OBJECT is not acknowledged. InvalidParam: the name is not valid.
+    /// InactiveOperation: SHARED_OBJECT is not accepted. InvalidParam: the name is not valid.
     pub fn ask_get_shared_object(&mut self, name: &VhostUserSharedMsg) -> Result<Sent>
         requires { MayAsk self.old }
         ensures { AsksHalf L.event (call.GetSharedObject name.now) self.old result self.new }
@@ -30,7 +30,7 @@ impl<L: Link> FrontendInternal<L> {
         self.ask(RecordCall::GetSharedObject(*name))
     }
 
-    /// Takes the handle.
+    /// Receives the descriptor.
     ///
     /// InvalidMessage: none came. IncorrectFds: several did.
     pub fn take_get_shared_object(&mut self, sent: Sent) -> Result<L::Handle>
@@ -46,7 +46,7 @@ impl<L: Link> FrontendInternal<L> {
 
     /// Asks for the regions of shared memory.
     ///
-    /// InactiveOperation: SHMEM is not acknowledged.
+    /// InactiveOperation: SHMEM is not accepted.
     pub fn ask_get_shmem_config(&mut self) -> Result<Sent>
         requires { MayAsk self.old }
         ensures { AsksHalf L.event call.GetShmemConfig self.old result self.new }
@@ -54,7 +54,7 @@ impl<L: Link> FrontendInternal<L> {
         self.ask(RecordCall::GetShmemConfig)
     }
 
-    /// Takes the regions.
+    /// Receives the regions.
     pub fn take_get_shmem_config(&mut self, sent: Sent) -> Result<VhostUserShMemConfig>
         requires { IsAwaited sent self.old }
         ensures taken { TakesHalf L.event call.GetShmemConfig call.ShmemOf (Reply shape.ShMemConfig) sent self.old result self.new }
@@ -66,9 +66,9 @@ impl<L: Link> FrontendInternal<L> {
         }
     }
 
-    /// Asks for the regions of shared memory, with a place made that they can be taken to.
+    /// Asks for the regions of shared memory, with a place made in which they can be received.
     ///
-    /// InactiveOperation: SHMEM is not acknowledged. OutOfMemory: a growth was refused, and nothing changed.
+    /// InactiveOperation: SHMEM is not accepted. OutOfMemory: an allocation failed, and nothing changed.
     #[inline(never)]
     pub fn ask_get_shmem_config_with_place(&mut self) -> Result<Sent>
         requires { MayAsk self.old }
@@ -99,7 +99,7 @@ impl<L: Link> FrontendInternal<L> {
         }
     }
 
-    /// Takes the regions to the place that was made for them.
+    /// Receives the regions in the place that was made for them.
     #[inline(never)]
     pub fn take_get_shmem_config_to_place(
         &mut self,
@@ -127,9 +127,9 @@ impl<L: Link> FrontendInternal<L> {
         }
     }
 
-    /// Gives the channel on which the device may ask.
+    /// Gives the backend channel, on which the backend may send requests.
     ///
-    /// InactiveOperation: BACKEND_REQ is not acknowledged.
+    /// InactiveOperation: BACKEND_REQ is not accepted.
     pub fn ask_set_backend_request_fd(&mut self, handle: &L::Handle) -> Result<Sent>
         requires { MayAsk self.old }
         ensures { AsksHalf L.event (call.SetBackendRequestFd handle.now) self.old result self.new }
@@ -137,7 +137,7 @@ impl<L: Link> FrontendInternal<L> {
         self.ask_with(HandleCall::SetBackendRequestFd, handle)
     }
 
-    /// Takes the acknowledgement, where there is one.
+    /// Receives the acknowledgement, where there is one.
     pub fn take_set_backend_request_fd(&mut self, sent: Sent) -> Result<()>
         requires { IsAwaited sent self.old }
         ensures taken { (handle : L.Handle) → TakesAck L.event (call.SetBackendRequestFd handle) sent self.old result self.new }

@@ -22,7 +22,7 @@ impl<L: Link> FrontendInternal<L> {
         self.ask(RecordCall::SetOwner)
     }
 
-    /// Takes the acknowledgement, where there is one.
+    /// Receives the acknowledgement, where there is one.
     pub fn take_set_owner(&mut self, sent: Sent) -> Result<()>
         requires { IsAwaited sent self.old }
         ensures taken { TakesAck L.event call.SetOwner sent self.old result self.new }
@@ -39,7 +39,7 @@ impl<L: Link> FrontendInternal<L> {
         self.ask(RecordCall::ResetOwner)
     }
 
-    /// Takes the acknowledgement, where there is one.
+    /// Receives the acknowledgement, where there is one.
     pub fn take_reset_owner(&mut self, sent: Sent) -> Result<()>
         requires { IsAwaited sent self.old }
         ensures taken { TakesAck L.event call.ResetOwner sent self.old result self.new }
@@ -50,7 +50,7 @@ impl<L: Link> FrontendInternal<L> {
 
     /// Asks for the device to be reset.
     ///
-    /// InactiveOperation: RESET_DEVICE is not acknowledged.
+    /// InactiveOperation: RESET_DEVICE is not accepted.
     pub fn ask_reset_device(&mut self) -> Result<Sent>
         requires { MayAsk self.old }
         ensures { AsksHalf L.event call.ResetDevice self.old result self.new }
@@ -58,7 +58,7 @@ impl<L: Link> FrontendInternal<L> {
         self.ask(RecordCall::ResetDevice)
     }
 
-    /// Takes the acknowledgement, where there is one.
+    /// Receives the acknowledgement, where there is one.
     pub fn take_reset_device(&mut self, sent: Sent) -> Result<()>
         requires { IsAwaited sent self.old }
         ensures taken { TakesAck L.event call.ResetDevice sent self.old result self.new }

@@ -21,7 +21,7 @@ use vhost_message::{
 };
 use vhost_protocol::{Awaited, Shape};
 
-/// A call whose message is a header and at most one record, without a handle.
+/// A call whose message is a header and at most one record, without a file descriptor.
 #[derive(Clone, Copy)]
 pub enum RecordCall {
     GetFeatures,
@@ -38,7 +38,7 @@ pub enum RecordCall {
     SetVringBase(usize, u16),
     SetVringAddr(usize, VringConfigData),
     GetVringBase(usize),
-    /// Of a ring that has no handle.
+    /// Of a ring that has no file descriptor.
     SetVringCall(usize),
     SetVringKick(usize),
     SetVringErr(usize),
@@ -46,7 +46,7 @@ pub enum RecordCall {
     GetSharedObject(VhostUserSharedMsg),
     GetInflightFd(VhostUserInflight),
     GetMaxMemSlots,
-    /// Of a region that has no handle.
+    /// Of a region that has no descriptor.
     AddMemRegion(VhostUserMemoryRegion),
     RemoveMemRegion(VhostUserMemoryRegion),
     GetShmemConfig,
@@ -58,7 +58,7 @@ pub enum RecordCall {
     SetMtu(u16),
 }
 
-/// The same with one handle.
+/// The same with one file descriptor.
 #[derive(Clone, Copy)]
 pub enum HandleCall {
     SetLogFd,
@@ -85,7 +85,7 @@ pub enum Record {
     DeviceState(VhostUserTransferDeviceState),
 }
 
-/// What goes out beside handles, what is awaited of it, and the session from then on.
+/// What goes out beside file descriptors, what is awaited of it, and the session from then on.
 #[derive(Clone, Copy)]
 pub struct Plan {
     pub request: FrontendReq,
@@ -149,7 +149,7 @@ impl<L: Link> FrontendInternal<L> {
     ghost use Rattle.vhost_frontend_core.specs.Plan.{call_in, call_with};
     ghost use Rattle.vhost_frontend_core.specs.declared.internal.plan.RecordCall.TheVariants as record_call;
 
-    /// What a call without a handle becomes.
+    /// What a call without a descriptor becomes.
     pub(crate) fn planned(&self, call: RecordCall) -> Result<Plan>
         ensures becomes { planned_as {H = L.Handle} [] result ≡ ask.ask (session_of self.now) (call_in call) }
         ensures fits { IfOk result (λ _. Fits {H = L.Handle} (call_in call)) }
@@ -324,7 +324,7 @@ impl<L: Link> FrontendInternal<L> {
         ))
     }
 
-    /// Whether a ring is on.
+    /// Whether a ring is enabled.
     fn sends_ring_enable(&self, index: usize, enable: bool) -> Result<Plan>
         ensures { planned_as {H = L.Handle} [] result ≡ ask.ask (session_of self.now) (calls.SetVringEnable index enable) }
     {
@@ -333,7 +333,7 @@ impl<L: Link> FrontendInternal<L> {
         self.sends_ring(FrontendReq::SET_VRING_ENABLE, index, enable.into())
     }
 
-    /// The protocol feature of this bit is acknowledged, and the test of an argument holds.
+    /// The protocol feature of this bit is accepted, and the test of an argument holds.
     fn allows(&self, bit: u32, holds: bool) -> Result<()>
         requires { bit < 64 }
         ensures { (rest : Asked L.Handle) → tested result and_then rest ≡ ask.frontend_feature (session_of self.now) bit and_then (ask.param holds and_then rest) }
@@ -343,7 +343,7 @@ impl<L: Link> FrontendInternal<L> {
         param(holds)
     }
 
-    /// A region to add that has no handle.
+    /// A region to add that has no descriptor.
     fn bare_region(&self, region: VhostUserMemoryRegion) -> Result<Plan>
         ensures { planned_as {H = L.Handle} [] result ≡ ask.ask (session_of self.now) (call_in (record_call.AddMemRegion region)) }
     {
@@ -353,7 +353,7 @@ impl<L: Link> FrontendInternal<L> {
         }
     }
 
-    /// What a call with a handle becomes.
+    /// What a call with a descriptor becomes.
     pub(crate) fn planned_with(&self, call: HandleCall) -> Result<Plan>
         ensures { (h : L.Handle) → planned_as (h ∷ []) result ≡ ask.ask (session_of self.now) (call_with call h) }
     {
@@ -389,7 +389,7 @@ impl<L: Link> FrontendInternal<L> {
         }
     }
 
-    /// A handle for a ring.
+    /// A file descriptor for a ring.
     fn sends_ring_handle(&self, request: FrontendReq, index: usize) -> Result<Plan>
         ensures { (handles : List L.Handle) → planned_as handles result ≡ ask.small_index (session_of self.now) index and_then ask.sends (session_of self.now) request (payload.U64 index) handles }
     {
@@ -398,7 +398,7 @@ impl<L: Link> FrontendInternal<L> {
         Ok(Plan::sends(session, request, Record::U64(index)))
     }
 
-    /// A ring without a handle: bit 8 of its number says so.
+    /// A ring without a file descriptor: bit 8 of its number says so.
     fn sends_bare_ring(&self, request: FrontendReq, index: usize) -> Result<Plan>
         ensures { planned_as {H = L.Handle} [] result ≡ ask.small_index (session_of self.now) index and_then ask.sends (session_of self.now) request (payload.U64 (index + 256)) [] }
     {
@@ -436,7 +436,7 @@ fn is_mapping(code: FrontendReq) -> bool
     matches!(code, FrontendReq::SET_MEM_TABLE | FrontendReq::ADD_MEM_REG)
 }
 
-/// Whether an area for descriptors in flight is not empty.
+/// Whether an inflight region is not empty.
 fn is_area(area: &VhostUserInflight) -> bool
     ensures { result ≡ (not (area.now.mmap_size == 0) && not (area.now.num_queues == 0) && not (area.now.queue_size == 0)) }
 {

@@ -18,9 +18,9 @@ impl<L: Link> FrontendInternal<L> {
     ghost use Rattle.vhost_frontend_core.specs.Frontend.{awaits, MayAsk, IsAwaited};
     ghost use Rattle.vhost_frontend_core.specs.Halves.{AsksHalf, TakesHalf, TakesAck};
 
-    /// Tells that postcopy is going to begin, and asks for the handle of page faults.
+    /// Announces that postcopy is going to begin, and asks for the userfaultfd.
     ///
-    /// InactiveOperation: PAGEFAULT is not acknowledged.
+    /// InactiveOperation: PAGEFAULT is not accepted.
     pub fn ask_postcopy_advise(&mut self) -> Result<Sent>
         requires { MayAsk self.old }
         ensures { AsksHalf L.event call.PostcopyAdvise self.old result self.new }
@@ -28,7 +28,7 @@ impl<L: Link> FrontendInternal<L> {
         self.ask(RecordCall::PostcopyAdvise)
     }
 
-    /// Takes the handle; postcopy is advised from now on.
+    /// Receives the userfaultfd; postcopy is advised from now on.
     ///
     /// InvalidMessage: none came. IncorrectFds: several did.
     pub fn take_postcopy_advise(&mut self, sent: Sent) -> Result<L::Handle>
@@ -45,9 +45,9 @@ impl<L: Link> FrontendInternal<L> {
         }
     }
 
-    /// Tells the device to listen for page faults.
+    /// Asks the backend to listen for page faults.
     ///
-    /// InactiveOperation: PAGEFAULT is not acknowledged.
+    /// InactiveOperation: PAGEFAULT is not accepted.
     pub fn ask_postcopy_listen(&mut self) -> Result<Sent>
         requires { MayAsk self.old }
         ensures { AsksHalf L.event call.PostcopyListen self.old result self.new }
@@ -55,7 +55,7 @@ impl<L: Link> FrontendInternal<L> {
         self.ask(RecordCall::PostcopyListen)
     }
 
-    /// Takes the acknowledgement, where there is one. The device listens from now on.
+    /// Receives the acknowledgement, where there is one. The backend listens from now on.
     pub fn take_postcopy_listen(&mut self, sent: Sent) -> Result<()>
         requires { IsAwaited sent self.old }
         ensures taken { TakesAck L.event call.PostcopyListen sent self.old result self.new }
@@ -70,9 +70,9 @@ impl<L: Link> FrontendInternal<L> {
         }
     }
 
-    /// Tells that postcopy has ended.
+    /// Announces that postcopy has ended.
     ///
-    /// InactiveOperation: PAGEFAULT is not acknowledged.
+    /// InactiveOperation: PAGEFAULT is not accepted.
     pub fn ask_postcopy_end(&mut self) -> Result<Sent>
         requires { MayAsk self.old }
         ensures { AsksHalf L.event call.PostcopyEnd self.old result self.new }
@@ -80,7 +80,7 @@ impl<L: Link> FrontendInternal<L> {
         self.ask(RecordCall::PostcopyEnd)
     }
 
-    /// Takes the acknowledgement, where there is one. Postcopy has ended from now on.
+    /// Receives the acknowledgement, where there is one. Postcopy has ended from now on.
     pub fn take_postcopy_end(&mut self, sent: Sent) -> Result<()>
         requires { IsAwaited sent self.old }
         ensures taken { TakesAck L.event call.PostcopyEnd sent self.old result self.new }
@@ -106,7 +106,7 @@ impl<L: Link> FrontendInternal<L> {
         self.ask(RecordCall::PostcopyAckMemRegions(code))
     }
 
-    /// Nothing is to be taken.
+    /// Nothing is to be received.
     pub fn take_postcopy_ack_mem_regions(&mut self, sent: Sent) -> Result<()>
         requires { IsAwaited sent self.old }
         ensures taken { (code : FrontendReq) → sent.awaited ≡ Nobody → TakesHalf L.event (call.PostcopyAckMemRegions code) (λ _. call.Nothing) Nobody sent self.old result self.new }

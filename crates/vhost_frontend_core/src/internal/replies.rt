@@ -1,4 +1,4 @@
-//! What all halves that take have in common: an acknowledgement or a reply comes.
+//! What all halves that receive have in common: an acknowledgement or a reply comes.
 
 ghost use Rattle.std.specs.Prelude.{◌≡◌, ◌≤◌, List};
 ghost use Rattle.vhost_message.specs.declared.limits.TheConstants.{MAX_MSG_SIZE};
@@ -20,7 +20,7 @@ impl<L: Link> FrontendInternal<L> {
     ghost use Rattle.vhost_frontend_core.specs.Halves.{TakesAck};
     ghost use Rattle.vhost_frontend_core.specs.Taking.{Recvs, Awaits, AwaitsAlone, AwaitsOne, RecvsAck, Acks};
 
-    /// Receives the reply for a request: a record, and the handles.
+    /// Receives the reply for a request: a record, and the descriptors.
     fn recv_record<T: VhostUserMsgValidator + Drop>(
         &mut self,
         request: &Header,
@@ -35,10 +35,10 @@ impl<L: Link> FrontendInternal<L> {
         }
     }
 
-    /// Takes an acknowledgement where one is awaited: 0 is success.
+    /// Receives an acknowledgement where one is awaited: 0 is success.
     ///
-    /// BackendInternalError: another number. InvalidMessage: what came has handles, is not valid, or does not acknowledge
-    /// the request. PartialMessage: the stream ended.
+    /// BackendInternalError: another number. InvalidMessage: what came has descriptors, is not valid, or does not
+    /// acknowledge the request. PartialMessage: the stream ended.
     pub(crate) fn take_ack(&mut self, sent: Sent) -> Result<()>
         ensures session { session_of self.new ≡ session_of self.old }
         ensures quiet { awaits self.new ≡ Nobody }
@@ -53,7 +53,7 @@ impl<L: Link> FrontendInternal<L> {
         }
     }
 
-    /// Takes what is awaited of any call that is only acknowledged and leaves the session as it is.
+    /// Receives what is awaited of any call that is only acknowledged and leaves the session as it is.
     ///
     /// Errors are those of an acknowledgement.
     pub fn take_done(&mut self, sent: Sent) -> Result<()>
@@ -79,7 +79,7 @@ impl<L: Link> FrontendInternal<L> {
         Ok(())
     }
 
-    /// Takes a reply: a record, and the handles.
+    /// Receives a reply: a record, and the descriptors.
     ///
     /// InvalidParam: the request was sent as a reply, so there is none.
     pub(crate) fn take_reply<T: VhostUserMsgValidator + Drop>(
@@ -98,7 +98,7 @@ impl<L: Link> FrontendInternal<L> {
         self.recv_record(&sent.request)
     }
 
-    /// Takes a reply that has no handle.
+    /// Receives a reply that has no descriptor.
     pub(crate) fn take_plain_reply<T: VhostUserMsgValidator + Drop>(
         &mut self,
         sent: Sent,
@@ -115,7 +115,7 @@ impl<L: Link> FrontendInternal<L> {
         Ok(body)
     }
 
-    /// Takes a reply that has one handle.
+    /// Receives a reply that has one descriptor.
     ///
     /// InvalidMessage: it has none. IncorrectFds: it has several.
     pub(crate) fn take_reply_with_handle<T: VhostUserMsgValidator + Drop>(
@@ -133,7 +133,7 @@ impl<L: Link> FrontendInternal<L> {
     }
 }
 
-/// The one handle that came. InvalidMessage: none came. IncorrectFds: several did.
+/// The one descriptor that came. InvalidMessage: none came. IncorrectFds: several did.
 pub(crate) fn one_of<H: Drop>(handles: Option<Vec<H>>) -> Result<H>
     ensures { (hs : List H) → HandsOver handles hs → with_one hs (λ h. h) ≡ seen_result result }
 {

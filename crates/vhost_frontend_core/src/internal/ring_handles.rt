@@ -1,4 +1,4 @@
-//! The handles of rings.
+//! The file descriptors of rings: call, kick and error.
 
 ghost use Rattle.std.specs.Prelude.{◌≡◌, ℕ, Option, Some, None};
 ghost use Rattle.vhost_protocol.specs.FrontendCall as call;
@@ -14,9 +14,9 @@ impl<L: Link> FrontendInternal<L> {
     ghost use Rattle.vhost_frontend_core.specs.Frontend.{awaits, MayAsk, IsAwaited};
     ghost use Rattle.vhost_frontend_core.specs.Halves.{AsksHalf, TakesAck};
 
-    /// Gives the handle by which the device tells that it used descriptors.
+    /// Gives the call descriptor, by which the backend signals used buffers.
     ///
-    /// InvalidParam: the device has no queue of this index, or the index is greater than 255.
+    /// InvalidParam: the backend has no queue of this index, or the index is greater than 255.
     pub fn ask_set_vring_call(&mut self, index: usize, handle: &L::Handle) -> Result<Sent>
         requires { MayAsk self.old }
         ensures { AsksHalf L.event (call.SetVringCall index (Some handle.now)) self.old result self.new }
@@ -24,9 +24,9 @@ impl<L: Link> FrontendInternal<L> {
         self.ask_with(HandleCall::SetVringCall(index), handle)
     }
 
-    /// The same of a ring that has no handle by which the device tells that it used descriptors.
+    /// The same of a ring that has no call descriptor.
     ///
-    /// InvalidParam: the device has no queue of this index, or the index is greater than 255.
+    /// InvalidParam: the backend has no queue of this index, or the index is greater than 255.
     pub fn ask_set_vring_call_bare(&mut self, index: usize) -> Result<Sent>
         requires { MayAsk self.old }
         ensures { AsksHalf L.event (call.SetVringCall index None) self.old result self.new }
@@ -34,7 +34,7 @@ impl<L: Link> FrontendInternal<L> {
         self.ask(RecordCall::SetVringCall(index))
     }
 
-    /// Takes the acknowledgement, where there is one.
+    /// Receives the acknowledgement, where there is one.
     pub fn take_set_vring_call(&mut self, sent: Sent) -> Result<()>
         requires { IsAwaited sent self.old }
         ensures taken { (index : ℕ) (handle : Option L.Handle) → TakesAck L.event (call.SetVringCall index handle) sent self.old result self.new }
@@ -43,9 +43,9 @@ impl<L: Link> FrontendInternal<L> {
         self.take_done(sent)
     }
 
-    /// Gives the handle by which the driver tells that it added descriptors.
+    /// Gives the kick descriptor, by which the driver signals available buffers.
     ///
-    /// InvalidParam: the device has no queue of this index, or the index is greater than 255.
+    /// InvalidParam: the backend has no queue of this index, or the index is greater than 255.
     pub fn ask_set_vring_kick(&mut self, index: usize, handle: &L::Handle) -> Result<Sent>
         requires { MayAsk self.old }
         ensures { AsksHalf L.event (call.SetVringKick index (Some handle.now)) self.old result self.new }
@@ -53,9 +53,9 @@ impl<L: Link> FrontendInternal<L> {
         self.ask_with(HandleCall::SetVringKick(index), handle)
     }
 
-    /// The same of a ring that has no handle by which the driver tells that it added descriptors.
+    /// The same of a ring that has no kick descriptor.
     ///
-    /// InvalidParam: the device has no queue of this index, or the index is greater than 255.
+    /// InvalidParam: the backend has no queue of this index, or the index is greater than 255.
     pub fn ask_set_vring_kick_bare(&mut self, index: usize) -> Result<Sent>
         requires { MayAsk self.old }
         ensures { AsksHalf L.event (call.SetVringKick index None) self.old result self.new }
@@ -63,7 +63,7 @@ impl<L: Link> FrontendInternal<L> {
         self.ask(RecordCall::SetVringKick(index))
     }
 
-    /// Takes the acknowledgement, where there is one.
+    /// Receives the acknowledgement, where there is one.
     pub fn take_set_vring_kick(&mut self, sent: Sent) -> Result<()>
         requires { IsAwaited sent self.old }
         ensures taken { (index : ℕ) (handle : Option L.Handle) → TakesAck L.event (call.SetVringKick index handle) sent self.old result self.new }
@@ -72,9 +72,9 @@ impl<L: Link> FrontendInternal<L> {
         self.take_done(sent)
     }
 
-    /// Gives the handle by which the device tells of an error.
+    /// Gives the error descriptor, by which the backend signals an error.
     ///
-    /// InvalidParam: the device has no queue of this index, or the index is greater than 255.
+    /// InvalidParam: the backend has no queue of this index, or the index is greater than 255.
     pub fn ask_set_vring_err(&mut self, index: usize, handle: &L::Handle) -> Result<Sent>
         requires { MayAsk self.old }
         ensures { AsksHalf L.event (call.SetVringErr index (Some handle.now)) self.old result self.new }
@@ -82,9 +82,9 @@ impl<L: Link> FrontendInternal<L> {
         self.ask_with(HandleCall::SetVringErr(index), handle)
     }
 
-    /// The same of a ring that has no handle by which the device tells of an error.
+    /// The same of a ring that has no error descriptor.
     ///
-    /// InvalidParam: the device has no queue of this index, or the index is greater than 255.
+    /// InvalidParam: the backend has no queue of this index, or the index is greater than 255.
     pub fn ask_set_vring_err_bare(&mut self, index: usize) -> Result<Sent>
         requires { MayAsk self.old }
         ensures { AsksHalf L.event (call.SetVringErr index None) self.old result self.new }
@@ -92,7 +92,7 @@ impl<L: Link> FrontendInternal<L> {
         self.ask(RecordCall::SetVringErr(index))
     }
 
-    /// Takes the acknowledgement, where there is one.
+    /// Receives the acknowledgement, where there is one.
     pub fn take_set_vring_err(&mut self, sent: Sent) -> Result<()>
         requires { IsAwaited sent self.old }
         ensures taken { (index : ℕ) (handle : Option L.Handle) → TakesAck L.event (call.SetVringErr index handle) sent self.old result self.new }

@@ -1,4 +1,4 @@
-//! Numbers, places and switches of rings.
+//! The sizes, addresses and enable flags of rings.
 
 ghost use Rattle.std.specs.Prelude.{◌≡◌, ℕ, Bool};
 ghost use Rattle.vhost_protocol.specs.FrontendCall as call;
@@ -19,7 +19,7 @@ impl<L: Link> FrontendInternal<L> {
 
     /// Sets a ring's size, in descriptors.
     ///
-    /// InvalidParam: the device has no queue of this index, or the index has more than 32 bits.
+    /// InvalidParam: the backend has no queue of this index, or the index has more than 32 bits.
     pub fn ask_set_vring_num(&mut self, index: usize, num: u16) -> Result<Sent>
         requires { MayAsk self.old }
         ensures { AsksHalf L.event (call.SetVringNum index num) self.old result self.new }
@@ -27,7 +27,7 @@ impl<L: Link> FrontendInternal<L> {
         self.ask(RecordCall::SetVringNum(index, num))
     }
 
-    /// Takes the acknowledgement, where there is one.
+    /// Receives the acknowledgement, where there is one.
     pub fn take_set_vring_num(&mut self, sent: Sent) -> Result<()>
         requires { IsAwaited sent self.old }
         ensures taken { (index num : ℕ) → TakesAck L.event (call.SetVringNum index num) sent self.old result self.new }
@@ -36,9 +36,9 @@ impl<L: Link> FrontendInternal<L> {
         self.take_done(sent)
     }
 
-    /// Sets a ring's next descriptor.
+    /// Sets a ring's next descriptor index.
     ///
-    /// InvalidParam: the device has no queue of this index, or the index has more than 32 bits.
+    /// InvalidParam: the backend has no queue of this index, or the index has more than 32 bits.
     pub fn ask_set_vring_base(&mut self, index: usize, base: u16) -> Result<Sent>
         requires { MayAsk self.old }
         ensures { AsksHalf L.event (call.SetVringBase index base) self.old result self.new }
@@ -46,7 +46,7 @@ impl<L: Link> FrontendInternal<L> {
         self.ask(RecordCall::SetVringBase(index, base))
     }
 
-    /// Takes the acknowledgement, where there is one.
+    /// Receives the acknowledgement, where there is one.
     pub fn take_set_vring_base(&mut self, sent: Sent) -> Result<()>
         requires { IsAwaited sent self.old }
         ensures taken { (index base : ℕ) → TakesAck L.event (call.SetVringBase index base) sent self.old result self.new }
@@ -57,7 +57,8 @@ impl<L: Link> FrontendInternal<L> {
 
     /// Says where a ring's parts lie.
     ///
-    /// InvalidParam: the device has no queue of this index, or the index has more than 32 bits. Or the flags are neither 0 nor 1.
+    /// InvalidParam: the backend has no queue of this index, or the index has more than 32 bits. Or the flags are neither 0
+    /// nor 1.
     pub fn ask_set_vring_addr(
         &mut self,
         index: usize,
@@ -69,7 +70,7 @@ impl<L: Link> FrontendInternal<L> {
         self.ask(RecordCall::SetVringAddr(index, *config_data))
     }
 
-    /// Takes the acknowledgement, where there is one.
+    /// Receives the acknowledgement, where there is one.
     pub fn take_set_vring_addr(&mut self, sent: Sent) -> Result<()>
         requires { IsAwaited sent self.old }
         ensures taken { (index : ℕ) (config : VringConfigData) → TakesAck L.event (call.SetVringAddr index config) sent self.old result self.new }
@@ -78,9 +79,9 @@ impl<L: Link> FrontendInternal<L> {
         self.take_done(sent)
     }
 
-    /// Asks for a ring's next descriptor; the ring stops.
+    /// Asks for a ring's next descriptor index; the ring stops.
     ///
-    /// InvalidParam: the device has no queue of this index, or the index has more than 32 bits.
+    /// InvalidParam: the backend has no queue of this index, or the index has more than 32 bits.
     pub fn ask_get_vring_base(&mut self, index: usize) -> Result<Sent>
         requires { MayAsk self.old }
         ensures { AsksHalf L.event (call.GetVringBase index) self.old result self.new }
@@ -88,7 +89,7 @@ impl<L: Link> FrontendInternal<L> {
         self.ask(RecordCall::GetVringBase(index))
     }
 
-    /// Takes the ring's next descriptor.
+    /// Receives the ring's next descriptor index.
     pub fn take_get_vring_base(&mut self, sent: Sent) -> Result<u32>
         requires { IsAwaited sent self.old }
         ensures taken { (index : ℕ) → TakesHalf L.event (call.GetVringBase index) call.Number (Reply shape.VringState) sent self.old result self.new }
@@ -100,9 +101,10 @@ impl<L: Link> FrontendInternal<L> {
         }
     }
 
-    /// Switches a ring on or off.
+    /// Enables or disables a ring.
     ///
-    /// InactiveFeature: the protocol features are not acknowledged. InvalidParam: the device has no queue of this index, or the index has more than 32 bits.
+    /// InactiveFeature: the protocol features are not accepted. InvalidParam: the backend has no queue of this index, or
+    /// the index has more than 32 bits.
     pub fn ask_set_vring_enable(&mut self, index: usize, enable: bool) -> Result<Sent>
         requires { MayAsk self.old }
         ensures { AsksHalf L.event (call.SetVringEnable index enable) self.old result self.new }
@@ -110,7 +112,7 @@ impl<L: Link> FrontendInternal<L> {
         self.ask(RecordCall::SetVringEnable(index, enable))
     }
 
-    /// Takes the acknowledgement, where there is one.
+    /// Receives the acknowledgement, where there is one.
     pub fn take_set_vring_enable(&mut self, sent: Sent) -> Result<()>
         requires { IsAwaited sent self.old }
         ensures taken { (index : ℕ) (enable : Bool) → TakesAck L.event (call.SetVringEnable index enable) sent self.old result self.new }

@@ -1,4 +1,4 @@
-//! What all halves that ask have in common: a request goes out whole.
+//! What all halves that send have in common: a request goes out whole.
 
 ghost use Rattle.std.specs.Prelude.{◌≡◌, ◌+◌, ◌++◌, ◌≤◌, IfOk, Ok, length, map};
 ghost use Rattle.vhost_protocol.specs.Agreement.{Fits};
@@ -70,7 +70,7 @@ impl<L: Link> FrontendInternal<L> {
         }
     }
 
-    /// Sends what was planned, with these handles; the session is the next one once it went out.
+    /// Sends what was planned, with these descriptors; the session is the next one once it went out.
     pub(crate) fn carry_out(&mut self, plan: Plan, handles: &[&L::Handle]) -> Result<Sent>
         requires handles { length handles.now ≤ MAX_ATTACHED_FD_ENTRIES }
         ensures { Asks L.event (planned_as (map (λ h. h.now) handles.now) (Ok plan)) (endpoint_of self.old) (session_of self.old) (awaits self.old) result (endpoint_of self.new) (session_of self.new) (awaits self.new) }
@@ -85,7 +85,7 @@ impl<L: Link> FrontendInternal<L> {
         }
     }
 
-    /// Asks by the table of calls.
+    /// Sends the request of a call, by the table of calls.
     pub(crate) fn ask(&mut self, call: RecordCall) -> Result<Sent>
         ensures asked { AsksHalf L.event (call_in call) self.old result self.new }
         ensures fits { IfOk result (λ _. Fits {H = L.Handle} (call_in call)) }
@@ -96,7 +96,7 @@ impl<L: Link> FrontendInternal<L> {
         }
     }
 
-    /// The same of a call with a handle.
+    /// The same of a call with a file descriptor.
     pub(crate) fn ask_with(&mut self, call: HandleCall, handle: &L::Handle) -> Result<Sent>
         ensures { AsksHalf L.event (call_with call handle.now) self.old result self.new }
     {

@@ -30,10 +30,10 @@ impl<L: Link> FrontendInternal<L> {
     ghost use Rattle.vhost_frontend_core.specs.Taking.{IsAck, RecvsTable};
     ghost use Rattle.vhost_frontend_core.specs.Halves.{AsksHalfWithRoom, TakesHalf};
 
-    /// Gives the device its memory: 1 region or more, each with the handle that maps it.
+    /// Gives the backend the guest's memory: 1 region or more, each with the descriptor that maps it.
     ///
-    /// InvalidParam: there is no region, there are more than a table may have, or one has the size 0 or no handle. OutOfMemory: a growth
-    /// was refused, and nothing changed.
+    /// InvalidParam: there is no region, there are more than a table may have, or one has the size 0 or no descriptor.
+    /// OutOfMemory: an allocation failed, and nothing changed.
     pub fn ask_set_mem_table(
         &mut self,
         regions: &[VhostUserMemoryRegionInfo<L::Handle>],
@@ -85,7 +85,7 @@ impl<L: Link> FrontendInternal<L> {
         }
     }
 
-    /// Sends a table with these flags, and the handles of its regions.
+    /// Sends a table with these flags, and the descriptors of its regions.
     fn send_table(
         &mut self,
         request: (u32, Awaited),
@@ -107,7 +107,7 @@ impl<L: Link> FrontendInternal<L> {
         self.send(request, &head, payload, handles)
     }
 
-    /// Takes the acknowledgement, where there is one; or, while postcopy listens, where each region is mapped, in their
+    /// Receives the acknowledgement, where there is one; or, while postcopy listens, where each region is mapped, in their
     /// order.
     ///
     /// InvalidMessage: the reply is of other regions.
@@ -128,7 +128,7 @@ impl<L: Link> FrontendInternal<L> {
         }
     }
 
-    /// Takes where each region is mapped.
+    /// Receives where each region is mapped.
     ///
     /// InvalidParam: the request was sent as a reply, so there is none.
     fn take_bases(&mut self, sent: Sent) -> Result<Option<Vec<u64>>>
@@ -156,9 +156,9 @@ impl<L: Link> FrontendInternal<L> {
         }
     }
 
-    /// Receives the reply with a table of so many regions, whose text lies in the room now.
+    /// Receives the reply with a table of so many regions, whose wire bytes are in the buffer now.
     ///
-    /// InvalidMessage: it has another number of regions, or a handle.
+    /// InvalidMessage: it has another number of regions, or a descriptor.
     fn recv_table(&mut self, request: &Header, count: usize, room: &mut [u8]) -> Result<()>
         requires few { count ≤ MAX_MEM_REGIONS }
         requires room { length room.old ≡ MEMORY_REGION_SIZE * count }

@@ -1,4 +1,4 @@
-//! The transfer of the device's state.
+//! The transfer of the backend's state.
 
 ghost use Rattle.std.specs.Prelude.{◌≡◌, List};
 ghost use Rattle.vhost_protocol.specs.FrontendCall as call;
@@ -25,9 +25,9 @@ impl<L: Link> FrontendInternal<L> {
     ghost use Rattle.vhost_frontend_core.specs.Frontend.{awaits, MayAsk, IsAwaited};
     ghost use Rattle.vhost_frontend_core.specs.Halves.{AsksHalf, TakesHalf};
 
-    /// Begins a transfer over this handle.
+    /// Begins a transfer over this descriptor.
     ///
-    /// InactiveOperation: DEVICE_STATE is not acknowledged.
+    /// InactiveOperation: DEVICE_STATE is not accepted.
     pub fn ask_set_device_state_fd(
         &mut self,
         direction: VhostTransferStateDirection,
@@ -41,9 +41,9 @@ impl<L: Link> FrontendInternal<L> {
         self.ask_with(HandleCall::SetDeviceStateFd(transfer), handle)
     }
 
-    /// Takes the handle that the device wants in place of the one it was given, if any.
+    /// Receives the descriptor that the backend wants in place of the one it was given, if any.
     ///
-    /// BackendInternalError: the device failed. IncorrectFds: several handles came.
+    /// BackendInternalError: the backend failed. IncorrectFds: several descriptors came.
     pub fn take_set_device_state_fd(&mut self, sent: Sent) -> Result<Option<L::Handle>>
         requires { IsAwaited sent self.old }
         ensures taken { (transfer : VhostUserTransferDeviceState) (handle : L.Handle) → TakesHalf L.event (call.SetDeviceStateFd transfer handle) call.StateHandle (Reply shape.U64) sent self.old result self.new }
@@ -57,7 +57,7 @@ impl<L: Link> FrontendInternal<L> {
 
     /// Asks whether the transfer succeeded.
     ///
-    /// InactiveOperation: DEVICE_STATE is not acknowledged.
+    /// InactiveOperation: DEVICE_STATE is not accepted.
     pub fn ask_check_device_state(&mut self) -> Result<Sent>
         requires { MayAsk self.old }
         ensures { AsksHalf L.event call.CheckDeviceState self.old result self.new }
@@ -65,7 +65,7 @@ impl<L: Link> FrontendInternal<L> {
         self.ask(RecordCall::CheckDeviceState)
     }
 
-    /// Takes whether it did.
+    /// Receives whether it did.
     ///
     /// BackendInternalError: it failed.
     pub fn take_check_device_state(&mut self, sent: Sent) -> Result<()>
@@ -85,7 +85,8 @@ impl<L: Link> FrontendInternal<L> {
     }
 }
 
-/// What a device answers that was given a handle for its state: 0x100 without a handle, or 0 with one in its place.
+/// What a backend answers that was given a descriptor for its state: 0x100 without a descriptor, or 0 with one in its
+/// place.
 fn handle_for<H: Drop>(number: u64, handles: Option<Vec<H>>) -> Result<Option<H>>
     ensures { (hs : List H) → HandsOver handles hs → state_reply number hs ≡ valued call.StateHandle result }
 {

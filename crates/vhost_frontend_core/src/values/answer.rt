@@ -17,26 +17,27 @@ use vhost_message::{
 pub enum FrontendAnswer {
     /// It failed.
     Failed(Error),
-    /// It succeeded, and has nothing to show.
+    /// It succeeded, and returns no value.
     Done,
     /// A number, or features.
     Number(u64),
-    /// Where the regions of a table are mapped, if the device listens for page faults.
+    /// Where the regions of a table are mapped, if the backend listens for page faults.
     Bases(Option<Vec<u64>>),
-    /// Where a region is mapped, if the device listens for page faults.
+    /// Where a region is mapped, if the backend listens for page faults.
     Base(Option<u64>),
     /// A part of the configuration space, and its bytes.
     Config(VhostUserConfig, Vec<u8>),
     Handle(PlainHandle),
-    /// The buffer for descriptors in flight.
+    /// The inflight region.
     Inflight(VhostUserInflight, PlainHandle),
-    /// The handle over which the device's state goes, if the device gives another one.
+    /// The descriptor over which the backend's state goes, if the backend gives another
+    /// one.
     StateHandle(Option<PlainHandle>),
     /// The regions of shared memory, which are too large to be moved about.
     ShmemConfig(Box<VhostUserShMemConfig>),
 }
 
-/// The answer of a call that shows nothing.
+/// The answer of a call that returns no value.
 pub(crate) fn done(outcome: Result<()>) -> FrontendAnswer
     ensures { answer_of result ≡ valued (λ _. value.Nothing) outcome }
 {
@@ -46,7 +47,7 @@ pub(crate) fn done(outcome: Result<()>) -> FrontendAnswer
     }
 }
 
-/// The answer of a call that shows a number.
+/// The answer of a call that returns a number.
 pub(crate) fn number(outcome: Result<u64>) -> FrontendAnswer
     ensures { answer_of result ≡ valued (value.Number) outcome }
 {
@@ -56,7 +57,7 @@ pub(crate) fn number(outcome: Result<u64>) -> FrontendAnswer
     }
 }
 
-/// The answer of a call that shows at which descriptor a ring goes on.
+/// The answer of a call that returns a ring's next descriptor index.
 pub(crate) fn ring_base(outcome: Result<u32>) -> FrontendAnswer
     ensures { answer_of result ≡ valued value.Number outcome }
 {
@@ -66,7 +67,7 @@ pub(crate) fn ring_base(outcome: Result<u32>) -> FrontendAnswer
     }
 }
 
-/// The answer of a call that shows protocol features.
+/// The answer of a call that returns protocol features.
 pub(crate) fn features(outcome: Result<VhostUserProtocolFeatures>) -> FrontendAnswer
     ensures { answer_of result ≡ valued (λ f. value.Number f.bits) outcome }
 {
@@ -76,7 +77,7 @@ pub(crate) fn features(outcome: Result<VhostUserProtocolFeatures>) -> FrontendAn
     }
 }
 
-/// The answer of a call that shows where regions are mapped.
+/// The answer of a call that returns where regions are mapped.
 pub(crate) fn bases(outcome: Result<Option<Vec<u64>>>) -> FrontendAnswer
     ensures { answer_of result ≡ valued (λ b. value.Bases (bases_of b)) outcome }
 {
@@ -86,7 +87,7 @@ pub(crate) fn bases(outcome: Result<Option<Vec<u64>>>) -> FrontendAnswer
     }
 }
 
-/// The answer of a call that shows where a region is mapped.
+/// The answer of a call that returns where a region is mapped.
 pub(crate) fn base(outcome: Result<Option<u64>>) -> FrontendAnswer
     ensures { answer_of result ≡ valued (value.Base) outcome }
 {
@@ -96,7 +97,7 @@ pub(crate) fn base(outcome: Result<Option<u64>>) -> FrontendAnswer
     }
 }
 
-/// The answer of a call that shows a part of the configuration space.
+/// The answer of a call that returns a part of the configuration space.
 pub(crate) fn config(outcome: Result<(VhostUserConfig, Vec<u8>)>) -> FrontendAnswer
     ensures { answer_of result ≡ valued (λ c. value.ConfigOf c.0 c.1.items) outcome }
 {
@@ -106,7 +107,7 @@ pub(crate) fn config(outcome: Result<(VhostUserConfig, Vec<u8>)>) -> FrontendAns
     }
 }
 
-/// The answer of a call that shows a handle.
+/// The answer of a call that returns a file descriptor.
 pub(crate) fn handle(outcome: Result<PlainHandle>) -> FrontendAnswer
     ensures { answer_of result ≡ valued (value.HandleOf) outcome }
 {
@@ -116,7 +117,7 @@ pub(crate) fn handle(outcome: Result<PlainHandle>) -> FrontendAnswer
     }
 }
 
-/// The answer of a call that shows the buffer for descriptors in flight.
+/// The answer of a call that returns the inflight region.
 pub(crate) fn inflight(outcome: Result<(VhostUserInflight, PlainHandle)>) -> FrontendAnswer
     ensures { answer_of result ≡ valued (λ b. value.InflightOf b.0 b.1) outcome }
 {
@@ -126,7 +127,7 @@ pub(crate) fn inflight(outcome: Result<(VhostUserInflight, PlainHandle)>) -> Fro
     }
 }
 
-/// The answer of a call that shows another handle for the state, if there is one.
+/// The answer of a call that returns another descriptor for the state, if there is one.
 pub(crate) fn state_handle(outcome: Result<Option<PlainHandle>>) -> FrontendAnswer
     ensures { answer_of result ≡ valued (value.StateHandle) outcome }
 {
@@ -136,7 +137,7 @@ pub(crate) fn state_handle(outcome: Result<Option<PlainHandle>>) -> FrontendAnsw
     }
 }
 
-/// The answer of a call that shows the regions of shared memory.
+/// The answer of a call that returns the regions of shared memory.
 pub(crate) fn shmem_config(outcome: Result<Box<VhostUserShMemConfig>>) -> FrontendAnswer
     ensures { answer_of result ≡ valued (λ place. value.ShmemOf place.value) outcome }
 {

@@ -1,4 +1,4 @@
-//! The half of each call that asks.
+//! The half of each call that sends the request.
 
 ghost use Rattle.std.specs.Prelude.{◌≡◌, ◌<◌, IfOk, IfSome, map, length};
 ghost use Rattle.vhost_link.specs.Mem.{event};
@@ -19,7 +19,7 @@ use vhost_message::{
     ByteValued, Error, MAX_MEM_REGIONS, Result, VhostUserHeaderFlag, VhostUserSharedMsg,
 };
 
-/// Asks by the half of the call's name. None: nothing is sent for the call, and it was done.
+/// Sends the request by the half of the call's name. None: nothing is sent for the call, and it was done.
 ///
 /// Errors are those of that half.
 pub fn ask(frontend: &mut FrontendInternal<MemLink>, call: &FrontendCall) -> Result<Option<Sent>>
@@ -41,7 +41,7 @@ pub fn ask(frontend: &mut FrontendInternal<MemLink>, call: &FrontendCall) -> Res
     }
 }
 
-/// Asks by the half of the call's name, where something is sent for it.
+/// Sends the request by the half of the call's name, where something is sent for it.
 #[tactic(auto, using(crate::proofs::ValuePlain::plain))]
 fn ask_half(frontend: &mut FrontendInternal<MemLink>, call: &FrontendCall) -> Result<Sent>
     requires sent { IsSent (call_of call.now) }
@@ -109,7 +109,7 @@ fn ask_object(frontend: &mut FrontendInternal<MemLink>, name: &VhostUserSharedMs
     frontend.ask_get_shared_object(name)
 }
 
-/// The half of SET_VRING_CALL, with a handle or without.
+/// The half of SET_VRING_CALL, with a file descriptor or without.
 fn ask_ring_call(
     frontend: &mut FrontendInternal<MemLink>,
     index: usize,
@@ -124,7 +124,7 @@ fn ask_ring_call(
     frontend.ask_set_vring_call(index, handle)
 }
 
-/// The half of SET_VRING_KICK, with a handle or without.
+/// The half of SET_VRING_KICK, with a file descriptor or without.
 fn ask_ring_kick(
     frontend: &mut FrontendInternal<MemLink>,
     index: usize,
@@ -139,7 +139,7 @@ fn ask_ring_kick(
     frontend.ask_set_vring_kick(index, handle)
 }
 
-/// The half of SET_VRING_ERR, with a handle or without.
+/// The half of SET_VRING_ERR, with a file descriptor or without.
 fn ask_ring_err(
     frontend: &mut FrontendInternal<MemLink>,
     index: usize,

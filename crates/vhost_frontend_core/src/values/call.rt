@@ -14,7 +14,7 @@ use vhost_message::{
     VhostUserSharedMsg, VringConfigData,
 };
 
-/// A region of guest memory, and the handle that maps it.
+/// A region of guest memory, and the descriptor that maps it.
 #[derive(Clone, Copy)]
 pub struct RegionInfo {
     pub region: VhostUserMemoryRegion,
@@ -22,7 +22,7 @@ pub struct RegionInfo {
 }
 
 impl RegionInfo {
-    /// The same, with its handle lent.
+    /// The same, with its descriptor lent.
     pub(crate) fn lent(&self) -> VhostUserMemoryRegionInfo<'_, PlainHandle>
         ensures same { info_in result ≡ info_of self.now }
         ensures fits { RegionFits self.now.region }
@@ -58,7 +58,7 @@ fn lent_region(
     )
 }
 
-/// Where the dirty log is kept: a part of what a handle maps, in bytes.
+/// Where the dirty log is kept: a part of what a descriptor maps, in bytes.
 #[derive(Clone, Copy)]
 pub struct LogRegion {
     pub mmap_size: u64,
@@ -67,7 +67,7 @@ pub struct LogRegion {
 }
 
 impl LogRegion {
-    /// The same, with its handle lent.
+    /// The same, with its descriptor lent.
     pub(crate) fn lent(&self) -> VhostUserDirtyLogRegion<'_, PlainHandle>
         ensures same { log_region_in (Some result) ≡ log_region_of (Some self.now) }
         ensures fits { (self.now.mmap_size < 2 ^ 64) × (self.now.mmap_offset < 2 ^ 64) }
@@ -92,8 +92,8 @@ fn lent_log(
     }
 }
 
-/// A call of the frontend with its arguments: each is the call of its name, and is refused where that is. A ring is named by
-/// its index.
+/// A call of the frontend with its arguments: each is the call of its name, and is refused where that is. A ring is named
+/// by its index.
 #[derive(Drop)]
 pub enum FrontendCall {
     GetFeatures,
@@ -113,7 +113,7 @@ pub enum FrontendCall {
     SetVringBase(usize, u16),
     SetVringAddr(usize, VringConfigData),
     GetVringBase(usize),
-    /// Where there is no handle, the device polls.
+    /// Where there is no file descriptor, the driver polls.
     SetVringCall(usize, Option<PlainHandle>),
     SetVringKick(usize, Option<PlainHandle>),
     SetVringErr(usize, Option<PlainHandle>),
@@ -136,7 +136,7 @@ pub enum FrontendCall {
     PostcopyEnd,
     /// Which request brought the regions.
     PostcopyAckMemRegions(FrontendReq),
-    /// The greatest size of a packet, in bytes.
+    /// The MTU, in bytes.
     SetMtu(u16),
     /// The flags of each request from then on. Nothing is sent for it.
     SetHdrFlags(VhostUserHeaderFlag),

@@ -1,4 +1,4 @@
-//! Tables of regions, with their handles lent.
+//! Tables of regions, with their descriptors lent.
 
 ghost use Rattle.std.specs.Prelude.{◌≡◌, ◌≤◌, length, map, take, All};
 ghost use Rattle.vhost_message.specs.declared.limits.TheConstants.{MAX_MEM_REGIONS};

@@ -1,4 +1,4 @@
-//! The half of each call that takes the answer.
+//! The half of each call that receives the answer.
 
 ghost use Rattle.vhost_frontend_core.specs.Frontend.{IsAwaited};
 ghost use Rattle.vhost_frontend_core.specs.Values.{call_of};
@@ -13,8 +13,8 @@ use crate::values::answer::{
 use crate::values::call::FrontendCall;
 use vhost_link::MemLink;
 
-/// Takes the answer by the half of the call's name, of what [`ask`](crate::ask) answered for the same call; a call that is
-/// only acknowledged has its acknowledgement taken.
+/// Receives the answer by the half of the call's name, of what [`ask`](crate::ask) answered for the same call; of a call
+/// that is only acknowledged, its acknowledgement.
 ///
 /// Errors are those of that half.
 #[tactic(auto, using(crate::proofs::ValueTaken::replied))]

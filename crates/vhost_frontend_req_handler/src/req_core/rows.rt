@@ -85,7 +85,7 @@ impl<L: Link> FrontendReqCore<L> {
         Asked::Answered(device.shared_object_remove(&uuid))
     }
 
-    /// SHARED_OBJECT_LOOKUP: the name of an object, and a handle.
+    /// SHARED_OBJECT_LOOKUP: the name of an object, and a file descriptor.
     fn object_lookup<D: VhostUserFrontendReqHandlerMut<Handle = L::Handle>>(
         &self,
         device: &mut D,
@@ -103,7 +103,7 @@ impl<L: Link> FrontendReqCore<L> {
         Asked::Answered(device.shared_object_lookup(&uuid, &fd))
     }
 
-    /// SHMEM_MAP: a mapping, and the handle of the file.
+    /// SHMEM_MAP: a mapping, and the file descriptor.
     fn map<D: VhostUserFrontendReqHandlerMut<Handle = L::Handle>>(
         &self,
         device: &mut D,
@@ -152,7 +152,7 @@ impl<L: Link> FrontendReqCore<L> {
     }
 }
 
-/// The first handle of a message, if it has one.
+/// The first descriptor of a message, if it has one.
 fn first<H: Drop>(handles: Option<Vec<H>>) -> Option<H>
     ensures { (hs : List H) → HandsOver handles hs → result ≡ first_of hs }
 {

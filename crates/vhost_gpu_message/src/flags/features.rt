@@ -1,10 +1,10 @@
-//! Feature bits of the channel to a display.
+//! Feature bits of the vhost-user-gpu channel.
 
 ghost use Rattle.std.specs.Prelude.{⊤, [], ◌∷◌, codes};
 
 use bitflags::{Flag, Flags};
 
-/// The features of the channel to a display. As in the crate `vhost`, EDID has no bit.
+/// The features of the vhost-user-gpu channel. As in the crate `vhost`, EDID has no bit.
 #[derive(Clone, Copy, Debug, PartialEq, Eq)]
 pub struct VhostUserGpuProtocolFeatures {
     bits: u64,
@@ -14,7 +14,7 @@ impl VhostUserGpuProtocolFeatures {
     /// The display answers GET_EDID.
     pub const EDID: VhostUserGpuProtocolFeatures = VhostUserGpuProtocolFeatures { bits: 0x0 };
 
-    /// The display takes DMABUF_SCANOUT2.
+    /// The display accepts DMABUF_SCANOUT2.
     pub const DMABUF2: VhostUserGpuProtocolFeatures = VhostUserGpuProtocolFeatures { bits: 0x1 };
 
     const FLAGS: &'static [Flag<VhostUserGpuProtocolFeatures>] = &[

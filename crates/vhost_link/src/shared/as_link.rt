@@ -25,7 +25,7 @@ impl<R: Wait + Copy + Drop> Link for SharedLink<R> {
 
     ghost opens = { λ link handle result. OpensEnd result };
 
-    /// Takes in what there is room for, and waits for no one. A full ring is `Raw(EAGAIN)`.
+    /// Accepts what there is room for, and waits for no one. A full ring is `Raw(EAGAIN)`.
     fn send(&mut self, bytes: &[u8], handles: &[&PlainHandle]) -> Result<usize, IoCause> {
         self.ends.send(bytes, handles)
     }
@@ -52,7 +52,7 @@ impl<R: Wait + Copy + Drop> Link for SharedLink<R> {
         Err(IoCause::Named("link cannot be duplicated"))
     }
 
-    /// Joins the ends that its hub has under the handle's number. It may wait for the hub.
+    /// Joins the ends that its hub has under the descriptor's number. It may wait for the hub.
     ///
     /// `Named("no such end")`: none are there, or they were joined before. `Raw(ENOMEM)`: the hub could not be shared once more.
     fn of_handle(&self, handle: PlainHandle) -> Result<SharedLink<R>, IoCause> {

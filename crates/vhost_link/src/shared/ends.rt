@@ -22,7 +22,7 @@ use vhost_message::{IoCause, MAX_ATTACHED_FD_ENTRIES};
 pub struct Ends {
     output: Producer<Piece, Global, PieceOrder>,
     input: Consumer<Piece, Global, PieceOrder>,
-    /// Handles whose byte has not come yet.
+    /// Descriptors whose byte has not come yet.
     kept: Vec<PlainHandle>,
 }
 
@@ -52,7 +52,7 @@ impl Ends {
         Ok((first, second))
     }
 
-    /// Takes in the handles and a front of the bytes, or nothing.
+    /// Accepts the descriptors and a prefix of the bytes, or nothing.
     pub(crate) fn send(&mut self, bytes: &[u8], handles: &[&PlainHandle]) -> Result<usize, IoCause>
         requires bytes { 0 < length bytes.now }
         requires handles { length handles.now ≤ MAX_ATTACHED_FD_ENTRIES }
@@ -69,7 +69,7 @@ impl Ends {
         Ok(count)
     }
 
-    /// Hands out what has come, up to the next byte with handles; `None` where nothing has, and 0 where nothing will.
+    /// Hands out what has come, up to the next byte with descriptors; `None` where nothing has, and 0 where nothing will.
     pub(crate) fn try_recv(
         &mut self,
         room: &mut [u8],

@@ -10,7 +10,7 @@ use crate::plain::PlainHandle;
 use rtrb::Consumer;
 use std::alloc::Global;
 
-/// The next piece that has come, if it is a handle.
+/// The next piece that has come, if it is a descriptor.
 fn next_handle(input: &mut Consumer<Piece, Global, PieceOrder>) -> Option<PlainHandle>
     ensures ring { SameConsumer input.old input.new }
     ensures some { IfSome result (λ h. (received input.new ≡ received input.old ++ handle_piece h ∷ []) × (known_items input.old ≡ handle_piece h ∷ known_items input.new) × MayFollow (received input.old) (handle_piece h)) }
@@ -42,7 +42,7 @@ fn next_byte(input: &mut Consumer<Piece, Global, PieceOrder>) -> Option<u8>
     Some(byte)
 }
 
-/// Takes the handles that come first. They are kept until their byte comes.
+/// Takes the descriptors that come first. They are kept until their byte comes.
 pub(crate) fn keep_handles(
     input: &mut Consumer<Piece, Global, PieceOrder>,
     kept: &mut Vec<PlainHandle>,
@@ -66,7 +66,7 @@ pub(crate) fn keep_handles(
     }
 }
 
-/// Takes the bytes that come next, up to the next handle or the end of the room; how many that was.
+/// Takes the bytes that come next, up to the next descriptor or the end of the room; how many that was.
 pub(crate) fn take_bytes(input: &mut Consumer<Piece, Global, PieceOrder>, room: &mut [u8]) -> usize
     ensures ring { SameConsumer input.old input.new }
     ensures within { result ≤ length room.old }

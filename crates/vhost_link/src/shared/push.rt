@@ -10,7 +10,7 @@ use crate::plain::PlainHandle;
 use rtrb::Producer;
 use std::alloc::Global;
 
-/// Puts handles in, which wait for their byte.
+/// Puts descriptors in, which wait for their byte.
 pub(crate) fn push_handles(
     output: &mut Producer<Piece, Global, PieceOrder>,
     handles: &[&PlainHandle],
@@ -26,7 +26,7 @@ pub(crate) fn push_handles(
     }
 }
 
-/// Puts bytes in. The first one gets the handles that wait.
+/// Puts bytes in. The first one gets the descriptors that wait.
 pub(crate) fn push_bytes(output: &mut Producer<Piece, Global, PieceOrder>, bytes: &[u8])
     requires { length bytes.now ≤ known_free output.old }
     ensures ring { SameProducer output.old output.new }

@@ -10,7 +10,7 @@ use rtrb::Finished;
 use std::alloc::Global;
 use std::marker::Model;
 
-/// Shows all that one end sent, once it sends no more.
+/// Reports all that one end sent, once it sends no more.
 #[derive(Drop)]
 pub struct Token {
     finished: Finished<Piece, Global, PieceOrder>,
@@ -38,7 +38,7 @@ impl Token {
         Token { finished }
     }
 
-    /// What the ring shows.
+    /// What the ring reports.
     pub(crate) fn into_finished(self) -> Finished<Piece, Global, PieceOrder>
         ensures value { self ≡ all_of result }
         ensures whole { waiting (all_sent result) ≡ [] }

@@ -88,7 +88,7 @@ impl VhostUserProtocolFeatures {
         bits: 1 << protocol_bit::MTU,
     };
 
-    /// The backend may send requests, over a channel of its own.
+    /// The backend may send requests, over the backend channel.
     pub const BACKEND_REQ: VhostUserProtocolFeatures = VhostUserProtocolFeatures {
         bits: 1 << protocol_bit::BACKEND_REQ,
     };
@@ -113,7 +113,7 @@ impl VhostUserProtocolFeatures {
         bits: 1 << protocol_bit::CONFIG,
     };
 
-    /// The backend may send handles over its channel.
+    /// The backend may send file descriptors over the backend channel.
     pub const BACKEND_SEND_FD: VhostUserProtocolFeatures = VhostUserProtocolFeatures {
         bits: 1 << protocol_bit::BACKEND_SEND_FD,
     };

@@ -1,4 +1,4 @@
-//! The buffer for descriptors in flight.
+//! The inflight region.
 
 ghost use Rattle.std.specs.Prelude.{◌≡◌, refl};
 ghost use Rattle.vhost_message.specs.Records.{inflight_text, inflight_of};
@@ -8,12 +8,12 @@ ghost use Rattle.vhost_message.specs.Valid.{is_valid_inflight};
 use crate::bytes::{ByteValued, VhostUserMsgValidator};
 use byteorder::{ByteOrder, LittleEndian};
 
-/// The area of shared memory that tracks descriptors in flight: its size and offset in bytes, the number of queues and
-/// their size in descriptors (vhost-user specification, "Inflight description"). Four reserved bytes at the end are
-/// written 0 and not read.
+/// The inflight region, in shared memory: its size and offset in bytes, the number of queues and their size in
+/// descriptors (vhost-user specification, "Inflight description"). Four reserved bytes at the end are written 0 and not
+/// read.
 #[derive(Clone, Copy, Default)]
 pub struct VhostUserInflight {
-    /// The size of the area.
+    /// The size of the region.
     pub mmap_size: u64,
     /// Where it begins in the memory that comes with it.
     pub mmap_offset: u64,
@@ -24,7 +24,7 @@ pub struct VhostUserInflight {
 }
 
 impl VhostUserInflight {
-    /// The area of these numbers.
+    /// The region of these numbers.
     pub fn new(mmap_size: u64, mmap_offset: u64, num_queues: u16, queue_size: u16) -> Self
         ensures { result ≡ record { mmap_size = mmap_size; mmap_offset = mmap_offset; num_queues = num_queues; queue_size = queue_size } }
     {

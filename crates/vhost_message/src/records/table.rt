@@ -36,7 +36,7 @@ pub fn read_regions(bytes: &[u8], regions: &mut [VhostUserMemoryRegion]) -> bool
     all
 }
 
-/// Reads so many regions to the front of these places, and says whether all of them are valid.
+/// Reads so many regions to the first of these places, and says whether all of them are valid.
 pub fn read_front(bytes: &[u8], places: &mut [VhostUserMemoryRegion], count: usize) -> bool
     requires count { count ≤ length places.old }
     requires bytes { length bytes.now ≡ MEMORY_REGION_SIZE * count }

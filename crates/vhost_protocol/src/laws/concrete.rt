@@ -7,7 +7,7 @@ use super::reverse::answered_as_served;
 use super::rows::{rows_keep_mark, silent_is_last, stays_in_step, stays_negotiated};
 use vhost_message::{BackendReq, FrontendReq};
 
-/// The laws of both channels, with numbers for handles, channels and displays.
+/// The laws of both channels, with numbers for descriptors, channels and displays.
 pub fn laws_of_both_channels() {
     cut_in_order::<FrontendReq, u32>();
     cut_in_order::<BackendReq, u32>();

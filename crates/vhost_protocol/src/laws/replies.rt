@@ -1,4 +1,4 @@
-//! How a reply is read, and what a frontend takes of it.
+//! How a reply is read, and what a frontend answers by it.
 
 ghost use Rattle.vhost_protocol.specs.Laws.{ReplyIsRead, TakesAck, TakesNumber, TakesEmpty, TakesReply, TakesNothing};
 
@@ -9,7 +9,7 @@ pub fn read_as_written<R: Req, H>()
     ensures read { ReplyIsRead R H R.number }
 {}
 
-/// What a handler served is taken by the frontend as the answer table says, and what follows it on the stream is left.
+/// What a handler served is read by the frontend as the answer table says, and what follows it on the stream is left.
 pub fn taken_as_served<H>()
     ensures acknowledgement { TakesAck H }
     ensures number { TakesNumber H }

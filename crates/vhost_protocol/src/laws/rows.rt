@@ -1,19 +1,19 @@
-//! The protocol table, and both sides of a connection.
+//! The handling rules, and both sides of a connection.
 
 ghost use Rattle.vhost_protocol.specs.Agreement.{AnswersNegotiate, AsksNegotiate, RowsKeepMark, SilentIsLast, KeepsStep};
 
-/// No row of the table changes the failure mark of a session.
+/// No handling rule changes the failure mark of a session.
 pub fn rows_keep_mark<H, B, G>()
     ensures { RowsKeepMark H B G }
 {}
 
-/// A handler that errs in silence has made the last step.
+/// An error of a handler without a reply is the last outcome of a run.
 pub fn silent_is_last<H>()
     ensures { SilentIsLast H }
 {}
 
-/// For each call of a frontend that agrees with its handler: the answer table knows what the handler lets the frontend
-/// know, and both agree after it, unless it was the last step.
+/// For each call of a frontend that agrees with its handler: the answer table has an answer for whatever the handler
+/// replies, and both agree after it, unless it was the last outcome.
 pub fn stays_in_step<H, B, G>()
     ensures { KeepsStep H B G }
 {}

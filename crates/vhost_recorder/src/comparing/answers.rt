@@ -11,7 +11,7 @@ use vhost_pair::FrontendAnswer;
 /// How many bytes the record of shared memory regions has.
 const SHMEM_CONFIG_SIZE: usize = 2056;
 
-/// Whether both are the same regions of shared memory: their texts are the same.
+/// Whether both are the same regions of shared memory: their wire bytes are the same.
 fn is_same_shmem_config(a: &VhostUserShMemConfig, b: &VhostUserShMemConfig) -> bool
     ensures { IsTrue result ↔ a.now ≡ b.now }
 {

@@ -18,7 +18,7 @@ fn is_same_region(a: &VhostUserMemoryRegion, b: &VhostUserMemoryRegion) -> bool
         && a.mmap_offset == b.mmap_offset
 }
 
-/// Of two regions with their handles.
+/// Of two regions with their file descriptors.
 pub fn is_same_info(a: &RegionInfo, b: &RegionInfo) -> bool
     ensures { IsTrue result ↔ info_of a.now ≡ info_of b.now }
 {
@@ -75,7 +75,7 @@ pub fn is_same_name(a: &VhostUserSharedMsg, b: &VhostUserSharedMsg) -> bool
     a.uuid == b.uuid
 }
 
-/// Of two buffers for descriptors in flight.
+/// Of two inflight regions.
 pub fn is_same_inflight(a: &VhostUserInflight, b: &VhostUserInflight) -> bool
     ensures { IsTrue result ↔ a.now ≡ b.now }
 {

@@ -1,4 +1,4 @@
-//! A frontend alone, over a link in memory, by halves of calls or by whole ones.
+//! A frontend alone, over a link in memory, by send and receive halves or by whole calls.
 
 use crate::asking::whole::ask_whole;
 use bitflags::Flags;
@@ -36,20 +36,20 @@ pub(crate) trait Side: Sized + Drop {
     /// Compares what the frontend wrote.
     fn check(&mut self, alloc: Global, traffic: &mut Traffic) -> Result<(), Miss>;
 
-    /// Takes what the frontend wrote as seen.
+    /// Marks what the frontend wrote as seen.
     fn skip(&mut self, alloc: Global, traffic: &mut Traffic) -> Result<(), Miss>;
 
-    /// Takes what the frontend has not received; by whole calls, what is on the link.
+    /// Drains what the frontend has not received; by whole calls, what is on the link.
     fn left(&mut self, alloc: Global) -> Result<String, Miss>;
 
     /// Tests that nothing was received ahead, once nothing is on the link.
     fn end(&mut self, alloc: Global, rt: &impl Wait) -> Result<(), Miss>;
 
-    /// Whether the last call met a fault. None where this is not told.
+    /// Whether the last call met an I/O error. None where this is not known.
     fn has_faulted(&self) -> Option<bool>;
 }
 
-/// Each call is asked by one half, and its answer taken by the other.
+/// Each call is sent by one half, and its answer received by the other.
 impl Side for FrontendInternal<MemLink> {
     fn new(alloc: Global, settings: &Settings<'_>, cuts: Vec<Cut>) -> Result<Self, Miss> {
         let link = MemLink::new(alloc, cuts);
@@ -149,7 +149,7 @@ impl Side for Shared {
         left_of_link(alloc, &mut lend(alloc, &self.wire)?.mem)
     }
 
-    /// The next reply is received from its first byte, unless the session is broken.
+    /// The next reply is received from its first byte, unless the session's endpoint is poisoned.
     fn end(&mut self, alloc: Global, rt: &impl Wait) -> Result<(), Miss> {
         let reply = "01000000 05000000 08000000 8877665544332211";
         Traffic::new(alloc, 0).push(&mut lend(alloc, &self.wire)?.mem, reply)?;
@@ -170,7 +170,7 @@ impl Side for Shared {
     }
 }
 
-/// Makes a call by its halves, where no answer is awaited.
+/// Makes a call by its send and receive halves, where no answer is awaited.
 fn by_halves(
     alloc: Global,
     frontend: &mut FrontendInternal<MemLink>,

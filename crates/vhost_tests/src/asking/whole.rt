@@ -11,7 +11,7 @@ use vhost_frontend_core::{FrontendAnswer, FrontendCall, LogRegion, RegionInfo};
 use vhost_link::PlainHandle;
 use vhost_message::VhostUserShMemConfig;
 
-/// A region, with its handle lent.
+/// A region, with its descriptor lent.
 fn lent(info: &RegionInfo) -> VhostUserMemoryRegionInfo<'_, PlainHandle> {
     let region = info.region;
     VhostUserMemoryRegionInfo::new(
@@ -23,7 +23,7 @@ fn lent(info: &RegionInfo) -> VhostUserMemoryRegionInfo<'_, PlainHandle> {
     )
 }
 
-/// Where the log is kept, with its handle lent.
+/// Where the log is kept, with its descriptor lent.
 fn lent_log(region: &LogRegion) -> VhostUserDirtyLogRegion<'_, PlainHandle> {
     VhostUserDirtyLogRegion {
         mmap_size: region.mmap_size,
@@ -32,7 +32,7 @@ fn lent_log(region: &LogRegion) -> VhostUserDirtyLogRegion<'_, PlainHandle> {
     }
 }
 
-/// Gives a device its memory.
+/// Gives a backend its memory.
 fn set_table<B: VhostBackend<Handle = PlainHandle>>(
     alloc: Global,
     backend: &B,
@@ -77,7 +77,7 @@ fn done(outcome: Result<()>) -> Result<FrontendAnswer> {
     }
 }
 
-/// Makes a call that is any vhost device's. InvalidOperation: it is another.
+/// Makes a call that any vhost backend has. InvalidOperation: it is another.
 fn ask_device<B: VhostBackend<Handle = PlainHandle>>(
     alloc: Global,
     backend: &B,
@@ -113,7 +113,7 @@ fn ask_device<B: VhostBackend<Handle = PlainHandle>>(
     }
 }
 
-/// Makes a call of a hypervisor's side that shows nothing, or any vhost device's.
+/// Makes a call of a vhost-user frontend that answers nothing, or one that any vhost backend has.
 fn ask_hypervisor<F: VhostUserFrontend + VhostBackend<Handle = PlainHandle>>(
     alloc: Global,
     frontend: &mut F,

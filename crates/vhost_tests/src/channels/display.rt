@@ -1,4 +1,4 @@
-//! The channel from a device to a display: records are words of bytes.
+//! The vhost-user-gpu channel, from a device to a display: records are words of bytes.
 
 use crate::channels::Channel;
 use crate::records::{last_handles, record_of, record_text, word_of};
@@ -73,7 +73,7 @@ impl Channel for GpuBackend<PlainLink> {
     }
 }
 
-/// Makes a call that lends an image, or a handle.
+/// Makes a call that lends an image, or a descriptor.
 fn with_more(
     rt: &impl Wait,
     alloc: Global,
@@ -101,7 +101,7 @@ fn with_more(
     }
 }
 
-/// Makes a call that hands over a buffer by its handle.
+/// Makes a call that hands over a buffer by its descriptor.
 fn set_buffer(
     rt: &impl Wait,
     alloc: Global,

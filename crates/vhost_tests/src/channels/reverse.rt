@@ -1,4 +1,4 @@
-//! The channel from a device to its frontend.
+//! The backend channel, from a device to its frontend.
 
 use crate::channels::Channel;
 use std::alloc::Global;

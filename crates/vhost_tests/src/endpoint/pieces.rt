@@ -24,7 +24,7 @@ pub(crate) fn send_pieces<M: MsgHeader>(
     }
 }
 
-/// Makes the call, with pieces and handles that are lent.
+/// Makes the call, with pieces and descriptors that are lent.
 fn send_lent<M: MsgHeader>(
     alloc: Global,
     end: &mut Endpoint<M, MemLink>,
@@ -57,7 +57,7 @@ fn pieces_of(alloc: Global, words: &str) -> Result<Vec<Vec<u8>>, Miss> {
     Ok(pieces)
 }
 
-/// Where a front of so many bytes ends, in pieces of these lengths.
+/// Where a prefix of so many bytes ends, in pieces of these lengths.
 pub(crate) fn offset_text(alloc: Global, args: &str) -> Result<String, Miss> {
     let (words, skipped) = word_of(args);
     let mut lengths = Vec::new(alloc);

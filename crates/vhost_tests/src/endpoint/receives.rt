@@ -17,7 +17,7 @@ use vhost_test_tools::{Miss, bytes_of, narrow, unreadable};
 pub(crate) struct Room {
     /// The buffer of the last call that had one.
     pub(crate) buffer: Vec<u8>,
-    /// The handles of the last call that puts them into a place of the caller's.
+    /// The descriptors of the last call that puts them into a buffer of the caller's.
     handles: Option<Vec<PlainHandle>>,
 }
 
@@ -101,7 +101,7 @@ fn receive_data<M: MsgHeader>(
     }
 }
 
-/// Receives bytes by one call of the link. Handles are shown also after an error, where there are some.
+/// Receives bytes by one call of the link. Descriptors are shown also after an error, where there are some.
 fn receive_once<M: MsgHeader>(
     alloc: Global,
     end: &mut Endpoint<M, MemLink>,

@@ -68,7 +68,7 @@ fn send_with_payload<M: MsgHeader, T: ByteValued>(
     done(alloc, sent)
 }
 
-/// Handles, each lent.
+/// Descriptors, each lent.
 pub(crate) fn lent(alloc: Global, handles: &[PlainHandle]) -> Result<Vec<&PlainHandle>, Miss> {
     let mut lent = Vec::new(alloc);
     for handle in handles {

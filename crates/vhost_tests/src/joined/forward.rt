@@ -55,7 +55,7 @@ impl<D: VhostUserBackendReqHandlerMut<Link = MemLink> + TestDevice> Sides for Jo
     }
 }
 
-/// How both links are cut.
+/// What the calls of both links do.
 pub(crate) fn scripts_of(
     alloc: Global,
     settings: &Settings<'_>,

@@ -1,4 +1,4 @@
-//! A device's channel and the frontend that serves it, joined.
+//! A device's backend channel and the frontend that serves it, joined.
 
 use crate::joined::Sides;
 use crate::joined::forward::scripts_of;

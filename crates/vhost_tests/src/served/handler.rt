@@ -12,7 +12,7 @@ use vhost_test_tools::{Miss, Settings, Sheet, TestLink, left_of_endpoint, unread
 
 /// A session of a handler, and its device.
 pub(crate) trait Handler: Sized + Drop {
-    /// Whether the device's calls are told by the script.
+    /// Whether the device's calls are given by the script.
     const IS_SCRIPTED: bool;
 
     /// A new session over a link; the device goes by the sheet, if it goes by the script.
@@ -29,10 +29,10 @@ pub(crate) trait Handler: Sized + Drop {
     /// Serves so many requests in one run.
     fn run(&mut self, alloc: Global, count: usize) -> Result<Vec<Outcome<()>>, Miss>;
 
-    /// Whether the last request met a fault of the link. None: behind a lock this is not told.
+    /// Whether the last request met an I/O error of the link. None: it is behind a lock.
     fn faulted(&self) -> Option<bool>;
 
-    /// Takes what was not received. None: behind a lock this is not seen.
+    /// Drains what was not received. None: it is behind a lock.
     fn left(&mut self, alloc: Global) -> Result<Option<String>, Miss>;
 
     /// Marks the session as failed.
@@ -99,7 +99,7 @@ impl<D: VhostUserBackendReqHandlerMut<Link = TestLink> + TestDevice> Handler for
     }
 }
 
-/// A session whose device others may share.
+/// A session whose device is shared behind a lock.
 #[derive(Drop)]
 pub(crate) struct Locked<D: VhostUserBackendReqHandlerMut<Link = TestLink> + TestDevice> {
     handler: BackendReqHandler<TestLink, Mutex<D>>,

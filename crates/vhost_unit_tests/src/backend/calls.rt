@@ -1,4 +1,4 @@
-//! Each call of a device through both wrappers.
+//! Each call of a backend through both wrappers.
 
 use crate::told::{Told, done, mapped, number};
 use std::cell::RefCell;
@@ -23,7 +23,7 @@ impl Device {
     }
 }
 
-// A ring's index and a handle as one number.
+// A ring's index and a file descriptor as one number.
 fn pair(queue_index: usize, number: u32) -> u64 {
     (queue_index as u64).wrapping_mul(0x10000) ^ u64::from(number)
 }
@@ -133,7 +133,7 @@ static GIVEN: [u64; 14] = [
     1, 3, 1, 1, 0x2000, 0x7300, 9, 0x10100, 0x20000, 0x30004, 0x50000, 0x60009, 0x70009, 0x80009,
 ];
 
-// What the device answered each.
+// What the backend answered each.
 static ANSWERED: [Told; 14] = [
     Told::Number(0x4000_0000),
     Told::Done,

@@ -37,7 +37,7 @@ fn texts(rt: HostRuntime) {
     assert!(rt; are_shown(rt.alloc(), &ERRORS));
 }
 
-/// Whether an error of the protocol is shown as this text where a driver sees it.
+/// Whether an error of the protocol is shown as this text where a VMM sees it.
 fn is_shown_to_drivers(alloc: Global, error: ProtocolError, text: &str) -> bool {
     is_shown(alloc, &Error::from(error), text)
 }

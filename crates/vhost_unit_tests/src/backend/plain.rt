@@ -58,7 +58,7 @@ fn logged_rings(rt: HostRuntime) {
     assert!(rt; [without_log, with_log, past_the_end] == [false, true, false]);
 }
 
-/// The size of an empty region, and whether it has a handle.
+/// The size of an empty region, and whether it has a descriptor.
 fn empty_region() -> Result<(u64, bool), AllocError> {
     let region: VhostUserMemoryRegionInfo<'_, u32> = copy_of_default()?;
     Ok((region.memory_size, region.mmap_handle.is_some()))

@@ -1,4 +1,4 @@
-//! What a device asks its frontend: what is written, and how each answer is taken.
+//! What a device asks its frontend: what is written, and how each answer is received.
 
 ghost use Rattle.std.specs.Prelude.{◌≤◌, length};
 ghost use Rattle.vhost_message.specs.declared.limits.TheConstants.{MAX_ATTACHED_FD_ENTRIES};
@@ -66,7 +66,7 @@ fn agree<L: Link>(channel: &mut BackendInternal<L>, reply_ack: bool) {
     channel.set_config_change_flag(true);
 }
 
-/// What was written, and how many handles came with its first byte.
+/// What was written, and how many descriptors came with its first byte.
 fn written(channel: &mut BackendInternal<MemLink>) -> (&[u8], usize) {
     let taken = channel.endpoint_mut().link().taken();
     (taken.bytes(), taken.handles(0).len())

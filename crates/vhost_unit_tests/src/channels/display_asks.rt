@@ -1,4 +1,4 @@
-//! What a device asks a display: what is written, and how each reply is taken.
+//! What a device asks a display: what is written, and how each reply is received.
 
 ghost use Rattle.std.specs.Prelude.{◌≤◌, length};
 ghost use Rattle.vhost_message.specs.declared.limits.TheConstants.{MAX_ATTACHED_FD_ENTRIES};
@@ -16,7 +16,7 @@ const HANDLE: PlainHandle = PlainHandle {
     kind: Kind::NoSocket,
 };
 
-/// A channel to a display that has sent these bytes, the first with these handles.
+/// A channel to a display that has sent these bytes, the first with these descriptors.
 fn channel(
     alloc: Global,
     coming: &[u8],
@@ -47,7 +47,7 @@ fn shown<T: Drop>(answer: HandlerResult<T>) -> Result<T, &'static str> {
     }
 }
 
-/// What was written, and how many handles came with its first byte.
+/// What was written, and how many descriptors came with its first byte.
 fn written(channel: &mut BackendInternal<MemLink>) -> (&[u8], usize) {
     let taken = channel.endpoint_mut().link().taken();
     (taken.bytes(), taken.handles(0).len())

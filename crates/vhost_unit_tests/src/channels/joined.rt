@@ -1,4 +1,4 @@
-//! Both sides of the channel by which a device asks, joined for a list of calls.
+//! Both sides of the backend channel, joined for a list of calls.
 
 use crate::channels::serves::OneName;
 use std::alloc::Global;
@@ -15,7 +15,7 @@ fn name(byte: u8) -> VhostUserSharedMsg {
     }
 }
 
-/// Whether these are the answers to two flags and to a name without bits, whose refusal is not told.
+/// Whether these are the answers to two flags and to a name without bits, refused without a reply.
 fn are_told(answers: &[HandlerResult<u64>], is_awaited: bool) -> bool {
     match answers {
         [Ok(0), Ok(0), Err(IoError::Of(Error::PartialMessage))] => is_awaited,

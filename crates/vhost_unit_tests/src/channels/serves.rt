@@ -85,7 +85,7 @@ impl VhostUserFrontendReqHandler for Nothing {
 
 type Outcome<T> = std::result::Result<T, Fail>;
 
-/// A link on which these bytes came, the first with these handles.
+/// A link on which these bytes came, the first with these descriptors.
 fn coming(alloc: Global, bytes: &[u8], handles: &[PlainHandle]) -> Outcome<MemLink>
     requires { length handles.now ≤ MAX_ATTACHED_FD_ENTRIES }
 {
@@ -105,7 +105,7 @@ fn shown(answer: Result<u64>) -> std::result::Result<u64, i32> {
     }
 }
 
-/// Whether SHMEM_MAP with these handles is refused with its body unread, so that the body is the next request; and both are a
+/// Whether SHMEM_MAP with these descriptors is refused with its body unread, so that the body is the next request; and both are a
 /// whole run.
 fn stays_unread(alloc: Global, handles: &[PlainHandle]) -> Outcome<bool>
     requires { length handles.now ≤ MAX_ATTACHED_FD_ENTRIES }
@@ -124,7 +124,7 @@ fn handles(rt: HostRuntime) -> Outcome<()> {
     Ok(())
 }
 
-/// What a request is answered where the endpoint is broken.
+/// What a request is answered where the endpoint is poisoned.
 fn unserved(alloc: Global) -> Outcome<std::result::Result<u64, i32>> {
     let mut core = FrontendReqCore::new(alloc, coming(alloc, &ADD, &[])?, 0)?;
     core.endpoint_mut().break_with(IoCause::Raw(5));
@@ -137,7 +137,7 @@ fn broken(rt: HostRuntime) -> Outcome<()> {
     Ok(())
 }
 
-/// Whether a request that the link's error 5 tears after five bytes is answered so, and each one behind it that the endpoint is broken.
+/// Whether a request that the link's error 5 stops after five bytes is answered so, and each one behind it that the endpoint is poisoned.
 fn is_torn(alloc: Global) -> Outcome<bool> {
     let mut script = Vec::new(alloc);
     script.push(Cut::Give(5))?;

@@ -1,4 +1,4 @@
-//! A stream in pieces, from one thread to another that takes it.
+//! A stream in pieces, from one thread to another that receives it.
 
 use crate::cuts::peer::Peer;
 use crate::cuts::sides::Side;
@@ -20,7 +20,7 @@ pub(crate) struct Cuts {
     pub(crate) first: usize,
     /// How many each other has.
     pub(crate) then: usize,
-    /// The byte that brings a handle.
+    /// The byte that brings a descriptor.
     pub(crate) handle: Option<usize>,
     /// For how many requests a reply is awaited.
     pub(crate) awaited: usize,
@@ -33,7 +33,7 @@ pub(crate) struct Told {
     pub(crate) replies: Vec<u8>,
 }
 
-/// Where a piece ends that begins here: a handle comes with the first byte of one.
+/// Where a piece ends that begins here: a descriptor comes with the first byte of one.
 fn end_of(start: usize, size: usize, cuts: &Cuts) -> usize {
     let end = start.saturating_add(size.max(1)).min(cuts.len);
     match cuts.handle {

@@ -8,7 +8,7 @@ use vhost_link::{Kind, Link, PlainHandle, SharedLink};
 use vhost_message::MAX_ATTACHED_FD_ENTRIES;
 
 pub(crate) trait Peer: Drop {
-    /// Puts bytes on their way, and a handle with the first of them where they bring one. There is room for all.
+    /// Puts bytes on their way, and a descriptor with the first of them where they bring one. There is room for all.
     fn put(&mut self, bytes: &[u8], brings_handle: bool);
 
     /// Waits for some bytes, as many as there is room for at most; how many came.
@@ -38,7 +38,7 @@ impl<'a, R: Wait> Peer for SharedLink<&'a R> {
 }
 
 impl Peer for UnixStream {
-    /// A socket carries no handle.
+    /// A socket carries no descriptor.
     fn put(&mut self, bytes: &[u8], _brings_handle: bool) {
         let _ = self.write_all(bytes);
     }

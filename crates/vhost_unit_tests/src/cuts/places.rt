@@ -1,4 +1,4 @@
-//! Every way to cut a stream, to end it early, and to put a handle among its bytes.
+//! Every way to split a stream, to end it early, and to put a descriptor among its bytes.
 
 use crate::cuts::exchange::Cuts;
 use crate::cuts::over::{Over, told};
@@ -45,7 +45,7 @@ fn differs_in_pieces<R: System>(
     Ok(None)
 }
 
-/// The first place at which the stream is cut into two, and something differs.
+/// The first place at which the stream is split into two, and something differs.
 fn differs_in_two<R: System>(
     rt: &R,
     alloc: Global,
@@ -61,7 +61,7 @@ fn differs_in_two<R: System>(
     Ok(None)
 }
 
-/// After the whole requests: how many fronts of the stream are answered Disconnected, PartialMessage and InvalidMessage, and how many
+/// After the whole requests: how many prefixes of the stream are answered Disconnected, PartialMessage and InvalidMessage, and how many
 /// otherwise.
 fn ended_early<R: System>(
     rt: &R,
@@ -89,7 +89,7 @@ fn ended_early<R: System>(
     Ok(counts)
 }
 
-/// With a handle at each byte in turn: how often its message is InvalidMessage because of its first byte, how often all is answered as
+/// With a descriptor at each byte in turn: how often its message is InvalidMessage because of its first byte, how often all is answered as
 /// without, how often the message is InvalidMessage and the next is served, and how often it is otherwise.
 fn stray_handles<R: System>(rt: &R, alloc: Global, stream: &Stream) -> Result<[usize; 4], Fail> {
     let mut counts = [0usize; 4];

@@ -1,4 +1,4 @@
-//! The sides that take the streams. An answer is told by a letter: `.` for a success, and else the error's.
+//! The sides that receive the streams. An answer is a letter: `.` for a success, else the error's.
 
 ghost use Rattle.std.specs.Prelude.{⊤};
 
@@ -11,10 +11,10 @@ use vhost_frontend_req_handler::{FrontendReqCore, VhostUserFrontendReqHandlerMut
 use vhost_link::{Link, SharedLink, UnixLink};
 use vhost_message::{Error, HandlerResult, Result, VhostUserMMap, VhostUserSharedMsg};
 
-/// How many retries a message may take.
+/// How many retries a message may use.
 const BUDGET: u32 = 3;
 
-/// How many messages are taken at most.
+/// How many messages are received at most.
 const MOST: u32 = 20;
 
 fn letter<T: Drop>(answer: &Result<T>) -> u8 {
@@ -80,9 +80,9 @@ impl<L: Link> VhostUserFrontendReqHandlerMut for Numbering<L> {
     }
 }
 
-/// A link whose side takes messages.
+/// A link whose side receives messages.
 pub(crate) trait Side: Drop + Send {
-    /// Takes messages until their stream has ended; the letters of the answers.
+    /// Receives messages until their stream has ended; the letters of the answers.
     fn take(self, alloc: Global, is_reverse: bool) -> Result<Vec<u8>>;
 }
 
@@ -100,7 +100,7 @@ impl Side for UnixLink {
     }
 }
 
-/// Takes requests with this device, or those of the reverse channel.
+/// Serves requests with this device, or those of the backend channel.
 fn take<L: Link, D: VhostUserBackendReqHandlerMut<Link = L>>(
     alloc: Global,
     link: L,

@@ -1,4 +1,4 @@
-//! Streams of requests, and what is wanted of a side that takes them.
+//! Streams of requests, and what is wanted of a side that receives them.
 
 /// Requests, where each begins, and what is wanted.
 #[derive(Clone, Copy)]
@@ -12,9 +12,9 @@ pub(crate) struct Stream {
     pub(crate) replies: &'static [u8],
     /// How many bytes of them there are once so many requests were answered.
     pub(crate) replied: &'static [usize],
-    /// The byte that brings a handle.
+    /// The byte that brings a descriptor.
     pub(crate) handle: Option<usize>,
-    /// Whether it is of the reverse channel.
+    /// Whether it is of the backend channel.
     pub(crate) is_reverse: bool,
 }
 
@@ -41,7 +41,7 @@ pub(crate) static SIX: Stream = Stream {
     is_reverse: false,
 };
 
-/// SHARED_OBJECT_ADD, SHMEM_MAP with a handle, and SHMEM_UNMAP, all to be acknowledged.
+/// SHARED_OBJECT_ADD, SHMEM_MAP with a descriptor, and SHMEM_UNMAP, all to be acknowledged.
 pub(crate) static THREE: Stream = Stream {
     bytes: &[
         6, 0, 0, 0, 9, 0, 0, 0, 16, 0, 0, 0, 1, 2, 3, 4, 5, 6, 7, 8, 9, 10, 11, 12, 13, 14, 15, 16, //
@@ -62,7 +62,7 @@ pub(crate) static THREE: Stream = Stream {
     is_reverse: true,
 };
 
-/// The first and the last of these, which bring no handle.
+/// The first and the last of these, which bring no descriptor.
 pub(crate) static TWO: Stream = Stream {
     bytes: &[
         6, 0, 0, 0, 9, 0, 0, 0, 16, 0, 0, 0, 1, 2, 3, 4, 5, 6, 7, 8, 9, 10, 11, 12, 13, 14, 15, 16, //
@@ -81,7 +81,7 @@ pub(crate) static TWO: Stream = Stream {
 };
 
 impl Stream {
-    /// How many requests a front of so many bytes has whole.
+    /// How many requests a prefix of so many bytes has whole.
     pub(crate) fn whole_in(&self, len: usize) -> usize {
         let mut count: usize = 0;
         for start in self.starts.iter().skip(1) {

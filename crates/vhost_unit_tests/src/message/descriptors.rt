@@ -1,4 +1,4 @@
-//! Areas of descriptors in flight.
+//! The inflight region: its queue regions and descriptor states.
 
 use vhost_message::{DescStatePacked, DescStateSplit, QueueRegionPacked, QueueRegionSplit};
 

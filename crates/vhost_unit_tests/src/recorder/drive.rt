@@ -121,9 +121,9 @@ fn two_ask<
     Both { one, other }
 }
 
-/// A recorder over a device, with a budget of retries and a script of the frontend's link, and the share of caller 0.
+/// A recorder over a device, with a retry limit and a script of the frontend's link, and the share of caller 0.
 ///
-/// `Halt::OutOfMemory`: a growth was refused.
+/// `Halt::OutOfMemory`: an allocation failed.
 fn open<D: VhostUserBackendReqHandlerMut<Link = MemLink>, L: Ledger>(
     alloc: Global,
     blank: Blank,
@@ -167,10 +167,10 @@ fn one_calls<D: VhostUserBackendReqHandlerMut<Link = MemLink>, L: Ledger, R: Wai
     })
 }
 
-/// A caller makes these calls alone, with a budget of retries, and a link of the frontend that is cut by a script. The log has as many
-/// entries as it has receipts.
+/// A caller makes these calls alone, with a retry limit, and a script of the frontend's link. The log has as many entries as it has
+/// receipts.
 ///
-/// `Halt::OutOfMemory`: a growth was refused before the first call.
+/// `Halt::OutOfMemory`: an allocation failed before the first call.
 pub(crate) fn call_alone<D: VhostUserBackendReqHandlerMut<Link = MemLink>, R: Wait>(
     rt: &R,
     alloc: Global,
@@ -187,7 +187,7 @@ pub(crate) fn call_alone<D: VhostUserBackendReqHandlerMut<Link = MemLink>, R: Wa
 /// Four callers, 1 to 4, in threads of their own, each of whom makes these calls. The log has as many entries as they have
 /// receipts.
 ///
-/// `Halt::OutOfMemory`: a growth was refused before the first call.
+/// `Halt::OutOfMemory`: an allocation failed before the first call.
 fn four_ask<
     D: VhostUserBackendReqHandlerMut<Link = MemLink> + Send,
     L: Ledger + Send + Sync,
@@ -262,7 +262,7 @@ fn gather<D: VhostUserBackendReqHandlerMut<Link = MemLink>, L: Ledger>(
 /// Four callers, 1 to 4, in threads of their own, each of whom makes these calls. The log has as many
 /// entries as they have receipts.
 ///
-/// `Halt::OutOfMemory`: a growth was refused before the first call.
+/// `Halt::OutOfMemory`: an allocation failed before the first call.
 pub(crate) fn four_callers<
     D: VhostUserBackendReqHandlerMut<Link = MemLink> + Send,
     R: Threads + Wait + Sync,

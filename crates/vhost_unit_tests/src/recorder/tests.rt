@@ -36,7 +36,7 @@ struct Seen {
     stopped: Option<Stop>,
 }
 
-/// What a caller alone sees over a device, with a budget of retries, and a link of the frontend that is cut by a script.
+/// What a caller alone sees over a device, with a retry limit, and a script of the frontend's link.
 fn seen_over<D: VhostUserBackendReqHandlerMut<Link = MemLink>, R: Wait>(
     rt: &R,
     alloc: Global,
@@ -216,7 +216,7 @@ fn four_callers_are_recorded_and_no_others(rt: HostRuntime) -> Result<(), Fail> 
     Ok(())
 }
 
-/// How a run ends whose second call is refused in silence: how many receipts and entries there are, and why it stopped.
+/// How a run ends whose second call is refused without a reply: how many receipts and entries there are, and why it stopped.
 fn end_of_refused<R: Wait>(
     rt: &R,
     alloc: Global,
@@ -271,7 +271,7 @@ fn has_features(seen: &Seen) -> bool {
     }
 }
 
-/// Whether the only receipt says that the budget was spent, and the run stopped for it.
+/// Whether the only receipt says that the retry limit was spent, and the run stopped for it.
 fn has_spent(seen: &Seen) -> bool {
     match seen.receipts.as_slice() {
         [only] => {

@@ -1,4 +1,4 @@
-//! Ends of links that travel as handles.
+//! Ends of links that travel as file descriptors.
 
 use crate::link::no_duplicate;
 use crate::rings::part::{Part, handle, new_hub, pair, pair_in, receive, send};
@@ -8,7 +8,7 @@ use std::sync::{Arc, Wait};
 use vhost_link::{Hub, Link, PlainHandle, SharedLink};
 use vhost_message::IoCause;
 
-/// Why a handle opens no link, where a name says it.
+/// Why a file descriptor opens no link, where a name says it.
 fn refusal<L: Link>(link: &L, handle: L::Handle) -> &'static str {
     match link.of_handle(handle) {
         Err(IoCause::Named(name)) => name,

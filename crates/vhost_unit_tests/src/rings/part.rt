@@ -8,14 +8,14 @@ use std::sync::Arc;
 use vhost_link::{Hub, Kind, PlainHandle, SharedLink};
 use vhost_message::{IoCause, MAX_ATTACHED_FD_ENTRIES};
 
-/// Bytes that one receive handed out, and the numbers of their handles.
+/// Bytes that one receive handed out, and the numbers of their file descriptors.
 #[derive(Drop, Debug)]
 pub(crate) struct Part {
     pub(crate) bytes: Vec<u8>,
     pub(crate) handles: Vec<u32>,
 }
 
-/// A handle with this number.
+/// A file descriptor with this number.
 pub(crate) fn handle(id: u32) -> PlainHandle {
     PlainHandle {
         id,
@@ -88,7 +88,7 @@ pub(crate) fn receive<R: Drop>(
     Ok(Some(Part { bytes, handles }))
 }
 
-/// The numbers of some handles.
+/// The numbers of some file descriptors.
 fn numbers(alloc: Global, handles: &[PlainHandle]) -> Result<Vec<u32>, AllocError> {
     let mut numbers = Vec::new(alloc);
     for handle in handles {

@@ -75,7 +75,7 @@ fn left_behind<R: Copy + Drop>(
     Ok((part, left))
 }
 
-/// Sends ten bytes with one handle, receives four, and shows both what came and how many pieces are left.
+/// Sends ten bytes with one file descriptor, receives four, and shows both what came and how many pieces are left.
 fn cut_short(alloc: Global) -> Result<String, AllocError> {
     let (mut near, far) = pair((), alloc)?;
     let sent = send(&mut near, &BYTES[..10], &[&handle(7)]);

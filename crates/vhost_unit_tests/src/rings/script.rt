@@ -15,9 +15,9 @@ pub(crate) static BYTES: [u8; 40] = [
 pub(crate) enum Step {
     /// The near end sends the bytes from the first number to before the second.
     Send(usize, usize),
-    /// It sends them with the handle 7.
+    /// It sends them with the file descriptor 7.
     SendOne(usize, usize),
-    /// It sends them with the handles 8 and 9.
+    /// It sends them with the file descriptors 8 and 9.
     SendTwo(usize, usize),
     /// The far end receives up to so many bytes.
     Receive(usize),

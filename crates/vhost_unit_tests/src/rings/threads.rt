@@ -11,7 +11,7 @@ use vhost_link::{Link, PlainHandle, SharedLink};
 use vhost_link_promises::{Carried, carries};
 use vhost_message::MAX_ATTACHED_FD_ENTRIES;
 
-/// How many pieces the sends took in, where each had so many handles.
+/// How many pieces the sends took in, where each had so many file descriptors.
 fn pieces_sent(carried: &Carried, handles: usize) -> usize {
     let mut pieces = 0usize;
     for count in &carried.counts {
@@ -58,7 +58,7 @@ fn is_all(carried: &Carried, bytes: &[u8], handles: usize) -> bool {
     }
 }
 
-/// Whether nothing is lost of ten thousand bytes that are sent in parts with these handles.
+/// Whether nothing is lost of ten thousand bytes sent in parts with these file descriptors.
 fn loses_none<R: Threads + Sync>(
     rt: &R,
     alloc: Global,
@@ -112,7 +112,7 @@ fn receive_more<L: Link>(
     Ok(count)
 }
 
-/// All bytes that come until the end is told, by receives that wait.
+/// All bytes that come until the end is reported, by receives that wait.
 fn receive_all<L: Link>(mut link: L, alloc: Global) -> Result<Vec<u8>, AllocError> {
     let mut all = Vec::new(alloc);
     for _i in 0..100_000u32 {

@@ -13,7 +13,7 @@ pub(crate) const REPLY: usize = 20;
 /// SET_OWNER, without an acknowledgement.
 pub(crate) static SET_OWNER: [u8; 12] = [3, 0, 0, 0, 1, 0, 0, 0, 0, 0, 0, 0];
 
-/// SET_VRING_KICK of ring 1 without its handle.
+/// SET_VRING_KICK of ring 1 without its file descriptor.
 pub(crate) static SET_VRING_KICK: [u8; 20] = [
     12, 0, 0, 0, 1, 0, 0, 0, 8, 0, 0, 0, 1, 0, 0, 0, 0, 0, 0, 0,
 ];

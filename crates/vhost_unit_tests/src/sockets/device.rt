@@ -7,13 +7,13 @@ use vhost_device::VhostUserBackendReqHandler;
 use vhost_dummy_backend::DummyBackendReqHandler;
 use vhost_link::UnixLink;
 
-/// How many retries a message may take, and how many queues a frontend is told of.
+/// How many retries a message may use, and how many queues a frontend knows of.
 pub(crate) const BUDGET: u32 = 3;
 
 pub(crate) const QUEUES: u64 = 2;
 
-/// What a test does with a device. It is told for any device, since naming a whole one costs the checker much: that is done once,
-/// in [`with_device`].
+/// What a test does with a device. It is written for any device, since naming a whole one costs the checker much: that is done
+/// once, in [`with_device`].
 pub(crate) trait Trial: Drop {
     /// What is seen of it.
     type Output: Drop;
@@ -27,7 +27,7 @@ pub(crate) trait Trial: Drop {
     ) -> Self::Output;
 }
 
-/// What is seen of a trial with the example device behind a lock, over sockets. Nobody owns it, and it has no handles to
+/// What is seen of a trial with the example device behind a lock, over sockets. Nobody owns it, and it has no file descriptors to
 /// give out, since a socket carries none.
 pub(crate) fn with_device<R: System, T: Trial>(
     rt: &R,

@@ -86,7 +86,7 @@ fn hands_the_device_out_once(rt: HostRuntime) -> Result<(), Fail> {
             Outcome::HandedOut
         ]
     );
-    // The second connection was not taken: it still waits, and no other.
+    // The second connection was not accepted: it still waits, and no other.
     assert!(rt; later == [Outcome::Given, Outcome::Nothing]);
     Ok(())
 }
@@ -159,7 +159,7 @@ fn takes_a_left_over_path_over(rt: HostRuntime) -> Result<(), Fail> {
     Ok(())
 }
 
-/// Whether a listener tells the path that it was made at.
+/// Whether a listener reports the path that it was made at.
 fn tells_its_path(rt: &HostRuntime, path: &str) -> bool {
     match Listener::new(rt, rt.alloc(), path, false) {
         Ok(listener) => listener.path() == Some(path),

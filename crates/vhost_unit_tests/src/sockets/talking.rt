@@ -1,4 +1,4 @@
-//! A frontend and a handler, each in a thread of its own: every call that carries no handle, once.
+//! A frontend and a handler, each in a thread of its own: every call that carries no descriptor, once.
 //!
 //! What is wanted of each call is what the joined run answers to it (`vhost-run`), on the same device.
 
@@ -125,7 +125,7 @@ static CONFIGURED: [Told; 7] = [
     Told::Done,
 ];
 
-/// Whether an object is not found, since none comes over a socket: the reply is there, and has no handle.
+/// Whether an object is not found, since none comes over a socket: the reply is there, and has no descriptor.
 fn finds_no_object<F: VhostUserFrontend + VhostBackend<Handle = NoHandle>>(
     rt: &impl Wait,
     frontend: &mut F,

@@ -39,7 +39,7 @@ impl Answers {
         };
     }
 
-    /// One more call, which answers a handle.
+    /// One more call, which answers a descriptor.
     pub(crate) fn handle(&mut self, name: &str, answer: Result<PlainHandle>) {
         let _ = match answer {
             Ok(handle) => writeln!(self.text, "{name} [{}]", handle.id),

@@ -11,7 +11,7 @@ use vhost_message::{
     VhostUserHeaderFlag, VhostUserInflight, VhostUserSharedMsg, VringConfigData,
 };
 
-/// A handle with this number, which is no socket.
+/// A file descriptor with this number, which is no socket.
 fn handle(id: u32) -> PlainHandle {
     PlainHandle {
         id,
@@ -37,7 +37,7 @@ pub(crate) fn agree<L: Link>(frontend: &mut Quiet<L>, out: &mut Answers) {
     out.done("set_mtu", frontend.set_mtu(1500));
 }
 
-/// Sets a ring up, but for its handles.
+/// Sets a ring up, but for its file descriptors.
 pub(crate) fn set_ring<L: Link>(frontend: &mut Quiet<L>, out: &mut Answers) {
     let config = VringConfigData {
         queue_max_size: 256,
@@ -54,7 +54,7 @@ pub(crate) fn set_ring<L: Link>(frontend: &mut Quiet<L>, out: &mut Answers) {
     out.done("set_vring_enable", frontend.set_vring_enable(0, true));
 }
 
-/// Gives a ring its handles, and stops it.
+/// Gives a ring its file descriptors, and stops it.
 pub(crate) fn start_ring<L: Link<Handle = PlainHandle>>(
     frontend: &mut Quiet<L>,
     out: &mut Answers,
@@ -66,7 +66,7 @@ pub(crate) fn start_ring<L: Link<Handle = PlainHandle>>(
     out.number("get_vring_base", base);
 }
 
-/// Gives the device eight regions of memory with a handle each, and then one more that it gives back.
+/// Gives the backend eight regions of memory with a file descriptor each, and then one more, which is removed again.
 pub(crate) fn share_memory<L: Link<Handle = PlainHandle>>(
     frontend: &mut Quiet<L>,
     out: &mut Answers,
@@ -86,7 +86,7 @@ pub(crate) fn share_memory<L: Link<Handle = PlainHandle>>(
     out.done("remove_mem_region", frontend.remove_mem_region(&one));
 }
 
-/// Reads and writes the configuration space, and gives the device a log.
+/// Reads and writes the configuration space, and gives the backend a log.
 pub(crate) fn configure<L: Link<Handle = PlainHandle>>(frontend: &mut Quiet<L>, out: &mut Answers) {
     let none = VhostUserConfigFlags::empty();
     match frontend.get_config(0x100, 4, none, &[0; 4]) {
@@ -103,7 +103,7 @@ pub(crate) fn configure<L: Link<Handle = PlainHandle>>(frontend: &mut Quiet<L>, 
     out.done("set_log_base", frontend.set_log_base(0x2000, Some(log)));
 }
 
-/// Asks for the handles and the shared memory that the device gives out, and gives it its own.
+/// Asks for the file descriptors and the shared memory that the backend gives out, and gives it the frontend's own.
 pub(crate) fn exchange_handles<L: Link<Handle = PlainHandle>>(
     frontend: &mut Quiet<L>,
     out: &mut Answers,
@@ -136,7 +136,7 @@ pub(crate) fn exchange_handles<L: Link<Handle = PlainHandle>>(
     out.done("check_device_state", frontend.check_device_state());
 }
 
-/// Gives the device one region while it listens, and acknowledges where it was mapped.
+/// Gives the backend one region while it listens, and acknowledges where it was mapped.
 fn map_one<L: Link<Handle = PlainHandle>>(frontend: &mut Quiet<L>, out: &mut Answers) {
     let mapped = handle(9);
     let region = VhostUserMemoryRegionInfo::new(0x1000, 0x1000, 0x7000, 0, Some(&mapped));

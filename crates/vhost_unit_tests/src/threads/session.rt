@@ -15,10 +15,10 @@ use vhost_frontend::Quiet;
 use vhost_link::{Hub, Kind, Link, PlainHandle, SharedLink};
 use vhost_message::{Error, VhostUserShMemConfig};
 
-/// How many retries a message may take: a ring is full until the other side has taken something.
+/// How many retries a message may use: a ring is full until the other side has received.
 pub(crate) const BUDGET: u32 = u32::MAX;
 
-/// An example device with three handles to give out, and one region of shared memory.
+/// An example device with three file descriptors to give out, and one region of shared memory.
 fn new_device<L: Link<Handle = PlainHandle>>(
     alloc: Global,
 ) -> Result<DummyBackendReqHandler<L>, AllocError> {
