@@ -1,4 +1,5 @@
 pub mod Session
+pub mod Refusing
 pub mod Beginning
 pub mod Replies
 pub mod Concluding

@@ -3,11 +3,12 @@
 ghost use Rattle.std.specs.Prelude.{◌≡◌, ◌≤◌, ◌+◌, ◌*◌, length};
 ghost use Rattle.vhost_message.specs.declared.limits.TheConstants.{MAX_MEM_REGIONS, MAX_MSG_SIZE, MEMORY_REGION_SIZE};
 
+use crate::refusal::Refusal;
 use std::alloc::AllocError;
 use vhost_message::{
-    Error, VhostTransferStateDirection, VhostTransferStatePhase, VhostUserConfig,
-    VhostUserInflight, VhostUserLog, VhostUserMemoryRegion, VhostUserSharedMsg,
-    VhostUserSingleMemoryRegion, VhostUserVringAddr, read_regions,
+    VhostTransferStateDirection, VhostTransferStatePhase, VhostUserConfig, VhostUserInflight,
+    VhostUserLog, VhostUserMemoryRegion, VhostUserSharedMsg, VhostUserSingleMemoryRegion,
+    VhostUserVringAddr, read_regions,
 };
 
 /// The regions of a table, as they lie in the body of their request.
@@ -141,5 +142,5 @@ pub enum Begun<'a> {
     /// The device is to be called.
     Calls(DeviceCall<'a>),
     /// It is refused; where it asks for it, that is acknowledged.
-    Refuses(Error),
+    Refuses(Refusal),
 }

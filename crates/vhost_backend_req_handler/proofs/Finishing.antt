@@ -23,6 +23,9 @@ use Rattle.vhost_backend_core.specs.declared.answer.DeviceAnswer.{DeviceAnswer}
 use Rattle.vhost_backend_core.specs.declared.answer.Then.{Then}
 use Rattle.vhost_backend_core.specs.declared.call.Begun.{Begun}
 use Rattle.vhost_backend_core.specs.declared.call.DeviceCall.{DeviceCall}
+use Rattle.vhost_backend_core.specs.declared.refusal.Refusal.{Refusal}
+use Rattle.vhost_backend_core.specs.declared.refusal.Refusal.TheVariants as refusal
+use Rattle.vhost_backend_core.specs.Refusing.{refusal_in}
 use Rattle.vhost_backend_req_handler.proofs.Fitting.{answer_fits}
 use Rattle.vhost_backend_req_handler.specs.Calling.{Called}
 use Rattle.vhost_backend_req_handler.specs.Sized.{AnswerSized}
@@ -54,16 +57,16 @@ module _ {L H B G Dev : Type 0} {event : L → Event H → L → Type 0} {gives 
   by_row {old = old} {new = new} {s = s} {s' = s'} {d = d} {d' = d'} {result = result} e p = subst (λ x. Answers event gives opens_backend opens_gpu r x old s d result new s' d') e p
 
   -- nothing is left but a refusal in silence
-  pub refused : {old : State L H} {s : Session} {d : Dev} (e : declared.Error) → IsReady old
-      → Answers event gives opens_backend opens_gpu r (Refused (silently (seen e))) old s d (Err e) old s d
-  refused {old = old} {s = s} e ready = serving.answered (record {
+  pub refused : {old : State L H} {s : Session} {d : Dev} (e : declared.Error) (r' : Refusal) → seen e ≡ refusal_in r' → IsReady old
+      → Answers event gives opens_backend opens_gpu r (Refused (silently (refusal_in r'))) old s d (Err e) old s d
+  refused {old = old} {s = s} e r' is ready = serving.answered (record {
     written = [];
-    meets = record { outcome = record { answer = Err (seen e); served = Silent; session = s }; follows = (refl, refl); is_answer = refl; is_written = refl; session = refl };
+    meets = record { outcome = record { answer = Err (refusal_in r'); served = Silent; session = s }; follows = (refl, refl); is_answer = ap (λ x. Err x) is; is_written = refl; session = refl };
     replies = none-sent event old ready;
   })
 
 -- what a request became, by its variant
-pub begun_as : {H B G : Type 0} (s : Session) (m : Message FrontendReq H) {begun v : Result Begun declared.Error} {row : Step H B G} → step_in s m begun ≡ row → begun ≡ v → step_in s m v ≡ row
+pub begun_as : {H B G : Type 0} (s : Session) (m : Message FrontendReq H) {begun v : Result Begun Refusal} {row : Step H B G} → step_in s m begun ≡ row → begun ≡ v → step_in s m v ≡ row
 begun_as s m {row = row} is e = subst (λ x. step_in s m x ≡ row) e is
 
 module _ {H B G Dev : Type 0} (gives : Dev → (c : Call H B G) → Answer c → Dev → Type 0) (opens_backend : H → Result B Error → Type 0) (opens_gpu : H → Result G Error → Type 0)
@@ -84,12 +87,12 @@ module _ {H B G Dev : Type 0} (gives : Dev → (c : Call H B G) → Answer c →
   followed (OpensGpu h next) (inr (e, opened, err, same)) is = (Err e, opened, refused_by (next (Err e)) (is.1 e err) same)
 
 -- no call was made, since the handles are not those of the call
-pub uncalled : {H B G Dev : Type 0} {gives : Dev → (c : Call H B G) → Answer c → Dev → Type 0} {opens_backend : H → Result B Error → Type 0} {opens_gpu : H → Result G Error → Type 0}
+pub uncalled : {H B G Dev : Type 0} (gives : Dev → (c : Call H B G) → Answer c → Dev → Type 0) (opens_backend : H → Result B Error → Type 0) (opens_gpu : H → Result G Error → Type 0)
     (d d' : Dev) (b : Beside) (step : Step H B G) → Called gives opens_backend opens_gpu d b step None d' → (step ≡ Refused (silently InvalidMessage)) × (d' ≡ d)
-uncalled d d' b (Refused r) (is, same) = (ap (λ x. Refused x) is, same)
-uncalled d d' b (Calls c next) called = absurd called
-uncalled d d' b (OpensBackend h next) called = absurd called
-uncalled d d' b (OpensGpu h next) called = absurd called
+uncalled gives opens_backend opens_gpu d d' b (Refused r) (is, same) = (ap (λ x. Refused x) is, same)
+uncalled gives opens_backend opens_gpu d d' b (Calls c next) called = absurd called
+uncalled gives opens_backend opens_gpu d d' b (OpensBackend h next) called = absurd called
+uncalled gives opens_backend opens_gpu d d' b (OpensGpu h next) called = absurd called
 
 module _ {L H B G Dev : Type 0} {event : L → Event H → L → Type 0} {gives : Dev → (c : Call H B G) → Answer c → Dev → Type 0}
     {opens_backend : H → Result B Error → Type 0} {opens_gpu : H → Result G Error → Type 0} {r : FrontendReq} where
@@ -110,8 +113,8 @@ module _ {L H B G Dev : Type 0} {event : L → Event H → L → Type 0} {gives 
       → t ≡ s → mid ≡ old → Called gives opens_backend opens_gpu d b (step_of s m call) None d' → IsReady old
       → Answers event gives opens_backend opens_gpu r (step_of s m call) old s d (Err code.InvalidMessage) mid t d'
   unmade s t old mid m call b d d' session endpoint called ready =
-      let u = uncalled d d' b (step_of s m call) called in
-      let plain : Answers event gives opens_backend opens_gpu r (step_of s m call) old s d (Err code.InvalidMessage) old s d = by_row (sym u.0) (refused code.InvalidMessage ready) in
+      let u = uncalled gives opens_backend opens_gpu d d' b (step_of s m call) called in
+      let plain : Answers event gives opens_backend opens_gpu r (step_of s m call) old s d (Err code.InvalidMessage) old s d = by_row (sym u.0) (refused code.InvalidMessage refusal.InvalidMessage refl ready) in
       subst (λ (x : Session). Answers event gives opens_backend opens_gpu r (step_of s m call) old s d (Err code.InvalidMessage) mid x d') (sym session)
       (subst (λ (x : State L H). Answers event gives opens_backend opens_gpu r (step_of s m call) old s d (Err code.InvalidMessage) x s d') (sym endpoint)
       (subst (λ (x : Dev). Answers event gives opens_backend opens_gpu r (step_of s m call) old s d (Err code.InvalidMessage) old s x) (sym u.1) plain))

@@ -1,5 +1,5 @@
 -- Where a device has mapped the regions of a table.
-use Rattle.std.proofs.Common.{◌≡◌, ◌⊎◌, inl, inr, ◌≤◌, ◌<◌, ℕ, zero, suc, ◌+◌, List, [], ◌∷◌, ◌++◌, length, take, drop, set, slice_index, slice_index_or, refl, ap, ◌∙◌, arith}
+use Rattle.std.proofs.Common.{◌≡◌, ◌⊎◌, inl, inr, ◌≤◌, ◌<◌, ℕ, zero, suc, ◌+◌, List, [], ◌∷◌, ◌++◌, length, take, drop, set, slice_index, slice_index_or, refl, ap, subst, ◌∙◌, arith}
 use Rattle.vhost_message.specs.declared.records.memory.VhostUserMemoryRegion.{VhostUserMemoryRegion}
 use Rattle.vhost_protocol.specs.Answered.{rebased}
 
@@ -35,3 +35,18 @@ rebased-front (suc n) (r ∷ rs) (base ∷ bases) fits given (inl e) =
     ap (λ xs. record r { user_addr = base } ∷ xs) (rebased-front n rs bases (omega arith) (omega arith) (inl (omega arith)))
 rebased-front (suc n) (r ∷ rs) (base ∷ bases) fits given (inr e) =
     ap (λ xs. record r { user_addr = base } ∷ xs) (rebased-front n rs bases (omega arith) (omega arith) (inr (omega arith)))
+
+-- how far there are both: as far as the shorter of the two
+abbrev pub Shorter : ℕ → List VhostUserMemoryRegion → List ℕ → Type 0
+Shorter n rs bases = ((length rs < length bases) × (n ≡ length rs)) ⊎ ((length bases ≤ length rs) × (n ≡ length bases))
+
+fronts : (n : ℕ) (rs : List VhostUserMemoryRegion) (bases : List ℕ) → Shorter n rs bases → take n (rebased (take n rs) (take n bases) ++ drop n rs) ≡ rebased rs bases
+fronts n rs bases (inl (less, is)) = rebased-front n rs bases (omega arith) (omega arith) (inl is)
+fronts n rs bases (inr (less, is)) = rebased-front n rs bases (omega arith) (omega arith) (inr is)
+
+pub rebased-both : (n i : ℕ) (rs : List VhostUserMemoryRegion) (bases : List ℕ) (now : List VhostUserMemoryRegion)
+    → Shorter n rs bases → n ≤ i → i ≤ n → now ≡ rebased (take i rs) (take i bases) ++ drop i rs → take n now ≡ rebased rs bases
+rebased-both n i rs bases now short end within so_far =
+    let same : i ≡ n = omega arith in
+    let placed : now ≡ rebased (take n rs) (take n bases) ++ drop n rs = subst (λ k. now ≡ rebased (take k rs) (take k bases) ++ drop k rs) same so_far in
+    ap (λ xs. take n xs) placed ∙ fronts n rs bases short

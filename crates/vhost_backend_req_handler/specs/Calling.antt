@@ -14,6 +14,18 @@ use Rattle.vhost_backend_core.specs.Concluding.{Beside, answer_in, done_in}
 use Rattle.vhost_backend_core.specs.declared.answer.DeviceAnswer.{DeviceAnswer}
 use Rattle.vhost_backend_core.specs.declared.call.DeviceCall.{DeviceCall}
 
+-- a channel to the frontend was opened and given to the device, or could not be opened
+abbrev pub GivesBackend : {H B G Dev : Type 0} → (Dev → (c : Call H B G) → Answer c → Dev → Type 0) → (H → Result B Error → Type 0) → Dev → H → Result ⊤ declared.Error → Dev → Type 0
+GivesBackend {B = B} gives opens d h result d' =
+    ((channel : B) × opens h (Ok channel) × (seen_result result ≡ Ok tt) × gives d (SetBackendReqFd channel) tt d')
+    ⊎ ((e : Error) × opens h (Err e) × (seen_result result ≡ Err e) × (d' ≡ d))
+
+-- the same of the channel to a display
+abbrev pub GivesGpu : {H B G Dev : Type 0} → (Dev → (c : Call H B G) → Answer c → Dev → Type 0) → (H → Result G Error → Type 0) → Dev → H → Result ⊤ declared.Error → Dev → Type 0
+GivesGpu {G = G} gives opens d h result d' =
+    ((channel : G) × opens h (Ok channel) × gives d (SetGpuSocket channel) (seen_result result) d')
+    ⊎ ((e : Error) × opens h (Err e) × (seen_result result ≡ Err e) × (d' ≡ d))
+
 -- what lies beside a call and its answer
 abbrev pub beside : List VhostUserMemoryRegion → VhostUserShMemConfig → Beside
 beside rs place = record { regions = rs; shmem = place }
@@ -35,17 +47,6 @@ module _ {H B G Dev : Type 0} (gives : Dev → (c : Call H B G) → Answer c →
   Called d b (OpensGpu h next) (Some a) d' =
       ((channel : G) × opens_gpu h (Ok channel) × Called d b (next (Ok channel)) (Some a) d')
       ⊎ ((e : Error) × opens_gpu h (Err e) × (done_in a ≡ Err e) × (d' ≡ d))
-
-  -- a channel was opened and given to the device, or could not be opened
-  abbrev pub GivesBackend : Dev → H → Result ⊤ declared.Error → Dev → Type 0
-  GivesBackend d h result d' =
-      ((channel : B) × opens_backend h (Ok channel) × (seen_result result ≡ Ok tt) × gives d (SetBackendReqFd channel) tt d')
-      ⊎ ((e : Error) × opens_backend h (Err e) × (seen_result result ≡ Err e) × (d' ≡ d))
-
-  abbrev pub GivesGpu : Dev → H → Result ⊤ declared.Error → Dev → Type 0
-  GivesGpu d h result d' =
-      ((channel : G) × opens_gpu h (Ok channel) × gives d (SetGpuSocket channel) (seen_result result) d')
-      ⊎ ((e : Error) × opens_gpu h (Err e) × (seen_result result ≡ Err e) × (d' ≡ d))
 
   -- a call with these handles, whatever else its message holds
   abbrev pub CalledWith : Dev → VhostUserShMemConfig → DeviceCall → List H → Option (DeviceAnswer H) → Dev → Type 0

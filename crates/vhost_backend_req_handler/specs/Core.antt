@@ -24,7 +24,7 @@ use Rattle.vhost_connection.specs.Requests.{Reads, IsReady}
 
 -- its endpoint
 abbrev pub endpoint_of : {L H : Type 0} → SessionCore L H → State L H
-endpoint_of c = state c.server.endpoint
+endpoint_of c = state c.endpoint
 
 -- its session
 abbrev pub session_in : {L H : Type 0} → SessionCore L H → Session
@@ -32,7 +32,7 @@ session_in c = session_of c.server.session
 
 -- a session over another endpoint
 abbrev pub with_endpoint : {L H : Type 0} → SessionCore L H → Endpoint (VhostUserMsgHeader FrontendReq) L H → SessionCore L H
-with_endpoint c endpoint = record c { server = record (c.server) { endpoint = endpoint } }
+with_endpoint c endpoint = record c { endpoint = endpoint }
 
 -- A request is answered by its row, of the message that it is with these handles, over an endpoint that can reply.
 abbrev pub MeetsRowWith : {L H B G Dev : Type 0} → (event : L → Event H → L → Type 0) (opens : L → H → Result L IoCause → Type 0) (kinds : H → Result Kind IoCause → Type 0)

@@ -12,10 +12,12 @@ ghost use Rattle.vhost_backend_core.specs.declared.call.DeviceCall.TheVariants a
 ghost use Rattle.vhost_backend_req_handler.specs.Calling.{CalledWith};
 ghost use Rattle.vhost_backend_req_handler.specs.Opening.{OpensAs};
 
-use crate::server::Server;
+use crate::opening::{give_backend, give_gpu};
+use crate::server::{Header, Server};
 use bitflags::Flags;
 use std::alloc::Global;
 use vhost_backend_core::{Area, DeviceAnswer, DeviceCall, RegionTable, take_single_file};
+use vhost_connection::Endpoint;
 use vhost_device::VhostUserBackendReqHandlerMut;
 use vhost_link::Link;
 use vhost_message::{
@@ -207,17 +209,48 @@ fn set_mem_table<L: Link, D: VhostUserBackendReqHandlerMut<Link = L>>(
     DeviceAnswer::Bases(device.set_mem_table(regions, files, Some(listens)))
 }
 
-impl<L: Link> Server<L> {
+fn set_backend_req_fd<L: Link, D: VhostUserBackendReqHandlerMut<Link = L>>(
+    alloc: Global,
+    endpoint: &mut Endpoint<Header, L>,
+    device: &mut D,
+    handles: Option<Vec<L::Handle>>,
+) -> Option<DeviceAnswer<L::Handle>>
+    ensures called { (place : VhostUserShMemConfig) → CalledWith D.gives (λ h o. OpensAs L.opens L.Handle.kinds h o) (λ h o. OpensAs L.opens L.Handle.kinds h o) device.old place call_.SetBackendReqFd (handles_in handles) result device.new }
+    ensures same { endpoint.new ≡ endpoint.old }
+{
+    match take_single_file(handles) {
+        Some(file) => Some(DeviceAnswer::Done(give_backend(alloc, endpoint, device, file))),
+        None => None,
+    }
+}
+
+fn set_gpu_socket<L: Link, D: VhostUserBackendReqHandlerMut<Link = L>>(
+    alloc: Global,
+    endpoint: &mut Endpoint<Header, L>,
+    device: &mut D,
+    handles: Option<Vec<L::Handle>>,
+) -> Option<DeviceAnswer<L::Handle>>
+    ensures called { (place : VhostUserShMemConfig) → CalledWith D.gives (λ h o. OpensAs L.opens L.Handle.kinds h o) (λ h o. OpensAs L.opens L.Handle.kinds h o) device.old place call_.SetGpuSocket (handles_in handles) result device.new }
+    ensures same { endpoint.new ≡ endpoint.old }
+{
+    match take_single_file(handles) {
+        Some(file) => Some(DeviceAnswer::Done(give_gpu(alloc, endpoint, device, file))),
+        None => None,
+    }
+}
+
+impl Server {
     /// Calls the device. A channel that the call wants is opened first; where it can't be, that is the answer. None: the
     /// descriptors are not those of this call.
-    pub(crate) fn call_device<D: VhostUserBackendReqHandlerMut<Link = L>>(
+    pub(crate) fn call_device<L: Link, D: VhostUserBackendReqHandlerMut<Link = L>>(
         &mut self,
+        endpoint: &mut Endpoint<Header, L>,
         device: &mut D,
-        call: DeviceCall,
+        call: &DeviceCall<'_>,
         handles: &mut Option<Vec<L::Handle>>,
     ) -> Option<DeviceAnswer<L::Handle>>
-        ensures called { CalledWith D.gives (λ h o. OpensAs L.opens L.Handle.kinds h o) (λ h o. OpensAs L.opens L.Handle.kinds h o) device.old self.new.shmem call.entry (handles_in handles.old) result device.new }
-        ensures endpoint { state self.new.endpoint ≡ state self.old.endpoint }
+        ensures called { CalledWith D.gives (λ h o. OpensAs L.opens L.Handle.kinds h o) (λ h o. OpensAs L.opens L.Handle.kinds h o) device.old self.new.shmem call.now (handles_in handles.old) result device.new }
+        ensures endpoint { state endpoint.new ≡ state endpoint.old }
         ensures session { self.new.session ≡ self.old.session }
     {
         match call {
@@ -226,77 +259,87 @@ impl<L: Link> Server<L> {
             DeviceCall::ResetDevice => Some(DeviceAnswer::Done(device.reset_device())),
             DeviceCall::GetFeatures => Some(DeviceAnswer::Number(device.get_features())),
             DeviceCall::SetFeatures(features) => Some(DeviceAnswer::Done(device.set_features(
-                features,
+                *features,
             ))),
             DeviceCall::SetMemTable(table, listens) => {
                 let files = list_of(self.alloc, handles.take());
-                Some(set_mem_table(device, table, listens, files))
+                Some(set_mem_table(device, *table, *listens, files))
             }
-            DeviceCall::SetLogBase(log) => set_log_base(device, log, handles.take()),
+            DeviceCall::SetLogBase(log) => set_log_base(device, *log, handles.take()),
             DeviceCall::SetVringNum(index, num) => Some(DeviceAnswer::Done(device.set_vring_num(
-                index, num,
+                *index, *num,
             ))),
             DeviceCall::SetVringBase(index, base) => Some(DeviceAnswer::Done(device.set_vring_base(
-                index, base,
+                *index, *base,
             ))),
-            DeviceCall::SetVringAddr(ring) => Some(set_vring_addr(device, ring)),
+            DeviceCall::SetVringAddr(ring) => Some(set_vring_addr(device, *ring)),
             DeviceCall::GetVringBase(index) => Some(DeviceAnswer::RingState(device.get_vring_base(
-                index,
+                *index,
             ))),
             DeviceCall::SetVringKick(index, wants) => set_vring_kick(
                 device,
-                index,
-                wants,
+                *index,
+                *wants,
                 handles.take(),
             ),
             DeviceCall::SetVringCall(index, wants) => set_vring_call(
                 device,
-                index,
-                wants,
+                *index,
+                *wants,
                 handles.take(),
             ),
             DeviceCall::SetVringErr(index, wants) => set_vring_err(
                 device,
-                index,
-                wants,
+                *index,
+                *wants,
                 handles.take(),
             ),
             DeviceCall::GetProtocolFeatures => Some(DeviceAnswer::Number(bits(
                 device.get_protocol_features(),
             ))),
             DeviceCall::SetProtocolFeatures(features) => Some(DeviceAnswer::Done(
-                device.set_protocol_features(features),
+                device.set_protocol_features(*features),
             )),
             DeviceCall::GetQueueNum => Some(DeviceAnswer::Number(device.get_queue_num())),
             DeviceCall::GetMaxMemSlots => Some(DeviceAnswer::Number(device.get_max_mem_slots())),
             DeviceCall::SetVringEnable(index, on) => Some(DeviceAnswer::Done(
-                device.set_vring_enable(index, on),
+                device.set_vring_enable(*index, *on),
             )),
-            DeviceCall::SetMtu(mtu) => Some(DeviceAnswer::Done(device.set_mtu(mtu))),
-            DeviceCall::GetConfig(area) => Some(get_config(device, area)),
-            DeviceCall::SetConfig(area, bytes) => Some(set_config(device, area, bytes)),
-            DeviceCall::SetBackendReqFd => self.set_backend_req_fd(device, handles.take()),
-            DeviceCall::SetGpuSocket => self.set_gpu_socket(device, handles.take()),
+            DeviceCall::SetMtu(mtu) => Some(DeviceAnswer::Done(device.set_mtu(*mtu))),
+            DeviceCall::GetConfig(area) => Some(get_config(device, *area)),
+            DeviceCall::SetConfig(area, bytes) => Some(set_config(device, *area, bytes)),
+            DeviceCall::SetBackendReqFd => set_backend_req_fd(
+                self.alloc,
+                endpoint,
+                device,
+                handles.take(),
+            ),
+            DeviceCall::SetGpuSocket => set_gpu_socket(
+                self.alloc,
+                endpoint,
+                device,
+                handles.take(),
+            ),
             DeviceCall::GetSharedObject(name) => Some(DeviceAnswer::Handle(device.get_shared_object(
-                name,
+                *name,
             ))),
             DeviceCall::GetInflightFd(area) => Some(DeviceAnswer::Inflight(device.get_inflight_fd(
-                &area,
+                area,
             ))),
-            DeviceCall::SetInflightFd(area) => set_inflight_fd(device, area, handles.take()),
+            DeviceCall::SetInflightFd(area) => set_inflight_fd(device, *area, handles.take()),
             DeviceCall::AddMemRegion(region, listens) => add_mem_region(
                 device,
-                region,
-                listens,
+                *region,
+                *listens,
                 handles.take(),
             ),
             DeviceCall::RemoveMemRegion(region) => Some(DeviceAnswer::Done(device.remove_mem_region(
-                &region,
+                region,
             ))),
             DeviceCall::SetDeviceStateFd(direction, phase) => set_device_state_fd(
                 device,
-                direction,
-                phase,
+                *direction,
+                *phase,
                 handles.take(),
             ),
             DeviceCall::CheckDeviceState => Some(DeviceAnswer::Done(device.check_device_state())),
@@ -311,12 +354,11 @@ impl<L: Link> Server<L> {
     }
 
     /// The regions of shared memory go to their place.
-    fn get_shmem_config<D: VhostUserBackendReqHandlerMut<Link = L>>(
+    fn get_shmem_config<L: Link, D: VhostUserBackendReqHandlerMut<Link = L>>(
         &mut self,
         device: &mut D,
     ) -> Option<DeviceAnswer<L::Handle>>
         ensures called { (hs : List L.Handle) → CalledWith D.gives (λ h o. OpensAs L.opens L.Handle.kinds h o) (λ h o. OpensAs L.opens L.Handle.kinds h o) device.old self.new.shmem call_.GetShmemConfig hs result device.new }
-        ensures endpoint { state self.new.endpoint ≡ state self.old.endpoint }
         ensures session { self.new.session ≡ self.old.session }
     {
         match device.get_shmem_config() {
@@ -325,34 +367,6 @@ impl<L: Link> Server<L> {
                 Some(DeviceAnswer::Shmem(Ok(())))
             }
             Err(error) => Some(DeviceAnswer::Shmem(Err(error))),
-        }
-    }
-
-    fn set_backend_req_fd<D: VhostUserBackendReqHandlerMut<Link = L>>(
-        &mut self,
-        device: &mut D,
-        handles: Option<Vec<L::Handle>>,
-    ) -> Option<DeviceAnswer<L::Handle>>
-        ensures called { (place : VhostUserShMemConfig) → CalledWith D.gives (λ h o. OpensAs L.opens L.Handle.kinds h o) (λ h o. OpensAs L.opens L.Handle.kinds h o) device.old place call_.SetBackendReqFd (handles_in handles) result device.new }
-        ensures same { self.new ≡ self.old }
-    {
-        match take_single_file(handles) {
-            Some(file) => Some(DeviceAnswer::Done(self.give_backend(device, file))),
-            None => None,
-        }
-    }
-
-    fn set_gpu_socket<D: VhostUserBackendReqHandlerMut<Link = L>>(
-        &mut self,
-        device: &mut D,
-        handles: Option<Vec<L::Handle>>,
-    ) -> Option<DeviceAnswer<L::Handle>>
-        ensures called { (place : VhostUserShMemConfig) → CalledWith D.gives (λ h o. OpensAs L.opens L.Handle.kinds h o) (λ h o. OpensAs L.opens L.Handle.kinds h o) device.old place call_.SetGpuSocket (handles_in handles) result device.new }
-        ensures same { self.new ≡ self.old }
-    {
-        match take_single_file(handles) {
-            Some(file) => Some(DeviceAnswer::Done(self.give_gpu(device, file))),
-            None => None,
         }
     }
 }

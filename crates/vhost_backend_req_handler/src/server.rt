@@ -24,59 +24,67 @@ use vhost_message::{Error, FrontendReq, Result, VhostUserMsgHeader, VhostUserShM
 
 pub(crate) type Header = VhostUserMsgHeader<FrontendReq>;
 
-/// The endpoint of a session and what it remembers. The body of the request lies outside.
+/// What a session remembers beside its endpoint and the body of the request that is served.
 #[derive(Drop)]
-pub(crate) struct Server<L: Link> {
-    pub(crate) endpoint: Endpoint<Header, L>,
+pub(crate) struct Server {
     pub(crate) session: Session,
     /// The place for the regions of shared memory that a device answers.
     pub(crate) shmem: VhostUserShMemConfig,
     pub(crate) alloc: Global,
 }
 
-impl<L: Link> Server<L> {
+impl Server {
     /// Serves a request, by its handling rule. It may move the descriptors out.
-    pub(crate) fn serve<D: VhostUserBackendReqHandlerMut<Link = L>>(
+    pub(crate) fn serve<'m, L: Link, D: VhostUserBackendReqHandlerMut<Link = L>>(
         &mut self,
+        endpoint: &mut Endpoint<Header, L>,
         device: &mut D,
-        message: &Incoming,
+        message: &Incoming<'m>,
         handles: &mut Option<Vec<L::Handle>>,
     ) -> Result<()>
-        ensures { IsReady (state self.old.endpoint)
-            → Answers L.event D.gives (λ h o. OpensAs L.opens L.Handle.kinds h o) (λ h o. OpensAs L.opens L.Handle.kinds h o) message.now.code (row_of message.now.code (session_of self.old.session) (message_in message.now (handles_in handles.old))) (state self.old.endpoint) (session_of self.old.session) device.old result (state self.new.endpoint) (session_of self.new.session) device.new }
+        ensures { IsReady (state endpoint.old)
+            → Answers L.event D.gives (λ h o. OpensAs L.opens L.Handle.kinds h o) (λ h o. OpensAs L.opens L.Handle.kinds h o) message.now.code (row_of message.now.code (session_of self.old.session) (message_in message.now (handles_in handles.old))) (state endpoint.old) (session_of self.old.session) device.old result (state endpoint.new) (session_of self.new.session) device.new }
     {
         match Rows::<L::Handle, Backend<L>, GpuBackend<L>>::begin(&self.session, message, handles) {
-            Ok(Begun::Calls(call)) => self.make(device, message, call, handles),
-            Ok(Begun::Refuses(error)) => self.refuse(message, error),
-            Err(error) => Err(error),
+            Ok(Begun::Calls(call)) => self.make(endpoint, device, message, &call, handles),
+            Ok(Begun::Refuses(refusal)) => self.refuse(endpoint, message, refusal.error()),
+            Err(refusal) => Err(refusal.error()),
         }
     }
 
     /// Calls the device, and replies. InvalidMessage: the descriptors are not those of this call.
-    fn make<D: VhostUserBackendReqHandlerMut<Link = L>>(
+    fn make<'m, L: Link, D: VhostUserBackendReqHandlerMut<Link = L>>(
         &mut self,
+        endpoint: &mut Endpoint<Header, L>,
         device: &mut D,
-        message: &Incoming,
-        call: DeviceCall,
+        message: &Incoming<'m>,
+        call: &DeviceCall<'m>,
         handles: &mut Option<Vec<L::Handle>>,
     ) -> Result<()>
-        ensures { IsReady (state self.old.endpoint)
-            → Answers L.event D.gives (λ h o. OpensAs L.opens L.Handle.kinds h o) (λ h o. OpensAs L.opens L.Handle.kinds h o) message.now.code (step_of (session_of self.old.session) (message_in message.now (handles_in handles.old)) call.entry) (state self.old.endpoint) (session_of self.old.session) device.old result (state self.new.endpoint) (session_of self.new.session) device.new }
+        ensures { IsReady (state endpoint.old)
+            → Answers L.event D.gives (λ h o. OpensAs L.opens L.Handle.kinds h o) (λ h o. OpensAs L.opens L.Handle.kinds h o) message.now.code (step_of (session_of self.old.session) (message_in message.now (handles_in handles.old)) call.now) (state endpoint.old) (session_of self.old.session) device.old result (state endpoint.new) (session_of self.new.session) device.new }
     {
         let then = call.then();
-        let table = message.table_of(&call);
-        let Some(answer) = self.call_device(device, call, handles) else {
-            return Err(Error::InvalidMessage);
-        };
-        look(&answer, &self.shmem);
-        self.finish(message, table, then, answer)
+        let table = message.table_of(call);
+        match self.call_device(endpoint, device, call, handles) {
+            Some(answer) => {
+                look(&answer, &self.shmem);
+                self.finish(endpoint, message, table, then, answer)
+            }
+            None => Err(Error::InvalidMessage),
+        }
     }
 
     /// Refuses a request, and acknowledges that where it wants an acknowledgement.
-    fn refuse(&mut self, message: &Incoming, error: Error) -> Result<()>
-        ensures { IsReady (state self.old.endpoint) → Finishes L.event message.now.code (failed_with (session_of self.old.session) (wanting {H = L.Handle} message.now.need_reply) (seen error)) (state self.old.endpoint) (session_of self.old.session) result (state self.new.endpoint) (session_of self.new.session) }
+    fn refuse<L: Link>(
+        &mut self,
+        endpoint: &mut Endpoint<Header, L>,
+        message: &Incoming,
+        error: Error,
+    ) -> Result<()>
+        ensures { IsReady (state endpoint.old) → Finishes L.event message.now.code (failed_with (session_of self.old.session) (wanting {H = L.Handle} message.now.need_reply) (seen error)) (state endpoint.old) (session_of self.old.session) result (state endpoint.new) (session_of self.new.session) }
     {
-        let answer = DeviceAnswer::Done(Err(error));
-        self.finish(message, message.no_table(), Then::Ack, answer)
+        let answer = DeviceAnswer::<L::Handle>::Done(Err(error));
+        self.finish(endpoint, message, message.no_table(), Then::Ack, answer)
     }
 }

@@ -18,7 +18,8 @@ use vhost_message::{Error, FrontendReq, IoCause, Result, VhostUserShMemConfig};
 /// Mirrors `vhost::vhost_user::BackendReqHandler`, which holds its device behind a lock.
 #[derive(Drop)]
 pub struct SessionCore<L: Link> {
-    server: Server<L>,
+    endpoint: Endpoint<Header, L>,
+    server: Server,
     /// The body of the request that is served lies at its start.
     body: Body,
 }
@@ -54,26 +55,29 @@ impl<L: Link> SessionCore<L> {
         ensures session { session_in result ≡ new_session }
     {
         let server = Server {
-            endpoint,
             session: Session::new(),
             shmem: VhostUserShMemConfig::default(),
             alloc,
         };
-        SessionCore { server, body }
+        SessionCore {
+            endpoint,
+            server,
+            body,
+        }
     }
 
     /// A duplicate of its link, or why there is none. It doesn't see what was received ahead.
     pub fn try_clone_connection(&self) -> std::result::Result<L, IoCause>
         ensures { L.duplicates (endpoint_of self.now).link result }
     {
-        self.server.endpoint.try_clone_sock()
+        self.endpoint.try_clone_sock()
     }
 
     /// Whether the last call that sent or received met an I/O error: the link failed, or retried once too often.
     pub fn faulted(&self) -> bool
         ensures { result ≡ (endpoint_of self.now).faulted }
     {
-        self.server.endpoint.faulted()
+        self.endpoint.faulted()
     }
 
     /// Marks the session as failed with the number of a system's error, also with 0: from now on each request is
@@ -105,7 +109,7 @@ impl<L: Link> SessionCore<L> {
         if let Some(number) = self.server.session.failed {
             return Err(Error::SocketBroken(IoCause::Raw(number)));
         }
-        let (request, mut handles) = self.server.endpoint.recv_request(&mut self.body[..])?;
+        let (request, mut handles) = self.endpoint.recv_request(&mut self.body[..])?;
         self.answer(device, request, &mut handles)
     }
 
@@ -138,8 +142,7 @@ impl<L: Link> SessionCore<L> {
         ensures* lender { sem 𝓛 (Lends (the_row L.row L.Handle.row) (endpoint_row (header_row code_row) L.row L.Handle.row) self.entry result (λ e. with_endpoint self.old e)) }
         ensures value { state result.now ≡ endpoint_of self.old }
     {
-        let server = &mut self.server;
-        &mut server.endpoint
+        &mut self.endpoint
     }
 
     /// Answers a request that was read, by its handling rule. It may move the descriptors out.
@@ -157,6 +160,7 @@ impl<L: Link> SessionCore<L> {
             request.need_reply,
             &self.body[..request.len],
         );
-        self.server.serve(device, &message, handles)
+        self.server
+            .serve(&mut self.endpoint, device, &message, handles)
     }
 }

@@ -89,22 +89,32 @@ fn ack_body(agreed: bool) -> VhostUserU64
     }
 }
 
-impl<L: Link> Server<L> {
+/// Acknowledges a request.
+fn send_ack_message<L: Link>(
+    endpoint: &mut Endpoint<Header, L>,
+    code: FrontendReq,
+    agreed: bool,
+) -> Result<()>
+    ensures { IsReady (state endpoint.old) → Tells L.event (state endpoint.old) (reply_cells code (Acknowledged agreed)) (Ok tt) result (state endpoint.new) }
+{
+    reply(endpoint, code, &ack_body(agreed), &[], &[])
+}
+
+impl Server {
     ghost use Rattle.vhost_backend_req_handler.specs.Calling.{beside};
 
     /// Sends a reply.
-    fn send(
-        &mut self,
+    fn send<L: Link>(
+        &self,
+        endpoint: &mut Endpoint<Header, L>,
         code: FrontendReq,
         table: &RegionTable,
         body: &Reply,
         handles: &[&L::Handle],
     ) -> Result<()>
         requires { length handles.now ≤ MAX_ATTACHED_FD_ENTRIES }
-        ensures sends { IsReady (state self.old.endpoint) → Tells L.event (state self.old.endpoint) (reply_cells code (Replied (payload_in (beside (regions_in table.now) self.old.shmem) body.now) (map (λ h. h.now) handles.now))) (Ok tt) result (state self.new.endpoint) }
-        ensures session { self.new.session ≡ self.old.session }
+        ensures { IsReady (state endpoint.old) → Tells L.event (state endpoint.old) (reply_cells code (Replied (payload_in (beside (regions_in table.now) self.now.shmem) body.now) (map (λ h. h.now) handles.now))) (Ok tt) result (state endpoint.new) }
     {
-        let endpoint = &mut self.endpoint;
         match body {
             Reply::Empty => reply(endpoint, code, &VhostUserEmpty, &[], handles),
             Reply::U64(number) => reply(endpoint, code, &VhostUserU64::new(*number), &[], handles),
@@ -121,44 +131,42 @@ impl<L: Link> Server<L> {
         }
     }
 
-    /// Acknowledges a request.
-    fn send_ack_message(&mut self, code: FrontendReq, agreed: bool) -> Result<()>
-        ensures sends { IsReady (state self.old.endpoint) → Tells L.event (state self.old.endpoint) (reply_cells code (Acknowledged agreed)) (Ok tt) result (state self.new.endpoint) }
-        ensures session { self.new.session ≡ self.old.session }
-    {
-        reply(&mut self.endpoint, code, &ack_body(agreed), &[], &[])
-    }
-
     /// Replies, acknowledges, or does neither.
-    fn tell(&mut self, code: FrontendReq, table: &RegionTable, told: &Told<L::Handle>) -> Result<()>
-        ensures sends { IsReady (state self.old.endpoint) → Tells L.event (state self.old.endpoint) (reply_cells code (served_in (beside (regions_in table.now) self.old.shmem) told.now)) (Ok tt) result (state self.new.endpoint) }
-        ensures session { self.new.session ≡ self.old.session }
+    fn tell<L: Link>(
+        &self,
+        endpoint: &mut Endpoint<Header, L>,
+        code: FrontendReq,
+        table: &RegionTable,
+        told: &Told<L::Handle>,
+    ) -> Result<()>
+        ensures { IsReady (state endpoint.old) → Tells L.event (state endpoint.old) (reply_cells code (served_in (beside (regions_in table.now) self.now.shmem) told.now)) (Ok tt) result (state endpoint.new) }
     {
         match told {
             Told::Silent => Ok(()),
-            Told::Acknowledged(agreed) => self.send_ack_message(code, *agreed),
-            Told::Replied(body) => self.send(code, table, body, &[]),
-            Told::RepliedWith(body, handle) => self.send(code, table, body, &[*handle]),
+            Told::Acknowledged(agreed) => send_ack_message(endpoint, code, *agreed),
+            Told::Replied(body) => self.send(endpoint, code, table, body, &[]),
+            Told::RepliedWith(body, handle) => self.send(endpoint, code, table, body, &[*handle]),
         }
     }
 
     /// Replies by what the answer of a call became, and keeps the session. The offered features are remembered once they
     /// are sent.
-    pub(crate) fn finish(
+    pub(crate) fn finish<L: Link>(
         &mut self,
+        endpoint: &mut Endpoint<Header, L>,
         message: &Incoming,
         table: RegionTable,
-        then: Then,
+        next: Then,
         answer: DeviceAnswer<L::Handle>,
     ) -> Result<()>
-        ensures { IsReady (state self.old.endpoint) → Finishes L.event message.now.code (concluded (session_of self.old.session) message.now.need_reply (beside (regions_in table.entry) self.old.shmem) then answer) (state self.old.endpoint) (session_of self.old.session) result (state self.new.endpoint) (session_of self.new.session) }
+        ensures { IsReady (state endpoint.old) → Finishes L.event message.now.code (concluded (session_of self.old.session) message.now.need_reply (beside (regions_in table.entry) self.old.shmem) next answer) (state endpoint.old) (session_of self.old.session) result (state endpoint.new) (session_of self.new.session) }
     {
         let Conclusion {
             verdict,
             told,
             session,
-        } = Conclusions::conclude(&self.session, message.need_reply, then, &answer);
-        match self.tell(message.code, &table, &told) {
+        } = Conclusions::conclude(&self.session, message.need_reply, next, &answer);
+        match self.tell(endpoint, message.code, &table, &told) {
             Ok(()) => {
                 self.session = session;
                 answer.by(verdict)

@@ -2,7 +2,7 @@
 use Rattle.std.proofs.Common.{Ok, Err, refl, subst}
 use Rattle.vhost_link.specs.declared.handle.Kind.{Kind}
 use Rattle.vhost_link.specs.declared.handle.Kind.TheVariants.{NoSocket, NotUnix, NotStream}
-use Rattle.vhost_backend_req_handler.proofs.server.Server.open.Goals as goal
+use Rattle.vhost_backend_req_handler.proofs.opening.open.Goals as goal
 
 pub returns-in-Ok-NoSocket-clause-opened : goal.returns-in-Ok-NoSocket-clause-opened
 returns-in-Ok-NoSocket-clause-opened g c =
