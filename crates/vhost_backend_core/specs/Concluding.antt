@@ -1,5 +1,5 @@
 -- Answers of a device, and what becomes of them, as the definitions see them.
-use Rattle.std.specs.Prelude.{◌≡◌, ◌^◌, ℕ, Bool, true, false, List, [], ◌∷◌, length, if◌then◌else◌, ◌==◌, Option, Some, None, Result, Ok, Err, Vec, bit_or, ⊤}
+use Rattle.std.specs.Prelude.{◌≡◌, ◌^◌, ℕ, Bool, true, false, List, [], ◌∷◌, length, take, if◌then◌else◌, ◌==◌, Option, Some, None, Result, Ok, Err, Vec, bit_or, ⊤}
 use Rattle.vhost_message.specs.declared.error.Error as declared
 use Rattle.vhost_message.specs.declared.frontend_req.FrontendReq.{FrontendReq}
 use Rattle.vhost_message.specs.declared.frontend_req.FrontendReq.TheVariants.{GET_FEATURES}
@@ -212,10 +212,15 @@ then_of call.PostcopyEnd = then_.AckEnd
 then_of call.PostcopyAckMemRegions = then_.Unwritten
 then_of _ = then_.Ack
 
--- the regions that lie beside a call
+-- the regions that lie beside a call: those whose bases are the reply
 abbrev pub regions_beside : DeviceCall → List VhostUserMemoryRegion
-regions_beside (call.SetMemTable table listens) = regions_in table
+regions_beside (call.SetMemTable table true) = regions_in table
 regions_beside _ = []
+
+-- the same of a place whose first ones they are
+abbrev pub regions_for : Then → List VhostUserMemoryRegion → List VhostUserMemoryRegion
+regions_for (then_.Bases count) regions = take count regions
+regions_for _ regions = []
 
 -- what the code's answer says of a call
 abbrev pub answer_in : {H B G : Type 0} → Beside → (c : Call H B G) → DeviceAnswer H → Answer c

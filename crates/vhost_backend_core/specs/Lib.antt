@@ -3,3 +3,4 @@ pub mod Refusing
 pub mod Beginning
 pub mod Replies
 pub mod Concluding
+pub mod Fits

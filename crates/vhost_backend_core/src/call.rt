@@ -37,7 +37,8 @@ impl RegionTable<'_> {
 
     /// How many regions there are: `MAX_MEM_REGIONS` at most.
     pub fn len(&self) -> usize
-        ensures count { result ≡ length (regions_in self.now) }
+        ensures count { result ≡ self.now.count }
+        ensures len { result ≡ length (regions_in self.now) }
         ensures few { result ≤ MAX_MEM_REGIONS }
     {
         self.count

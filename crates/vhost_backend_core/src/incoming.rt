@@ -1,12 +1,12 @@
 //! A request as it was read.
 
-ghost use Rattle.std.specs.Prelude.{◌≡◌, ◌≤◌, ◌+◌, ◌*◌, ◌==◌, ◌&&◌, [], not, drop, IfSome, is_some, nat_le, length};
+ghost use Rattle.std.specs.Prelude.{◌≡◌, ◌≤◌, ◌+◌, ◌*◌, ◌==◌, ◌&&◌, not, drop, IfSome, is_some, nat_le, length};
 ghost use Rattle.std.specs.List.{list_all};
 ghost use Rattle.vhost_message.specs.Records.{config_of, memory_of, regions_of};
 ghost use Rattle.vhost_message.specs.Valid.{is_valid_config, is_valid_memory, is_valid_region};
 ghost use Rattle.vhost_message.specs.declared.limits.TheConstants.{MAX_MEM_REGIONS, MAX_MSG_SIZE, MEMORY_HEAD_SIZE, MEMORY_REGION_SIZE};
 
-use crate::call::{Area, DeviceCall, RegionTable};
+use crate::call::{Area, RegionTable};
 use vhost_message::{
     ByteValued, FrontendReq, MAX_MEM_REGIONS, MEMORY_HEAD_SIZE, MEMORY_REGION_SIZE,
     VhostUserConfig, VhostUserMemory, VhostUserMemoryRegion, VhostUserMsgValidator, read_front,
@@ -24,7 +24,6 @@ pub struct Incoming<'a> {
 
 impl<'a> Incoming<'a> {
     ghost use Rattle.vhost_backend_core.specs.Beginning.{IsRequest, regions_in};
-    ghost use Rattle.vhost_backend_core.specs.Concluding.{regions_beside};
 
     /// A request with this code, these flags and this body.
     pub fn new(code: FrontendReq, reply: bool, need_reply: bool, body: &'a [u8]) -> Self
@@ -36,26 +35,6 @@ impl<'a> Incoming<'a> {
             reply,
             need_reply,
             body,
-        }
-    }
-
-    /// The table that a call of this request came with; another call has an empty one.
-    pub fn table_of(&self, call: &DeviceCall<'a>) -> RegionTable<'a>
-        ensures { regions_in result ≡ regions_beside call.now }
-    {
-        if let DeviceCall::SetMemTable(table, _) = call {
-            return *table;
-        }
-        self.no_table()
-    }
-
-    /// A table without regions.
-    pub fn no_table(&self) -> RegionTable<'a>
-        ensures { regions_in result ≡ [] }
-    {
-        RegionTable {
-            bytes: &self.body[..0],
-            count: 0,
         }
     }
 

@@ -5,6 +5,7 @@ mod answer;
 mod call;
 mod checks;
 mod conclude;
+mod fits;
 mod incoming;
 mod laws;
 mod refusal;

@@ -1,6 +1,7 @@
 -- A request was followed by its row, and what it became went out.
-use Rattle.std.proofs.Common.{◌≡◌, [], Result, Ok, Err, Some, None, inl, inr, refl, sym, ap, subst}
-use Rattle.std.specs.Prelude.{⊤}
+use Rattle.std.proofs.Common.{◌≡◌, ◌∙◌, [], Result, Ok, Err, Some, None, inl, inr, refl, sym, ap, subst}
+use Rattle.std.specs.Prelude.{⊤, IfErr}
+use Rattle.std.specs.Result.{IsErrAnd}
 use Rattle.vhost_message.specs.declared.error.Error as declared
 use Rattle.vhost_message.specs.declared.error.Error.TheVariants as code
 use Rattle.vhost_message.specs.declared.frontend_req.FrontendReq.{FrontendReq}
@@ -118,3 +119,13 @@ module _ {L H B G Dev : Type 0} {event : L → Event H → L → Type 0} {gives 
       subst (λ (x : Session). Answers event gives opens_backend opens_gpu r (step_of s m call) old s d (Err code.InvalidMessage) mid x d') (sym session)
       (subst (λ (x : State L H). Answers event gives opens_backend opens_gpu r (step_of s m call) old s d (Err code.InvalidMessage) x s d') (sym endpoint)
       (subst (λ (x : Dev). Answers event gives opens_backend opens_gpu r (step_of s m call) old s d (Err code.InvalidMessage) old s x) (sym u.1) plain))
+
+-- a refusal is never answered as success
+pub never_fine : {L H : Type 0} {event : L → Event H → L → Type 0} {r : FrontendReq} {o : Outcome H} {e : Error} {old new : State L H} {s s' : Session}
+    → o.answer ≡ Err e → Finishes event r o old s (Ok tt) new s' → ⊥
+never_fine is (finished fine p after) = cc (sym is ∙ fine)
+
+-- what holds of an answer that is an error
+pub if_error : (F : Result ⊤ declared.Error → Type 0) (e : declared.Error) (result : Result ⊤ declared.Error) → IsErrAnd result (λ y. y ≡ e) → F result → IfErr result (λ x. F (Err x))
+if_error F e (Ok a) is p = absurd is
+if_error F e (Err x) is p = p

@@ -5,3 +5,4 @@ pub mod Sharing
 pub mod Accepting
 pub mod Calling
 pub mod Sized
+pub mod Halves

@@ -252,6 +252,7 @@ impl Server {
         ensures called { CalledWith D.gives (λ h o. OpensAs L.opens L.Handle.kinds h o) (λ h o. OpensAs L.opens L.Handle.kinds h o) device.old self.new.shmem call.now (handles_in handles.old) result device.new }
         ensures endpoint { state endpoint.new ≡ state endpoint.old }
         ensures session { self.new.session ≡ self.old.session }
+        ensures regions { self.new.regions ≡ self.old.regions }
     {
         match call {
             DeviceCall::SetOwner => Some(DeviceAnswer::Done(device.set_owner())),
@@ -360,6 +361,7 @@ impl Server {
     ) -> Option<DeviceAnswer<L::Handle>>
         ensures called { (hs : List L.Handle) → CalledWith D.gives (λ h o. OpensAs L.opens L.Handle.kinds h o) (λ h o. OpensAs L.opens L.Handle.kinds h o) device.old self.new.shmem call_.GetShmemConfig hs result device.new }
         ensures session { self.new.session ≡ self.old.session }
+        ensures regions { self.new.regions ≡ self.old.regions }
     {
         match device.get_shmem_config() {
             Ok(config) => {

@@ -4,6 +4,7 @@
 mod bases;
 mod calling;
 mod gate;
+mod halves;
 mod handler;
 mod listener;
 mod opening;

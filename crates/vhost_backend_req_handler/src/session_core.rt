@@ -5,23 +5,29 @@ ghost use Rattle.vhost_message.specs.declared.cause.IoCause.TheVariants.{Raw};
 ghost use Rattle.vhost_message.specs.declared.error.Error.TheVariants.{SocketBroken, OutOfMemory};
 ghost use Rattle.vhost_protocol.specs.Session.{fresh as new_session};
 
+use crate::halves::Pending;
 use crate::server::{Header, Server};
 use std::alloc::Global;
 use vhost_backend_core::{Incoming, Session};
 use vhost_connection::{Body, Endpoint, Request, new_body};
 use vhost_device::VhostUserBackendReqHandlerMut;
 use vhost_link::Link;
-use vhost_message::{Error, FrontendReq, IoCause, Result, VhostUserShMemConfig};
+use vhost_message::{
+    Error, FrontendReq, IoCause, MAX_MEM_REGIONS, Result, VhostUserMemoryRegion,
+    VhostUserShMemConfig,
+};
 
 /// A handler's session over a link, without its device.
 ///
 /// Mirrors `vhost::vhost_user::BackendReqHandler`, which holds its device behind a lock.
 #[derive(Drop)]
 pub struct SessionCore<L: Link> {
-    endpoint: Endpoint<Header, L>,
-    server: Server,
+    pub(crate) endpoint: Endpoint<Header, L>,
+    pub(crate) server: Server,
     /// The body of the request that is served lies at its start.
-    body: Body,
+    pub(crate) body: Body,
+    /// The request whose call is to be answered.
+    pub(crate) pending: Option<Pending<L::Handle>>,
 }
 
 impl<L: Link> SessionCore<L> {
@@ -57,12 +63,14 @@ impl<L: Link> SessionCore<L> {
         let server = Server {
             session: Session::new(),
             shmem: VhostUserShMemConfig::default(),
+            regions: [VhostUserMemoryRegion::default(); MAX_MEM_REGIONS],
             alloc,
         };
         SessionCore {
             endpoint,
             server,
             body,
+            pending: None,
         }
     }
 
@@ -109,6 +117,7 @@ impl<L: Link> SessionCore<L> {
         if let Some(number) = self.server.session.failed {
             return Err(Error::SocketBroken(IoCause::Raw(number)));
         }
+        self.pending = None;
         let (request, mut handles) = self.endpoint.recv_request(&mut self.body[..])?;
         self.answer(device, request, &mut handles)
     }

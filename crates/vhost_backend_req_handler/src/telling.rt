@@ -7,16 +7,13 @@ ghost use Rattle.vhost_protocol.specs.Served.{Acknowledged, Replied};
 ghost use Rattle.vhost_protocol.specs.Written.{Payload, Regions, payload_text};
 ghost use Rattle.vhost_connection.specs.Requests.{IsReady, Tells};
 ghost use Rattle.vhost_connection.specs.State.{state};
-ghost use Rattle.vhost_backend_core.specs.Beginning.{regions_in};
 ghost use Rattle.vhost_backend_core.specs.Concluding.{concluded, payload_in, served_in};
 ghost use Rattle.vhost_backend_core.specs.Session.{session_of};
 ghost use Rattle.vhost_backend_req_handler.specs.Serving.{Finishes, kept_unsent, reply_cells};
 
 use crate::bases::rebase;
 use crate::server::{Header, Server};
-use vhost_backend_core::{
-    Conclusion, Conclusions, DeviceAnswer, Incoming, RegionTable, Reply, Session, Then, Told,
-};
+use vhost_backend_core::{Conclusion, Conclusions, DeviceAnswer, Reply, Session, Then, Told};
 use vhost_connection::Endpoint;
 use vhost_link::Link;
 use vhost_message::{
@@ -63,17 +60,18 @@ fn send_table<L: Link>(
 fn send_based<L: Link>(
     endpoint: &mut Endpoint<Header, L>,
     code: FrontendReq,
-    table: &RegionTable,
+    table: &[VhostUserMemoryRegion],
     bases: &[u64],
     handles: &[&L::Handle],
 ) -> Result<()>
-    requires { length handles.now ≤ MAX_ATTACHED_FD_ENTRIES }
-    ensures { IsReady (state endpoint.old) → Tells L.event (state endpoint.old) (reply_cells code (Replied (Regions (rebased (regions_in table.now) bases.now)) (map (λ h. h.now) handles.now))) (Ok tt) result (state endpoint.new) }
+    requires handles { length handles.now ≤ MAX_ATTACHED_FD_ENTRIES }
+    requires regions { length table.now ≤ MAX_MEM_REGIONS }
+    ensures { IsReady (state endpoint.old) → Tells L.event (state endpoint.old) (reply_cells code (Replied (Regions (rebased table.now bases.now)) (map (λ h. h.now) handles.now))) (Ok tt) result (state endpoint.new) }
 {
     let mut places = [VhostUserMemoryRegion::default(); MAX_MEM_REGIONS];
     let regions = &mut places[..];
     let regions = &mut regions[..table.len()];
-    table.read(regions);
+    regions.copy_from_slice(table);
     let count = rebase(regions, bases);
     send_table(endpoint, code, &regions[..count], handles)
 }
@@ -101,19 +99,22 @@ fn send_ack_message<L: Link>(
 }
 
 impl Server {
+    ghost use Rattle.vhost_backend_core.specs.Concluding.{regions_for};
     ghost use Rattle.vhost_backend_req_handler.specs.Calling.{beside};
+    ghost use Rattle.vhost_backend_req_handler.specs.Halves.{beside_then};
 
     /// Sends a reply.
     fn send<L: Link>(
         &self,
         endpoint: &mut Endpoint<Header, L>,
         code: FrontendReq,
-        table: &RegionTable,
+        table: &[VhostUserMemoryRegion],
         body: &Reply,
         handles: &[&L::Handle],
     ) -> Result<()>
-        requires { length handles.now ≤ MAX_ATTACHED_FD_ENTRIES }
-        ensures { IsReady (state endpoint.old) → Tells L.event (state endpoint.old) (reply_cells code (Replied (payload_in (beside (regions_in table.now) self.now.shmem) body.now) (map (λ h. h.now) handles.now))) (Ok tt) result (state endpoint.new) }
+        requires handles { length handles.now ≤ MAX_ATTACHED_FD_ENTRIES }
+        requires regions { length table.now ≤ MAX_MEM_REGIONS }
+        ensures { IsReady (state endpoint.old) → Tells L.event (state endpoint.old) (reply_cells code (Replied (payload_in (beside table.now self.now.shmem) body.now) (map (λ h. h.now) handles.now))) (Ok tt) result (state endpoint.new) }
     {
         match body {
             Reply::Empty => reply(endpoint, code, &VhostUserEmpty, &[], handles),
@@ -131,16 +132,29 @@ impl Server {
         }
     }
 
+    /// The regions whose bases are the reply; other replies have none.
+    fn table(&self, next: Then) -> &[VhostUserMemoryRegion]
+        ensures table { result.now ≡ regions_for next self.now.regions }
+        ensures few { length result.now ≤ MAX_MEM_REGIONS }
+    {
+        match next {
+            Then::Bases(count) if count < MAX_MEM_REGIONS => &self.regions[..count],
+            Then::Bases(_) => &self.regions[..],
+            _ => &self.regions[..0],
+        }
+    }
+
     /// Replies, acknowledges, or does neither.
     fn tell<L: Link>(
         &self,
         endpoint: &mut Endpoint<Header, L>,
         code: FrontendReq,
-        table: &RegionTable,
+        next: Then,
         told: &Told<L::Handle>,
     ) -> Result<()>
-        ensures { IsReady (state endpoint.old) → Tells L.event (state endpoint.old) (reply_cells code (served_in (beside (regions_in table.now) self.now.shmem) told.now)) (Ok tt) result (state endpoint.new) }
+        ensures { IsReady (state endpoint.old) → Tells L.event (state endpoint.old) (reply_cells code (served_in (beside_then next self.now) told.now)) (Ok tt) result (state endpoint.new) }
     {
+        let table = self.table(next);
         match told {
             Told::Silent => Ok(()),
             Told::Acknowledged(agreed) => send_ack_message(endpoint, code, *agreed),
@@ -154,25 +168,25 @@ impl Server {
     pub(crate) fn finish<L: Link>(
         &mut self,
         endpoint: &mut Endpoint<Header, L>,
-        message: &Incoming,
-        table: RegionTable,
+        code: FrontendReq,
+        need_reply: bool,
         next: Then,
         answer: DeviceAnswer<L::Handle>,
     ) -> Result<()>
-        ensures { IsReady (state endpoint.old) → Finishes L.event message.now.code (concluded (session_of self.old.session) message.now.need_reply (beside (regions_in table.entry) self.old.shmem) next answer) (state endpoint.old) (session_of self.old.session) result (state endpoint.new) (session_of self.new.session) }
+        ensures { IsReady (state endpoint.old) → Finishes L.event code (concluded (session_of self.old.session) need_reply (beside_then next self.old) next answer) (state endpoint.old) (session_of self.old.session) result (state endpoint.new) (session_of self.new.session) }
     {
         let Conclusion {
             verdict,
             told,
             session,
-        } = Conclusions::conclude(&self.session, message.need_reply, next, &answer);
-        match self.tell(endpoint, message.code, &table, &told) {
+        } = Conclusions::conclude(&self.session, need_reply, next, &answer);
+        match self.tell(endpoint, code, next, &told) {
             Ok(()) => {
                 self.session = session;
                 answer.by(verdict)
             }
             Err(error) => {
-                self.session = unsent(message.code, self.session, session);
+                self.session = unsent(code, self.session, session);
                 Err(error)
             }
         }

@@ -11,5 +11,5 @@ use Rattle.vhost_backend_req_handler.proofs.telling.send_based.Goals as goal
 
 pub returns : goal.returns
 returns g c ready =
-    let placed = c.rebase-count.ensures.rebased ∙ ap (λ (rs : List VhostUserMemoryRegion). rebased rs c.args.bases.now) c.read.ensures in
+    let placed = c.rebase-count.ensures.rebased ∙ ap (λ (rs : List VhostUserMemoryRegion). rebased rs c.args.bases.now) c.copy_from_slice.ensures.after in
     subst (λ (rs : List VhostUserMemoryRegion). Tells g.L.Link.event (state c.args.endpoint.now) (reply_cells c.args.code (Replied (Regions rs) (map (λ h. h.now) c.args.handles.now))) (Ok tt) c.send_table.result (state c.send_table.new.endpoint)) placed (c.send_table.ensures ready)
