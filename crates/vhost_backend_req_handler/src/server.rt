@@ -1,12 +1,13 @@
 //! One request is served: it becomes a call, the device is called, and what its answer becomes goes out.
 
-ghost use Rattle.std.specs.Prelude.{◌≡◌, IfOk, IfErr};
+ghost use Rattle.std.specs.Prelude.{◌≡◌, IfOk, IfErr, length, take};
+ghost use Rattle.vhost_message.specs.declared.limits.TheConstants.{MAX_MEM_REGIONS};
 ghost use Rattle.vhost_protocol.specs.Error.{seen};
 ghost use Rattle.vhost_protocol.specs.Row.{row_of};
 ghost use Rattle.vhost_protocol.specs.Step.{failed_with};
 ghost use Rattle.vhost_connection.specs.Requests.{IsReady};
 ghost use Rattle.vhost_connection.specs.State.{state};
-ghost use Rattle.vhost_backend_core.specs.Beginning.{handles_in, message_in, step_of};
+ghost use Rattle.vhost_backend_core.specs.Beginning.{handles_in, message_in, regions_in, step_of};
 ghost use Rattle.vhost_backend_req.specs.declared.backend.Backend.{Backend};
 ghost use Rattle.vhost_gpu_backend_req.specs.declared.backend.GpuBackend.{GpuBackend};
 ghost use Rattle.vhost_backend_core.specs.Concluding.{regions_beside, regions_for, then_of, wanting};
@@ -17,7 +18,9 @@ ghost use Rattle.vhost_backend_req_handler.specs.Serving.{Answers, Finishes};
 
 use crate::sizes::look;
 use std::alloc::Global;
-use vhost_backend_core::{Begun, DeviceAnswer, DeviceCall, Incoming, Rows, Session, Then};
+use vhost_backend_core::{
+    Begun, DeviceAnswer, DeviceCall, Incoming, RegionTable, Rows, Session, Then,
+};
 use vhost_backend_req::Backend;
 use vhost_connection::Endpoint;
 use vhost_device::VhostUserBackendReqHandlerMut;
@@ -126,8 +129,7 @@ impl Server {
     {
         if let DeviceCall::SetMemTable(table, listens) = call {
             if *listens {
-                let places = &mut self.regions[..];
-                table.read(&mut places[..table.len()]);
+                read_to(table, &mut self.regions[..]);
             }
         }
     }
@@ -150,4 +152,13 @@ impl Server {
             answer,
         )
     }
+}
+
+/// Reads the regions of a table to the first of these places.
+fn read_to(table: &RegionTable, places: &mut [VhostUserMemoryRegion])
+    requires { length places.old ≡ MAX_MEM_REGIONS }
+    ensures regions { take table.now.count places.new ≡ regions_in table.now }
+    ensures places { length places.new ≡ length places.old }
+{
+    table.read(&mut places[..table.len()]);
 }
