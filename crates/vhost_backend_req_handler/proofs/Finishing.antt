@@ -1,6 +1,6 @@
 -- A request was followed by its row, and what it became went out.
 use Rattle.std.proofs.Common.{◌≡◌, ◌∙◌, [], Result, Ok, Err, Some, None, inl, inr, refl, sym, ap, subst}
-use Rattle.std.specs.Prelude.{⊤, IfErr}
+use Rattle.std.specs.Prelude.{⊤, Option, IfErr, IfSome}
 use Rattle.std.specs.Result.{IsErrAnd}
 use Rattle.vhost_message.specs.declared.error.Error as declared
 use Rattle.vhost_message.specs.declared.error.Error.TheVariants as code
@@ -129,3 +129,8 @@ never_fine is (finished fine p after) = cc (sym is ∙ fine)
 pub if_error : (F : Result ⊤ declared.Error → Type 0) (e : declared.Error) (result : Result ⊤ declared.Error) → IsErrAnd result (λ y. y ≡ e) → F result → IfErr result (λ x. F (Err x))
 if_error F e (Ok a) is p = absurd is
 if_error F e (Err x) is p = p
+
+-- what holds of an answer that is there
+pub if_some : {A : Type 0} (F : Option A → Type 0) (result : Option A) → F result → IfSome result (λ a. F (Some a))
+if_some F None p = tt
+if_some F (Some a) p = p

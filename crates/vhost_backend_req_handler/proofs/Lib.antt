@@ -5,3 +5,4 @@ pub mod Handling
 pub mod Reading
 pub mod Rebasing
 pub mod Sharing
+pub mod BothHalves

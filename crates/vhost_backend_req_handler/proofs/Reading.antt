@@ -10,7 +10,7 @@ use Rattle.vhost_connection.specs.declared.request.Request.{Request}
 use Rattle.vhost_backend_core.specs.Beginning.{IsRequest, handles_in, message_in}
 use Rattle.vhost_backend_core.specs.declared.incoming.Incoming.{Incoming}
 
-hands_in : {H : Type 0} (handles : Option (Vec H Global)) (hs : List H) → HandsOver handles hs → handles_in handles ≡ hs
+pub hands_in : {H : Type 0} (handles : Option (Vec H Global)) (hs : List H) → HandsOver handles hs → handles_in handles ≡ hs
 hands_in None hs h = sym h
 hands_in (Some v) hs h = h.0
 

@@ -1,5 +1,5 @@
 -- Serving a request in two halves.
-use Rattle.std.specs.Prelude.{◌≡◌, ℕ, Bool, not, List, Option, Some, Result, Ok, Err, ⊤}
+use Rattle.std.specs.Prelude.{◌≡◌, List, Some, None, Result, Err, ⊤}
 use Rattle.vhost_message.specs.declared.error.Error as declared
 use Rattle.vhost_message.specs.declared.frontend_req.FrontendReq.{FrontendReq}
 use Rattle.vhost_message.specs.declared.records.memory.VhostUserMemoryRegion.{VhostUserMemoryRegion}
@@ -15,13 +15,15 @@ use Rattle.vhost_link.specs.Law.{Event}
 use Rattle.vhost_connection.specs.Requests.{ReadsMessage}
 use Rattle.vhost_connection.specs.Talk.{State}
 use Rattle.vhost_backend_core.specs.Beginning.{step_of}
-use Rattle.vhost_backend_core.specs.Concluding.{Beside, regions_beside, regions_for, then_of}
+use Rattle.vhost_backend_core.specs.Concluding.{Beside, concluded, regions_beside, regions_for, then_of}
 use Rattle.vhost_backend_core.specs.Fits.{Makes}
+use Rattle.vhost_backend_core.specs.declared.answer.DeviceAnswer.{DeviceAnswer}
 use Rattle.vhost_backend_core.specs.declared.answer.Then.{Then}
 use Rattle.vhost_backend_core.specs.declared.call.DeviceCall.{DeviceCall}
-use Rattle.vhost_backend_req_handler.specs.Calling.{beside}
+use Rattle.vhost_backend_req_handler.specs.Calling.{Called, beside}
 use Rattle.vhost_backend_req_handler.specs.Core.{endpoint_of, session_in}
-use Rattle.vhost_backend_req_handler.specs.Serving.{Answers, HandlesOne}
+use Rattle.vhost_backend_req_handler.specs.Serving.{Answers, Finishes, HandlesOne}
+use Rattle.vhost_backend_req_handler.specs.Sized.{AnswerSized}
 use Rattle.vhost_backend_req_handler.specs.declared.halves.Pending.{Pending}
 use Rattle.vhost_backend_req_handler.specs.declared.server.Server.{Server}
 use Rattle.vhost_backend_req_handler.specs.declared.session_core.SessionCore.{SessionCore}
@@ -62,3 +64,19 @@ module _ {H : Type 0} (B G : Type 0) where
     -- none was read, or it was refused, and no device was called
     abbrev pub Refuses : SessionCore L H → declared.Error → SessionCore L H → Type 0
     Refuses old e new = HandlesOne event uncalled unopened unopened (endpoint_of old) (session_in old) tt (Err e) (endpoint_of new) (session_in new) tt
+
+module _ {L H B G Dev : Type 0} (event : L → Event H → L → Type 0) (gives : Dev → (c : Call H B G) → Answer c → Dev → Type 0)
+    (opens_backend : H → Result B Error → Type 0) (opens_gpu : H → Result G Error → Type 0) where
+  -- A request that was begun, whose call this device answered so, and whose answer was concluded, is one call of a handler with that device.
+  abbrev pub HalvesServe : Type 0
+  HalvesServe = (old mid new : SessionCore L H) (d d' : Dev) (a : DeviceAnswer H) (result : Result ⊤ declared.Error) (begun : Begins B G event old mid)
+      → Called gives opens_backend opens_gpu d (beside_then begun.pending.then mid.server) (row_of begun.reads.message.request (session_in old) begun.reads.message) (Some a) d'
+      → AnswerSized mid.server.shmem a
+      → Finishes event begun.pending.request.code (concluded (session_in mid) begun.pending.request.need_reply (beside_then begun.pending.then mid.server) begun.pending.then a)
+      (endpoint_of mid) (session_in mid) result (endpoint_of new) (session_in new)
+      → HandlesOne event gives opens_backend opens_gpu (endpoint_of old) (session_in old) d result (endpoint_of new) (session_in new) d'
+
+  -- So is one that was refused, whatever the device.
+  abbrev pub HalvesRefuse : Type 0
+  HalvesRefuse = (old new : SessionCore L H) (d : Dev) (e : declared.Error) → (session_in old).failed ≡ None → Refuses B G event old e new
+      → HandlesOne event gives opens_backend opens_gpu (endpoint_of old) (session_in old) d (Err e) (endpoint_of new) (session_in new) d

@@ -1,14 +1,18 @@
 //! Serving a request in two halves, without a device: it is read, and becomes a call; the call's answer is reported.
 
-ghost use Rattle.std.specs.Prelude.{◌≡◌, ℤ, IfOk, IfErr, IfSome, Some, None, Err, is_some, false};
+ghost use Rattle.std.specs.Prelude.{◌≡◌, ℤ, List, IfOk, IfErr, IfSome, Some, None, Err, is_some, false};
 ghost use Rattle.vhost_message.specs.declared.cause.IoCause.TheVariants.{Raw};
 ghost use Rattle.vhost_message.specs.declared.error.Error.TheVariants.{SocketBroken};
 ghost use Rattle.vhost_backend_core.specs.Concluding.{concluded};
+ghost use Rattle.vhost_backend_req_handler.specs.Halves.{HalvesRefuse, HalvesServe};
+ghost use Rattle.vhost_backend_req_handler.specs.Opening.{OpensAs};
 
 use crate::session_core::SessionCore;
+use crate::sizes::look;
 use vhost_backend_core::{Begun, DeviceAnswer, DeviceCall, Incoming, Rows, Then};
 use vhost_backend_req::Backend;
 use vhost_connection::Request;
+use vhost_device::VhostUserBackendReqHandlerMut;
 use vhost_gpu_backend_req::GpuBackend;
 use vhost_link::Link;
 use vhost_message::{Error, FrontendReq, IoCause, Result};
@@ -24,12 +28,21 @@ pub(crate) struct Pending<H> {
 }
 
 impl<L: Link> SessionCore<L> {
-    ghost use Rattle.vhost_connection.specs.Requests.{IsReady};
+    ghost use Rattle.vhost_message.specs.declared.frontend_req.FrontendReq.{FrontendReq};
+    ghost use Rattle.vhost_protocol.specs.Row.{row_of};
+    ghost use Rattle.vhost_protocol.specs.Split.{Message};
+    ghost use Rattle.vhost_connection.specs.Calls.{HandsOver};
+    ghost use Rattle.vhost_connection.specs.Requests.{IsReady, Reads};
+    ghost use Rattle.vhost_message.specs.declared.records.memory.VhostUserMemoryRegion.{VhostUserMemoryRegion};
+    ghost use Rattle.vhost_backend_core.specs.Beginning.{step_of};
+    ghost use Rattle.vhost_backend_req_handler.specs.Calling.{Called, beside};
+    ghost use Rattle.vhost_backend_req_handler.specs.Opening.{OpensAs};
     ghost use Rattle.vhost_backend_req.specs.declared.backend.Backend.{Backend};
     ghost use Rattle.vhost_gpu_backend_req.specs.declared.backend.GpuBackend.{GpuBackend};
     ghost use Rattle.vhost_backend_req_handler.specs.Core.{endpoint_of, session_in};
     ghost use Rattle.vhost_backend_req_handler.specs.Halves.{Begins, Refuses, beside_then};
     ghost use Rattle.vhost_backend_req_handler.specs.Serving.{Finishes};
+    ghost use Rattle.vhost_backend_req_handler.specs.Sized.{AnswerSized};
     ghost use Rattle.vhost_backend_req_handler.specs.declared.halves.Pending.{Pending};
 
     /// The first half: reads one request. It became a call of the device, which `call` lends, and whose answer `conclude`
@@ -69,6 +82,107 @@ impl<L: Link> SessionCore<L> {
         }
     }
 
+    /// The call that is to be answered. Its arguments are lent. None: no call is to be answered, or its file descriptors were
+    /// taken.
+    pub fn call(&self) -> Option<DeviceCall<'_>>
+        ensures { (p : Pending L.Handle) (m : Message FrontendReq L.Handle) → self.now.pending ≡ Some p → Reads self.now.body.value p.request m → HandsOver p.handles m.handles
+            → IfSome result (λ c. row_of {B = Backend L L.Handle} {G = GpuBackend L L.Handle} m.request (session_in self.now) m ≡ step_of (session_in self.now) m c) }
+    {
+        match &self.pending {
+            Some(pending) => self.call_of(pending),
+            None => None,
+        }
+    }
+
+    /// The call of a request.
+    fn call_of(&self, pending: &Pending<L::Handle>) -> Option<DeviceCall<'_>>
+        ensures { (m : Message FrontendReq L.Handle) → Reads self.now.body.value pending.now.request m → HandsOver pending.now.handles m.handles
+            → IfSome result (λ c. row_of {B = Backend L L.Handle} {G = GpuBackend L L.Handle} m.request (session_in self.now) m ≡ step_of (session_in self.now) m c) }
+    {
+        let request = pending.request;
+        let message = Incoming::new(
+            request.code,
+            request.reply,
+            request.need_reply,
+            &self.body[..request.len],
+        );
+        match Rows::<L::Handle, Backend<L>, GpuBackend<L>>::begin(
+            &self.server.session,
+            &message,
+            &pending.handles,
+        ) {
+            Ok(Begun::Calls(call)) => Some(call),
+            _ => None,
+        }
+    }
+
+    /// Makes the call that is to be answered, of a device. None: no call is to be answered, or its file descriptors were taken.
+    pub fn call_device<D: VhostUserBackendReqHandlerMut<Link = L>>(
+        &mut self,
+        device: &mut D,
+    ) -> Option<DeviceAnswer<L::Handle>>
+        ensures called { (p : Pending L.Handle) (m : Message FrontendReq L.Handle) (rs : List VhostUserMemoryRegion) → self.old.pending ≡ Some p → Reads self.old.body.value p.request m → HandsOver p.handles m.handles
+            → IfSome result (λ a. Called D.gives (λ h o. OpensAs L.opens L.Handle.kinds h o) (λ h o. OpensAs L.opens L.Handle.kinds h o) device.old (beside rs self.new.server.shmem) (row_of m.request (session_in self.old) m) (Some a) device.new) }
+        ensures endpoint { endpoint_of self.new ≡ endpoint_of self.old }
+        ensures session { session_in self.new ≡ session_in self.old }
+        ensures regions { self.new.server.regions ≡ self.old.server.regions }
+        ensures pending { (p : Pending L.Handle) → self.old.pending ≡ Some p → IfSome self.new.pending (λ q. (q.request ≡ p.request) × (q.then ≡ p.then)) }
+    {
+        match self.pending.take() {
+            Some(mut pending) => {
+                let answer = self.make(device, &mut pending);
+                self.pending = Some(pending);
+                answer
+            }
+            None => None,
+        }
+    }
+
+    /// Makes the call of a request, of a device.
+    fn make<D: VhostUserBackendReqHandlerMut<Link = L>>(
+        &mut self,
+        device: &mut D,
+        pending: &mut Pending<L::Handle>,
+    ) -> Option<DeviceAnswer<L::Handle>>
+        ensures called { (m : Message FrontendReq L.Handle) (rs : List VhostUserMemoryRegion) → Reads self.old.body.value pending.old.request m → HandsOver pending.old.handles m.handles
+            → IfSome result (λ a. Called D.gives (λ h o. OpensAs L.opens L.Handle.kinds h o) (λ h o. OpensAs L.opens L.Handle.kinds h o) device.old (beside rs self.new.server.shmem) (row_of m.request (session_in self.old) m) (Some a) device.new) }
+        ensures endpoint { endpoint_of self.new ≡ endpoint_of self.old }
+        ensures session { session_in self.new ≡ session_in self.old }
+        ensures regions { self.new.server.regions ≡ self.old.server.regions }
+        ensures request { pending.new.request ≡ pending.old.request }
+        ensures then { pending.new.then ≡ pending.old.then }
+    {
+        let request = pending.request;
+        let message = Incoming::new(
+            request.code,
+            request.reply,
+            request.need_reply,
+            &self.body[..request.len],
+        );
+        match Rows::<L::Handle, Backend<L>, GpuBackend<L>>::begin(
+            &self.server.session,
+            &message,
+            &pending.handles,
+        ) {
+            Ok(Begun::Calls(call)) => {
+                self.server
+                    .call_device(&mut self.endpoint, device, &call, &mut pending.handles)
+            }
+            _ => None,
+        }
+    }
+
+    /// Takes the file descriptors of the call that is to be answered, if there are any.
+    pub fn take_handles(&mut self) -> Option<Vec<L::Handle>>
+        ensures taken { (p : Pending L.Handle) → self.old.pending ≡ Some p → (result ≡ p.handles) × (self.new ≡ record (self.old) { pending = Some (record p { handles = None }) }) }
+        ensures none { self.old.pending ≡ None → (result ≡ None) × (self.new ≡ self.old) }
+    {
+        match &mut self.pending {
+            Some(pending) => pending.handles.take(),
+            None => None,
+        }
+    }
+
     /// The second half: reports the answer of the call that is to be answered, and says what the session answers.
     ///
     /// InvalidOperation: no call is to be answered, and nothing changed. The other errors are those that the device
@@ -76,8 +190,10 @@ impl<L: Link> SessionCore<L> {
     pub fn conclude(&mut self, answer: DeviceAnswer<L::Handle>) -> Result<()>
         ensures concluded { (p : Pending L.Handle) → self.old.pending ≡ Some p → IsReady (endpoint_of self.old)
             → Finishes L.event p.request.code (concluded (session_in self.old) p.request.need_reply (beside_then p.then self.old.server) p.then answer) (endpoint_of self.old) (session_in self.old) result (endpoint_of self.new) (session_in self.new) }
+        ensures sized { AnswerSized self.old.server.shmem answer }
         ensures none { is_some self.new.pending ≡ false }
     {
+        look(&answer, &self.server.shmem);
         match self.pending.take() {
             Some(pending) => {
                 let Pending {
@@ -97,3 +213,10 @@ impl<L: Link> SessionCore<L> {
         }
     }
 }
+
+/// The two halves, with a device's answer between them, are what `handle_request` does with that device; and so is a request
+/// that the first one refuses.
+pub fn halves_law<L: Link, D: VhostUserBackendReqHandlerMut<Link = L>>()
+    ensures served { HalvesServe L.event D.gives (λ h o. OpensAs L.opens L.Handle.kinds h o) (λ h o. OpensAs L.opens L.Handle.kinds h o) }
+    ensures refused { HalvesRefuse L.event D.gives (λ h o. OpensAs L.opens L.Handle.kinds h o) (λ h o. OpensAs L.opens L.Handle.kinds h o) }
+{}

@@ -14,6 +14,7 @@ mod sizes;
 mod telling;
 
 pub use gate::{Gate, Open};
+pub use halves::halves_law;
 pub use handler::BackendReqHandler;
 pub use listener::BackendListener;
 pub use session_core::SessionCore;
