@@ -1,6 +1,6 @@
 -- A request was followed by its row, and what it became went out.
 use Rattle.std.proofs.Common.{◌≡◌, ◌∙◌, [], Result, Ok, Err, Some, None, inl, inr, refl, sym, ap, subst}
-use Rattle.std.specs.Prelude.{⊤, Option, IfErr, IfSome}
+use Rattle.std.specs.Prelude.{⊤, true, is_some, Option, IfErr, IfSome}
 use Rattle.std.specs.Result.{IsErrAnd}
 use Rattle.vhost_message.specs.declared.error.Error as declared
 use Rattle.vhost_message.specs.declared.error.Error.TheVariants as code
@@ -11,6 +11,8 @@ use Rattle.vhost_protocol.specs.Handler.{Follows}
 use Rattle.vhost_protocol.specs.Served.{Silent}
 use Rattle.vhost_protocol.specs.Session.{Session}
 use Rattle.vhost_protocol.specs.Split.{Message}
+use Rattle.vhost_protocol.specs.Row.{row_of}
+use Rattle.vhost_protocol.specs.Step as step
 use Rattle.vhost_protocol.specs.Step.{Outcome, Step, Refused, Calls, OpensBackend, OpensGpu, silently}
 use Rattle.vhost_link.specs.Law.{Event}
 use Rattle.vhost_connection.specs.Requests.{IsReady}
@@ -26,6 +28,7 @@ use Rattle.vhost_backend_core.specs.declared.call.Begun.{Begun}
 use Rattle.vhost_backend_core.specs.declared.call.DeviceCall.{DeviceCall}
 use Rattle.vhost_backend_core.specs.declared.refusal.Refusal.{Refusal}
 use Rattle.vhost_backend_core.specs.declared.refusal.Refusal.TheVariants as refusal
+use Rattle.vhost_backend_core.specs.Fits.{Makes}
 use Rattle.vhost_backend_core.specs.Refusing.{refusal_in}
 use Rattle.vhost_backend_req_handler.proofs.Fitting.{answer_fits}
 use Rattle.vhost_backend_req_handler.specs.Calling.{Called}
@@ -134,3 +137,19 @@ if_error F e (Err x) is p = p
 pub if_some : {A : Type 0} (F : Option A → Type 0) (result : Option A) → F result → IfSome result (λ a. F (Some a))
 if_some F None p = tt
 if_some F (Some a) p = p
+
+-- a step that does not refuse was answered
+pub answered_by : {H B G Dev : Type 0} (gives : Dev → (c : Call H B G) → Answer c → Dev → Type 0) (opens_backend : H → Result B Error → Type 0) (opens_gpu : H → Result G Error → Type 0)
+    (d d' : Dev) (b : Beside) (step : Step H B G) (a : Option (DeviceAnswer H)) → Makes step → Called gives opens_backend opens_gpu d b step a d' → is_some a ≡ true
+answered_by gives opens_backend opens_gpu d d' b (Refused r) a makes called = absurd makes
+answered_by gives opens_backend opens_gpu d d' b (Calls c next) None makes called = absurd called
+answered_by gives opens_backend opens_gpu d d' b (Calls c next) (Some a) makes called = refl
+answered_by gives opens_backend opens_gpu d d' b (OpensBackend h next) None makes called = absurd called
+answered_by gives opens_backend opens_gpu d d' b (OpensBackend h next) (Some a) makes called = refl
+answered_by gives opens_backend opens_gpu d d' b (OpensGpu h next) None makes called = absurd called
+answered_by gives opens_backend opens_gpu d d' b (OpensGpu h next) (Some a) makes called = refl
+
+-- the message that was read is refused, and so is the message that it is
+pub unmakes : {H B G : Type 0} (s : Session) (read m : Message FrontendReq H) (r : step.Refusal H) → Refused r ≡ row_of {B = B} {G = G} read.request s read → read ≡ m → Makes (row_of {B = B} {G = G} m.request s m) → ⊥
+unmakes {B = B} {G = G} s read m r row same makes =
+    subst (λ (step : Step _ B G). Makes step) (sym row) (subst (λ (x : Message FrontendReq _). Makes (row_of {B = B} {G = G} x.request s x)) (sym same) makes)

@@ -1,6 +1,6 @@
 //! Serving a request in two halves, without a device: it is read, and becomes a call; the call's answer is reported.
 
-ghost use Rattle.std.specs.Prelude.{◌≡◌, ℤ, List, IfOk, IfErr, IfSome, Some, None, Err, is_some, false};
+ghost use Rattle.std.specs.Prelude.{◌≡◌, ℤ, List, IfOk, IfErr, IfSome, Some, None, Err, is_some, false, true};
 ghost use Rattle.vhost_message.specs.declared.cause.IoCause.TheVariants.{Raw};
 ghost use Rattle.vhost_message.specs.declared.error.Error.TheVariants.{SocketBroken};
 ghost use Rattle.vhost_backend_core.specs.Concluding.{concluded};
@@ -35,6 +35,7 @@ impl<L: Link> SessionCore<L> {
     ghost use Rattle.vhost_connection.specs.Requests.{IsReady, Reads};
     ghost use Rattle.vhost_message.specs.declared.records.memory.VhostUserMemoryRegion.{VhostUserMemoryRegion};
     ghost use Rattle.vhost_backend_core.specs.Beginning.{step_of};
+    ghost use Rattle.vhost_backend_core.specs.Fits.{Makes};
     ghost use Rattle.vhost_backend_req_handler.specs.Calling.{Called, beside};
     ghost use Rattle.vhost_backend_req_handler.specs.Opening.{OpensAs};
     ghost use Rattle.vhost_backend_req.specs.declared.backend.Backend.{Backend};
@@ -85,8 +86,10 @@ impl<L: Link> SessionCore<L> {
     /// The call that is to be answered. Its arguments are lent. None: no call is to be answered, or its file descriptors were
     /// taken.
     pub fn call(&self) -> Option<DeviceCall<'_>>
-        ensures { (p : Pending L.Handle) (m : Message FrontendReq L.Handle) → self.now.pending ≡ Some p → Reads self.now.body.value p.request m → HandsOver p.handles m.handles
+        ensures row { (p : Pending L.Handle) (m : Message FrontendReq L.Handle) → self.now.pending ≡ Some p → Reads self.now.body.value p.request m → HandsOver p.handles m.handles
             → IfSome result (λ c. row_of {B = Backend L L.Handle} {G = GpuBackend L L.Handle} m.request (session_in self.now) m ≡ step_of (session_in self.now) m c) }
+        ensures some { (p : Pending L.Handle) (m : Message FrontendReq L.Handle) → self.now.pending ≡ Some p → Reads self.now.body.value p.request m → HandsOver p.handles m.handles
+            → Makes (row_of {B = Backend L L.Handle} {G = GpuBackend L L.Handle} m.request (session_in self.now) m) → is_some result ≡ true }
     {
         match &self.pending {
             Some(pending) => self.call_of(pending),
@@ -96,8 +99,10 @@ impl<L: Link> SessionCore<L> {
 
     /// The call of a request.
     fn call_of(&self, pending: &Pending<L::Handle>) -> Option<DeviceCall<'_>>
-        ensures { (m : Message FrontendReq L.Handle) → Reads self.now.body.value pending.now.request m → HandsOver pending.now.handles m.handles
+        ensures row { (m : Message FrontendReq L.Handle) → Reads self.now.body.value pending.now.request m → HandsOver pending.now.handles m.handles
             → IfSome result (λ c. row_of {B = Backend L L.Handle} {G = GpuBackend L L.Handle} m.request (session_in self.now) m ≡ step_of (session_in self.now) m c) }
+        ensures some { (m : Message FrontendReq L.Handle) → Reads self.now.body.value pending.now.request m → HandsOver pending.now.handles m.handles
+            → Makes (row_of {B = Backend L L.Handle} {G = GpuBackend L L.Handle} m.request (session_in self.now) m) → is_some result ≡ true }
     {
         let request = pending.request;
         let message = Incoming::new(
@@ -112,7 +117,8 @@ impl<L: Link> SessionCore<L> {
             &pending.handles,
         ) {
             Ok(Begun::Calls(call)) => Some(call),
-            _ => None,
+            Ok(Begun::Refuses(_)) => None,
+            Err(_) => None,
         }
     }
 
@@ -123,6 +129,8 @@ impl<L: Link> SessionCore<L> {
     ) -> Option<DeviceAnswer<L::Handle>>
         ensures called { (p : Pending L.Handle) (m : Message FrontendReq L.Handle) (rs : List VhostUserMemoryRegion) → self.old.pending ≡ Some p → Reads self.old.body.value p.request m → HandsOver p.handles m.handles
             → IfSome result (λ a. Called D.gives (λ h o. OpensAs L.opens L.Handle.kinds h o) (λ h o. OpensAs L.opens L.Handle.kinds h o) device.old (beside rs self.new.server.shmem) (row_of m.request (session_in self.old) m) (Some a) device.new) }
+        ensures some { (p : Pending L.Handle) (m : Message FrontendReq L.Handle) → self.old.pending ≡ Some p → Reads self.old.body.value p.request m → HandsOver p.handles m.handles
+            → Makes (row_of {B = Backend L L.Handle} {G = GpuBackend L L.Handle} m.request (session_in self.old) m) → is_some result ≡ true }
         ensures endpoint { endpoint_of self.new ≡ endpoint_of self.old }
         ensures session { session_in self.new ≡ session_in self.old }
         ensures regions { self.new.server.regions ≡ self.old.server.regions }
@@ -146,6 +154,8 @@ impl<L: Link> SessionCore<L> {
     ) -> Option<DeviceAnswer<L::Handle>>
         ensures called { (m : Message FrontendReq L.Handle) (rs : List VhostUserMemoryRegion) → Reads self.old.body.value pending.old.request m → HandsOver pending.old.handles m.handles
             → IfSome result (λ a. Called D.gives (λ h o. OpensAs L.opens L.Handle.kinds h o) (λ h o. OpensAs L.opens L.Handle.kinds h o) device.old (beside rs self.new.server.shmem) (row_of m.request (session_in self.old) m) (Some a) device.new) }
+        ensures some { (m : Message FrontendReq L.Handle) → Reads self.old.body.value pending.old.request m → HandsOver pending.old.handles m.handles
+            → Makes (row_of {B = Backend L L.Handle} {G = GpuBackend L L.Handle} m.request (session_in self.old) m) → is_some result ≡ true }
         ensures endpoint { endpoint_of self.new ≡ endpoint_of self.old }
         ensures session { session_in self.new ≡ session_in self.old }
         ensures regions { self.new.server.regions ≡ self.old.server.regions }
@@ -168,7 +178,8 @@ impl<L: Link> SessionCore<L> {
                 self.server
                     .call_device(&mut self.endpoint, device, &call, &mut pending.handles)
             }
-            _ => None,
+            Ok(Begun::Refuses(_)) => None,
+            Err(_) => None,
         }
     }
 

@@ -11,3 +11,10 @@ returns-in-Some-clause-called g c p m rs is reads over =
     c.make-answer.ensures.called m rs
     (subst (λ (x : Pending g.row.L-Handle.Denot). Reads c.args.self.now.body.value x.request m) same reads)
     (subst (λ (x : Pending g.row.L-Handle.Denot). HandsOver x.handles m.handles) same over)
+
+pub returns-in-Some-clause-some : goal.returns-in-Some-clause-some
+returns-in-Some-clause-some g c p m is reads over makes =
+    let same : p ≡ c.in-Some.pending = cc (is, c.in-Some.is) in
+    c.make-answer.ensures.some m
+    (subst (λ (x : Pending g.row.L-Handle.Denot). Reads c.args.self.now.body.value x.request m) same reads)
+    (subst (λ (x : Pending g.row.L-Handle.Denot). HandsOver x.handles m.handles) same over) makes
