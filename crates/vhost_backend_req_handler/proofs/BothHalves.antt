@@ -1,9 +1,10 @@
 -- Both halves, with a device's answer between them, are one call of a handler.
-use Rattle.std.proofs.Common.{◌≡◌, ◌∙◌, ℕ, List, Option, Some, None, Result, Err, refl, subst, sym}
+use Rattle.std.proofs.Common.{◌≡◌, ◌∙◌, ℕ, List, Option, Some, None, Result, Err, refl, ap, subst, sym}
 use Rattle.std.specs.Prelude.{Vec, ⊤}
 use Rattle.std.specs.Global.{Global}
 use Rattle.vhost_message.specs.declared.error.Error as declared
 use Rattle.vhost_message.specs.declared.frontend_req.FrontendReq.{FrontendReq}
+use Rattle.vhost_message.specs.declared.records.memory.VhostUserMemoryRegion.{VhostUserMemoryRegion}
 use Rattle.vhost_message.specs.FrontendReq.{request_of}
 use Rattle.vhost_protocol.specs.Codes.{allows_handles}
 use Rattle.vhost_protocol.specs.DeviceCall.{Call, Answer}
@@ -21,7 +22,7 @@ use Rattle.vhost_connection.specs.declared.request.Request.{Request}
 use Rattle.vhost_connection.proofs.Running.{wider-once}
 use Rattle.vhost_connection.proofs.Serving.{handles-request}
 use Rattle.vhost_backend_core.specs.Beginning.{step_of}
-use Rattle.vhost_backend_core.specs.Concluding.{concluded}
+use Rattle.vhost_backend_core.specs.Concluding.{concluded, regions_for}
 use Rattle.vhost_backend_req_handler.specs.Calling.{Called}
 use Rattle.vhost_backend_req_handler.specs.Core.{endpoint_of, session_in}
 use Rattle.vhost_backend_req_handler.specs.Halves.{HalvesRefuse, HalvesServe, beside_then, uncalled, unopened}
@@ -44,15 +45,16 @@ same_message bytes request handles m n a b over again =
 module _ {L H B G Dev : Type 0} (event : L → Event H → L → Type 0) (gives : Dev → (c : Call H B G) → Answer c → Dev → Type 0)
     (opens_backend : H → Result B Error → Type 0) (opens_gpu : H → Result G Error → Type 0) where
   pub halves_serve : HalvesServe event gives opens_backend opens_gpu
-  halves_serve old mid new d d' a result begun called sized done =
+  halves_serve old mid last new d d' a result begun endpoint session regions called sized done =
       let m = begun.reads.message in
       let s = session_in old in
       let p = begun.prepares in
-      let b = beside_then begun.pending.then mid.server in
+      let b = beside_then begun.pending.then last.server in
+      let kept = ap (λ (rs : List VhostUserMemoryRegion). regions_for begun.pending.then rs) regions ∙ p.regions in
       let call = subst (λ (step : Step H B G). Called gives opens_backend opens_gpu d b step (Some a) d') p.row called in
-      let finished = subst (λ (r : FrontendReq). Finishes event r (concluded (session_in mid) m.need_reply b begun.pending.then a) (endpoint_of mid) (session_in mid) result (endpoint_of new) (session_in new)) begun.reads.reads.code
-      (subst (λ need. Finishes event begun.pending.request.code (concluded (session_in mid) need b begun.pending.then a) (endpoint_of mid) (session_in mid) result (endpoint_of new) (session_in new)) begun.reads.reads.need_reply done) in
-      let answered = by_row (sym p.row) (made s (session_in mid) (endpoint_of mid) (endpoint_of mid) (endpoint_of new) m p.call begun.pending.then b a d d' (session_in new) result begun.session refl p.next p.regions sized call finished) in
+      let finished = subst (λ (r : FrontendReq). Finishes event r (concluded (session_in last) m.need_reply b begun.pending.then a) (endpoint_of last) (session_in last) result (endpoint_of new) (session_in new)) begun.reads.reads.code
+      (subst (λ need. Finishes event begun.pending.request.code (concluded (session_in last) need b begun.pending.then a) (endpoint_of last) (session_in last) result (endpoint_of new) (session_in new)) begun.reads.reads.need_reply done) in
+      let answered = by_row (sym p.row) (made s (session_in last) (endpoint_of mid) (endpoint_of last) (endpoint_of new) m p.call begun.pending.then b a d d' (session_in new) result (session ∙ begun.session) endpoint p.next kept sized call finished) in
       handles-request event request_of allows_handles (λ (t : Session). t.failed) kept_unsent (MeetsRow (fitting gives) opens_backend opens_gpu)
       (endpoint_of old) (endpoint_of mid) (endpoint_of new) s (session_in new) d d' mid.body.value begun.pending.request begun.pending.handles result begun.reads
       (λ n reads over ready. subst (λ (x : Message FrontendReq H). serving.Answers event (MeetsRow (fitting gives) opens_backend opens_gpu s d x) (kept_unsent x.request s) (endpoint_of mid) result (endpoint_of new) (session_in new) d')

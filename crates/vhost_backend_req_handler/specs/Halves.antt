@@ -67,13 +67,14 @@ module _ {H : Type 0} (B G : Type 0) where
 
 module _ {L H B G Dev : Type 0} (event : L → Event H → L → Type 0) (gives : Dev → (c : Call H B G) → Answer c → Dev → Type 0)
     (opens_backend : H → Result B Error → Type 0) (opens_gpu : H → Result G Error → Type 0) where
-  -- A request that was begun, whose call this device answered so, and whose answer was concluded, is one call of a handler with that device.
+  -- A request that was begun, whose call this device answered so while the session stayed, and whose answer was concluded, is one call of a handler with that device.
   abbrev pub HalvesServe : Type 0
-  HalvesServe = (old mid new : SessionCore L H) (d d' : Dev) (a : DeviceAnswer H) (result : Result ⊤ declared.Error) (begun : Begins B G event old mid)
-      → Called gives opens_backend opens_gpu d (beside_then begun.pending.then mid.server) (row_of begun.reads.message.request (session_in old) begun.reads.message) (Some a) d'
-      → AnswerSized mid.server.shmem a
-      → Finishes event begun.pending.request.code (concluded (session_in mid) begun.pending.request.need_reply (beside_then begun.pending.then mid.server) begun.pending.then a)
-      (endpoint_of mid) (session_in mid) result (endpoint_of new) (session_in new)
+  HalvesServe = (old mid last new : SessionCore L H) (d d' : Dev) (a : DeviceAnswer H) (result : Result ⊤ declared.Error) (begun : Begins B G event old mid)
+      → endpoint_of last ≡ endpoint_of mid → session_in last ≡ session_in mid → last.server.regions ≡ mid.server.regions
+      → Called gives opens_backend opens_gpu d (beside_then begun.pending.then last.server) (row_of begun.reads.message.request (session_in old) begun.reads.message) (Some a) d'
+      → AnswerSized last.server.shmem a
+      → Finishes event begun.pending.request.code (concluded (session_in last) begun.pending.request.need_reply (beside_then begun.pending.then last.server) begun.pending.then a)
+      (endpoint_of last) (session_in last) result (endpoint_of new) (session_in new)
       → HandlesOne event gives opens_backend opens_gpu (endpoint_of old) (session_in old) d result (endpoint_of new) (session_in new) d'
 
   -- So is one that was refused, whatever the device.

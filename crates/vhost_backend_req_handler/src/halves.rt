@@ -134,7 +134,7 @@ impl<L: Link> SessionCore<L> {
         ensures endpoint { endpoint_of self.new ≡ endpoint_of self.old }
         ensures session { session_in self.new ≡ session_in self.old }
         ensures regions { self.new.server.regions ≡ self.old.server.regions }
-        ensures pending { (p : Pending L.Handle) → self.old.pending ≡ Some p → IfSome self.new.pending (λ q. (q.request ≡ p.request) × (q.then ≡ p.then)) }
+        ensures pending { (p : Pending L.Handle) → self.old.pending ≡ Some p → (q : Pending L.Handle) × (self.new.pending ≡ Some q) × (q.request ≡ p.request) × (q.then ≡ p.then) }
     {
         match self.pending.take() {
             Some(mut pending) => {

@@ -1,6 +1,6 @@
 //! The session of a handler over any link.
 
-ghost use Rattle.std.specs.Prelude.{◌≡◌, ◌+◌, ◌<◌, Some, None, Err, ℤ, IfOk, IfErr, vec_len, vec_capacity};
+ghost use Rattle.std.specs.Prelude.{◌≡◌, ◌+◌, ◌<◌, false, is_some, Some, None, Err, ℤ, IfOk, IfErr, vec_len, vec_capacity};
 ghost use Rattle.vhost_message.specs.declared.cause.IoCause.TheVariants.{Raw};
 ghost use Rattle.vhost_message.specs.declared.error.Error.TheVariants.{SocketBroken, OutOfMemory};
 ghost use Rattle.vhost_protocol.specs.Session.{fresh as new_session};
@@ -48,6 +48,7 @@ impl<L: Link> SessionCore<L> {
     pub fn new(alloc: Global, link: L, budget: u32) -> Result<Self>
         ensures endpoint { IfOk result (λ c. endpoint_of c ≡ fresh link budget) }
         ensures session { IfOk result (λ c. session_in c ≡ new_session) }
+        ensures idle { IfOk result (λ c. is_some c.pending ≡ false) }
         ensures memory { IfErr result (λ e. e ≡ OutOfMemory) }
     {
         let body = new_body(alloc)?;
@@ -59,6 +60,7 @@ impl<L: Link> SessionCore<L> {
     pub(crate) fn over(alloc: Global, endpoint: Endpoint<Header, L>, body: Body) -> Self
         ensures endpoint { endpoint_of result ≡ state endpoint }
         ensures session { session_in result ≡ new_session }
+        ensures idle { is_some result.pending ≡ false }
     {
         let server = Server {
             session: Session::new(),

@@ -1,5 +1,5 @@
 -- The call of the request that is to be answered was made.
-use Rattle.std.proofs.Common.{◌≡◌, ◌∙◌, sym, subst}
+use Rattle.std.proofs.Common.{◌≡◌, ◌∙◌, ap, refl, subst}
 use Rattle.vhost_connection.specs.Calls.{HandsOver}
 use Rattle.vhost_connection.specs.Requests.{Reads}
 use Rattle.vhost_backend_req_handler.specs.declared.halves.Pending.{Pending}
@@ -18,3 +18,12 @@ returns-in-Some-clause-some g c p m is reads over makes =
     c.make-answer.ensures.some m
     (subst (λ (x : Pending g.row.L-Handle.Denot). Reads c.args.self.now.body.value x.request m) same reads)
     (subst (λ (x : Pending g.row.L-Handle.Denot). HandsOver x.handles m.handles) same over) makes
+
+pub returns-in-Some-clause-pending : goal.returns-in-Some-clause-pending
+returns-in-Some-clause-pending g c p is =
+    let same : c.in-Some.pending ≡ p = cc (is, c.in-Some.is) in (
+      c.make-answer.new.pending,
+      refl,
+      c.make-answer.ensures.request ∙ ap (λ (x : Pending g.row.L-Handle.Denot). x.request) same,
+      c.make-answer.ensures.then ∙ ap (λ (x : Pending g.row.L-Handle.Denot). x.then) same,
+    )
