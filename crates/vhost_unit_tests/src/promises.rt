@@ -76,7 +76,7 @@ fn one_request_in_halves(rt: HostRuntime) -> Outcome<()> {
     ];
     let (answer, written) = by_halves(rt.alloc(), &[1, 0, 0, 0, 1, 0, 0, 0, 0, 0, 0, 0])?;
     assert!(rt; answer.is_ok());
-    assert!(rt; written == reply);
+    assert!(rt; written.as_slice() == reply.as_slice());
     Ok(())
 }
 
