@@ -1,17 +1,20 @@
 /* SPDX-License-Identifier: Apache-2.0 */
 #include "arrival.h"
 
-#include "virtqueue.h"
+#include "monitor.h"
 
 #include <errno.h>
 #include <linux/userfaultfd.h>
 #include <poll.h>
 #include <stdio.h>
 #include <stdlib.h>
+#include <string.h>
 #include <sys/eventfd.h>
 #include <sys/ioctl.h>
 #include <time.h>
 #include <unistd.h>
+
+enum { SET_MEM_TABLE = 5 }; /* the request that brings the memory, for its acknowledgement */
 
 static void give_up(const char *what)
 {
@@ -59,8 +62,45 @@ static void *serve_faults(void *argument)
     return NULL;
 }
 
-void start_arrival(struct arrival *arrival)
+struct arrival make_arrival(size_t size)
 {
+    struct arrival arrival = {.source = aligned_alloc(PAGE, size), .size = size};
+    if (arrival.source == NULL)
+        give_up("aligned_alloc");
+    memset(arrival.source, 0, size);
+    return arrival;
+}
+
+void free_arrival(struct arrival *arrival)
+{
+    free(arrival->source);
+}
+
+/* The backend gives its userfaultfd, and listens. */
+static void listen_for_faults(struct arrival *arrival)
+{
+    int32_t fd = -1;
+    done("postcopy_advise", covretin_ask_postcopy_advise(SESSION));
+    check(covretin_claim_fd(&device, &fd) == COVRETIN_OK, "there is a userfaultfd");
+    arrival->userfault = fd;
+    done("postcopy_listen", covretin_ask_postcopy_listen(SESSION));
+}
+
+/* Gives the memory. The backend says where it has mapped it, and waits for its pages once that was acknowledged. */
+static void give_arriving(struct arrival *arrival, const struct memory *memory)
+{
+    size_t count = 0;
+    give_memory(memory);
+    enum covretin_error error = covretin_answer_bases(SESSION, &arrival->base, 1, &count);
+    check(error == COVRETIN_OK && count == 1, "the backend says where it has the memory");
+    printf("  mapped at %#llx\n", (unsigned long long)arrival->base);
+    done("postcopy_ack_mem_regions", covretin_ask_postcopy_ack_mem_regions(SESSION, SET_MEM_TABLE));
+}
+
+void start_arrival(struct arrival *arrival, const struct memory *memory)
+{
+    listen_for_faults(arrival);
+    give_arriving(arrival, memory);
     arrival->stop = eventfd(0, EFD_CLOEXEC);
     atomic_init(&arrival->waited, 0);
     if (arrival->stop < 0 || pthread_create(&arrival->thread, NULL, serve_faults, arrival))
@@ -83,4 +123,5 @@ void end_arrival(struct arrival *arrival)
         give_up("arrival");
     close(arrival->stop);
     close(arrival->userfault);
+    done("postcopy_end", covretin_ask_postcopy_end(SESSION));
 }

@@ -26,7 +26,7 @@ enum {
     BLOCK = 4096,
     SLOTS = 4,             /* requests under way at a time; each has three descriptors, */
     SLOT_ROOM = 3 * PAGE,  /* and a page each for its header, its data and its status */
-    MEMORY_SIZE = 16 * PAGE
+    MEMORY_SIZE = QUEUE_ROOM + SLOTS * SLOT_ROOM
 };
 
 static const uint64_t guest_base = (uint64_t)1 << 32;
@@ -426,15 +426,24 @@ static void asked_when_killed(const char *path)
     close(inflight_fd);
 }
 
+typedef void tried(const char *path);
+
+/* What is to be tried, by its name. */
+static tried *try_of(const char *name)
+{
+    static const struct {
+        const char *name;
+        tried *plays;
+    } tries[] = {{"work", asked_to_work}, {"regions", asked_with_regions}, {"log", asked_with_log}, {"killed", asked_when_killed}};
+    for (size_t i = 0; i < sizeof tries / sizeof *tries; i++)
+        if (strcmp(tries[i].name, name) == 0)
+            return tries[i].plays;
+    return NULL;
+}
+
 int main(int argc, char **argv)
 {
-    void (*tried)(const char *path) = NULL;
-    if (argc == 5)
-        tried = strcmp(argv[4], "work") == 0      ? asked_to_work
-                : strcmp(argv[4], "regions") == 0 ? asked_with_regions
-                : strcmp(argv[4], "log") == 0     ? asked_with_log
-                : strcmp(argv[4], "killed") == 0  ? asked_when_killed
-                                                  : NULL;
+    tried *tried = argc == 5 ? try_of(argv[4]) : NULL;
     if (tried == NULL) {
         fprintf(stderr, "usage: disk PATH IMAGE PID work|regions|log|killed\n");
         return 2;

@@ -13,7 +13,6 @@
 
 #include <linux/virtio_net.h>
 #include <stdio.h>
-#include <stdlib.h>
 #include <string.h>
 
 enum {
@@ -25,8 +24,7 @@ enum {
     MEMORY_SIZE = RING_COUNT * (QUEUE_ROOM + FRAMES * BUFFER_ROOM),
     PAGES = MEMORY_SIZE / PAGE,
     HEADER = sizeof(struct virtio_net_hdr_mrg_rxbuf),
-    LONGEST = 1514,
-    SET_MEM_TABLE = 5 /* the request that brought the regions, for its acknowledgement in postcopy */
+    LONGEST = 1514
 };
 
 /* -- Frames -- */
@@ -141,55 +139,28 @@ static void asked_for_frames(struct memory *memory)
 
 /* -- Postcopy -- */
 
-/* The backend gives its userfaultfd, and listens for page faults. */
-static void begin_postcopy(struct arrival *arrival)
-{
-    int32_t fd = -1;
-    done("postcopy_advise", covretin_ask_postcopy_advise(SESSION));
-    check(covretin_claim_fd(&device, &fd) == COVRETIN_OK, "there is a userfaultfd");
-    arrival->userfault = fd;
-    done("postcopy_listen", covretin_ask_postcopy_listen(SESSION));
-}
-
-/* Gives the memory. The backend says where it has mapped it, and registers that once the frontend has heard it. */
-static void give_arriving(const struct memory *memory, struct arrival *arrival)
-{
-    size_t count = 0;
-    give_memory(memory);
-    enum covretin_error error = covretin_answer_bases(SESSION, &arrival->base, 1, &count);
-    check(error == COVRETIN_OK && count == 1, "the backend says where it has the memory");
-    printf("  mapped at %#llx\n", (unsigned long long)arrival->base);
-    done("postcopy_ack_mem_regions", covretin_ask_postcopy_ack_mem_regions(SESSION, SET_MEM_TABLE));
-}
-
 /* The rings and frames are made where the guest was; here they arrive as the switch asks for their pages. */
 static void asked_in_postcopy(struct memory *memory)
 {
     struct virtqueue there[RING_COUNT], here[RING_COUNT];
-    uint8_t *source = aligned_alloc(PAGE, MEMORY_SIZE);
-    struct arrival arrival = {.source = source, .size = MEMORY_SIZE};
-    check(source != NULL, "there is memory");
-    memset(source, 0, MEMORY_SIZE);
-    make_rings(there, source);
+    struct arrival arrival = make_arrival(MEMORY_SIZE);
+    make_rings(there, arrival.source);
     make_rings(here, memory->at);
-    post_frames(memory, source, there, 0);
+    post_frames(memory, arrival.source, there, 0);
     for (unsigned i = 0; i < RING_COUNT; i++)
         here[i].posted = there[i].posted;
 
-    begin_postcopy(&arrival);
-    give_arriving(memory, &arrival);
-    start_arrival(&arrival);
+    start_arrival(&arrival, memory);
     start_rings(here);
     check(waited_for(&arrival, PAGES, LIMIT), "the switch waited for the pages of each ring, frame and buffer");
     take_frames(memory, here, 0);
     end_arrival(&arrival);
-    done("postcopy_end", covretin_ask_postcopy_end(SESSION));
 
     play_rounds(memory, here, 1, 10);
     stop_rings(here);
     free_rings(here);
     free_rings(there);
-    free(source);
+    free_arrival(&arrival);
 }
 
 int main(int argc, char **argv)
