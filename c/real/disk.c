@@ -426,14 +426,14 @@ static void asked_when_killed(const char *path)
     close(inflight_fd);
 }
 
-typedef void tried(const char *path);
+typedef void play(const char *path);
 
 /* What is to be tried, by its name. */
-static tried *try_of(const char *name)
+static play *try_of(const char *name)
 {
     static const struct {
         const char *name;
-        tried *plays;
+        play *plays;
     } tries[] = {{"work", asked_to_work}, {"regions", asked_with_regions}, {"log", asked_with_log}, {"killed", asked_when_killed}};
     for (size_t i = 0; i < sizeof tries / sizeof *tries; i++)
         if (strcmp(tries[i].name, name) == 0)
@@ -443,7 +443,7 @@ static tried *try_of(const char *name)
 
 int main(int argc, char **argv)
 {
-    tried *tried = argc == 5 ? try_of(argv[4]) : NULL;
+    play *tried = argc == 5 ? try_of(argv[4]) : NULL;
     if (tried == NULL) {
         fprintf(stderr, "usage: disk PATH IMAGE PID work|regions|log|killed\n");
         return 2;
