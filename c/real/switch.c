@@ -2,7 +2,7 @@
 /* A monitor's side of a network card (vhost-user-net; virtio 1.2, 5.1), against a virtual switch that sends each frame back where
  * it came from.
  *
- *     switch PATH frames      eight frames there and back, again and again
+ *     switch PATH frames      eight frames there and back, again and again; at last without eventfds
  *     switch PATH postcopy    the first eight of them while the guest's memory arrives by postcopy
  *
  * What comes back is compared with what was sent. Prints a line for each call; status 0 where all was so, 1 where something was
@@ -123,17 +123,24 @@ static void free_rings(struct virtqueue *queues)
         free_virtqueue(&queues[i]);
 }
 
+static void make_all_polled(struct virtqueue *queues)
+{
+    for (unsigned i = 0; i < RING_COUNT; i++)
+        make_polled(&queues[i]);
+}
+
 static void asked_for_frames(struct memory *memory)
 {
     struct virtqueue queues[RING_COUNT];
     make_rings(queues, memory->at);
     give_memory(memory);
-    start_rings(queues);
-    play_rounds(memory, queues, 0, 10);
-    stop_rings(queues);
-    start_rings(queues);
-    play_rounds(memory, queues, 10, 20);
-    stop_rings(queues);
+    for (unsigned round = 0; round < 30; round += 10) {
+        if (round == 20)
+            make_all_polled(queues);
+        start_rings(queues);
+        play_rounds(memory, queues, round, round + 10);
+        stop_rings(queues);
+    }
     free_rings(queues);
 }
 

@@ -55,8 +55,16 @@ struct virtqueue make_virtqueue(uint16_t index, uint8_t *at)
 
 void free_virtqueue(struct virtqueue *queue)
 {
-    close(queue->kick);
-    close(queue->call);
+    if (queue->kick >= 0)
+        close(queue->kick);
+    if (queue->call >= 0)
+        close(queue->call);
+}
+
+void make_polled(struct virtqueue *queue)
+{
+    free_virtqueue(queue);
+    queue->kick = queue->call = -1;
 }
 
 void post(struct virtqueue *queue, uint16_t head)
@@ -68,18 +76,26 @@ void post(struct virtqueue *queue, uint16_t head)
 
 void kick(const struct virtqueue *queue)
 {
-    if (eventfd_write(queue->kick, 1))
+    if (queue->kick >= 0 && eventfd_write(queue->kick, 1))
         give_up("kick");
+}
+
+/* Waits until the device calls, or for a millisecond where it cannot. False where so many are over. */
+static bool wait_for_call(const struct virtqueue *queue, int *milliseconds)
+{
+    struct pollfd called = {.fd = queue->call, .events = POLLIN};
+    eventfd_t count;
+    if (queue->call >= 0)
+        return poll(&called, 1, *milliseconds) == 1 && eventfd_read(queue->call, &count) == 0;
+    poll(NULL, 0, 1);
+    return --*milliseconds > 0;
 }
 
 bool take_used(struct virtqueue *queue, int milliseconds, struct used_element *element)
 {
-    struct pollfd called = {.fd = queue->call, .events = POLLIN};
-    while (atomic_load_explicit(&queue->used->index, memory_order_acquire) == queue->taken) {
-        eventfd_t count;
-        if (poll(&called, 1, milliseconds) != 1 || eventfd_read(queue->call, &count))
+    while (atomic_load_explicit(&queue->used->index, memory_order_acquire) == queue->taken)
+        if (!wait_for_call(queue, &milliseconds))
             return false;
-    }
     *element = queue->used->elements[queue->taken % QUEUE_SIZE];
     queue->taken++;
     return true;

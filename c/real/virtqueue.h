@@ -62,12 +62,15 @@ struct virtqueue {
     struct descriptor *descriptors;
     struct available_ring *available;
     struct used_ring *used;
-    int kick, call; /* eventfds */
+    int kick, call; /* eventfds; negative: both sides poll the ring */
 };
 
 /* A virtqueue that lies at `at`, where there are QUEUE_ROOM bytes of zeros. Nothing is written there. */
 struct virtqueue make_virtqueue(uint16_t index, uint8_t *at);
 void free_virtqueue(struct virtqueue *queue);
+
+/* Closes its eventfds: from then on it is polled. */
+void make_polled(struct virtqueue *queue);
 
 /* Makes the chain of descriptors that begins at this one available. The device is not told before kick. */
 void post(struct virtqueue *queue, uint16_t head);
