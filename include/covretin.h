@@ -348,6 +348,8 @@ enum covretin_error covretin_ask_check_device_state(covretin_session *session);
 /* INACTIVE_OPERATION: PAGEFAULT was not accepted. */
 enum covretin_error covretin_ask_postcopy_advise(covretin_session *session);
 enum covretin_error covretin_ask_postcopy_listen(covretin_session *session);
+/* A storage daemon and a packet switch reply to it also without COVRETIN_NEED_REPLY, and that reply is then taken for the
+ * next call's: set the flag before. */
 enum covretin_error covretin_ask_postcopy_end(covretin_session *session);
 /* The request that brought the regions: 5, SET_MEM_TABLE, or 37, ADD_MEM_REG. */
 enum covretin_error covretin_ask_postcopy_ack_mem_regions(covretin_session *session, uint32_t request);
