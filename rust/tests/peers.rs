@@ -221,6 +221,37 @@ fn a_socket_that_does_not_block() {
     });
 }
 
+/// A request that the system takes in parts: half of a small buffer at most.
+#[test]
+fn a_request_that_goes_in_parts() {
+    counted(|| {
+        for timeout in [None, Some(Duration::from_secs(60))] {
+            let backend = |peer: &Peer| {
+                let mut body = hex("00000000 f40f0000 00000000");
+                body.extend((0..4084).map(|at| at as u8));
+                for _ in 0..20 {
+                    sleep(Duration::from_millis(2));
+                    peer.hear(&message(25, ASKS, &body));
+                }
+            };
+            negotiated(ALL, backend, |frontend| {
+                let least: libc::c_int = 1;
+                // SAFETY: it is one number, borrowed for the call.
+                let set = unsafe {
+                    let value = (&least as *const libc::c_int).cast();
+                    libc::setsockopt(frontend.as_raw_fd(), libc::SOL_SOCKET, libc::SO_SNDBUF, value, 4)
+                };
+                assert_eq!(0, set);
+                frontend.set_timeout(timeout);
+                let bytes: Vec<u8> = (0..4084).map(|at| at as u8).collect();
+                for _ in 0..20 {
+                    frontend.set_config(0, VhostUserConfigFlags::empty(), &bytes).unwrap();
+                }
+            });
+        }
+    });
+}
+
 extern "C" fn ignore(_: libc::c_int) {}
 
 /// A signal interrupts no call, while it sends or while it receives.

@@ -27,7 +27,7 @@ type End = Option<Instant>;
 impl Connection {
     /// A read timeout of the socket becomes the limit of time of each call.
     pub(super) fn new(socket: UnixStream, max_queue_num: u64) -> Connection {
-        // As the collections of std do, it ends the program where an allocation fails.
+        // (the crate's name for this returns no Result)
         let session = Session::open(max_queue_num).expect("allocation of a session failed");
         let timeout = socket.read_timeout().ok().flatten();
         Connection { session, socket, timeout, bytes: Box::new([0; MAX_MESSAGE]), broken: None }

@@ -130,7 +130,7 @@ impl Frontend {
     );
 
     /// A frontend over a connected socket, of a backend of at most so many rings. A read timeout of the socket becomes the limit
-    /// of time. It ends the program where an allocation fails.
+    /// of time. It panics where an allocation fails.
     pub fn from_stream(sock: UnixStream, max_queue_num: u64) -> Self {
         Frontend { node: Arc::new(Mutex::new(Connection::new(sock, max_queue_num))) }
     }
