@@ -221,7 +221,7 @@ fn a_socket_that_does_not_block() {
     });
 }
 
-/// A request that the system takes in parts: half of a small buffer at most.
+/// A request that the system takes in parts: half of a small buffer at most, in which another request waits.
 #[test]
 fn a_request_that_goes_in_parts() {
     counted(|| {
@@ -231,6 +231,7 @@ fn a_request_that_goes_in_parts() {
                 body.extend((0..4084).map(|at| at as u8));
                 for _ in 0..20 {
                     sleep(Duration::from_millis(2));
+                    peer.hear(&message(3, ASKS, &[]));
                     peer.hear(&message(25, ASKS, &body));
                 }
             };
@@ -245,6 +246,7 @@ fn a_request_that_goes_in_parts() {
                 frontend.set_timeout(timeout);
                 let bytes: Vec<u8> = (0..4084).map(|at| at as u8).collect();
                 for _ in 0..20 {
+                    frontend.set_owner().unwrap();
                     frontend.set_config(0, VhostUserConfigFlags::empty(), &bytes).unwrap();
                 }
             });
