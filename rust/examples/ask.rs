@@ -33,7 +33,8 @@ fn ask(path: &str) -> Result<()> {
     if features & VhostUserVirtioFeatures::PROTOCOL_FEATURES.bits() == 0 {
         return Ok(());
     }
-    frontend.set_features(features & VhostUserVirtioFeatures::PROTOCOL_FEATURES.bits())?;
+    // All of them: a backend may serve no driver that leaves VIRTIO_F_VERSION_1 out.
+    frontend.set_features(features)?;
     let offered = frontend.get_protocol_features()?;
     println!("protocol features: {offered:?}");
     let accepted = offered & Frontend::PROTOCOL_FEATURES;

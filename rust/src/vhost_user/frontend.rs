@@ -97,7 +97,8 @@ pub trait VhostUserFrontend: VhostBackend {
     /// ADD_MEM_REG.
     fn postcopy_ack_mem_regions(&mut self, code: FrontendReq) -> Result<()>;
 
-    /// Ends postcopy. PAGEFAULT.
+    /// Ends postcopy. Some backends reply to it also without NEED_REPLY, and that reply is then taken for the next call's: set the
+    /// flag before. PAGEFAULT.
     fn postcopy_end(&mut self) -> Result<()>;
 }
 
