@@ -109,7 +109,7 @@ enum covretin_error {
     COVRETIN_INVALID_SOCKET_FD = 6,       /* the descriptor is no socket */
     COVRETIN_NOT_UNIX_SOCKET = 7,
     COVRETIN_NOT_STREAM_SOCKET = 8,
-    COVRETIN_PARTIAL_MESSAGE = 9,         /* the reply is cut short, or longer than a message: close the session */
+    COVRETIN_PARTIAL_MESSAGE = 9,         /* the reply is cut short: close the session */
     COVRETIN_DISCONNECTED = 10,           /* the backend closed the socket, or ended */
     COVRETIN_OVERSIZED_MSG = 11,
     COVRETIN_INCORRECT_FDS = 12,          /* the reply came with a wrong number of descriptors */
