@@ -1,5 +1,5 @@
 /* SPDX-License-Identifier: Apache-2.0 */
-/* Covretin: the frontend of vhost-user, for a virtual machine monitor that owns its socket.
+/* Covretin: the frontend of vhost-user, for a VMM (virtual machine monitor) that owns its socket.
  *
  * A session makes the bytes of each request and reads those of its reply. It makes no system call but for memory
  * (malloc, realloc, free), waits for nothing, and has no global state: the caller writes to its socket what the session

@@ -1,7 +1,7 @@
 /* SPDX-License-Identifier: Apache-2.0 */
 #include "arrival.h"
 
-#include "monitor.h"
+#include "vmm.h"
 
 #include <errno.h>
 #include <linux/userfaultfd.h>

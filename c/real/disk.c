@@ -1,5 +1,5 @@
 /* SPDX-License-Identifier: Apache-2.0 */
-/* A monitor's side of a disk (vhost-user-blk; virtio 1.2, 5.2), against a backend over a raw file, the image.
+/* A VMM's side of a disk (vhost-user-blk; virtio 1.2, 5.2), against a backend over a raw file, the image.
  *
  *     disk PATH IMAGE PID work       reads and writes sectors over two rings, past their ends
  *     disk PATH IMAGE PID regions    the same through memory that is plugged in and out, in as many regions as the backend takes
@@ -9,7 +9,7 @@
  * PID is the backend's process. What is read is compared with the image, and what was written is looked for there. Prints a
  * line for each call; status 0 where all was so, 1 where something was not, 2 after wrong arguments, 4 where all was so but that
  * the library refused the reply to set_log_base. */
-#include "monitor.h"
+#include "vmm.h"
 
 #include <fcntl.h>
 #include <linux/virtio_blk.h>
@@ -52,7 +52,7 @@ struct data {
     uint32_t length;
 };
 
-/* Posts a request. The device is not told yet. */
+/* Posts a request. The device is not kicked yet. */
 static void post_request(unsigned slot, uint32_t type, uint64_t sector, struct data data)
 {
     struct virtio_blk_outhdr *header = (struct virtio_blk_outhdr *)slot_page(slot, 0);
@@ -382,7 +382,7 @@ static void post_writes(void)
     check(take_used(&queue, LIMIT, &used) && used.head == 0, "the first write was used");
 }
 
-/* Kills the backend amid a call, which is told so. */
+/* Kills the backend amid a call, whose answer says so. */
 static void kill_backend(void)
 {
     const struct timespec pause = {.tv_nsec = 1000000};

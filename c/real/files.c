@@ -1,11 +1,11 @@
 /* SPDX-License-Identifier: Apache-2.0 */
-/* A monitor's side of a file system (vhost-user-fs; virtio 1.2, 5.11), against a backend over a folder: mounts it, looks a file
+/* A VMM's side of a file system (vhost-user-fs; virtio 1.2, 5.11), against a backend over a folder: mounts it, looks a file
  * up, opens it and reads all of it, in the requests of FUSE.
  *
  *     files PATH FILE        FILE lies in the folder; what is read is compared with it
  *
  * Prints a line for each call; status 0 where all was so, 1 where something was not, 2 after wrong arguments. */
-#include "monitor.h"
+#include "vmm.h"
 
 #include <errno.h>
 #include <fcntl.h>

@@ -1,5 +1,5 @@
 /* SPDX-License-Identifier: Apache-2.0 */
-/* A monitor's side of a network card (vhost-user-net; virtio 1.2, 5.1), against a virtual switch that sends each frame back where
+/* A VMM's side of a network card (vhost-user-net; virtio 1.2, 5.1), against a virtual switch that sends each frame back where
  * it came from.
  *
  *     switch PATH frames      eight frames there and back, again and again; at last without eventfds
@@ -7,7 +7,7 @@
  *
  * What comes back is compared with what was sent. Prints a line for each call; status 0 where all was so, 1 where something was
  * not, 2 after wrong arguments. */
-#include "monitor.h"
+#include "vmm.h"
 
 #include "arrival.h"
 

@@ -72,7 +72,7 @@ void free_virtqueue(struct virtqueue *queue);
 /* Closes its eventfds: from then on it is polled. */
 void make_polled(struct virtqueue *queue);
 
-/* Makes the chain of descriptors that begins at this one available. The device is not told before kick. */
+/* Makes the chain of descriptors that begins at this one available. The device is not kicked by it. */
 void post(struct virtqueue *queue, uint16_t head);
 void kick(const struct virtqueue *queue);
 

@@ -1,5 +1,5 @@
 // SPDX-License-Identifier: Apache-2.0
-//! A backend as a virtual machine monitor sees it: its calls, and their arguments.
+//! A backend as a VMM sees it: its calls, and their arguments.
 use std::cell::RefCell;
 use std::os::unix::io::{AsRawFd, RawFd};
 use std::sync::RwLock;
@@ -107,7 +107,7 @@ pub struct VhostUserDirtyLogRegion {
 /// The trait of a backend; the same for one that changes by its calls; and that each lock around the latter is the former.
 macro_rules! backend {
     ($($(#[$doc:meta])* fn $name:ident($($arg:ident: $ty:ty),*) -> $out:ty;)*) => {
-        /// A backend, as a virtual machine monitor asks it. A [`Frontend`](crate::vhost_user::Frontend) is one, over a socket: what
+        /// A backend, as a VMM asks it. A [`Frontend`](crate::vhost_user::Frontend) is one, over a socket: what
         /// each request means, the vhost-user specification says. Descriptors that are given stay the caller's.
         pub trait VhostBackend: Sized {
             $($(#[$doc])* fn $name(&self, $($arg: $ty),*) -> $out;)*

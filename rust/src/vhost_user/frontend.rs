@@ -17,7 +17,7 @@ use crate::{
     Result, VhostBackend, VhostUserDirtyLogRegion, VhostUserMemoryRegionBase, VhostUserMemoryRegionInfo, VringConfigData,
 };
 
-/// A vhost-user backend, as a virtual machine monitor asks it: the calls beside those of a [`VhostBackend`]. Each wants a feature,
+/// A vhost-user backend, as a VMM asks it: the calls beside those of a [`VhostBackend`]. Each wants a feature,
 /// which is named here; without it the error is InactiveOperation or InactiveFeature, and nothing is sent.
 pub trait VhostUserFrontend: VhostBackend {
     /// The protocol features that the backend offers, without those that have no name here. PROTOCOL_FEATURES offered.

@@ -1,5 +1,5 @@
 /* SPDX-License-Identifier: Apache-2.0 */
-#include "monitor.h"
+#include "vmm.h"
 
 #include <dirent.h>
 #include <errno.h>

@@ -1,8 +1,8 @@
 /* SPDX-License-Identifier: Apache-2.0 */
-/* What a virtual machine monitor writes once over covretin_socket.h, for all of its devices: calls that have to succeed, the
+/* What a VMM writes once over covretin_socket.h, for all of its devices: calls that have to succeed, the
  * negotiation, memory, rings. Each prints a line for a call. One that fails ends the program with status 1. */
-#ifndef MONITOR_H
-#define MONITOR_H
+#ifndef VMM_H
+#define VMM_H
 
 #include "covretin_socket.h"
 #include "virtqueue.h"
