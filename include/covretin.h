@@ -1,5 +1,5 @@
 /* SPDX-License-Identifier: Apache-2.0 */
-/* Covretin: the frontend of vhost-user, for a virtual machine monitor that owns its socket.
+/* Covretin: the frontend of vhost-user, for a VMM (virtual machine monitor) that owns its socket.
  *
  * A session makes the bytes of each request and reads those of its reply. It makes no system call but for memory
  * (malloc, realloc, free), waits for nothing, and has no global state: the caller writes to its socket what the session
@@ -109,7 +109,7 @@ enum covretin_error {
     COVRETIN_INVALID_SOCKET_FD = 6,       /* the descriptor is no socket */
     COVRETIN_NOT_UNIX_SOCKET = 7,
     COVRETIN_NOT_STREAM_SOCKET = 8,
-    COVRETIN_PARTIAL_MESSAGE = 9,         /* the reply is cut short, or longer than a message: close the session */
+    COVRETIN_PARTIAL_MESSAGE = 9,         /* the reply is cut short: close the session */
     COVRETIN_DISCONNECTED = 10,           /* the backend closed the socket, or ended */
     COVRETIN_OVERSIZED_MSG = 11,
     COVRETIN_INCORRECT_FDS = 12,          /* the reply came with a wrong number of descriptors */
@@ -348,6 +348,8 @@ enum covretin_error covretin_ask_check_device_state(covretin_session *session);
 /* INACTIVE_OPERATION: PAGEFAULT was not accepted. */
 enum covretin_error covretin_ask_postcopy_advise(covretin_session *session);
 enum covretin_error covretin_ask_postcopy_listen(covretin_session *session);
+/* A storage daemon and a packet switch reply to it also without COVRETIN_NEED_REPLY, and that reply is then taken for the
+ * next call's: set the flag before. */
 enum covretin_error covretin_ask_postcopy_end(covretin_session *session);
 /* The request that brought the regions: 5, SET_MEM_TABLE, or 37, ADD_MEM_REG. */
 enum covretin_error covretin_ask_postcopy_ack_mem_regions(covretin_session *session, uint32_t request);

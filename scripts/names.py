@@ -22,7 +22,7 @@ ALONE = re.compile(r"[A-Za-z]\w*(?:::\w+)*")
 NAME = re.compile(r"(?<!\w)(?:[A-Za-z]\w*_\w+|[A-Za-z]*[a-z][A-Z]\w*)")
 
 # A path: it begins with a folder or a file of the repository.
-PATH = re.compile(r"(?:crates|docs|scripts|include|c|specs|src|proofs|must-fail|\.ci)/[\w./*-]+")
+PATH = re.compile(r"(?:crates|docs|scripts|include|c|rust|specs|src|proofs|must-fail|\.ci)/[\w./*-]+")
 
 
 def tracked():
@@ -78,13 +78,14 @@ def missing_of(page, text, names, files):
 
 
 def versions():
-    """The header's version, where it differs from that of the repository."""
+    """The versions of the header and of the package for Rust, where they differ from that of the repository."""
     with open(f"{TOP}/VERSION", encoding="ascii") as file:
         version = file.read().strip()
-    with open(f"{TOP}/include/covretin.h", encoding="ascii") as file:
-        found = re.search(r'COVRETIN_VERSION\s+"([^"]*)"', file.read())
-    if found and found[1] != version:
-        yield f"include/covretin.h: version {found[1]}, and VERSION says {version}"
+    for path, pattern in ("include/covretin.h", r'COVRETIN_VERSION\s+"([^"]*)"'), ("rust/Cargo.toml", r'(?m)^version = "([^"]*)"'):
+        with open(f"{TOP}/{path}", encoding="utf-8") as file:
+            found = re.search(pattern, file.read())
+        if found and found[1] != version:
+            yield f"{path}: version {found[1]}, and VERSION says {version}"
 
 
 def main():

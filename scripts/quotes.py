@@ -2,8 +2,8 @@
 # SPDX-License-Identifier: Apache-2.0
 """scripts/quotes.py: whether the code that pages quote stands in the sources.
 
-A block of `rust` is quoted from one file of crates/vhost_examples/src, one of `antt` from one file of some crate's specs/: its lines stand there
-in this order, without the space before them; a line '// ..' or '-- ..' leaves some out.
+A block of `rust` is quoted from one file of crates/vhost_examples/src or rust/examples, one of `antt` from one file of some crate's specs/: its
+lines stand there in this order, without the space before them; a line '// ..' or '-- ..' leaves some out.
 A session '$ ./vhost-run <<END' is quoted from one session of crates/vhost_tests/data/lines_*.txt: its lines are typed there, and printed.
 
 Status 0 where all is quoted; 1 where some is not: the block's page and line are printed.
@@ -15,7 +15,7 @@ import sys
 
 TOP = os.path.dirname(os.path.dirname(os.path.realpath(__file__)))
 
-SOURCES = {"rust": "crates/vhost_examples/src/*.rt", "antt": "crates/*/specs/*.antt"}
+SOURCES = {"rust": ["crates/vhost_examples/src/*.rt", "rust/examples/*.rs"], "antt": ["crates/*/specs/*.antt"]}
 
 
 def read(path):
@@ -66,7 +66,8 @@ def is_quoted(kind, block):
     """Whether a block stands in the sources."""
     if kind == "session":
         return is_session(block)
-    return any(stands_in(parts_of(block), lines_of(read(path))) for path in glob.glob(f"{TOP}/{SOURCES[kind]}"))
+    paths = [path for pattern in SOURCES[kind] for path in glob.glob(f"{TOP}/{pattern}")]
+    return any(stands_in(parts_of(block), lines_of(read(path))) for path in paths)
 
 
 def blocks_of(text):

@@ -1,0 +1,379 @@
+// SPDX-License-Identifier: Apache-2.0
+//! The protocol's codes, flags and records, as far as a frontend's caller holds them. The bytes of a message are made and read by
+//! the proved library alone.
+#![allow(non_camel_case_types)]
+#![allow(clippy::upper_case_acronyms)]
+use std::ops::Deref;
+
+use bitflags::bitflags;
+use uuid::Uuid;
+
+/// The greatest size of a message's body, in bytes.
+pub const MAX_MSG_SIZE: usize = 0x1000;
+/// The greatest number of descriptors that come with a message.
+pub const MAX_ATTACHED_FD_ENTRIES: usize = 32;
+/// Where the configuration space of a device begins behind a PCI device's registers.
+pub const VHOST_USER_CONFIG_OFFSET: u32 = 0x100;
+/// The size of the configuration space, in bytes.
+pub const VHOST_USER_CONFIG_SIZE: u32 = 0x1000;
+/// The greatest number of virtqueues.
+pub const VHOST_USER_MAX_VRINGS: u64 = 0x8000;
+
+/// Codes with their numbers, and back.
+macro_rules! codes {
+    ($($(#[$meta:meta])* pub enum $Name:ident { $($(#[$doc:meta])* $Code:ident = $number:expr,)* })*) => {$(
+        $(#[$meta])*
+        #[repr(u32)]
+        #[derive(Clone, Copy, Debug, PartialEq, Eq, PartialOrd, Ord)]
+        pub enum $Name { $($(#[$doc])* $Code = $number,)* }
+
+        impl From<$Name> for u32 {
+            fn from(code: $Name) -> u32 {
+                code as u32
+            }
+        }
+
+        impl TryFrom<u32> for $Name {
+            type Error = ();
+
+            fn try_from(number: u32) -> Result<Self, ()> {
+                match number {
+                    $($number => Ok($Name::$Code),)*
+                    _ => Err(()),
+                }
+            }
+        }
+    )*};
+}
+
+codes! {
+    /// The requests of a frontend. What each is for, the vhost-user specification says under its name.
+    #[allow(missing_docs)]
+    pub enum FrontendReq {
+        GET_FEATURES = 1,
+        SET_FEATURES = 2,
+        SET_OWNER = 3,
+        RESET_OWNER = 4,
+        SET_MEM_TABLE = 5,
+        SET_LOG_BASE = 6,
+        SET_LOG_FD = 7,
+        SET_VRING_NUM = 8,
+        SET_VRING_ADDR = 9,
+        SET_VRING_BASE = 10,
+        GET_VRING_BASE = 11,
+        SET_VRING_KICK = 12,
+        SET_VRING_CALL = 13,
+        SET_VRING_ERR = 14,
+        GET_PROTOCOL_FEATURES = 15,
+        SET_PROTOCOL_FEATURES = 16,
+        GET_QUEUE_NUM = 17,
+        SET_VRING_ENABLE = 18,
+        SEND_RARP = 19,
+        NET_SET_MTU = 20,
+        SET_BACKEND_REQ_FD = 21,
+        IOTLB_MSG = 22,
+        SET_VRING_ENDIAN = 23,
+        GET_CONFIG = 24,
+        SET_CONFIG = 25,
+        CREATE_CRYPTO_SESSION = 26,
+        CLOSE_CRYPTO_SESSION = 27,
+        POSTCOPY_ADVISE = 28,
+        POSTCOPY_LISTEN = 29,
+        POSTCOPY_END = 30,
+        GET_INFLIGHT_FD = 31,
+        SET_INFLIGHT_FD = 32,
+        GPU_SET_SOCKET = 33,
+        RESET_DEVICE = 34,
+        VRING_KICK = 35,
+        GET_MAX_MEM_SLOTS = 36,
+        ADD_MEM_REG = 37,
+        REM_MEM_REG = 38,
+        SET_STATUS = 39,
+        GET_STATUS = 40,
+        GET_SHARED_OBJECT = 41,
+        SET_DEVICE_STATE_FD = 42,
+        CHECK_DEVICE_STATE = 43,
+        GET_SHMEM_CONFIG = 44,
+    }
+
+    /// Which way the state of a device goes.
+    pub enum VhostTransferStateDirection {
+        /// From the backend.
+        SAVE = 0,
+        /// To the backend.
+        LOAD = 1,
+    }
+
+    /// What the device does while its state is transferred.
+    pub enum VhostTransferStatePhase {
+        /// It is stopped, and so are its rings.
+        STOPPED = 0,
+    }
+}
+
+bitflags! {
+    /// The flags of a message's header.
+    pub struct VhostUserHeaderFlag: u32 {
+        /// The bits of the version.
+        const VERSION = 0x3;
+        /// The message is a reply.
+        const REPLY = 0x4;
+        /// The sender wants a request acknowledged that has no reply of its own.
+        const NEED_REPLY = 0x8;
+        /// Both flags.
+        const ALL_FLAGS = 0xc;
+        /// The bits that are 0.
+        const RESERVED_BITS = !0xf;
+    }
+
+    /// The virtio features that vhost-user itself gives a meaning.
+    pub struct VhostUserVirtioFeatures: u64 {
+        /// The backend logs the pages that it writes.
+        const LOG_ALL = 1 << 26;
+        /// There are protocol features.
+        const PROTOCOL_FEATURES = 1 << 30;
+    }
+
+    /// The protocol features. [`Frontend::PROTOCOL_FEATURES`](super::Frontend::PROTOCOL_FEATURES) are those whose requests a
+    /// frontend of this package makes.
+    pub struct VhostUserProtocolFeatures: u64 {
+        /// More than one ring.
+        const MQ = 1 << 0;
+        /// The dirty log is in shared memory.
+        const LOG_SHMFD = 1 << 1;
+        /// The backend announces the guest after a migration.
+        const RARP = 1 << 2;
+        /// Requests may ask to be acknowledged.
+        const REPLY_ACK = 1 << 3;
+        /// The MTU is told to the backend.
+        const MTU = 1 << 4;
+        /// The backend makes requests of its own.
+        const BACKEND_REQ = 1 << 5;
+        /// The byte order of rings is told to the backend.
+        const CROSS_ENDIAN = 1 << 6;
+        /// Sessions of a crypto device.
+        const CRYPTO_SESSION = 1 << 7;
+        /// Postcopy live migration.
+        const PAGEFAULT = 1 << 8;
+        /// The configuration space is the backend's.
+        const CONFIG = 1 << 9;
+        /// The backend's own requests may bring descriptors.
+        const BACKEND_SEND_FD = 1 << 10;
+        /// Notifications of the guest by memory of the backend.
+        const HOST_NOTIFIER = 1 << 11;
+        /// An inflight region.
+        const INFLIGHT_SHMFD = 1 << 12;
+        /// The device can be reset.
+        const RESET_DEVICE = 1 << 13;
+        /// Notifications as messages.
+        const INBAND_NOTIFICATIONS = 1 << 14;
+        /// Regions of memory can be added and removed one by one.
+        const CONFIGURE_MEM_SLOTS = 1 << 15;
+        /// The virtio status is told to the backend.
+        const STATUS = 1 << 16;
+        /// Regions of Xen.
+        const XEN_MMAP = 1 << 17;
+        /// Objects that backends share.
+        const SHARED_OBJECT = 1 << 18;
+        /// The device's state can be transferred.
+        const DEVICE_STATE = 1 << 19;
+        /// A ring may be stopped with buffers in flight.
+        const GET_VRING_BASE_INFLIGHT = 1 << 20;
+        /// The guest's addresses in place of the frontend's.
+        const GPA_ADDRESSES = 1 << 21;
+        /// Regions of shared memory.
+        const SHMEM = 1 << 22;
+    }
+
+    /// The flags of a ring's addresses.
+    pub struct VhostUserVringAddrFlags: u32 {
+        /// Writes to the used ring are logged.
+        const VHOST_VRING_F_LOG = 0x1;
+    }
+
+    /// The flags of a part of the configuration space.
+    pub struct VhostUserConfigFlags: u32 {
+        /// A change by the guest's driver.
+        const WRITABLE = 0x1;
+        /// A change by a live migration.
+        const LIVE_MIGRATION = 0x2;
+    }
+}
+
+/// What bitflags 2 has and bitflags 1 has not.
+macro_rules! retaining {
+    ($($Name:ident: $bits:ty,)*) => {$(
+        impl $Name {
+            /// All of these bits, also those that have no name.
+            pub const fn from_bits_retain(bits: $bits) -> Self {
+                $Name { bits }
+            }
+        }
+    )*};
+}
+
+retaining! {
+    VhostUserHeaderFlag: u32,
+    VhostUserVirtioFeatures: u64,
+    VhostUserProtocolFeatures: u64,
+    VhostUserVringAddrFlags: u32,
+    VhostUserConfigFlags: u32,
+}
+
+/// Whether a record is one that the protocol allows.
+pub trait VhostUserMsgValidator {
+    /// Whether it is.
+    fn is_valid(&self) -> bool {
+        true
+    }
+}
+
+/// Whether a range wraps at the end of its addresses.
+fn wraps(start: u64, size: u64) -> bool {
+    start.checked_add(size).is_none()
+}
+
+/// A region of guest memory.
+#[derive(Clone, Copy, Debug, Default, PartialEq, Eq)]
+pub struct VhostUserMemoryRegion {
+    /// Where it lies for the guest.
+    pub guest_phys_addr: u64,
+    /// Its size, in bytes.
+    pub memory_size: u64,
+    /// Where the frontend has mapped it.
+    pub user_addr: u64,
+    /// Where it begins in what its descriptor maps.
+    pub mmap_offset: u64,
+}
+
+impl VhostUserMemoryRegion {
+    /// A region of these fields.
+    pub fn new(guest_phys_addr: u64, memory_size: u64, user_addr: u64, mmap_offset: u64) -> Self {
+        VhostUserMemoryRegion { guest_phys_addr, memory_size, user_addr, mmap_offset }
+    }
+}
+
+impl VhostUserMsgValidator for VhostUserMemoryRegion {
+    fn is_valid(&self) -> bool {
+        let starts = [self.guest_phys_addr, self.user_addr, self.mmap_offset];
+        self.memory_size != 0 && !starts.iter().any(|start| wraps(*start, self.memory_size))
+    }
+}
+
+/// A region of guest memory that is added or removed by itself.
+#[derive(Clone, Copy, Debug, Default, PartialEq, Eq)]
+pub struct VhostUserSingleMemoryRegion {
+    region: VhostUserMemoryRegion,
+}
+
+impl VhostUserSingleMemoryRegion {
+    /// A region of these fields.
+    pub fn new(guest_phys_addr: u64, memory_size: u64, user_addr: u64, mmap_offset: u64) -> Self {
+        VhostUserSingleMemoryRegion { region: VhostUserMemoryRegion::new(guest_phys_addr, memory_size, user_addr, mmap_offset) }
+    }
+}
+
+impl Deref for VhostUserSingleMemoryRegion {
+    type Target = VhostUserMemoryRegion;
+
+    fn deref(&self) -> &VhostUserMemoryRegion {
+        &self.region
+    }
+}
+
+impl VhostUserMsgValidator for VhostUserSingleMemoryRegion {}
+
+/// The regions of shared memory that a device has.
+#[derive(Clone, Copy, Debug, PartialEq, Eq)]
+pub struct VhostUserShMemConfig {
+    /// How many there are.
+    pub nregions: u32,
+    /// The size of each, in bytes, at its number; 0 where there is none.
+    pub memory_sizes: [u64; 256],
+}
+
+impl VhostUserShMemConfig {
+    /// So many regions, of these sizes from number 0 on.
+    pub fn new(nregions: u32, memory: &[u64]) -> Self {
+        let mut memory_sizes = [0; 256];
+        for (size, given) in memory_sizes.iter_mut().zip(memory) {
+            *size = *given;
+        }
+        VhostUserShMemConfig { nregions, memory_sizes }
+    }
+}
+
+impl Default for VhostUserShMemConfig {
+    fn default() -> Self {
+        VhostUserShMemConfig::new(0, &[])
+    }
+}
+
+impl VhostUserMsgValidator for VhostUserShMemConfig {}
+
+/// A part of the configuration space.
+#[derive(Clone, Copy, Debug, Default, PartialEq, Eq)]
+pub struct VhostUserConfig {
+    /// Where it begins, in bytes.
+    pub offset: u32,
+    /// Its size, in bytes.
+    pub size: u32,
+    /// Bits of [`VhostUserConfigFlags`].
+    pub flags: u32,
+}
+
+impl VhostUserConfig {
+    /// A part of these fields.
+    pub fn new(offset: u32, size: u32, flags: VhostUserConfigFlags) -> Self {
+        VhostUserConfig { offset, size, flags: flags.bits() }
+    }
+}
+
+impl VhostUserMsgValidator for VhostUserConfig {
+    fn is_valid(&self) -> bool {
+        let end = u64::from(self.offset) + u64::from(self.size);
+        self.size != 0 && end <= u64::from(VHOST_USER_CONFIG_SIZE) && VhostUserConfigFlags::from_bits(self.flags).is_some()
+    }
+}
+
+/// The bytes of a part of the configuration space.
+pub type VhostUserConfigPayload = Vec<u8>;
+
+/// The inflight region, where a backend notes the buffers that it has taken and not given back.
+#[derive(Clone, Copy, Debug, Default, PartialEq, Eq)]
+pub struct VhostUserInflight {
+    /// Its size, in bytes.
+    pub mmap_size: u64,
+    /// Where it begins in what its descriptor maps.
+    pub mmap_offset: u64,
+    /// How many rings it is for.
+    pub num_queues: u16,
+    /// How many descriptors each of these rings has.
+    pub queue_size: u16,
+}
+
+impl VhostUserInflight {
+    /// A region of these fields.
+    pub fn new(mmap_size: u64, mmap_offset: u64, num_queues: u16, queue_size: u16) -> Self {
+        VhostUserInflight { mmap_size, mmap_offset, num_queues, queue_size }
+    }
+}
+
+impl VhostUserMsgValidator for VhostUserInflight {
+    fn is_valid(&self) -> bool {
+        self.num_queues != 0 && self.queue_size != 0
+    }
+}
+
+/// The name of an object that backends share.
+#[derive(Clone, Copy, Debug, Default, PartialEq, Eq)]
+pub struct VhostUserSharedMsg {
+    /// Neither all zeros nor all ones.
+    pub uuid: Uuid,
+}
+
+impl VhostUserMsgValidator for VhostUserSharedMsg {
+    fn is_valid(&self) -> bool {
+        !self.uuid.is_nil() && self.uuid.as_bytes() != &[0xff; 16]
+    }
+}

@@ -1,0 +1,110 @@
+// SPDX-License-Identifier: Apache-2.0
+//! The vhost-user protocol, as its frontend speaks it.
+use std::{error, fmt, io, result};
+
+mod connection;
+mod frontend;
+mod listener;
+pub mod message;
+
+pub use self::frontend::{Frontend, VhostUserFrontend};
+pub use self::listener::Listener;
+pub use self::message::{VhostUserProtocolFeatures, VhostUserVirtioFeatures};
+
+/// Why a call of the protocol failed. After `SocketBroken`, `SocketError`, `PartialMessage`, `InvalidMessage` and
+/// `Disconnected` a [`Frontend`] is of no more use: each later call is `SocketBroken`. After all others it goes on, but after an
+/// `IncorrectFds` for descriptors that the system dropped.
+#[derive(Debug)]
+pub enum Error {
+    /// An argument is not allowed; nothing was sent.
+    InvalidParam,
+    /// The operation is not allowed.
+    InvalidOperation(&'static str),
+    /// This virtio feature was not negotiated; nothing was sent.
+    InactiveFeature(VhostUserVirtioFeatures),
+    /// This protocol feature was not negotiated; nothing was sent.
+    InactiveOperation(VhostUserProtocolFeatures),
+    /// The reply is malformed, or of another request.
+    InvalidMessage,
+    /// The descriptor is no socket.
+    InvalidSocketFd(io::Error),
+    /// The socket is not of the family AF_UNIX.
+    NotUnixSocket,
+    /// The socket is not of the type SOCK_STREAM.
+    NotStreamSocket,
+    /// The backend closed the socket, or ended, before its reply was whole.
+    PartialMessage,
+    /// The peer closed the socket.
+    Disconnected,
+    /// The message is longer than one may be.
+    OversizedMsg,
+    /// The reply came with a wrong number of descriptors.
+    IncorrectFds,
+    /// Nobody could be connected to.
+    SocketConnect(io::Error),
+    /// The system failed.
+    SocketError(io::Error),
+    /// The connection is of no more use. The cause is of the kind `TimedOut` where the limit of time passed.
+    SocketBroken(io::Error),
+    /// An allocation failed, and nothing was sent.
+    SocketRetry(io::Error),
+    /// The backend refused the request.
+    BackendInternalError,
+    /// The frontend refused the request.
+    FrontendInternalError,
+    /// The two sides have no features in common that they need.
+    FeatureMismatch,
+    /// A request could not be handled.
+    ReqHandlerError(io::Error),
+    /// No memory file could be made.
+    MemFdCreateError,
+    /// A memory file could not be given its size.
+    FileTruncateError,
+    /// A memory file could not be sealed.
+    MemFdSealError,
+}
+
+impl fmt::Display for Error {
+    fn fmt(&self, f: &mut fmt::Formatter<'_>) -> fmt::Result {
+        f.write_str(match self {
+            Error::InvalidOperation(reason) => return write!(f, "invalid operation: {reason}"),
+            Error::InactiveFeature(features) => return write!(f, "inactive feature: {}", features.bits()),
+            Error::InactiveOperation(features) => return write!(f, "inactive protocol operation: {}", features.bits()),
+            Error::InvalidSocketFd(cause) => return write!(f, "invalid AF_UNIX SOCK_STREAM socket fd: {cause}"),
+            Error::SocketConnect(cause) => return write!(f, "can't connect to peer: {cause}"),
+            Error::SocketError(cause) => return write!(f, "socket error: {cause}"),
+            Error::SocketBroken(cause) => return write!(f, "socket is broken: {cause}"),
+            Error::SocketRetry(cause) => return write!(f, "temporary socket error: {cause}"),
+            Error::ReqHandlerError(cause) => return write!(f, "handler failed to handle request: {cause}"),
+            Error::InvalidParam => "invalid parameters",
+            Error::InvalidMessage => "invalid message",
+            Error::NotUnixSocket => "socket is not AF_UNIX",
+            Error::NotStreamSocket => "socket is not SOCK_STREAM",
+            Error::PartialMessage => "partial message",
+            Error::Disconnected => "peer disconnected",
+            Error::OversizedMsg => "oversized message",
+            Error::IncorrectFds => "wrong number of attached fds",
+            Error::BackendInternalError => "backend internal error",
+            Error::FrontendInternalError => "Frontend internal error",
+            Error::FeatureMismatch => "virtio/protocol features mismatch",
+            Error::MemFdCreateError => "handler failed to allocate memfd during get_inflight_fd",
+            Error::FileTruncateError => "handler failed to truncate memfd during get_inflight_fd",
+            Error::MemFdSealError => "handler failed to apply seals to memfd during get_inflight_fd",
+        })
+    }
+}
+
+impl error::Error for Error {}
+
+impl Error {
+    /// Whether a new connection may help.
+    pub fn should_reconnect(&self) -> bool {
+        matches!(
+            self,
+            Error::PartialMessage | Error::SocketBroken(_) | Error::BackendInternalError | Error::FrontendInternalError
+        )
+    }
+}
+
+/// What a call of the protocol returns.
+pub type Result<T> = result::Result<T, Error>;
