@@ -20,7 +20,11 @@ use Rattle.vhost_connection.specs.Calls.{HandsOver}
 use Rattle.vhost_connection.specs.Requests.{Reads, IsReady, Tells}
 use Rattle.vhost_frontend_req_handler.specs.declared.asked.Asked.{Asked}
 use Rattle.vhost_frontend_req_handler.specs.declared.asked.Asked.TheVariants.{Answered, BadBody, Unserved}
+use Rattle.vhost_frontend_req_handler.specs.declared.call.Begun.{Begun}
+use Rattle.vhost_frontend_req_handler.specs.declared.call.Begun.TheVariants as begun
+use Rattle.vhost_frontend_req_handler.specs.declared.call.FrontendSideCall.{FrontendSideCall}
 use Rattle.vhost_frontend_req_handler.specs.declared.req_core.FrontendReqCore.{FrontendReqCore}
+use Rattle.vhost_frontend_req_handler.specs.Calling.{call_in}
 use Rattle.vhost_frontend_req_handler.specs.Handling.{fitting}
 use Rattle.vhost_connection.specs.Serving.{Answers}
 
@@ -51,12 +55,21 @@ pub data Asks {H Dev : Type 0} (gives : Dev → ReverseCall H → Result ℕ IoE
   is_bad : step ≡ bad_body → Asks gives s m step d BadBody d
   is_unserved : step ≡ unserved s m → Asks gives s m step d Unserved d
 
-module _ {L H Dev : Type 0} (gives : Dev → ReverseCall H → Result ℕ IoError → Dev → Type 0) where
-  -- An arm follows the row of its code so far: of the message that the request is.
-  abbrev pub AsksRow : BackendReq → FrontendReqCore L H → Dev → Request BackendReq → Asked → Dev → Type 0
-  AsksRow r c d request asked d' = (m : Message BackendReq H) → Reads c.body.value request m → Asks gives (server_in c) m (reverse_row_of r (server_in c) m) d asked d'
+-- What a request becomes, by its row.
+pub data Begins {H : Type 0} (s : Server) (m : Message BackendReq H) (step : ReverseStep H) : Begun H → Type 0 where
+  calls : (c : FrontendSideCall H) → step ≡ Calls (call_in c) (with_number s m) → Begins s m step (begun.Calls c)
+  is_bad : step ≡ bad_body → Begins s m step begun.BadBody
+  is_unserved : step ≡ unserved s m → Begins s m step begun.Unserved
 
-  -- The same where it is given the handles of the message.
+-- the same of a request that was read, and where it is given the handles of the message
+abbrev pub BeginsRow : {L H : Type 0} → BackendReq → FrontendReqCore L H → Request BackendReq → Begun H → Type 0
+BeginsRow {H = H} r c request b = (m : Message BackendReq H) → Reads c.body.value request m → Begins (server_in c) m (reverse_row_of r (server_in c) m) b
+
+abbrev pub BeginsRowWith : {L H : Type 0} → BackendReq → FrontendReqCore L H → Request BackendReq → Option (Vec H Global) → Begun H → Type 0
+BeginsRowWith {H = H} r c request handles b = (m : Message BackendReq H) → Reads c.body.value request m → HandsOver handles m.handles → Begins (server_in c) m (reverse_row_of r (server_in c) m) b
+
+module _ {L H Dev : Type 0} (gives : Dev → ReverseCall H → Result ℕ IoError → Dev → Type 0) where
+  -- A request follows the row of its code up to the device's answer: of the message that it is, with these handles.
   abbrev pub AsksRowWith : BackendReq → FrontendReqCore L H → Dev → Request BackendReq → Option (Vec H Global) → Asked → Dev → Type 0
   AsksRowWith r c d request handles asked d' = (m : Message BackendReq H) → Reads c.body.value request m → HandsOver handles m.handles → Asks gives (server_in c) m (reverse_row_of r (server_in c) m) d asked d'
 

@@ -1,3 +1,4 @@
 pub mod Handling
 pub mod Core
 pub mod Sharing
+pub mod Calling

@@ -2,6 +2,7 @@
 #![tactic(auto)]
 
 mod asked;
+mod call;
 mod device;
 mod handler;
 mod lock;

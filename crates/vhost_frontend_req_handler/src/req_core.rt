@@ -5,6 +5,7 @@ ghost use Rattle.vhost_message.specs.declared.cause.IoCause.TheVariants.{Raw};
 ghost use Rattle.vhost_message.specs.declared.error.Error.TheVariants.{SocketBroken, OutOfMemory};
 
 use crate::asked::Asked;
+use crate::call::{Begun, call_device};
 use crate::device::VhostUserFrontendReqHandlerMut;
 use crate::numbers::{EINVAL, hand_on, number_of};
 use std::alloc::Global;
@@ -40,7 +41,7 @@ impl<L: Link> FrontendReqCore<L> {
     ghost use Rattle.vhost_message.specs.contracts.backend_req.BackendReq.{the_row as code_row};
     ghost use Rattle.vhost_message.specs.contracts.header.VhostUserMsgHeader.{the_row as header_row};
     ghost use Rattle.vhost_frontend_req_handler.specs.contracts.req_core.FrontendReqCore.{the_row};
-    ghost use Rattle.vhost_frontend_req_handler.specs.Core.{endpoint_of, server_in, with_endpoint, MeetsRow, Acknowledges};
+    ghost use Rattle.vhost_frontend_req_handler.specs.Core.{endpoint_of, server_in, with_endpoint, AsksRowWith, MeetsRow, Acknowledges};
     ghost use Rattle.vhost_frontend_req_handler.specs.Handling.{HandlesOne, Runs};
 
     /// The frontend's side over a link, without acknowledgements. Each message may use at most so many retries.
@@ -159,6 +160,22 @@ impl<L: Link> FrontendReqCore<L> {
                 Err(Error::InvalidMessage)
             }
             Asked::BadBody => Err(Error::InvalidMessage),
+        }
+    }
+
+    /// What became of a request that was read.
+    fn ask<D: VhostUserFrontendReqHandlerMut<Handle = L::Handle>>(
+        &self,
+        device: &mut D,
+        request: Request,
+        handles: Option<Vec<L::Handle>>,
+    ) -> Asked
+        ensures { AsksRowWith D.gives request.code self.now device.old request handles result device.new }
+    {
+        match self.begun(request, handles) {
+            Begun::Calls(call) => Asked::Answered(call_device(device, call)),
+            Begun::BadBody => Asked::BadBody,
+            Begun::Unserved => Asked::Unserved,
         }
     }
 
