@@ -1,6 +1,7 @@
 # SPDX-License-Identifier: Apache-2.0
 # Builds and runs a program of this repository: what the commands that run one share. They set what scripts/options.sh asks for, and
-# `package`, the crate's name, and `minutes`, what a proof takes.
+# `package`, the crate's name, and `minutes`, what a proof takes; and may define `before_compiling` anew, which is given the arguments and
+# ends where they want no program.
 #
 # The proved program lies in out/ of its crate once --prove has made it. Where it is not there, or a source is newer, the
 # program is compiled without proof, kept beside it, and run.
@@ -8,6 +9,10 @@
 
 proved=$top/crates/$package/out/$package
 unproved=$top/crates/$package/out/unproved/$package
+
+before_compiling() {
+    :
+}
 
 build() {
     python3 "$top/scripts/build.py" "$@"
@@ -21,6 +26,7 @@ is_current() {
 # Compiles the program without proof, where none is kept or a source is newer.
 compile() {
     is_current "$unproved" src && return
+    before_compiling "$@"
     why="no proof was made yet"
     [ ! -x "$proved" ] || why="a source is newer than the proved program"
     need_rt
@@ -62,6 +68,6 @@ prove() {
 # Runs the proved program, or, where there is none of these sources, the one without proof.
 run() {
     is_current "$proved" src specs proofs && exec "$proved" "$@"
-    compile
+    compile "$@"
     exec "$unproved" "$@"
 }

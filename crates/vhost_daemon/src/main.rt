@@ -1,87 +1,123 @@
 //! Serves example devices at a Unix socket: each connection is a session in a thread of its own.
 #![tactic(auto)]
 
-use std::fs::Files;
-use std::io::{ErrorKind, Write};
+mod arguments;
+
+use arguments::{Call, Wrong, call_of};
+use std::alloc::Global;
+use std::fs::{File, Files};
+use std::io::{ErrorKind, Print, Write};
 use std::net::Net;
-use std::os::unix::fs::MetadataExt;
-use std::os::unix::net::UnixStream;
 use std::process::ExitCode;
-use std::{env, fs, io};
+use std::sync::Wait;
+use std::thread::Threads;
+use std::{env, io, process};
 use vhost_backend_req_handler::Open;
-use vhost_connection::Listener;
-use vhost_serve::serve;
+use vhost_serve::{ClaimError, Options, SocketPath, serve_path};
 
-/// The most connections that one run accepts.
-const MAX_COUNT: u32 = 1024;
+/// What `--version` says.
+const VERSION: &str = "vhost-daemon 0.1.0";
 
-/// The bits of a mode that say what a file is, and those of a socket.
-const FILE_TYPE: u32 = 0o170000;
+/// What `--print-capabilities` says: the type of device, which has no features that are named.
+const CAPABILITIES: &str = "{\n  \"type\": \"net\"\n}";
 
-const SOCKET: u32 = 0o140000;
+/// What `--help` says.
+const HELP: &str = "usage: vhost-daemon PATH COUNT
+   or: vhost-daemon --socket-path=PATH [--count=N]
 
-/// Listens at the path of its first argument, and serves as many connections as the second says.
+Serves an example device to each client that connects to the Unix socket at PATH.
+
+  COUNT                 how many connections are accepted, 1 to 1024
+  --socket-path=PATH    the same PATH
+  --count=N             how many connections are accepted; without it, as many as come
+  -v                    reports on standard error each request that is refused
+  --print-capabilities  prints what the device is, in JSON
+  --version             prints the version
+  -h, --help            prints this";
+
+/// Listens at a path, and serves who connects.
 ///
-/// Status 0 once all sessions have ended, 1 where the arguments are no path and count, and 2 where it failed outside of the sessions.
+/// Status 0 once all sessions have ended, 1 where the arguments are wrong, and 2 where something failed outside of the sessions.
 fn main(rt: HostRuntime) -> ExitCode {
     let mut errors = rt.stderr();
-    let Ok(words) = env::args(&rt) else {
-        let _ = writeln!(errors, "vhost-daemon: out of memory");
-        return ExitCode::from(2);
-    };
-    let mut words = words.skip(1);
-    let (Some(path), Some(count), None) = (words.next(), words.next(), words.next()) else {
-        return usage(&mut errors);
-    };
-    let Some(count) = count_of(count.as_str()) else {
-        return usage(&mut errors);
-    };
-    let path = path.as_str();
-    match Listener::new(&rt, rt.alloc(), path, is_left_over(&rt, path)) {
-        Ok(mut listener) => {
-            let mut output = io::writer(&rt);
-            let status = serve(
-                &rt,
-                rt.alloc(),
-                &mut listener,
-                count,
-                &Open,
-                &mut output,
-                &mut errors,
-            );
-            ExitCode::from(status)
+    let words = match words_of(&rt) {
+        Ok(words) => words,
+        Err(error) if error.kind() == ErrorKind::InvalidData => {
+            let _ = writeln!(errors, "vhost-daemon: an argument is not UTF-8");
+            return usage(&mut errors);
         }
+        Err(_) => {
+            let _ = writeln!(errors, "vhost-daemon: out of memory");
+            return ExitCode::from(2);
+        }
+    };
+    match call_of(words.as_slice()) {
+        Ok(Call::Help) => say(&rt, HELP),
+        Ok(Call::Version) => say(&rt, VERSION),
+        Ok(Call::Capabilities) => say(&rt, CAPABILITIES),
+        Ok(Call::Serve(path, options)) => {
+            let pid = process::id(rt.process());
+            listen(&rt, rt.alloc(), pid, path, options, &mut errors)
+        }
+        Err(Wrong::Form) => usage(&mut errors),
+        Err(wrong) => {
+            let _ = writeln!(errors, "vhost-daemon: {wrong}");
+            usage(&mut errors)
+        }
+    }
+}
+
+/// The arguments, without the program's name.
+fn words_of(rt: &HostRuntime) -> io::Result<Vec<String>> {
+    let mut words = Vec::new(rt.alloc());
+    for word in env::args(rt)?.skip(1) {
+        words.push(word)?;
+    }
+    Ok(words)
+}
+
+/// Serves at a path; the status.
+fn listen<R, E>(
+    rt: &R,
+    alloc: Global,
+    pid: u32,
+    path: &str,
+    options: Options,
+    errors: &mut E,
+) -> ExitCode
+where
+    R: Threads + Wait + Net + Files<File = File> + Print + Sync,
+    E: io::Write + Send,
+{
+    match SocketPath::claim(rt, alloc, path, pid) {
+        Ok(claimed) => {
+            let mut output = io::writer(rt);
+            ExitCode::from(serve_path(rt, alloc, claimed, options, &Open, &mut output, errors))
+        }
+        Err(refused) => {
+            let _ = writeln!(errors, "vhost-daemon: {path}: {refused}");
+            match refused {
+                ClaimError::Empty | ClaimError::TooLong(_) => usage(errors),
+                _ => ExitCode::from(2),
+            }
+        }
+    }
+}
+
+/// Prints a text on standard output; the status.
+fn say(rt: &HostRuntime, text: &str) -> ExitCode {
+    match println!(rt; "{text}") {
+        Ok(()) => ExitCode::from(0),
         Err(error) => {
-            let _ = writeln!(errors, "vhost-daemon: {path}: {error}");
+            let mut errors = rt.stderr();
+            let _ = writeln!(errors, "vhost-daemon: the output failed: {error}");
             ExitCode::from(2)
         }
     }
 }
 
-/// Whether there is a socket at a path, and nobody listens.
-fn is_left_over<R: Files + Net>(rt: &R, path: &str) -> bool {
-    match fs::symlink_metadata(rt, path) {
-        Ok(found) if found.mode() & FILE_TYPE == SOCKET => match UnixStream::connect(rt, path) {
-            Ok(_) => false,
-            Err(error) => error.kind() == ErrorKind::ConnectionRefused,
-        },
-        _ => false,
-    }
-}
-
-/// Says how it is called.
+/// Says how it is called; the status.
 fn usage<W: io::Write>(errors: &mut W) -> ExitCode {
     let _ = writeln!(errors, "usage: vhost-daemon PATH COUNT");
     ExitCode::from(1)
-}
-
-/// The number of connections: decimal, 1 to 1024.
-fn count_of(word: &str) -> Option<u32> {
-    if word.starts_with('+') {
-        return None;
-    }
-    match word.parse::<u32>() {
-        Ok(count) if 1 <= count && count <= MAX_COUNT => Some(count),
-        _ => None,
-    }
 }

@@ -1,2 +1,3 @@
--- How sessions go.
+-- How sessions go, and what their links do.
+pub mod Seen
 pub mod Session

@@ -22,6 +22,20 @@ pub struct Ended {
     pub end: &'static str,
 }
 
+/// Is told of each request that a session refuses, and of what else ends it.
+pub trait Watch: Drop {
+    /// This request, counted from 1, was answered so.
+    fn refused(&self, request: u32, error: &Error);
+}
+
+/// Looks at nothing.
+#[derive(Clone, Copy, Debug)]
+pub struct Unwatched;
+
+impl Watch for Unwatched {
+    fn refused(&self, _request: u32, _error: &Error) {}
+}
+
 /// Serves requests until one ends the session, or the gate does. A session is ended by the end of its stream, a message that is
 /// malformed, an I/O error of its link, and a failed allocation; after any other refusal it goes on.
 pub fn serve_session<R: Wait, G: Gate, L: Link, S: VhostUserBackendReqHandler<Link = L>>(
@@ -29,6 +43,19 @@ pub fn serve_session<R: Wait, G: Gate, L: Link, S: VhostUserBackendReqHandler<Li
     session: u32,
     handler: &mut BackendReqHandler<L, S>,
     gate: &G,
+) -> Ended
+    ensures { IsServed (ServesShared L.event L.opens L.Handle.kinds) (core_of handler.old) result (core_of handler.new) }
+{
+    serve_watched(rt, session, handler, gate, &Unwatched)
+}
+
+/// The same, and reports each refusal.
+pub fn serve_watched<R: Wait, G: Gate, L: Link, S: VhostUserBackendReqHandler<Link = L>, W: Watch>(
+    rt: &R,
+    session: u32,
+    handler: &mut BackendReqHandler<L, S>,
+    gate: &G,
+    watch: &W,
 ) -> Ended
     ensures { IsServed (ServesShared L.event L.opens L.Handle.kinds) (core_of handler.old) result (core_of handler.new) }
 {
@@ -43,6 +70,9 @@ pub fn serve_session<R: Wait, G: Gate, L: Link, S: VhostUserBackendReqHandler<Li
         }
         let answer = handler.handle_request(rt);
         gate.after(session, request);
+        if let Err(error) = &answer {
+            watch.refused(request, error);
+        }
         if let Some(end) = end_of(&answer) {
             return Ended { requests, end };
         }

@@ -1,4 +1,5 @@
 //! Sessions side by side.
 
 mod clients;
+mod paths;
 mod sessions;

@@ -56,6 +56,36 @@ fn ends(rt: HostRuntime) -> Result<(), Fail> {
     Ok(())
 }
 
+/// Connects, sends what ends the session, and receives up to the end of the stream: so many bytes.
+fn refused(rt: &impl Net, path: &str) -> io::Result<usize> {
+    let mut stream = UnixStream::connect(rt, path)?;
+    io::Write::write_all(&mut stream, &SET_VRING_KICK)?;
+    io::Read::read(&mut stream, &mut [0; 64])
+}
+
+#[test]
+fn closed_while_others_are_awaited(rt: HostRuntime) -> Result<(), Fail> {
+    let path = "closed.sock";
+    let listener = Listener::new(&rt, rt.alloc(), path, true)?;
+    let ((status, output), clients) = thread::join(
+        &rt,
+        || served(&rt, rt.alloc(), listener, 3, &Open),
+        || -> io::Result<usize> {
+            let first = UnixStream::connect(&rt, path)?;
+            // The end of the stream comes while the first session runs, and the third is awaited.
+            let count = refused(&rt, path)?;
+            drop(first);
+            exchange(&rt, path, &[&GET_FEATURES], REPLY)?;
+            Ok(count)
+        },
+    );
+    assert!(rt; clients? == 0);
+    let lines =
+        "session 1: 0 requests, end Disconnected\nsession 2: 0 requests, end InvalidMessage\nsession 3: 1 requests, end Disconnected\n";
+    assert!(rt; status == 0 && output.as_slice() == lines.as_bytes());
+    Ok(())
+}
+
 /// Holds the first session until the second was answered.
 struct Held<'a> {
     rt: &'a HostRuntime,

@@ -2,7 +2,7 @@
 use Rattle.std.proofs.Common.{arith, ◌<◌, ◌^◌, suc, refl}
 use Rattle.vhost_backend_req_handler.specs.Sharing.{core_of}
 use Rattle.vhost_serve.specs.Session.{begins, goes_on, gate, call}
-use Rattle.vhost_serve.proofs.session.serve_session.Goals as goal
+use Rattle.vhost_serve.proofs.session.serve_watched.Goals as goal
 
 pub requests-init : goal.requests-init
 requests-init g c = record { count = 0; served = begins; requests = λ small. refl; next = tt; finite = tt }
@@ -28,7 +28,7 @@ returns-in-Some-end_of g c = record {
 pub requests-preserved : goal.requests-preserved
 requests-preserved g c = record {
   count = suc c.requests.invariant.count;
-  served = goes_on c.handle_request-answer.result c.requests.invariant.served c.handle_request-answer.ensures (c.in_default.ensures.none refl);
+  served = goes_on c.handle_request-answer.result c.requests.invariant.served c.handle_request-answer.ensures (c.in_default-end_of.ensures.none refl);
   requests = λ small.
       let before : c.requests.invariant.count < 2 ^ 32 = omega (arith, small) in
       let same = c.requests.invariant.requests before in

@@ -2,7 +2,7 @@
 use Rattle.std.proofs.Common.{◌≡◌, ℕ, ◌<◌, ◌^◌}
 use Rattle.vhost_backend_req_handler.specs.Sharing.{ServesShared, core_of}
 use Rattle.vhost_serve.specs.Session.{Goes}
-use Rattle.vhost_serve.proofs.session.serve_session.Given as goal
+use Rattle.vhost_serve.proofs.session.serve_watched.Given as goal
 
 abbrev pub invariant-requests : goal.invariant-requests
 invariant-requests g l = record {

@@ -1,0 +1,647 @@
+#!/usr/bin/env python3
+# SPDX-License-Identifier: Apache-2.0
+"""Tries the daemon as a service: `./test-daemon` runs it. Each row is a function below that asserts what is wanted, on a daemon of
+its own in a folder of its own. It needs Python alone, and Linux's /proc.
+
+Words choose rows by their names. Status 0 where all passed; 1 where one failed; 3 where the daemon could not be built.
+"""
+
+import contextlib
+import json
+import os
+import pathlib
+import resource
+import signal
+import socket
+import stat
+import struct
+import subprocess
+import sys
+import tempfile
+import time
+
+TOP = pathlib.Path(__file__).resolve().parent.parent
+DAEMON = TOP / "vhost-daemon"
+VERSION = f"vhost-daemon {(TOP / 'VERSION').read_text().strip()}\n"
+USAGE = "usage: vhost-daemon PATH COUNT\n"
+
+# How many seconds one wait may take, and a row.
+LIMIT = 60
+ROW_LIMIT = 600
+
+# How many sessions come one after another, and what they may add to memory, in kilobytes from the half on.
+SESSIONS = 10_000
+GROWTH = 4096
+# Addresses that C's allocator may reserve beside: 64 MB for each thread that runs at the same time as others, at most sixteen here. A
+# stack that stayed with each session would be forty gigabytes.
+HEAPS = 16 * 65536
+
+
+def message(code, body=b"", version=1):
+    return struct.pack("<III", code, version, len(body)) + body
+
+
+GET_FEATURES = message(1)
+FEATURES = message(1, struct.pack("<Q", 0x40000003), 5)
+SET_OWNER = message(3)
+# Its descriptor is missing.
+SET_VRING_KICK = message(12, struct.pack("<Q", 1))
+SET_VRING_NUM = message(8, struct.pack("<II", 0, 0))
+UNKNOWN = message(200)
+OTHER_VERSION = message(1, version=2)
+
+
+class Daemon:
+    """One that runs, with the words of its call."""
+
+    running = []
+
+    def __init__(self, *words, files=None, memory=None, output=subprocess.PIPE):
+        def limits():
+            if files is not None:
+                resource.setrlimit(resource.RLIMIT_NOFILE, (files, files))
+            if memory is not None:
+                resource.setrlimit(resource.RLIMIT_AS, (memory, memory))
+
+        # A program that was compiled without proof keeps what is freed, to find faults; here it keeps little.
+        environment = dict(os.environ, ASAN_OPTIONS="quarantine_size_mb=1:thread_local_quarantine_size_kb=16")
+        self.process = subprocess.Popen(
+            [DAEMON, *words], stdin=subprocess.DEVNULL, stdout=output, stderr=subprocess.PIPE, env=environment, preexec_fn=limits
+        )
+        Daemon.running.append(self.process)
+
+    def status(self, name):
+        text = pathlib.Path(f"/proc/{self.process.pid}/status").read_text()
+        return int(next(line for line in text.splitlines() if line.startswith(name + ":")).split()[1])
+
+    def processor(self):
+        """How many seconds of a processor it has used."""
+        fields = pathlib.Path(f"/proc/{self.process.pid}/stat").read_text().rpartition(")")[2].split()
+        return (int(fields[11]) + int(fields[12])) / os.sysconf("SC_CLK_TCK")
+
+    def rests(self):
+        """For a second it uses next to no processor."""
+        before = self.processor()
+        time.sleep(1)
+        used = self.processor() - before
+        assert used < 0.2, f"{used} seconds of a processor in one second"
+
+    def descriptors(self):
+        return len(os.listdir(f"/proc/{self.process.pid}/fd"))
+
+    def end(self, limit=LIMIT):
+        """Its status, and what it wrote, without what the command says of how it was built."""
+        output, errors = self.process.communicate(timeout=limit)
+        told = [line for line in errors.decode().splitlines(True) if "without proof" not in line]
+        return self.process.returncode, (output or b"").decode(), "".join(told)
+
+    def line(self):
+        return self.process.stdout.readline().decode()
+
+    def told(self):
+        """The next line on standard error, without what the command says of how it was built."""
+        while "without proof" in (line := self.process.stderr.readline().decode()):
+            pass
+        return line
+
+
+def run(*words, **limits):
+    return Daemon(*words, **limits).end()
+
+
+def connect(path, limit=LIMIT):
+    """A client, once somebody listens."""
+    until = time.monotonic() + limit
+    while True:
+        client = socket.socket(socket.AF_UNIX)
+        client.settimeout(limit)
+        try:
+            client.connect(path)
+            return client
+        except (FileNotFoundError, ConnectionRefusedError):
+            client.close()
+            assert time.monotonic() < until, "nobody listens"
+            time.sleep(0.01)
+
+
+def ask(client):
+    client.sendall(GET_FEATURES)
+    same(client.recv(len(FEATURES), socket.MSG_WAITALL), FEATURES)
+
+
+def session(path, *messages):
+    """A whole session: what came back, up to the end of the stream."""
+    with connect(path) as client:
+        for each in messages:
+            client.sendall(each)
+        client.shutdown(socket.SHUT_WR)
+        return everything(client)
+
+
+def everything(client):
+    came = b""
+    with contextlib.suppress(ConnectionResetError):
+        while piece := client.recv(4096):
+            came += piece
+    return came
+
+
+def wait_until(holds, what):
+    until = time.monotonic() + LIMIT
+    while not holds():
+        assert time.monotonic() < until, what
+        time.sleep(0.01)
+
+
+def same(got, wanted):
+    assert got == wanted, f"{got!r}, not {wanted!r}"
+
+
+def is_socket(path):
+    return os.path.exists(path) and stat.S_ISSOCK(os.stat(path).st_mode)
+
+
+def left_over(path):
+    """A socket at a path that nobody has."""
+    with socket.socket(socket.AF_UNIX) as made:
+        made.bind(path)
+
+
+# The rows. Each is given the path of a socket in a folder of its own, which has to be empty at the end unless the row says what stays.
+
+
+def lines_as_asked(path):
+    daemon = Daemon(path, "3")
+    same(session(path, GET_FEATURES, SET_OWNER), FEATURES)
+    same(session(path, SET_OWNER, SET_OWNER), b"")
+    same(session(path, SET_VRING_KICK), b"")
+    lines = (
+        "session 1: 2 requests, end Disconnected\n"
+        "session 2: 2 requests, end Disconnected\n"
+        "session 3: 0 requests, end InvalidMessage\n"
+    )
+    same(daemon.end(), (0, lines, ""))
+
+
+def lines_in_order_and_at_once(path):
+    """The second session ends first: its line waits for that of the first, and both come while the third still runs."""
+    daemon = Daemon("--socket-path=" + path, "--count=3")
+    first, second, third = connect(path), connect(path), connect(path)
+    ask(second)
+    second.close()
+    ask(third)
+    time.sleep(0.2)
+    ask(first)
+    first.close()
+    same(daemon.line(), "session 1: 1 requests, end Disconnected\n")
+    same(daemon.line(), "session 2: 1 requests, end Disconnected\n")
+    ask(third)
+    third.close()
+    same(daemon.end(), (0, "session 3: 2 requests, end Disconnected\n", ""))
+
+
+def end_of_stream_at_once(path):
+    """What ends a session closes its socket, while others still run or are awaited."""
+    daemon = Daemon(path, "5")
+    other = connect(path)
+    ask(other)
+    for refused in SET_VRING_KICK, UNKNOWN, OTHER_VERSION:
+        with connect(path) as client:
+            began = time.monotonic()
+            client.sendall(refused)
+            same(everything(client), b"")
+            assert time.monotonic() - began < 5, "the end of the stream came late"
+    ask(other)
+    other.close()
+    same(session(path), b"")
+    status, lines, errors = daemon.end()
+    same((status, errors, lines.count("0 requests, end InvalidMessage\n")), (0, "", 3))
+
+
+def flat(path):
+    """Sessions one after another: descriptors, threads, addresses and memory are given back when each ends."""
+    daemon = Daemon("--socket-path=" + path, f"--count={SESSIONS + 1}", output=open(path + ".lines", "wb"))
+    seen = []
+    for number in range(SESSIONS):
+        with connect(path) as client:
+            ask(client)
+        if number in (SESSIONS // 2, SESSIONS - 1):
+            wait_until(lambda: daemon.status("Threads") == 1, "a thread stays")
+            seen.append((daemon.descriptors(), daemon.status("VmRSS"), daemon.status("VmSize")))
+    (descriptors, memory, addresses), (later, more, further) = seen
+    assert later == descriptors, f"{later - descriptors} descriptors more"
+    assert more - memory < GROWTH, f"{more - memory} kB of memory more"
+    assert further - addresses < HEAPS, f"{further - addresses} kB of addresses more"
+    same(session(path, GET_FEATURES), FEATURES)
+    same(daemon.end()[0], 0)
+    lines = pathlib.Path(path + ".lines").read_text().splitlines()
+    same(lines, [f"session {n}: 1 requests, end Disconnected" for n in range(1, SESSIONS + 2)])
+    os.remove(path + ".lines")
+    return f"{SESSIONS} sessions, {descriptors} descriptors, {more} kB of memory, {more - memory} of them since the half"
+
+
+def no_descriptor_left(path):
+    """The next client waits until a session ends; those that run live on."""
+    daemon = Daemon("--socket-path=" + path, "--count=20", files=16)
+    clients = [connect(path) for _ in range(20)]
+    served = []
+    for client in clients[:8]:
+        ask(client)
+        served.append(client)
+    told = daemon.told()
+    assert "the next client waits" in told and "24" in told, told
+    daemon.rests()
+    last = clients[-1]
+    last.sendall(GET_FEATURES)
+    last.settimeout(0.5)
+    with contextlib.suppress(TimeoutError):
+        last.recv(1)
+        raise AssertionError("the last client was served")
+    last.settimeout(LIMIT)
+    for client in served:
+        ask(client)
+    for client in clients[:-1]:
+        client.close()
+    same(last.recv(len(FEATURES), socket.MSG_WAITALL), FEATURES)
+    last.close()
+    status, lines, _ = daemon.end()
+    same((status, lines.count("\n")), (0, 20))
+
+
+def no_descriptor_and_no_session(path):
+    """Nothing could be given back: it ends, and says why."""
+    daemon = Daemon(path, "2")
+    # Its own are the three standard ones, the lock and the listening socket. The first client's is taken before it comes.
+    wait_until(lambda: is_socket(path) and daemon.descriptors() == 5, "nobody listens")
+    resource.prlimit(daemon.process.pid, resource.RLIMIT_NOFILE, (5, 5))
+    connect(path).close()
+    with connect(path) as client:
+        same(everything(client), b"")
+    status, lines, errors = daemon.end()
+    same((status, lines), (2, "session 1: 0 requests, end Disconnected\n"))
+    assert path in errors and "24" in errors, errors
+
+
+def no_thread_left(path):
+    """The same where no thread can be started. A program that was compiled without proof reserves too many addresses for it."""
+    daemon = Daemon("--socket-path=" + path, "--count=20")
+    connect(path).close()
+    if daemon.status("VmSize") > 1 << 30:
+        daemon.process.kill()
+        daemon.end()
+        os.remove(path), os.remove(path + ".pid")
+        return "left out: the program was compiled without proof"
+    daemon.process.kill()
+    daemon.end()
+    daemon = Daemon("--socket-path=" + path, "--count=20", memory=64 << 20)
+    clients = [connect(path) for _ in range(20)]
+    ask(clients[0])
+    told = daemon.told()
+    assert "the next client waits: no thread could be started" in told, told
+    daemon.rests()
+    ask(clients[0])
+    clients[-1].sendall(GET_FEATURES)
+    for client in clients[:-1]:
+        client.close()
+    same(clients[-1].recv(len(FEATURES), socket.MSG_WAITALL), FEATURES)
+    clients[-1].close()
+    status, lines, _ = daemon.end()
+    same((status, lines.count("\n")), (0, 20))
+
+
+def signals(path):
+    """A signal ends the process as the system does it: the lines of ended sessions are there, and the next daemon takes the path over."""
+    for number in signal.SIGTERM, signal.SIGINT:
+        daemon = Daemon(path, "3")
+        same(session(path, GET_FEATURES), FEATURES)
+        same(daemon.line(), "session 1: 1 requests, end Disconnected\n")
+        running = connect(path)
+        ask(running)
+        daemon.process.send_signal(number)
+        same(daemon.end(), (-number, "", ""))
+        same(everything(running), b"")
+        assert is_socket(path)
+    daemon = Daemon(path, "1")
+    same(session(path, GET_FEATURES), FEATURES)
+    same(daemon.end(), (0, "session 1: 1 requests, end Disconnected\n", ""))
+
+
+def replaced_path(path):
+    """What is put in the place of the socket stays at the end: a file, another process's socket."""
+    for other in "file", "socket":
+        daemon = Daemon(path, "1")
+        client = connect(path)
+        os.remove(path)
+        if other == "file":
+            pathlib.Path(path).write_text("kept")
+        else:
+            listening = socket.socket(socket.AF_UNIX)
+            listening.bind(path)
+            listening.listen()
+        client.close()
+        same(daemon.end(), (0, "session 1: 0 requests, end Disconnected\n", ""))
+        if other == "file":
+            same(pathlib.Path(path).read_text(), "kept")
+        else:
+            with connect(path):
+                listening.accept()[0].close()
+            listening.close()
+        os.remove(path)
+
+
+def second_daemon(path):
+    """It is refused, and the first does not notice."""
+    first = Daemon(path, "2")
+    client = connect(path)
+    ask(client)
+    for _ in range(3):
+        same(run(path, "1"), (2, "", f"vhost-daemon: {path}: another daemon has this path\n"))
+        same(run(path + "/", "1")[0], 2)
+    ask(client)
+    client.close()
+    same(session(path, GET_FEATURES), FEATURES)
+    lines = "session 1: 2 requests, end Disconnected\nsession 2: 1 requests, end Disconnected\n"
+    same(first.end(), (0, lines, ""))
+
+
+def two_started_together(path):
+    """One of two lives, at a free path and at a left-over socket."""
+    for number in range(40):
+        if number % 2:
+            left_over(path)
+        pair = [Daemon(path, "1"), Daemon(path, "1")]
+        wait_until(lambda: any(each.process.poll() is not None for each in pair), "both wait")
+        refused, lives = sorted(pair, key=lambda each: each.process.poll() is None)
+        same(refused.end(), (2, "", f"vhost-daemon: {path}: another daemon has this path\n"))
+        same(session(path, GET_FEATURES), FEATURES)
+        same(lives.end(), (0, "session 1: 1 requests, end Disconnected\n", ""))
+
+
+def another_process_listens(path):
+    """It sees no connection, also where its queue of connections is full."""
+    for backlog in 5, 0:
+        with socket.socket(socket.AF_UNIX) as listening:
+            listening.bind(path)
+            listening.listen(backlog)
+            listening.setblocking(False)
+            waiting = []
+            while backlog == 0:
+                client = socket.socket(socket.AF_UNIX)
+                client.setblocking(False)
+                waiting.append(client)
+                try:
+                    client.connect(path)
+                except BlockingIOError:
+                    break
+            began = time.monotonic()
+            told = f"vhost-daemon: {path}: another process has a socket at this path\n"
+            same(run(path, "1"), (2, "", told))
+            assert time.monotonic() - began < 20, "it waited"
+            for client in waiting[:-1]:
+                listening.accept()[0].close()
+            with contextlib.suppress(BlockingIOError):
+                listening.accept()
+                raise AssertionError("there was one connection more")
+            for client in waiting:
+                client.close()
+        os.remove(path)
+
+
+def other_things_at_the_path(path):
+    """They stay."""
+    pathlib.Path(path).write_text("kept")
+    same(run(path, "1"), (2, "", f"vhost-daemon: {path}: there is a file at this path that is no socket\n"))
+    same(pathlib.Path(path).read_text(), "kept")
+    os.remove(path)
+    os.mkdir(path)
+    same(run(path, "1")[0], 2)
+    os.rmdir(path)
+    status, output, errors = run(path + "/inside", "1")
+    same((status, output), (2, ""))
+    assert path in errors and "os error 2" in errors, errors
+
+
+def wrong_arguments(path):
+    for words in [], [path], [path, "1", "2"], [path, "0"], [path, "1025"], [path, "+1"], [path, "x"], [path, ""], ["", "1"], ["-v"]:
+        same(run(*words), (1, "", USAGE))
+    for words, name in (
+        ([b"/tmp/\xff", "1"], "UTF-8"),
+        (["--socket-path=" + path, b"--count=\xff"], "UTF-8"),
+        (["/" + 107 * "x", "1"], "too long"),
+        (["--socket-path="], "empty"),
+        (["--socket-path=" + path, "--count=0"], "--count=0"),
+        (["--socket-path=" + path, "--count=4294967296"], "--count=4294967296"),
+        (["--socket-path=" + path, "--socket-path=" + path], "twice"),
+        (["--socket-path=" + path, path], "beside"),
+        (["--count=1"], "--socket-path is missing"),
+        (["--socket-path=" + path, "--cuont=1"], "--cuont=1: there is no such option"),
+        (["--profile", path, "1"], "--profile: there is no such option"),
+    ):
+        status, output, errors = run(*words)
+        same((status, output), (1, ""))
+        assert name in errors and errors.endswith(USAGE), errors
+
+
+def longest_path(path):
+    longest = path + (107 - len(path)) * "x"
+    daemon = Daemon(longest, "1")
+    same(session(longest, GET_FEATURES), FEATURES)
+    same(daemon.end(), (0, "session 1: 1 requests, end Disconnected\n", ""))
+
+
+def more_clients_than_count(path):
+    """Once all connections were taken nobody listens, and the path is gone."""
+    daemon = Daemon(path, "1")
+    served = connect(path)
+    ask(served)
+    wait_until(lambda: not os.path.exists(path), "the path stays")
+    wait_until(lambda: not os.listdir(os.path.dirname(path)), "the lock stays")
+    # Another daemon may listen there while the session of the first goes on.
+    other = Daemon(path, "1")
+    same(session(path, GET_FEATURES), FEATURES)
+    same(other.end(), (0, "session 1: 1 requests, end Disconnected\n", ""))
+    ask(served)
+    served.close()
+    same(daemon.end(), (0, "session 1: 2 requests, end Disconnected\n", ""))
+
+
+def waiting_clients_are_refused(path):
+    """Those that wait when the last connection is taken meet the end of their streams."""
+    daemon = Daemon(path, "1")
+    wait_until(lambda: is_socket(path), "nobody listens")
+    daemon.process.send_signal(signal.SIGSTOP)
+    clients = [connect(path) for _ in range(5)]
+    daemon.process.send_signal(signal.SIGCONT)
+    ask(clients[0])
+    for client in clients[1:]:
+        same(everything(client), b"")
+        client.close()
+    clients[0].close()
+    same(daemon.end(), (0, "session 1: 1 requests, end Disconnected\n", ""))
+
+
+def inquiries(path):
+    status, output, errors = run("--help")
+    same((status, errors), (0, ""))
+    assert output.startswith(USAGE), output
+    same(run("-h"), (0, output, ""))
+    # The command answers the first, the program the second.
+    same(run("--version"), (0, VERSION, ""))
+    same(run("-v", "--version"), (0, VERSION, ""))
+    assert run("-v", "--help")[1].startswith(USAGE)
+    status, output, errors = run("--fd=3", "--print-capabilities")
+    same((status, json.loads(output), errors), (0, {"type": "net"}, ""))
+
+
+def verbose(path):
+    """Each refused request is told with its name and error, and each session answers as it does without."""
+    daemon = Daemon("-v", path, "4")
+    same(session(path, GET_FEATURES, SET_OWNER, SET_OWNER, SET_VRING_NUM, GET_FEATURES), 2 * FEATURES)
+    same(session(path, SET_VRING_KICK), b"")
+    same(session(path, UNKNOWN), b"")
+    same(session(path, GET_FEATURES, GET_FEATURES[:5]), FEATURES)
+    lines = (
+        "session 1: 5 requests, end Disconnected\n"
+        "session 2: 0 requests, end InvalidMessage\n"
+        "session 3: 0 requests, end InvalidMessage\n"
+        "session 4: 1 requests, end PartialMessage\n"
+    )
+    told = (
+        'session 1: request 3, SET_OWNER: InvalidOperation("already claimed")\n'
+        "session 1: request 4, SET_VRING_NUM: InvalidParam\n"
+        "session 2: request 1, SET_VRING_KICK: InvalidMessage\n"
+        "session 3: request 1, code 200: InvalidMessage\n"
+        "session 4: request 2, no header: PartialMessage\n"
+    )
+    same(daemon.end(), (0, lines, told))
+
+
+def output_fails(path):
+    """All sessions are served, and it is told at once."""
+    daemon = Daemon(path, "2", output=open("/dev/full", "wb"))
+    same(session(path, GET_FEATURES), FEATURES)
+    same(session(path, GET_FEATURES), FEATURES)
+    status, _, errors = daemon.end()
+    same(status, 2)
+    assert errors == f"vhost-daemon: {path}: the output failed: os error 28\n" or "output failed" in errors, errors
+
+
+def many_at_once(path):
+    """As many as COUNT allows; each line is there."""
+    soft, hard = resource.getrlimit(resource.RLIMIT_NOFILE)
+    resource.setrlimit(resource.RLIMIT_NOFILE, (min(2048, hard), hard))
+    daemon = Daemon(path, "1024", files=1100)
+    clients = [connect(path) for _ in range(1024)]
+    for client in clients:
+        ask(client)
+    memory, threads = daemon.status("VmRSS"), daemon.status("Threads")
+    for client in clients:
+        client.close()
+    same(daemon.end(), (0, "".join(f"session {n}: 1 requests, end Disconnected\n" for n in range(1, 1025)), ""))
+    resource.setrlimit(resource.RLIMIT_NOFILE, (soft, hard))
+    return f"{threads} threads, {memory} kB of memory"
+
+
+def before_the_first_build(path):
+    """Help, version and wrong arguments are answered where nothing was built, and nothing can be."""
+    folder = pathlib.Path(path).parent
+    copy = folder / "copy"
+    (copy / "scripts").mkdir(parents=True)
+    files = "vhost-daemon", "VERSION", "scripts/program.sh", "scripts/options.sh"
+    for name in files:
+        (copy / name).write_bytes((TOP / name).read_bytes())
+    (copy / "vhost-daemon").chmod(0o755)
+    environment = {"PATH": "/usr/bin:/bin"}
+
+    def told(*words):
+        began = time.monotonic()
+        done = subprocess.run([copy / "vhost-daemon", *words], capture_output=True, env=environment, stdin=subprocess.DEVNULL)
+        assert time.monotonic() - began < 5, "it took long"
+        return done.returncode, done.stdout.decode(), done.stderr.decode()
+
+    same(told("--version"), (0, VERSION, ""))
+    for word in "-h", "--help":
+        status, output, errors = told(word)
+        same((status, errors), (0, ""))
+        assert output.startswith(USAGE), output
+    for words in [], ["x"], ["x", "0"], ["x", "1025"], ["x", "y"], ["", "1"], ["x", "1", "2"], ["--count=1"], ["--cuont=1", "x", "1"], ["x" * 108, "1"]:
+        status, output, errors = told(*words)
+        same((status, output), (1, ""))
+        assert errors.endswith(USAGE), errors
+    # What is right is built first.
+    same(told("x", "1")[0], 3)
+    for name in files:
+        (copy / name).unlink()
+    (copy / "scripts").rmdir()
+    copy.rmdir()
+
+
+ROWS = [
+    before_the_first_build,
+    inquiries,
+    wrong_arguments,
+    lines_as_asked,
+    lines_in_order_and_at_once,
+    end_of_stream_at_once,
+    verbose,
+    output_fails,
+    longest_path,
+    second_daemon,
+    two_started_together,
+    another_process_listens,
+    other_things_at_the_path,
+    replaced_path,
+    more_clients_than_count,
+    waiting_clients_are_refused,
+    signals,
+    no_descriptor_left,
+    no_descriptor_and_no_session,
+    no_thread_left,
+    many_at_once,
+    flat,
+]
+
+
+def too_long(_number, _frame):
+    raise TimeoutError("it took too long")
+
+
+def play(row):
+    """Whether a row holds; it says so in a line."""
+    name = row.__name__.replace("_", " ")
+    signal.signal(signal.SIGALRM, too_long)
+    signal.alarm(ROW_LIMIT)
+    with tempfile.TemporaryDirectory() as folder:
+        try:
+            noted = row(folder + "/d.sock")
+            same(os.listdir(folder), [])
+        except Exception as failed:
+            print(f"{name}: FAILED: {type(failed).__name__}: {failed}", flush=True)
+            return False
+        finally:
+            signal.alarm(0)
+            for process in Daemon.running:
+                if process.poll() is None:
+                    process.kill()
+                    process.wait()
+            Daemon.running.clear()
+    print(f"{name}: ok" + (f" ({noted})" if noted else ""), flush=True)
+    return True
+
+
+def main(words):
+    # The program is built here, if it is not there.
+    if subprocess.run([DAEMON, "--print-capabilities"], stdout=subprocess.DEVNULL).returncode != 0:
+        print("try_daemon: the daemon could not be built", file=sys.stderr)
+        return 3
+    rows = [row for row in ROWS if not words or any(word in row.__name__ for word in words)]
+    if not rows:
+        print("try_daemon: no row has such a name", file=sys.stderr)
+        return 1
+    passed = [play(row) for row in rows]
+    print(f"{sum(passed)} passed, {len(passed) - sum(passed)} failed")
+    return 0 if all(passed) else 1
+
+
+if __name__ == "__main__":
+    sys.exit(main(sys.argv[1:]))
