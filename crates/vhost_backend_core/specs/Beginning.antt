@@ -1,22 +1,23 @@
 -- Requests and calls of the code, as the definitions see them.
 use Rattle.std.specs.Prelude.{◌≡◌, ℕ, Bool, true, false, List, [], ◌∷◌, length, Option, Some, None, Result, Ok, Err, Vec, if◌then◌else◌, ◌&&◌, ◌==◌, not, ⊤}
 use Rattle.std.specs.Global.{Global}
-use Rattle.vhost_message.specs.declared.error.Error as declared
 use Rattle.vhost_message.specs.declared.frontend_req.FrontendReq.{FrontendReq}
 use Rattle.vhost_message.specs.declared.records.config.VhostUserConfig.{VhostUserConfig}
 use Rattle.vhost_message.specs.declared.records.memory.VhostUserMemoryRegion.{VhostUserMemoryRegion}
 use Rattle.vhost_message.specs.Records.{regions_of}
 use Rattle.vhost_message.specs.Transfer.{direction_number, phase_number}
+use Rattle.vhost_protocol.specs.Answered.{calls}
 use Rattle.vhost_protocol.specs.DeviceCall as device
 use Rattle.vhost_protocol.specs.DeviceCall.{Call}
-use Rattle.vhost_protocol.specs.Error.{InvalidMessage, seen, test}
+use Rattle.vhost_protocol.specs.Error.{InvalidMessage, test}
 use Rattle.vhost_protocol.specs.Row.{channel, row_of}
 use Rattle.vhost_protocol.specs.Session.{Session}
 use Rattle.vhost_protocol.specs.Split.{Message}
 use Rattle.vhost_protocol.specs.Step as step
 use Rattle.vhost_protocol.specs.Step.{Refusal, Step, ◌>>=◌, silently, acknowledged}
-use Rattle.vhost_backend_core.specs.Answered.{calls}
+use Rattle.vhost_backend_core.specs.Refusing.{refusal_in}
 use Rattle.vhost_backend_core.specs.Session.{session_of}
+use Rattle.vhost_backend_core.specs.declared.refusal.Refusal as declared
 use Rattle.vhost_backend_core.specs.declared.session.Session as code
 use Rattle.vhost_backend_core.specs.declared.incoming.Incoming.{Incoming}
 use Rattle.vhost_backend_core.specs.declared.call.Area.{Area}
@@ -47,9 +48,9 @@ pub record IsRequest (r : FrontendReq) (is_reply wants_reply : Bool) (bytes : Li
 -- ---- tests
 
 -- what a test of the code answered is that test of the table: it refuses in silence
-abbrev pub tested : {A H : Type 0} → Result A declared.Error → Result A (Refusal H)
+abbrev pub tested : {A H : Type 0} → Result A declared.Refusal → Result A (Refusal H)
 tested (Ok a) = Ok a
-tested (Err e) = Err (silently (seen e))
+tested (Err e) = Err (silently (refusal_in e))
 
 -- the test of a body's size
 abbrev pub sized : {H : Type 0} → ℕ → Incoming → Result ⊤ (Refusal H)
@@ -128,11 +129,11 @@ step_of s m call.PostcopyEnd = calls s m device.PostcopyEnd
 step_of s m call.PostcopyAckMemRegions = calls s m device.PostcopyAckMemRegions
 
 -- what a request became is this step of the table
-abbrev pub step_in : {H B G : Type 0} → Session → Message FrontendReq H → Result Begun declared.Error → Step H B G
+abbrev pub step_in : {H B G : Type 0} → Session → Message FrontendReq H → Result Begun declared.Refusal → Step H B G
 step_in s m (Ok (begun.Calls c)) = step_of s m c
-step_in s m (Ok (begun.Refuses e)) = step.Refused (acknowledged s m (seen e))
-step_in s m (Err e) = step.Refused (silently (seen e))
+step_in s m (Ok (begun.Refuses e)) = step.Refused (acknowledged s m (refusal_in e))
+step_in s m (Err e) = step.Refused (silently (refusal_in e))
 
 -- what a request of this code became is its row
-abbrev pub Begins : {H : Type 0} → (B G : Type 0) → FrontendReq → code.Session → Incoming → List H → Result Begun declared.Error → Type 0
+abbrev pub Begins : {H : Type 0} → (B G : Type 0) → FrontendReq → code.Session → Incoming → List H → Result Begun declared.Refusal → Type 0
 Begins B G r s i hs result = step_in {B = B} {G = G} (session_of s) (message_in i hs) result ≡ row_of r (session_of s) (message_in i hs)

@@ -1,5 +1,5 @@
 -- Answers of a device, and what becomes of them, as the definitions see them.
-use Rattle.std.specs.Prelude.{◌≡◌, ◌^◌, ℕ, Bool, true, false, List, [], ◌∷◌, Option, Some, None, Result, Ok, Err, Vec, bit_or, ⊤}
+use Rattle.std.specs.Prelude.{◌≡◌, ◌^◌, ℕ, Bool, true, false, List, [], ◌∷◌, length, take, if◌then◌else◌, ◌==◌, Option, Some, None, Result, Ok, Err, Vec, bit_or, ⊤}
 use Rattle.vhost_message.specs.declared.error.Error as declared
 use Rattle.vhost_message.specs.declared.frontend_req.FrontendReq.{FrontendReq}
 use Rattle.vhost_message.specs.declared.frontend_req.FrontendReq.TheVariants.{GET_FEATURES}
@@ -8,19 +8,18 @@ use Rattle.vhost_message.specs.declared.records.inflight.VhostUserInflight.{Vhos
 use Rattle.vhost_message.specs.declared.records.memory.VhostUserMemoryRegion.{VhostUserMemoryRegion}
 use Rattle.vhost_message.specs.declared.records.shmem.VhostUserShMemConfig.{VhostUserShMemConfig}
 use Rattle.vhost_message.specs.declared.records.vring.VhostUserVringState.{VhostUserVringState}
+use Rattle.vhost_protocol.specs.Answered.{rebased, with_base, with_config, with_handle, with_inflight, with_state, with_check, with_features, if_agreed}
 use Rattle.vhost_protocol.specs.DeviceCall as device
 use Rattle.vhost_protocol.specs.DeviceCall.{Call, Answer}
 use Rattle.vhost_protocol.specs.Error.{Error, BackendInternalError, seen, seen_result}
 use Rattle.vhost_protocol.specs.Features.{REPLY_ACK}
-use Rattle.vhost_protocol.specs.Row.{rebased, with_base, with_config, with_handle, with_inflight, with_state, with_check, with_features, if_agreed}
 use Rattle.vhost_protocol.specs.Served as served
 use Rattle.vhost_protocol.specs.Served.{Served}
 use Rattle.vhost_protocol.specs.Session.{Session}
 use Rattle.vhost_protocol.specs.Split.{Message}
-use Rattle.vhost_protocol.specs.Step.{Outcome, Step, Refused, Calls, OpensBackend, OpensGpu, done, with_ack, replied_or_silent, unwritten}
+use Rattle.vhost_protocol.specs.Step.{Outcome, Step, Refused, Calls, OpensBackend, OpensGpu, done, failed_with, replied, with_ack, replied_or_silent, unwritten}
 use Rattle.vhost_protocol.specs.Written as payload
 use Rattle.vhost_protocol.specs.Written.{Payload}
-use Rattle.vhost_backend_core.specs.Answered.{with_bases}
 use Rattle.vhost_backend_core.specs.Beginning.{regions_in, step_of}
 use Rattle.vhost_backend_core.specs.Session.{session_of}
 use Rattle.vhost_backend_core.specs.declared.answer.DeviceAnswer.{DeviceAnswer}
@@ -153,10 +152,16 @@ told_if _ _ agreed = told.Silent
 abbrev pub wanting : {H : Type 0} → Bool → Message FrontendReq H
 wanting need_reply = record { request = GET_FEATURES; reply = false; need_reply = need_reply; body = []; handles = [] }
 
+-- the bases are the reply, one for each of so many regions
+abbrev pub with_counted : {H : Type 0} → Session → Message FrontendReq H → List VhostUserMemoryRegion → ℕ → Result (Option (List ℕ)) Error → Outcome H
+with_counted s m regions count (Ok (Some bases)) =
+    if length bases == count then replied s (payload.Regions (rebased regions bases)) [] else failed_with s m BackendInternalError
+with_counted s m regions count (Ok None) = failed_with s m BackendInternalError
+with_counted s m regions count (Err e) = failed_with s m e
+
 -- what follows from an answer
 abbrev pub concluded : {H : Type 0} → Session → Bool → Beside → Then → DeviceAnswer H → Outcome H
 concluded s need b then_.Ack d = with_ack s (wanting need) (done_in d)
-concluded s need b then_.AckTold d = with_ack {A = ⊤} s (wanting need) (Ok tt)
 concluded s need b then_.AckTable d = with_ack s (wanting need) (bases_in d)
 concluded s need b then_.AckRegion d = with_ack s (wanting need) (base_in d)
 concluded s need b (then_.AckFeatures n) d = with_ack (record s { acked = n }) (wanting need) (done_in d)
@@ -176,7 +181,7 @@ concluded s need b then_.Check d = with_check s (done_in d)
 concluded s need b then_.Shmem d = replied_or_silent s payload.Shmem (shmem_in b d)
 concluded s need b (then_.Log l) d = replied_or_silent s (λ u. payload.LogArea l) (done_in d)
 concluded s need b (then_.Base r) d = with_base s (wanting need) r (base_in d)
-concluded s need b (then_.Bases n) d = with_bases s (wanting need) b.regions n (bases_in d)
+concluded s need b (then_.Bases n) d = with_counted s (wanting need) b.regions n (bases_in d)
 concluded s need b then_.Unwritten d = unwritten s (done_in d)
 
 -- ---- the same as the definitions
@@ -194,7 +199,6 @@ then_of (call.SetProtocolFeatures n) = then_.AckProtocolFeatures n
 then_of call.GetQueueNum = then_.Number
 then_of call.GetMaxMemSlots = then_.Number
 then_of (call.GetConfig a) = then_.Config a
-then_of call.SetBackendReqFd = then_.AckTold
 then_of (call.GetSharedObject name) = then_.Handle
 then_of (call.GetInflightFd area) = then_.Inflight
 then_of (call.AddMemRegion r true) = then_.Base r
@@ -208,10 +212,15 @@ then_of call.PostcopyEnd = then_.AckEnd
 then_of call.PostcopyAckMemRegions = then_.Unwritten
 then_of _ = then_.Ack
 
--- the regions that lie beside a call
+-- the regions that lie beside a call: those whose bases are the reply
 abbrev pub regions_beside : DeviceCall → List VhostUserMemoryRegion
-regions_beside (call.SetMemTable table listens) = regions_in table
+regions_beside (call.SetMemTable table true) = regions_in table
 regions_beside _ = []
+
+-- the same of a place whose first ones they are
+abbrev pub regions_for : Then → List VhostUserMemoryRegion → List VhostUserMemoryRegion
+regions_for (then_.Bases count) regions = take count regions
+regions_for _ regions = []
 
 -- what the code's answer says of a call
 abbrev pub answer_in : {H B G : Type 0} → Beside → (c : Call H B G) → DeviceAnswer H → Answer c
@@ -252,14 +261,22 @@ answer_in b device.PostcopyAckMemRegions d = done_in d
 answer_in b (device.SetLogBase l h) d = done_in d
 answer_in b (device.SetMtu n) d = done_in d
 
--- Where a step calls the device, this is what follows from the answer, whatever channel was opened first.
-abbrev pub FollowsFrom : {H B G : Type 0} → Beside → DeviceAnswer H → Step H B G → Outcome H → Type 0
-FollowsFrom b d (Refused r) o = ⊤
-FollowsFrom b d (Calls c next) o = o ≡ next (answer_in b c d)
-FollowsFrom {B = B} b d (OpensBackend h next) o = (channel : B) → FollowsFrom b d (next (Ok channel)) o
-FollowsFrom {G = G} b d (OpensGpu h next) o = (channel : G) → FollowsFrom b d (next (Ok channel)) o
+-- a refusal has this outcome
+abbrev pub IsRefused : {H B G : Type 0} → Session → Step H B G → Outcome H → Type 0
+IsRefused s (Refused r) o = o ≡ record { answer = Err r.error; served = r.served; session = s }
+IsRefused s _ o = ⊥
+
+-- Where a step calls the device, this is what follows from the answer. Where it opens a channel first, the answer also says
+-- whether that could be opened; else the request is refused.
+abbrev pub FollowsFrom : {H B G : Type 0} → Session → Beside → DeviceAnswer H → Step H B G → Outcome H → Type 0
+FollowsFrom s b d (Refused r) o = ⊤
+FollowsFrom s b d (Calls c next) o = o ≡ next (answer_in b c d)
+FollowsFrom {B = B} s b d (OpensBackend h next) o =
+    ((channel : B) → done_in d ≡ Ok tt → FollowsFrom s b d (next (Ok channel)) o) × ((e : Error) → done_in d ≡ Err e → IsRefused s (next (Err e)) o)
+FollowsFrom {G = G} s b d (OpensGpu h next) o =
+    ((channel : G) → FollowsFrom s b d (next (Ok channel)) o) × ((e : Error) → done_in d ≡ Err e → IsRefused s (next (Err e)) o)
 
 -- The second half is that of the definitions.
 abbrev pub ConcludesRow : (H B G : Type 0) → Type 0
 ConcludesRow H B G = (s : Session) (m : Message FrontendReq H) (c : DeviceCall) (b : Beside) (d : DeviceAnswer H) → b.regions ≡ regions_beside c
-    → FollowsFrom b d (step_of {B = B} {G = G} s m c) (concluded s m.need_reply b (then_of c) d)
+    → FollowsFrom s b d (step_of {B = B} {G = G} s m c) (concluded s m.need_reply b (then_of c) d)

@@ -1,5 +1,6 @@
 pub mod Session
-pub mod Answered
+pub mod Refusing
 pub mod Beginning
 pub mod Replies
 pub mod Concluding
+pub mod Fits

@@ -13,7 +13,7 @@ use vhost_message::{
 /// What a device answers a call. An answer of another kind than its call asks for counts as BackendInternalError.
 #[derive(Drop)]
 pub enum DeviceAnswer<H> {
-    /// To calls without a value.
+    /// To calls without a value. To SetBackendReqFd and SetGpuSocket also why the channel could not be opened.
     Done(Result<()>),
     /// To GetFeatures, GetProtocolFeatures, GetQueueNum and GetMaxMemSlots.
     Number(Result<u64>),
@@ -40,9 +40,7 @@ pub enum DeviceAnswer<H> {
 pub enum Then {
     /// It is acknowledged.
     Ack,
-    /// The call is acknowledged, whatever is answered.
-    AckTold,
-    /// The same as `Ack` for bases, and for a base, that nobody asked for.
+    /// The same for bases, and for a base, that nobody asked for.
     AckTable,
     AckRegion,
     /// The same as `Ack`; the virtio features are remembered.

@@ -3,11 +3,12 @@
 ghost use Rattle.std.specs.Prelude.{◌≡◌, ◌≤◌, ◌+◌, ◌*◌, length};
 ghost use Rattle.vhost_message.specs.declared.limits.TheConstants.{MAX_MEM_REGIONS, MAX_MSG_SIZE, MEMORY_REGION_SIZE};
 
+use crate::refusal::Refusal;
 use std::alloc::AllocError;
 use vhost_message::{
-    Error, VhostTransferStateDirection, VhostTransferStatePhase, VhostUserConfig,
-    VhostUserInflight, VhostUserLog, VhostUserMemoryRegion, VhostUserSharedMsg,
-    VhostUserSingleMemoryRegion, VhostUserVringAddr, read_regions,
+    VhostTransferStateDirection, VhostTransferStatePhase, VhostUserConfig, VhostUserInflight,
+    VhostUserLog, VhostUserMemoryRegion, VhostUserSharedMsg, VhostUserSingleMemoryRegion,
+    VhostUserVringAddr, read_regions,
 };
 
 /// The regions of a table, as they lie in the body of their request.
@@ -36,7 +37,8 @@ impl RegionTable<'_> {
 
     /// How many regions there are: `MAX_MEM_REGIONS` at most.
     pub fn len(&self) -> usize
-        ensures count { result ≡ length (regions_in self.now) }
+        ensures count { result ≡ self.now.count }
+        ensures len { result ≡ length (regions_in self.now) }
         ensures few { result ≤ MAX_MEM_REGIONS }
     {
         self.count
@@ -141,5 +143,5 @@ pub enum Begun<'a> {
     /// The device is to be called.
     Calls(DeviceCall<'a>),
     /// It is refused; where it asks for it, that is acknowledged.
-    Refuses(Error),
+    Refuses(Refusal),
 }

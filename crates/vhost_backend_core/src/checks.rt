@@ -4,19 +4,20 @@ ghost use Rattle.std.specs.Prelude.{◌≡◌, ◌<◌, ◌^◌, ◌==◌, ◌�
 ghost use Rattle.vhost_message.specs.Bits.{has_bit};
 ghost use Rattle.vhost_message.specs.Transfer.{direction_number, phase_number};
 ghost use Rattle.vhost_message.specs.Valid.{is_valid_transfer};
-ghost use Rattle.vhost_protocol.specs.Error.{FrontendInternalError, InactiveFeature, InvalidMessage, InvalidOperation, InvalidParam, seen, test};
+ghost use Rattle.vhost_protocol.specs.Error.{FrontendInternalError, InactiveFeature, InvalidMessage, InvalidParam, test};
 ghost use Rattle.vhost_protocol.specs.Row as row;
 ghost use Rattle.vhost_protocol.specs.Step.{silently};
 ghost use Rattle.vhost_backend_core.specs.Beginning.{body_of, handles_in, single, sized, tested};
+ghost use Rattle.vhost_backend_core.specs.Refusing.{refusal_in};
 ghost use Rattle.vhost_backend_core.specs.Session.{session_of};
 
 use crate::incoming::Incoming;
+use crate::refusal::{Refusal, Result};
 use crate::session::Session;
-use bitflags::Flags;
 use std::marker::PhantomData;
 use vhost_message::{
-    Error, Result, VhostTransferStateDirection, VhostTransferStatePhase, VhostUserMsgValidator,
-    VhostUserProtocolFeatures, VhostUserTransferDeviceState, VhostUserVirtioFeatures, has_bit,
+    VhostTransferStateDirection, VhostTransferStatePhase, VhostUserMsgValidator,
+    VhostUserTransferDeviceState, has_bit,
 };
 
 /// The tests, over descriptors of a type. A test that fails refuses without a reply.
@@ -30,7 +31,7 @@ impl<H: Drop> Checks<H> {
         ensures { sized {H = H} size message.now ≡ tested result }
     {
         if message.body.len() != size || message.reply {
-            return Err(Error::InvalidMessage);
+            return Err(Refusal::InvalidMessage);
         }
         Ok(())
     }
@@ -42,11 +43,11 @@ impl<H: Drop> Checks<H> {
         ensures { body_of {H = H} T.SIZE T.read T.valid message.now ≡ tested result }
     {
         if message.body.len() != T::SIZE || message.reply {
-            return Err(Error::InvalidMessage);
+            return Err(Refusal::InvalidMessage);
         }
         let record = T::decode(message.body);
         if !record.is_valid() {
-            return Err(Error::InvalidMessage);
+            return Err(Refusal::InvalidMessage);
         }
         Ok(record)
     }
@@ -58,9 +59,7 @@ impl<H: Drop> Checks<H> {
     {
         let acked_protocol_features = session.acked_protocol_features;
         if !has_bit(acked_protocol_features, bit) {
-            return Err(Error::InactiveOperation(VhostUserProtocolFeatures::from_bits_retain(
-                1 << bit,
-            )));
+            return Err(Refusal::InactiveOperation(1 << bit));
         }
         Ok(())
     }
@@ -72,7 +71,7 @@ impl<H: Drop> Checks<H> {
     {
         let acked = session.acked;
         if !has_bit(acked, bit) {
-            return Err(Error::InactiveFeature(VhostUserVirtioFeatures::from_bits_retain(1 << bit)));
+            return Err(Refusal::InactiveFeature(1 << bit));
         }
         Ok(())
     }
@@ -82,7 +81,7 @@ impl<H: Drop> Checks<H> {
         ensures { test (nat_le num 1) (silently {H = H} InvalidParam) ≡ tested result }
     {
         if num > 1 {
-            return Err(Error::InvalidParam);
+            return Err(Refusal::InvalidParam);
         }
         Ok(())
     }
@@ -93,7 +92,7 @@ impl<H: Drop> Checks<H> {
         ensures great { IfErr result (λ e. test (nat_le number 65535) (silently {H = H} InvalidParam) ≡ tested (Err e)) }
     {
         if number > 65535 {
-            return Err(Error::InvalidParam);
+            return Err(Refusal::InvalidParam);
         }
         Ok(number as u16)
     }
@@ -103,7 +102,7 @@ impl<H: Drop> Checks<H> {
         ensures { test (number == 0) (silently {H = H} FrontendInternalError) ≡ tested result }
     {
         if number != 0 {
-            return Err(Error::FrontendInternalError);
+            return Err(Refusal::FrontendInternalError);
         }
         Ok(())
     }
@@ -113,29 +112,35 @@ impl<H: Drop> Checks<H> {
         ensures { test valid (silently {H = H} InvalidMessage) ≡ tested result }
     {
         if !valid {
-            return Err(Error::InvalidMessage);
+            return Err(Refusal::InvalidMessage);
         }
         Ok(())
     }
 
-    /// InvalidOperation with this reason: postcopy is in another state than that.
-    pub(crate) fn allowed(allowed: bool, reason: &'static str) -> Result<()>
-        ensures { test allowed (silently {H = H} (InvalidOperation reason.now)) ≡ tested result }
+    /// This refusal: postcopy is in another state than that.
+    pub(crate) fn allowed(allowed: bool, refusal: Refusal) -> Result<()>
+        ensures { test allowed (silently {H = H} (refusal_in refusal)) ≡ tested result }
     {
         if !allowed {
-            return Err(Error::InvalidOperation(reason));
+            return Err(refusal);
         }
         Ok(())
     }
 
-    /// This error: the message has not exactly one descriptor.
-    pub(crate) fn one_handle(handles: &Option<Vec<H>>, error: Error) -> Result<()>
-        ensures none { IfErr result (λ e. row.only (silently {H = H} (seen error)) (handles_in handles.now) ≡ tested (Err e)) }
+    /// This refusal: the message has not exactly one descriptor.
+    pub(crate) fn one_handle(handles: &Option<Vec<H>>, refusal: Refusal) -> Result<()>
+        ensures none { IfErr result (λ e. row.only (silently {H = H} (refusal_in refusal)) (handles_in handles.now) ≡ tested (Err e)) }
         ensures one { IfOk result (λ _. (h : H) × (handles_in handles.now ≡ h ∷ [])) }
     {
         match handles {
-            Some(list) => { if list.len() == 1 { Ok(()) } else { Err(error) } }
-            None => Err(error),
+            Some(list) => {
+                if list.len() == 1 {
+                    Ok(())
+                } else {
+                    Err(refusal)
+                }
+            }
+            None => Err(refusal),
         }
     }
 
@@ -148,7 +153,7 @@ impl<H: Drop> Checks<H> {
             None => false,
         };
         if one {
-            return Err(Error::InvalidMessage);
+            return Err(Refusal::InvalidMessage);
         }
         Ok(())
     }

@@ -1,14 +1,13 @@
 //! The second half: what a device's answer becomes.
 
-ghost use Rattle.std.specs.Prelude.{◌≡◌, ◌^◌, Ok, Some, bit_or, ⊤};
+ghost use Rattle.std.specs.Prelude.{◌≡◌, ◌^◌, Ok, Some, bit_or};
 ghost use Rattle.vhost_message.specs.declared.postcopy.PostcopyState.TheVariants.{Advise, Listen};
+ghost use Rattle.vhost_protocol.specs.Answered.{if_agreed, rebased_region, with_base, with_check, with_config, with_features, with_handle, with_inflight, with_state};
 ghost use Rattle.vhost_protocol.specs.Features.{REPLY_ACK};
-ghost use Rattle.vhost_protocol.specs.Row.{if_agreed, rebased_region, with_base, with_check, with_config, with_features, with_handle, with_inflight, with_state};
 ghost use Rattle.vhost_protocol.specs.Session.{ack_on};
 ghost use Rattle.vhost_protocol.specs.Step.{replied_or_silent, unwritten, with_ack};
 ghost use Rattle.vhost_protocol.specs.Written as payload;
-ghost use Rattle.vhost_backend_core.specs.Answered.{with_bases};
-ghost use Rattle.vhost_backend_core.specs.Concluding.{Beside, base_in, bases_in, bytes_in, concluded, done_in, handle_in, inflight_in, number_in, outcome_in, ring_state_in, shmem_in, state_handle_in, told_if, wanting};
+ghost use Rattle.vhost_backend_core.specs.Concluding.{Beside, base_in, bases_in, bytes_in, concluded, done_in, handle_in, inflight_in, number_in, outcome_in, ring_state_in, shmem_in, state_handle_in, told_if, wanting, with_counted};
 ghost use Rattle.vhost_backend_core.specs.Session.{session_of};
 ghost use Rattle.vhost_backend_core.specs.declared.answer.DeviceAnswer.{DeviceAnswer};
 ghost use Rattle.vhost_backend_core.specs.declared.answer.Told.TheVariants as told_;
@@ -41,7 +40,6 @@ impl<H: Drop> Conclusions<H> {
         let session = *session;
         match then {
             Then::Ack => Self::done(session, need_reply, answer),
-            Then::AckTold => Self::told(session, need_reply, answer),
             Then::AckTable => Self::table(session, need_reply, answer),
             Then::AckRegion => Self::region(session, need_reply, answer),
             Then::AckFeatures(features) => {
@@ -150,17 +148,6 @@ impl<H: Drop> Conclusions<H> {
             DeviceAnswer::Done(Err(_)) => Self::acked(session, need_reply, Verdict::Device, false),
             _ => Self::acked(session, need_reply, Verdict::Internal, false),
         }
-    }
-
-    /// Success and its acknowledgement, whatever was answered.
-    fn told<'t>(
-        session: Session,
-        need_reply: bool,
-        _answer: &'t DeviceAnswer<H>,
-    ) -> Conclusion<'t, H>
-        ensures { (b : Beside) → outcome_in b _answer.now result ≡ with_ack {A = ⊤} (session_of session) (wanting need_reply) (Ok tt) }
-    {
-        Self::acked(session, need_reply, Verdict::Fine, true)
     }
 
     /// Bases that nobody asked for.
@@ -387,7 +374,7 @@ impl<H: Drop> Conclusions<H> {
         count: usize,
         answer: &'t DeviceAnswer<H>,
     ) -> Conclusion<'t, H>
-        ensures { (b : Beside) → outcome_in b answer.now result ≡ with_bases (session_of session) (wanting need_reply) b.regions count (bases_in answer.now) }
+        ensures { (b : Beside) → outcome_in b answer.now result ≡ with_counted (session_of session) (wanting need_reply) b.regions count (bases_in answer.now) }
     {
         if let DeviceAnswer::Bases(Ok(Some(bases))) = answer {
             return Self::counted(session, need_reply, count, &bases[..]);
@@ -405,7 +392,7 @@ impl<H: Drop> Conclusions<H> {
         count: usize,
         bases: &'t [u64],
     ) -> Conclusion<'t, H>
-        ensures { (b : Beside) (d : DeviceAnswer H) → outcome_in b d result ≡ with_bases (session_of session) (wanting need_reply) b.regions count (Ok (Some bases.now)) }
+        ensures { (b : Beside) (d : DeviceAnswer H) → outcome_in b d result ≡ with_counted (session_of session) (wanting need_reply) b.regions count (Ok (Some bases.now)) }
     {
         if bases.len() == count {
             return Self::replied(session, Reply::Regions(bases));

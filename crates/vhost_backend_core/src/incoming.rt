@@ -12,7 +12,7 @@ use vhost_message::{
     VhostUserConfig, VhostUserMemory, VhostUserMemoryRegion, VhostUserMsgValidator, read_front,
 };
 
-/// A request: its code and flags, and its body, which is lent. Its descriptors lie beside it.
+/// A request: its code and flags, and its body, which is lent. Its file descriptors lie beside it.
 #[derive(Drop)]
 pub struct Incoming<'a> {
     pub code: FrontendReq,
@@ -56,7 +56,7 @@ impl<'a> Incoming<'a> {
         Some(Area { config })
     }
 
-    /// The table of a request, where it has as many regions and descriptors as it says, all valid.
+    /// The table of a request, where it has as many regions and file descriptors as it says, all valid.
     pub(crate) fn table(&self, handles: usize) -> Option<RegionTable<'a>>
         ensures valid { let n = (memory_of self.now.body.now).num_regions in
             (not self.now.reply && nat_le MEMORY_HEAD_SIZE (length self.now.body.now) && is_valid_memory (memory_of self.now.body.now)
@@ -74,7 +74,7 @@ impl<'a> Incoming<'a> {
         }
     }
 
-    /// How many regions the table of a request has, where it has as many bytes and descriptors as it says.
+    /// How many regions the table of a request has, where it has as many bytes and file descriptors as it says.
     fn table_len(&self, handles: usize) -> Option<usize>
         ensures valid { (not self.now.reply && nat_le MEMORY_HEAD_SIZE (length self.now.body.now) && is_valid_memory (memory_of self.now.body.now)
             && length self.now.body.now == MEMORY_HEAD_SIZE + MEMORY_REGION_SIZE * (memory_of self.now.body.now).num_regions && handles == (memory_of self.now.body.now).num_regions) ≡ is_some result }

@@ -10,12 +10,13 @@ ghost use Rattle.vhost_backend_core.specs.Beginning.{Begins, handles_in, message
 use crate::call::{Begun, DeviceCall};
 use crate::checks::{Checks, parts};
 use crate::incoming::Incoming;
+use crate::refusal::{Refusal, Result};
 use crate::session::Session;
 use std::marker::PhantomData;
 use vhost_message::{
-    Error, FrontendReq, Result, VhostUserInflight, VhostUserLog, VhostUserSharedMsg,
-    VhostUserSingleMemoryRegion, VhostUserTransferDeviceState, VhostUserU64, VhostUserVringAddr,
-    VhostUserVringState, has_bit, protocol_bit, virtio_bit,
+    FrontendReq, VhostUserInflight, VhostUserLog, VhostUserSharedMsg, VhostUserSingleMemoryRegion,
+    VhostUserTransferDeviceState, VhostUserU64, VhostUserVringAddr, VhostUserVringState, has_bit,
+    protocol_bit, virtio_bit,
 };
 
 /// The handling rules, over file descriptors and channels of these types.
@@ -78,7 +79,7 @@ impl<H: Drop, B: Drop, G: Drop> Rows<H, B, G> {
             | FrontendReq::CLOSE_CRYPTO_SESSION
             | FrontendReq::VRING_KICK
             | FrontendReq::SET_STATUS
-            | FrontendReq::GET_STATUS => Err(Error::InvalidMessage),
+            | FrontendReq::GET_STATUS => Err(Refusal::InvalidMessage),
         }
     }
 
@@ -132,10 +133,10 @@ impl<H: Drop, B: Drop, G: Drop> Rows<H, B, G> {
             return Ok(Begun::Calls(DeviceCall::PostcopyAckMemRegions));
         }
         let Some(files) = handles else {
-            return Ok(Begun::Refuses(Error::InvalidMessage));
+            return Ok(Begun::Refuses(Refusal::InvalidMessage));
         };
         let Some(table) = message.table(files.len()) else {
-            return Ok(Begun::Refuses(Error::InvalidMessage));
+            return Ok(Begun::Refuses(Refusal::InvalidMessage));
         };
         Ok(Begun::Calls(DeviceCall::SetMemTable(table, session.is_listening())))
     }
@@ -148,7 +149,7 @@ impl<H: Drop, B: Drop, G: Drop> Rows<H, B, G> {
         ensures { Begins B G code.SET_LOG_BASE session.now message.now (handles_in handles.now) result }
     {
         Checks::<H>::check_proto_feature(session, protocol_bit::LOG_SHMFD)?;
-        Checks::<H>::one_handle(handles, Error::IncorrectFds)?;
+        Checks::<H>::one_handle(handles, Refusal::IncorrectFds)?;
         let log: VhostUserLog = Checks::<H>::extract_request_body(message)?;
         Ok(Begun::Calls(DeviceCall::SetLogBase(log)))
     }
@@ -191,7 +192,7 @@ impl<H: Drop, B: Drop, G: Drop> Rows<H, B, G> {
             Checks::<H>::not_one(handles)?;
             Ok((index, false))
         } else {
-            Checks::<H>::one_handle(handles, Error::InvalidMessage)?;
+            Checks::<H>::one_handle(handles, Refusal::InvalidMessage)?;
             Ok((index, true))
         }
     }
@@ -283,7 +284,7 @@ impl<H: Drop, B: Drop, G: Drop> Rows<H, B, G> {
         Checks::<H>::check_proto_feature(session, protocol_bit::CONFIG)?;
         Checks::<H>::valid(!message.reply)?;
         let Some(area) = message.area() else {
-            return Err(Error::InvalidMessage);
+            return Err(Refusal::InvalidMessage);
         };
         Ok(Begun::Calls(DeviceCall::GetConfig(area)))
     }
@@ -294,7 +295,7 @@ impl<H: Drop, B: Drop, G: Drop> Rows<H, B, G> {
         Checks::<H>::check_proto_feature(session, protocol_bit::CONFIG)?;
         Checks::<H>::valid(!message.reply)?;
         let Some(area) = message.area() else {
-            return Ok(Begun::Refuses(Error::InvalidMessage));
+            return Ok(Begun::Refuses(Refusal::InvalidMessage));
         };
         Ok(Begun::Calls(DeviceCall::SetConfig(area, &message.body[12..])))
     }
@@ -308,7 +309,7 @@ impl<H: Drop, B: Drop, G: Drop> Rows<H, B, G> {
     {
         Checks::<H>::check_proto_feature(session, protocol_bit::BACKEND_REQ)?;
         Checks::<H>::valid(!message.reply)?;
-        match Checks::<H>::one_handle(handles, Error::InvalidMessage) {
+        match Checks::<H>::one_handle(handles, Refusal::InvalidMessage) {
             Ok(()) => Ok(Begun::Calls(DeviceCall::SetBackendReqFd)),
             Err(error) => Ok(Begun::Refuses(error)),
         }
@@ -321,7 +322,7 @@ impl<H: Drop, B: Drop, G: Drop> Rows<H, B, G> {
     ) -> Result<Begun<'a>>
         ensures { Begins B G code.GPU_SET_SOCKET _session.now _message.now (handles_in handles.now) result }
     {
-        match Checks::<H>::one_handle(handles, Error::InvalidMessage) {
+        match Checks::<H>::one_handle(handles, Refusal::InvalidMessage) {
             Ok(()) => Ok(Begun::Calls(DeviceCall::SetGpuSocket)),
             Err(error) => Ok(Begun::Refuses(error)),
         }
@@ -353,7 +354,7 @@ impl<H: Drop, B: Drop, G: Drop> Rows<H, B, G> {
         ensures { Begins B G code.SET_INFLIGHT_FD session.now message.now (handles_in handles.now) result }
     {
         Checks::<H>::check_proto_feature(session, protocol_bit::INFLIGHT_SHMFD)?;
-        Checks::<H>::one_handle(handles, Error::IncorrectFds)?;
+        Checks::<H>::one_handle(handles, Refusal::IncorrectFds)?;
         let area: VhostUserInflight = Checks::<H>::extract_request_body(message)?;
         Ok(Begun::Calls(DeviceCall::SetInflightFd(area)))
     }
@@ -372,7 +373,7 @@ impl<H: Drop, B: Drop, G: Drop> Rows<H, B, G> {
             Checks::<H>::zero(number.value)?;
             return Ok(Begun::Calls(DeviceCall::PostcopyAckMemRegions));
         }
-        Checks::<H>::one_handle(handles, Error::InvalidParam)?;
+        Checks::<H>::one_handle(handles, Refusal::InvalidParam)?;
         let region: VhostUserSingleMemoryRegion = Checks::<H>::extract_request_body(message)?;
         Ok(Begun::Calls(DeviceCall::AddMemRegion(region, session.is_listening())))
     }
@@ -398,10 +399,10 @@ impl<H: Drop, B: Drop, G: Drop> Rows<H, B, G> {
     ) -> Result<Begun<'a>>
         ensures { Begins B G code.SET_DEVICE_STATE_FD _session.now message.now (handles_in handles.now) result }
     {
-        Checks::<H>::one_handle(handles, Error::IncorrectFds)?;
+        Checks::<H>::one_handle(handles, Refusal::IncorrectFds)?;
         let transfer: VhostUserTransferDeviceState = Checks::<H>::extract_request_body(message)?;
         let Some((direction, phase)) = parts(&transfer) else {
-            return Err(Error::InvalidMessage);
+            return Err(Refusal::InvalidMessage);
         };
         Ok(Begun::Calls(DeviceCall::SetDeviceStateFd(direction, phase)))
     }
@@ -423,7 +424,7 @@ impl<H: Drop, B: Drop, G: Drop> Rows<H, B, G> {
         ensures { (hs : List H) → Begins B G code.POSTCOPY_ADVISE session.now _message.now hs result }
     {
         Checks::<H>::check_proto_feature(session, protocol_bit::PAGEFAULT)?;
-        Checks::<H>::allowed(session.is_inactive(), "postcopy already advised")?;
+        Checks::<H>::allowed(session.is_inactive(), Refusal::AlreadyAdvised)?;
         Ok(Begun::Calls(DeviceCall::PostcopyAdvice))
     }
 
@@ -431,7 +432,7 @@ impl<H: Drop, B: Drop, G: Drop> Rows<H, B, G> {
         ensures { (hs : List H) → Begins B G code.POSTCOPY_LISTEN session.now _message.now hs result }
     {
         Checks::<H>::check_proto_feature(session, protocol_bit::PAGEFAULT)?;
-        Checks::<H>::allowed(session.is_advised(), "postcopy not advised")?;
+        Checks::<H>::allowed(session.is_advised(), Refusal::NotAdvised)?;
         Ok(Begun::Calls(DeviceCall::PostcopyListen))
     }
 
@@ -439,7 +440,7 @@ impl<H: Drop, B: Drop, G: Drop> Rows<H, B, G> {
         ensures { (hs : List H) → Begins B G code.POSTCOPY_END session.now _message.now hs result }
     {
         Checks::<H>::check_proto_feature(session, protocol_bit::PAGEFAULT)?;
-        Checks::<H>::allowed(session.is_listening(), "postcopy not listening")?;
+        Checks::<H>::allowed(session.is_listening(), Refusal::NotListening)?;
         Ok(Begun::Calls(DeviceCall::PostcopyEnd))
     }
 }

@@ -25,7 +25,6 @@ impl DeviceCall<'_> {
             DeviceCall::GetQueueNum => Then::Number,
             DeviceCall::GetMaxMemSlots => Then::Number,
             DeviceCall::GetConfig(area) => Then::Config(*area),
-            DeviceCall::SetBackendReqFd => Then::AckTold,
             DeviceCall::GetSharedObject(_) => Then::Handle,
             DeviceCall::GetInflightFd(_) => Then::Inflight,
             DeviceCall::AddMemRegion(region, true) => Then::Base(*region),

@@ -1,8 +1,8 @@
-pub mod Rebasing
-pub mod RingHandles
-pub mod Areas
 pub mod Channels
-pub mod Telling
-pub mod Arms
+pub mod Fitting
+pub mod Finishing
 pub mod Handling
+pub mod Reading
+pub mod Rebasing
 pub mod Sharing
+pub mod BothHalves

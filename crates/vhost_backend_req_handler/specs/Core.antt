@@ -9,7 +9,6 @@ use Rattle.vhost_protocol.specs.DeviceCall.{Call, Answer}
 use Rattle.vhost_protocol.specs.Row.{row_of}
 use Rattle.vhost_protocol.specs.Session.{Session}
 use Rattle.vhost_protocol.specs.Split.{Message}
-use Rattle.vhost_protocol.specs.Step.{Step}
 use Rattle.vhost_link.specs.Law.{Event}
 use Rattle.vhost_link.specs.declared.handle.Kind.{Kind}
 use Rattle.vhost_connection.specs.declared.endpoint.Endpoint.{Endpoint}
@@ -17,11 +16,11 @@ use Rattle.vhost_connection.specs.State.{state}
 use Rattle.vhost_connection.specs.Talk.{State}
 use Rattle.vhost_connection.specs.Calls.{HandsOver}
 use Rattle.vhost_connection.specs.declared.request.Request.{Request}
+use Rattle.vhost_backend_core.specs.Session.{session_of}
 use Rattle.vhost_backend_req_handler.specs.declared.session_core.SessionCore.{SessionCore}
 use Rattle.vhost_backend_req_handler.specs.Opening.{OpensAs}
 use Rattle.vhost_backend_req_handler.specs.Serving.{Answers}
 use Rattle.vhost_connection.specs.Requests.{Reads, IsReady}
-use Rattle.vhost_backend_req_handler.specs.Session.{session_of}
 
 -- its endpoint
 abbrev pub endpoint_of : {L H : Type 0} → SessionCore L H → State L H
@@ -29,28 +28,15 @@ endpoint_of c = state c.endpoint
 
 -- its session
 abbrev pub session_in : {L H : Type 0} → SessionCore L H → Session
-session_in c = session_of c.session
+session_in c = session_of c.server.session
 
 -- a session over another endpoint
 abbrev pub with_endpoint : {L H : Type 0} → SessionCore L H → Endpoint (VhostUserMsgHeader FrontendReq) L H → SessionCore L H
 with_endpoint c endpoint = record c { endpoint = endpoint }
 
-module _ {L H B G Dev : Type 0} (event : L → Event H → L → Type 0) (opens : L → H → Result L IoCause → Type 0) (kinds : H → Result Kind IoCause → Type 0)
-    (gives : Dev → (c : Call H B G) → Answer c → Dev → Type 0) where
-  -- An arm meets the rest of a row: of the message that the request is, over an endpoint that can reply.
-  abbrev pub MeetsStep : (Session → Message FrontendReq H → Step H B G) → FrontendReq → SessionCore L H → Dev → Request FrontendReq → Result ⊤ declared.Error → SessionCore L H → Dev → Type 0
-  MeetsStep step r old d request result new d' = (m : Message FrontendReq H) → Reads old.body.value request m → request.code ≡ r → IsReady (endpoint_of old)
-      → Answers event gives (λ h o. OpensAs opens kinds h o) (λ h o. OpensAs opens kinds h o) r (step (session_in old) m) (endpoint_of old) (session_in old) d result (endpoint_of new) (session_in new) d'
-
-  -- The same where it is given the handles of the message.
-  abbrev pub MeetsStepWith : (Session → Message FrontendReq H → Step H B G) → FrontendReq → SessionCore L H → Dev → Request FrontendReq → Option (Vec H Global) → Result ⊤ declared.Error → SessionCore L H → Dev → Type 0
-  MeetsStepWith step r old d request handles result new d' = (m : Message FrontendReq H) → Reads old.body.value request m → HandsOver handles m.handles → request.code ≡ r → IsReady (endpoint_of old)
-      → Answers event gives (λ h o. OpensAs opens kinds h o) (λ h o. OpensAs opens kinds h o) r (step (session_in old) m) (endpoint_of old) (session_in old) d result (endpoint_of new) (session_in new) d'
-
-  -- An arm meets the row of its code.
-  abbrev pub MeetsRow : FrontendReq → SessionCore L H → Dev → Request FrontendReq → Result ⊤ declared.Error → SessionCore L H → Dev → Type 0
-  MeetsRow r = MeetsStep (row_of r) r
-
-  -- The same where it is given the handles of the message.
-  abbrev pub MeetsRowWith : FrontendReq → SessionCore L H → Dev → Request FrontendReq → Option (Vec H Global) → Result ⊤ declared.Error → SessionCore L H → Dev → Type 0
-  MeetsRowWith r = MeetsStepWith (row_of r) r
+-- A request is answered by its row, of the message that it is with these handles, over an endpoint that can reply.
+abbrev pub MeetsRowWith : {L H B G Dev : Type 0} → (event : L → Event H → L → Type 0) (opens : L → H → Result L IoCause → Type 0) (kinds : H → Result Kind IoCause → Type 0)
+    (gives : Dev → (c : Call H B G) → Answer c → Dev → Type 0)
+    → FrontendReq → SessionCore L H → Dev → Request FrontendReq → Option (Vec H Global) → Result ⊤ declared.Error → SessionCore L H → Dev → Type 0
+MeetsRowWith {H = H} event opens kinds gives r old d request handles result new d' = (m : Message FrontendReq H) → Reads old.body.value request m → HandsOver handles m.handles → request.code ≡ r → IsReady (endpoint_of old)
+    → Answers event gives (λ h o. OpensAs opens kinds h o) (λ h o. OpensAs opens kinds h o) r (row_of r (session_in old) m) (endpoint_of old) (session_in old) d result (endpoint_of new) (session_in new) d'

@@ -1,6 +1,8 @@
-pub mod Session
 pub mod Core
 pub mod Opening
 pub mod Serving
 pub mod Sharing
 pub mod Accepting
+pub mod Calling
+pub mod Sized
+pub mod Halves

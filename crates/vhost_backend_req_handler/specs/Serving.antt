@@ -5,28 +5,18 @@ use Rattle.vhost_message.specs.declared.frontend_req.FrontendReq.{FrontendReq}
 use Rattle.vhost_message.specs.declared.frontend_req.FrontendReq.TheVariants.{GET_FEATURES}
 use Rattle.vhost_message.specs.FrontendReq.{request_of, request_number}
 use Rattle.vhost_protocol.specs.Stream.{Cell}
-use Rattle.vhost_protocol.specs.Error.{Error, seen}
+use Rattle.vhost_protocol.specs.Error.{Error, seen_result}
 use Rattle.vhost_protocol.specs.Codes.{allows_handles}
 use Rattle.vhost_protocol.specs.Session.{Session}
 use Rattle.vhost_protocol.specs.DeviceCall.{Call, Answer}
 use Rattle.vhost_protocol.specs.Handler.{Follows, MeetsRow}
 use Rattle.vhost_protocol.specs.Heard.{AnswerFits}
 use Rattle.vhost_protocol.specs.Served.{Served, reply, cells_of}
-use Rattle.vhost_protocol.specs.Step.{Outcome, Refusal, Step, ◌>>=◌, silently}
+use Rattle.vhost_protocol.specs.Step.{Outcome, Step}
 use Rattle.vhost_link.specs.Law.{Event}
 use Rattle.vhost_connection.specs.Talk.{State}
+use Rattle.vhost_connection.specs.Requests.{Replies, Stops}
 use Rattle.vhost_connection.specs.Serving as serving
-
--- ---- tests
-
--- What a test of the code answered is that test of the table: it refuses in silence.
-abbrev pub tested : {A H : Type 0} → Result A declared.Error → Result A (Refusal H)
-tested (Ok a) = Ok a
-tested (Err e) = Err (silently (seen e))
-
--- a test of the code, and then the rest of the row with what it gave
-abbrev pub goes_on : {A H B G : Type 0} → Result A declared.Error → (A → Step H B G) → Step H B G
-goes_on result next = tested result >>= next
 
 -- ---- replies
 
@@ -83,3 +73,10 @@ module _ {L H B G Dev : Type 0} (event : L → Event H → L → Type 0) (gives 
   -- so many calls, and their answers behind others
   abbrev pub Runs : State L H → Session → Dev → ℕ → List (Result ⊤ declared.Error) → List (Result ⊤ declared.Error) → State L H → Session → Dev → Type 0
   Runs = serving.Runs event request_of allows_handles (λ (t : Session). t.failed) kept_unsent (MeetsRow (fitting gives) opens_backend opens_gpu)
+
+-- ---- what a call became goes out
+
+-- The peer knows, and the session is the new one; or a fault stopped it.
+pub data Finishes {L H : Type 0} (event : L → Event H → L → Type 0) (r : FrontendReq) (o : Outcome H) (old : State L H) (s : Session) : Result ⊤ declared.Error → State L H → Session → Type 0 where
+  finished : {result : Result ⊤ declared.Error} {new : State L H} {s' : Session} → o.answer ≡ seen_result result → Replies event old (reply_cells r o.served) new → s' ≡ o.session → Finishes event r o old s result new s'
+  stopped : {e : declared.Error} {new : State L H} {s' : Session} → Stops event old (reply_cells r o.served) e new → s' ≡ kept_unsent r s o.session → Finishes event r o old s (Err e) new s'

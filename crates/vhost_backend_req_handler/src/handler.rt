@@ -3,7 +3,8 @@
 ghost use Rattle.std.specs.Prelude.{◌≡◌, IfErr, IfOk, Some};
 ghost use Rattle.vhost_message.specs.declared.error.Error.TheVariants.{OutOfMemory};
 
-use crate::session_core::{Header, SessionCore};
+use crate::server::Header;
+use crate::session_core::SessionCore;
 use std::alloc::Global;
 use std::net::Net;
 use std::sync::{Arc, Wait};

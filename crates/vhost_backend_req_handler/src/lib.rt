@@ -2,14 +2,19 @@
 #![tactic(auto)]
 
 mod bases;
+mod calling;
 mod gate;
+mod halves;
 mod handler;
 mod listener;
-mod request;
-mod session;
+mod opening;
+mod server;
 mod session_core;
+mod sizes;
+mod telling;
 
 pub use gate::{Gate, Open};
+pub use halves::halves_law;
 pub use handler::BackendReqHandler;
 pub use listener::BackendListener;
 pub use session_core::SessionCore;

@@ -1,46 +1,33 @@
 //! The session of a handler over any link.
 
-ghost use Rattle.std.specs.Prelude.{◌≡◌, ◌+◌, ◌<◌, Some, None, Err, ℤ, IfOk, IfErr, vec_len, vec_capacity};
+ghost use Rattle.std.specs.Prelude.{◌≡◌, ◌+◌, ◌<◌, false, is_some, Some, None, Err, ℤ, IfOk, IfErr, vec_len, vec_capacity};
 ghost use Rattle.vhost_message.specs.declared.cause.IoCause.TheVariants.{Raw};
 ghost use Rattle.vhost_message.specs.declared.error.Error.TheVariants.{SocketBroken, OutOfMemory};
 ghost use Rattle.vhost_protocol.specs.Session.{fresh as new_session};
 
-use crate::request::Request;
-use crate::session::Session;
+use crate::halves::Pending;
+use crate::server::{Header, Server};
 use std::alloc::Global;
-use vhost_connection::{Body, Endpoint, new_body};
+use vhost_backend_core::{Incoming, Session};
+use vhost_connection::{Body, Endpoint, Request, new_body};
 use vhost_device::VhostUserBackendReqHandlerMut;
 use vhost_link::Link;
-use vhost_message::{Error, FrontendReq, IoCause, Result, VhostUserMsgHeader};
-
-mod channels;
-mod checks;
-mod config;
-mod features;
-mod inflight;
-mod log;
-mod memory;
-mod network;
-mod ownership;
-mod postcopy;
-mod replies;
-mod ring_handles;
-mod rings;
-mod shared;
-mod transfer;
-
-pub(crate) type Header = VhostUserMsgHeader<FrontendReq>;
+use vhost_message::{
+    Error, FrontendReq, IoCause, MAX_MEM_REGIONS, Result, VhostUserMemoryRegion,
+    VhostUserShMemConfig,
+};
 
 /// A handler's session over a link, without its device.
 ///
 /// Mirrors `vhost::vhost_user::BackendReqHandler`, which holds its device behind a lock.
 #[derive(Drop)]
 pub struct SessionCore<L: Link> {
-    endpoint: Endpoint<Header, L>,
-    session: Session,
+    pub(crate) endpoint: Endpoint<Header, L>,
+    pub(crate) server: Server,
     /// The body of the request that is served lies at its start.
-    body: Body,
-    alloc: Global,
+    pub(crate) body: Body,
+    /// The request whose call is to be answered.
+    pub(crate) pending: Option<Pending<L::Handle>>,
 }
 
 impl<L: Link> SessionCore<L> {
@@ -61,6 +48,7 @@ impl<L: Link> SessionCore<L> {
     pub fn new(alloc: Global, link: L, budget: u32) -> Result<Self>
         ensures endpoint { IfOk result (λ c. endpoint_of c ≡ fresh link budget) }
         ensures session { IfOk result (λ c. session_in c ≡ new_session) }
+        ensures idle { IfOk result (λ c. is_some c.pending ≡ false) }
         ensures memory { IfErr result (λ e. e ≡ OutOfMemory) }
     {
         let body = new_body(alloc)?;
@@ -72,12 +60,19 @@ impl<L: Link> SessionCore<L> {
     pub(crate) fn over(alloc: Global, endpoint: Endpoint<Header, L>, body: Body) -> Self
         ensures endpoint { endpoint_of result ≡ state endpoint }
         ensures session { session_in result ≡ new_session }
+        ensures idle { is_some result.pending ≡ false }
     {
+        let server = Server {
+            session: Session::new(),
+            shmem: VhostUserShMemConfig::default(),
+            regions: [VhostUserMemoryRegion::default(); MAX_MEM_REGIONS],
+            alloc,
+        };
         SessionCore {
             endpoint,
-            session: Session::new(),
+            server,
             body,
-            alloc,
+            pending: None,
         }
     }
 
@@ -100,8 +95,9 @@ impl<L: Link> SessionCore<L> {
     pub fn set_failed(&mut self, number: i32)
         ensures endpoint { endpoint_of self.new ≡ endpoint_of self.old }
         ensures session { session_in self.new ≡ record (session_in self.old) { failed = Some number } }
+        ensures pending { self.new.pending ≡ self.old.pending }
     {
-        let session = &mut self.session;
+        let session = &mut self.server.session;
         session.failed = Some(number);
     }
 
@@ -121,9 +117,10 @@ impl<L: Link> SessionCore<L> {
         ensures handled { (session_in self.old).failed ≡ None
             → HandlesOne L.event D.gives (λ h o. OpensAs L.opens L.Handle.kinds h o) (λ h o. OpensAs L.opens L.Handle.kinds h o) (endpoint_of self.old) (session_in self.old) device.old result (endpoint_of self.new) (session_in self.new) device.new }
     {
-        if let Some(number) = self.session.failed {
+        if let Some(number) = self.server.session.failed {
             return Err(Error::SocketBroken(IoCause::Raw(number)));
         }
+        self.pending = None;
         let (request, mut handles) = self.endpoint.recv_request(&mut self.body[..])?;
         self.answer(device, request, &mut handles)
     }
@@ -160,69 +157,22 @@ impl<L: Link> SessionCore<L> {
         &mut self.endpoint
     }
 
-    /// Answers a request that was read, by the handling rule of its code. It may move the descriptors out.
-    #[tactic(auto, using(crate::proofs::Arms::refused))]
+    /// Answers a request that was read, by its handling rule. It may move the descriptors out.
     fn answer<D: VhostUserBackendReqHandlerMut<Link = L>>(
         &mut self,
         device: &mut D,
-        request: Request,
+        request: Request<FrontendReq>,
         handles: &mut Option<Vec<L::Handle>>,
     ) -> Result<()>
         ensures { MeetsRowWith L.event L.opens L.Handle.kinds D.gives request.code self.old device.old request handles.old result self.new device.new }
     {
-        match request.code {
-            FrontendReq::GET_FEATURES => self.get_features(device, request),
-            FrontendReq::SET_FEATURES => self.set_features(device, request),
-            FrontendReq::SET_OWNER => self.set_owner(device, request),
-            FrontendReq::RESET_OWNER => self.reset_owner(device, request),
-            FrontendReq::SET_MEM_TABLE => self.set_mem_table(device, request, handles.take()),
-            FrontendReq::SET_LOG_BASE => self.set_log_base(device, request, handles.take()),
-            FrontendReq::SET_VRING_NUM => self.set_vring_num(device, request),
-            FrontendReq::SET_VRING_ADDR => self.set_vring_addr(device, request),
-            FrontendReq::SET_VRING_BASE => self.set_vring_base(device, request),
-            FrontendReq::GET_VRING_BASE => self.get_vring_base(device, request),
-            FrontendReq::SET_VRING_KICK => self.set_vring_kick(device, request, handles.take()),
-            FrontendReq::SET_VRING_CALL => self.set_vring_call(device, request, handles.take()),
-            FrontendReq::SET_VRING_ERR => self.set_vring_err(device, request, handles.take()),
-            FrontendReq::GET_PROTOCOL_FEATURES => self.get_protocol_features(device, request),
-            FrontendReq::SET_PROTOCOL_FEATURES => self.set_protocol_features(device, request),
-            FrontendReq::GET_QUEUE_NUM => self.get_queue_num(device, request),
-            FrontendReq::SET_VRING_ENABLE => self.set_vring_enable(device, request),
-            FrontendReq::NET_SET_MTU => self.net_set_mtu(device, request),
-            FrontendReq::GET_CONFIG => self.get_config(device, request),
-            FrontendReq::SET_CONFIG => self.set_config(device, request),
-            FrontendReq::POSTCOPY_ADVISE => self.postcopy_advise(device, request),
-            FrontendReq::POSTCOPY_LISTEN => self.postcopy_listen(device, request),
-            FrontendReq::POSTCOPY_END => self.postcopy_end(device, request),
-            FrontendReq::GET_INFLIGHT_FD => self.get_inflight_fd(device, request),
-            FrontendReq::SET_INFLIGHT_FD => self.set_inflight_fd(device, request, handles.take()),
-            FrontendReq::SET_BACKEND_REQ_FD => self.set_backend_req_fd(
-                device,
-                request,
-                handles.take(),
-            ),
-            FrontendReq::GPU_SET_SOCKET => self.gpu_set_socket(device, request, handles.take()),
-            FrontendReq::RESET_DEVICE => self.reset_device(device, request),
-            FrontendReq::GET_MAX_MEM_SLOTS => self.get_max_mem_slots(device, request),
-            FrontendReq::ADD_MEM_REG => self.add_mem_reg(device, request, handles.take()),
-            FrontendReq::REM_MEM_REG => self.rem_mem_reg(device, request),
-            FrontendReq::GET_SHARED_OBJECT => self.get_shared_object(device, request),
-            FrontendReq::SET_DEVICE_STATE_FD => self.set_device_state_fd(
-                device,
-                request,
-                handles.take(),
-            ),
-            FrontendReq::CHECK_DEVICE_STATE => self.check_device_state(device, request),
-            FrontendReq::GET_SHMEM_CONFIG => self.get_shmem_config(device, request),
-            FrontendReq::SET_LOG_FD
-            | FrontendReq::SEND_RARP
-            | FrontendReq::IOTLB_MSG
-            | FrontendReq::SET_VRING_ENDIAN
-            | FrontendReq::CREATE_CRYPTO_SESSION
-            | FrontendReq::CLOSE_CRYPTO_SESSION
-            | FrontendReq::VRING_KICK
-            | FrontendReq::SET_STATUS
-            | FrontendReq::GET_STATUS => Err(Error::InvalidMessage),
-        }
+        let message = Incoming::new(
+            request.code,
+            request.reply,
+            request.need_reply,
+            &self.body[..request.len],
+        );
+        self.server
+            .serve(&mut self.endpoint, device, &message, handles)
     }
 }

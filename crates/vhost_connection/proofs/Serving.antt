@@ -1,5 +1,5 @@
 -- A message was read, and then it was answered, whichever side is served.
-use Rattle.std.proofs.Common.{◌≡◌, ℕ, ◌+◌, Bool, false, List, [], Option, None, Result, Ok, Err, inl, inr, ◌⊎◌, refl, sym, ap, subst, ◌∙◌, arith}
+use Rattle.std.proofs.Common.{◌≡◌, ℕ, ◌+◌, Bool, false, List, [], Option, None, Some, Result, Ok, Err, inl, inr, ◌⊎◌, refl, sym, ap, subst, ◌∙◌, arith}
 use Rattle.std.specs.Prelude.{⊤, ℤ, Vec, IsErrAnd, not}
 use Rattle.std.specs.Global.{Global}
 use Rattle.std.proofs.lemmas.List.{append-nil}
@@ -56,6 +56,20 @@ module _ {L H : Type 0} (event : L → Event H → L → Type 0) where
   pub stops-told : (old new : State L H) (cells : List (Cell H)) (e : declared.Error) → Tells event old cells (Ok tt) (Err e) new → Stops event old cells e new
   stops-told old new cells e (requests.whole is p) = absurd (cc is)
   stops-told old new cells e (requests.stopped p) = p
+
+-- the same bytes and handles are one message
+same_handles : {H : Type 0} (given : Option (Vec H Global)) (hs others : List H) → HandsOver given hs → HandsOver given others → hs ≡ others
+same_handles None hs others a b = a ∙ sym b
+same_handles (Some v) hs others a b = sym a.0 ∙ b.0
+
+pub same_message : {R H : Type 0} (bytes : List ℕ) (request : Request R) (given : Option (Vec H Global)) (m n : Message R H) → Reads bytes request m → Reads bytes request n → HandsOver given m.handles → HandsOver given n.handles → m ≡ n
+same_message bytes request given m n a b over again =
+    let code = sym a.code ∙ b.code in
+    let reply = sym a.reply ∙ b.reply in
+    let need = sym a.need_reply ∙ b.need_reply in
+    let body = sym a.body ∙ b.body in
+    let hands = same_handles given m.handles n.handles over again in
+    λ j. record { request = code j; reply = reply j; need_reply = need j; body = body j; handles = hands j }
 
 -- an endpoint that has heard a message can reply to it
 is-ready : {L H A : Type 0} {event : L → Event H → L → Type 0} {cut : List (Cell H) → A × List (Cell H)} {old new : State L H} {o : A} → Hears event cut old o new → IsReady new

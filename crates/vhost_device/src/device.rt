@@ -2,7 +2,8 @@
 
 ghost use Rattle.vhost_backend_req.specs.declared.backend.Backend.{Backend};
 ghost use Rattle.vhost_gpu_backend_req.specs.declared.backend.GpuBackend.{GpuBackend};
-ghost use Rattle.vhost_device.specs.Answers.{seen_bases, seen_bits, seen_bytes};
+ghost use Rattle.vhost_backend_core.specs.Concluding.{seen_bases, seen_bytes};
+ghost use Rattle.vhost_device.specs.Answers.{seen_bits};
 ghost use Rattle.vhost_message.specs.FlagBits.{config_bits, vring_addr_bits};
 ghost use Rattle.vhost_message.specs.Transfer.{direction_number, phase_number};
 ghost use Rattle.vhost_protocol.specs.DeviceCall.{Call, Answer, SetOwner, ResetOwner, ResetDevice, GetFeatures, SetFeatures, SetMemTable, SetVringNum, SetVringAddr, SetVringBase, GetVringBase, SetVringKick, SetVringCall, SetVringErr, GetProtocolFeatures, SetProtocolFeatures, GetQueueNum, SetVringEnable, GetConfig, SetConfig, SetBackendReqFd, SetGpuSocket, GetSharedObject, GetInflightFd, SetInflightFd, GetMaxMemSlots, AddMemRegion, RemoveMemRegion, SetDeviceStateFd, CheckDeviceState, GetShmemConfig, PostcopyAdvice, PostcopyListen, PostcopyEnd, PostcopyAckMemRegions, SetLogBase, SetMtu};

@@ -1,5 +1,6 @@
 -- The device was asked, or not, and then the peer was told, or not.
 use Rattle.std.proofs.Common.{◌≡◌, ℕ, ◌<◌, ◌^◌, Bool, false, ◌&&◌, List, [], Result, Ok, Err, refl, sym, ◌∙◌, ap, subst}
+use Rattle.std.specs.Prelude.{⊤, if◌then◌else◌}
 use Rattle.vhost_message.specs.BackendReq.{backend_request_number}
 use Rattle.vhost_message.specs.declared.backend_req.BackendReq.{BackendReq}
 use Rattle.vhost_message.specs.declared.error.Error as declared
@@ -8,8 +9,10 @@ use Rattle.vhost_message.specs.declared.io_error.IoError as io
 use Rattle.vhost_protocol.specs.Error.{InvalidMessage, seen_result}
 use Rattle.vhost_protocol.specs.IoError.{IoError, Of, seen_io_result}
 use Rattle.vhost_protocol.specs.Reverse.{ReverseCall, ReverseFollows, ReverseMeets, ReverseOutcome, ReverseStep, Server, handed_on, number_back, result_number, reverse_row_of, with_number}
-use Rattle.vhost_protocol.specs.Served.{Silent, reply, cells_of}
+use Rattle.vhost_protocol.specs.Served.{Silent, Replied, reply, cells_of}
 use Rattle.vhost_protocol.specs.Split.{Message}
+use Rattle.vhost_protocol.specs.Stream.{Cell}
+use Rattle.vhost_protocol.specs.Written.{U64}
 use Rattle.vhost_link.specs.Law.{Event}
 use Rattle.vhost_connection.specs.Talk.{State}
 use Rattle.vhost_connection.specs.Requests as requests
@@ -17,18 +20,29 @@ use Rattle.vhost_connection.specs.Requests.{IsReady, Reads, Tells}
 use Rattle.vhost_connection.specs.declared.request.Request.{Request}
 use Rattle.vhost_frontend_req_handler.specs.declared.asked.Asked.TheVariants.{Answered, BadBody, Unserved}
 use Rattle.vhost_frontend_req_handler.specs.Core as core
-use Rattle.vhost_frontend_req_handler.specs.Core.{Asks}
+use Rattle.vhost_frontend_req_handler.specs.Core.{Asks, number_cells}
 use Rattle.vhost_frontend_req_handler.specs.Handling.{fitting}
 use Rattle.vhost_connection.specs.Serving as serving
 use Rattle.vhost_connection.specs.Serving.{Answers}
 use Rattle.vhost_connection.proofs.Serving.{none-sent, replies-told, stops-told}
 
 -- no number is wanted
-pub unwanted : {L H : Type 0} {event : L → Event H → L → Type 0} {old : State L H} {bytes : List ℕ} {request : Request BackendReq} (s : Server) (m : Message BackendReq H) (answer : Result ℕ IoError) → Reads bytes request m → IsReady old
-    → {said : Bool} → said ≡ (s.reply_ack && request.need_reply) → said ≡ false → Tells event old (cells_of backend_request_number (reply m.request (number_back s m answer))) (Ok tt) (Ok tt) old
-unwanted {event = event} s m answer reads ready is off =
-    let no : (s.reply_ack && m.need_reply) ≡ false = ap (λ x. s.reply_ack && x) (sym reads.need_reply) ∙ sym is ∙ off in
+pub unwanted : {L H : Type 0} {event : L → Event H → L → Type 0} {old : State L H} (s : Server) (request : Request BackendReq) (answer : Result ℕ IoError) → IsReady old
+    → {said : Bool} → said ≡ (s.reply_ack && request.need_reply) → said ≡ false → Tells event old (number_cells s request answer) (Ok tt) (Ok tt) old
+unwanted {event = event} s request answer ready is off =
+    let no : (s.reply_ack && request.need_reply) ≡ false = sym is ∙ off in
     rw (no) (requests.whole refl (none-sent event _ ready))
+
+-- what goes back is what the row of the message says
+pub cells_as : {H : Type 0} (s : Server) (request : Request BackendReq) (m : Message BackendReq H) (a : Result ℕ IoError) (bytes : List ℕ) → Reads bytes request m
+    → number_cells s request a ≡ cells_of backend_request_number (reply m.request (number_back s m a))
+cells_as {H = H} s request m a bytes reads =
+    ap (λ (need : Bool). cells_of {H = H} backend_request_number (reply request.code (if s.reply_ack && need then Replied (U64 (result_number a)) [] else Silent))) reads.need_reply
+    ∙ ap (λ (r : BackendReq). cells_of backend_request_number (reply r (number_back s m a))) reads.code
+
+pub told_as : {L H : Type 0} {event : L → Event H → L → Type 0} {old new : State L H} {result : Result ⊤ declared.Error} (s : Server) (request : Request BackendReq) (m : Message BackendReq H) (a : Result ℕ IoError) (bytes : List ℕ) → Reads bytes request m
+    → Tells event old (number_cells s request a) (Ok tt) result new → Tells event old (cells_of backend_request_number (reply m.request (number_back s m a))) (Ok tt) result new
+told_as {event = event} {old = old} {new = new} {result = result} s request m a bytes reads told = subst (λ (cells : List (Cell _)). Tells event old cells (Ok tt) result new) (cells_as s request m a bytes reads) told
 
 module _ {L H Dev : Type 0} (event : L → Event H → L → Type 0) (gives : Dev → ReverseCall H → Result ℕ IoError → Dev → Type 0) where
   -- a row of the message's code that is this step

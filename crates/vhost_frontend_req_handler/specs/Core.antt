@@ -11,6 +11,7 @@ use Rattle.vhost_protocol.specs.IoError.{IoError, Of, seen_io_result}
 use Rattle.vhost_protocol.specs.Reverse.{ReverseCall, ReverseStep, Refused, Calls, ReverseMeets, Server, bad_body, number_back, result_number, reverse_row_of, with_number}
 use Rattle.vhost_protocol.specs.Served.{reply, cells_of}
 use Rattle.vhost_protocol.specs.Split.{Message}
+use Rattle.vhost_protocol.specs.Stream.{Cell}
 use Rattle.vhost_link.specs.Law.{Event}
 use Rattle.vhost_connection.specs.declared.endpoint.Endpoint.{Endpoint}
 use Rattle.vhost_connection.specs.declared.request.Request.{Request}
@@ -20,7 +21,11 @@ use Rattle.vhost_connection.specs.Calls.{HandsOver}
 use Rattle.vhost_connection.specs.Requests.{Reads, IsReady, Tells}
 use Rattle.vhost_frontend_req_handler.specs.declared.asked.Asked.{Asked}
 use Rattle.vhost_frontend_req_handler.specs.declared.asked.Asked.TheVariants.{Answered, BadBody, Unserved}
+use Rattle.vhost_frontend_req_handler.specs.declared.call.Begun.{Begun}
+use Rattle.vhost_frontend_req_handler.specs.declared.call.Begun.TheVariants as begun
+use Rattle.vhost_frontend_req_handler.specs.declared.call.FrontendSideCall.{FrontendSideCall}
 use Rattle.vhost_frontend_req_handler.specs.declared.req_core.FrontendReqCore.{FrontendReqCore}
+use Rattle.vhost_frontend_req_handler.specs.Calling.{call_in}
 use Rattle.vhost_frontend_req_handler.specs.Handling.{fitting}
 use Rattle.vhost_connection.specs.Serving.{Answers}
 
@@ -51,19 +56,34 @@ pub data Asks {H Dev : Type 0} (gives : Dev → ReverseCall H → Result ℕ IoE
   is_bad : step ≡ bad_body → Asks gives s m step d BadBody d
   is_unserved : step ≡ unserved s m → Asks gives s m step d Unserved d
 
-module _ {L H Dev : Type 0} (gives : Dev → ReverseCall H → Result ℕ IoError → Dev → Type 0) where
-  -- An arm follows the row of its code so far: of the message that the request is.
-  abbrev pub AsksRow : BackendReq → FrontendReqCore L H → Dev → Request BackendReq → Asked → Dev → Type 0
-  AsksRow r c d request asked d' = (m : Message BackendReq H) → Reads c.body.value request m → Asks gives (server_in c) m (reverse_row_of r (server_in c) m) d asked d'
+-- What a request becomes, by its row.
+pub data Begins {H : Type 0} (s : Server) (m : Message BackendReq H) (step : ReverseStep H) : Begun H → Type 0 where
+  calls : (c : FrontendSideCall H) → step ≡ Calls (call_in c) (with_number s m) → Begins s m step (begun.Calls c)
+  is_bad : step ≡ bad_body → Begins s m step begun.BadBody
+  is_unserved : step ≡ unserved s m → Begins s m step begun.Unserved
 
-  -- The same where it is given the handles of the message.
+-- the same of a request that was read, and where it is given the handles of the message
+abbrev pub BeginsRow : {L H : Type 0} → BackendReq → FrontendReqCore L H → Request BackendReq → Begun H → Type 0
+BeginsRow {H = H} r c request b = (m : Message BackendReq H) → Reads c.body.value request m → Begins (server_in c) m (reverse_row_of r (server_in c) m) b
+
+abbrev pub BeginsRowWith : {L H : Type 0} → BackendReq → FrontendReqCore L H → Request BackendReq → Option (Vec H Global) → Begun H → Type 0
+BeginsRowWith {H = H} r c request handles b = (m : Message BackendReq H) → Reads c.body.value request m → HandsOver handles m.handles → Begins (server_in c) m (reverse_row_of r (server_in c) m) b
+
+module _ {L H Dev : Type 0} (gives : Dev → ReverseCall H → Result ℕ IoError → Dev → Type 0) where
+  -- A request follows the row of its code up to the device's answer: of the message that it is, with these handles.
   abbrev pub AsksRowWith : BackendReq → FrontendReqCore L H → Dev → Request BackendReq → Option (Vec H Global) → Asked → Dev → Type 0
   AsksRowWith r c d request handles asked d' = (m : Message BackendReq H) → Reads c.body.value request m → HandsOver handles m.handles → Asks gives (server_in c) m (reverse_row_of r (server_in c) m) d asked d'
 
--- The number that stands for an answer goes back, where the message wants it.
+-- what goes back to a request for an answer: of its message, the code and the flags count
+abbrev pub number_cells : {H : Type 0} → Server → Request BackendReq → Result ℕ IoError → List (Cell H)
+number_cells s request a =
+    let m : Message BackendReq _ = record { request = request.code; reply = request.reply; need_reply = request.need_reply; body = []; handles = [] } in
+    cells_of backend_request_number (reply request.code (number_back s m a))
+
+-- The number that stands for an answer goes back, where the request wants it.
 abbrev pub Acknowledges : {L H : Type 0} → (L → Event H → L → Type 0) → FrontendReqCore L H → Request BackendReq → ℕ → Result ⊤ declared.Error → FrontendReqCore L H → Type 0
-Acknowledges {H = H} event old request number result new = (m : Message BackendReq H) (answer : Result ℕ IoError) → Reads old.body.value request m → IsReady (endpoint_of old) → number ≡ result_number answer
-    → Tells event (endpoint_of old) (cells_of backend_request_number (reply m.request (number_back (server_in old) m answer))) (Ok tt) result (endpoint_of new)
+Acknowledges event old request number result new = (answer : Result ℕ IoError) → IsReady (endpoint_of old) → number ≡ result_number answer
+    → Tells event (endpoint_of old) (number_cells (server_in old) request answer) (Ok tt) result (endpoint_of new)
 
 -- A request meets its row: the message that it is, over an endpoint that can reply.
 abbrev pub MeetsRow : {L H Dev : Type 0} → (L → Event H → L → Type 0) → (Dev → ReverseCall H → Result ℕ IoError → Dev → Type 0)

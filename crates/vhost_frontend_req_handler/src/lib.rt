@@ -2,6 +2,7 @@
 #![tactic(auto)]
 
 mod asked;
+mod call;
 mod device;
 mod handler;
 mod lock;
@@ -10,7 +11,8 @@ mod req_core;
 mod shared;
 mod shared_frontend;
 
+pub use call::{FrontendSideCall, call_device};
 pub use device::VhostUserFrontendReqHandlerMut;
 pub use handler::FrontendReqHandler;
-pub use req_core::FrontendReqCore;
+pub use req_core::{FrontendReqCore, halves_law};
 pub use shared::VhostUserFrontendReqHandler;

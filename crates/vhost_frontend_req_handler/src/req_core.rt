@@ -1,10 +1,11 @@
 //! The frontend's side of the backend channel over any link.
 
-ghost use Rattle.std.specs.Prelude.{◌≡◌, ◌≢◌, ◌+◌, ◌<◌, ◌&&◌, ℤ, pos, Some, None, Err, false, IfOk, IfErr, vec_len, vec_capacity};
+ghost use Rattle.std.specs.Prelude.{◌≡◌, ◌≢◌, ◌+◌, ◌<◌, ◌&&◌, ℤ, pos, Some, None, Err, is_some, false, IfOk, IfErr, vec_len, vec_capacity};
 ghost use Rattle.vhost_message.specs.declared.cause.IoCause.TheVariants.{Raw};
 ghost use Rattle.vhost_message.specs.declared.error.Error.TheVariants.{SocketBroken, OutOfMemory};
 
 use crate::asked::Asked;
+use crate::call::{Begun, call_device};
 use crate::device::VhostUserFrontendReqHandlerMut;
 use crate::numbers::{EINVAL, hand_on, number_of};
 use std::alloc::Global;
@@ -12,7 +13,10 @@ use vhost_connection::{Body, Endpoint, new_body};
 use vhost_link::Link;
 use vhost_message::{BackendReq, Error, IoCause, Result, VhostUserMsgHeader, VhostUserU64};
 
+mod halves;
 mod rows;
+
+pub use halves::halves_law;
 
 type Header = VhostUserMsgHeader<BackendReq>;
 
@@ -31,6 +35,8 @@ pub struct FrontendReqCore<L: Link> {
     failed: Option<i32>,
     /// The body of the request that is served lies at its start.
     body: Body,
+    /// The request whose call is to be answered, if any.
+    pending: Option<Request>,
 }
 
 impl<L: Link> FrontendReqCore<L> {
@@ -40,7 +46,7 @@ impl<L: Link> FrontendReqCore<L> {
     ghost use Rattle.vhost_message.specs.contracts.backend_req.BackendReq.{the_row as code_row};
     ghost use Rattle.vhost_message.specs.contracts.header.VhostUserMsgHeader.{the_row as header_row};
     ghost use Rattle.vhost_frontend_req_handler.specs.contracts.req_core.FrontendReqCore.{the_row};
-    ghost use Rattle.vhost_frontend_req_handler.specs.Core.{endpoint_of, server_in, with_endpoint, MeetsRow, Acknowledges};
+    ghost use Rattle.vhost_frontend_req_handler.specs.Core.{endpoint_of, server_in, with_endpoint, AsksRowWith, MeetsRow, Acknowledges};
     ghost use Rattle.vhost_frontend_req_handler.specs.Handling.{HandlesOne, Runs};
 
     /// The frontend's side over a link, without acknowledgements. Each message may use at most so many retries.
@@ -49,6 +55,7 @@ impl<L: Link> FrontendReqCore<L> {
     pub fn new(alloc: Global, rx: L, budget: u32) -> Result<Self>
         ensures endpoint { IfOk result (λ c. endpoint_of c ≡ fresh rx budget) }
         ensures server { IfOk result (λ c. server_in c ≡ record { reply_ack = false; failed = None }) }
+        ensures idle { IfOk result (λ c. is_some c.pending ≡ false) }
         ensures memory { IfErr result (λ e. e ≡ OutOfMemory) }
     {
         let body = new_body(alloc)?;
@@ -57,6 +64,7 @@ impl<L: Link> FrontendReqCore<L> {
             reply_ack: false,
             failed: None,
             body,
+            pending: None,
         })
     }
 
@@ -71,6 +79,7 @@ impl<L: Link> FrontendReqCore<L> {
     pub fn set_reply_ack_flag(&mut self, enable: bool)
         ensures endpoint { endpoint_of self.new ≡ endpoint_of self.old }
         ensures server { server_in self.new ≡ record (server_in self.old) { reply_ack = enable } }
+        ensures pending { self.new.pending ≡ self.old.pending }
     {
         self.reply_ack = enable;
     }
@@ -81,6 +90,7 @@ impl<L: Link> FrontendReqCore<L> {
         ensures endpoint { endpoint_of self.new ≡ endpoint_of self.old }
         ensures cleared { error ≡ pos 0 → server_in self.new ≡ record (server_in self.old) { failed = None } }
         ensures marked { error ≢ pos 0 → server_in self.new ≡ record (server_in self.old) { failed = Some error } }
+        ensures pending { self.new.pending ≡ self.old.pending }
     {
         self.failed = if error == 0 { None } else { Some(error) };
     }
@@ -104,6 +114,7 @@ impl<L: Link> FrontendReqCore<L> {
         if let Some(number) = self.failed {
             return Err(Error::SocketBroken(IoCause::Raw(number)));
         }
+        self.pending = None;
         let (request, handles) = self.endpoint.recv_request(&mut self.body[..])?;
         self.answer(device, request, handles)
     }
@@ -162,10 +173,27 @@ impl<L: Link> FrontendReqCore<L> {
         }
     }
 
+    /// What became of a request that was read.
+    fn ask<D: VhostUserFrontendReqHandlerMut<Handle = L::Handle>>(
+        &self,
+        device: &mut D,
+        request: Request,
+        handles: Option<Vec<L::Handle>>,
+    ) -> Asked
+        ensures { AsksRowWith D.gives request.code self.now device.old request handles result device.new }
+    {
+        match self.begun(request, handles) {
+            Begun::Calls(call) => Asked::Answered(call_device(device, call)),
+            Begun::BadBody => Asked::BadBody,
+            Begun::Unserved => Asked::Unserved,
+        }
+    }
+
     /// Acknowledges a request by a number, where it asks for it and acknowledgements are on.
     fn acknowledge(&mut self, request: Request, number: u64) -> Result<()>
         ensures acknowledges { Acknowledges L.event self.old request number result self.new }
         ensures server { server_in self.new ≡ server_in self.old }
+        ensures pending { self.new.pending ≡ self.old.pending }
     {
         if !self.acknowledges(request) {
             return Ok(());

@@ -15,7 +15,8 @@ use Rattle.vhost_protocol.specs.Features.{PROTOCOL_FEATURES}
 use Rattle.vhost_protocol.specs.FrontendCall.{FrontendCall, GetFeatures, SetHdrFlags, Value, Number, Frontend}
 use Rattle.vhost_protocol.specs.Handler.{Follows, Meets}
 use Rattle.vhost_protocol.specs.Joined.{Shown, Exchanges, JoinedStep, read_as}
-use Rattle.vhost_protocol.specs.Row.{row, with_features}
+use Rattle.vhost_protocol.specs.Answered.{with_features}
+use Rattle.vhost_protocol.specs.Row.{row}
 use Rattle.vhost_protocol.specs.Served.{Served}
 use Rattle.vhost_protocol.specs.Session.{Session}
 use Rattle.vhost_protocol.specs.Step.{Outcome}

@@ -33,7 +33,8 @@ use Rattle.vhost_protocol.specs.Error.{Error, InvalidMessage, InactiveFeature, B
 use Rattle.vhost_protocol.specs.Features.{PROTOCOL_FEATURES, REPLY_ACK}
 use Rattle.vhost_protocol.specs.FrontendCall.{FrontendCall, GetFeatures, SetFeatures, GetProtocolFeatures, SetProtocolFeatures, GetQueueNum, SetMemTable, SetLogBase, SetLogFd, SetVringCall, SetVringKick, SetVringErr, GetVringBase, GetConfig, GetSharedObject, GetInflightFd, GetMaxMemSlots, AddMemRegion, GetShmemConfig, SetDeviceStateFd, CheckDeviceState, PostcopyAdvise, PostcopyListen, PostcopyEnd, PostcopyAckMemRegions, SetHdrFlags, Info, LogRegion, Number, Frontend}
 use Rattle.vhost_protocol.specs.Joined.{AgreeOn, is_end, read_as}
-use Rattle.vhost_protocol.specs.Row.{row, body, always, if_agreed, channel, is_valid_table, mapped_row, table, rebased, with_features, with_handle, with_inflight, with_state, with_check, with_config, with_base, with_bases}
+use Rattle.vhost_protocol.specs.Answered.{if_agreed, rebased, with_features, with_handle, with_inflight, with_state, with_check, with_config, with_base, with_bases}
+use Rattle.vhost_protocol.specs.Row.{row, body, always, channel, is_valid_table, mapped_row, table}
 use Rattle.vhost_protocol.specs.Served.{Silent, Acknowledged}
 use Rattle.vhost_protocol.specs.Session.{Session, ack_on, is_listen}
 use Rattle.vhost_protocol.specs.Step as step
@@ -337,7 +338,7 @@ module _ (H B G : Type 0) where
   known-plain call f s r payload handles A a agree on same = known-ack (Option A) call f s (message f r payload handles) a (ack-agrees f s agree on) refl (λ h. subst (λ x. AgreeOn x s) (sym same) agree) (λ h last. agree)
 
   known-bases : (f : Frontend) (s : Session) (infos : List (Info H)) (payload : Payload) (handles : List H) (a : Result (Option (List ℕ)) Error) → AgreeOn f s
-      → IsKnown (SetMemTable infos) (Reply shape.Memory) f SET_MEM_TABLE (with_bases s (read_as (quietly f SET_MEM_TABLE payload handles)) a)
+      → IsKnown (SetMemTable infos) (Reply shape.Memory) f SET_MEM_TABLE (with_bases s (read_as (quietly f SET_MEM_TABLE payload handles)) (table (read_as (quietly f SET_MEM_TABLE payload handles))) a)
   known-bases f s infos payload handles (Ok (Some bases)) agree = go (length bases == length (table m))
     where
       m : Message FrontendReq H
@@ -371,7 +372,7 @@ module _ (H B G : Type 0) where
       sent b = cond b (asks_quietly f SET_MEM_TABLE payload (handles_in infos) shape.Memory) (sends f SET_MEM_TABLE payload (handles_in infos))
 
       listening : Message FrontendReq H → Bool → Step H B G
-      listening m b = cond (b && length m.body == 8) (mapped_row s m) (step.◌>>◌ (test (is_valid_table m) (acknowledged s m InvalidMessage)) (cond b (Calls (device.SetMemTable (table m) m.handles (Some true)) (with_bases s m)) (Calls (device.SetMemTable (table m) m.handles (Some false)) (with_ack s m))))
+      listening m b = cond (b && length m.body == 8) (mapped_row s m) (step.◌>>◌ (test (is_valid_table m) (acknowledged s m InvalidMessage)) (cond b (Calls (device.SetMemTable (table m) m.handles (Some true)) (with_bases s m (table m))) (Calls (device.SetMemTable (table m) m.handles (Some false)) (with_ack s m))))
 
       aloud : Message FrontendReq H
       aloud = read_as (message f SET_MEM_TABLE payload (handles_in infos))
@@ -410,7 +411,7 @@ module _ (H B G : Type 0) where
       m = read_as (quietly f SET_MEM_TABLE (U64 0) [])
 
       listening : Bool → Step H B G
-      listening b = cond (b && true) (mapped_row s m) (step.◌>>◌ (test (is_valid_table m) (acknowledged s m InvalidMessage)) (cond b (Calls (device.SetMemTable (table m) m.handles (Some true)) (with_bases s m)) (Calls (device.SetMemTable (table m) m.handles (Some false)) (with_ack s m))))
+      listening b = cond (b && true) (mapped_row s m) (step.◌>>◌ (test (is_valid_table m) (acknowledged s m InvalidMessage)) (cond b (Calls (device.SetMemTable (table m) m.handles (Some true)) (with_bases s m (table m))) (Calls (device.SetMemTable (table m) m.handles (Some false)) (with_ack s m))))
 
       dropped : (A : Type 0) (a : Result A Error) → IsKnown {H = H} (PostcopyAckMemRegions SET_MEM_TABLE) Nobody f SET_MEM_TABLE (with_ack s m a)
       dropped A (Ok x) = known-hushed_ack (PostcopyAckMemRegions SET_MEM_TABLE) f s SET_MEM_TABLE (U64 0) [] (Ok tt) agree refl

@@ -37,7 +37,8 @@ use Rattle.vhost_message.specs.declared.records.memory.VhostUserSingleMemoryRegi
 use Rattle.vhost_message.specs.Records.{log_of, log_text, single_region, single_region_of, single_region_text, memory_of, regions_of, region_text, config_of}
 use Rattle.vhost_message.specs.Valid.{is_valid_log, is_valid_config}
 use Rattle.vhost_protocol.specs.Joined.{read_as}
-use Rattle.vhost_protocol.specs.Row.{row, is_bare, is_valid_area, mapped_row, table, is_valid_table, rebased, with_base, with_bases, with_config, channel, with_features, with_handle, with_inflight, with_state, with_check}
+use Rattle.vhost_protocol.specs.Answered.{rebased, with_base, with_bases, with_config, with_features, with_handle, with_inflight, with_state, with_check}
+use Rattle.vhost_protocol.specs.Row.{row, is_bare, is_valid_area, mapped_row, table, is_valid_table, channel}
 use Rattle.vhost_protocol.specs.Served.{Silent, Acknowledged, Replied}
 use Rattle.vhost_protocol.specs.Session.{Session, ack_on, is_listen}
 use Rattle.vhost_protocol.specs.Split.{Message}
@@ -256,7 +257,7 @@ module _ (H B G : Type 0) where
 
   -- the regions come back with the device's bases
   good-table : (s : Session) (infos : List (Info H)) (m : Message FrontendReq H) → table m ≡ regions_in infos → 1 ≤ length infos → length infos ≤ MAX_MEM_REGIONS → All RegionFits (regions_in infos)
-      → (a : Result (Option (List ℕ)) Error) → IfOk a (λ o. IfSome o (λ bases. All (λ base. base < 2 ^ 64) bases)) → IsGoodReply (SetMemTable infos) (with_bases s m a).served
+      → (a : Result (Option (List ℕ)) Error) → IfOk a (λ o. IfSome o (λ bases. All (λ base. base < 2 ^ 64) bases)) → IsGoodReply (SetMemTable infos) (with_bases s m (table m) a).served
   good-table s infos m same least most fits (Ok (Some bases)) small = go (length bases == length (table m)) refl
     where
       sizes : length (regions_in infos) ≡ length infos
@@ -295,7 +296,7 @@ module _ (H B G : Type 0) where
           few : length (regions_in infos) ≤ MAX_MEM_REGIONS
           few = omega (arith, length-map infos (λ info. info.region), most)
 
-          bases-good : (a : Result (Option (List ℕ)) Error) → IfOk a (λ o. IfSome o (λ bases. All (λ base. base < 2 ^ 64) bases)) → IsGoodReply (SetMemTable infos) (with_bases s m a).served
+          bases-good : (a : Result (Option (List ℕ)) Error) → IfOk a (λ o. IfSome o (λ bases. All (λ base. base < 2 ^ 64) bases)) → IsGoodReply (SetMemTable infos) (with_bases s m (table m) a).served
           bases-good a small = good-table s infos m (table-read m (regions_in infos) refl few fits) least most fits a small
 
       sent : (nat_le 1 n && nat_le n MAX_MEM_REGIONS && list_all is_usable infos) ≡ true → Asks s (SetMemTable infos) (cond (is_listen f.postcopy) (asks_quietly f SET_MEM_TABLE payload (handles_in infos) shape.Memory) (sends f SET_MEM_TABLE payload (handles_in infos)))
@@ -313,7 +314,7 @@ module _ (H B G : Type 0) where
       m = read_as (quietly f SET_MEM_TABLE (U64 0) [])
 
       listening : Bool → Step H B G
-      listening b = cond (b && true) (mapped_row s m) (step.◌>>◌ (test (is_valid_table m) (acknowledged s m InvalidMessage)) (cond b (Calls (device.SetMemTable (table m) m.handles (Some true)) (with_bases s m)) (Calls (device.SetMemTable (table m) m.handles (Some false)) (with_ack s m))))
+      listening b = cond (b && true) (mapped_row s m) (step.◌>>◌ (test (is_valid_table m) (acknowledged s m InvalidMessage)) (cond b (Calls (device.SetMemTable (table m) m.handles (Some true)) (with_bases s m (table m))) (Calls (device.SetMemTable (table m) m.handles (Some false)) (with_ack s m))))
 
       go : (b : Bool) → Good (PostcopyAckMemRegions SET_MEM_TABLE) (listening b)
       go true = search tests depth 12

@@ -6,13 +6,14 @@ use Rattle.vhost_message.specs.declared.frontend_req.FrontendReq.TheVariants.{SE
 use Rattle.vhost_message.specs.declared.postcopy.PostcopyState.{PostcopyState}
 use Rattle.vhost_message.specs.declared.records.config.VhostUserConfig.{VhostUserConfig}
 use Rattle.vhost_message.specs.declared.records.inflight.VhostUserInflight.{VhostUserInflight}
+use Rattle.vhost_message.specs.declared.records.memory.VhostUserMemoryRegion.{VhostUserMemoryRegion}
 use Rattle.vhost_message.specs.declared.records.memory.VhostUserSingleMemoryRegion.{VhostUserSingleMemoryRegion}
 use Rattle.vhost_protocol.specs.Agreement.{KeepsMark, RowsKeepMark}
 use Rattle.vhost_protocol.specs.Error.{Error, BackendInternalError}
 use Rattle.vhost_protocol.specs.Split.{Message}
 use Rattle.vhost_protocol.specs.Session.{Session}
 use Rattle.vhost_protocol.specs.Step.{Refusal, Step, ◌>>=◌, ◌>>◌, replied, replied_or_silent, failed_with}
-use Rattle.vhost_protocol.specs.Row.{with_handle, with_inflight, with_state, with_check, with_features, with_config, with_base, with_bases, if_agreed, table, rebased}
+use Rattle.vhost_protocol.specs.Answered.{with_handle, with_inflight, with_state, with_check, with_features, with_config, with_base, with_bases, if_agreed, rebased}
 use Rattle.vhost_protocol.specs.Written.{Payload, ConfigBytes, Regions}
 
 module _ (H B G : Type 0) where
@@ -67,14 +68,14 @@ module _ (H B G : Type 0) where
   keeps-with_base s m r (Ok None) = refl
   keeps-with_base s m r (Err e) = refl
 
-  keeps-with_bases : (s : Session) (m : Message FrontendReq H) (a : Result (Option (List ℕ)) Error) → (with_bases s m a).session.failed ≡ s.failed
-  keeps-with_bases s m (Ok (Some bases)) = go (length bases == length (table m))
+  keeps-with_bases : (s : Session) (m : Message FrontendReq H) (regions : List VhostUserMemoryRegion) (a : Result (Option (List ℕ)) Error) → (with_bases s m regions a).session.failed ≡ s.failed
+  keeps-with_bases s m regions (Ok (Some bases)) = go (length bases == length regions)
     where
-      go : (b : Bool) → (cond b (replied s (Regions (rebased (table m) bases)) []) (failed_with s m BackendInternalError)).session.failed ≡ s.failed
+      go : (b : Bool) → (cond b (replied s (Regions (rebased regions bases)) []) (failed_with s m BackendInternalError)).session.failed ≡ s.failed
       go true = refl
       go false = refl
-  keeps-with_bases s m (Ok None) = refl
-  keeps-with_bases s m (Err e) = refl
+  keeps-with_bases s m regions (Ok None) = refl
+  keeps-with_bases s m regions (Err e) = refl
 
   keeps-if_agreed : (A : Type 0) (s : Session) (p : PostcopyState) (a : Result A Error) → (if_agreed s p a).failed ≡ s.failed
   keeps-if_agreed A s p (Ok a) = refl

@@ -13,6 +13,7 @@ pub mod Session
 pub mod DeviceCall
 pub mod Served
 pub mod Step
+pub mod Answered
 pub mod Row
 pub mod Socket
 pub mod Run

@@ -1,27 +1,23 @@
--- The protocol table: what a handler does with each request ("Front-end message types").
-use Rattle.std.specs.Prelude.{ℕ, ◌+◌, ◌*◌, ◌%◌, ◌^◌, Bool, true, false, not, ◌&&◌, List, [], ◌∷◌, drop, length, Option, Some, None, Result, Ok, Err, if◌then◌else◌, ◌==◌, nat_le, bit_or, codes, ⊤}
+-- The protocol table: what a handler does with each request ("Front-end message types"): its tests, and then one call of the device. What
+-- follows from the device's answer is in `Answered`.
+use Rattle.std.specs.Prelude.{ℕ, ◌+◌, ◌*◌, ◌%◌, ◌^◌, Bool, true, false, not, ◌&&◌, List, [], ◌∷◌, drop, length, Option, Some, None, Result, Ok, Err, if◌then◌else◌, ◌==◌, nat_le, codes, ⊤}
 use Rattle.std.specs.List.{list_all}
 use Rattle.vhost_message.specs.declared.limits.TheConstants.{MEMORY_HEAD_SIZE, MEMORY_REGION_SIZE}
 use Rattle.vhost_message.specs.Bits.{has_bit}
 use Rattle.vhost_message.specs.declared.frontend_req.FrontendReq.{FrontendReq}
 use Rattle.vhost_message.specs.declared.frontend_req.FrontendReq.TheVariants.{GET_FEATURES, SET_FEATURES, SET_OWNER, RESET_OWNER, SET_MEM_TABLE, SET_LOG_BASE, SET_VRING_NUM, SET_VRING_ADDR, SET_VRING_BASE, GET_VRING_BASE, SET_VRING_KICK, SET_VRING_CALL, SET_VRING_ERR, GET_PROTOCOL_FEATURES, SET_PROTOCOL_FEATURES, GET_QUEUE_NUM, SET_VRING_ENABLE, NET_SET_MTU, SET_BACKEND_REQ_FD, GET_CONFIG, SET_CONFIG, POSTCOPY_ADVISE, POSTCOPY_LISTEN, POSTCOPY_END, GET_INFLIGHT_FD, SET_INFLIGHT_FD, GPU_SET_SOCKET, RESET_DEVICE, GET_MAX_MEM_SLOTS, ADD_MEM_REG, REM_MEM_REG, GET_SHARED_OBJECT, SET_DEVICE_STATE_FD, CHECK_DEVICE_STATE, GET_SHMEM_CONFIG}
-use Rattle.vhost_message.specs.declared.postcopy.PostcopyState.{PostcopyState}
-use Rattle.vhost_message.specs.declared.postcopy.PostcopyState.TheVariants.{Advise, Listen, End}
-use Rattle.vhost_message.specs.declared.records.config.VhostUserConfig.{VhostUserConfig}
-use Rattle.vhost_message.specs.declared.records.inflight.VhostUserInflight.{VhostUserInflight}
 use Rattle.vhost_message.specs.declared.records.memory.VhostUserMemoryRegion.{VhostUserMemoryRegion}
-use Rattle.vhost_message.specs.declared.records.memory.VhostUserSingleMemoryRegion.{VhostUserSingleMemoryRegion}
 use Rattle.vhost_message.specs.declared.records.shared.VhostUserSharedMsg.{VhostUserSharedMsg}
 use Rattle.vhost_message.specs.Records.{u64_at, memory_of, regions_of, single_region_of, vring_state_of, vring_addr_of, config_of, inflight_of, log_of, transfer_of}
 use Rattle.vhost_message.specs.Valid.{is_valid_region, is_valid_memory, is_valid_vring_addr, is_valid_config, is_valid_inflight, is_valid_log, is_valid_uuid, is_valid_transfer}
+use Rattle.vhost_protocol.specs.Answered.{calls}
 use Rattle.vhost_protocol.specs.DeviceCall.{SetOwner, ResetOwner, ResetDevice, GetFeatures, SetFeatures, SetMemTable, SetVringNum, SetVringAddr, SetVringBase, GetVringBase, SetVringKick, SetVringCall, SetVringErr, GetProtocolFeatures, SetProtocolFeatures, GetQueueNum, SetVringEnable, GetConfig, SetConfig, SetBackendReqFd, SetGpuSocket, GetSharedObject, GetInflightFd, SetInflightFd, GetMaxMemSlots, AddMemRegion, RemoveMemRegion, SetDeviceStateFd, CheckDeviceState, GetShmemConfig, PostcopyAdvice, PostcopyListen, PostcopyEnd, PostcopyAckMemRegions, SetLogBase, SetMtu}
-use Rattle.vhost_protocol.specs.Error.{Error, InvalidParam, InvalidOperation, InactiveFeature, InactiveOperation, InvalidMessage, IncorrectFds, BackendInternalError, FrontendInternalError}
-use Rattle.vhost_protocol.specs.Features.{PROTOCOL_FEATURES, MQ, LOG_SHMFD, REPLY_ACK, MTU, BACKEND_REQ, PAGEFAULT, CONFIG, INFLIGHT_SHMFD, RESETS_DEVICE, CONFIGURE_MEM_SLOTS, SHARED_OBJECT, SHMEM}
+use Rattle.vhost_protocol.specs.Error.{Error, InvalidParam, InvalidOperation, InactiveFeature, InactiveOperation, InvalidMessage, IncorrectFds, FrontendInternalError}
+use Rattle.vhost_protocol.specs.Features.{PROTOCOL_FEATURES, MQ, LOG_SHMFD, MTU, BACKEND_REQ, PAGEFAULT, CONFIG, INFLIGHT_SHMFD, RESETS_DEVICE, CONFIGURE_MEM_SLOTS, SHARED_OBJECT, SHMEM}
 use Rattle.vhost_protocol.specs.Session.{Session, is_inactive, is_advise, is_listen}
 use Rattle.vhost_protocol.specs.Split.{Message}
-use Rattle.vhost_protocol.specs.Step.{Outcome, Refusal, Step, Refused, Calls, OpensBackend, OpensGpu, ◌>>=◌, ◌>>◌, silently, acknowledged, with_ack, failed_with, replied, replied_or_silent, unwritten}
+use Rattle.vhost_protocol.specs.Step.{Refusal, Step, Refused, OpensBackend, OpensGpu, ◌>>=◌, ◌>>◌, silently, acknowledged}
 use Rattle.vhost_protocol.specs.Error.{test}
-use Rattle.vhost_protocol.specs.Written.{Empty, U64, Regions, OneRegion, Shmem, RingState, ConfigBytes, InflightArea, LogArea}
 
 -- ---- tests
 
@@ -98,28 +94,6 @@ is_valid_table m =
 abbrev pub table : {H : Type 0} → Message FrontendReq H → List VhostUserMemoryRegion
 table m = regions_of (memory_of m.body).num_regions (drop MEMORY_HEAD_SIZE m.body)
 
--- the regions, each with the base that the device gave it
-abbrev pub rebased : List VhostUserMemoryRegion → List ℕ → List VhostUserMemoryRegion
-rebased (r ∷ rs) (base ∷ bases) = record r { user_addr = base } ∷ rebased rs bases
-rebased _ _ = []
-
--- while listening the bases are the reply, one for each region
-abbrev pub with_bases : {H : Type 0} → Session → Message FrontendReq H → Result (Option (List ℕ)) Error → Outcome H
-with_bases s m (Ok (Some bases)) =
-    if length bases == length (table m) then replied s (Regions (rebased (table m) bases)) [] else failed_with s m BackendInternalError
-with_bases s m (Ok None) = failed_with s m BackendInternalError
-with_bases s m (Err e) = failed_with s m e
-
--- the region with the base that the device gave it
-abbrev pub rebased_region : VhostUserSingleMemoryRegion → ℕ → VhostUserSingleMemoryRegion
-rebased_region r base = record { padding = 0; region = record (r.region) { user_addr = base } }
-
--- while listening the base is the reply
-abbrev pub with_base : {H : Type 0} → Session → Message FrontendReq H → VhostUserSingleMemoryRegion → Result (Option ℕ) Error → Outcome H
-with_base s m r (Ok (Some base)) = replied s (OneRegion (rebased_region r base)) []
-with_base s m r (Ok None) = failed_with s m BackendInternalError
-with_base s m r (Err e) = failed_with s m e
-
 -- ---- rows of more than one case
 
 -- while listening: the frontend says that it has mapped the regions; the answer stays unwritten
@@ -127,15 +101,15 @@ abbrev pub mapped_row : {H B G : Type 0} → Session → Message FrontendReq H �
 mapped_row s m = do
   n ← u64 m
   test (n == 0) (silently FrontendInternalError)
-  Calls PostcopyAckMemRegions (unwritten s)
+  calls s m PostcopyAckMemRegions
 
 -- a table of regions, which are to be mapped while listening
 abbrev pub table_row : {H B G : Type 0} → Session → Message FrontendReq H → Step H B G
 table_row s m = do
   test (is_valid_table m) (acknowledged s m InvalidMessage)
   (if is_listen s.postcopy
-      then Calls (SetMemTable (table m) m.handles (Some true)) (with_bases s m)
-      else Calls (SetMemTable (table m) m.handles (Some false)) (with_ack s m))
+      then calls s m (SetMemTable (table m) m.handles (Some true))
+      else calls s m (SetMemTable (table m) m.handles (Some false)))
 
 -- one region, which is to be mapped while listening
 abbrev pub region_row : {H B G : Type 0} → Session → Message FrontendReq H → Step H B G
@@ -143,49 +117,12 @@ region_row s m = do
   h ← one_handle m (silently InvalidParam)
   r ← body 40 single_region_of always m
   (if is_listen s.postcopy
-      then Calls (AddMemRegion r h (Some true)) (with_base s m r)
-      else Calls (AddMemRegion r h (Some false)) (with_ack s m))
-
--- the configuration bytes, or the same record with size 0 and none ("Device configuration space")
-abbrev pub with_config : {H : Type 0} → Session → VhostUserConfig → Result (List ℕ) Error → Outcome H
-with_config s c (Ok bytes) =
-    if length bytes == c.size then replied s (ConfigBytes c bytes) [] else replied s (ConfigBytes (record c { size = 0 }) []) []
-with_config s c (Err e) = replied s (ConfigBytes (record c { size = 0 }) []) []
+      then calls s m (AddMemRegion r h (Some true))
+      else calls s m (AddMemRegion r h (Some false)))
 
 -- a valid record with as many bytes behind it as it says
 abbrev pub is_valid_area : {H : Type 0} → Message FrontendReq H → Bool
 is_valid_area m = nat_le 12 (length m.body) && is_valid_config (config_of m.body) && length m.body == 12 + (config_of m.body).size
-
--- a reply with the handle, or without where there is none
-abbrev pub with_handle : {H : Type 0} → Session → Result H Error → Outcome H
-with_handle s (Ok h) = replied s Empty (h ∷ [])
-with_handle s (Err e) = replied s Empty []
-
--- the buffer with its handle, or nothing
-abbrev pub with_inflight : {H : Type 0} → Session → Result (VhostUserInflight × H) Error → Outcome H
-with_inflight s (Ok answer) = replied s (InflightArea answer.0) (answer.1 ∷ [])
-with_inflight s (Err e) = unwritten {A = ⊤} s (Err e)
-
--- 0 with the handle, 0x100 for none, 0x101 for an error ("Migrating backend state")
-abbrev pub with_state : {H : Type 0} → Session → Result (Option H) Error → Outcome H
-with_state s (Ok (Some h)) = replied s (U64 0) (h ∷ [])
-with_state s (Ok None) = replied s (U64 0x100) []
-with_state s (Err e) = replied s (U64 0x101) []
-
--- 0, or 1 for an error
-abbrev pub with_check : {H : Type 0} → Session → Result ⊤ Error → Outcome H
-with_check s (Ok u) = replied s (U64 0) []
-with_check s (Err e) = replied s (U64 1) []
-
--- the offered features are remembered once they are sent
-abbrev pub with_features : {H : Type 0} → Session → Result ℕ Error → Outcome H
-with_features s (Ok n) = replied (record s { offered = n }) (U64 n) []
-with_features s (Err e) = unwritten {A = ⊤} s (Err e)
-
--- postcopy goes on where the device agreed
-abbrev pub if_agreed : {A : Type 0} → Session → PostcopyState → Result A Error → Session
-if_agreed s next (Ok a) = record s { postcopy = next }
-if_agreed s next (Err e) = s
 
 -- the channel that a handle opened, else its error is acknowledged
 abbrev pub channel : {H C : Type 0} → Session → Message FrontendReq H → Result C Error → Result C (Refusal H)
@@ -198,101 +135,99 @@ channel s m (Err e) = Err (acknowledged s m e)
 abbrev pub row_of : {H B G : Type 0} → FrontendReq → Session → Message FrontendReq H → Step H B G
 row_of SET_OWNER s m = do
   bare 0 m
-  Calls SetOwner (with_ack s m)
+  calls s m SetOwner
 row_of RESET_OWNER s m = do
   bare 0 m
-  Calls ResetOwner (with_ack s m)
+  calls s m ResetOwner
 row_of RESET_DEVICE s m = do
   session_feature s RESETS_DEVICE
   bare 0 m
-  Calls ResetDevice (with_ack s m)
+  calls s m ResetDevice
 row_of GET_FEATURES s m = do
   bare 0 m
-  Calls GetFeatures (with_features s)
--- they are stored also where the device fails
+  calls s m GetFeatures
 row_of SET_FEATURES s m = do
   n ← u64 m
-  Calls (SetFeatures n) (with_ack (record s { acked = n }) m)
+  calls s m (SetFeatures n)
 row_of SET_MEM_TABLE s m = if is_mapped s m then mapped_row s m else table_row s m
 row_of SET_LOG_BASE s m = do
   session_feature s LOG_SHMFD
   h ← one_handle m (silently IncorrectFds)
   l ← body 16 log_of is_valid_log m
-  Calls (SetLogBase l h) (replied_or_silent s (λ u. LogArea l))
+  calls s m (SetLogBase l h)
 row_of SET_VRING_NUM s m = do
   v ← body 8 vring_state_of always m
-  Calls (SetVringNum v.index v.num) (with_ack s m)
+  calls s m (SetVringNum v.index v.num)
 row_of SET_VRING_BASE s m = do
   v ← body 8 vring_state_of always m
-  Calls (SetVringBase v.index v.num) (with_ack s m)
+  calls s m (SetVringBase v.index v.num)
 row_of SET_VRING_ADDR s m = do
   v ← body 40 vring_addr_of is_valid_vring_addr m
-  Calls (SetVringAddr v) (with_ack s m)
+  calls s m (SetVringAddr v)
 row_of GET_VRING_BASE s m = do
   v ← body 8 vring_state_of always m
-  Calls (GetVringBase v.index) (replied_or_silent s RingState)
-row_of SET_VRING_KICK s m = ring_row m (λ n h. Calls (SetVringKick n h) (with_ack s m))
-row_of SET_VRING_CALL s m = ring_row m (λ n h. Calls (SetVringCall n h) (with_ack s m))
-row_of SET_VRING_ERR s m = ring_row m (λ n h. Calls (SetVringErr n h) (with_ack s m))
+  calls s m (GetVringBase v.index)
+row_of SET_VRING_KICK s m = ring_row m (λ n h. calls s m (SetVringKick n h))
+row_of SET_VRING_CALL s m = ring_row m (λ n h. calls s m (SetVringCall n h))
+row_of SET_VRING_ERR s m = ring_row m (λ n h. calls s m (SetVringErr n h))
 row_of GET_PROTOCOL_FEATURES s m = do
   bare 0 m
-  Calls GetProtocolFeatures (replied_or_silent s (λ n. U64 (bit_or n (2 ^ REPLY_ACK))))
--- they are stored also where the device fails
+  calls s m GetProtocolFeatures
 row_of SET_PROTOCOL_FEATURES s m = do
   n ← u64 m
-  Calls (SetProtocolFeatures n) (with_ack (record s { acked_protocol_features = n }) m)
+  calls s m (SetProtocolFeatures n)
 row_of GET_QUEUE_NUM s m = do
   session_feature s MQ
   bare 0 m
-  Calls GetQueueNum (replied_or_silent s U64)
+  calls s m GetQueueNum
 row_of GET_MAX_MEM_SLOTS s m = do
   session_feature s CONFIGURE_MEM_SLOTS
   bare 0 m
-  Calls GetMaxMemSlots (replied_or_silent s U64)
+  calls s m GetMaxMemSlots
 row_of SET_VRING_ENABLE s m = do
   v ← body 8 vring_state_of always m
   test (has_bit s.acked PROTOCOL_FEATURES) (silently (InactiveFeature (2 ^ PROTOCOL_FEATURES)))
   test (nat_le v.num 1) (silently InvalidParam)
-  Calls (SetVringEnable v.index (v.num == 1)) (with_ack s m)
+  calls s m (SetVringEnable v.index (v.num == 1))
 row_of NET_SET_MTU s m = do
   session_feature s MTU
   n ← u64 m
   test (nat_le n 65535) (silently InvalidParam)
-  Calls (SetMtu n) (with_ack s m)
+  calls s m (SetMtu n)
 row_of GET_CONFIG s m = do
   session_feature s CONFIG
   test (not m.reply && is_valid_area m) (silently InvalidMessage)
-  let c = config_of m.body in Calls (GetConfig c.offset c.size c.flags) (with_config s c)
+  let c = config_of m.body in calls s m (GetConfig c.offset c.size c.flags)
 row_of SET_CONFIG s m = do
   session_feature s CONFIG
   test (not m.reply) (silently InvalidMessage)
   test (is_valid_area m) (acknowledged s m InvalidMessage)
-  let c = config_of m.body in Calls (SetConfig c.offset (drop 12 m.body) c.flags) (with_ack s m)
+  let c = config_of m.body in calls s m (SetConfig c.offset (drop 12 m.body) c.flags)
 row_of SET_BACKEND_REQ_FD s m = do
   session_feature s BACKEND_REQ
   test (not m.reply) (silently InvalidMessage)
   h ← one_handle m (acknowledged s m InvalidMessage)
   OpensBackend h (λ opened. do
     backend ← channel s m opened
-    Calls (SetBackendReqFd backend) (λ u. with_ack {A = ⊤} s m (Ok u)))
+    calls s m (SetBackendReqFd backend))
 row_of GPU_SET_SOCKET s m = do
   h ← one_handle m (acknowledged s m InvalidMessage)
   OpensGpu h (λ opened. do
     gpu ← channel s m opened
-    Calls (SetGpuSocket gpu) (with_ack s m))
+    calls s m (SetGpuSocket gpu))
 row_of GET_SHARED_OBJECT s m = do
   session_feature s SHARED_OBJECT
   name ← body 16 name_of is_valid_name m
-  Calls (GetSharedObject name) (with_handle s)
+  calls s m (GetSharedObject name)
 row_of GET_INFLIGHT_FD s m = do
   session_feature s INFLIGHT_SHMFD
   i ← body 24 inflight_of is_valid_inflight m
-  Calls (GetInflightFd i) (with_inflight s)
+  calls s m (GetInflightFd i)
 row_of SET_INFLIGHT_FD s m = do
   session_feature s INFLIGHT_SHMFD
   h ← one_handle m (silently IncorrectFds)
   i ← body 24 inflight_of is_valid_inflight m
-  Calls (SetInflightFd i h) (with_ack s m)
+  calls s m (SetInflightFd i h)
 row_of ADD_MEM_REG s m = do
   session_feature s CONFIGURE_MEM_SLOTS
   (if is_mapped s m then mapped_row s m else region_row s m)
@@ -300,28 +235,27 @@ row_of REM_MEM_REG s m = do
   session_feature s CONFIGURE_MEM_SLOTS
   (if is_mapped s m then mapped_row s m else (do
     r ← body 40 single_region_of always m
-    Calls (RemoveMemRegion r) (with_ack s m)))
+    calls s m (RemoveMemRegion r)))
 row_of SET_DEVICE_STATE_FD s m = do
   h ← one_handle m (silently IncorrectFds)
   t ← body 8 transfer_of is_valid_transfer m
-  Calls (SetDeviceStateFd t h) (with_state s)
-row_of CHECK_DEVICE_STATE s m = Calls CheckDeviceState (with_check s)
+  calls s m (SetDeviceStateFd t h)
+row_of CHECK_DEVICE_STATE s m = calls s m CheckDeviceState
 row_of GET_SHMEM_CONFIG s m = do
   session_feature s SHMEM
-  Calls GetShmemConfig (replied_or_silent s Shmem)
+  calls s m GetShmemConfig
 row_of POSTCOPY_ADVISE s m = do
   session_feature s PAGEFAULT
   test (is_inactive s.postcopy) (silently (InvalidOperation (codes "postcopy already advised")))
-  Calls PostcopyAdvice (λ answer. with_handle (if_agreed s Advise answer) answer)
+  calls s m PostcopyAdvice
 row_of POSTCOPY_LISTEN s m = do
   session_feature s PAGEFAULT
   test (is_advise s.postcopy) (silently (InvalidOperation (codes "postcopy not advised")))
-  Calls PostcopyListen (λ answer. with_ack (if_agreed s Listen answer) m answer)
--- postcopy has ended also where the device fails
+  calls s m PostcopyListen
 row_of POSTCOPY_END s m = do
   session_feature s PAGEFAULT
   test (is_listen s.postcopy) (silently (InvalidOperation (codes "postcopy not listening")))
-  Calls PostcopyEnd (with_ack (record s { postcopy = End }) m)
+  calls s m PostcopyEnd
 row_of _ s m = Refused (silently InvalidMessage)
 
 -- the row of a message

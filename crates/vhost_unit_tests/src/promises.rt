@@ -3,8 +3,10 @@
 use std::alloc::Global;
 use std::sync::Wait;
 use std::test::Fail;
+use vhost_backend_req_handler::SessionCore;
 use vhost_connection::Endpoint;
 use vhost_device::VhostUserBackendReqHandlerMut;
+use vhost_dummy_backend::DummyBackendReqHandler;
 use vhost_link::{Cut, MemLink};
 use vhost_message::{
     BackendReq, Error, FrontendReq, HandlerResult, IoError, Result as Answer, VhostUserConfig,
@@ -12,7 +14,7 @@ use vhost_message::{
 };
 use vhost_promises::{
     Device, finds_own, first_answer, names_request, records_two, runs_two_lines, sends_in_one,
-    serves_three_new, shares_twice, two_callers,
+    serves_by_halves, serves_three_new, shares_twice, two_callers,
 };
 use vhost_recorder::{FrontendAnswer, FrontendCall, Halt, Log, Receipt, Recorded};
 
@@ -51,6 +53,40 @@ fn three_requests(rt: HostRuntime) -> Outcome<()> {
         1, 0, 0, 0, 5, 0, 0, 0, 8, 0, 0, 0, 3, 0, 0, 0x40, 0, 0, 0, 0,
     ];
     assert!(rt; wrote(rt.alloc(), &reply)?);
+    Ok(())
+}
+
+/// What one request is answered that is served in two halves, and what goes out.
+fn by_halves(alloc: Global, request: &[u8]) -> Outcome<(Answer<()>, Vec<u8>)> {
+    let mut link = MemLink::new(alloc, small_cuts(alloc)?);
+    link.push(request, &[])?;
+    let Ok(mut core) = SessionCore::new(alloc, link, 40) else {
+        return Err("no memory")?;
+    };
+    let mut device = DummyBackendReqHandler::new(alloc, Vec::new(alloc));
+    let answer = serves_by_halves(&mut core, &mut device);
+    let written = Vec::from_slice(alloc, core.endpoint_mut().link().taken().bytes())?;
+    Ok((answer, written))
+}
+
+#[test]
+fn one_request_in_halves(rt: HostRuntime) -> Outcome<()> {
+    let reply = [
+        1, 0, 0, 0, 5, 0, 0, 0, 8, 0, 0, 0, 3, 0, 0, 0x40, 0, 0, 0, 0,
+    ];
+    let (answer, written) = by_halves(rt.alloc(), &[1, 0, 0, 0, 1, 0, 0, 0, 0, 0, 0, 0])?;
+    assert!(rt; answer.is_ok());
+    assert!(rt; written.as_slice() == reply.as_slice());
+    Ok(())
+}
+
+/// SET_STATUS is a code that is not served.
+#[test]
+fn one_refused_in_halves(rt: HostRuntime) -> Outcome<()> {
+    let request = [39, 0, 0, 0, 1, 0, 0, 0, 8, 0, 0, 0, 0, 0, 0, 0, 0, 0, 0, 0];
+    let (answer, written) = by_halves(rt.alloc(), &request)?;
+    assert!(rt; matches!(answer, Err(Error::InvalidMessage)));
+    assert!(rt; written.is_empty());
     Ok(())
 }
 

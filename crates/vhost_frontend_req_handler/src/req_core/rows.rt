@@ -1,4 +1,4 @@
-//! The requests, each up to the answer of the one that serves it.
+//! The requests: what each becomes.
 
 ghost use Rattle.std.specs.Prelude.{◌≡◌, ◌≤◌, ◌&&◌, true, false, IfSome, IfNone, List};
 ghost use Rattle.vhost_connection.specs.Calls.{HandsOver};
@@ -9,8 +9,7 @@ ghost use Rattle.vhost_protocol.specs.Row.{is_bare};
 ghost use Rattle.vhost_protocol.specs.Split.{Message};
 ghost use Rattle.vhost_frontend_req_handler.specs.Core.{first_of};
 
-use crate::asked::Asked;
-use crate::device::VhostUserFrontendReqHandlerMut;
+use crate::call::{Begun, FrontendSideCall};
 use crate::req_core::{FrontendReqCore, Request};
 use vhost_link::Link;
 use vhost_message::{BackendReq, VhostUserMMap, VhostUserMsgValidator, VhostUserSharedMsg};
@@ -18,121 +17,94 @@ use vhost_message::{BackendReq, VhostUserMMap, VhostUserMsgValidator, VhostUserS
 #[tactic(auto, using(crate::proofs::Rows::bad, crate::proofs::Rows::asks, crate::proofs::Rows::no_handle, crate::proofs::Rows::not_served))]
 impl<L: Link> FrontendReqCore<L> {
     ghost use Rattle.vhost_connection.specs.Requests.{Reads};
-    ghost use Rattle.vhost_frontend_req_handler.specs.Core.{AsksRow, AsksRowWith};
+    ghost use Rattle.vhost_frontend_req_handler.specs.Core.{BeginsRow, BeginsRowWith};
 
-    /// What becomes of a request that was read: by its code.
-    pub(crate) fn ask<D: VhostUserFrontendReqHandlerMut<Handle = L::Handle>>(
+    /// What a request that was read becomes: by its code.
+    pub(crate) fn begun(
         &self,
-        device: &mut D,
         request: Request,
         handles: Option<Vec<L::Handle>>,
-    ) -> Asked
-        ensures { AsksRowWith D.gives request.code self.now device.old request handles result device.new }
+    ) -> Begun<L::Handle>
+        ensures { BeginsRowWith request.code self.now request handles result }
     {
         match request.code {
-            BackendReq::CONFIG_CHANGE_MSG => self.config_change(device, request),
-            BackendReq::SHARED_OBJECT_ADD => self.object_add(device, request),
-            BackendReq::SHARED_OBJECT_REMOVE => self.object_remove(device, request),
-            BackendReq::SHARED_OBJECT_LOOKUP => self.object_lookup(device, request, handles),
-            BackendReq::SHMEM_MAP => self.map(device, request, handles),
-            BackendReq::SHMEM_UNMAP => self.unmap(device, request),
+            BackendReq::CONFIG_CHANGE_MSG => self.config_change(request),
+            BackendReq::SHARED_OBJECT_ADD => self.object_add(request),
+            BackendReq::SHARED_OBJECT_REMOVE => self.object_remove(request),
+            BackendReq::SHARED_OBJECT_LOOKUP => self.object_lookup(request, handles),
+            BackendReq::SHMEM_MAP => self.map(request, handles),
+            BackendReq::SHMEM_UNMAP => self.unmap(request),
             BackendReq::IOTLB_MSG
             | BackendReq::VRING_HOST_NOTIFIER_MSG
             | BackendReq::VRING_CALL
-            | BackendReq::VRING_ERR => Asked::Unserved,
+            | BackendReq::VRING_ERR => Begun::Unserved,
         }
     }
 
     /// CONFIG_CHANGE_MSG: no body.
-    fn config_change<D: VhostUserFrontendReqHandlerMut<Handle = L::Handle>>(
-        &self,
-        device: &mut D,
-        request: Request,
-    ) -> Asked
-        ensures { AsksRow D.gives CONFIG_CHANGE_MSG self.now device.old request result device.new }
+    fn config_change(&self, request: Request) -> Begun<L::Handle>
+        ensures { BeginsRow CONFIG_CHANGE_MSG self.now request result }
     {
         if !request.is_bare(0) {
-            return Asked::BadBody;
+            return Begun::BadBody;
         }
-        Asked::Answered(device.handle_config_change())
+        Begun::Calls(FrontendSideCall::ConfigChange)
     }
 
     /// SHARED_OBJECT_ADD: the name of an object.
-    fn object_add<D: VhostUserFrontendReqHandlerMut<Handle = L::Handle>>(
-        &self,
-        device: &mut D,
-        request: Request,
-    ) -> Asked
-        ensures { AsksRow D.gives SHARED_OBJECT_ADD self.now device.old request result device.new }
+    fn object_add(&self, request: Request) -> Begun<L::Handle>
+        ensures { BeginsRow SHARED_OBJECT_ADD self.now request result }
     {
         let Some(uuid) = self.record::<VhostUserSharedMsg>(request) else {
-            return Asked::BadBody;
+            return Begun::BadBody;
         };
-        Asked::Answered(device.shared_object_add(&uuid))
+        Begun::Calls(FrontendSideCall::SharedObjectAdd(uuid))
     }
 
     /// SHARED_OBJECT_REMOVE: the name of an object.
-    fn object_remove<D: VhostUserFrontendReqHandlerMut<Handle = L::Handle>>(
-        &self,
-        device: &mut D,
-        request: Request,
-    ) -> Asked
-        ensures { AsksRow D.gives SHARED_OBJECT_REMOVE self.now device.old request result device.new }
+    fn object_remove(&self, request: Request) -> Begun<L::Handle>
+        ensures { BeginsRow SHARED_OBJECT_REMOVE self.now request result }
     {
         let Some(uuid) = self.record::<VhostUserSharedMsg>(request) else {
-            return Asked::BadBody;
+            return Begun::BadBody;
         };
-        Asked::Answered(device.shared_object_remove(&uuid))
+        Begun::Calls(FrontendSideCall::SharedObjectRemove(uuid))
     }
 
     /// SHARED_OBJECT_LOOKUP: the name of an object, and a file descriptor.
-    fn object_lookup<D: VhostUserFrontendReqHandlerMut<Handle = L::Handle>>(
-        &self,
-        device: &mut D,
-        request: Request,
-        handles: Option<Vec<L::Handle>>,
-    ) -> Asked
-        ensures { AsksRowWith D.gives SHARED_OBJECT_LOOKUP self.now device.old request handles result device.new }
+    fn object_lookup(&self, request: Request, handles: Option<Vec<L::Handle>>) -> Begun<L::Handle>
+        ensures { BeginsRowWith SHARED_OBJECT_LOOKUP self.now request handles result }
     {
         let Some(fd) = first(handles) else {
-            return Asked::BadBody;
+            return Begun::BadBody;
         };
         let Some(uuid) = self.record::<VhostUserSharedMsg>(request) else {
-            return Asked::BadBody;
+            return Begun::BadBody;
         };
-        Asked::Answered(device.shared_object_lookup(&uuid, &fd))
+        Begun::Calls(FrontendSideCall::SharedObjectLookup(uuid, fd))
     }
 
     /// SHMEM_MAP: a mapping, and the file descriptor.
-    fn map<D: VhostUserFrontendReqHandlerMut<Handle = L::Handle>>(
-        &self,
-        device: &mut D,
-        request: Request,
-        handles: Option<Vec<L::Handle>>,
-    ) -> Asked
-        ensures { AsksRowWith D.gives SHMEM_MAP self.now device.old request handles result device.new }
+    fn map(&self, request: Request, handles: Option<Vec<L::Handle>>) -> Begun<L::Handle>
+        ensures { BeginsRowWith SHMEM_MAP self.now request handles result }
     {
         let Some(fd) = first(handles) else {
-            return Asked::BadBody;
+            return Begun::BadBody;
         };
         let Some(mapping) = self.record::<VhostUserMMap>(request) else {
-            return Asked::BadBody;
+            return Begun::BadBody;
         };
-        Asked::Answered(device.shmem_map(&mapping, &fd))
+        Begun::Calls(FrontendSideCall::ShmemMap(mapping, fd))
     }
 
     /// SHMEM_UNMAP: a mapping.
-    fn unmap<D: VhostUserFrontendReqHandlerMut<Handle = L::Handle>>(
-        &self,
-        device: &mut D,
-        request: Request,
-    ) -> Asked
-        ensures { AsksRow D.gives SHMEM_UNMAP self.now device.old request result device.new }
+    fn unmap(&self, request: Request) -> Begun<L::Handle>
+        ensures { BeginsRow SHMEM_UNMAP self.now request result }
     {
         let Some(mapping) = self.record::<VhostUserMMap>(request) else {
-            return Asked::BadBody;
+            return Begun::BadBody;
         };
-        Asked::Answered(device.shmem_unmap(&mapping))
+        Begun::Calls(FrontendSideCall::ShmemUnmap(mapping))
     }
 
     /// The one record that the body is; none where it is not that long, not valid, or the message is a reply.

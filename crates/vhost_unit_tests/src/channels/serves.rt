@@ -16,7 +16,8 @@ use vhost_message::{
     Error, HandlerResult, IoCause, IoError, Result, VhostUserMMap, VhostUserSharedMsg,
 };
 use vhost_promises::{
-    finds_none_back, meets_fault_back, serves_no_broken_back, serves_whole_back, stays_broken_back,
+    answers_by_halves, finds_none_back, meets_fault_back, serves_no_broken_back, serves_whole_back,
+    stays_broken_back,
 };
 
 const HANDLE: PlainHandle = PlainHandle {
@@ -178,6 +179,54 @@ fn no_message(rt: HostRuntime) -> Outcome<()> {
     assert!(rt; matches!(none_found(alloc, &[])?, Err(Error::Disconnected)));
     assert!(rt; matches!(none_found(alloc, &ADD[..5])?, Err(Error::PartialMessage)));
     assert!(rt; matches!(none_found(alloc, &ADD[..15])?, Err(Error::InvalidMessage)));
+    Ok(())
+}
+
+/// What a request is answered that is served in two halves, with acknowledgements, and what goes back.
+fn in_halves(alloc: Global, request: &[u8]) -> Outcome<(std::result::Result<u64, i32>, Vec<u8>)> {
+    let mut core = FrontendReqCore::new(alloc, coming(alloc, request, &[])?, 0)?;
+    core.set_reply_ack_flag(true);
+    if core.has_call() {
+        return Err("a new one has no call to answer")?;
+    }
+    let mut device = OneName {
+        name: None,
+        error: 3,
+    };
+    let answer = shown(answers_by_halves(&mut core, &mut device));
+    let written = Vec::from_slice(alloc, core.endpoint_mut().link().taken().bytes())?;
+    Ok((answer, written))
+}
+
+#[test]
+fn one_in_halves(rt: HostRuntime) -> Outcome<()> {
+    let kept = [6, 0, 0, 0, 5, 0, 0, 0, 8, 0, 0, 0, 0, 0, 0, 0, 0, 0, 0, 0];
+    let (answer, written) = in_halves(rt.alloc(), &ADD)?;
+    assert!(rt; answer == Ok(0));
+    assert!(rt; written.as_slice() == kept.as_slice());
+    Ok(())
+}
+
+#[test]
+fn one_failed_in_halves(rt: HostRuntime) -> Outcome<()> {
+    let failed = [
+        2, 0, 0, 0, 5, 0, 0, 0, 8, 0, 0, 0, 0xfd, 255, 255, 255, 255, 255, 255, 255,
+    ];
+    let (answer, written) = in_halves(rt.alloc(), &CHANGE)?;
+    assert!(rt; answer == Err(3));
+    assert!(rt; written.as_slice() == failed.as_slice());
+    Ok(())
+}
+
+/// VRING_CALL is a code that is not served.
+#[test]
+fn one_refused_in_halves(rt: HostRuntime) -> Outcome<()> {
+    let refused = [
+        4, 0, 0, 0, 5, 0, 0, 0, 8, 0, 0, 0, 0xea, 255, 255, 255, 255, 255, 255, 255,
+    ];
+    let (answer, written) = in_halves(rt.alloc(), &[4, 0, 0, 0, 9, 0, 0, 0, 0, 0, 0, 0])?;
+    assert!(rt; answer == Err(-1));
+    assert!(rt; written.as_slice() == refused.as_slice());
     Ok(())
 }
 

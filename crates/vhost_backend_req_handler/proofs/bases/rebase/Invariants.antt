@@ -1,5 +1,5 @@
 use Rattle.std.proofs.Common.{◌≡◌, ◌++◌, take, drop}
-use Rattle.vhost_protocol.specs.Row.{rebased}
+use Rattle.vhost_protocol.specs.Answered.{rebased}
 use Rattle.vhost_backend_req_handler.proofs.bases.rebase.Given as goal
 
 -- the regions so far have their address, and the others are as they were

@@ -1,0 +1,55 @@
+//! Serving in two halves.
+
+ghost use Rattle.std.specs.Prelude.{◌≡◌, None, false, is_some};
+ghost use Rattle.vhost_backend_req_handler.specs.Core.{endpoint_of, session_in};
+ghost use Rattle.vhost_backend_req_handler.specs.Opening.{OpensAs};
+ghost use Rattle.vhost_backend_req_handler.specs.Serving.{HandlesOne};
+ghost use Rattle.vhost_frontend_req_handler.specs.Core.{endpoint_of as channel_of, server_in};
+ghost use Rattle.vhost_frontend_req_handler.specs.Handling.{HandlesOne as AnswersOne};
+
+use vhost_backend_req_handler::{SessionCore, halves_law};
+use vhost_device::VhostUserBackendReqHandlerMut;
+use vhost_frontend_req_handler::{
+    FrontendReqCore, VhostUserFrontendReqHandlerMut, call_device, halves_law as channel_law,
+};
+use vhost_link::Link;
+use vhost_message::{Error, Result};
+
+/// A request is served in two halves, with a device between them: that is one call of a handler with this device.
+pub fn serves_by_halves<L: Link, D: VhostUserBackendReqHandlerMut<Link = L>>(
+    core: &mut SessionCore<L>,
+    device: &mut D,
+) -> Result<()>
+    requires { is_some core.old.pending ≡ false }
+    ensures { (session_in core.old).failed ≡ None
+        → HandlesOne L.event D.gives (λ h o. OpensAs L.opens L.Handle.kinds h o) (λ h o. OpensAs L.opens L.Handle.kinds h o) (endpoint_of core.old) (session_in core.old) device.old result (endpoint_of core.new) (session_in core.new) device.new }
+{
+    halves_law::<L, D>();
+    match core.begin() {
+        Ok(()) => match core.call_device(device) {
+            Some(answer) => core.conclude(answer),
+            None => Err(Error::InvalidMessage),
+        },
+        Err(error) => Err(error),
+    }
+}
+
+/// A request of a backend is served in two halves, with a frontend's side between them: that is one call of a handler with
+/// this side.
+pub fn answers_by_halves<L: Link, D: VhostUserFrontendReqHandlerMut<Handle = L::Handle>>(
+    core: &mut FrontendReqCore<L>,
+    device: &mut D,
+) -> Result<u64>
+    requires { is_some core.old.pending ≡ false }
+    ensures { (server_in core.old).failed ≡ None
+        → AnswersOne L.event D.gives (channel_of core.old) (server_in core.old) device.old result (channel_of core.new) (server_in core.new) device.new }
+{
+    channel_law::<L, D>();
+    match core.begin() {
+        Ok(call) => {
+            let answer = call_device(device, call);
+            core.conclude(answer)
+        }
+        Err(error) => Err(error),
+    }
+}
