@@ -135,6 +135,8 @@ enum covretin_error {
     COVRETIN_TOO_MANY_BYTES = 106, /* more bytes than covretin_missing said */
     COVRETIN_NO_ROOM = 107,        /* an array of the caller is too small */
     COVRETIN_OTHER_ANSWER = 108,   /* the reply that was taken last has another form */
+    COVRETIN_NOT_REPLIED = 109,    /* the call before is still to be replied to */
+    COVRETIN_OTHER_CALL = 110,     /* no call is to be replied to, or it has another form */
 
     /* Of covretin_socket.h. */
     COVRETIN_TIMED_OUT = 201,    /* the limit of time passed */
@@ -148,6 +150,12 @@ const char *covretin_error_text(enum covretin_error error);
 
 /* The version of the library, as COVRETIN_VERSION. */
 const char *covretin_version(void);
+
+/* Whose behaviour a session has where the two differ. */
+enum covretin_profile {
+    COVRETIN_PROFILE_STANDARD = 0, /* that of the specification, and of QEMU, DPDK and other peers; each session's at first */
+    COVRETIN_PROFILE_VHOST = 1     /* that of the Rust crate vhost */
+};
 
 /* A session. {0} is none. */
 typedef struct covretin_session {
@@ -259,9 +267,15 @@ enum covretin_error covretin_answer_shmem(covretin_session *session, uint64_t *s
  * else comes is said here. A request with no reply of its own is acknowledged where REPLY_ACK was accepted and
  * COVRETIN_NEED_REPLY is set; else nothing is awaited, and a refusal by the backend is not seen. */
 
+/* Whose behaviour the session has from now on, also for the answer that is awaited: COVRETIN_PROFILE_STANDARD, which it begins
+ * with, or COVRETIN_PROFILE_VHOST. Nothing is sent for it, and nothing is to be taken. INVALID_PARAM: any other value; the
+ * profile stays as it was. It does not return NOT_TAKEN. */
+enum covretin_error covretin_set_profile(covretin_session *session, enum covretin_profile profile);
+
 /* The flags of each request from now on: COVRETIN_NEED_REPLY, or 0. Nothing is sent for it, and nothing is to be taken.
- * INVALID_PARAM: any other value; the flags stay as they were. Set COVRETIN_NEED_REPLY only once REPLY_ACK was accepted: real
- * backends acknowledge each request that has it, and without REPLY_ACK nobody here awaits that. */
+ * INVALID_PARAM: any other value; the flags stay as they were. COVRETIN_NEED_REPLY goes out only once REPLY_ACK was accepted, so
+ * it may be set before; with COVRETIN_PROFILE_VHOST set it only then, since real backends acknowledge each request that has it,
+ * and without REPLY_ACK nobody here awaits that. */
 enum covretin_error covretin_set_hdr_flags(covretin_session *session, uint32_t flags);
 
 /* Which feature the last ask lacked: after INACTIVE_FEATURE one bit of COVRETIN_FEATURE_.., after INACTIVE_OPERATION one of
@@ -294,9 +308,9 @@ enum covretin_error covretin_ask_add_mem_region(covretin_session *session, const
 /* A region with a size; its descriptor is not sent. INACTIVE_OPERATION: likewise. */
 enum covretin_error covretin_ask_remove_mem_region(covretin_session *session, const covretin_region *region);
 
-/* Where the dirty log is kept: the memory_size, mmap_offset and fd of a region. Without LOG_SHMFD the base alone is sent, and
- * no reply is awaited. With it a reply of 16 bytes is awaited: some backends send one of 8 bytes, which is refused, and some
- * send none, which a limit of time shows. */
+/* Where the dirty log is kept: the memory_size, mmap_offset and fd of a region. Without LOG_SHMFD the base alone is sent, and it
+ * is acknowledged as above. With it a reply is awaited, of whatever size; some backends send none, which a limit of time shows.
+ * With COVRETIN_PROFILE_VHOST the base alone is never awaited, and the reply has 16 bytes: one of another size is refused. */
 enum covretin_error covretin_ask_set_log_base(covretin_session *session, uint64_t base, const covretin_region *region);
 enum covretin_error covretin_ask_set_log_base_alone(covretin_session *session, uint64_t base);
 /* The eventfd by which the backend signals that it logged. */
@@ -319,8 +333,8 @@ enum covretin_error covretin_ask_set_vring_err(covretin_session *session, size_t
 enum covretin_error covretin_ask_set_vring_enable(covretin_session *session, size_t index, bool enable);
 
 /* size is 1 to COVRETIN_MAX_CONFIG, and offset and size together are 4096 at most; flags are those of covretin_config. The
- * request brings size bytes along: zeros. BACKEND_INTERNAL_ERROR at take: there are no such bytes; some backends say so by a
- * reply without a body, which is malformed. INACTIVE_OPERATION: CONFIG was not accepted. */
+ * request brings size bytes along: zeros. BACKEND_INTERNAL_ERROR at take: there are no such bytes. With COVRETIN_PROFILE_VHOST
+ * a reply without a body, by which some backends say so, is INVALID_MESSAGE. INACTIVE_OPERATION: CONFIG was not accepted. */
 enum covretin_error covretin_ask_get_config(covretin_session *session, uint32_t offset, uint32_t size, uint32_t flags);
 /* The same, with the caller's bytes in the request in place of zeros; bytes_len is the size. */
 enum covretin_error covretin_ask_get_config_bytes(covretin_session *session, uint32_t offset, uint32_t flags,

@@ -6,6 +6,7 @@ ghost use Rattle.vhost_message.specs.Transfer.{direction_number, phase_number};
 ghost use Rattle.vhost_message.specs.Valid.{is_valid_transfer};
 ghost use Rattle.vhost_protocol.specs.Error.{FrontendInternalError, InactiveFeature, InvalidMessage, InvalidParam, test};
 ghost use Rattle.vhost_protocol.specs.Row as row;
+ghost use Rattle.vhost_protocol.specs.Session.{enabling};
 ghost use Rattle.vhost_protocol.specs.Step.{silently};
 ghost use Rattle.vhost_backend_core.specs.Beginning.{body_of, handles_in, single, sized, tested};
 ghost use Rattle.vhost_backend_core.specs.Refusing.{refusal_in};
@@ -64,13 +65,12 @@ impl<H: Drop> Checks<H> {
         Ok(())
     }
 
-    /// InactiveFeature: the virtio feature of this bit is not accepted.
+    /// InactiveFeature: the virtio feature of this bit is not among those by which a ring may be enabled.
     pub(crate) fn check_feature(session: &Session, bit: u32) -> Result<()>
         requires { bit < 64 }
-        ensures { test (has_bit (session_of session.now).acked bit) (silently {H = H} (InactiveFeature (2 ^ bit))) ≡ tested result }
+        ensures { test (has_bit (enabling (session_of session.now)) bit) (silently {H = H} (InactiveFeature (2 ^ bit))) ≡ tested result }
     {
-        let acked = session.acked;
-        if !has_bit(acked, bit) {
+        if !has_bit(session.enabling(), bit) {
             return Err(Refusal::InactiveFeature(1 << bit));
         }
         Ok(())

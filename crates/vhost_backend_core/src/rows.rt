@@ -3,9 +3,11 @@
 ghost use Rattle.std.specs.Prelude.{◌≡◌, ℕ, List, Option};
 ghost use Rattle.vhost_message.specs.declared.frontend_req.FrontendReq.TheVariants as code;
 ghost use Rattle.vhost_protocol.specs.Row as row;
-ghost use Rattle.vhost_protocol.specs.Step.{Step, ◌>>=◌ as ◌then◌};
+ghost use Rattle.vhost_protocol.specs.Split.{Message};
+ghost use Rattle.vhost_protocol.specs.Step.{Step, Refused, ◌>>=◌ as ◌then◌};
 ghost use Rattle.vhost_message.specs.declared.frontend_req.FrontendReq.{FrontendReq};
-ghost use Rattle.vhost_backend_core.specs.Beginning.{Begins, handles_in, message_in, tested, with_wanted};
+ghost use Rattle.vhost_backend_core.specs.Beginning.{Begins, handles_in, message_in, step_in, tested, with_wanted};
+ghost use Rattle.vhost_backend_core.specs.Session.{session_of};
 
 use crate::call::{Begun, DeviceCall};
 use crate::checks::{Checks, parts};
@@ -79,7 +81,18 @@ impl<H: Drop, B: Drop, G: Drop> Rows<H, B, G> {
             | FrontendReq::CLOSE_CRYPTO_SESSION
             | FrontendReq::VRING_KICK
             | FrontendReq::SET_STATUS
-            | FrontendReq::GET_STATUS => Err(Refusal::InvalidMessage),
+            | FrontendReq::GET_STATUS => Self::unserved(session),
+        }
+    }
+
+    /// A request that nobody serves.
+    fn unserved<'a>(session: &Session) -> Result<Begun<'a>>
+        ensures { (m : Message FrontendReq H) → step_in {B = B} {G = G} (session_of session.now) m result ≡ Refused (row.unserved (session_of session.now) m) }
+    {
+        if session.is_standard() {
+            Ok(Begun::Refuses(Refusal::Unserved))
+        } else {
+            Err(Refusal::InvalidMessage)
         }
     }
 
@@ -135,7 +148,7 @@ impl<H: Drop, B: Drop, G: Drop> Rows<H, B, G> {
         let Some(files) = handles else {
             return Ok(Begun::Refuses(Refusal::InvalidMessage));
         };
-        let Some(table) = message.table(files.len()) else {
+        let Some(table) = message.table(session, files.len()) else {
             return Ok(Begun::Refuses(Refusal::InvalidMessage));
         };
         Ok(Begun::Calls(DeviceCall::SetMemTable(table, session.is_listening())))

@@ -1,8 +1,10 @@
 //! What a handler remembers of its frontend.
 
 use vhost_message::{PostcopyState, has_bit, protocol_bit, virtio_bit};
+use vhost_protocol::Profile;
 
-/// The features offered and accepted, how far postcopy has come, and the failure that marks the session, if any.
+/// The features offered and accepted, how far postcopy has come, the failure that marks the session, if any, and whose
+/// behaviour it has.
 #[derive(Clone, Copy, Debug)]
 pub struct Session {
     pub offered: u64,
@@ -10,11 +12,13 @@ pub struct Session {
     pub acked_protocol_features: u64,
     pub postcopy: PostcopyState,
     pub failed: Option<i32>,
+    pub profile: Profile,
 }
 
 impl Session {
     ghost use Rattle.std.specs.Prelude.{◌≡◌, ◌&&◌};
-    ghost use Rattle.vhost_protocol.specs.Session.{fresh, ack_on, is_inactive as postcopy_inactive, is_advise as postcopy_advised, is_listen as postcopy_listens};
+    ghost use Rattle.vhost_protocol.specs.Session.{fresh, ack_on, is_inactive as postcopy_inactive, is_advise as postcopy_advised, is_listen as postcopy_listens, enabling as features_to_enable};
+    ghost use Rattle.vhost_protocol.specs.Profile.{is_standard as standard};
     ghost use Rattle.vhost_backend_core.specs.Session.{session_of};
 
     /// A new session.
@@ -27,6 +31,7 @@ impl Session {
             acked_protocol_features: 0,
             postcopy: PostcopyState::Inactive,
             failed: None,
+            profile: Profile::Vhost,
         }
     }
 
@@ -45,6 +50,24 @@ impl Session {
         ensures { result ≡ (ack_on (session_of self.now) && need_reply) }
     {
         self.ack_on() && need_reply
+    }
+
+    /// Whether it is that of the specification and of real peers.
+    pub fn is_standard(&self) -> bool
+        ensures { result ≡ standard (session_of self.now).profile }
+    {
+        self.profile.is_standard()
+    }
+
+    /// The features by which a ring may be enabled: those that were accepted, or under Standard those that were offered.
+    pub fn enabling(&self) -> u64
+        ensures { result ≡ features_to_enable (session_of self.now) }
+    {
+        if self.is_standard() {
+            self.offered
+        } else {
+            self.acked
+        }
     }
 
     /// Whether postcopy has not begun.

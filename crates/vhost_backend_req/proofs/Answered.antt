@@ -78,7 +78,7 @@ module _ {L H : Type 0} (event : L → Event H → L → Type 0) (sent : Header)
   number-heard : (o : Result (Received H) Error) {result : Result ℕ IoError} → HearsReply event numbers old o new → reverse_understood sent o ≡ seen_io_result result → (says_number result ≡ true → new.list ≡ true) → RecvsNumber event sent old result new
   number-heard o h e listed = asking.heard (subst (λ x. HearsReply event (reverse_take true sent) old x new) e (replies-by (λ r. reverse_understood sent r) o (λ cells. refl) h)) listed
 
-  module _ (r : Received H) (x : Comes event (is_known_by backend_request_of) backend_request_of 8 (λ bs. true) 0 old sent r new) where
+  module _ (r : Received H) (x : Comes event backend_request_of (reply_split (is_known_by backend_request_of) 8 (λ bs. true) 0) old sent r new) where
     -- 0 came
     pub number-zero : u64_at 0 r.body ≡ 0 → r.handles ≡ [] → RecvsNumber event sent old (Ok 0) new
     number-zero zero none_came = number-heard (Ok r) x.hears (rw (x.answers, none_came, zero) refl) (λ is. x.list ∙ ap (λ hs. not (has_some hs)) none_came)
@@ -92,7 +92,7 @@ module _ {L H : Type 0} (event : L → Event H → L → Type 0) (sent : Header)
     number-crowded many = number-heard (Ok r) x.hears (rw (x.answers, many) refl) (λ is. absurd cc)
 
   -- none came
-  pub number-missing : {e : declared.Error} → Missing event (is_known_by backend_request_of) backend_request_of 8 (λ bs. true) 0 old sent e new → RecvsNumber event sent old (Err (Of e)) new
+  pub number-missing : {e : declared.Error} → Missing event backend_request_of (reply_split (is_known_by backend_request_of) 8 (λ bs. true) 0) old sent e new → RecvsNumber event sent old (Err (Of e)) new
   number-missing (unfit r h bad) = number-heard (Ok r) h (rw bad refl) (λ is. absurd cc)
   number-missing {e} (none h listed) = number-heard (Err (seen e)) h refl (λ is. listed)
   number-missing (failed f) = asking.stopped f

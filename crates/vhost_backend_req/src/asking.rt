@@ -14,6 +14,7 @@ use vhost_message::{
     BackendReq, ByteValued, Error, HandlerResult, IoCause, IoError, VhostUserEmpty, VhostUserMMap,
     VhostUserSharedMsg, VhostUserU64, header_bit,
 };
+use vhost_protocol::Profile;
 
 impl<L: Link> BackendInternal<L> {
     ghost use Rattle.vhost_backend_req.specs.Channel.{channel, backend_of};
@@ -194,7 +195,10 @@ impl<L: Link> BackendInternal<L> {
         ensures same { self.new ≡ record self.old { endpoint = self.new.endpoint } }
         ensures received { RecvsNumber L.event (fields_of request.now) (state self.old.endpoint) result (state self.new.endpoint) }
     {
-        match self.endpoint.recv_reply::<VhostUserU64>(request, &mut []) {
+        match self
+            .endpoint
+            .recv_reply::<VhostUserU64>(Profile::Vhost, request, &mut [])
+        {
             Ok((_, number, _, handles)) => {
                 if handles.is_some() {
                     return Err(IoError::Of(Error::InvalidMessage));

@@ -12,6 +12,7 @@ use vhost_connection::{Body, Endpoint, new_body};
 use vhost_device::{SharedDevice, VhostUserBackendReqHandler};
 use vhost_link::{Link, UnixLink};
 use vhost_message::{IoCause, Result};
+use vhost_protocol::Profile;
 
 /// The backend's side of a connection, and its shared device.
 ///
@@ -74,6 +75,14 @@ impl<L: Link, S: VhostUserBackendReqHandler<Link = L>> BackendReqHandler<L, S> {
         ensures session { session_in self.new.core ≡ record (session_in self.old.core) { failed = Some error } }
     {
         self.core.set_failed(error);
+    }
+
+    /// Whose behaviour the session has from now on, as [`SessionCore::set_profile`] says.
+    pub fn set_profile(&mut self, profile: Profile)
+        ensures endpoint { endpoint_of self.new.core ≡ endpoint_of self.old.core }
+        ensures session { session_in self.new.core ≡ record (session_in self.old.core) { profile = profile } }
+    {
+        self.core.set_profile(profile);
     }
 
     /// Reads one request and serves it, as [`SessionCore::handle_request`] does. It may wait for the device.

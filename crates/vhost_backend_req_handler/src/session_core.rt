@@ -16,6 +16,7 @@ use vhost_message::{
     Error, FrontendReq, IoCause, MAX_MEM_REGIONS, Result, VhostUserMemoryRegion,
     VhostUserShMemConfig,
 };
+use vhost_protocol::Profile;
 
 /// A handler's session over a link, without its device.
 ///
@@ -99,6 +100,17 @@ impl<L: Link> SessionCore<L> {
     {
         let session = &mut self.server.session;
         session.failed = Some(number);
+    }
+
+    /// Whose behaviour the session has from now on: that of the crate `vhost`, as at first, or that of the specification and of
+    /// real frontends.
+    pub fn set_profile(&mut self, profile: Profile)
+        ensures endpoint { endpoint_of self.new ≡ endpoint_of self.old }
+        ensures session { session_in self.new ≡ record (session_in self.old) { profile = profile } }
+        ensures pending { self.new.pending ≡ self.old.pending }
+    {
+        let session = &mut self.server.session;
+        session.profile = profile;
     }
 
     /// Reads one request and serves it.

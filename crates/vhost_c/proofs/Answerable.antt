@@ -42,15 +42,12 @@ IsAck-prop (Reply s) = ⊥_prop
 ack_or-prop : (a : Awaited) (s : Shape) → IsProp (IsAck a ⊎ (a ≡ Reply s))
 ack_or-prop a s = apart_prop (IsAck-prop a) (awaited-set a (Reply s)) (λ ack is. subst IsAck is ack)
 
-none_or-prop : (a : Awaited) (s : Shape) → IsProp ((a ≡ Nobody) ⊎ (a ≡ Reply s))
-none_or-prop a s = apart_prop (awaited-set a Nobody) (awaited-set a (Reply s)) (λ none is. cc)
-
 MayAwait-prop : (call : Call) (a : Awaited) → IsProp (MayAwait call a)
 MayAwait-prop GetFeatures a = awaited-set a _
 MayAwait-prop GetProtocolFeatures a = awaited-set a _
 MayAwait-prop GetQueueNum a = awaited-set a _
 MayAwait-prop (SetMemTable infos) a = ack_or-prop a _
-MayAwait-prop (SetLogBase base region) a = none_or-prop a _
+MayAwait-prop (SetLogBase base region) a = ack_or-prop a _
 MayAwait-prop (GetVringBase i) a = awaited-set a _
 MayAwait-prop (GetConfig offset size flags buffer) a = awaited-set a _
 MayAwait-prop (GetSharedObject name) a = awaited-set a _

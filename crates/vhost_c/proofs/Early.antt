@@ -6,10 +6,11 @@ use Rattle.vhost_protocol.specs.declared.asked.Awaited.{Awaited}
 use Rattle.vhost_protocol.specs.declared.asked.Awaited.TheVariants.{Reply}
 use Rattle.vhost_protocol.specs.declared.asked.Shape.TheVariants as shape
 use Rattle.vhost_c.specs.Incoming.{missing_from}
-use Rattle.vhost_c.specs.Number.{outcome_number}
-use Rattle.vhost_c.specs.Session.{By, some, Asking, Opens, opened, was_open, no_room, Asks, sent, at_once, Takes, kept, failed, other_size, nothing_asked, not_yet, missing_for, missing_of}
-use Rattle.vhost_c.specs.declared.incoming.Incoming.{Incoming}
-use Rattle.vhost_c.specs.declared.refusal.Refusal.{Refusal}
+use Rattle.vhost_c_common.specs.Number.{outcome_number}
+use Rattle.vhost_c_common.specs.ByNumber.{By, some}
+use Rattle.vhost_c.specs.Session.{Asking, Opens, opened, was_open, no_room, Asks, sent, at_once, Takes, kept, failed, other_size, nothing_asked, not_yet, missing_for, missing_of}
+use Rattle.vhost_c_common.specs.declared.incoming.Incoming.{Incoming}
+use Rattle.vhost_c_common.specs.declared.refusal.Refusal.{Refusal}
 use Rattle.vhost_c.specs.declared.session.Session.{Session}
 
 -- of a reply of which nothing came, all of its header is missing

@@ -1,31 +1,31 @@
 -- An answer names no handle but those that came on the first byte of its reply.
-use Rattle.std.proofs.Common.{◌≡◌, ℕ, zero, suc, ◌+◌, Bool, true, false, ◌&&◌, List, [], ◌∷◌, ◌++◌, length, take as front, drop, replicate, append_assoc, Option, Some, None, Result, Ok, Err, ◌⊎◌, inl, inr, refl, sym, ap, subst, ◌∙◌}
-use Rattle.std.specs.Prelude.{⊤, ◌==◌, nat_le, not, if◌then◌else◌, bit_and}
+use Rattle.std.proofs.Common.{◌≡◌, ℕ, zero, suc, ◌+◌, Bool, true, false, ◌&&◌, List, [], ◌∷◌, ◌++◌, length, take as front, drop, replicate, append_assoc, Option, Some, None, Result, Ok, Err, inl, inr, refl, sym, ap, subst, ◌∙◌}
+use Rattle.std.specs.Prelude.{⊤, ◌==◌, nat_le, not, if◌then◌else◌}
 use Rattle.std.proofs.lemmas.List.{append-nil}
-use Rattle.vhost_message.specs.declared.limits.TheConstants.{MSG_HEADER_SIZE, VHOST_USER_MAX_VRINGS, MEMORY_HEAD_SIZE, MEMORY_REGION_SIZE}
+use Rattle.vhost_message.specs.declared.limits.TheConstants.{MSG_HEADER_SIZE, VHOST_USER_MAX_VRINGS}
 use Rattle.vhost_message.specs.declared.records.config.VhostUserConfig.{VhostUserConfig}
 use Rattle.vhost_message.specs.Bits.{has_bit}
 use Rattle.vhost_message.specs.Header.{Header, header_of}
-use Rattle.vhost_message.specs.Text.{number_at}
-use Rattle.vhost_message.specs.Valid.{is_valid_inflight, is_valid_log}
+use Rattle.vhost_message.specs.Valid.{is_valid_inflight}
 use Rattle.vhost_message.specs.Records.{u64_at}
-use Rattle.vhost_message.specs.declared.error.Error as declared
-use Rattle.vhost_protocol.specs.AnswerTable.{Answered, answered, plain_value, after_success, alone, with_one, only_if, config_reply, state_reply, changed, queues_reply, from_reply, answer, are_same_ranges, is_same_range, bases_in}
-use Rattle.vhost_protocol.specs.Ask.{regions_in, config}
-use Rattle.vhost_protocol.specs.Error.{Error, InvalidParam, InvalidMessage, PartialMessage, IncorrectFds, BackendInternalError, seen}
-use Rattle.vhost_protocol.specs.FrontendCall.{FrontendCall, GetFeatures, GetProtocolFeatures, GetQueueNum, SetMemTable, SetLogBase, GetVringBase, GetConfig, GetSharedObject, GetInflightFd, GetMaxMemSlots, AddMemRegion, GetShmemConfig, SetDeviceStateFd, CheckDeviceState, PostcopyAdvise, Value, Nothing, Number, Bases, Base, ConfigOf, HandleOf, InflightOf, StateHandle, ShmemOf, Frontend}
-use Rattle.vhost_protocol.specs.ReplySplit.{Received, received, reply_split, bare_or_reply, not_bare, is_bare_reply}
-use Rattle.vhost_protocol.specs.Served.{Acknowledged, Replied}
+use Rattle.vhost_protocol.specs.AnswerTable.{Answered, answered, plain_value, alone, with_one, only_if, config_reply, state_reply, changed, from_reply, answer}
+use Rattle.vhost_protocol.specs.Ask.{config}
+use Rattle.vhost_protocol.specs.Error.{Error, InvalidParam, InvalidMessage, PartialMessage, BackendInternalError}
+use Rattle.vhost_protocol.specs.FrontendCall.{FrontendCall, GetFeatures, GetProtocolFeatures, GetQueueNum, SetMemTable, SetLogBase, GetVringBase, GetConfig, GetSharedObject, GetInflightFd, GetMaxMemSlots, AddMemRegion, GetShmemConfig, SetDeviceStateFd, CheckDeviceState, PostcopyAdvise, Value, Number, ConfigOf, HandleOf, InflightOf, StateHandle, Frontend}
+use Rattle.vhost_protocol.specs.ReplySplit.{Received, received, reply_split, bare_or_reply, not_bare, is_bare_reply, whole_split, is_right, apart, parted, then_made, is_empty_reply, parted_or_none}
+use Rattle.vhost_protocol.specs.Served.{Acknowledged}
 use Rattle.vhost_protocol.specs.Split.{Splits}
-use Rattle.vhost_protocol.specs.Stream.{Cell, Item, Byte, End, items, heard, first_handles, has_some, bytes, is_shorter}
-use Rattle.vhost_protocol.specs.Take.{is_known, answers, is_sized, is_valid_record, record_size, payload_of, room, understood, understood_ack, understood_config, take, take_reply, take_config}
+use Rattle.vhost_protocol.specs.Stream.{Cell, Item, End, items, heard, first_handles, bytes, is_shorter}
+use Rattle.vhost_protocol.specs.Take.{is_known, answers, is_sized, is_valid_record, record_size, payload_of, room, reply_cut, config_cut, understood, understood_ack, understood_config, take, take_reply, take_config}
 use Rattle.vhost_protocol.specs.Written.{Payload, Empty, U64, Regions, OneRegion, Shmem, RingState, ConfigBytes, InflightArea, LogArea}
 use Rattle.vhost_protocol.specs.declared.asked.Awaited.{Awaited}
+use Rattle.vhost_protocol.specs.declared.profile.Profile.{Profile}
+use Rattle.vhost_protocol.specs.declared.profile.Profile.TheVariants.{Vhost, Standard}
 use Rattle.vhost_protocol.specs.declared.asked.Awaited.TheVariants.{Nobody, Ack, Reply}
 use Rattle.vhost_protocol.specs.declared.asked.Shape.{Shape}
 use Rattle.vhost_protocol.specs.declared.asked.Shape.TheVariants as shape
 use Rattle.vhost_link.specs.Ends.{Ends}
-use Rattle.vhost_link.specs.Mem.{event, HandsFront}
+use Rattle.vhost_link.specs.Mem.{HandsFront}
 use Rattle.vhost_link.specs.declared.plain.PlainHandle.{PlainHandle}
 use Rattle.vhost_connection.specs.Memory.{stream, TalksLaw}
 use Rattle.vhost_connection.specs.Talk.{State}
@@ -146,6 +146,43 @@ module _ {H : Type 0} where
       let rest : List (Cell H) = drop size (drop MSG_HEADER_SIZE cells) in
       either-has (first_handles cells) (is_shorter (MSG_HEADER_SIZE + size) cells) (Err PartialMessage, []) (received is_known h valid (first_handles cells) body n rest) tt (received-has h valid (first_handles cells) body n rest)
 
+  -- the same by its header
+  whole-has : (cells : List (Cell H)) → Has (first_handles cells) (whole_split is_known cells).0
+  unfolding whole_split
+  whole-has cells =
+      let h : Header = header_of (bytes (front MSG_HEADER_SIZE cells)) in
+      let behind : List (Cell H) = drop MSG_HEADER_SIZE cells in
+      let came : List H = first_handles cells in
+      let found : Result (Received H) Error × List (Cell H) = (Ok (record { header = h; body = bytes (front h.size behind); payload = []; handles = came }), drop h.size behind) in
+      let known : Result (Received H) Error × List (Cell H) = if is_shorter h.size behind then (Err PartialMessage, []) else found in
+      either-has came (is_shorter MSG_HEADER_SIZE cells) (Err PartialMessage, []) (if not (is_known h) then (Err InvalidMessage, behind) else known) tt
+      (either-has came (not (is_known h)) (Err InvalidMessage, behind) known tt (either-has came (is_shorter h.size behind) (Err PartialMessage, []) found tt refl))
+
+  parted-has : (size : ℕ) (valid : List ℕ → Bool) (n : ℕ) (came : List H) (x : Result (Received H) Error × List (Cell H)) → Has came x.0 → Has came (then_made is_known (parted is_known size valid n) x).0
+  parted-has size valid n came (Ok r, rest) has = go (is_right is_known size valid n r)
+    where
+      go : (b : Bool) → Has came (if b then Ok (apart is_known size r) else Err InvalidMessage)
+      go true = has
+      go false = tt
+  parted-has size valid n came (Err e, rest) has = tt
+
+  -- by each profile
+  reply-has : (s : Shape) (p : Profile) (n : ℕ) (cells : List (Cell H)) → Has (first_handles cells) (reply_cut s p n cells).0
+  reply-has shape.Log Vhost n cells = cut-has 16 (is_valid_record shape.Log) 0 cells
+  reply-has shape.Log Standard n cells = whole-has cells
+  reply-has s Vhost n cells = cut-has (record_size s) (is_valid_record s) n cells
+  reply-has s Standard n cells = parted-has (record_size s) (is_valid_record s) n (first_handles cells) (whole_split is_known cells) (whole-has cells)
+
+  none-named : (call : FrontendCall H) (sent : Header) (f : Frontend) (n : ℕ) (came : List H) (x : Result (Received H) Error × List (Cell H)) → Has came x.0
+      → SomeNames came (understood_config call sent f (then_made is_known (parted_or_none is_known (answers sent) (is_valid_record shape.Config) n) x).0)
+  none-named call sent f n came (Ok r, rest) has = go (is_empty_reply is_known (answers sent) r) (is_right is_known 12 (is_valid_record shape.Config) n r)
+    where
+      go : (a b : Bool) → SomeNames came (understood_config call sent f (if a then Ok None else if b then Ok (Some (apart is_known 12 r)) else Err InvalidMessage))
+      go true b = tt
+      go false true = understood-named call (Reply shape.Config) sent f came (Ok (apart is_known 12 r)) has
+      go false false = tt
+  none-named call sent f n came (Err e, rest) has = tt
+
   bare-named : (call : FrontendCall H) (sent : Header) (f : Frontend) (came : List H) (x : Result (Received H) Error × List (Cell H)) → Has came x.0 → SomeNames came (understood_config call sent f (not_bare is_known x).0)
   bare-named call sent f came (Ok r, rest) has = understood-named call (Reply shape.Config) sent f came (Ok r) has
   bare-named call sent f came (Err e, rest) has = tt
@@ -155,19 +192,22 @@ module _ {H : Type 0} where
   either-taken call sent f came true x y p q = p
   either-taken call sent f came false x y p q = q
 
-  config-taken : (call : FrontendCall H) (buffer : List ℕ) (sent : Header) (f : Frontend) (cells : List (Cell H)) → SomeNames (first_handles cells) (take_config call buffer sent f cells).0
+  bytes-taken : (call : FrontendCall H) (p : Profile) (room : ℕ) (sent : Header) (f : Frontend) (cells : List (Cell H)) → SomeNames (first_handles cells) (understood_config call sent f (config_cut p sent room cells).0)
   unfolding bare_or_reply
-  config-taken call [] sent f cells = tt
-  config-taken call (b ∷ buffer) sent f cells =
-      let room : ℕ = length (b ∷ buffer) in
+  bytes-taken call Standard room sent f cells = none-named call sent f room (first_handles cells) (whole_split is_known cells) (whole-has cells)
+  bytes-taken call Vhost room sent f cells =
       let split : Result (Received H) Error × List (Cell H) = reply_split is_known 12 (is_valid_record shape.Config) room cells in
       let came : List H = first_handles cells in
       either-taken call sent f came (is_shorter (MSG_HEADER_SIZE + 12) cells) (Err PartialMessage, []) (if is_bare_reply is_known (answers sent) cells then (Ok None, drop (MSG_HEADER_SIZE + 12) cells) else not_bare is_known split) tt
       (either-taken call sent f came (is_bare_reply is_known (answers sent) cells) (Ok None, drop (MSG_HEADER_SIZE + 12) cells) (not_bare is_known split) tt (bare-named call sent f came split (cut-has 12 (is_valid_record shape.Config) room cells)))
 
+  config-taken : (call : FrontendCall H) (buffer : List ℕ) (sent : Header) (f : Frontend) (cells : List (Cell H)) → SomeNames (first_handles cells) (take_config call buffer sent f cells).0
+  config-taken call [] sent f cells = tt
+  config-taken call (b ∷ buffer) sent f cells = bytes-taken call f.profile (length (b ∷ buffer)) sent f cells
+
   reply-taken : (call : FrontendCall H) (s : Shape) (sent : Header) (f : Frontend) (cells : List (Cell H)) → SomeNames (first_handles cells) (take_reply call s sent f cells).0
   reply-taken (GetConfig offset size flags buffer) s sent f cells = config-taken (GetConfig offset size flags buffer) buffer sent f cells
-  reply-taken call s sent f cells = understood-named call (Reply s) sent f (first_handles cells) _ (cut-has (record_size s) (is_valid_record s) (room call) cells)
+  reply-taken call s sent f cells = understood-named call (Reply s) sent f (first_handles cells) _ (reply-has s f.profile (room call) cells)
 
   either : (b : Bool) (came : List H) (x y : Option (Answered H) × List (Cell H)) → SomeNames came x.0 → SomeNames came y.0 → (λ (z : Option (Answered H) × List (Cell H)). SomeNames came z.0) (if b then x else y)
   either true came x y p q = p
@@ -176,7 +216,7 @@ module _ {H : Type 0} where
   -- what a call takes of a stream names no handle but those on the first byte
   taken-named : (call : FrontendCall H) (awaited : Awaited) (sent : Header) (f : Frontend) (cells : List (Cell H)) → SomeNames (first_handles cells) (take call awaited sent f cells).0
   taken-named call Nobody sent f cells = inl (plain-named call)
-  taken-named call Ack sent f cells = understood-named call Ack sent f (first_handles cells) _ (cut-has 8 (is_valid_record shape.U64) 0 cells)
+  taken-named call Ack sent f cells = understood-named call Ack sent f (first_handles cells) _ (reply-has shape.U64 f.profile 0 cells)
   taken-named call (Reply s) sent f cells = either (has_bit sent.flags 2) (first_handles cells) (Some (answered f (Err InvalidParam)), cells) (take_reply call s sent f cells) tt (reply-taken call s sent f cells)
 
   -- ---- the front of a stream

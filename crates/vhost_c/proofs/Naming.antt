@@ -1,20 +1,21 @@
 -- A descriptor that an answer names came with it.
-use Rattle.std.proofs.Common.{◌≡◌, ℕ, Bool, true, false, List, [], ◌∷◌, ◌++◌, map, Option, Some, None, Result, Ok, Err, ◌⊎◌, inl, inr, refl, sym, ap, subst, ◌∙◌, arith}
-use Rattle.std.specs.Prelude.{ℤ, pos, negsuc, ⊤, nat_lt, int_lt, if◌then◌else◌}
+use Rattle.std.proofs.Common.{◌≡◌, ℕ, Bool, true, false, List, [], ◌∷◌, ◌++◌, map, Option, Some, None, Ok, Err, ◌⊎◌, inl, inr, refl, sym, ap, subst, ◌∙◌, arith}
+use Rattle.std.specs.Prelude.{ℤ, pos, negsuc, nat_lt, int_lt, if◌then◌else◌}
 use Rattle.vhost_link.specs.declared.handle.Kind.TheVariants.{NoSocket}
-use Rattle.vhost_protocol.specs.FrontendCall.{PostcopyAdvise, Value, HandleOf}
+use Rattle.vhost_protocol.specs.FrontendCall.{PostcopyAdvise}
 use Rattle.vhost_protocol.specs.Stream.{carrying, first_handles}
 use Rattle.vhost_link.specs.declared.plain.PlainHandle.{PlainHandle}
 use Rattle.vhost_frontend_core.specs.Values.{answer_of}
 use Rattle.vhost_frontend_core.specs.declared.values.answer.FrontendAnswer.{FrontendAnswer}
 use Rattle.vhost_frontend_core.specs.declared.values.answer.FrontendAnswer.TheVariants as answer
 use Rattle.vhost_c.specs.Answers.{ReadsFd}
-use Rattle.vhost_c.specs.Moving.{TakesIn}
+use Rattle.vhost_c_common.specs.Moving.{TakesIn}
 use Rattle.vhost_c.specs.Names.{Names}
-use Rattle.vhost_c.specs.Number.{outcome_number}
-use Rattle.vhost_c.specs.Records.{handle_in, fd_in}
-use Rattle.vhost_c.specs.Session.{By, none, some, Asking, Asks, sent, at_once, Receiving, Takes, kept, Reading, arrived}
-use Rattle.vhost_c.specs.declared.refusal.Refusal.{Refusal}
+use Rattle.vhost_c_common.specs.Number.{outcome_number}
+use Rattle.vhost_c_common.specs.Records.{handle_in, fd_in}
+use Rattle.vhost_c_common.specs.ByNumber.{By, none, some}
+use Rattle.vhost_c.specs.Session.{Asking, Asks, sent, at_once, Receiving, Takes, kept, Reading, arrived}
+use Rattle.vhost_c_common.specs.declared.refusal.Refusal.{Refusal}
 use Rattle.vhost_c.specs.declared.session.Session.{Session}
 
 -- all that came is this descriptor; or it is none

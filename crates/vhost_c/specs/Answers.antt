@@ -5,11 +5,11 @@ use Rattle.vhost_message.specs.declared.records.inflight.VhostUserInflight.{Vhos
 use Rattle.vhost_message.specs.declared.records.shmem.VhostUserShMemConfig.{VhostUserShMemConfig}
 use Rattle.vhost_frontend_core.specs.declared.values.answer.FrontendAnswer.{FrontendAnswer}
 use Rattle.vhost_frontend_core.specs.declared.values.answer.FrontendAnswer.TheVariants as answer
-use Rattle.vhost_c.specs.Records.{fd_in, config_in, inflight_in}
-use Rattle.vhost_c.specs.declared.records.Config.{Config}
-use Rattle.vhost_c.specs.declared.records.Inflight.{Inflight}
-use Rattle.vhost_c.specs.declared.refusal.Refusal.{Refusal}
-use Rattle.vhost_c.specs.declared.refusal.Refusal.TheVariants.{NoRoom, OtherAnswer}
+use Rattle.vhost_c_common.specs.Records.{fd_in, config_in, inflight_in}
+use Rattle.vhost_c_common.specs.declared.records.Config.{Config}
+use Rattle.vhost_c_common.specs.declared.records.Inflight.{Inflight}
+use Rattle.vhost_c_common.specs.declared.refusal.Refusal.{Refusal}
+use Rattle.vhost_c_common.specs.declared.refusal.Refusal.TheVariants.{NoRoom, OtherAnswer}
 
 -- a number, or features
 abbrev pub number_of : FrontendAnswer → Option ℕ

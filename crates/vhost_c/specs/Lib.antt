@@ -1,9 +1,12 @@
 pub mod Answers
 pub mod Awaiting
+pub mod Backend
+pub mod BackendHolder
+pub mod Channel
+pub mod ChannelHolder
+pub mod ChannelServerHolder
 pub mod Holder
 pub mod Incoming
-pub mod Moving
-pub mod Number
 pub mod Records
 pub mod Session
 pub mod Names

@@ -1,27 +1,12 @@
--- Records of C, as the definitions see them.
-use Rattle.std.specs.Prelude.{ℤ, pos, negsuc, nat_lt, int_lt, unsigned_abs, Option, Some, None, if◌then◌else◌}
-use Rattle.vhost_message.specs.declared.records.config.VhostUserConfig.{VhostUserConfig}
-use Rattle.vhost_message.specs.declared.records.inflight.VhostUserInflight.{VhostUserInflight}
-use Rattle.vhost_message.specs.declared.vring_config.VringConfigData.{VringConfigData}
+-- Arguments of C, as the definitions see them.
 use Rattle.vhost_protocol.specs.FrontendCall as calls
 use Rattle.vhost_protocol.specs.FrontendCall.{FrontendCall, Info, LogRegion}
-use Rattle.vhost_link.specs.declared.handle.Kind.TheVariants.{NoSocket}
 use Rattle.vhost_link.specs.declared.plain.PlainHandle.{PlainHandle}
 use Rattle.vhost_message.specs.Transfer.{direction_number, phase_number}
+use Rattle.vhost_c_common.specs.Records.{handle_in, inflight_in}
+use Rattle.vhost_c_common.specs.declared.records.Region.{Region}
 use Rattle.vhost_c.specs.declared.fd_asks.FdAsk.{FdAsk}
 use Rattle.vhost_c.specs.declared.fd_asks.FdAsk.TheVariants as asks
-use Rattle.vhost_c.specs.declared.records.Config.{Config}
-use Rattle.vhost_c.specs.declared.records.Inflight.{Inflight}
-use Rattle.vhost_c.specs.declared.records.Region.{Region}
-use Rattle.vhost_c.specs.declared.records.Vring.{Vring}
-
--- the handle of a descriptor: its number; none where that is negative
-abbrev pub handle_in : ℤ → Option PlainHandle
-handle_in fd = if int_lt fd (pos 0) then None else Some (record { id = unsigned_abs fd; kind = NoSocket })
-
--- the descriptor of a handle, or -1
-abbrev pub fd_in : PlainHandle → ℤ
-fd_in h = if nat_lt 2147483647 h.id then negsuc 0 else pos h.id
 
 -- a region and its handle
 abbrev pub info_in : Region → Info PlainHandle
@@ -30,18 +15,6 @@ info_in r = record { region = record { guest_phys_addr = r.guest_phys_addr; memo
 -- the part of a region's mapping where a log is kept
 abbrev pub log_in : Region → LogRegion PlainHandle
 log_in r = record { mmap_size = r.memory_size; mmap_offset = r.mmap_offset; handle = handle_in r.fd }
-
--- where a ring lies
-abbrev pub vring_in : Vring → VringConfigData
-vring_in v = record { queue_max_size = v.queue_max_size; queue_size = v.queue_size; flags = v.flags; desc_table_addr = v.desc_table_addr; used_ring_addr = v.used_ring_addr; avail_ring_addr = v.avail_ring_addr; log_addr = if v.has_log_addr then Some v.log_addr else None }
-
--- the buffer for descriptors in flight
-abbrev pub inflight_in : Inflight → VhostUserInflight
-inflight_in i = record { mmap_size = i.mmap_size; mmap_offset = i.mmap_offset; num_queues = i.num_queues; queue_size = i.queue_size }
-
--- a part of the configuration space
-abbrev pub config_in : Config → VhostUserConfig
-config_in c = record { offset = c.offset; size = c.size; flags = c.flags }
 
 -- a call that gives a descriptor
 abbrev pub call_with : FdAsk → PlainHandle → FrontendCall PlainHandle

@@ -10,6 +10,8 @@ use Rattle.vhost_message.specs.Header.{header_of}
 use Rattle.vhost_message.specs.MsgHeader.{fields_of}
 use Rattle.vhost_protocol.specs.Ask.{ask, Sends, Refuses}
 use Rattle.vhost_protocol.specs.declared.asked.Awaited.TheVariants.{Nobody}
+use Rattle.vhost_protocol.specs.declared.profile.Profile.{Profile}
+use Rattle.vhost_protocol.specs.declared.profile.Profile.TheVariants.{Standard}
 use Rattle.vhost_protocol.specs.Error.{seen}
 use Rattle.vhost_protocol.specs.FrontendCall.{FrontendCall, SetHdrFlags, Frontend, new_frontend}
 use Rattle.vhost_protocol.specs.Stream.{Cell, first_handles}
@@ -27,23 +29,22 @@ use Rattle.vhost_frontend_core.specs.declared.asked.Sent.{Sent}
 use Rattle.vhost_frontend_core.specs.declared.internal.FrontendInternal.{FrontendInternal}
 use Rattle.vhost_frontend_core.specs.declared.values.answer.FrontendAnswer.{FrontendAnswer}
 use Rattle.vhost_frontend_core.specs.declared.values.answer.FrontendAnswer.TheVariants.{Done, Failed}
-use Rattle.vhost_c.specs.Incoming.{missing_from, is_sized, Adds}
+use Rattle.vhost_c_common.specs.ByNumber.{By}
+use Rattle.vhost_c_common.specs.Carrying.{emptied}
+use Rattle.vhost_c_common.specs.Incoming.{Adds}
+use Rattle.vhost_c.specs.Incoming.{missing_from, is_sized}
 use Rattle.vhost_c.specs.Names.{Names}
-use Rattle.vhost_c.specs.Number.{outcome_number, inactive_in}
-use Rattle.vhost_c.specs.Moving.{HandsOut, TakesIn}
-use Rattle.vhost_c.specs.declared.incoming.Incoming.{Incoming}
-use Rattle.vhost_c.specs.declared.refusal.Refusal.{Refusal}
-use Rattle.vhost_c.specs.declared.refusal.Refusal.TheVariants.{NotTaken, Protocol, NothingAsked, NotYet}
+use Rattle.vhost_c_common.specs.Number.{inactive_in}
+use Rattle.vhost_c_common.specs.Moving.{HandsOut, TakesIn}
+use Rattle.vhost_c_common.specs.declared.incoming.Incoming.{Incoming}
+use Rattle.vhost_c_common.specs.declared.refusal.Refusal.{Refusal}
+use Rattle.vhost_c_common.specs.declared.refusal.Refusal.TheVariants.{NotTaken, Protocol, NothingAsked, NotYet}
 use Rattle.vhost_c.specs.declared.session.Asked.{Asked as CallAsked}
 use Rattle.vhost_c.specs.declared.session.Session.{Session}
 
 -- what is to be sent: bytes, each with the descriptors that go with it
 abbrev pub queued : Session → List (Cell PlainHandle)
 queued s = s.outgoing.link.pending ++ (endpoint_of s.frontend).link.sent
-
--- an endpoint for which nothing came
-abbrev pub emptied : State Ends PlainHandle → State Ends PlainHandle
-emptied e = record e { link = record e.link { pending = [] }; ahead = [] }
 
 -- what came, and was not taken
 abbrev pub arrived : Session → List (Cell PlainHandle)
@@ -72,18 +73,13 @@ missing_at None = 0
 missing_at (Some s) = missing_of s
 
 -- whether what came announces an answer of the size that the call's has
-abbrev pub is_sized_of : CallAsked → Incoming → Bool
-is_sized_of asked i = is_sized (call_of asked.call) asked.sent.awaited (header_of i.head).size
+abbrev pub is_sized_of : Profile → CallAsked → Incoming → Bool
+is_sized_of profile asked i = is_sized profile (call_of asked.call) asked.sent.awaited (header_of i.head).size
 
 -- the same of the last call that was asked, where there is a session
 abbrev pub inactive_at : Option Session → ℕ
 inactive_at None = 0
 inactive_at (Some s) = s.inactive
-
--- What an endpoint sent is behind what is to be sent, and nothing else changed.
-pub record Collects (old new : State Ends PlainHandle) (before after : List (Cell PlainHandle)) : Type 0 where
-  pub given : new ≡ record old { link = record old.link { sent = [] } }
-  pub got : after ≡ before ++ old.link.sent
 
 -- A call that was sent is kept until its answer is taken, with the header of its request and with what is awaited. Of its answer nothing came yet, and nothing that came before waits.
 pub record Keeps (call : FrontendCall PlainHandle) (w : Written FrontendReq PlainHandle) (s : Session) : Type 0 where
@@ -140,11 +136,6 @@ Becomes call s (Err r) s' = Refused call s r × Stays s s'
 abbrev pub Asking : FrontendCall PlainHandle → Session → Result ⊤ Refusal → Session → Type 0
 Asking call s outcome s' = Becomes call s outcome s' × (s'.inactive ≡ inactive_in outcome)
 
--- A call of C, by the number that it answers: there is no session, or what it does to the session is this.
-pub data By (does : Session → Result ⊤ Refusal → Session → Type 0) : Option Session → ℕ → Option Session → Type 0 where
-  none : By does None 101 None
-  some : {s s' : Session} {outcome : Result ⊤ Refusal} → does s outcome s' → By does (Some s) (outcome_number outcome) (Some s')
-
 -- an ask of C
 abbrev pub AsksBy : FrontendCall PlainHandle → Option Session → ℕ → Option Session → Type 0
 AsksBy call = By (Asking call)
@@ -184,9 +175,9 @@ pub record TakesOne (asked : CallAsked) (end : State Ends PlainHandle) (old : Se
 
 -- What taking answers: the answer is kept, is no error, and names no descriptor but the one that came with its first byte; or it is this error; or it announces another size than the call's answer has, and what is taken is the answer of a device that sent nothing; or nothing was asked, or bytes of the answer are missing, and nothing changed.
 pub data Takes (old new : Session) : Result ⊤ Refusal → Type 0 where
-  kept : (asked : CallAsked) → missing_of old ≡ 0 → is_sized_of asked old.incoming ≡ true → TakesOne asked (endpoint_of old.frontend) old new.answer new → Names (first_handles (arrived old)) (answer_of new.answer) → ((e : declared.Error) → ¬ (new.answer ≡ Failed e)) → Takes old new (Ok tt)
-  failed : (asked : CallAsked) {e : declared.Error} → missing_of old ≡ 0 → is_sized_of asked old.incoming ≡ true → TakesOne asked (endpoint_of old.frontend) old (Failed e) new → new.answer ≡ Done → Takes old new (Err (Protocol e))
-  other_size : (asked : CallAsked) (nothing : FrontendAnswer) → missing_of old ≡ 0 → is_sized_of asked old.incoming ≡ false → TakesOne asked (emptied (endpoint_of old.frontend)) old nothing new → new.answer ≡ Done → Takes old new (Err (Protocol InvalidMessage))
+  kept : (asked : CallAsked) → missing_of old ≡ 0 → is_sized_of (remembers old).profile asked old.incoming ≡ true → TakesOne asked (endpoint_of old.frontend) old new.answer new → Names (first_handles (arrived old)) (answer_of new.answer) → ((e : declared.Error) → ¬ (new.answer ≡ Failed e)) → Takes old new (Ok tt)
+  failed : (asked : CallAsked) {e : declared.Error} → missing_of old ≡ 0 → is_sized_of (remembers old).profile asked old.incoming ≡ true → TakesOne asked (endpoint_of old.frontend) old (Failed e) new → new.answer ≡ Done → Takes old new (Err (Protocol e))
+  other_size : (asked : CallAsked) (nothing : FrontendAnswer) → missing_of old ≡ 0 → is_sized_of (remembers old).profile asked old.incoming ≡ false → TakesOne asked (emptied (endpoint_of old.frontend)) old nothing new → new.answer ≡ Done → Takes old new (Err (Protocol InvalidMessage))
   nothing_asked : old.asked ≡ None → new ≡ old → Takes old new (Err NothingAsked)
   not_yet : 0 < missing_of old → new ≡ old → Takes old new (Err NotYet)
 
@@ -222,12 +213,28 @@ pub data AsksUnless (bad : Type 0) (call : FrontendCall PlainHandle) (old : Opti
   refuses : bad → n ≡ 1 → new ≡ old → AsksUnless bad call old n new
   wants : n ≡ 24 → new ≡ old → AsksUnless bad call old n new
 
--- A new session: nothing is to be sent, nothing came, nothing is asked.
+-- A new session: nothing is to be sent, nothing came, nothing is asked. It has the profile Standard, since a program in C speaks with real backends.
 pub record IsNew (max_queue_num : ℕ) (s : Session) : Type 0 where
   pub queue : queued s ≡ []
   pub came : arrived s ≡ []
-  pub memory : remembers s ≡ new_frontend max_queue_num
+  pub memory : remembers s ≡ record (new_frontend max_queue_num) { profile = Standard }
   pub asked : s.asked ≡ None
+
+-- A session has another profile, and the rest is as before.
+pub record Changes (profile : Profile) (old new : Session) : Type 0 where
+  pub memory : remembers new ≡ record (remembers old) { profile = profile }
+  pub queue : queued new ≡ queued old
+  pub end : end_of new ≡ end_of old
+  pub came : arrived new ≡ arrived old
+  pub asked : new.asked ≡ old.asked
+  pub incoming : new.incoming ≡ old.incoming
+  pub answer : new.answer ≡ old.answer
+  pub inactive : new.inactive ≡ old.inactive
+
+-- what becomes of a choice of profile
+abbrev pub Choosing : Profile → Session → Result ⊤ Refusal → Session → Type 0
+Choosing profile s (Ok done) s' = Changes profile s s'
+Choosing profile s (Err r) s' = ⊥
 
 -- A session was opened; or there was one; or memory was refused.
 pub data Opens (max_queue_num : ℕ) : Option Session → ℕ → Option Session → Type 0 where

@@ -1,12 +1,12 @@
 //! The answer that was decoded last is read, by its form.
 
 ghost use Rattle.vhost_c.specs.Answers.{Puts, ReadsNumber, ReadsBases, ReadsConfig, ReadsFd, ReadsInflight, ReadsShmem};
-ghost use Rattle.vhost_c.specs.Session.{By, Reading};
+ghost use Rattle.vhost_c_common.specs.ByNumber.{By};
+ghost use Rattle.vhost_c.specs.Session.{Reading};
 
 use crate::holder::Holder;
-use crate::records::{Config, Inflight, fd_of};
-use crate::refusal::{Refusal, number_of};
 use std::alloc::Global;
+use vhost_c_common::{Config, Inflight, Refusal, fd_of, number_of};
 use vhost_frontend_core::FrontendAnswer;
 
 type Outcome = Result<(), Refusal>;

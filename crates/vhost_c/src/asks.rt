@@ -2,19 +2,20 @@
 
 ghost use Rattle.std.specs.Prelude.{◌≡◌, ◌≢◌, ◌<◌, length, map, replicate};
 ghost use Rattle.vhost_message.specs.declared.limits.TheConstants.{MAX_MSG_SIZE, MAX_MEM_REGIONS};
-ghost use Rattle.vhost_c.specs.Number.{error_number};
+ghost use Rattle.vhost_c_common.specs.Number.{error_number};
 ghost use Rattle.vhost_protocol.specs.FrontendCall as calls;
 ghost use Rattle.vhost_frontend_core.specs.Values.{call_of};
-ghost use Rattle.vhost_c.specs.Records.{vring_in, inflight_in, info_in};
+ghost use Rattle.vhost_c_common.specs.Records.{vring_in, inflight_in};
+ghost use Rattle.vhost_c.specs.Records.{info_in};
 ghost use Rattle.vhost_c.specs.Session.{AsksBy, AsksAllowed, AsksNamed, AsksUnless, is_header_flag};
 ghost use Rattle.vhost_message.specs.FrontendReq.{request_at};
 
 use crate::holder::Holder;
-use crate::records::{Inflight, Region, Vring, infos_of};
-use crate::refusal::{Refusal, number_of};
+use crate::regions::{info_of, infos_of};
 use bitflags::Flags;
 use std::alloc::Global;
 use uuid::Uuid;
+use vhost_c_common::{Inflight, Refusal, Region, Vring, number_of};
 use vhost_frontend_core::FrontendCall;
 use vhost_message::{
     Error, FrontendReq, MAX_MSG_SIZE, VhostUserConfigFlags, VhostUserHeaderFlag,
@@ -231,7 +232,7 @@ pub extern "C" fn covretin_ask_add_mem_region(
 ) -> u32
     ensures { AsksBy (calls.AddMemRegion (info_in region.now)) session.old.session result session.new.session }
 {
-    asked(alloc, session, FrontendCall::AddMemRegion(region.info()))
+    asked(alloc, session, FrontendCall::AddMemRegion(info_of(region)))
 }
 
 /// Removes a region of memory.
@@ -243,7 +244,11 @@ pub extern "C" fn covretin_ask_remove_mem_region(
 ) -> u32
     ensures { AsksBy (calls.RemoveMemRegion (info_in region.now)) session.old.session result session.new.session }
 {
-    asked(alloc, session, FrontendCall::RemoveMemRegion(region.info()))
+    asked(
+        alloc,
+        session,
+        FrontendCall::RemoveMemRegion(info_of(region)),
+    )
 }
 
 /// Asks for the regions of shared memory.

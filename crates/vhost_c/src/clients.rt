@@ -3,9 +3,9 @@
 ghost use Rattle.std.specs.Prelude.{◌≡◌, ◌⊎◌, ◌∷◌, [], None, negsuc};
 ghost use Rattle.std.specs.Option.{IsSomeAnd};
 ghost use Rattle.vhost_protocol.specs.Stream.{bytes};
-ghost use Rattle.vhost_c.specs.Number.{number};
+ghost use Rattle.vhost_c_common.specs.Number.{number};
 ghost use Rattle.vhost_c.specs.Session.{queued};
-ghost use Rattle.vhost_c.specs.declared.refusal.Refusal.TheVariants.{NotYet};
+ghost use Rattle.vhost_c_common.specs.declared.refusal.Refusal.TheVariants.{NotYet};
 
 use crate::answers::covretin_answer_fd;
 use crate::asks::{covretin_ask_get_features, covretin_ask_postcopy_advise};

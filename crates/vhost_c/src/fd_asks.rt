@@ -3,15 +3,17 @@
 ghost use Rattle.std.specs.Prelude.{◌≡◌, Some, None};
 ghost use Rattle.vhost_protocol.specs.FrontendCall as calls;
 ghost use Rattle.vhost_frontend_core.specs.Values.{call_of};
-ghost use Rattle.vhost_c.specs.Records.{handle_in, log_in, call_with};
+ghost use Rattle.vhost_c_common.specs.Records.{handle_in};
+ghost use Rattle.vhost_c.specs.Records.{log_in, call_with};
 ghost use Rattle.vhost_c.specs.Session.{AsksBy, AsksWith, AsksNamed};
 ghost use Rattle.vhost_message.specs.Transfer.{direction_at, phase_at};
 ghost use Rattle.vhost_c.specs.declared.fd_asks.FdAsk.TheVariants.{SetLogFd, SetBackendRequestFd, SetInflightFd, SetDeviceStateFd};
 
 use crate::asks::{asked, refused};
 use crate::holder::Holder;
-use crate::records::{Inflight, Region, handle_of};
+use crate::regions::log_of;
 use std::alloc::Global;
+use vhost_c_common::{Inflight, Region, handle_of};
 use vhost_frontend_core::FrontendCall;
 use vhost_link::PlainHandle;
 use vhost_message::{Error, VhostTransferStateDirection, VhostTransferStatePhase};
@@ -138,7 +140,7 @@ pub extern "C" fn covretin_ask_set_log_base(
 ) -> u32
     ensures { AsksBy (calls.SetLogBase base (Some (log_in region.now))) session.old.session result session.new.session }
 {
-    let call = FrontendCall::SetLogBase(base, Some(region.log()));
+    let call = FrontendCall::SetLogBase(base, Some(log_of(region)));
     asked(alloc, session, call)
 }
 

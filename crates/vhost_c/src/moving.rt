@@ -1,11 +1,12 @@
 //! What a session sends goes out, what came for it is received, and its answers are decoded.
 
 ghost use Rattle.std.specs.Prelude.{◌≡◌};
-ghost use Rattle.vhost_c.specs.Session.{By, Sending, Receiving, Takes, missing_at, inactive_at};
+ghost use Rattle.vhost_c_common.specs.ByNumber.{By};
+ghost use Rattle.vhost_c.specs.Session.{Sending, Receiving, Takes, missing_at, inactive_at};
 
 use crate::holder::Holder;
-use crate::refusal::{Refusal, number_of};
 use std::alloc::Global;
+use vhost_c_common::{Refusal, number_of};
 
 /// Hands out a piece of what is to be sent: bytes, and the descriptors that go with the first of them.
 #[unsafe(no_mangle)]

@@ -5,20 +5,19 @@ ghost use Rattle.std.specs.Option.{ForSome};
 ghost use Rattle.vhost_message.specs.declared.cause.IoCause.TheVariants.{Raw};
 ghost use Rattle.vhost_message.specs.declared.errno.TheConstants.{ENOMEM};
 ghost use Rattle.vhost_frontend_core.specs.Awaiting.{MayAwait};
-ghost use Rattle.vhost_frontend_core.specs.Frontend.{endpoint_of, awaits};
+ghost use Rattle.vhost_frontend_core.specs.Frontend.{endpoint_of, session_of, awaits};
 ghost use Rattle.vhost_frontend_core.specs.Kept.{IsKeptFor};
 ghost use Rattle.vhost_frontend_core.specs.Values.{call_of};
+ghost use Rattle.vhost_protocol.specs.declared.profile.Profile.TheVariants.{Standard};
 ghost use Rattle.vhost_c.specs.Awaiting.{awaited_of};
 
 use crate::carrying::{collect, forget, forget_arrived, give, take_nothing};
-use crate::incoming::Incoming;
-use crate::outgoing::Outgoing;
-use crate::records::handles_of;
-use crate::refusal::{Refusal, inactive_of};
+use crate::incoming::is_sized;
 use std::alloc::Global;
+use vhost_c_common::{Incoming, Outgoing, Refusal, handles_of, inactive_of};
 use vhost_connection::talks_law;
 use vhost_frontend_core::{
-    Awaited, FrontendAnswer, FrontendCall, FrontendInternal, Sent, ask, take,
+    Awaited, FrontendAnswer, FrontendCall, FrontendInternal, Profile, Sent, ask, take,
 };
 use vhost_link::{MemLink, stream_law};
 use vhost_message::{Error, MAX_ATTACHED_FD_ENTRIES};
@@ -56,10 +55,10 @@ pub struct Session {
 
 impl Session {
     ghost use Rattle.vhost_message.specs.declared.limits.TheConstants.{MAX_MSG_TEXT};
-    ghost use Rattle.vhost_c.specs.Moving.{HandsOut};
-    ghost use Rattle.vhost_c.specs.Session.{IsNew, Asks, Asking, Becomes, Stays, Hands, Fails, Receiving, Takes, queued, remembers, missing_of};
+    ghost use Rattle.vhost_c_common.specs.Moving.{HandsOut};
+    ghost use Rattle.vhost_c.specs.Session.{IsNew, Changes, Asks, Asking, Becomes, Stays, Hands, Fails, Receiving, Takes, queued, remembers, missing_of};
 
-    /// A new session with a backend of at most so many queues.
+    /// A new session with a backend of at most so many queues, of the profile `Standard`.
     ///
     /// OutOfMemory: an allocation failed.
     pub(crate) fn new(alloc: Global, max_queue_num: u64) -> std::result::Result<Session, Error>
@@ -71,7 +70,7 @@ impl Session {
         };
         match FrontendInternal::new(alloc, link, max_queue_num, BUDGET) {
             Ok(frontend) => Ok(Session {
-                frontend,
+                frontend: standard(frontend),
                 outgoing,
                 asked: None,
                 incoming: Incoming::new(),
@@ -81,6 +80,13 @@ impl Session {
             }),
             Err(error) => Err(error),
         }
+    }
+
+    /// Has this profile from now on, also for the answer of a call that was asked.
+    pub(crate) fn set_profile(&mut self, profile: Profile)
+        ensures { Changes profile self.old self.new }
+    {
+        self.frontend.set_profile(profile);
     }
 
     /// Asks. What is to be sent then waits to be handed out.
@@ -208,7 +214,8 @@ impl Session {
     /// Decodes the answer of the call that was asked.
     ///
     /// NothingAsked: no call's answer is still to be decoded. NotYet: bytes are missing. After both, nothing changed.
-    /// InvalidMessage: the answer has another size than this call's, and nothing of it was read. The errors of the call.
+    /// InvalidMessage: the answer has another size than this call's, and nothing of it was read, but under `Standard`, where it
+    /// is read by its header. The errors of the call.
     /// After these, nothing is asked any more.
     pub(crate) fn take(&mut self) -> Outcome<()>
         ensures { Takes self.old self.new result }
@@ -220,7 +227,8 @@ impl Session {
         talks_law();
         match self.asked.take() {
             Some(Asked { call, sent }) => {
-                if !self.incoming.is_sized(&call, sent.awaited()) {
+                let profile = self.frontend.profile();
+                if !is_sized(&self.incoming, profile, &call, sent.awaited()) {
                     let _nothing = take_nothing(&mut self.frontend, &call, sent);
                     self.answer = FrontendAnswer::Done;
                     return Err(Refusal::Protocol(Error::InvalidMessage));
@@ -253,4 +261,14 @@ impl Session {
     {
         &self.answer
     }
+}
+
+/// The same frontend with the profile of real backends.
+fn standard(mut frontend: FrontendInternal<MemLink>) -> FrontendInternal<MemLink>
+    ensures endpoint { endpoint_of result ≡ endpoint_of frontend }
+    ensures session { session_of result ≡ record (session_of frontend) { profile = Standard } }
+    ensures awaited { awaits result ≡ awaits frontend }
+{
+    frontend.set_profile(Profile::Standard);
+    frontend
 }

@@ -34,7 +34,7 @@ not-zero : (n : ℕ) → (suc n == 0) ≡ false
 not-zero n = grind (arith, nat_tests)
 
 -- a list is empty, or has some
-none-is : {H : Type 0} (xs : List H) → (length xs == 0) ≡ not (has_some xs)
+pub none-is : {H : Type 0} (xs : List H) → (length xs == 0) ≡ not (has_some xs)
 none-is [] = refl
 none-is (x ∷ xs) = not-zero (length xs)
 

@@ -22,6 +22,8 @@ pub mod Bare
 pub mod Asking
 pub mod Handed
 pub mod Replies
+pub mod Whole
+pub mod Sized
 pub mod Serving
 pub mod Running
 mod Fronting

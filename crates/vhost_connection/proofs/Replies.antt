@@ -9,6 +9,7 @@ use Rattle.vhost_message.specs.declared.error.Error.TheVariants as code
 use Rattle.vhost_message.specs.Header.{Header, header_of, is_valid_header, is_reply_for}
 use Rattle.vhost_protocol.specs.Stream.{Cell, bytes, first_handles, has_some, items}
 use Rattle.vhost_protocol.specs.Error.{Error, PartialMessage, InvalidMessage}
+use Rattle.vhost_protocol.specs.declared.profile.Profile.TheVariants.{Vhost}
 use Rattle.vhost_protocol.specs.ReplySplit.{Received, reply_split, received}
 use Rattle.vhost_protocol.specs.Split.{Splits}
 use Rattle.vhost_protocol.proofs.ReplyLaws.{reply-rest}
@@ -149,7 +150,7 @@ module _ {M R T L H : Type 0} (event : L → Event H → L → Type 0) (is_known
 
   -- the reply for the request came
   pub reply-comes : (old new : State L H) (sent : Header) (before after : List ℕ) (h : M) (t : T) (n : ℕ) (hs : Option (Vec H Global)) (s : ℕ) → ReadsReply old before (Ok (h, t, n, hs)) after new
-      → is_reply_for request_of (fields h) sent ≡ true → s ≡ (fields h).size → RecvsReply event is_known request_of size read valid old sent before (Ok (s, t, n, hs)) after new
+      → is_reply_for request_of (fields h) sent ≡ true → s ≡ (fields h).size → RecvsReply event is_known request_of Vhost size read valid old sent before (Ok (s, t, n, hs)) after new
   unfolding reply_in
   reply-comes old new sent before after h t n hs s (cs, room, (m, (count, (is_h, ok, is_t, ok_t, over)))) answered said =
       let head = head-is cs h is_h in
@@ -170,7 +171,7 @@ module _ {M R T L H : Type 0} (event : L → Event H → L → Type 0) (is_known
 
   -- what came is no reply for the request
   pub reply-unfit : (old new : State L H) (sent : Header) (before after : List ℕ) (h : M) (t : T) (n : ℕ) (hs : Option (Vec H Global)) → ReadsReply old before (Ok (h, t, n, hs)) after new
-      → is_reply_for request_of (fields h) sent ≡ false → Missing event is_known request_of size (λ bs. valid (read bs)) (length before) old sent code.InvalidMessage new
+      → is_reply_for request_of (fields h) sent ≡ false → Missing event request_of (reply_split is_known size (λ bs. valid (read bs)) (length before)) old sent code.InvalidMessage new
   unfolding reply_in
   reply-unfit old new sent before after h t n hs (cs, room, (m, (count, (is_h, ok, is_t, ok_t, over)))) bad =
       let head = head-is cs h is_h in
@@ -180,11 +181,11 @@ module _ {M R T L H : Type 0} (event : L → Event H → L → Type 0) (is_known
 
   -- there is none
   pub reply-fails : (old new : State L H) (sent : Header) (before after : List ℕ) (e : declared.Error) → ReadsReply old before (Err e) after new
-      → Missing event is_known request_of size (λ bs. valid (read bs)) (length before) old sent e (broken_on e new)
+      → Missing event request_of (reply_split is_known size (λ bs. valid (read bs)) (length before)) old sent e (broken_on e new)
   reply-fails old new sent before after e (cs, room, inr f) = failed (trouble-breaks event old IfSound false (receives (items cs) f.retries) e new f.trouble refl (lit≤ tt))
   reply-fails old new sent before after e (cs, room, inl (m, bad)) = go e bad
     where
-      go : (y : declared.Error) → IsNoMessage (12 + size) (is_sound (λ bs. of_head (header_of bs)) valid_head size read valid) cs y → Missing event is_known request_of size (λ bs. valid (read bs)) (length before) old sent y (broken_on y new)
+      go : (y : declared.Error) → IsNoMessage (12 + size) (is_sound (λ bs. of_head (header_of bs)) valid_head size read valid) cs y → Missing event request_of (reply_split is_known size (λ bs. valid (read bs)) (length before)) old sent y (broken_on y new)
       go y (too_few short) =
           none (record {
             hears = record { cells = cs; ended = true; retries = m.retries; serves = came-ended m (omega (arith, short)); splits = reply-short is_known size (length before) (λ bs. valid (read bs)) cs short };

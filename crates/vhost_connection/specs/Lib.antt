@@ -10,6 +10,7 @@ pub mod Hearing
 pub mod Bare
 pub mod Requests
 pub mod Asking
+pub mod Whole
 pub mod Serving
 pub mod Sockets
 pub mod Memory

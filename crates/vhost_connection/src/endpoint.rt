@@ -8,6 +8,7 @@ mod receives;
 mod requests;
 mod sends;
 mod sockets;
+mod whole;
 
 use crate::buffer::Source;
 use crate::buffers::{Buffers, Text};

@@ -1,6 +1,7 @@
 //! What the arguments ask for.
 
 use std::fmt;
+use vhost_protocol::Profile;
 use vhost_serve::Options;
 
 /// The most connections that `PATH COUNT` asks for.
@@ -34,6 +35,8 @@ pub enum Wrong<'a> {
     Beside(&'a str),
     /// This is no number of connections.
     Count(&'a str),
+    /// There is no such profile.
+    Profile(&'a str),
 }
 
 impl fmt::Display for Wrong<'_> {
@@ -45,6 +48,7 @@ impl fmt::Display for Wrong<'_> {
             Wrong::NoPath => f.write_str("--socket-path is missing"),
             Wrong::Beside(word) => write!(f, "{word} is given beside --socket-path"),
             Wrong::Count(word) => write!(f, "--count={word}: not a number from 1 to 4294967295"),
+            Wrong::Profile(word) => write!(f, "--profile={word}: neither standard nor vhost"),
         }
     }
 }
@@ -56,6 +60,7 @@ struct Words<'a> {
     count: Option<&'a str>,
     socket_path: Option<&'a str>,
     limit: Option<&'a str>,
+    profile: Option<&'a str>,
     verbose: bool,
     /// Whether there are more than two words without a name.
     is_long: bool,
@@ -83,8 +88,18 @@ pub fn call_of<'a>(words: &'a [String]) -> Result<Call<'a>, Wrong<'a>> {
     let options = Options {
         count,
         verbose: words.verbose,
+        profile: profile_of(words)?,
     };
     Ok(Call::Serve(path, options))
+}
+
+/// The profile that is named; without one, that of the crate `vhost`.
+fn profile_of<'a>(words: Words<'a>) -> Result<Profile, Wrong<'a>> {
+    match words.profile {
+        None | Some("vhost") => Ok(Profile::Vhost),
+        Some("standard") => Ok(Profile::Standard),
+        Some(word) => Err(Wrong::Profile(word)),
+    }
 }
 
 /// The first word that asks for an answer at once, whatever the others are.
@@ -107,6 +122,7 @@ fn sorted<'a>(words: &'a [String]) -> Result<Words<'a>, Wrong<'a>> {
         count: None,
         socket_path: None,
         limit: None,
+        profile: None,
         verbose: false,
         is_long: false,
     };
@@ -124,6 +140,11 @@ fn sorted<'a>(words: &'a [String]) -> Result<Words<'a>, Wrong<'a>> {
                 return Err(Wrong::Twice("--count"));
             }
             sorted.limit = Some(limit);
+        } else if let Some(profile) = word.strip_prefix("--profile=") {
+            if sorted.profile.is_some() {
+                return Err(Wrong::Twice("--profile"));
+            }
+            sorted.profile = Some(profile);
         } else if word.starts_with('-') {
             return Err(Wrong::Unknown(word));
         } else if sorted.path.is_none() {
@@ -150,6 +171,7 @@ fn plain<'a>(words: Words<'a>) -> Result<Call<'a>, Wrong<'a>> {
             let options = Options {
                 count: Some(count),
                 verbose: words.verbose,
+                profile: profile_of(words)?,
             };
             Ok(Call::Serve(path, options))
         }

@@ -23,13 +23,15 @@ const CAPABILITIES: &str = "{\n  \"type\": \"net\"\n}";
 
 /// What `--help` says.
 const HELP: &str = "usage: vhost-daemon PATH COUNT
-   or: vhost-daemon --socket-path=PATH [--count=N]
+   or: vhost-daemon --socket-path=PATH [--count=N] [--profile=NAME]
 
 Serves an example device to each client that connects to the Unix socket at PATH.
 
   COUNT                 how many connections are accepted, 1 to 1024
   --socket-path=PATH    the same PATH
   --count=N             how many connections are accepted; without it, as many as come
+  --profile=NAME        standard: as the specification and real frontends want it; vhost: as the crate vhost, which is what it does
+                        without it
   -v                    reports on standard error each request that is refused
   --print-capabilities  prints what the device is, in JSON
   --version             prints the version

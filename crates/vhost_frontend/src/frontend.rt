@@ -14,6 +14,7 @@ use crate::traits::VhostUserFrontend;
 use std::alloc::{AllocError, Global};
 use std::sync::{Arc, Mutex, Wait};
 use vhost_backend::{Result, VhostBackend, VhostUserDirtyLogRegion, VhostUserMemoryRegionInfo};
+use vhost_frontend_core::Profile;
 use vhost_link::Link;
 use vhost_message::{
     Error, FrontendReq, VhostTransferStateDirection, VhostTransferStatePhase, VhostUserConfig,
@@ -66,6 +67,12 @@ impl<L: Link> Frontend<L> {
     /// The flags of each request from now on: of these, REPLY and NEED_REPLY are sent.
     pub fn set_hdr_flags(&self, rt: &impl Wait, flags: VhostUserHeaderFlag) {
         self.inner.lock(rt).set_hdr_flags(flags);
+    }
+
+    /// Whose behaviour it has from now on: that of the crate `vhost`, as a new session, or that of the specification and of
+    /// real backends.
+    pub fn set_profile(&self, rt: &impl Wait, profile: Profile) {
+        self.inner.lock(rt).set_profile(profile);
     }
 }
 

@@ -12,7 +12,7 @@ ghost use Rattle.vhost_frontend_core.specs.declared.internal.FrontendInternal.{F
 ghost use Rattle.vhost_frontend.specs.Whole.{Whole, awaited_of};
 
 use std::alloc::Global;
-use vhost_frontend_core::{FrontendInternal, Sent};
+use vhost_frontend_core::{FrontendInternal, Profile, Sent};
 use vhost_link::Link;
 use vhost_message::{Result, VhostUserHeaderFlag};
 
@@ -63,6 +63,15 @@ impl<L: Link> Quiet<L> {
         ensures session { session_of self.new.inner ≡ record (session_of self.old.inner) { header_flags = flags.bits } }
     {
         self.inner.set_hdr_flags(flags);
+    }
+
+    /// Whose behaviour it has from now on: that of the crate `vhost`, as a new session, or that of the specification and of
+    /// real backends.
+    pub fn set_profile(&mut self, profile: Profile)
+        ensures endpoint { endpoint_of self.new.inner ≡ endpoint_of self.old.inner }
+        ensures session { session_of self.new.inner ≡ record (session_of self.old.inner) { profile = profile } }
+    {
+        self.inner.set_profile(profile);
     }
 
     /// Whether the last call that sent or received met an I/O error: the link failed, or retried once too often.

@@ -6,7 +6,7 @@ use Rattle.vhost_message.specs.declared.frontend_req.FrontendReq.{FrontendReq}
 use Rattle.vhost_message.specs.Bits.{has_bit}
 use Rattle.vhost_protocol.specs.Error.{Error, seen}
 use Rattle.vhost_protocol.specs.FrontendCall.{Frontend}
-use Rattle.vhost_protocol.specs.Ask.{Asked, Sends, ◌>>◌, quietly}
+use Rattle.vhost_protocol.specs.Ask.{Asked, Sends, ◌>>◌, needs_reply, message, quietly}
 use Rattle.vhost_protocol.specs.declared.asked.Awaited.{Awaited}
 use Rattle.vhost_protocol.specs.Written.{Payload, Written}
 use Rattle.vhost_link.specs.Law.{Event}
@@ -89,6 +89,10 @@ module _ {L H : Type 0} {event : L → Event H → L → Type 0} where
   pub keeping : {asked : Asked H} {old new : State L H} {f f' : Frontend} {before after : Awaited} {sent : Sent} (kept : Kept) → Asks event asked old f before (Ok sent) new f' after
       → Asks event asked old f before (Ok (record sent { kept = kept })) new f' after
   keeping kept (asking.goes e g) = asking.goes e (record { retries = g.retries; serves = g.serves; header = g.header; awaits = g.awaits; list = g.list })
+
+-- a request with the session's flags
+pub message_is : {H : Type 0} (flags : ℕ) (f : Frontend) (r : FrontendReq) (p : Payload) (hs : List H) → has_bit flags 2 ≡ has_bit f.header_flags 2 → has_bit flags 3 ≡ needs_reply f → request_with flags r p hs ≡ message f r p hs
+message_is flags f r p hs reply need j = record { request = r; reply = reply j; need_reply = need j; payload = p; handles = hs }
 
 -- a request without NEED_REPLY
 pub quiet_is : {H : Type 0} (flags : ℕ) (f : Frontend) (r : FrontendReq) (p : Payload) (hs : List H) → has_bit flags 2 ≡ has_bit f.header_flags 2 → has_bit flags 3 ≡ false → request_with flags r p hs ≡ quietly f r p hs

@@ -28,11 +28,9 @@ or-ack b s = inl (is-ack b)
 or-reply : (s : Shape) → IsAck (Reply s) ⊎ (Reply s ≡ Reply s)
 or-reply s = inr refl
 
-or-none : (Nobody ≡ Nobody) ⊎ (Nobody ≡ Reply shape.Log)
-or-none = inl refl
-
-or-log : (Reply shape.Log ≡ Nobody) ⊎ (Reply shape.Log ≡ Reply shape.Log)
-or-log = inr refl
+or-base : (standard b : Bool) → IsAck (cond standard (cond b Ack Nobody) Nobody) ⊎ (cond standard (cond b Ack Nobody) Nobody ≡ Reply shape.Log)
+or-base true b = inl (is-ack b)
+or-base false b = inl tt
 
 module _ (H : Type 0) (call : FrontendCall H) where
   allowed-then : (x : Result (Unit {0}) Error) (next : Asked H) → AwaitsAllowed call next → AwaitsAllowed call (x >> next)
@@ -47,10 +45,10 @@ module _ (H : Type 0) (call : FrontendCall H) where
   allowed-cond true x y h k = h
   allowed-cond false x y h k = k
 
-ruleset allowing = (allowed-then, allowed-given, allowed-cond, is-ack, or-ack, or-reply, or-none, or-log)
+ruleset allowing = (allowed-then, allowed-given, allowed-cond, is-ack, or-ack, or-reply, or-base)
 
 allowed : {H : Type 0} (f : Frontend) (call : FrontendCall H) → AwaitsAllowed call (ask f call)
-allowed f (SetLogBase base None) = or-none
+allowed f (SetLogBase base None) = search allowing
 allowed f (SetLogBase base (Some r)) = search allowing
 allowed f _ = search allowing
 
@@ -107,8 +105,8 @@ module _ {L H : Type 0} {event : L → Event H → L → Type 0} where
 
   -- what was sent awaits what its call may await
   pub may-await : (call : FrontendCall H) {old new : State L H} {f f' : Frontend} {before after : Awaited} {sent : Sent} → Asks event (ask f call) old f before (Ok sent) new f' after → MayAwait call sent.awaited
-  may-await call (asking.goes is g) = subst (MayAwait call) (sym g.awaits) (awaits-allowed _ call _ _ _ is)
+  may-await call {f = f} (asking.goes is g) = subst (MayAwait call) (sym g.awaits) (awaits-allowed f call _ _ _ is)
 
   pub may-await-with-room : (call : FrontendCall H) {old new : State L H} {f f' : Frontend} {before after : Awaited} {sent : Sent} → AsksWithRoom event (ask f call) old f before (Ok sent) new f' after
       → MayAwait call sent.awaited
-  may-await-with-room call (asking.roomy x) = may-await call x
+  may-await-with-room call {f = f} (asking.roomy x) = may-await call {f = f} x

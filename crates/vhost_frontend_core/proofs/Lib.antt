@@ -6,6 +6,7 @@ pub mod Tables
 pub mod TakingTable
 pub mod ReplyingConfig
 pub mod TakingConfig
+pub mod TakingLog
 pub mod ValueHalves
 pub mod ValueTables
 pub mod ValuePlain

@@ -11,6 +11,7 @@ use Rattle.vhost_protocol.specs.Stream.{Cell, has_some}
 use Rattle.vhost_protocol.specs.Error.{Error, InvalidParam, InvalidMessage, seen}
 use Rattle.vhost_protocol.specs.FrontendCall.{FrontendCall, Frontend, Value}
 use Rattle.vhost_protocol.specs.declared.asked.Shape.{Shape}
+use Rattle.vhost_protocol.specs.declared.profile.Profile.{Profile}
 use Rattle.vhost_protocol.specs.declared.asked.Awaited.{Awaited}
 use Rattle.vhost_protocol.specs.declared.asked.Awaited.TheVariants.{Nobody, Ack, Reply}
 use Rattle.vhost_protocol.specs.AnswerTable.{Answered, answered, answer, after_success, plain_value, with_one}
@@ -42,18 +43,18 @@ module _ {L H A B : Type 0} {event : L → Event H → L → Type 0} {call : Fro
   missing-as (taken reads) = taken reads
   missing-as (stopped fails) = stopped fails
 
-module _ {T L H : Type 0} {event : L → Event H → L → Type 0} {size : ℕ} {decode : List ℕ → T} {valid : T → Bool} where
+module _ {T L H : Type 0} {event : L → Event H → L → Type 0} {profile : Profile} {size : ℕ} {decode : List ℕ → T} {valid : T → Bool} where
   -- a reply that was received has no handle, or some
-  pub alone-comes : {old new : State L H} {sent : Header} {t : T} (hs : Option (Vec H Global)) → Awaits event size decode valid old sent (Ok (t, hs)) new → is_some hs ≡ false → AwaitsAlone event size decode valid old sent (Ok t) new
+  pub alone-comes : {old new : State L H} {sent : Header} {t : T} (hs : Option (Vec H Global)) → Awaits event profile size decode valid old sent (Ok (t, hs)) new → is_some hs ≡ false → AwaitsAlone event profile size decode valid old sent (Ok t) new
   alone-comes hs (is_request plain x) e = alone x.0 plain x.1 x.2 x.3 (hands-none hs x.0.handles x.4 e)
 
-  pub alone-crowded : {old new : State L H} {sent : Header} {t : T} (hs : Option (Vec H Global)) → Awaits event size decode valid old sent (Ok (t, hs)) new → is_some hs ≡ true
-      → AwaitsAlone event size decode valid old sent (Err code.InvalidMessage) new
+  pub alone-crowded : {old new : State L H} {sent : Header} {t : T} (hs : Option (Vec H Global)) → Awaits event profile size decode valid old sent (Ok (t, hs)) new → is_some hs ≡ true
+      → AwaitsAlone event profile size decode valid old sent (Err code.InvalidMessage) new
   alone-crowded hs (is_request plain x) e = crowded x.0 plain x.1 (hands-some hs x.0.handles x.4 e)
 
   -- it has one, or not
-  pub one-comes : {old new : State L H} {sent : Header} {t : T} {h : H} (hs : Option (Vec H Global)) → Awaits event size decode valid old sent (Ok (t, hs)) new
-      → ((handles : List H) → HandsOver hs handles → with_one handles (λ g. g) ≡ Ok h) → AwaitsOne event size decode valid old sent (Ok (t, h)) new
+  pub one-comes : {old new : State L H} {sent : Header} {t : T} {h : H} (hs : Option (Vec H Global)) → Awaits event profile size decode valid old sent (Ok (t, hs)) new
+      → ((handles : List H) → HandsOver hs handles → with_one handles (λ g. g) ≡ Ok h) → AwaitsOne event profile size decode valid old sent (Ok (t, h)) new
   one-comes {h = h} hs (is_request plain x) e = one x.0 plain x.1 x.2 x.3 (only x.0.handles (e x.0.handles x.4))
     where
       only : (handles : List H) → with_one handles (λ g. g) ≡ Ok h → handles ≡ h ∷ []
@@ -61,23 +62,23 @@ module _ {T L H : Type 0} {event : L → Event H → L → Type 0} {size : ℕ} 
       only (g ∷ []) e = cc
       only (g ∷ k ∷ gs) e = absurd cc
 
-  pub one-missing : {old new : State L H} {sent : Header} {t : T} {e : declared.Error} (hs : Option (Vec H Global)) → Awaits event size decode valid old sent (Ok (t, hs)) new
-      → ((handles : List H) → HandsOver hs handles → with_one handles (λ g. g) ≡ Err (seen e)) → AwaitsOne event size decode valid old sent (Err e) new
+  pub one-missing : {old new : State L H} {sent : Header} {t : T} {e : declared.Error} (hs : Option (Vec H Global)) → Awaits event profile size decode valid old sent (Ok (t, hs)) new
+      → ((handles : List H) → HandsOver hs handles → with_one handles (λ g. g) ≡ Err (seen e)) → AwaitsOne event profile size decode valid old sent (Err e) new
   one-missing hs (is_request plain x) e = not_one x.0 plain x.1 x.2 x.3 (e x.0.handles x.4)
 
 module _ {L H : Type 0} {event : L → Event H → L → Type 0} where
   -- ---- acknowledgements
 
   -- what is awaited, by another name
-  pub acks-as : {old new : State L H} {sent : Header} {asked other : Awaited} {result : Result ⊤ declared.Error} → asked ≡ other → Acks event old sent asked result new → Acks event old sent other result new
-  acks-as {old} {new} {sent} {result = result} e x = subst (λ (a : Awaited). Acks event old sent a result new) e x
+  pub acks-as : {profile : Profile} {old new : State L H} {sent : Header} {asked other : Awaited} {result : Result ⊤ declared.Error} → asked ≡ other → Acks event profile old sent asked result new → Acks event profile old sent other result new
+  acks-as {profile} {old} {new} {sent} {result = result} e x = subst (λ (a : Awaited). Acks event profile old sent a result new) e x
 
   module _ (call : FrontendCall H) {sent : Header} {f : Frontend} {old : State L H} where
-    reads-ack : {new : State L H} (o : Result (Received H) Error) {x : Answered H} → HearsReply event (reply_cut 8 (λ bs. true) 0) old o new → understood call Ack sent f o ≡ Some x → Reads event call Ack sent f old (Some x) new
+    reads-ack : {new : State L H} (o : Result (Received H) Error) {x : Answered H} → HearsReply event (reply_cut f.profile 8 (λ bs. true) 0) old o new → understood call Ack sent f o ≡ Some x → Reads event call Ack sent f old (Some x) new
     reads-ack {new} o h e = read (subst (λ y. HearsReply event (take call Ack sent f) old y new) e (replies-by (λ r. understood call Ack sent f r) o (λ cells. refl) h))
 
     -- the call succeeded
-    acked-ok : {new : State L H} (asked : Awaited) → IsAck asked → Acks event old sent asked (Ok tt) new → Reads event call asked sent f old (Some (answered (after_success f call) (Ok (plain_value call)))) new
+    acked-ok : {new : State L H} (asked : Awaited) → IsAck asked → Acks event f.profile old sent asked (Ok tt) new → Reads event call asked sent f old (Some (answered (after_success f call) (Ok (plain_value call)))) new
     acked-ok Nobody is (unasked e) = unread (λ cells. refl)
     acked-ok Nobody is (asked_for waits x) = absurd (waits refl)
     acked-ok Ack is (unasked e) = absurd cc
@@ -85,7 +86,7 @@ module _ {L H : Type 0} {event : L → Event H → L → Type 0} where
     acked-ok (Reply shape) is x = absurd is
 
     -- it failed
-    pub acked-err : {new : State L H} {A : Type 0} {value : A → Value H} {e : declared.Error} (asked : Awaited) → IsAck asked → Acks event old sent asked (Err e) new → Takes event call value asked sent old f (Err e) new f
+    pub acked-err : {new : State L H} {A : Type 0} {value : A → Value H} {e : declared.Error} (asked : Awaited) → IsAck asked → Acks event f.profile old sent asked (Err e) new → Takes event call value asked sent old f (Err e) new f
     acked-err Nobody is (asked_for waits x) = absurd (waits refl)
     acked-err Ack is (asked_for waits (refused r x some none_came)) = taken (reads-ack (Ok r) x.hears (rw (x.answers, none_came, some) refl))
     acked-err Ack is (asked_for waits (crowded_ack r x some)) = taken (reads-ack (Ok r) x.hears (rw x.answers (many r.handles some)))
@@ -99,38 +100,38 @@ module _ {L H : Type 0} {event : L → Event H → L → Type 0} where
     acked-err (Reply shape) is x = absurd is
 
     -- the call succeeded, with this answer
-    pub succeeds : {new : State L H} {A : Type 0} {value : A → Value H} (a : A) (asked : Awaited) {f' : Frontend} → value a ≡ plain_value call → f' ≡ after_success f call → IsAck asked → Acks event old sent asked (Ok tt) new
+    pub succeeds : {new : State L H} {A : Type 0} {value : A → Value H} (a : A) (asked : Awaited) {f' : Frontend} → value a ≡ plain_value call → f' ≡ after_success f call → IsAck asked → Acks event f.profile old sent asked (Ok tt) new
         → Takes event call value asked sent old f (Ok a) new f'
     succeeds {new} {value = value} a asked {f'} e same is x =
         taken (subst (λ y. Reads event call asked sent f old (Some y) new) (ap (λ (g : Frontend). answered g (Ok (plain_value call))) (sym same) ∙ ap (λ (v : Value H). answered f' (Ok v)) (sym e)) (acked-ok asked is x))
 
     -- it failed, and the session is as before
-    pub failed-as : {new : State L H} {A : Type 0} {value : A → Value H} {e : declared.Error} (asked : Awaited) {f' : Frontend} → f' ≡ f → IsAck asked → Acks event old sent asked (Err e) new → Takes event call value asked sent old f (Err e) new f'
+    pub failed-as : {new : State L H} {A : Type 0} {value : A → Value H} {e : declared.Error} (asked : Awaited) {f' : Frontend} → f' ≡ f → IsAck asked → Acks event f.profile old sent asked (Err e) new → Takes event call value asked sent old f (Err e) new f'
     failed-as {new} {value = value} {e} asked same is x = subst (λ (g : Frontend). Takes event call value asked sent old f (Err e) new g) (sym same) (acked-err asked is x)
 
     -- a call that only answers whether it succeeded, and leaves the session as it is
     pub acked : {new : State L H} {asked : Awaited} {f' : Frontend} {value : ⊤ → Value H} {result : Result ⊤ declared.Error} → value tt ≡ plain_value call → after_success f call ≡ f → IsAck asked → f' ≡ f
-        → Acks event old sent asked result new → Takes event call value asked sent old f result new f'
+        → Acks event f.profile old sent asked result new → Takes event call value asked sent old f result new f'
     acked {asked = asked} {result = Ok u} e after is same x = succeeds u asked e (same ∙ sym after) is x
     acked {asked = asked} {result = Err error} e after is same x = failed-as asked same is x
 
   -- ---- replies
 
   module _ (call : FrontendCall H) (shape : Shape) (size room : ℕ) (valid : List ℕ → Bool) {sent : Header} {f : Frontend} {old : State L H}
-      (by : (cells : List (Cell H)) → take_reply call shape sent f cells ≡ (understood call (Reply shape) sent f (reply_cut size valid room cells).0, (reply_cut {H = H} size valid room cells).1)) where
-    pub reads-reply : {new : State L H} (o : Result (Received H) Error) {x : Answered H} → has_bit sent.flags 2 ≡ false → HearsReply event (reply_cut size valid room) old o new → understood call (Reply shape) sent f o ≡ Some x
+      (by : (cells : List (Cell H)) → take_reply call shape sent f cells ≡ (understood call (Reply shape) sent f (reply_cut f.profile size valid room cells).0, (reply_cut {H = H} f.profile size valid room cells).1)) where
+    pub reads-reply : {new : State L H} (o : Result (Received H) Error) {x : Answered H} → has_bit sent.flags 2 ≡ false → HearsReply event (reply_cut f.profile size valid room) old o new → understood call (Reply shape) sent f o ≡ Some x
         → Reads event call (Reply shape) sent f old (Some x) new
     reads-reply {new} o plain h e =
         read (subst (λ y. HearsReply event (take call (Reply shape) sent f) old y new) e
         (replies-by (λ r. understood call (Reply shape) sent f r) o (λ cells. ap (λ b. if b then (Some (answered f (Err InvalidParam)), cells) else take_reply call shape sent f cells) plain ∙ by cells) h))
 
     -- the reply decides
-    pub replied : {new : State L H} {x : Answered H} (r : Received H) → has_bit sent.flags 2 ≡ false → Comes event size valid room old sent r new → is_sized call r ≡ true
+    pub replied : {new : State L H} {x : Answered H} (r : Received H) → has_bit sent.flags 2 ≡ false → Comes event f.profile size valid room old sent r new → is_sized call r ≡ true
         → answer call (Reply shape) f (Replied (payload_of shape r.body r.payload) r.handles) ≡ Some x → Reads event call (Reply shape) sent f old (Some x) new
     replied r plain x sized e = reads-reply (Ok r) plain x.hears (rw (x.answers, sized) e)
 
     -- there is none
-    pub reads-missing : {new : State L H} {A : Type 0} {value : A → Value H} {e : declared.Error} → has_bit sent.flags 2 ≡ false → Missing event size valid room old sent e new → Takes event call value (Reply shape) sent old f (Err e) new f
+    pub reads-missing : {new : State L H} {A : Type 0} {value : A → Value H} {e : declared.Error} → has_bit sent.flags 2 ≡ false → Missing event f.profile size valid room old sent e new → Takes event call value (Reply shape) sent old f (Err e) new f
     reads-missing plain (unfit r x bad) = taken (reads-reply (Ok r) plain x (rw bad refl))
     reads-missing {e = e} plain (none x listed) = taken (reads-reply (Err (seen e)) plain x refl)
     reads-missing plain (failed x) = stopped x
@@ -143,7 +144,7 @@ module _ {L H : Type 0} {event : L → Event H → L → Type 0} where
 
 -- the call reads a record of this size, tested so
 abbrev IsRead : {H : Type 0} → FrontendCall H → Shape → ℕ → (List ℕ → Bool) → Header → Frontend → Type 0
-IsRead {H} call shape size valid sent f = (cells : List (Cell H)) → take_reply call shape sent f cells ≡ (understood call (Reply shape) sent f (reply_cut size valid 0 cells).0, (reply_cut {H = H} size valid 0 cells).1)
+IsRead {H} call shape size valid sent f = (cells : List (Cell H)) → take_reply call shape sent f cells ≡ (understood call (Reply shape) sent f (reply_cut f.profile size valid 0 cells).0, (reply_cut {H = H} f.profile size valid 0 cells).1)
 
 -- whatever size the header says
 abbrev IsSized : {H : Type 0} → FrontendCall H → Type 0
@@ -155,25 +156,25 @@ answer_to call shape f r hs = answer call (Reply shape) f (Replied (payload_of s
 
 module _ {T L H : Type 0} {event : L → Event H → L → Type 0} {call : FrontendCall H} {shape : Shape} {size : ℕ} {decode : List ℕ → T} {valid : T → Bool} {sent : Header} {f : Frontend} {old : State L H} where
   -- there is none
-  pub unreplied : {new : State L H} {f' : Frontend} {A : Type 0} {value : A → Value H} {e : declared.Error} → Awaits event size decode valid old sent (Err e) new → IsRead call shape size (λ bs. valid (decode bs)) sent f → f' ≡ f → Takes event call value (Reply shape) sent old f (Err e) new f'
+  pub unreplied : {new : State L H} {f' : Frontend} {A : Type 0} {value : A → Value H} {e : declared.Error} → Awaits event f.profile size decode valid old sent (Err e) new → IsRead call shape size (λ bs. valid (decode bs)) sent f → f' ≡ f → Takes event call value (Reply shape) sent old f (Err e) new f'
   unreplied {new} {f'} {value = value} {e} x by same = subst (λ (g : Frontend). Takes event call value (Reply shape) sent old f (Err e) new g) (sym same) (go x)
     where
-      go : {e : declared.Error} {new : State L H} → Awaits event size decode valid old sent (Err e) new → Takes event call value (Reply shape) sent old f (Err e) new f
+      go : {e : declared.Error} {new : State L H} → Awaits event f.profile size decode valid old sent (Err e) new → Takes event call value (Reply shape) sent old f (Err e) new f
       go (is_reply flag) = none-for-reply call shape size 0 (λ bs. valid (decode bs)) by flag
       go (is_request plain m) = reads-missing call shape size 0 (λ bs. valid (decode bs)) by plain m
 
   -- the answer from a reply, with whatever handles
-  pub any-replied : {new : State L H} {f' : Frontend} {A : Type 0} {value : A → Value H} {result : Result A declared.Error} {t : T} {hs : Option (Vec H Global)} → Awaits event size decode valid old sent (Ok (t, hs)) new → IsRead call shape size (λ bs. valid (decode bs)) sent f → IsSized call
+  pub any-replied : {new : State L H} {f' : Frontend} {A : Type 0} {value : A → Value H} {result : Result A declared.Error} {t : T} {hs : Option (Vec H Global)} → Awaits event f.profile size decode valid old sent (Ok (t, hs)) new → IsRead call shape size (λ bs. valid (decode bs)) sent f → IsSized call
       → ((r : Received H) → t ≡ decode r.body → valid t ≡ true → HandsOver hs r.handles → answer_to call shape f r r.handles ≡ Some (answered f' (valued value result))) → Takes event call value (Reply shape) sent old f result new f'
   any-replied (is_request plain x) by sized e = taken (replied call shape size 0 (λ bs. valid (decode bs)) by x.0 plain x.1 (sized x.0) (e x.0 x.2 x.3 x.4))
 
   -- the answer from a reply that came alone
-  pub alone-replied : {new : State L H} {f' : Frontend} {A : Type 0} {value : A → Value H} {result : Result A declared.Error} {t : T} → AwaitsAlone event size decode valid old sent (Ok t) new → IsRead call shape size (λ bs. valid (decode bs)) sent f → IsSized call
+  pub alone-replied : {new : State L H} {f' : Frontend} {A : Type 0} {value : A → Value H} {result : Result A declared.Error} {t : T} → AwaitsAlone event f.profile size decode valid old sent (Ok t) new → IsRead call shape size (λ bs. valid (decode bs)) sent f → IsSized call
       → ((r : Received H) → t ≡ decode r.body → valid t ≡ true → answer_to call shape f r [] ≡ Some (answered f' (valued value result))) → Takes event call value (Reply shape) sent old f result new f'
   alone-replied (alone r plain x is ok none_came) by sized e = taken (replied call shape size 0 (λ bs. valid (decode bs)) by r plain x (sized r) (ap (λ hs. answer_to call shape f r hs) none_came ∙ e r is ok))
 
   -- no reply came alone
-  pub alone-fails : {new : State L H} {f' : Frontend} {A : Type 0} {value : A → Value H} {e : declared.Error} → AwaitsAlone event size decode valid old sent (Err e) new → IsRead call shape size (λ bs. valid (decode bs)) sent f → IsSized call
+  pub alone-fails : {new : State L H} {f' : Frontend} {A : Type 0} {value : A → Value H} {e : declared.Error} → AwaitsAlone event f.profile size decode valid old sent (Err e) new → IsRead call shape size (λ bs. valid (decode bs)) sent f → IsSized call
       → ((r : Received H) (h : H) (hs : List H) → answer_to call shape f r (h ∷ hs) ≡ Some (answered f (Err InvalidMessage))) → f' ≡ f → Takes event call value (Reply shape) sent old f (Err e) new f'
   alone-fails {new} {f'} {value = value} (crowded r plain x some) by sized crowd same =
       subst (λ (g : Frontend). Takes event call value (Reply shape) sent old f (Err code.InvalidMessage) new g) (sym same) (taken (replied call shape size 0 (λ bs. valid (decode bs)) by r plain x (sized r) (many r.handles some)))
@@ -184,12 +185,12 @@ module _ {T L H : Type 0} {event : L → Event H → L → Type 0} {call : Front
   alone-fails (absent x) by sized crowd same = unreplied x by same
 
   -- the answer from a reply that came with one handle
-  pub one-replied : {new : State L H} {f' : Frontend} {A : Type 0} {value : A → Value H} {result : Result A declared.Error} {t : T} {h : H} → AwaitsOne event size decode valid old sent (Ok (t, h)) new → IsRead call shape size (λ bs. valid (decode bs)) sent f → IsSized call
+  pub one-replied : {new : State L H} {f' : Frontend} {A : Type 0} {value : A → Value H} {result : Result A declared.Error} {t : T} {h : H} → AwaitsOne event f.profile size decode valid old sent (Ok (t, h)) new → IsRead call shape size (λ bs. valid (decode bs)) sent f → IsSized call
       → ((r : Received H) → t ≡ decode r.body → valid t ≡ true → answer_to call shape f r (h ∷ []) ≡ Some (answered f' (valued value result))) → Takes event call value (Reply shape) sent old f result new f'
   one-replied (one r plain x is ok came) by sized e = taken (replied call shape size 0 (λ bs. valid (decode bs)) by r plain x (sized r) (ap (λ hs. answer_to call shape f r hs) came ∙ e r is ok))
 
   -- no reply came with one
-  pub one-fails : {new : State L H} {f' : Frontend} {A : Type 0} {value : A → Value H} {e : declared.Error} → AwaitsOne event size decode valid old sent (Err e) new → IsRead call shape size (λ bs. valid (decode bs)) sent f → IsSized call
+  pub one-fails : {new : State L H} {f' : Frontend} {A : Type 0} {value : A → Value H} {e : declared.Error} → AwaitsOne event f.profile size decode valid old sent (Err e) new → IsRead call shape size (λ bs. valid (decode bs)) sent f → IsSized call
       → ((r : Received H) (t : T) → t ≡ decode r.body → valid t ≡ true → with_one r.handles (λ h. h) ≡ Err (seen e) → answer_to call shape f r r.handles ≡ Some (answered f (Err (seen e)))) → f' ≡ f → Takes event call value (Reply shape) sent old f (Err e) new f'
   one-fails {new} {value = value} {e} (not_one r {t = t} plain x is ok several) by sized wrong same =
       subst (λ (g : Frontend). Takes event call value (Reply shape) sent old f (Err e) new g) (sym same) (taken (replied call shape size 0 (λ bs. valid (decode bs)) by r plain x (sized r) (wrong r t is ok several)))

@@ -16,14 +16,14 @@ use Rattle.vhost_protocol.specs.Error.{Error, InvalidMessage, seen}
 use Rattle.vhost_protocol.specs.FrontendCall.{Frontend, GetConfig, ConfigOf, Value}
 use Rattle.vhost_protocol.specs.ReplySplit.{Received}
 use Rattle.vhost_protocol.specs.Stream.{has_some}
-use Rattle.vhost_protocol.specs.Take.{understood_config, take, answers}
+use Rattle.vhost_protocol.specs.Take.{config_cut, understood_config, take, answers}
 use Rattle.vhost_link.specs.Law.{Event}
 use Rattle.vhost_connection.specs.Talk.{State}
 use Rattle.vhost_connection.specs.Hearing.{HearsReply}
 use Rattle.vhost_frontend_core.specs.Taking.{Reads, Takes}
 use Rattle.vhost_frontend_core.specs.Taking.Reads.{unread, read}
 use Rattle.vhost_frontend_core.specs.Taking.Takes.{taken, stopped}
-use Rattle.vhost_frontend_core.specs.TakingConfig.{config_cut, is_part, is_reply_of, is_asked, RecvsConfig}
+use Rattle.vhost_frontend_core.specs.TakingConfig.{is_part, is_reply_of, is_asked, RecvsConfig}
 use Rattle.vhost_frontend_core.specs.TakingConfig.RecvsConfig.{came, unfit, crowded, bare, none, failed}
 use Rattle.vhost_connection.proofs.Handed.{nonzero}
 use Rattle.vhost_connection.proofs.Replies.{replies-by}
@@ -64,35 +64,35 @@ module _ {L H : Type 0} {event : L → Event H → L → Type 0} (offset size fl
   config-for-none (b ∷ buffer) plain e = absurd cc
 
   module _ (b : ℕ) (bs : List ℕ) (plain : has_bit sent.flags 2 ≡ false) {new : State L H} {f' : Frontend} (same_session : f' ≡ f) where
-    hears-reply : (o : Result (Option (Received H)) Error) {x : Answered H} → HearsReply event (config_cut sent (length (b ∷ bs))) old o new → understood_config (GetConfig offset size flags (b ∷ bs)) sent f o ≡ Some x
+    hears-reply : (o : Result (Option (Received H)) Error) {x : Answered H} → HearsReply event (config_cut f.profile sent (length (b ∷ bs))) old o new → understood_config (GetConfig offset size flags (b ∷ bs)) sent f o ≡ Some x
         → Reads event (GetConfig offset size flags (b ∷ bs)) (Reply shape.Config) sent f old (Some x) new
     hears-reply o h e =
         read (subst (λ y. HearsReply event (take (GetConfig offset size flags (b ∷ bs)) (Reply shape.Config) sent f) old y new) e
         (replies-by (λ r. understood_config (GetConfig offset size flags (b ∷ bs)) sent f r) o (λ cells. rw plain refl) h))
 
     -- the part came
-    taken-part : (part : VhostUserConfig) (v : Vec ℕ Global) (after : List ℕ) → RecvsConfig event (length (b ∷ bs)) old sent (Ok part) after new → v.items ≡ after → is_asked (config offset size flags) (length (b ∷ bs)) part ≡ true
+    taken-part : (part : VhostUserConfig) (v : Vec ℕ Global) (after : List ℕ) → RecvsConfig event f.profile (length (b ∷ bs)) old sent (Ok part) after new → v.items ≡ after → is_asked (config offset size flags) (length (b ∷ bs)) part ≡ true
         → Takes event (GetConfig offset size flags (b ∷ bs)) shown (Reply shape.Config) sent old f (Ok (part, v)) new f'
     taken-part part v after (came r h is alone is_part whole) full same =
         taken (hears-reply (Ok (Some r)) h (told offset size flags sent f b bs r true is alone (ap (λ (p : VhostUserConfig). is_asked (config offset size flags) (length (b ∷ bs)) p) (sym is_part) ∙ same)
         ∙ (λ j. Some (answered (sym same_session j) (Ok (ConfigOf (sym is_part j) (sym (full ∙ whole) j)))))))
 
     -- another part came
-    refused-part : (part : VhostUserConfig) (after : List ℕ) → RecvsConfig event (length (b ∷ bs)) old sent (Ok part) after new → is_asked (config offset size flags) (length (b ∷ bs)) part ≡ false
+    refused-part : (part : VhostUserConfig) (after : List ℕ) → RecvsConfig event f.profile (length (b ∷ bs)) old sent (Ok part) after new → is_asked (config offset size flags) (length (b ∷ bs)) part ≡ false
         → Takes event (GetConfig offset size flags (b ∷ bs)) shown (Reply shape.Config) sent old f (Err code.InvalidMessage) new f'
     refused-part part after (came r h is alone is_part whole) same =
         taken (hears-reply (Ok (Some r)) h (told offset size flags sent f b bs r false is alone (ap (λ (p : VhostUserConfig). is_asked (config offset size flags) (length (b ∷ bs)) p) (sym is_part) ∙ same)
         ∙ ap (λ (g : Frontend). Some (answered g (Err InvalidMessage))) (sym same_session)))
 
     -- none came
-    missing-part : (e : declared.Error) (after : List ℕ) → RecvsConfig event (length (b ∷ bs)) old sent (Err e) after new → Takes event (GetConfig offset size flags (b ∷ bs)) shown (Reply shape.Config) sent old f (Err e) new f'
+    missing-part : (e : declared.Error) (after : List ℕ) → RecvsConfig event f.profile (length (b ∷ bs)) old sent (Err e) after new → Takes event (GetConfig offset size flags (b ∷ bs)) shown (Reply shape.Config) sent old f (Err e) new f'
     missing-part e after x = subst (λ (g : Frontend). Takes event (GetConfig offset size flags (b ∷ bs)) shown (Reply shape.Config) sent old f (Err e) new g) (sym same_session) (go e x)
       where
         many : (r : Received H) (hs : List H) → has_some hs ≡ true → ◌≡◌ {A = Option (Answered H)} (Some (answered f (config_reply (config offset size flags) (b ∷ bs) hs (config_of r.body) r.payload))) (Some (answered f (Err InvalidMessage)))
         many r [] e = absurd cc
         many r (h ∷ hs) e = refl
 
-        go : (e : declared.Error) → RecvsConfig event (length (b ∷ bs)) old sent (Err e) after new → Takes event (GetConfig offset size flags (b ∷ bs)) shown (Reply shape.Config) sent old f (Err e) new f
+        go : (e : declared.Error) → RecvsConfig event f.profile (length (b ∷ bs)) old sent (Err e) after new → Takes event (GetConfig offset size flags (b ∷ bs)) shown (Reply shape.Config) sent old f (Err e) new f
         go e (unfit r h is) = taken (hears-reply (Ok (Some r)) h (rw is refl))
         go e (crowded r h is some) = taken (hears-reply (Ok (Some r)) h (rw is (many r r.handles some)))
         go e (bare h) = taken (hears-reply (Ok None) h refl)
@@ -100,26 +100,26 @@ module _ {L H : Type 0} {event : L → Event H → L → Type 0} (offset size fl
         go e (failed x) = stopped x
 
   module _ (buffer : List ℕ) (plain : has_bit sent.flags 2 ≡ false) {new : State L H} {f' : Frontend} (same_session : f' ≡ f) (asked : VhostUserConfig) (count : ℕ) (after : List ℕ) (is_config : asked ≡ config offset size flags) where
-    pub config-taken : (part : VhostUserConfig) (v : Vec ℕ Global) → count ≡ length buffer → (count ≡ 0 → ⊥) → RecvsConfig event count old sent (Ok part) after new → v.items ≡ after → is_asked asked count part ≡ true
+    pub config-taken : (part : VhostUserConfig) (v : Vec ℕ Global) → count ≡ length buffer → (count ≡ 0 → ⊥) → RecvsConfig event f.profile count old sent (Ok part) after new → v.items ≡ after → is_asked asked count part ≡ true
         → Takes event (GetConfig offset size flags buffer) shown (Reply shape.Config) sent old f (Ok (part, v)) new f'
     config-taken part v e some x full same = go buffer e
       where
         go : (bs : List ℕ) → count ≡ length bs → Takes event (GetConfig offset size flags bs) shown (Reply shape.Config) sent old f (Ok (part, v)) new f'
         go [] e = absurd (some e)
-        go (b ∷ bs) e = taken-part b bs plain same_session part v after (subst (λ n. RecvsConfig event n old sent (Ok part) after new) e x) full ((λ j. is_asked (sym is_config j) (sym e j) part) ∙ same)
+        go (b ∷ bs) e = taken-part b bs plain same_session part v after (subst (λ n. RecvsConfig event f.profile n old sent (Ok part) after new) e x) full ((λ j. is_asked (sym is_config j) (sym e j) part) ∙ same)
 
-    pub config-refused : (part : VhostUserConfig) → count ≡ length buffer → (count ≡ 0 → ⊥) → RecvsConfig event count old sent (Ok part) after new → is_asked asked count part ≡ false
+    pub config-refused : (part : VhostUserConfig) → count ≡ length buffer → (count ≡ 0 → ⊥) → RecvsConfig event f.profile count old sent (Ok part) after new → is_asked asked count part ≡ false
         → Takes event (GetConfig offset size flags buffer) shown (Reply shape.Config) sent old f (Err code.InvalidMessage) new f'
     config-refused part e some x same = go buffer e
       where
         go : (bs : List ℕ) → count ≡ length bs → Takes event (GetConfig offset size flags bs) shown (Reply shape.Config) sent old f (Err code.InvalidMessage) new f'
         go [] e = absurd (some e)
-        go (b ∷ bs) e = refused-part b bs plain same_session part after (subst (λ n. RecvsConfig event n old sent (Ok part) after new) e x) ((λ j. is_asked (sym is_config j) (sym e j) part) ∙ same)
+        go (b ∷ bs) e = refused-part b bs plain same_session part after (subst (λ n. RecvsConfig event f.profile n old sent (Ok part) after new) e x) ((λ j. is_asked (sym is_config j) (sym e j) part) ∙ same)
 
-    pub config-missing : (error : declared.Error) → count ≡ length buffer → (count ≡ 0 → ⊥) → RecvsConfig event count old sent (Err error) after new
+    pub config-missing : (error : declared.Error) → count ≡ length buffer → (count ≡ 0 → ⊥) → RecvsConfig event f.profile count old sent (Err error) after new
         → Takes event (GetConfig offset size flags buffer) shown (Reply shape.Config) sent old f (Err error) new f'
     config-missing error e some x = go buffer e
       where
         go : (bs : List ℕ) → count ≡ length bs → Takes event (GetConfig offset size flags bs) shown (Reply shape.Config) sent old f (Err error) new f'
         go [] e = absurd (some e)
-        go (b ∷ bs) e = missing-part b bs plain same_session error after (subst (λ n. RecvsConfig event n old sent (Err error) after new) e x)
+        go (b ∷ bs) e = missing-part b bs plain same_session error after (subst (λ n. RecvsConfig event f.profile n old sent (Err error) after new) e x)

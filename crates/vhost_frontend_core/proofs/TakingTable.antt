@@ -17,6 +17,7 @@ use Rattle.vhost_message.specs.FrontendReq.{request_of}
 use Rattle.vhost_protocol.specs.AnswerTable.{answered, answer, alone, only_if, are_same_ranges, bases_in}
 use Rattle.vhost_protocol.specs.Ask.{regions_in}
 use Rattle.vhost_protocol.specs.declared.asked.Awaited.TheVariants.{Reply}
+use Rattle.vhost_protocol.specs.declared.profile.Profile.{Profile}
 use Rattle.vhost_protocol.specs.declared.asked.Shape.TheVariants as shape
 use Rattle.vhost_protocol.specs.Error.{InvalidMessage}
 use Rattle.vhost_protocol.specs.FrontendCall.{Info, SetMemTable, Frontend, Bases}
@@ -64,23 +65,23 @@ not_third false b c e = refl
 
 -- ---- the reply is received
 
-module _ {L H : Type 0} {event : L → Event H → L → Type 0} (count : ℕ) {old new : State L H} {sent : Header} (before after : List ℕ) (room : length before ≡ MEMORY_REGION_SIZE * count) where
-  in-room : {r : Received H} → Comes event MEMORY_HEAD_SIZE (λ bs. is_valid_memory (memory_of bs)) (length before) old sent r new → Comes event MEMORY_HEAD_SIZE (λ bs. is_valid_memory (memory_of bs)) (MEMORY_REGION_SIZE * count) old sent r new
-  in-room {r} x = subst (λ n. Comes event MEMORY_HEAD_SIZE (λ bs. is_valid_memory (memory_of bs)) n old sent r new) room x
+module _ {L H : Type 0} {event : L → Event H → L → Type 0} (profile : Profile) (count : ℕ) {old new : State L H} {sent : Header} (before after : List ℕ) (room : length before ≡ MEMORY_REGION_SIZE * count) where
+  in-room : {r : Received H} → Comes event profile MEMORY_HEAD_SIZE (λ bs. is_valid_memory (memory_of bs)) (length before) old sent r new → Comes event profile MEMORY_HEAD_SIZE (λ bs. is_valid_memory (memory_of bs)) (MEMORY_REGION_SIZE * count) old sent r new
+  in-room {r} x = subst (λ n. Comes event profile MEMORY_HEAD_SIZE (λ bs. is_valid_memory (memory_of bs)) n old sent r new) room x
 
   -- there is none
-  pub table-missing : {e : declared.Error} → Missing event MEMORY_HEAD_SIZE (λ bs. is_valid_memory (memory_of bs)) (length before) old sent e new → RecvsTable event count old sent (Err e) after new
-  table-missing {e} m = missing (subst (λ n. Missing event MEMORY_HEAD_SIZE (λ bs. is_valid_memory (memory_of bs)) n old sent e new) room m)
+  pub table-missing : {e : declared.Error} → Missing event profile MEMORY_HEAD_SIZE (λ bs. is_valid_memory (memory_of bs)) (length before) old sent e new → RecvsTable event profile count old sent (Err e) after new
+  table-missing {e} m = missing (subst (λ n. Missing event profile MEMORY_HEAD_SIZE (λ bs. is_valid_memory (memory_of bs)) n old sent e new) room m)
 
-  module _ (size len : ℕ) (head : VhostUserMemory) (hs : Option (Vec H Global)) (x : RecvsReply event is_known request_of MEMORY_HEAD_SIZE memory_of is_valid_memory old sent before (Ok (size, head, len, hs)) after new) where
+  module _ (size len : ℕ) (head : VhostUserMemory) (hs : Option (Vec H Global)) (x : RecvsReply event is_known request_of profile MEMORY_HEAD_SIZE memory_of is_valid_memory old sent before (Ok (size, head, len, hs)) after new) where
     -- it has another number of regions
-    pub size-other : (size ≡ MEMORY_HEAD_SIZE + MEMORY_REGION_SIZE * count → ⊥) → RecvsTable event count old sent (Err code.InvalidMessage) after new
+    pub size-other : (size ≡ MEMORY_HEAD_SIZE + MEMORY_REGION_SIZE * count → ⊥) → RecvsTable event profile count old sent (Err code.InvalidMessage) after new
     size-other differs = no_table x.0 (in-room x.1) (not_first _ _ _ (ap (λ n. n == MEMORY_HEAD_SIZE + MEMORY_REGION_SIZE * count) (sym x.2) ∙ ne_eqb size (MEMORY_HEAD_SIZE + MEMORY_REGION_SIZE * count) differs))
 
-    pub head-other : (head.num_regions ≡ count → ⊥) → RecvsTable event count old sent (Err code.InvalidMessage) after new
+    pub head-other : (head.num_regions ≡ count → ⊥) → RecvsTable event profile count old sent (Err code.InvalidMessage) after new
     head-other differs = no_table x.0 (in-room x.1) (not_second _ _ _ (ap (λ (m : VhostUserMemory). m.num_regions == count) (sym x.3) ∙ ne_eqb head.num_regions count differs))
 
-    pub len-other : (len ≡ MEMORY_REGION_SIZE * count → ⊥) → RecvsTable event count old sent (Err code.InvalidMessage) after new
+    pub len-other : (len ≡ MEMORY_REGION_SIZE * count → ⊥) → RecvsTable event profile count old sent (Err code.InvalidMessage) after new
     len-other differs = no_table x.0 (in-room x.1) (not_third (x.0.header.size == MEMORY_HEAD_SIZE + MEMORY_REGION_SIZE * count) ((memory_of x.0.body).num_regions == count) _ (ap (λ n. n == MEMORY_REGION_SIZE * count) (sym x.5) ∙ ne_eqb len (MEMORY_REGION_SIZE * count) differs))
 
     module _ (sized : size ≡ MEMORY_HEAD_SIZE + MEMORY_REGION_SIZE * count) (said : head.num_regions ≡ count) (filled : len ≡ MEMORY_REGION_SIZE * count) where
@@ -88,11 +89,11 @@ module _ {L H : Type 0} {event : L → Event H → L → Type 0} (count : ℕ) {
       as-many = all _ _ _ (eq-eqb _ _ (sym x.2 ∙ sized)) (eq-eqb _ _ (ap (λ (m : VhostUserMemory). m.num_regions) (sym x.3) ∙ said)) (eq-eqb _ _ (sym x.5 ∙ filled))
 
       -- handles came with it
-      pub table-crowded : is_some hs ≡ true → RecvsTable event count old sent (Err code.InvalidMessage) after new
+      pub table-crowded : is_some hs ≡ true → RecvsTable event profile count old sent (Err code.InvalidMessage) after new
       table-crowded some = crowded_table x.0 (in-room x.1) as-many (hands-some hs x.0.handles x.7 some)
 
       -- it came
-      pub table-comes : is_some hs ≡ false → RecvsTable event count old sent (Ok tt) after new
+      pub table-comes : is_some hs ≡ false → RecvsTable event profile count old sent (Ok tt) after new
       table-comes none_came =
           table x.0 (in-room x.1) as-many (hands-none hs x.0.handles x.7 none_came)
           (x.6 ∙ ap (λ bs. x.0.payload ++ bs) (drop_all len before (omega (arith, room, filled))) ∙ append-nil x.0.payload)
@@ -105,7 +106,7 @@ kept-long {H} count regions infos within kept = omega (arith, length-take count 
 
 module _ {H : Type 0} (infos : List (Info H)) (count : ℕ) (long : count ≡ length infos) where
   by : (sent : Header) (f : Frontend) (cells : List (Cell H)) → take_reply (SetMemTable infos) shape.Memory sent f cells
-      ≡ (understood (SetMemTable infos) (Reply shape.Memory) sent f (reply_cut MEMORY_HEAD_SIZE (λ bs. is_valid_memory (memory_of bs)) (MEMORY_REGION_SIZE * count) cells).0, (reply_cut {H = H} MEMORY_HEAD_SIZE (λ bs. is_valid_memory (memory_of bs)) (MEMORY_REGION_SIZE * count) cells).1)
+      ≡ (understood (SetMemTable infos) (Reply shape.Memory) sent f (reply_cut f.profile MEMORY_HEAD_SIZE (λ bs. is_valid_memory (memory_of bs)) (MEMORY_REGION_SIZE * count) cells).0, (reply_cut {H = H} f.profile MEMORY_HEAD_SIZE (λ bs. is_valid_memory (memory_of bs)) (MEMORY_REGION_SIZE * count) cells).1)
   by sent f cells = rw long refl
 
   sized : (r : Received H) (b : Bool) → is_table count r ≡ b → is_table (length infos) r ≡ b
@@ -130,7 +131,7 @@ module _ {H : Type 0} (infos : List (Info H)) (count : ℕ) (long : count ≡ le
 
 module _ {L H : Type 0} {event : L → Event H → L → Type 0} (infos : List (Info H)) (count : ℕ) {sent : Header} {f f' : Frontend} {old new : State L H} {after : List ℕ} (long : count ≡ length infos) (plain : has_bit sent.flags 2 ≡ false) (same_session : f' ≡ f) where
   -- the regions are mapped there
-  pub bases-taken : (regions : List VhostUserMemoryRegion) (bases : Vec ℕ Global) → take count regions ≡ regions_in infos → RecvsTable event count old sent (Ok tt) after new
+  pub bases-taken : (regions : List VhostUserMemoryRegion) (bases : Vec ℕ Global) → take count regions ≡ regions_in infos → RecvsTable event f.profile count old sent (Ok tt) after new
       → are_same_ranges (take count regions) (regions_of count after) ≡ true → bases.items ≡ bases_in (regions_of count after)
       → Takes event (SetMemTable infos) (λ v. Bases (bases_seen v)) (Reply shape.Memory) sent old f (Ok (Some bases)) new f'
   bases-taken regions bases kept (table r x is none_came whole) ranges listed =
@@ -138,17 +139,17 @@ module _ {L H : Type 0} {event : L → Event H → L → Type 0} (infos : List (
       (told infos count long regions kept f after r true is none_came whole ranges ∙ (λ j. Some (answered (sym same_session j) (Ok (Bases (Some (sym listed j))))))))
 
   -- they are other regions
-  pub bases-refused : (regions : List VhostUserMemoryRegion) → take count regions ≡ regions_in infos → RecvsTable event count old sent (Ok tt) after new → are_same_ranges (take count regions) (regions_of count after) ≡ false
+  pub bases-refused : (regions : List VhostUserMemoryRegion) → take count regions ≡ regions_in infos → RecvsTable event f.profile count old sent (Ok tt) after new → are_same_ranges (take count regions) (regions_of count after) ≡ false
       → Takes event (SetMemTable infos) (λ v. Bases (bases_seen v)) (Reply shape.Memory) sent old f (Err code.InvalidMessage) new f'
   bases-refused regions kept (table r x is none_came whole) ranges =
       taken (replied (SetMemTable infos) shape.Memory MEMORY_HEAD_SIZE (MEMORY_REGION_SIZE * count) (λ bs. is_valid_memory (memory_of bs)) (by infos count long sent f) r plain x (sized infos count long r true is)
       (told infos count long regions kept f after r false is none_came whole ranges ∙ ap (λ (g : Frontend). Some (answered g (Err InvalidMessage))) (sym same_session)))
 
   -- there is no such reply
-  pub bases-missing : {e : declared.Error} → RecvsTable event count old sent (Err e) after new → Takes event (SetMemTable infos) (λ v. Bases (bases_seen v)) (Reply shape.Memory) sent old f (Err e) new f'
+  pub bases-missing : {e : declared.Error} → RecvsTable event f.profile count old sent (Err e) after new → Takes event (SetMemTable infos) (λ v. Bases (bases_seen v)) (Reply shape.Memory) sent old f (Err e) new f'
   bases-missing {e} x = subst (λ (g : Frontend). Takes event (SetMemTable infos) (λ v. Bases (bases_seen v)) (Reply shape.Memory) sent old f (Err e) new g) (sym same_session) (go x)
     where
-      go : {e : declared.Error} → RecvsTable event count old sent (Err e) after new → Takes event (SetMemTable infos) (λ v. Bases (bases_seen v)) (Reply shape.Memory) sent old f (Err e) new f
+      go : {e : declared.Error} → RecvsTable event f.profile count old sent (Err e) after new → Takes event (SetMemTable infos) (λ v. Bases (bases_seen v)) (Reply shape.Memory) sent old f (Err e) new f
       go (no_table r x differs) =
           taken (reads-reply (SetMemTable infos) shape.Memory MEMORY_HEAD_SIZE (MEMORY_REGION_SIZE * count) (λ bs. is_valid_memory (memory_of bs)) (by infos count long sent f) (Ok r) plain x.hears (rw (x.answers, sized infos count long r false differs) refl))
       go (crowded_table r x is some) =

@@ -15,7 +15,8 @@ use Rattle.vhost_protocol.specs.FrontendCall.{FrontendCall, Frontend, Value}
 use Rattle.vhost_protocol.specs.declared.asked.Awaited.{Awaited}
 use Rattle.vhost_protocol.specs.declared.asked.Awaited.TheVariants.{Nobody, Ack}
 use Rattle.vhost_protocol.specs.AnswerTable.{Answered, answered, with_one}
-use Rattle.vhost_protocol.specs.ReplySplit.{Received, reply_split}
+use Rattle.vhost_protocol.specs.declared.profile.Profile.{Profile}
+use Rattle.vhost_protocol.specs.ReplySplit.{Received, split_by, whole_split}
 use Rattle.vhost_protocol.specs.Take.{is_known, take}
 use Rattle.vhost_link.specs.Law.{Event}
 use Rattle.vhost_connection.specs.Talk.{State}
@@ -24,8 +25,8 @@ use Rattle.vhost_connection.specs.Calls.{HandsOver}
 use Rattle.vhost_connection.specs.Hearing.{HearsReply, Fails}
 
 -- a reply on a stream, with a record of so many bytes and room for so much payload
-abbrev pub reply_cut : {H : Type 0} → (size : ℕ) → (List ℕ → Bool) → (room : ℕ) → List (Cell H) → Result (Received H) Error × List (Cell H)
-reply_cut size valid room cells = reply_split is_known size valid room cells
+abbrev pub reply_cut : {H : Type 0} → Profile → (size : ℕ) → (List ℕ → Bool) → (room : ℕ) → List (Cell H) → Result (Received H) Error × List (Cell H)
+reply_cut profile size valid room cells = split_by is_known profile size valid room cells
 
 -- a result, as a value of the definitions
 abbrev pub valued : {A H : Type 0} → (A → Value H) → Result A declared.Error → Result (Value H) Error
@@ -36,14 +37,14 @@ valued value (Err e) = Err (seen e)
 abbrev pub is_table : {H : Type 0} → (count : ℕ) → Received H → Bool
 is_table count r = r.header.size == MEMORY_HEAD_SIZE + MEMORY_REGION_SIZE * count && (memory_of r.body).num_regions == count && length r.payload == MEMORY_REGION_SIZE * count
 
-module _ {L H : Type 0} (event : L → Event H → L → Type 0) where
+module _ {L H : Type 0} (event : L → Event H → L → Type 0) (profile : Profile) where
   -- The reply for a request came.
   abbrev pub Comes : (size : ℕ) → (List ℕ → Bool) → (room : ℕ) → State L H → Header → Received H → State L H → Type 0
-  Comes = asking.Comes event is_known request_of
+  Comes size valid room = asking.Comes event request_of (reply_cut profile size valid room)
 
   -- None came.
   abbrev pub Missing : (size : ℕ) → (List ℕ → Bool) → (room : ℕ) → State L H → Header → declared.Error → State L H → Type 0
-  Missing = asking.Missing event is_known request_of
+  Missing size valid room = asking.Missing event request_of (reply_cut profile size valid room)
 
   -- A reply is received: its record, and its handles.
   abbrev pub Recvs : {T : Type 0} → ℕ → (List ℕ → T) → (T → Bool) → State L H → Header → Result (T × Option (Vec H Global)) declared.Error → State L H → Type 0
@@ -92,6 +93,13 @@ module _ {L H : Type 0} (event : L → Event H → L → Type 0) where
     crowded_table : (reply : Received H) {after : List ℕ} {new : State L H} → Comes MEMORY_HEAD_SIZE (λ bs. is_valid_memory (memory_of bs)) (MEMORY_REGION_SIZE * count) old sent reply new → is_table count reply ≡ true → has_some reply.handles ≡ true
         → RecvsTable count old sent (Err code.InvalidMessage) after new
     missing : {e : declared.Error} {after : List ℕ} {new : State L H} → Missing MEMORY_HEAD_SIZE (λ bs. is_valid_memory (memory_of bs)) (MEMORY_REGION_SIZE * count) old sent e new → RecvsTable count old sent (Err e) after new
+
+-- A reply of any size for a request is received; it has no handle. To a request that was sent as a reply there is none.
+pub data AwaitsAny {L H : Type 0} (event : L → Event H → L → Type 0) (old : State L H) (sent : Header) : Result ⊤ declared.Error → State L H → Type 0 where
+  any_for_reply : has_bit sent.flags 2 ≡ true → AwaitsAny event old sent (Err code.InvalidParam) old
+  any : (reply : Received H) {new : State L H} → has_bit sent.flags 2 ≡ false → asking.Comes event request_of (whole_split is_known) old sent reply new → reply.handles ≡ [] → AwaitsAny event old sent (Ok tt) new
+  any_crowded : (reply : Received H) {new : State L H} → has_bit sent.flags 2 ≡ false → asking.Comes event request_of (whole_split is_known) old sent reply new → has_some reply.handles ≡ true → AwaitsAny event old sent (Err code.InvalidMessage) new
+  any_missing : {e : declared.Error} {new : State L H} → has_bit sent.flags 2 ≡ false → asking.Missing event request_of (whole_split is_known) old sent e new → AwaitsAny event old sent (Err e) new
 
 -- an acknowledgement, or nothing, is awaited
 abbrev pub IsAck : Awaited → Type 0

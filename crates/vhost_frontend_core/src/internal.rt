@@ -11,7 +11,7 @@ use std::alloc::Global;
 use vhost_connection::Endpoint;
 use vhost_link::Link;
 use vhost_message::{FrontendReq, Result, VhostUserHeaderFlag, VhostUserMsgHeader};
-use vhost_protocol::Awaited;
+use vhost_protocol::{Awaited, Profile};
 
 mod config;
 mod config_bytes;
@@ -83,6 +83,24 @@ impl<L: Link> FrontendInternal<L> {
     {
         let session = &mut self.session;
         session.header_flags = flags.bits();
+    }
+
+    /// Whose behaviour it has from now on: that of the crate `vhost`, as a new session, or that of the specification and of
+    /// real backends.
+    pub fn set_profile(&mut self, profile: Profile)
+        ensures endpoint { endpoint_of self.new ≡ endpoint_of self.old }
+        ensures session { session_of self.new ≡ record (session_of self.old) { profile = profile } }
+        ensures awaited { awaits self.new ≡ awaits self.old }
+    {
+        let session = &mut self.session;
+        session.profile = profile;
+    }
+
+    /// Whose behaviour it has.
+    pub fn profile(&self) -> Profile
+        ensures { result ≡ (session_of self.now).profile }
+    {
+        self.session.profile
     }
 
     /// What is awaited of the request that was sent last.

@@ -10,4 +10,4 @@ mod values;
 pub use asked::Sent;
 pub use internal::FrontendInternal;
 pub use values::{FrontendAnswer, FrontendCall, LogRegion, RegionInfo, ask, take};
-pub use vhost_protocol::{Awaited, Shape};
+pub use vhost_protocol::{Awaited, Profile, Shape};

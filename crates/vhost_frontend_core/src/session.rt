@@ -1,11 +1,13 @@
 //! What a frontend remembers of its backend, and the tests of its calls.
 
-ghost use Rattle.std.specs.Prelude.{◌≡◌, ◌<◌, ◌≤◌, IfOk, false};
+ghost use Rattle.std.specs.Prelude.{◌≡◌, ◌<◌, ◌≤◌, IfOk, false, if◌then◌else◌};
 ghost use Rattle.vhost_message.specs.Bits.{has_bit as is_set};
 ghost use Rattle.vhost_message.specs.declared.header_bit.TheConstants.{NEED_REPLY, REPLY};
 ghost use Rattle.vhost_protocol.specs.Ask as ask;
 ghost use Rattle.vhost_protocol.specs.FrontendCall.{new_frontend};
+ghost use Rattle.vhost_protocol.specs.Profile.{is_standard as standard};
 ghost use Rattle.vhost_protocol.specs.Session.{is_listen};
+ghost use Rattle.vhost_protocol.specs.declared.asked.Awaited.TheVariants.{Nobody};
 ghost use Rattle.vhost_frontend_core.specs.Session.{frontend_of};
 ghost use Rattle.vhost_frontend_core.specs.Asking.{tested};
 
@@ -14,9 +16,10 @@ use vhost_message::{
     Error, PostcopyState, Result, VhostUserMsgValidator, VhostUserProtocolFeatures,
     VhostUserVirtioFeatures, has_bit, header_bit, protocol_bit, virtio_bit,
 };
-use vhost_protocol::Awaited;
+use vhost_protocol::{Awaited, Profile};
 
-/// The features offered and accepted, the number of queues, the flags of each request, and how far postcopy has come.
+/// The features offered and accepted, the number of queues, the flags of each request, how far postcopy has come, and whose
+/// behaviour the frontend has.
 #[derive(Clone, Copy, Debug)]
 pub struct FrontendSession {
     pub offered: u64,
@@ -25,6 +28,7 @@ pub struct FrontendSession {
     pub max_queue_num: u64,
     pub header_flags: u32,
     pub postcopy: PostcopyState,
+    pub profile: Profile,
 }
 
 impl FrontendSession {
@@ -39,6 +43,7 @@ impl FrontendSession {
             max_queue_num,
             header_flags: 0,
             postcopy: PostcopyState::Inactive,
+            profile: Profile::Vhost,
         }
     }
 
@@ -57,6 +62,35 @@ impl FrontendSession {
             Awaited::Ack
         } else {
             Awaited::Nobody
+        }
+    }
+
+    /// What a request awaits that says where the log lies without a region: under `Standard` what each other one does.
+    pub fn base_acknowledgement(&self) -> Awaited
+        ensures { result ≡ (if standard (frontend_of self.now).profile then ask.awaited_ack (frontend_of self.now) else Nobody) }
+    {
+        if self.profile.is_standard() {
+            self.acknowledgement()
+        } else {
+            Awaited::Nobody
+        }
+    }
+
+    /// The flags of a request: under `Standard` NEED_REPLY goes out only where both sides agreed on acknowledgements.
+    pub fn flags(&self) -> u32
+        ensures reply { is_set result REPLY ≡ is_set (frontend_of self.now).header_flags REPLY }
+        ensures need_reply { is_set result NEED_REPLY ≡ ask.needs_reply (frontend_of self.now) }
+    {
+        let (acked_protocol_features, header_flags) = (
+            self.acked_protocol_features,
+            self.header_flags,
+        );
+        if self.profile.is_standard()
+            && !has_bit(acked_protocol_features, protocol_bit::REPLY_ACK)
+        {
+            self.quiet_flags()
+        } else {
+            header_flags
         }
     }
 

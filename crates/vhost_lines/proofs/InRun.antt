@@ -7,7 +7,9 @@ use Rattle.vhost_protocol.specs.Error.{Error}
 use Rattle.vhost_protocol.specs.Features.{PROTOCOL_FEATURES}
 use Rattle.vhost_dummy_backend.specs.Dummy.{DummyGives, fresh}
 use Rattle.vhost_frontend_core.specs.Values.{answer_of}
+use Rattle.vhost_protocol.specs.declared.profile.Profile.{Profile}
 use Rattle.vhost_pair.proofs.Lockstep.{begins, next-ready}
+use Rattle.vhost_pair.proofs.Ready.{ready-profiles}
 use Rattle.vhost_pair.specs.Joined.{IsReady, Offers, Keeps}
 use Rattle.vhost_pair.specs.Device.{Gives}
 use Rattle.vhost_pair.specs.Joined as joined
@@ -74,19 +76,19 @@ run-shows old new (line ∷ ls) text ready going (call, first, rest, mid, asks, 
         by false e = later (next-ready moves true call old mid (answer_of a) (inr offers) (line-plain line call asks) ready k e) (k.stopped ∙ ap (λ x. if x then Some Table else None) e)
 
 -- from a session as it begins
-fresh-shows : (start new : View) (ls : List (List ℕ)) (text : List ℕ) → IsFresh start → AnswersAll Steps request_of reply_of stopped_of start ls text new → FreshShows ls text
-fresh-shows start new ls text (alloc, is) all = (
+fresh-shows : (profile : Profile) (start new : View) (ls : List (List ℕ)) (text : List ℕ) → IsFresh profile start → AnswersAll Steps request_of reply_of stopped_of start ls text new → FreshShows profile ls text
+fresh-shows profile start new ls text (alloc, is) all = (
   alloc,
   subst (λ v. RunShows v.frontend v.session v.device ls text) is
-      (run-shows start new ls text (subst (λ v. IsReady true v) (sym is) (begins (fresh alloc spares) 2 3 [] [] true)) (ap (λ v. v.stopped) is) all),
+      (run-shows start new ls text (subst (λ v. IsReady true v) (sym is) (ready-profiles true _ profile profile (begins (fresh alloc spares) 2 3 [] [] true))) (ap (λ v. v.stopped) is) all),
 )
 
 -- what lines show that were answered
-pub lines_known : (before old new : Option (List ℕ)) → IfSome before (λ text. AnswersLines text old new) → IfSome before (λ text. ShowsLines text old new)
-lines_known None old new shows = tt
-lines_known (Some text) old new (start, end, shown, begun, all, written) = (shown, fresh-shows start end (good_lines (lines text)) shown begun all, written)
+pub lines_known : (profile : Profile) (before old new : Option (List ℕ)) → IfSome before (λ text. AnswersLines profile text old new) → IfSome before (λ text. ShowsLines profile text old new)
+lines_known profile None old new shows = tt
+lines_known profile (Some text) old new (start, end, shown, begun, all, written) = (shown, fresh-shows profile start end (good_lines (lines text)) shown begun all, written)
 
 -- a front of it
-pub front_known : (before old new : Option (List ℕ)) → IfSome before (λ text. AnswersFront text old new) → IfSome before (λ text. ShowsFront text old new)
-front_known None old new shows = tt
-front_known (Some text) old new (start, end, done, later, shown, begun, good, all, written) = (done, later, shown, good, fresh-shows start end done shown begun all, written)
+pub front_known : (profile : Profile) (before old new : Option (List ℕ)) → IfSome before (λ text. AnswersFront profile text old new) → IfSome before (λ text. ShowsFront profile text old new)
+front_known profile None old new shows = tt
+front_known profile (Some text) old new (start, end, done, later, shown, begun, good, all, written) = (done, later, shown, good, fresh-shows profile start end done shown begun all, written)

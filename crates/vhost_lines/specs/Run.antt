@@ -2,6 +2,7 @@
 use Rattle.std.specs.Prelude.{◌≡◌, ℕ, List, [], ◌∷◌, ◌++◌, Option, Some, Bool, true, false, codes}
 use Rattle.std.specs.declared.alloc.Global.{Global}
 use Rattle.std.specs.Io.KnownBytes.{Appends}
+use Rattle.vhost_protocol.specs.declared.profile.Profile.{Profile}
 use Rattle.vhost_protocol.specs.FrontendCall.{Frontend, new_frontend}
 use Rattle.vhost_protocol.specs.Joined.{Shown, JoinedStep}
 use Rattle.vhost_protocol.specs.Session.{Session}
@@ -37,14 +38,14 @@ RunShows f s d (line ∷ later) text =
     × (text ≡ line_text (text_of shown.request) (text_of shown.reply) answer ++ rest)
     × Behind shown.last (rest ≡ stopped_text later) (RunShows g t mid later rest)
 
--- from two fresh sessions and the device as it begins
-abbrev pub FreshShows : List (List ℕ) → List ℕ → Type 0
-FreshShows ls text = (alloc : Global) × RunShows (new_frontend 2) session.fresh (fresh alloc spares) ls text
+-- from two fresh sessions with this profile, and the device as it begins
+abbrev pub FreshShows : Profile → List (List ℕ) → List ℕ → Type 0
+FreshShows profile ls text = (alloc : Global) × RunShows (record (new_frontend 2) { profile = profile }) (record session.fresh { profile = profile }) (fresh alloc spares) ls text
 
 -- what is written shows the lines of a text up to the first one that is no call
-abbrev pub ShowsLines : List ℕ → Option (List ℕ) → Option (List ℕ) → Type 0
-ShowsLines text old new = (shown : List ℕ) × FreshShows (good_lines (lines text)) shown × Appends old new shown
+abbrev pub ShowsLines : Profile → List ℕ → Option (List ℕ) → Option (List ℕ) → Type 0
+ShowsLines profile text old new = (shown : List ℕ) × FreshShows profile (good_lines (lines text)) shown × Appends old new shown
 
 -- what is written is a front of what such lines show, up to some line
-abbrev pub ShowsFront : List ℕ → Option (List ℕ) → Option (List ℕ) → Type 0
-ShowsFront text old new = (done later : List (List ℕ)) × (shown : List ℕ) × (good_lines (lines text) ≡ done ++ later) × FreshShows done shown × AppendsFront old new shown
+abbrev pub ShowsFront : Profile → List ℕ → Option (List ℕ) → Option (List ℕ) → Type 0
+ShowsFront profile text old new = (done later : List (List ℕ)) × (shown : List ℕ) × (good_lines (lines text) ≡ done ++ later) × FreshShows profile done shown × AppendsFront old new shown

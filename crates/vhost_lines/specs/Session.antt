@@ -2,6 +2,7 @@
 use Rattle.std.specs.Prelude.{◌≡◌, ℕ, List, [], ◌∷◌, map, Option, None, Result, Ok}
 use Rattle.std.specs.declared.alloc.Global.{Global}
 use Rattle.vhost_message.specs.declared.cause.IoCause.{IoCause}
+use Rattle.vhost_protocol.specs.declared.profile.Profile.{Profile}
 use Rattle.vhost_call_words.specs.Calls.{Call}
 use Rattle.vhost_frontend_core.specs.declared.values.answer.FrontendAnswer.{FrontendAnswer}
 use Rattle.vhost_dummy_backend.specs.Dummy.{DummyGives, fresh}
@@ -28,9 +29,13 @@ View = joined.View Device
 abbrev pub spares : List PlainHandle
 spares = map (λ n. record { id = n; kind = NoSocket }) (107 ∷ 106 ∷ 105 ∷ 104 ∷ 103 ∷ 102 ∷ 101 ∷ 100 ∷ [])
 
+-- both sides with this profile
+abbrev pub with_profile : Profile → View → View
+with_profile profile v = record v { frontend = record v.frontend { profile = profile }; session = record v.session { profile = profile } }
+
 -- a session as it begins: the device is new and has two queues; a message may take three retries, and no link is cut
-abbrev pub IsFresh : View → Type 0
-IsFresh now = (alloc : Global) × (now ≡ as_view (fresh_parts (fresh alloc spares) 2 3 [] []) None)
+abbrev pub IsFresh : Profile → View → Type 0
+IsFresh profile now = (alloc : Global) × (now ≡ with_profile profile (as_view (fresh_parts (fresh alloc spares) 2 3 [] []) None))
 
 -- a handle is copied as it is
 abbrev pub copies : PlainHandle → Result PlainHandle IoCause → Type 0
@@ -54,9 +59,9 @@ abbrev pub Answers : View → Call → List ℕ → View → Type 0
 Answers = AnswersCall Steps request_of reply_of stopped_of
 
 -- what is written shows the lines of a text, answered one step of the code after another by a session as it begins, up to the first one that is no call
-abbrev pub AnswersLines : List ℕ → Option (List ℕ) → Option (List ℕ) → Type 0
-AnswersLines = ShowsText Steps request_of reply_of stopped_of IsFresh
+abbrev pub AnswersLines : Profile → List ℕ → Option (List ℕ) → Option (List ℕ) → Type 0
+AnswersLines profile = ShowsText Steps request_of reply_of stopped_of (IsFresh profile)
 
 -- what is written is a front of what the lines of a text show, answered by a session as it begins
-abbrev pub AnswersFront : List ℕ → Option (List ℕ) → Option (List ℕ) → Type 0
-AnswersFront = ShowsFrontOf Steps request_of reply_of stopped_of IsFresh
+abbrev pub AnswersFront : Profile → List ℕ → Option (List ℕ) → Option (List ℕ) → Type 0
+AnswersFront profile = ShowsFrontOf Steps request_of reply_of stopped_of (IsFresh profile)

@@ -7,4 +7,5 @@ mod lines;
 mod output;
 
 pub use fault::Fault;
-pub use lines::run_lines;
+pub use lines::{run_lines, run_lines_as};
+pub use vhost_frontend_core::Profile;

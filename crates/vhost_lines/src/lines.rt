@@ -6,6 +6,7 @@ ghost use Rattle.std.specs.Io.KnownBytes.{Appends};
 ghost use Rattle.vhost_lines.specs.Lines.{lines, bad_line, status_of, complaint_of, GivesLine};
 ghost use Rattle.vhost_lines.specs.Shown.{line_text};
 ghost use Rattle.vhost_frontend_core.specs.Values.{call_of};
+ghost use Rattle.vhost_protocol.specs.declared.profile.Profile.TheVariants.{Vhost};
 ghost use Rattle.vhost_lines.specs.Run.{ShowsLines, ShowsFront};
 ghost use Rattle.vhost_lines.specs.Session.{IsFresh, Answers, AnswersLines, AnswersFront};
 
@@ -18,7 +19,7 @@ use std::io::{BufRead, ErrorKind, Write};
 use vhost_answer_text::{Answer, Message};
 use vhost_call_words::call_of;
 use vhost_device::VhostUserBackendReqHandlerMut;
-use vhost_frontend_core::{FrontendAnswer, FrontendCall};
+use vhost_frontend_core::{FrontendAnswer, FrontendCall, Profile};
 use vhost_link::MemLink;
 use vhost_pair::{Halt, Joined, Stop};
 
@@ -33,7 +34,6 @@ type Session = Joined<Device>;
 /// line that met it isn't written. Nothing is written to `output` after a write or a flush of it that failed: whatever the
 /// status, what was written is a prefix of the output of all lines.
 /// Where the device fails to allocate bytes of its configuration space, it refuses the call, and the line says that.
-#[tactic(auto, using(crate::proofs::InRun::lines_known, crate::proofs::InRun::front_known))]
 pub fn run_lines<I: BufRead, W: Write, E: Write>(
     alloc: Global,
     input: &mut I,
@@ -43,10 +43,28 @@ pub fn run_lines<I: BufRead, W: Write, E: Write>(
     ensures range { result ≤ 2 }
     ensures status { result ≢ 2 → IfSome (I.remaining input.old) (λ text. result ≡ status_of (bad_line 1 (lines text))) }
     ensures told { result ≢ 2 → IfSome (I.remaining input.old) (λ text. Appends (E.contents errors.old) (E.contents errors.new) (complaint_of (bad_line 1 (lines text)))) }
-    ensures shown { result ≢ 2 → IfSome (I.remaining input.old) (λ text. ShowsLines text (W.contents output.old) (W.contents output.new)) }
-    ensures front { IfSome (I.remaining input.old) (λ text. ShowsFront text (W.contents output.old) (W.contents output.new)) }
+    ensures shown { result ≢ 2 → IfSome (I.remaining input.old) (λ text. ShowsLines Vhost text (W.contents output.old) (W.contents output.new)) }
+    ensures front { IfSome (I.remaining input.old) (λ text. ShowsFront Vhost text (W.contents output.old) (W.contents output.new)) }
 {
-    match answer_lines(alloc, input, output) {
+    run_lines_as(alloc, Profile::Vhost, input, output, errors)
+}
+
+/// The same, where both sides have this profile.
+#[tactic(auto, using(crate::proofs::InRun::lines_known, crate::proofs::InRun::front_known))]
+pub fn run_lines_as<I: BufRead, W: Write, E: Write>(
+    alloc: Global,
+    profile: Profile,
+    input: &mut I,
+    output: &mut W,
+    errors: &mut E,
+) -> u8
+    ensures range { result ≤ 2 }
+    ensures status { result ≢ 2 → IfSome (I.remaining input.old) (λ text. result ≡ status_of (bad_line 1 (lines text))) }
+    ensures told { result ≢ 2 → IfSome (I.remaining input.old) (λ text. Appends (E.contents errors.old) (E.contents errors.new) (complaint_of (bad_line 1 (lines text)))) }
+    ensures shown { result ≢ 2 → IfSome (I.remaining input.old) (λ text. ShowsLines profile text (W.contents output.old) (W.contents output.new)) }
+    ensures front { IfSome (I.remaining input.old) (λ text. ShowsFront profile text (W.contents output.old) (W.contents output.new)) }
+{
+    match answer_lines(alloc, profile, input, output) {
         Ok(None) => 0,
         Ok(Some(number)) => match complain(number, errors) {
             Ok(()) => 1,
@@ -77,14 +95,15 @@ fn tell<E: Write>(fault: Fault, errors: &mut E) {
 /// Answers the lines up to the end, or to one that is no call; its number.
 fn answer_lines<I: BufRead, W: Write>(
     alloc: Global,
+    profile: Profile,
     input: &mut I,
     output: &mut W,
 ) -> Result<Option<u64>, Fault>
     ensures bad { IfOk result (λ bad. IfSome (I.remaining input.old) (λ text. bad ≡ bad_line 1 (lines text))) }
-    ensures shown { OnOk result (IfSome (I.remaining input.old) (λ text. AnswersLines text (W.contents output.old) (W.contents output.new))) }
-    ensures front { IfSome (I.remaining input.old) (λ text. AnswersFront text (W.contents output.old) (W.contents output.new)) }
+    ensures shown { OnOk result (IfSome (I.remaining input.old) (λ text. AnswersLines profile text (W.contents output.old) (W.contents output.new))) }
+    ensures front { IfSome (I.remaining input.old) (λ text. AnswersFront profile text (W.contents output.old) (W.contents output.new)) }
 {
-    let mut session = new_session(alloc)?;
+    let mut session = new_session(alloc, profile)?;
     let mut line = Vec::new(alloc);
     let mut shown = Vec::new(alloc);
     for number in 1..u64::MAX {
@@ -106,12 +125,14 @@ fn answer_lines<I: BufRead, W: Write>(
 
 /// Both sides as they begin, which are too large for a frame.
 #[inline(never)]
-fn new_session(alloc: Global) -> Result<Box<Session>, Fault>
-    ensures { IfOk result (λ session. IsFresh session.value) }
+fn new_session(alloc: Global, profile: Profile) -> Result<Box<Session>, Fault>
+    ensures { IfOk result (λ session. IsFresh profile session.value) }
 {
     let device = new_device(alloc)?;
     let scripts = (Vec::new(alloc), Vec::new(alloc));
-    match Box::new(alloc, Joined::new(alloc, device, 2, 3, scripts)?) {
+    let mut joined = Joined::new(alloc, device, 2, 3, scripts)?;
+    joined.set_profiles(profile, profile);
+    match Box::new(alloc, joined) {
         Ok(session) => Ok(session),
         Err(_) => Err(Fault::OutOfMemory),
     }

@@ -16,11 +16,11 @@ use Rattle.vhost_protocol.specs.declared.asked.Shape.{Shape}
 use Rattle.vhost_protocol.specs.declared.asked.Shape.TheVariants as shape
 use Rattle.vhost_protocol.specs.Error.{Error, InvalidParam, InvalidMessage, IncorrectFds, BackendInternalError, seen}
 use Rattle.vhost_protocol.specs.FrontendCall.{FrontendCall, GetFeatures, GetProtocolFeatures, GetQueueNum, SetMemTable, SetLogBase, GetVringBase, GetConfig, GetSharedObject, GetInflightFd, GetMaxMemSlots, AddMemRegion, GetShmemConfig, SetDeviceStateFd, CheckDeviceState, PostcopyAdvise, Value, Nothing, Number, Bases, Base, ConfigOf, HandleOf, InflightOf, StateHandle, ShmemOf, Info, Frontend}
-use Rattle.vhost_protocol.specs.ReplySplit.{Received, reply_split, bare_or_reply}
+use Rattle.vhost_protocol.specs.ReplySplit.{Received}
 use Rattle.vhost_protocol.specs.Served.{Acknowledged, Replied}
 use Rattle.vhost_protocol.specs.Split.{Splits}
 use Rattle.vhost_protocol.specs.Stream.{Cell}
-use Rattle.vhost_protocol.specs.Take.{take, take_reply, take_config, understood, understood_ack, understood_config, is_sized, is_known, is_valid_record, record_size, room, answers, payload_of}
+use Rattle.vhost_protocol.specs.Take.{take, take_reply, take_config, understood, understood_ack, understood_config, is_sized, room, answers, reply_cut, config_cut, payload_of}
 use Rattle.vhost_protocol.specs.Written.{Payload, Empty, U64, Regions, OneRegion, Shmem, RingState, ConfigBytes, InflightArea, LogArea}
 use Rattle.vhost_link.specs.declared.plain.PlainHandle.{PlainHandle}
 use Rattle.vhost_link.specs.Ends.{Ends}
@@ -167,15 +167,15 @@ module _ (H : Type 0) where
 
   config-taken : (call : FrontendCall H) (buffer : List ℕ) (sent : Header) (f : Frontend) (cells : List (Cell H)) → Listed H call (take_config call buffer sent f cells).0
   config-taken call [] sent f cells = failed H call InvalidParam
-  config-taken call (b ∷ buffer) sent f cells = config-understood call sent f (bare_or_reply is_known (answers sent) (is_valid_record shape.Config) (length (b ∷ buffer)) cells).0
+  config-taken call (b ∷ buffer) sent f cells = config-understood call sent f (config_cut f.profile sent (length (b ∷ buffer)) cells).0
 
   reply-taken : (call : FrontendCall H) (s : Shape) (sent : Header) (f : Frontend) (cells : List (Cell H)) → Listed H call (take_reply call s sent f cells).0
   reply-taken (GetConfig offset size flags buffer) s sent f cells = config-taken (part offset size flags buffer) buffer sent f cells
-  reply-taken call s sent f cells = understood-listed call (Reply s) sent f (reply_split is_known (record_size s) (is_valid_record s) (room call) cells).0
+  reply-taken call s sent f cells = understood-listed call (Reply s) sent f (reply_cut s f.profile (room call) cells).0
 
   taken-listed : (call : FrontendCall H) (awaited : Awaited) (sent : Header) (f : Frontend) (cells : List (Cell H)) → Listed H call (take call awaited sent f cells).0
   taken-listed call Nobody sent f cells = plain-listed call
-  taken-listed call Ack sent f cells = understood-listed call Ack sent f (reply_split is_known 8 (is_valid_record shape.U64) 0 cells).0
+  taken-listed call Ack sent f cells = understood-listed call Ack sent f (reply_cut shape.U64 f.profile 0 cells).0
   taken-listed call (Reply s) sent f cells = go (has_bit sent.flags 2) (take_reply call s sent f cells) (reply-taken call s sent f cells)
     where
       go : (b : Bool) (x : Option (Answered H) × List (Cell H)) → Listed H call x.0 → Listed H call (cond b (Some (answered f (Err InvalidParam)), cells) x).0

@@ -8,7 +8,7 @@ use Rattle.vhost_protocol.specs.AnswerTable.{Answered, answer}
 use Rattle.vhost_protocol.specs.declared.asked.Awaited.{Awaited}
 use Rattle.vhost_protocol.specs.declared.asked.Awaited.TheVariants.{Reply}
 use Rattle.vhost_protocol.specs.declared.asked.Shape.TheVariants as shape
-use Rattle.vhost_protocol.specs.Ask.{Asked, Refuses, Answers, Sends, ask}
+use Rattle.vhost_protocol.specs.Ask.{Asked, Refuses, Answers, Sends, ask, needs_reply}
 use Rattle.vhost_protocol.specs.DeviceCall as device
 use Rattle.vhost_protocol.specs.Error.{Error, InvalidMessage}
 use Rattle.vhost_protocol.specs.Features.{PROTOCOL_FEATURES}
@@ -24,7 +24,8 @@ use Rattle.vhost_protocol.proofs.NegotiationLaws.{calls-negotiate, replies-negot
 use Rattle.vhost_link.specs.declared.plain.PlainHandle.{PlainHandle}
 use Rattle.vhost_frontend_core.specs.ValueHalves.{IsSent}
 use Rattle.vhost_pair.specs.Device.{Gives, opens_backend, opens_gpu}
-use Rattle.vhost_pair.specs.Joined.{Offers}
+use Rattle.vhost_protocol.specs.declared.profile.Profile.{Profile}
+use Rattle.vhost_pair.specs.Joined.{View, IsReady, Offers}
 use Rattle.vhost_pair.specs.Lockstep.{IsPlain}
 use Rattle.vhost_pair.proofs.HeaderFlags.{SentWith, sent-with, With, answered-with}
 
@@ -117,7 +118,7 @@ module _ {Dev : Type 0} (gives : Gives Dev) (bit : Bool) where
       offered : Reveals d GetFeatures shown d' → JoinedStep gives opens_backend opens_gpu f s d GetFeatures shown f' s' d' → IsReadyFrontend f'
       offered so done =
           sent-ready f s d GetFeatures shown f' s' d' tt
-          (λ o met is. features-offer (λ served. answer GetFeatures (Reply shape.U64) f served ≡ Some (record { result = shown.result; session = f' }) → OffersBit bit GetFeatures served) s d (has_bit f.header_flags 3) (has_bit f.header_flags 2) o d' ready.0
+          (λ o met is. features-offer (λ served. answer GetFeatures (Reply shape.U64) f served ≡ Some (record { result = shown.result; session = f' }) → OffersBit bit GetFeatures served) s d (needs_reply f) (has_bit f.header_flags 2) o d' ready.0
           (λ r given. revealed s d shown d' f f' so r given) met is) ready done
 
       by-kind : Kind call → IsReadyFrontend f'
@@ -133,3 +134,17 @@ module _ {Dev : Type 0} (gives : Gives Dev) (bit : Bool) where
   pub stays-shown : (f : Frontend) (s : Session) (d : Dev) (call : FrontendCall PlainHandle) (shown : Shown PlainHandle) (f' : Frontend) (s' : Session) (d' : Dev)
       → Shows call shown → IsPlain call → IsReadyFrontend f → JoinedStep gives opens_backend opens_gpu f s d call shown f' s' d' → IsReadyFrontend f'
   stays-shown f s d call shown f' s' d' shows = stays-by f s d call shown f' s' d' (inl shows)
+
+-- whoever was ready is so by any profiles
+pub ready-profiles : {Dev : Type 0} (bit : Bool) (v : View Dev) (asking serving : Profile) → IsReady bit v → IsReady bit (record v { frontend = record v.frontend { profile = asking }; session = record v.session { profile = serving } })
+ready-profiles bit v asking serving r =
+    let a = r.in_step.agree in record {
+      in_step = record {
+        agree = record { offered = a.offered; acked_protocol_features = a.acked_protocol_features; postcopy = a.postcopy; acked = a.acked };
+        nobody = r.in_step.nobody;
+        no_request = r.in_step.no_request;
+        no_reply = r.in_step.no_reply;
+      };
+      plain = r.plain;
+      negotiates = r.negotiates;
+    }

@@ -8,7 +8,7 @@ use crate::sides::Sides;
 use std::alloc::Global;
 use std::marker::Model;
 use vhost_device::VhostUserBackendReqHandlerMut;
-use vhost_frontend_core::{FrontendAnswer, FrontendCall};
+use vhost_frontend_core::{FrontendAnswer, FrontendCall, Profile};
 use vhost_link::{Cut, MemLink, PlainHandle};
 
 /// A frontend and a handler joined over two links in memory, with a device behind the handler.
@@ -61,6 +61,15 @@ impl<D: VhostUserBackendReqHandlerMut<Link = MemLink>> Joined<D> {
             }),
             Err(_) => Err(Halt::OutOfMemory),
         }
+    }
+
+    /// Whose behaviour the frontend and the handler have from now on: at first both have that of the crate `vhost`. The two
+    /// need not be the same. A run that was ready still is.
+    pub fn set_profiles(&mut self, asking: Profile, serving: Profile)
+        ensures profiles { self.new ≡ record self.old { frontend = record self.old.frontend { profile = asking }; session = record self.old.session { profile = serving } } }
+        ensures ready { (bit : Bool) → IsReady bit self.old → IsReady bit self.new }
+    {
+        self.sides.set_profiles(asking, serving);
     }
 
     /// Does one call: the request goes to the handler, which calls the device, and the reply comes back.

@@ -17,7 +17,9 @@ use crate::wire::Wire;
 use std::alloc::Global;
 use vhost_backend_req_handler::SessionCore;
 use vhost_device::VhostUserBackendReqHandlerMut;
-use vhost_frontend_core::{FrontendAnswer, FrontendCall, FrontendInternal, Sent, ask, take};
+use vhost_frontend_core::{
+    FrontendAnswer, FrontendCall, FrontendInternal, Profile, Sent, ask, take,
+};
 use vhost_link::{Cut, MemLink};
 use vhost_message::{Error, Result};
 
@@ -73,6 +75,14 @@ impl<D: VhostUserBackendReqHandlerMut<Link = MemLink>> Sides<D> {
             request,
             reply,
         })
+    }
+
+    /// Whose behaviour the frontend and the handler have from now on.
+    pub fn set_profiles(&mut self, asking: Profile, serving: Profile)
+        ensures { parts_of self.new ≡ record (parts_of self.old) { frontend = record (parts_of self.old).frontend { profile = asking }; session = record (parts_of self.old).session { profile = serving } } }
+    {
+        self.frontend.set_profile(asking);
+        self.handler.set_profile(serving);
     }
 
     /// Allocates what a step may need before its first byte.

@@ -28,11 +28,9 @@ acked-or on s = inl (acked on)
 replied-or : (s : Shape) → IsAck (Reply s) ⊎ (Reply s ≡ Reply s)
 replied-or s = inr refl
 
-silent-log : (Nobody ≡ Nobody) ⊎ (Nobody ≡ Reply shape.Log)
-silent-log = inl refl
-
-replied-log : (Reply shape.Log ≡ Nobody) ⊎ (Reply shape.Log ≡ Reply shape.Log)
-replied-log = inr refl
+base-acked : (standard on : Bool) → IsAck (cond standard (cond on Ack Nobody) Nobody) ⊎ (cond standard (cond on Ack Nobody) Nobody ≡ Reply shape.Log)
+base-acked true on = inl (acked on)
+base-acked false on = inl tt
 
 module _ (H : Type 0) (call : FrontendCall H) where
   behind-test : (x : Result (Unit {0}) Error) (next : Asked H) → AwaitsAllowed call next → AwaitsAllowed call (x >> next)
@@ -47,12 +45,12 @@ module _ (H : Type 0) (call : FrontendCall H) where
   either-way true x y h k = h
   either-way false x y h k = k
 
-ruleset awaiting = (behind-test, behind-given, either-way, acked, acked-or, replied-or, silent-log, replied-log)
+ruleset awaiting = (behind-test, behind-given, either-way, acked, acked-or, replied-or, base-acked)
 
 -- ---- each call
 
 each-awaits : {H : Type 0} (f : Frontend) (call : FrontendCall H) → AwaitsAllowed call (ask f call)
-each-awaits f (SetLogBase base None) = silent-log
+each-awaits f (SetLogBase base None) = search awaiting
 each-awaits f (SetLogBase base (Some r)) = search awaiting
 each-awaits f _ = search awaiting
 

@@ -11,6 +11,7 @@ pub mod Claiming
 pub mod Hungry
 pub mod Known
 pub mod Serving
+pub mod Standing
 pub mod Reading
 pub mod Faulting
 pub mod FaultingAsked
@@ -22,3 +23,5 @@ pub mod Listed
 pub mod ListedRead
 pub mod ByScript
 pub mod Whatever
+pub mod KnownAnswer
+pub mod StandardAsking

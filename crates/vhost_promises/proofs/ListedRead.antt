@@ -1,6 +1,6 @@
 -- A frontend's calls one after another: features that came leave the list of handles, and with it no call wants memory.
 use Rattle.std.proofs.Common.{◌≡◌, ℕ, List, [], ◌∷◌, take, drop, Bool, true, false, Option, Some, None, Result, Ok, Err, IfOk, refl, sym, ap, subst, ◌∙◌}
-use Rattle.std.specs.Prelude.{◌+◌, ◌&&◌, if◌then◌else◌}
+use Rattle.std.specs.Prelude.{◌+◌, ◌&&◌, not, if◌then◌else◌}
 use Rattle.vhost_message.specs.MsgHeader.{fields_of}
 use Rattle.vhost_message.specs.Bits.{has_bit}
 use Rattle.vhost_message.specs.Header.{Header, header_of}
@@ -12,10 +12,12 @@ use Rattle.vhost_protocol.specs.AnswerTable.{Answered, answered, answer}
 use Rattle.vhost_protocol.specs.Ask as asks
 use Rattle.vhost_protocol.specs.Error.{Error, InvalidParam, InvalidMessage, PartialMessage, seen}
 use Rattle.vhost_protocol.specs.FrontendCall.{Frontend, GetFeatures, Number, Value}
-use Rattle.vhost_protocol.specs.ReplySplit.{Received, reply_split, received}
+use Rattle.vhost_protocol.specs.declared.profile.Profile.{Profile}
+use Rattle.vhost_protocol.specs.declared.profile.Profile.TheVariants.{Vhost, Standard}
+use Rattle.vhost_protocol.specs.ReplySplit.{Received, reply_split, received, whole_split, is_right, apart, parted, then_made}
 use Rattle.vhost_protocol.specs.Served.{Replied}
 use Rattle.vhost_protocol.specs.Stream.{Cell, bytes, first_handles, has_some, is_shorter}
-use Rattle.vhost_protocol.specs.Take.{is_known, is_valid_record, answers, understood, take as takes, take_reply}
+use Rattle.vhost_protocol.specs.Take.{is_known, is_valid_record, answers, understood, take as takes, take_reply, reply_cut}
 use Rattle.vhost_protocol.specs.Written.{U64}
 use Rattle.vhost_protocol.specs.declared.asked.Awaited.{Awaited}
 use Rattle.vhost_protocol.specs.declared.asked.Awaited.TheVariants.{Reply}
@@ -79,13 +81,30 @@ by-tests hs true fits r rest same = record { handles = tt; sound = λ sent f. re
 by-tests hs false true r rest same = record { handles = same; sound = λ sent f. no-want sent f (answers sent r.header && true) (u64_at 0 r.body) r.handles }
 by-tests hs false false r rest same = record { handles = tt; sound = λ sent f. refl }
 
--- a reply with a number, at the front of what came
-abbrev reply_in : {H : Type 0} → List (Cell H) → Result (Received H) Error
-reply_in cells = (reply_split is_known 8 (is_valid_record shape.U64) 0 cells).0
+-- the same of one that is read by its header
+by-header : {H : Type 0} (hs : List H) (short unknown cut : Bool) (behind : List (Cell H)) (r : Received H) (rest : List (Cell H)) → r.handles ≡ hs
+    → Fits hs (then_made is_known (parted is_known 8 (is_valid_record shape.U64) 0) (if◌then◌else◌ {A = Result (Received H) Error × List (Cell H)} short (Err PartialMessage, [])
+    (if unknown then (Err InvalidMessage, behind) else if cut then (Err PartialMessage, []) else (Ok r, rest)))).0
+by-header hs true unknown cut behind r rest same = record { handles = tt; sound = λ sent f. refl }
+by-header hs false true cut behind r rest same = record { handles = tt; sound = λ sent f. refl }
+by-header hs false false true behind r rest same = record { handles = tt; sound = λ sent f. refl }
+by-header hs false false false behind r rest same = go (is_right is_known 8 (is_valid_record shape.U64) 0 r)
+  where
+    go : (b : Bool) → Fits hs (if b then Ok (apart is_known 8 r) else Err InvalidMessage)
+    go true = record { handles = same; sound = λ sent f. no-want sent f (answers sent r.header && true) (u64_at 0 (take 8 r.body)) r.handles }
+    go false = record { handles = tt; sound = λ sent f. refl }
 
-fits : {H : Type 0} (cells : List (Cell H)) → Fits (first_handles cells) (reply_in cells)
-unfolding reply_split received
-fits cells =
+-- a reply with a number, at the front of what came
+abbrev reply_in : {H : Type 0} → Profile → List (Cell H) → Result (Received H) Error
+reply_in profile cells = (reply_cut shape.U64 profile 0 cells).0
+
+fits : {H : Type 0} (profile : Profile) (cells : List (Cell H)) → Fits (first_handles cells) (reply_in profile cells)
+unfolding reply_split received whole_split
+fits Standard cells =
+    let h = header_of (bytes (take MSG_HEADER_SIZE cells)) in
+    let behind = drop MSG_HEADER_SIZE cells in
+    by-header (first_handles cells) (is_shorter MSG_HEADER_SIZE cells) (not (is_known h)) (is_shorter h.size behind) behind (record { header = h; body = bytes (take h.size behind); payload = []; handles = first_handles cells }) (drop h.size behind) refl
+fits Vhost cells =
     let h = header_of (bytes (take MSG_HEADER_SIZE cells)) in
     let body = bytes (take 8 (drop MSG_HEADER_SIZE cells)) in
     let behind = drop 8 (drop MSG_HEADER_SIZE cells) in
@@ -102,17 +121,22 @@ module _ {H : Type 0} (sent : Header) (f : Frontend) where
 
   alone : (flag : Bool) (cells : List (Cell H)) → is_success (taken_from flag cells).0 ≡ true → has_some (first_handles cells) ≡ false
   alone true cells is = absurd cc
-  alone false cells is = from-reply sent f (first_handles cells) (reply_in cells) (fits cells) is
+  alone false cells is = from-reply sent f (first_handles cells) (reply_in f.profile cells) (fits f.profile cells) is
 
   unwanted : (flag : Bool) (cells : List (Cell H)) → is_want (taken_from flag cells).0 ≡ false
   unwanted true cells = refl
-  unwanted false cells = (fits cells).sound sent f
+  unwanted false cells = (fits f.profile cells).sound sent f
 
 -- nothing is read only where nothing is answered
+nothing-in : (H : Type 0) (profile : Profile) → reply_in {H = H} profile [] ≡ Err PartialMessage
+unfolding reply_split whole_split
+nothing-in H Vhost = refl
+nothing-in H Standard = refl
+
 none-unread : (H : Type 0) (sent : Header) (f : Frontend) (flag : Bool) → is_success (taken_from {H = H} sent f flag []).0 ≡ true → ⊥
-unfolding reply_split
 none-unread H sent f true is = absurd cc
-none-unread H sent f false is = absurd cc
+none-unread H sent f false is =
+    let failed : is_success (understood {H = H} GetFeatures (Reply shape.U64) sent f (Err PartialMessage)) ≡ true = ap (λ o. is_success (understood {H = H} GetFeatures (Reply shape.U64) sent f o)) (sym (nothing-in H f.profile)) ∙ is in absurd cc
 
 module _ {L H : Type 0} (event : L → Event H → L → Type 0) where
   -- ---- what was read

@@ -27,12 +27,12 @@ use Rattle.vhost_promises.proofs.Claiming.{number_in, read}
 use Rattle.vhost_promises.proofs.Known.{cuts, none-handed, talked}
 
 -- a message without a flag, a body or a handle
-abbrev asks : FrontendReq → Message FrontendReq PlainHandle
+abbrev pub asks : FrontendReq → Message FrontendReq PlainHandle
 asks r = record { request = r; reply = false; need_reply = false; body = []; handles = [] }
 
 module _ {B G : Type 0} (opens_backend : PlainHandle → Result B Error → Type 0) (opens_gpu : PlainHandle → Result G Error → Type 0) where
   -- the device's relation: a handle is copied as it is
-  abbrev Meets : Session → Device → Message FrontendReq PlainHandle → Result ⊤ Error → List (Cell PlainHandle) → Session → Device → Type 0
+  abbrev pub Meets : Session → Device → Message FrontendReq PlainHandle → Result ⊤ Error → List (Cell PlainHandle) → Session → Device → Type 0
   Meets = MeetsRow (fitting (DummyGives {B = B} {G = G} (λ handle copy. copy ≡ Ok handle))) opens_backend opens_gpu
 
   -- the features are answered
@@ -77,11 +77,11 @@ module _ {B G : Type 0} (opens_backend : PlainHandle → Result B Error → Type
   -- ---- one call of a run
 
   -- The next message of the stream is this: it met its row, and the rest of the stream is left for the later calls.
-  record Next (s : Session) (d : Device) (m : Message FrontendReq PlainHandle) (answer : Result ⊤ Error) (written : List (Cell PlainHandle)) (s' : Session) (d' : Device) (rest : List (Cell PlainHandle)) (later : List (Item PlainHandle)) (left : List (Cell PlainHandle)) : Type 0 where
-    meets : Meets s d m answer written s' d'
-    hands : HandsFront rest later left
+  pub record Next (s : Session) (d : Device) (m : Message FrontendReq PlainHandle) (answer : Result ⊤ Error) (written : List (Cell PlainHandle)) (s' : Session) (d' : Device) (rest : List (Cell PlainHandle)) (later : List (Item PlainHandle)) (left : List (Cell PlainHandle)) : Type 0 where
+    pub meets : Meets s d m answer written s' d'
+    pub hands : HandsFront rest later left
 
-  next : (before left rest : List (Cell PlainHandle)) (m : Message FrontendReq PlainHandle) (s s' : Session) (d d' : Device) (input now later : List (Item PlainHandle)) (answer : Result ⊤ Error) (written : List (Cell PlainHandle))
+  pub next : (before left rest : List (Cell PlainHandle)) (m : Message FrontendReq PlainHandle) (s s' : Session) (d d' : Device) (input now later : List (Item PlainHandle)) (answer : Result ⊤ Error) (written : List (Cell PlainHandle))
       → split request_of allows_handles before ≡ (Ok m, rest) → HandsFront before input left → input ≡ now ++ later
       → (heard : Result (Message FrontendReq PlainHandle) Error) → run.Hears request_of allows_handles (λ (t : Session). t.failed) Meets now heard
       → run.Handles request_of allows_handles (λ (t : Session). t.failed) Meets s d heard answer written s' d' → Next s d m answer written s' d' rest later left
@@ -94,7 +94,7 @@ module _ {B G : Type 0} (opens_backend : PlainHandle → Result B Error → Type
       }
 
   -- one call of a session that is not marked as failed
-  abbrev Calls : Session → Device → List (Item PlainHandle) → Result ⊤ Error → List (Cell PlainHandle) → Session → Device → Type 0
+  abbrev pub Calls : Session → Device → List (Item PlainHandle) → Result ⊤ Error → List (Cell PlainHandle) → Session → Device → Type 0
   Calls = run.Serves request_of allows_handles (λ (t : Session). t.failed) Meets
 
   -- ---- three of them

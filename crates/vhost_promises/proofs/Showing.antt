@@ -23,6 +23,7 @@ use Rattle.vhost_pair.specs.Device.{opens_backend, opens_gpu}
 use Rattle.vhost_pair.specs.Text.{text_of}
 use Rattle.vhost_call_words.specs.Calls.{call_in}
 use Rattle.vhost_lines.specs.Lines.{bad_line, lines, status_of}
+use Rattle.vhost_protocol.specs.declared.profile.Profile.TheVariants.{Vhost}
 use Rattle.vhost_lines.specs.Run.{Behind, RunShows, ShowsLines, stopped_text}
 use Rattle.vhost_lines.specs.Session.{copies, spares}
 use Rattle.vhost_lines.specs.Shown.{good_lines, line_text}
@@ -134,7 +135,7 @@ both alloc text (call, shown, a, g, t, mid, rest, is_call, step, is_answer, is_t
     ∙ ap (λ x. line_text (record { bytes = features_request; handles = [] }) (record { bytes = features_reply; handles = [] }) (answer.Number 0x40000003) ++ x) shows
 
 -- of a writer that held nothing
-pub shown-lines : (out : List ℕ) → ShowsLines two_lines (Some []) (Some out) → out ≡ two_lines_shown
+pub shown-lines : (out : List ℕ) → ShowsLines Vhost two_lines (Some []) (Some out) → out ≡ two_lines_shown
 shown-lines out (shown, (alloc, run), is) = is ∙ both alloc shown (subst (λ ls. RunShows (new_frontend 2) fresh (dummy.fresh alloc spares) ls shown) all-lines run) ∙ both-text
 
 -- a status that is 0 wherever it is not 2

@@ -1,5 +1,5 @@
 -- What callers see of a recorder.
-use Rattle.std.specs.Prelude.{◌≡◌, ℕ, ◌+◌, List, [], ◌∷◌, ◌++◌, Option, Some, None, Ok}
+use Rattle.std.specs.Prelude.{◌≡◌, ℕ, ◌+◌, List, [], ◌∷◌, ◌++◌}
 use Rattle.vhost_protocol.specs.FrontendCall.{FrontendCall}
 use Rattle.vhost_protocol.specs.Log.{Entry, calls_of}
 use Rattle.vhost_link.specs.declared.plain.PlainHandle.{PlainHandle}

@@ -19,6 +19,8 @@ mod runs;
 mod scripts;
 mod served;
 mod shared;
+mod standard;
+mod standard_asking;
 mod streams;
 
 pub use again::{adds_again, asks_again};
@@ -44,4 +46,6 @@ pub use runs::{serves_no_broken, serves_no_broken_back, serves_whole, serves_who
 pub use scripts::{passes_its_script, stops_by_its_script};
 pub use served::{serves_three, serves_three_new};
 pub use shared::own_features;
+pub use standard::{goes_on_unserved, goes_on_unserved_new};
+pub use standard_asking::goes_on_without_config;
 pub use streams::{finds_none, finds_none_back};

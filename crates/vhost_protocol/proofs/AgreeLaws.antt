@@ -1,6 +1,6 @@
 -- Frontend and handler stay in agreement, until the last step.
 use Rattle.std.proofs.Common.{◌≡◌, ℕ, ◌^◌, ◌<◌, Bool, true, false, cond, ◌&&◌, List, [], ◌∷◌, length, Option, Some, None, Result, Ok, Err, refl, sym, ◌∙◌, ap, subst, is_ok, bit_and}
-use Rattle.std.specs.Prelude.{◌==◌, nat_le}
+use Rattle.std.specs.Prelude.{◌==◌, nat_le, codes}
 use Rattle.std.specs.List.{list_all}
 use Rattle.std.proofs.lemmas.Nat.{and_comm, and_assoc}
 use Rattle.std.specs.Int.Bits.{and_self}
@@ -8,7 +8,7 @@ use Rattle.byteorder.specs.Numbers.{little_number-reads_back}
 use Rattle.vhost_message.specs.declared.limits.TheConstants.{MAX_MEM_REGIONS}
 use Rattle.vhost_message.specs.Bits.{has_bit}
 use Rattle.vhost_message.specs.declared.frontend_req.FrontendReq.{FrontendReq}
-use Rattle.vhost_message.specs.declared.frontend_req.FrontendReq.TheVariants.{GET_FEATURES, SET_FEATURES, SET_MEM_TABLE, SET_PROTOCOL_FEATURES, POSTCOPY_LISTEN, POSTCOPY_END, ADD_MEM_REG, GET_QUEUE_NUM}
+use Rattle.vhost_message.specs.declared.frontend_req.FrontendReq.TheVariants.{GET_FEATURES, SET_FEATURES, SET_MEM_TABLE, SET_PROTOCOL_FEATURES, SET_LOG_FD, POSTCOPY_LISTEN, POSTCOPY_END, ADD_MEM_REG, GET_QUEUE_NUM}
 use Rattle.vhost_message.specs.declared.postcopy.PostcopyState.TheVariants.{Advise, Listen, End}
 use Rattle.vhost_message.specs.declared.records.config.VhostUserConfig.{VhostUserConfig}
 use Rattle.vhost_message.specs.declared.records.inflight.VhostUserInflight.{VhostUserInflight}
@@ -23,14 +23,15 @@ use Rattle.vhost_message.specs.Text.{digits}
 use Rattle.vhost_protocol.specs.Error.{test}
 use Rattle.vhost_protocol.specs.Agreement.{IsNegotiated, IsKnown, AllKnown, StaysInStep, KeepsStep}
 use Rattle.vhost_protocol.specs.AnswerTable.{answered, after_success}
-use Rattle.vhost_protocol.specs.Ask.{Asked, Sends, ask, awaited_ack, message, quietly, sends, asks_quietly, param, regions_in, handles_in, is_usable, given, ◌>>◌, ◌>>=◌}
+use Rattle.vhost_protocol.specs.Ask.{Asked, Sends, ask, awaited_ack, needs_reply, message, quietly, sends, asks_quietly, param, regions_in, handles_in, is_usable, given, ◌>>◌, ◌>>=◌}
 use Rattle.vhost_protocol.specs.declared.asked.Awaited.{Awaited}
 use Rattle.vhost_protocol.specs.declared.asked.Awaited.TheVariants.{Nobody, Ack, Reply}
 use Rattle.vhost_protocol.specs.declared.asked.Shape.{Shape}
 use Rattle.vhost_protocol.specs.declared.asked.Shape.TheVariants as shape
 use Rattle.vhost_protocol.specs.DeviceCall as device
-use Rattle.vhost_protocol.specs.Error.{Error, InvalidMessage, InactiveFeature, BackendInternalError}
+use Rattle.vhost_protocol.specs.Error.{Error, InvalidMessage, InvalidOperation, InactiveFeature, BackendInternalError}
 use Rattle.vhost_protocol.specs.Features.{PROTOCOL_FEATURES, REPLY_ACK}
+use Rattle.vhost_protocol.specs.Profile.{is_standard}
 use Rattle.vhost_protocol.specs.FrontendCall.{FrontendCall, GetFeatures, SetFeatures, GetProtocolFeatures, SetProtocolFeatures, GetQueueNum, SetMemTable, SetLogBase, SetLogFd, SetVringCall, SetVringKick, SetVringErr, GetVringBase, GetConfig, GetSharedObject, GetInflightFd, GetMaxMemSlots, AddMemRegion, GetShmemConfig, SetDeviceStateFd, CheckDeviceState, PostcopyAdvise, PostcopyListen, PostcopyEnd, PostcopyAckMemRegions, SetHdrFlags, Info, LogRegion, Number, Frontend}
 use Rattle.vhost_protocol.specs.Joined.{AgreeOn, is_end, read_as}
 use Rattle.vhost_protocol.specs.Answered.{if_agreed, rebased, with_features, with_handle, with_inflight, with_state, with_check, with_config, with_base, with_bases}
@@ -77,17 +78,19 @@ module _ (H B G : Type 0) where
   -- ---- acknowledgements
 
   -- what the frontend waits for is what the handler writes
-  ack-agrees : (g : Frontend) (s : Session) → AgreeOn g s → IsNegotiated g → awaited_ack g ≡ cond (ack_on s && has_bit g.header_flags 3) Ack Nobody
+  ack-agrees : (g : Frontend) (s : Session) → AgreeOn g s → IsNegotiated g → awaited_ack g ≡ cond (ack_on s && needs_reply g) Ack Nobody
   ack-agrees g s agree on =
-      both (has_bit g.acked_protocol_features REPLY_ACK) (has_bit g.offered PROTOCOL_FEATURES) (has_bit g.header_flags 3) on
-      ∙ ap (λ x. cond (has_bit x PROTOCOL_FEATURES && has_bit g.acked_protocol_features REPLY_ACK && has_bit g.header_flags 3) Ack Nobody) agree.offered
-      ∙ ap (λ x. cond (has_bit s.offered PROTOCOL_FEATURES && has_bit x REPLY_ACK && has_bit g.header_flags 3) Ack Nobody) agree.acked_protocol_features
+      both (has_bit g.acked_protocol_features REPLY_ACK) (has_bit g.offered PROTOCOL_FEATURES) (has_bit g.header_flags 3) (is_standard g.profile) on
+      ∙ ap (λ x. cond (has_bit x PROTOCOL_FEATURES && has_bit g.acked_protocol_features REPLY_ACK && needs_reply g) Ack Nobody) agree.offered
+      ∙ ap (λ x. cond (has_bit s.offered PROTOCOL_FEATURES && has_bit x REPLY_ACK && needs_reply g) Ack Nobody) agree.acked_protocol_features
     where
-      both : (x o n : Bool) → (x ≡ true → o ≡ true) → cond (x && n) Ack Nobody ≡ cond (o && x && n) Ack Nobody
-      both true true n h = refl
-      both true false n h = absurd (cc (h refl))
-      both false true n h = refl
-      both false false n h = refl
+      both : (x o n p : Bool) → (x ≡ true → o ≡ true) → cond (x && n) Ack Nobody ≡ cond (o && x && (n && cond p x true)) Ack Nobody
+      both true true true true h = refl
+      both true true true false h = refl
+      both true true false p h = refl
+      both true false n p h = absurd (cc (h refl))
+      both false true n p h = refl
+      both false false n p h = refl
 
   -- an acknowledged answer
   known-acked : (A : Type 0) (call : FrontendCall H) (g : Frontend) (r : FrontendReq) (s : Session) (b : Bool) (a : Result A Error) → (is_ok a ≡ true → AgreeOn (after_success g call) s) → (is_ok a ≡ false → is_end r ≡ false → AgreeOn g s)
@@ -98,7 +101,7 @@ module _ (H B G : Type 0) where
   known-acked A call g r s false (Err e) agreed refused = record { to_caller = _; known = refl; agree = λ last. absurd (cc last) }
 
   -- the same, for a call that sends its session on
-  known-ack : (A : Type 0) (call : FrontendCall H) (f : Frontend) (t : Session) (w : Written FrontendReq H) (a : Result A Error) → awaited_ack f ≡ cond (ack_on t && has_bit f.header_flags 3) Ack Nobody → w.need_reply ≡ has_bit f.header_flags 3
+  known-ack : (A : Type 0) (call : FrontendCall H) (f : Frontend) (t : Session) (w : Written FrontendReq H) (a : Result A Error) → awaited_ack f ≡ cond (ack_on t && needs_reply f) Ack Nobody → w.need_reply ≡ needs_reply f
       → (is_ok a ≡ true → AgreeOn (after_success f call) t) → (is_ok a ≡ false → is_end w.request ≡ false → AgreeOn f t)
       → IsKnown call (awaited_ack f) f w.request (with_ack t (read_as w) a)
   known-ack A call f t w a same wants agreed refused =
@@ -192,7 +195,14 @@ module _ (H B G : Type 0) where
   ruleset known = (silent, known-same, known-unwritten, known-refused, known-channel, known-features, known-object, known-inflight, known-state, known-check)
 
   simple-log_fd : (f : Frontend) (s : Session) (h : H) → AgreeOn f s → IsNegotiated f → Stays s (SetLogFd h) (ask f (SetLogFd h))
-  simple-log_fd f s h agree on = known-silent (SetLogFd h) _ _ _ _ _
+  simple-log_fd f s h agree on = go (is_standard s.profile)
+    where
+      m : Message FrontendReq H
+      m = read_as (message f SET_LOG_FD Empty (h ∷ []))
+
+      go : (b : Bool) → Row (SetLogFd h) (awaited_ack f) f SET_LOG_FD s (step.Refused (cond b (acknowledged s m (InvalidOperation (codes "request not served"))) (silently InvalidMessage)))
+      go true = known-same (SetLogFd h) f s SET_LOG_FD Empty (h ∷ []) (Err (InvalidOperation (codes "request not served"))) agree on refl
+      go false = known-silent (SetLogFd h) _ _ _ _ _
 
   -- ---- replies that change no session
 
@@ -372,7 +382,7 @@ module _ (H B G : Type 0) where
       sent b = cond b (asks_quietly f SET_MEM_TABLE payload (handles_in infos) shape.Memory) (sends f SET_MEM_TABLE payload (handles_in infos))
 
       listening : Message FrontendReq H → Bool → Step H B G
-      listening m b = cond (b && length m.body == 8) (mapped_row s m) (step.◌>>◌ (test (is_valid_table m) (acknowledged s m InvalidMessage)) (cond b (Calls (device.SetMemTable (table m) m.handles (Some true)) (with_bases s m (table m))) (Calls (device.SetMemTable (table m) m.handles (Some false)) (with_ack s m))))
+      listening m b = cond (b && length m.body == 8) (mapped_row s m) (step.◌>>◌ (test (is_valid_table s m) (acknowledged s m InvalidMessage)) (cond b (Calls (device.SetMemTable (table m) m.handles (Some true)) (with_bases s m (table m))) (Calls (device.SetMemTable (table m) m.handles (Some false)) (with_ack s m))))
 
       aloud : Message FrontendReq H
       aloud = read_as (message f SET_MEM_TABLE payload (handles_in infos))
@@ -411,7 +421,7 @@ module _ (H B G : Type 0) where
       m = read_as (quietly f SET_MEM_TABLE (U64 0) [])
 
       listening : Bool → Step H B G
-      listening b = cond (b && true) (mapped_row s m) (step.◌>>◌ (test (is_valid_table m) (acknowledged s m InvalidMessage)) (cond b (Calls (device.SetMemTable (table m) m.handles (Some true)) (with_bases s m (table m))) (Calls (device.SetMemTable (table m) m.handles (Some false)) (with_ack s m))))
+      listening b = cond (b && true) (mapped_row s m) (step.◌>>◌ (test (is_valid_table s m) (acknowledged s m InvalidMessage)) (cond b (Calls (device.SetMemTable (table m) m.handles (Some true)) (with_bases s m (table m))) (Calls (device.SetMemTable (table m) m.handles (Some false)) (with_ack s m))))
 
       dropped : (A : Type 0) (a : Result A Error) → IsKnown {H = H} (PostcopyAckMemRegions SET_MEM_TABLE) Nobody f SET_MEM_TABLE (with_ack s m a)
       dropped A (Ok x) = known-hushed_ack (PostcopyAckMemRegions SET_MEM_TABLE) f s SET_MEM_TABLE (U64 0) [] (Ok tt) agree refl

@@ -1,6 +1,6 @@
 -- What the handler replies is a reply that the call may have.
 use Rattle.std.proofs.Common.{◌≡◌, ℕ, suc, drop, eqb-true, ◌+◌, ◌^◌, ◌<◌, ◌≤◌, Bool, true, false, cond, not, ◌&&◌, List, [], ◌∷◌, ◌++◌, length, Option, Some, None, Result, Ok, Err, refl, sym, ◌∙◌, ap, subst, arith, inl, inr, IfOk, IfSome, lit<}
-use Rattle.std.specs.Prelude.{◌==◌, nat_le, bit_or, flat_map, All, ⊤}
+use Rattle.std.specs.Prelude.{◌==◌, nat_le, bit_or, flat_map, codes, All, ⊤}
 use Rattle.std.proofs.lemmas.Nat.{or_lt}
 use Rattle.std.proofs.lemmas.Bool.{leb-true, eq-eqb}
 use Rattle.std.specs.List.{list_all}
@@ -18,7 +18,7 @@ use Rattle.vhost_message.specs.declared.records.vring.VhostUserVringState.{Vhost
 use Rattle.vhost_message.specs.LongRecords.{ShMemConfigFits}
 use Rattle.vhost_message.specs.RecordLaws.{log-reads_back, single_region-reads_back, SingleRegionFits, RegionFits, VringStateFits, InflightFits, ConfigFits, LogFits}
 use Rattle.vhost_protocol.specs.Error.{test}
-use Rattle.vhost_protocol.specs.Ask.{Asked, asks, sends, asks_quietly, ask, param, message, quietly, log_area, regions_in, handles_in, is_usable, config, given, ◌>>◌, ◌>>=◌}
+use Rattle.vhost_protocol.specs.Ask.{Asked, asks, needs_reply, sends, asks_quietly, ask, param, message, quietly, log_area, regions_in, handles_in, is_usable, config, given, ◌>>◌, ◌>>=◌}
 use Rattle.vhost_protocol.specs.declared.asked.Awaited.{Awaited}
 use Rattle.vhost_protocol.specs.declared.asked.Awaited.TheVariants.{Nobody, Ack, Reply}
 use Rattle.vhost_protocol.specs.declared.asked.Shape.TheVariants as shape
@@ -26,12 +26,12 @@ use Rattle.vhost_message.specs.FrontendReq.{request_number}
 use Rattle.vhost_message.specs.Header.{Header}
 use Rattle.vhost_protocol.specs.AnswerTable.{Answered}
 use Rattle.vhost_protocol.specs.DeviceCall as device
-use Rattle.vhost_protocol.specs.Error.{Error, InvalidMessage, BackendInternalError}
+use Rattle.vhost_protocol.specs.Error.{Error, InvalidMessage, InvalidOperation, BackendInternalError}
 use Rattle.vhost_protocol.specs.FrontendCall.{FrontendCall, GetFeatures, GetProtocolFeatures, GetQueueNum, SetMemTable, SetLogBase, SetLogFd, SetVringCall, SetVringKick, SetVringErr, GetVringBase, GetConfig, GetSharedObject, GetInflightFd, GetMaxMemSlots, AddMemRegion, GetShmemConfig, SetDeviceStateFd, CheckDeviceState, PostcopyAdvise, PostcopyAckMemRegions, SetHdrFlags, Info, LogRegion, Frontend}
 use Rattle.vhost_protocol.specs.Heard.{IsAwaitedBy, AsksPlainly, AwaitsItsShape, HearsTheAnswer, shape_of, CallFits, IsGoodReply, AllGood, AskedWell, RepliesWell}
 use Rattle.vhost_protocol.specs.Laws.{PayloadFits, IsReplyOf}
 use Rattle.vhost_message.specs.Bits.{has_bit}
-use Rattle.vhost_message.specs.declared.frontend_req.FrontendReq.TheVariants.{SET_LOG_BASE, SET_MEM_TABLE, ADD_MEM_REG, GET_CONFIG}
+use Rattle.vhost_message.specs.declared.frontend_req.FrontendReq.TheVariants.{SET_LOG_BASE, SET_LOG_FD, SET_MEM_TABLE, ADD_MEM_REG, GET_CONFIG}
 use Rattle.vhost_message.specs.declared.records.memory.VhostUserMemoryRegion.{VhostUserMemoryRegion}
 use Rattle.vhost_message.specs.declared.records.memory.VhostUserSingleMemoryRegion.{VhostUserSingleMemoryRegion}
 use Rattle.vhost_message.specs.Records.{log_of, log_text, single_region, single_region_of, single_region_text, memory_of, regions_of, region_text, config_of}
@@ -40,13 +40,14 @@ use Rattle.vhost_protocol.specs.Joined.{read_as}
 use Rattle.vhost_protocol.specs.Answered.{rebased, with_base, with_bases, with_config, with_features, with_handle, with_inflight, with_state, with_check}
 use Rattle.vhost_protocol.specs.Row.{row, is_bare, is_valid_area, mapped_row, table, is_valid_table, channel}
 use Rattle.vhost_protocol.specs.Served.{Silent, Acknowledged, Replied}
+use Rattle.vhost_protocol.specs.Profile.{is_standard}
 use Rattle.vhost_protocol.specs.Session.{Session, ack_on, is_listen}
 use Rattle.vhost_protocol.specs.Split.{Message}
 use Rattle.vhost_protocol.specs.Stream.{Cell}
 use Rattle.vhost_protocol.specs.Take.{take}
 use Rattle.vhost_protocol.specs.Step as step
 use Rattle.vhost_protocol.specs.Step.{Step, Refusal, Calls, with_ack, acknowledged}
-use Rattle.vhost_protocol.specs.Written.{header_flags, head_of, Payload, LogArea, ConfigBytes, Regions, payload_text, U64, RingState, Shmem}
+use Rattle.vhost_protocol.specs.Written.{header_flags, head_of, Payload, Empty, LogArea, ConfigBytes, Regions, payload_text, U64, RingState, Shmem}
 use Rattle.vhost_protocol.proofs.TakeLaws.{take-acknowledged}
 use Rattle.vhost_protocol.proofs.TakeShapes.{take-reply, take-nothing}
 use Rattle.vhost_protocol.proofs.RegionLaws.{head-read, regions-read}
@@ -82,6 +83,11 @@ module _ (H B G : Type 0) where
   good-channel : (C : Type 0) (call : FrontendCall H) (s : Session) (m : Message FrontendReq H) (opened : Result C Error) (next : C → Step H B G) → ((c : C) → Good call (next c)) → Good call (step.◌>>=◌ (channel s m opened) next)
   good-channel C call s m (Ok c) next h = h c
   good-channel C call s m (Err e) next h = good-ack call (ack_on s && m.need_reply) false
+
+  -- a request that nobody serves
+  good-unserved : (call : FrontendCall H) (s : Session) (m : Message FrontendReq H) (b : Bool) → Good call (step.Refused (cond b (acknowledged s m (InvalidOperation (codes "request not served"))) (step.silently InvalidMessage)))
+  good-unserved call s m true = good-ack call (ack_on s && m.need_reply) false
+  good-unserved call s m false = tt
 
   -- ---- the frontend's tests
 
@@ -167,7 +173,7 @@ module _ (H B G : Type 0) where
   well-plain f s (GetConfig o n k buffer) plain = absurd plain
   well-plain f s (AddMemRegion info) plain = absurd plain
   well-plain f s (PostcopyAckMemRegions r) plain = absurd plain
-  well-plain f s (SetLogFd h) plain = tt
+  well-plain f s (SetLogFd h) plain = good-unserved (SetLogFd h) s (read_as (message f SET_LOG_FD Empty (h ∷ []))) (is_standard s.profile)
   well-plain f s (SetVringCall i None) plain = search good depth 12
   well-plain f s (SetVringCall i (Some h)) plain = search good depth 12
   well-plain f s (SetVringKick i None) plain = search good depth 12
@@ -304,7 +310,7 @@ module _ (H B G : Type 0) where
           let counted = (both (nat_le 1 n && nat_le n MAX_MEM_REGIONS) (list_all is_usable infos) usable).0 in
           let least : 1 ≤ n = leb-true 1 n (both (nat_le 1 n) (nat_le n MAX_MEM_REGIONS) counted).0 in
           let most : n ≤ MAX_MEM_REGIONS = leb-true n MAX_MEM_REGIONS (both (nat_le 1 n) (nat_le n MAX_MEM_REGIONS) counted).1 in
-          ask-cond s (SetMemTable infos) (is_listen f.postcopy) _ _ (row-good (has_bit f.header_flags 2) false least most) (row-good (has_bit f.header_flags 2) (has_bit f.header_flags 3) least most)
+          ask-cond s (SetMemTable infos) (is_listen f.postcopy) _ _ (row-good (has_bit f.header_flags 2) false least most) (row-good (has_bit f.header_flags 2) (needs_reply f) least most)
 
   -- the frontend says that it has mapped the regions: nothing is replied
   well-mapped : (f : Frontend) (s : Session) (r : FrontendReq) → Asks s (PostcopyAckMemRegions r) (ask f (PostcopyAckMemRegions r))
@@ -314,7 +320,7 @@ module _ (H B G : Type 0) where
       m = read_as (quietly f SET_MEM_TABLE (U64 0) [])
 
       listening : Bool → Step H B G
-      listening b = cond (b && true) (mapped_row s m) (step.◌>>◌ (test (is_valid_table m) (acknowledged s m InvalidMessage)) (cond b (Calls (device.SetMemTable (table m) m.handles (Some true)) (with_bases s m (table m))) (Calls (device.SetMemTable (table m) m.handles (Some false)) (with_ack s m))))
+      listening b = cond (b && true) (mapped_row s m) (step.◌>>◌ (test (is_valid_table s m) (acknowledged s m InvalidMessage)) (cond b (Calls (device.SetMemTable (table m) m.handles (Some true)) (with_bases s m (table m))) (Calls (device.SetMemTable (table m) m.handles (Some false)) (with_ack s m))))
 
       go : (b : Bool) → Good (PostcopyAckMemRegions SET_MEM_TABLE) (listening b)
       go true = search tests depth 12
@@ -411,10 +417,15 @@ module _ (H : Type 0) where
   plain-ack call true = tt
   plain-ack call false = tt
 
-  ruleset plainly = (plain-then, plain-given, plain-cond, plain-ack)
+  -- the same, or nothing by the other profile
+  plain-base : (call : FrontendCall H) (standard b : Bool) → IsAwaitedBy call (cond standard (cond b Ack Nobody) Nobody)
+  plain-base call true b = plain-ack call b
+  plain-base call false b = tt
+
+  ruleset plainly = (plain-then, plain-given, plain-cond, plain-ack, plain-base)
 
   pub awaits-shape : AwaitsItsShape H
-  awaits-shape f (SetLogBase base None) = (tt, refl)
+  awaits-shape f (SetLogBase base None) = search plainly depth 12
   awaits-shape f (SetLogBase base (Some r)) = search plainly depth 12
   awaits-shape f (SetHdrFlags flags) = tt
   awaits-shape f _ = search plainly depth 12

@@ -14,6 +14,7 @@ use Rattle.vhost_protocol.specs.FrontendCall.{FrontendCall, Info, GetFeatures, S
 use Rattle.vhost_protocol.specs.Joined.{read_as, is_last}
 use Rattle.vhost_protocol.specs.Row.{row}
 use Rattle.vhost_protocol.specs.Served.{reply}
+use Rattle.vhost_protocol.specs.declared.profile.Profile.TheVariants.{Vhost}
 use Rattle.vhost_protocol.specs.Session.{Session, fresh}
 use Rattle.vhost_protocol.specs.Socket.{opened, NoSocket, UnixStream}
 use Rattle.vhost_protocol.specs.Step.{Step, Outcome, Refused, Calls, OpensBackend, OpensGpu}
@@ -84,7 +85,7 @@ sides : ℕ → ℕ → Frontend
 sides features flags = record (new_frontend 2) { offered = 0x40000003; acked_protocol_features = features; header_flags = flags }
 
 session_of : Frontend → Session
-session_of f = record { offered = f.offered; acked = f.acked; acked_protocol_features = f.acked_protocol_features; postcopy = f.postcopy; failed = None }
+session_of f = record { offered = f.offered; acked = f.acked; acked_protocol_features = f.acked_protocol_features; postcopy = f.postcopy; failed = None; profile = Vhost }
 
 shows : Frontend → FrontendCall ℕ → Line
 shows f call = line example f (session_of f) call

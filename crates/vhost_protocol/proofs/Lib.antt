@@ -2,6 +2,7 @@ pub mod SplitLaws
 pub mod Splitting
 pub mod TextLaws
 pub mod ReplyLaws
+pub mod WholeLaws
 pub mod TakeLaws
 pub mod RowLaws
 pub mod AgreeLaws
@@ -12,6 +13,7 @@ mod LogRows
 mod RingRows
 mod LargeRows
 mod TakeRows
+mod StandardRows
 mod TableRows
 mod JoinedRows
 mod ReverseRows

@@ -1,16 +1,17 @@
 -- Worked rows of the protocol table: each holds by computing.
 use Rattle.std.proofs.Common.{◌≡◌, ℕ, Bool, true, false, List, [], ◌∷◌, ◌++◌, replicate, Option, Some, None, Result, Ok, Err, refl}
-use Rattle.std.specs.Prelude.{codes, if◌then◌else◌, nat_le, flat_map}
+use Rattle.std.specs.Prelude.{codes, if◌then◌else◌, nat_le, flat_map, take}
 use Rattle.vhost_message.specs.FrontendReq.{request_number}
 use Rattle.vhost_message.specs.Records.{region_text, memory_text}
 use Rattle.vhost_message.specs.Text.{digits}
 use Rattle.vhost_message.specs.declared.frontend_req.FrontendReq.{FrontendReq}
-use Rattle.vhost_message.specs.declared.frontend_req.FrontendReq.TheVariants.{GET_FEATURES, SET_FEATURES, SET_OWNER, SET_MEM_TABLE, SET_LOG_FD, SET_VRING_NUM, SET_VRING_KICK, NET_SET_MTU, GET_PROTOCOL_FEATURES, SET_CONFIG, GET_CONFIG, GPU_SET_SOCKET, SET_DEVICE_STATE_FD, GET_SHMEM_CONFIG, POSTCOPY_END, SET_BACKEND_REQ_FD}
+use Rattle.vhost_message.specs.declared.frontend_req.FrontendReq.TheVariants.{GET_FEATURES, SET_FEATURES, SET_OWNER, SET_MEM_TABLE, SET_LOG_FD, SET_VRING_NUM, SET_VRING_KICK, SET_VRING_ENABLE, NET_SET_MTU, IOTLB_MSG, GET_PROTOCOL_FEATURES, SET_CONFIG, GET_CONFIG, GPU_SET_SOCKET, SET_DEVICE_STATE_FD, GET_SHMEM_CONFIG, POSTCOPY_END, SET_BACKEND_REQ_FD}
 use Rattle.vhost_message.specs.declared.postcopy.PostcopyState.TheVariants.{Listen, End}
-use Rattle.vhost_protocol.specs.DeviceCall.{Call, Answer, SetOwner, GetFeatures, SetFeatures, SetMtu, SetVringNum, SetVringKick, GetProtocolFeatures, SetMemTable, GetConfig, SetGpuSocket, SetDeviceStateFd, SetBackendReqFd, PostcopyEnd, PostcopyAckMemRegions, GetVringBase, GetQueueNum, GetSharedObject, GetInflightFd, GetMaxMemSlots, AddMemRegion, GetShmemConfig, PostcopyAdvice}
-use Rattle.vhost_protocol.specs.Error.{Error, InvalidOperation, InvalidParam, InvalidMessage, InactiveOperation, InvalidSocketFd, Named}
+use Rattle.vhost_protocol.specs.DeviceCall.{Call, Answer, SetOwner, GetFeatures, SetFeatures, SetMtu, SetVringNum, SetVringKick, SetVringEnable, GetProtocolFeatures, SetMemTable, GetConfig, SetGpuSocket, SetDeviceStateFd, SetBackendReqFd, PostcopyEnd, PostcopyAckMemRegions, GetVringBase, GetQueueNum, GetSharedObject, GetInflightFd, GetMaxMemSlots, AddMemRegion, GetShmemConfig, PostcopyAdvice}
+use Rattle.vhost_protocol.specs.Error.{Error, InvalidOperation, InvalidParam, InvalidMessage, InactiveFeature, InactiveOperation, InvalidSocketFd, Named}
 use Rattle.vhost_protocol.specs.Row.{row}
 use Rattle.vhost_protocol.specs.Served.{Served, reply}
+use Rattle.vhost_protocol.specs.declared.profile.Profile.TheVariants.{Standard}
 use Rattle.vhost_protocol.specs.Session.{Session, fresh}
 use Rattle.vhost_protocol.specs.Socket.{opened, NoSocket, UnixStream}
 use Rattle.vhost_protocol.specs.Split.{Message}
@@ -320,3 +321,55 @@ no_features : done_by unable opens (acks 8) (message GET_FEATURES true [] []) (r
     ≡ record { call = Some GetFeatures; answer = Err InvalidParam; text = []; handles = []; session = acks 8 }
 unfolding done_by opens unable message shown acks
 no_features = refl
+
+-- ---- the profile Standard
+
+standard : ℕ → Session
+standard features = record (acks features) { profile = Standard }
+
+-- a request that nobody serves is acknowledged, where that is wanted and on
+unserved : does (standard 8) (message IOTLB_MSG true (replicate 32 0) [])
+    ≡ record {
+      call = None;
+      answer = Err (InvalidOperation (codes "request not served"));
+      text = 0x16 ∷ 0 ∷ 0 ∷ 0 ∷ 5 ∷ 0 ∷ 0 ∷ 0 ∷ 8 ∷ 0 ∷ 0 ∷ 0 ∷ 1 ∷ 0 ∷ 0 ∷ 0 ∷ 0 ∷ 0 ∷ 0 ∷ 0 ∷ [];
+      handles = [];
+      session = standard 8;
+    }
+unfolding does done_by opens device message shown acks standard
+unserved = refl
+
+unserved_quietly : does (standard 8) (message IOTLB_MSG false (replicate 32 0) [])
+    ≡ record { call = None; answer = Err (InvalidOperation (codes "request not served")); text = []; handles = []; session = standard 8 }
+unfolding does done_by opens device message shown acks standard
+unserved_quietly = refl
+
+-- a ring is enabled before any features are acknowledged, where bit 30 was offered
+enabled : does (standard 0) (message SET_VRING_ENABLE false (0 ∷ 0 ∷ 0 ∷ 0 ∷ 1 ∷ 0 ∷ 0 ∷ 0 ∷ []) [])
+    ≡ record { call = Some (SetVringEnable 0 true); answer = Ok tt; text = []; handles = []; session = standard 0 }
+unfolding does done_by opens device message shown acks standard
+enabled = refl
+
+enabled_by_vhost : does (acks 0) (message SET_VRING_ENABLE false (0 ∷ 0 ∷ 0 ∷ 0 ∷ 1 ∷ 0 ∷ 0 ∷ 0 ∷ []) [])
+    ≡ record { call = None; answer = Err (InactiveFeature 0x40000000); text = []; handles = []; session = acks 0 }
+unfolding does done_by opens device message shown acks
+enabled_by_vhost = refl
+
+not_offered : does (record fresh { profile = Standard }) (message SET_VRING_ENABLE false (0 ∷ 0 ∷ 0 ∷ 0 ∷ 1 ∷ 0 ∷ 0 ∷ 0 ∷ []) [])
+    ≡ record { call = None; answer = Err (InactiveFeature 0x40000000); text = []; handles = []; session = record fresh { profile = Standard } }
+unfolding does done_by opens device message shown
+not_offered = refl
+
+-- a memory table of one region in 72 bytes; by the other profile, and where it is too short, it is refused
+long_table : (does (standard 8) (message SET_MEM_TABLE true (regions 1 ++ replicate 32 0) (1 ∷ []))).call
+    ≡ Some (SetMemTable (record { guest_phys_addr = 0; memory_size = 0x1000; user_addr = 0x7000; mmap_offset = 0 } ∷ []) (1 ∷ []) (Some false))
+unfolding does done_by opens device message shown acks standard regions
+long_table = refl
+
+long_table_by_vhost : does (acks 8) (message SET_MEM_TABLE true (regions 1 ++ replicate 32 0) (1 ∷ [])) ≡ refused
+unfolding does done_by opens device message shown acks regions refused
+long_table_by_vhost = refl
+
+short_table : (does (standard 8) (message SET_MEM_TABLE true (take 71 two_regions) (1 ∷ 2 ∷ []))).call ≡ None
+unfolding does done_by opens device message shown acks standard two_regions
+short_table = refl

@@ -1,13 +1,15 @@
 -- A frontend takes from the stream what the handler served, and nothing else.
 use Rattle.std.proofs.Common.{◌≡◌, ℕ, ◌^◌, ◌≤◌, ◌<◌, Bool, true, false, not, ◌&&◌, cond, List, [], ◌++◌, length, Some, None, Ok, Err, refl, sym, ◌∙◌, ap, arith, is_some, lit<}
-use Rattle.std.specs.Prelude.{◌==◌}
+use Rattle.std.specs.Prelude.{if◌then◌else◌, ◌==◌}
 use Rattle.std.proofs.lemmas.Bool.{eq-eqb}
+use Rattle.std.proofs.lemmas.List.{append-nil}
 use Rattle.byteorder.specs.Numbers.{little_number-reads_back}
 use Rattle.vhost_message.specs.declared.limits.TheConstants.{MAX_MSG_SIZE}
 use Rattle.vhost_message.specs.Bits.{has_bit}
 use Rattle.vhost_message.specs.declared.frontend_req.FrontendReq.{FrontendReq}
 use Rattle.vhost_message.specs.FrontendReq.{request_of, request_number, request_of-request_number}
 use Rattle.vhost_message.specs.Header.{Header}
+use Rattle.vhost_message.specs.Records.{u64_at}
 use Rattle.vhost_message.specs.Text.{digits}
 use Rattle.vhost_protocol.specs.Stream.{Cell}
 use Rattle.vhost_protocol.specs.Error.{InvalidParam, InvalidMessage}
@@ -18,11 +20,14 @@ use Rattle.vhost_protocol.specs.declared.asked.Shape.{Shape}
 use Rattle.vhost_protocol.specs.declared.asked.Awaited.TheVariants.{Ack, Reply}
 use Rattle.vhost_protocol.specs.declared.asked.Shape.TheVariants as shape
 use Rattle.vhost_protocol.specs.AnswerTable.{answered, answer}
-use Rattle.vhost_protocol.specs.ReplySplit.{Received, reply_split}
-use Rattle.vhost_protocol.specs.Take.{record_size, is_valid_record, payload_of, room, is_sized, is_known, answers, understood, take_reply, take}
+use Rattle.vhost_protocol.specs.declared.profile.Profile.{Profile}
+use Rattle.vhost_protocol.specs.declared.profile.Profile.TheVariants.{Vhost, Standard}
+use Rattle.vhost_protocol.specs.ReplySplit.{Received, reply_split, sized_split}
+use Rattle.vhost_protocol.specs.Take.{record_size, is_valid_record, payload_of, room, is_sized, is_known, answers, reply_cut, understood, understood_ack, take_reply, take}
 use Rattle.vhost_protocol.specs.Laws.{IsShort, TakesNumber, TakesEmpty}
 use Rattle.vhost_protocol.proofs.TextLaws.{request-small, sendable-valid}
 use Rattle.vhost_protocol.proofs.ReplyLaws.{reply-read}
+use Rattle.vhost_protocol.proofs.WholeLaws.{whole-read, sized-read}
 
 -- a reply's header is known
 pub reply-known : {H : Type 0} (r : FrontendReq) (payload : Payload) (handles : List H) → length (payload_text payload) ≤ MAX_MSG_SIZE
@@ -44,6 +49,11 @@ module _ (H : Type 0) where
   abbrev pub the_reply : FrontendReq → Payload → List H → List ℕ → List ℕ → Received H
   the_reply r payload handles body more = record { header = head_of request_number (reply_to r payload handles); body = body; payload = more; handles = handles }
 
+  -- the one shape whose reply may have any size has nothing behind its record
+  abbrev pub IsAlone : Shape → List ℕ → Type 0
+  IsAlone shape.Log more = more ≡ []
+  IsAlone _ more = Unit {0}
+
   -- A payload that the call's reply may have: a record of the shape, and as much behind it as there is room for.
   pub record IsReadable (call : FrontendCall H) (shape : Shape) (r : FrontendReq) (payload : Payload) (handles : List H) : Type 0 where
     pub body : List ℕ
@@ -51,20 +61,55 @@ module _ (H : Type 0) where
     pub text : payload_text payload ≡ body ++ more
     pub size : length body ≡ record_size shape
     pub rest : length more ≡ room call
+    pub alone : IsAlone shape more
     pub small : length (payload_text payload) ≤ MAX_MSG_SIZE
     pub valid : is_valid_record shape body ≡ true
     pub read : payload_of shape body more ≡ payload
     pub sized : is_sized call (the_reply r payload handles body more) ≡ true
 
   -- the reply is cut from the stream as it was written
-  pub reply-cut : (call : FrontendCall H) (shape : Shape) (r : FrontendReq) (payload : Payload) (handles : List H) (rest : List (Cell H)) (k : IsReadable call shape r payload handles)
+  pub split-cut : (call : FrontendCall H) (shape : Shape) (r : FrontendReq) (payload : Payload) (handles : List H) (rest : List (Cell H)) (k : IsReadable call shape r payload handles)
       → reply_split is_known (record_size shape) (is_valid_record shape) (room call) (written_cells request_number (reply_to r payload handles) ++ rest)
       ≡ (Ok (the_reply r payload handles k.body k.more), rest)
-  reply-cut call shape r payload handles rest k =
+  split-cut call shape r payload handles rest k =
       let w : Written FrontendReq H = reply_to r payload handles in
       ap (λ n. reply_split is_known n (is_valid_record shape) (room call) (written_cells request_number w ++ rest)) (sym k.size)
       ∙ ap (λ n. reply_split is_known (length (k.body)) (is_valid_record shape) n (written_cells request_number w ++ rest)) (sym k.rest)
       ∙ reply-read request_number is_known (is_valid_record shape) w k.body k.more rest k.text (request-small r) (omega (arith, k.small)) (reply-known r payload handles k.small) k.valid
+
+  -- the same by its header
+  pub whole-cut : (call : FrontendCall H) (shape : Shape) (r : FrontendReq) (payload : Payload) (handles : List H) (rest : List (Cell H)) (k : IsReadable call shape r payload handles)
+      → sized_split is_known (record_size shape) (is_valid_record shape) (room call) (written_cells request_number (reply_to r payload handles) ++ rest)
+      ≡ (Ok (the_reply r payload handles k.body k.more), rest)
+  whole-cut call shape r payload handles rest k =
+      let w : Written FrontendReq H = reply_to r payload handles in
+      ap (λ n. sized_split is_known n (is_valid_record shape) (room call) (written_cells request_number w ++ rest)) (sym k.size)
+      ∙ ap (λ n. sized_split is_known (length (k.body)) (is_valid_record shape) n (written_cells request_number w ++ rest)) (sym k.rest)
+      ∙ sized-read request_number is_known (is_valid_record shape) w k.body k.more rest true k.text (request-small r) (omega (arith, k.small)) (reply-known r payload handles k.small) k.valid
+
+  -- the log's, of whatever size
+  log-cut : (call : FrontendCall H) (r : FrontendReq) (payload : Payload) (handles : List H) (rest : List (Cell H)) (k : IsReadable call shape.Log r payload handles)
+      → reply_cut shape.Log Standard (room call) (written_cells request_number (reply_to r payload handles) ++ rest) ≡ (Ok (the_reply r payload handles k.body k.more), rest)
+  log-cut call r payload handles rest k =
+      whole-read request_number is_known (reply_to r payload handles) rest (request-small r) (omega (arith, k.small)) (reply-known r payload handles k.small)
+      ∙ ap (λ text. (Ok (the_reply r payload handles text []), rest)) (k.text ∙ ap (λ more. k.body ++ more) k.alone ∙ append-nil (k.body))
+      ∙ ap (λ more. (Ok (the_reply r payload handles k.body more), rest)) (sym k.alone)
+
+  base-cut : (call : FrontendCall H) (r : FrontendReq) (payload : Payload) (handles : List H) (rest : List (Cell H)) (k : IsReadable call shape.Log r payload handles)
+      → reply_cut shape.Log Vhost (room call) (written_cells request_number (reply_to r payload handles) ++ rest) ≡ (Ok (the_reply r payload handles k.body k.more), rest)
+  base-cut call r payload handles rest k =
+      let w : Written FrontendReq H = reply_to r payload handles in
+      ap (λ more. reply_split is_known 16 (is_valid_record shape.Log) (length more) (written_cells request_number w ++ rest)) (sym k.alone)
+      ∙ ap (λ n. reply_split is_known 16 (is_valid_record shape.Log) n (written_cells request_number w ++ rest)) k.rest
+      ∙ split-cut call shape.Log r payload handles rest k
+
+  -- by each profile
+  pub reply-cut : (profile : Profile) (call : FrontendCall H) (shape : Shape) (r : FrontendReq) (payload : Payload) (handles : List H) (rest : List (Cell H)) (k : IsReadable call shape r payload handles)
+      → reply_cut shape profile (room call) (written_cells request_number (reply_to r payload handles) ++ rest) ≡ (Ok (the_reply r payload handles k.body k.more), rest)
+  reply-cut Vhost call shape.Log r payload handles rest k = base-cut call r payload handles rest k
+  reply-cut Vhost call _ r payload handles rest k = split-cut call _ r payload handles rest k
+  reply-cut Standard call shape.Log r payload handles rest k = log-cut call r payload handles rest k
+  reply-cut Standard call _ r payload handles rest k = whole-cut call _ r payload handles rest k
 
   -- a reply that answers is understood as what was served
   pub reply-understood : (call : FrontendCall H) (shape : Shape) (sent : Header) (f : Frontend) (r : FrontendReq) (payload : Payload) (handles : List H) (k : IsReadable call shape r payload handles)
@@ -82,7 +127,7 @@ module _ (H : Type 0) where
 
   -- what is awaited by its shape alone
   plainly : (call : FrontendCall H) (shape : Shape) (sent : Header) (f : Frontend) (cells : List (Cell H)) → IsPlainly call
-      → let cut = reply_split is_known (record_size shape) (is_valid_record shape) (room call) cells in take_reply call shape sent f cells ≡ (understood call (Reply shape) sent f cut.0, cut.1)
+      → let cut = reply_cut shape f.profile (room call) cells in take_reply call shape sent f cells ≡ (understood call (Reply shape) sent f cut.0, cut.1)
   plainly (GetConfig offset size flags buffer) shape sent f cells plain = absurd plain
   plainly _ shape sent f cells plain = refl
 
@@ -94,19 +139,33 @@ module _ (H : Type 0) where
       let cells : List (Cell H) = written_cells request_number (reply_to r payload handles) ++ rest in
       ap (λ b. cond b (Some (answered f (Err InvalidParam)), cells) (take_reply call shape sent f cells)) flag
       ∙ plainly call shape sent f cells plain
-      ∙ ap (λ cut. (understood call (Reply shape) sent f cut.0, cut.1)) (reply-cut call shape r payload handles rest k)
+      ∙ ap (λ cut. (understood call (Reply shape) sent f cut.0, cut.1)) (reply-cut f.profile call shape r payload handles rest k)
       ∙ ap (λ x. (x, rest)) (reply-understood call shape sent f r payload handles k code flag)
+
+  -- an acknowledgement is cut from the stream as it was written
+  ack-cut : (profile : Profile) (r : FrontendReq) (agreed : Bool) (rest : List (Cell H))
+      → reply_cut shape.U64 profile 0 (cells_of request_number (reply r (Acknowledged agreed)) ++ rest) ≡ (Ok (the_reply r (U64 (if agreed then 0 else 1)) [] (digits 8 (if agreed then 0 else 1)) []), rest)
+  ack-cut Vhost r agreed rest =
+      let n : ℕ = if agreed then 0 else 1 in
+      reply-read request_number is_known (is_valid_record shape.U64) (reply_to r (U64 n) []) (digits 8 n) [] rest refl (request-small r) (lit< tt) (reply-known {H = H} r (U64 n) [] (omega arith)) refl
+  ack-cut Standard r agreed rest =
+      let n : ℕ = if agreed then 0 else 1 in
+      sized-read request_number is_known (is_valid_record shape.U64) (reply_to r (U64 n) []) (digits 8 n) [] rest true refl (request-small r) (lit< tt) (reply-known {H = H} r (U64 n) [] (omega arith)) refl
+
+  ack-told : (call : FrontendCall H) (f : Frontend) (agreed : Bool)
+      → answer call Ack f (Acknowledged (u64_at 0 (digits 8 (if agreed then 0 else 1)) == 0)) ≡ answer call Ack f (Acknowledged agreed)
+  ack-told call f true = refl
+  ack-told call f false = refl
 
   -- an acknowledgement is taken, and what follows it is left
   pub take-acknowledged : (call : FrontendCall H) (sent : Header) (f : Frontend) (r : FrontendReq) (agreed : Bool) (rest : List (Cell H))
       → sent.code ≡ request_number r → has_bit sent.flags 2 ≡ false
       → take call Ack sent f (cells_of request_number (reply r (Acknowledged agreed)) ++ rest) ≡ (answer call Ack f (Acknowledged agreed), rest)
-  take-acknowledged call sent f r true rest code flag =
-      ap (λ cut. (understood call Ack sent f cut.0, cut.1)) (reply-read request_number is_known (is_valid_record shape.U64) (reply_to r (U64 0) []) (digits 8 0) [] rest refl (request-small r) (lit< tt) (reply-known {H = H} r (U64 0) [] (omega arith)) refl)
-      ∙ ap (λ b. (cond b (answer call Ack f (Acknowledged true)) (Some (answered f (Err InvalidMessage))), rest)) (reply-answers {H = H} r (U64 0) [] sent code flag)
-  take-acknowledged call sent f r false rest code flag =
-      ap (λ cut. (understood call Ack sent f cut.0, cut.1)) (reply-read request_number is_known (is_valid_record shape.U64) (reply_to r (U64 1) []) (digits 8 1) [] rest refl (request-small r) (lit< tt) (reply-known {H = H} r (U64 1) [] (omega arith)) refl)
-      ∙ ap (λ b. (cond b (answer call Ack f (Acknowledged false)) (Some (answered f (Err InvalidMessage))), rest)) (reply-answers {H = H} r (U64 1) [] sent code flag)
+  take-acknowledged call sent f r agreed rest code flag =
+      let n : ℕ = if agreed then 0 else 1 in
+      ap (λ cut. (understood call Ack sent f cut.0, cut.1)) (ack-cut f.profile r agreed rest)
+      ∙ ap (λ b. (cond b (understood_ack call f (the_reply r (U64 n) [] (digits 8 n) [])) (Some (answered f (Err InvalidMessage))), rest)) (reply-answers {H = H} r (U64 n) [] sent code flag)
+      ∙ ap (λ x. (x, rest)) (ack-told call f agreed)
 
   -- ---- replies without payload
 
@@ -131,6 +190,7 @@ module _ (H : Type 0) where
     text = refl;
     size = refl;
     rest = short-room call short;
+    alone = tt;
     small = lit< tt;
     valid = refl;
     read = ap (λ k. U64 k) (little_number-reads_back 8 n [] fits);
@@ -144,6 +204,7 @@ module _ (H : Type 0) where
     text = refl;
     size = refl;
     rest = short-room call short;
+    alone = tt;
     small = omega arith;
     valid = refl;
     read = refl;

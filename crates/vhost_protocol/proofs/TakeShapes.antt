@@ -1,6 +1,6 @@
 -- Each reply that a call may have is taken as the answer table says.
-use Rattle.std.proofs.Common.{◌≡◌, ℕ, ◌+◌, ◌*◌, ◌≤◌, inl, inr, Bool, true, false, cond, not, ◌&&◌, List, [], ◌∷◌, ◌++◌, length, drop, Some, None, Ok, Err, refl, sym, ◌∙◌, ap, subst, arith, lit<}
-use Rattle.std.specs.Prelude.{◌==◌, flat_map, All}
+use Rattle.std.proofs.Common.{◌≡◌, ℕ, ◌+◌, ◌*◌, ◌≤◌, inl, inr, ◌<◌, Bool, true, false, cond, not, ◌&&◌, List, [], ◌∷◌, ◌++◌, length, drop, Option, Some, None, Result, Ok, Err, refl, sym, ◌∙◌, ap, subst, arith, lit<}
+use Rattle.std.specs.Prelude.{◌==◌, ◌||◌, flat_map, All}
 use Rattle.std.proofs.lemmas.Bool.{eq-eqb, ne_eqb}
 use Rattle.std.proofs.lemmas.List.{append-nil}
 use Rattle.vhost_message.specs.declared.limits.TheConstants.{MAX_MEM_REGIONS, MAX_MSG_SIZE, MEMORY_REGION_SIZE}
@@ -23,19 +23,22 @@ use Rattle.vhost_protocol.specs.AnswerTable.{answered, answer, with_one, only_if
 use Rattle.vhost_protocol.specs.declared.asked.Awaited.TheVariants.{Nobody, Ack, Reply}
 use Rattle.vhost_protocol.specs.declared.asked.Shape.{Shape}
 use Rattle.vhost_protocol.specs.declared.asked.Shape.TheVariants as shape
-use Rattle.vhost_protocol.specs.Error.{PartialMessage, InvalidMessage, InvalidParam, BackendInternalError}
+use Rattle.vhost_protocol.specs.Error.{Error, PartialMessage, InvalidMessage, InvalidParam, BackendInternalError}
 use Rattle.vhost_protocol.specs.FrontendCall.{FrontendCall, SetMemTable, GetConfig, GetInflightFd, ConfigOf, Info, InflightOf, Frontend}
 use Rattle.vhost_protocol.specs.Laws.{IsShort, IsSentFor, IsTableOf, IsConfigOf, IsInflightOf, TakesReply, TakesNothing}
-use Rattle.vhost_protocol.specs.ReplySplit.{reply_split, bare_or_reply, not_bare}
+use Rattle.vhost_protocol.specs.declared.profile.Profile.{Profile}
+use Rattle.vhost_protocol.specs.declared.profile.Profile.TheVariants.{Vhost, Standard}
+use Rattle.vhost_protocol.specs.ReplySplit.{Received, reply_split, bare_or_reply, not_bare, whole_split, is_right, apart, then_made, parted_or_none}
 use Rattle.vhost_message.specs.Text.{number_at}
 use Rattle.vhost_protocol.specs.Served.{Silent, Replied, reply, cells_of}
 use Rattle.vhost_protocol.specs.Stream.{Cell, has_some}
-use Rattle.vhost_protocol.specs.Take.{record_size, room, is_valid_record, is_known, answers, understood, understood_config, take_reply, take}
+use Rattle.vhost_protocol.specs.Take.{record_size, room, is_valid_record, is_known, answers, reply_cut, config_cut, understood, understood_config, take_reply, take}
 use Rattle.vhost_protocol.specs.Written.{Payload, Empty, U64, ConfigBytes, head_of, Regions, OneRegion, Shmem, RingState, InflightArea, LogArea, Written, table_head, payload_text, written_cells, reply_to}
 use Rattle.vhost_protocol.proofs.RegionLaws.{regions-read, regions-length, head-read, head-valid}
 use Rattle.vhost_protocol.proofs.ReplyLaws.{reply-invalid}
-use Rattle.vhost_protocol.proofs.TakeLaws.{reply-answers, reply-cut, reply-understood, IsReadable, the_reply, short-room, short-sized, short-plainly, take-number, take-empty, take-replied, reply-known}
+use Rattle.vhost_protocol.proofs.TakeLaws.{reply-answers, split-cut, reply-understood, IsReadable, the_reply, short-room, short-sized, short-plainly, take-number, take-empty, take-replied, reply-known}
 use Rattle.vhost_protocol.proofs.TextLaws.{request-small, header-read}
+use Rattle.vhost_protocol.proofs.WholeLaws.{the_whole, whole-read, sized-read, right-size, apart-read}
 
 module _ (H : Type 0) where
   readable-ring : (call : FrontendCall H) (r : FrontendReq) (v : VhostUserVringState) (handles : List H) → IsShort call → VringStateFits v → IsReadable H call shape.VringState r (RingState v) handles
@@ -45,6 +48,7 @@ module _ (H : Type 0) where
     text = refl;
     size = refl;
     rest = short-room H call short;
+    alone = tt;
     small = lit< tt;
     valid = refl;
     read = ap (λ x. RingState x) (vring_state-reads_back v fits);
@@ -58,6 +62,7 @@ module _ (H : Type 0) where
     text = refl;
     size = refl;
     rest = short-room H call short;
+    alone = tt;
     small = lit< tt;
     valid = refl;
     read = ap (λ x. OneRegion x) (single_region-reads_back v fits);
@@ -71,6 +76,7 @@ module _ (H : Type 0) where
     text = refl;
     size = refl;
     rest = short-room H call short;
+    alone = tt;
     small = lit< tt;
     valid = ap (λ x. is_valid_inflight x) (inflight-reads_back i fits) ∙ valid;
     read = ap (λ x. InflightArea x) (inflight-reads_back i fits);
@@ -84,6 +90,7 @@ module _ (H : Type 0) where
     text = refl;
     size = refl;
     rest = short-room H call short;
+    alone = refl;
     small = lit< tt;
     valid = ap (λ x. is_valid_log x) (log-reads_back l fits) ∙ valid;
     read = ap (λ x. LogArea x) (log-reads_back l fits);
@@ -97,6 +104,7 @@ module _ (H : Type 0) where
     text = sym (append-nil (shmem_config_text c));
     size = shmem_config-length c fits;
     rest = short-room H call short;
+    alone = tt;
     small = omega (arith, shmem_config-length c fits);
     valid = refl;
     read = ap (λ x. Shmem x) (shmem_config-reads_back c fits);
@@ -112,6 +120,7 @@ module _ (H : Type 0) where
         text = refl;
         size = refl;
         rest = bytes ∙ ap (λ n. MEMORY_REGION_SIZE * n) same;
+        alone = tt;
         small = omega (arith, bytes);
         valid = head-valid (length rs) least most;
         read = ap (λ n. Regions (regions_of n (flat_map region_text rs))) (omega (arith, bytes)) ∙ ap (λ x. Regions x) (regions-read rs fits);
@@ -123,15 +132,22 @@ module _ (H : Type 0) where
             ∙ eq-eqb (length (flat_map region_text rs)) (MEMORY_REGION_SIZE * length infos) (omega (arith, bytes, same));
       }
 
-  -- an area that is not valid is refused, as the answer table says
+  -- an area that is not valid is read whole
+  invalid-cut : (profile : Profile) (r : FrontendReq) (i : VhostUserInflight) (handles : List H) (rest : List (Cell H)) → is_valid_inflight i ≡ false → InflightFits i
+      → reply_cut shape.Inflight profile 0 (cells_of request_number (reply r (Replied (InflightArea i) handles)) ++ rest) ≡ (Err InvalidMessage, rest)
+  invalid-cut Vhost r i handles rest invalid fits =
+      reply-invalid request_number is_known (is_valid_record shape.Inflight) (reply_to r (InflightArea i) handles) (inflight_text i) [] rest refl (request-small r) (lit< tt) (reply-known r (InflightArea i) handles (lit< tt)) (ap (λ x. is_valid_inflight x) (inflight-reads_back i fits) ∙ invalid)
+  invalid-cut Standard r i handles rest invalid fits =
+      sized-read request_number is_known (is_valid_record shape.Inflight) (reply_to r (InflightArea i) handles) (inflight_text i) [] rest false refl (request-small r) (lit< tt) (reply-known r (InflightArea i) handles (lit< tt)) (ap (λ x. is_valid_inflight x) (inflight-reads_back i fits) ∙ invalid)
+
+  -- it is refused, as the answer table says
   take-invalid : (asked : VhostUserInflight) (sent : Header) (f : Frontend) (r : FrontendReq) (i : VhostUserInflight) (handles : List H) (rest : List (Cell H)) → has_bit sent.flags 2 ≡ false → is_valid_inflight i ≡ false → InflightFits i
       → take (GetInflightFd asked) (Reply shape.Inflight) sent f (cells_of request_number (reply r (Replied (InflightArea i) handles)) ++ rest) ≡ (answer (GetInflightFd asked) (Reply shape.Inflight) f (Replied (InflightArea i) handles), rest)
   take-invalid asked sent f r i handles rest flag invalid fits =
       let w : Written FrontendReq H = reply_to r (InflightArea i) handles in
       let cells : List (Cell H) = written_cells request_number w ++ rest in
       ap (λ b. cond b (Some (answered f (Err InvalidParam)), cells) (take_reply (GetInflightFd asked) shape.Inflight sent f cells)) flag
-      ∙ ap (λ cut. (understood (GetInflightFd asked) (Reply shape.Inflight) sent f cut.0, cut.1))
-      (reply-invalid request_number is_known (is_valid_record shape.Inflight) w (inflight_text i) [] rest refl (request-small r) (lit< tt) (reply-known r (InflightArea i) handles (lit< tt)) (ap (λ x. is_valid_inflight x) (inflight-reads_back i fits) ∙ invalid))
+      ∙ ap (λ cut. (understood (GetInflightFd asked) (Reply shape.Inflight) sent f cut.0, cut.1)) (invalid-cut f.profile r i handles rest invalid fits)
       ∙ ap (λ b. (Some (answered f (cond b (with_one handles (InflightOf i)) (Err InvalidMessage))), rest)) (sym invalid)
 
   take-inflight : (asked : VhostUserInflight) (sent : Header) (f : Frontend) (r : FrontendReq) (i : VhostUserInflight) (handles : List H) (rest : List (Cell H)) → IsSentFor r sent → InflightFits i
@@ -152,6 +168,7 @@ module _ (H : Type 0) where
     text = refl;
     size = refl;
     rest = same;
+    alone = tt;
     small = omega (arith, small);
     valid = ap (λ x. is_valid_config x) (config-reads_back c fits) ∙ valid;
     read = ap (λ x. ConfigBytes x bytes) (config-reads_back c fits);
@@ -175,16 +192,32 @@ module _ (H : Type 0) where
       ∙ ap (λ b. b && true && true && number_at 4 4 (config_text c) == 0) (reply-answers {H = H} r (ConfigBytes c []) [] sent of_r.0 of_r.1)
       ∙ eq-eqb (number_at 4 4 (config_text c)) 0 (ap (λ x. x.size) (config-reads_back c fits) ∙ none)
 
-  -- a bare reply is taken whole
+  -- a bare reply is read whole
+  bare-cut : (profile : Profile) (sent : Header) (room : ℕ) (r : FrontendReq) (c : VhostUserConfig) (rest : List (Cell H)) → IsSentFor r sent → c.size ≡ 0 → ConfigFits c
+      → config_cut profile sent room (cells_of request_number (reply r (Replied (ConfigBytes c []) [])) ++ rest) ≡ (Ok None, rest)
+  unfolding bare_or_reply bare-test
+  bare-cut Vhost sent room r c rest of_r none fits =
+      let cells : List (Cell H) = written_cells request_number (reply_to r (ConfigBytes c []) []) ++ rest in
+      ap (λ x. cond x (Ok None, rest) (not_bare is_known (reply_split is_known 12 (is_valid_record shape.Config) room cells))) (bare-known sent r c of_r none fits)
+  bare-cut Standard sent room r c rest of_r none fits =
+      let w : Written FrontendReq H = reply_to r (ConfigBytes c []) [] in
+      ap (λ cut. then_made is_known (parted_or_none is_known (answers sent) (is_valid_record shape.Config) room) cut)
+      (whole-read request_number is_known w rest (request-small r) (lit< tt) (reply-known {H = H} r (ConfigBytes c []) [] (lit< tt)))
+      ∙ ap (λ b. (cond (b && true && (number_at 4 4 (config_text c) == 0)) (Ok None) (right w), rest)) (reply-answers {H = H} r (ConfigBytes c []) [] sent of_r.0 of_r.1)
+      ∙ ap (λ b. (cond b (Ok None) (right w), rest)) (eq-eqb (number_at 4 4 (config_text c)) 0 (ap (λ x. x.size) (config-reads_back c fits) ∙ none))
+    where
+      right : Written FrontendReq H → Result (Option (Received H)) Error
+      right w = let r = the_whole request_number is_known w in cond (is_right is_known 12 (is_valid_record shape.Config) room r) (Ok (Some (apart is_known 12 r))) (Err InvalidMessage)
+
+  -- and taken whole
   take-bare : (o n k b : ℕ) (buffer : List ℕ) (sent : Header) (f : Frontend) (r : FrontendReq) (c : VhostUserConfig) (rest : List (Cell H)) → IsSentFor r sent → c.size ≡ 0 → ConfigFits c
       → take (GetConfig o n k (b ∷ buffer)) (Reply shape.Config) sent f (cells_of request_number (reply r (Replied (ConfigBytes c []) [])) ++ rest)
       ≡ (answer (GetConfig o n k (b ∷ buffer)) (Reply shape.Config) f (Replied (ConfigBytes c []) []), rest)
-  unfolding bare_or_reply bare-test
   take-bare o n k b buffer sent f r c rest of_r none fits =
       let call : FrontendCall H = GetConfig o n k (b ∷ buffer) in
       let cells : List (Cell H) = written_cells request_number (reply_to r (ConfigBytes c []) []) ++ rest in
       ap (λ x. cond x (Some (answered f (Err InvalidParam)), cells) (take_reply call shape.Config sent f cells)) of_r.1
-      ∙ ap (λ x. let cut = cond x (Ok None, rest) (not_bare is_known (reply_split is_known 12 (is_valid_record shape.Config) (length (b ∷ buffer)) cells)) in (understood_config call sent f cut.0, cut.1)) (bare-known sent r c of_r none fits)
+      ∙ ap (λ cut. (understood_config call sent f cut.0, cut.1)) (bare-cut f.profile sent (length (b ∷ buffer)) r c rest of_r none fits)
       ∙ ap (λ x. (Some (answered f (cond x (Err BackendInternalError) (only_if (c.offset == o && c.size == n && c.size == length (b ∷ buffer)) InvalidMessage (ConfigOf c [])))), rest)) (sym (ap (λ x. x && true) (eq-eqb c.size 0 none)))
 
   -- a reply with bytes is not bare: its size says so
@@ -200,12 +233,53 @@ module _ (H : Type 0) where
       ∙ ap (λ b. b && h.size == 12 && not brings && number_at 4 4 (config_text c) == 0) (reply-answers {H = H} r p handles sent of_r.0 of_r.1)
       ∙ ap (λ b. b && not brings && number_at 4 4 (config_text c) == 0) (ne_eqb (length (payload_text p)) 12 (λ same. omega (arith, same)))
 
+  -- nor is it empty
+  full-some : (ans alone : Bool) (size : ℕ) (none : Bool) → 12 < size → (ans && alone && (size == 0 || size == 12 && none)) ≡ false
+  full-some false alone size none large = refl
+  full-some true false size none large = refl
+  full-some true true size none large =
+      ap (λ b. b || size == 12 && none) (ne_eqb size 0 (λ same. omega (arith, same, large)))
+      ∙ ap (λ b. b && none) (ne_eqb size 12 (λ same. omega (arith, same, large)))
+
+  -- it is read with its bytes
+  full-cut : (profile : Profile) (o n k b : ℕ) (buffer : List ℕ) (sent : Header) (r : FrontendReq) (c : VhostUserConfig) (x : ℕ) (bytes : List ℕ) (handles : List H) (rest : List (Cell H)) → IsSentFor r sent → 12 + length (x ∷ bytes) ≤ MAX_MSG_SIZE
+      → (kept : IsReadable H (GetConfig o n k (b ∷ buffer)) shape.Config r (ConfigBytes c (x ∷ bytes)) handles)
+      → config_cut profile sent (length (b ∷ buffer)) (cells_of request_number (reply r (Replied (ConfigBytes c (x ∷ bytes)) handles)) ++ rest) ≡ (Ok (Some (the_reply H r (ConfigBytes c (x ∷ bytes)) handles kept.body kept.more)), rest)
+  unfolding bare_or_reply bare-test
+  full-cut Vhost o n k b buffer sent r c x bytes handles rest of_r small kept =
+      let call : FrontendCall H = GetConfig o n k (b ∷ buffer) in
+      let cells : List (Cell H) = written_cells request_number (reply_to r (ConfigBytes c (x ∷ bytes)) handles) ++ rest in
+      ap (λ y. cond y (Ok None, drop 24 cells) (not_bare is_known (reply_split is_known 12 (is_valid_record shape.Config) (length (b ∷ buffer)) cells))) (full-known sent r c x bytes handles (has_some handles) of_r small)
+      ∙ ap (λ y. not_bare is_known y) (split-cut H call shape.Config r (ConfigBytes c (x ∷ bytes)) handles rest kept)
+  full-cut Standard o n k b buffer sent r c x bytes handles rest of_r small kept =
+      ap (λ cut. then_made is_known (parted_or_none is_known (answers sent) valid (length (b ∷ buffer))) cut)
+      (whole-read request_number is_known w rest (request-small r) (omega (arith, small)) (reply-known {H = H} r p handles (omega (arith, small))))
+      ∙ ap (λ e. (cond e (Ok None) (right 12 (length (b ∷ buffer))), rest)) (full-some (answers sent (head_of request_number w)) (not (has_some handles)) (length (payload_text p)) (number_at 4 4 (payload_text p) == 0) (omega (arith, small)))
+      ∙ ap (λ size. (right size (length (b ∷ buffer)), rest)) (sym kept.size)
+      ∙ ap (λ room. (right (length (kept.body)) room, rest)) (sym kept.rest)
+      ∙ ap (λ e. (cond e (Ok (Some (apart is_known (length (kept.body)) whole))) (Err InvalidMessage), rest)) (right-size request_number is_known valid w kept.body kept.more kept.text ∙ kept.valid)
+      ∙ ap (λ y. (Ok (Some y), rest)) (apart-read request_number is_known valid w kept.body kept.more kept.text)
+    where
+      p : Payload
+      p = ConfigBytes c (x ∷ bytes)
+
+      w : Written FrontendReq H
+      w = reply_to r p handles
+
+      valid : List ℕ → Bool
+      valid = is_valid_record shape.Config
+
+      whole : Received H
+      whole = the_whole request_number is_known w
+
+      right : ℕ → ℕ → Result (Option (Received H)) Error
+      right size room = cond (is_right is_known size valid room whole) (Ok (Some (apart is_known size whole))) (Err InvalidMessage)
+
   -- it is taken with its bytes
   take-full : (o n k b : ℕ) (buffer : List ℕ) (sent : Header) (f : Frontend) (r : FrontendReq) (c : VhostUserConfig) (bytes : List ℕ) (handles : List H) (rest : List (Cell H)) → IsSentFor r sent
       → length bytes ≡ length (b ∷ buffer) → 12 + length bytes ≤ MAX_MSG_SIZE → is_valid_config c ≡ true → ConfigFits c
       → take (GetConfig o n k (b ∷ buffer)) (Reply shape.Config) sent f (cells_of request_number (reply r (Replied (ConfigBytes c bytes) handles)) ++ rest)
       ≡ (answer (GetConfig o n k (b ∷ buffer)) (Reply shape.Config) f (Replied (ConfigBytes c bytes) handles), rest)
-  unfolding bare_or_reply bare-test
   take-full o n k b buffer sent f r c [] handles rest of_r same small valid fits = absurd (omega (arith, same))
   take-full o n k b buffer sent f r c (x ∷ bytes) handles rest of_r same small valid fits =
       let call : FrontendCall H = GetConfig o n k (b ∷ buffer) in
@@ -213,8 +287,7 @@ module _ (H : Type 0) where
       let cells : List (Cell H) = written_cells request_number (reply_to r p handles) ++ rest in
       let kept : IsReadable H call shape.Config r p handles = readable-config o n k (b ∷ buffer) r c (x ∷ bytes) handles same small valid fits in
       ap (λ y. cond y (Some (answered f (Err InvalidParam)), cells) (take_reply call shape.Config sent f cells)) of_r.1
-      ∙ ap (λ y. let cut = cond y (Ok None, drop 24 cells) (not_bare is_known (reply_split is_known 12 (is_valid_record shape.Config) (length (b ∷ buffer)) cells)) in (understood_config call sent f cut.0, cut.1)) (full-known sent r c x bytes handles (has_some handles) of_r small)
-      ∙ ap (λ y. let cut = not_bare is_known y in (understood_config call sent f cut.0, cut.1)) (reply-cut H call shape.Config r p handles rest kept)
+      ∙ ap (λ cut. (understood_config call sent f cut.0, cut.1)) (full-cut f.profile o n k b buffer sent r c x bytes handles rest of_r small kept)
       ∙ ap (λ y. (y, rest)) (reply-understood H call shape.Config sent f r p handles kept of_r.0 of_r.1)
 
   -- ---- all of them
@@ -260,25 +333,32 @@ module _ (H : Type 0) where
 
   -- ---- a silent handler
 
+  nothing-config : (profile : Profile) (sent : Header) (room : ℕ) → config_cut {H = H} profile sent room [] ≡ (Err PartialMessage, [])
+  unfolding bare_or_reply whole_split
+  nothing-config Vhost sent room = refl
+  nothing-config Standard sent room = refl
+
   silent-config : (o n k : ℕ) (buffer : List ℕ) (shape : Shape) (sent : Header) (f : Frontend) → take_reply {H = H} (GetConfig o n k buffer) shape sent f [] ≡ (answer (GetConfig o n k buffer) (Reply shape) f Silent, [])
-  unfolding bare_or_reply
   silent-config o n k [] shape sent f = refl
-  silent-config o n k (b ∷ buffer) shape sent f = refl
+  silent-config o n k (b ∷ buffer) shape sent f =
+      ap (λ cut. (understood_config {H = H} (GetConfig o n k (b ∷ buffer)) sent f cut.0, cut.1)) (nothing-config f.profile sent (length (b ∷ buffer)))
 
   -- a record of any shape is missing
-  nothing-cut : (shape : Shape) (room : ℕ) → reply_split {H = H} is_known (record_size shape) (is_valid_record shape) room [] ≡ (Err PartialMessage, [])
-  unfolding reply_split
-  nothing-cut shape.Empty room = refl
-  nothing-cut _ room = refl
+  nothing-cut : (profile : Profile) (shape : Shape) (room : ℕ) → reply_cut {H = H} shape profile room [] ≡ (Err PartialMessage, [])
+  unfolding reply_split whole_split
+  nothing-cut Vhost shape.Empty room = refl
+  nothing-cut Vhost shape.Log room = refl
+  nothing-cut Vhost _ room = refl
+  nothing-cut Standard shape.Log room = refl
+  nothing-cut Standard _ room = refl
 
   silent-reply : (call : FrontendCall H) (shape : Shape) (sent : Header) (f : Frontend) → take_reply call shape sent f [] ≡ (answer call (Reply shape) f Silent, [])
   silent-reply (GetConfig o n k buffer) shape sent f = silent-config o n k buffer shape sent f
-  silent-reply (SetMemTable infos) shape sent f = ap (λ cut. (understood (SetMemTable infos) (Reply shape) sent f cut.0, cut.1)) (nothing-cut shape (room (SetMemTable infos)))
-  silent-reply call shape sent f = ap (λ cut. (understood call (Reply shape) sent f cut.0, cut.1)) (nothing-cut shape (room call))
+  silent-reply (SetMemTable infos) shape sent f = ap (λ cut. (understood (SetMemTable infos) (Reply shape) sent f cut.0, cut.1)) (nothing-cut f.profile shape (room (SetMemTable infos)))
+  silent-reply call shape sent f = ap (λ cut. (understood call (Reply shape) sent f cut.0, cut.1)) (nothing-cut f.profile shape (room call))
 
   pub take-nothing : TakesNothing H
-  unfolding reply_split
   take-nothing call Nobody sent f flag = refl
-  take-nothing call Ack sent f flag = refl
+  take-nothing call Ack sent f flag = ap (λ cut. (understood call Ack sent f cut.0, cut.1)) (nothing-cut f.profile shape.U64 0)
   take-nothing call (Reply shape) sent f flag =
       ap (λ b. cond b (Some (answered f (Err InvalidParam)), []) (take_reply call shape sent f [])) flag ∙ silent-reply call shape sent f

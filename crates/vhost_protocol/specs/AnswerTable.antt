@@ -11,6 +11,7 @@ use Rattle.vhost_protocol.specs.declared.asked.Awaited.{Awaited}
 use Rattle.vhost_protocol.specs.declared.asked.Awaited.TheVariants.{Nobody, Ack, Reply}
 use Rattle.vhost_protocol.specs.Error.{Error, InvalidParam, InvalidMessage, PartialMessage, IncorrectFds, BackendInternalError}
 use Rattle.vhost_protocol.specs.FrontendCall.{FrontendCall, GetFeatures, GetProtocolFeatures, GetQueueNum, SetMemTable, SetLogBase, GetVringBase, GetConfig, GetSharedObject, GetInflightFd, GetMaxMemSlots, AddMemRegion, GetShmemConfig, SetDeviceStateFd, CheckDeviceState, PostcopyAdvise, PostcopyListen, PostcopyEnd, Value, Nothing, Number, Bases, Base, ConfigOf, HandleOf, InflightOf, StateHandle, ShmemOf, Frontend}
+use Rattle.vhost_protocol.specs.Profile.{is_standard}
 use Rattle.vhost_protocol.specs.Served.{Served, Silent, Acknowledged, Replied}
 use Rattle.vhost_protocol.specs.Written.{Payload, Empty, U64, Regions, OneRegion, Shmem, RingState, ConfigBytes, InflightArea, LogArea}
 
@@ -104,7 +105,8 @@ from_reply GetProtocolFeatures f (U64 n) hs = Some (answered f (alone hs (Ok (Nu
 from_reply GetQueueNum f (U64 n) hs = Some (queues_reply f n (alone hs (Ok (Number n))))
 from_reply (SetMemTable infos) f (Regions rs) hs =
     Some (answered f (alone hs (only_if (are_same_ranges (regions_in infos) rs) InvalidMessage (Bases (Some (bases_in rs))))))
-from_reply (SetLogBase base region) f (LogArea l) hs = Some (answered f (alone hs (only_if (is_valid_log l) InvalidMessage Nothing)))
+-- under Standard the payload is not looked at: the specification wants none, and real handlers send what they like
+from_reply (SetLogBase base region) f (LogArea l) hs = Some (answered f (alone hs (only_if (if is_standard f.profile then true else is_valid_log l) InvalidMessage Nothing)))
 from_reply (GetVringBase i) f (RingState v) hs = Some (answered f (alone hs (Ok (Number v.num))))
 from_reply (GetConfig offset size flags buffer) f (ConfigBytes c bytes) hs = Some (answered f (config_reply (config offset size flags) buffer hs c bytes))
 from_reply (GetSharedObject name) f Empty hs = Some (answered f (with_one hs HandleOf))

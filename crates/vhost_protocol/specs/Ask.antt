@@ -19,6 +19,7 @@ use Rattle.vhost_protocol.specs.declared.asked.Shape.TheVariants as shape
 use Rattle.vhost_protocol.specs.Error.{Error, InvalidParam, InactiveFeature, InactiveOperation, test}
 use Rattle.vhost_protocol.specs.Features.{PROTOCOL_FEATURES, MQ, LOG_SHMFD, REPLY_ACK, MTU, BACKEND_REQ, PAGEFAULT, CONFIG, INFLIGHT_SHMFD, RESETS_DEVICE, CONFIGURE_MEM_SLOTS, SHARED_OBJECT, DEVICE_STATE, SHMEM}
 use Rattle.vhost_protocol.specs.FrontendCall.{Info, LogRegion, FrontendCall, GetFeatures, SetFeatures, SetOwner, ResetOwner, GetProtocolFeatures, SetProtocolFeatures, GetQueueNum, ResetDevice, SetMemTable, SetLogBase, SetLogFd, SetVringNum, SetVringBase, SetVringAddr, GetVringBase, SetVringCall, SetVringKick, SetVringErr, SetVringEnable, GetConfig, SetConfig, SetBackendRequestFd, GetSharedObject, GetInflightFd, SetInflightFd, GetMaxMemSlots, AddMemRegion, RemoveMemRegion, GetShmemConfig, SetDeviceStateFd, CheckDeviceState, PostcopyAdvise, PostcopyListen, PostcopyEnd, PostcopyAckMemRegions, SetMtu, SetHdrFlags, Value, Nothing, Frontend}
+use Rattle.vhost_protocol.specs.Profile.{is_standard}
 use Rattle.vhost_protocol.specs.Session.{is_listen}
 use Rattle.vhost_protocol.specs.Written.{Payload, Empty, U64, Regions, OneRegion, RingState, RingAddr, ConfigBytes, InflightArea, LogArea, ObjectName, DeviceState, Written}
 
@@ -68,9 +69,13 @@ given (Some a) = Ok a
 
 -- ---- messages
 
+-- whether a message goes out with the session's flag NEED_REPLY; under Standard only where REPLY_ACK is acknowledged, since real handlers acknowledge it all the same
+abbrev pub needs_reply : Frontend → Bool
+needs_reply f = has_bit f.header_flags 3 && (if is_standard f.profile then has_bit f.acked_protocol_features REPLY_ACK else true)
+
 -- a message with the session's flags REPLY and NEED_REPLY
 abbrev pub message : {H : Type 0} → Frontend → FrontendReq → Payload → List H → Written FrontendReq H
-message f r payload handles = record { request = r; reply = has_bit f.header_flags 2; need_reply = has_bit f.header_flags 3; payload = payload; handles = handles }
+message f r payload handles = record { request = r; reply = has_bit f.header_flags 2; need_reply = needs_reply f; payload = payload; handles = handles }
 
 -- the same without NEED_REPLY
 abbrev pub quietly : {H : Type 0} → Frontend → FrontendReq → Payload → List H → Written FrontendReq H
@@ -83,6 +88,10 @@ awaited_ack f = if has_bit f.acked_protocol_features REPLY_ACK && has_bit f.head
 -- sent, and perhaps acknowledged
 abbrev pub sends : {H : Type 0} → Frontend → FrontendReq → Payload → List H → Asked H
 sends f r payload handles = Sends (message f r payload handles) (awaited_ack f) f
+
+-- the base of the log alone; under Standard its acknowledgement is awaited like that of every request
+abbrev pub sends_base : {H : Type 0} → Frontend → (base : ℕ) → Asked H
+sends_base f base = Sends (message f SET_LOG_BASE (U64 base) []) (if is_standard f.profile then awaited_ack f else Nobody) f
 
 -- sent, and replied to
 abbrev pub asks : {H : Type 0} → Frontend → FrontendReq → Payload → List H → Shape → Asked H
@@ -159,12 +168,12 @@ ask f (SetMemTable infos) = do
   (if is_listen f.postcopy
       then asks_quietly f SET_MEM_TABLE (Regions (regions_in infos)) (handles_in infos) shape.Memory
       else sends f SET_MEM_TABLE (Regions (regions_in infos)) (handles_in infos))
-ask f (SetLogBase base None) = Sends (message f SET_LOG_BASE (U64 base) []) Nobody f
+ask f (SetLogBase base None) = sends_base f base
 ask f (SetLogBase base (Some r)) =
     if has_bit f.acked_protocol_features LOG_SHMFD then (do
       h ← given r.handle
       asks f SET_LOG_BASE (LogArea (log_area r)) (h ∷ []) shape.Log)
-    else Sends (message f SET_LOG_BASE (U64 base) []) Nobody f
+    else sends_base f base
 ask f (SetLogFd h) = sends f SET_LOG_FD Empty (h ∷ [])
 ask f (SetVringNum i n) = do
   index f i

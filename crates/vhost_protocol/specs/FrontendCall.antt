@@ -10,6 +10,8 @@ use Rattle.vhost_message.specs.declared.records.shared.VhostUserSharedMsg.{Vhost
 use Rattle.vhost_message.specs.declared.records.shmem.VhostUserShMemConfig.{VhostUserShMemConfig}
 use Rattle.vhost_message.specs.declared.records.transfer.VhostUserTransferDeviceState.{VhostUserTransferDeviceState}
 use Rattle.vhost_message.specs.declared.vring_config.VringConfigData.{VringConfigData}
+use Rattle.vhost_protocol.specs.declared.profile.Profile.{Profile}
+use Rattle.vhost_protocol.specs.declared.profile.Profile.TheVariants.{Vhost}
 
 -- a region of guest memory, and the handle of its mapping where there is one
 pub record Info (H : Type 0) : Type 0 where
@@ -74,7 +76,7 @@ pub data Value (H : Type 0) : Type 0 where
   StateHandle : Option H → Value H
   ShmemOf : VhostUserShMemConfig → Value H
 
--- what a frontend remembers
+-- what a frontend remembers, and whose behaviour it has
 pub record Frontend : Type 0 where
   pub offered : ℕ
   pub acked : ℕ
@@ -82,7 +84,8 @@ pub record Frontend : Type 0 where
   pub max_queue_num : ℕ
   pub header_flags : ℕ
   pub postcopy : PostcopyState
+  pub profile : Profile
 
 -- a new frontend, of a device with that many queues at most
 abbrev pub new_frontend : ℕ → Frontend
-new_frontend queues = record { offered = 0; acked = 0; acked_protocol_features = 0; max_queue_num = queues; header_flags = 0; postcopy = Inactive }
+new_frontend queues = record { offered = 0; acked = 0; acked_protocol_features = 0; max_queue_num = queues; header_flags = 0; postcopy = Inactive; profile = Vhost }

@@ -9,6 +9,7 @@ pub mod Split
 pub mod Written
 -- ---- serving a frontend: `Handler` says it all, over the table in `Row`
 pub mod Features
+pub mod Profile
 pub mod Session
 pub mod DeviceCall
 pub mod Served

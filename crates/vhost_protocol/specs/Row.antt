@@ -14,7 +14,8 @@ use Rattle.vhost_protocol.specs.Answered.{calls}
 use Rattle.vhost_protocol.specs.DeviceCall.{SetOwner, ResetOwner, ResetDevice, GetFeatures, SetFeatures, SetMemTable, SetVringNum, SetVringAddr, SetVringBase, GetVringBase, SetVringKick, SetVringCall, SetVringErr, GetProtocolFeatures, SetProtocolFeatures, GetQueueNum, SetVringEnable, GetConfig, SetConfig, SetBackendReqFd, SetGpuSocket, GetSharedObject, GetInflightFd, SetInflightFd, GetMaxMemSlots, AddMemRegion, RemoveMemRegion, SetDeviceStateFd, CheckDeviceState, GetShmemConfig, PostcopyAdvice, PostcopyListen, PostcopyEnd, PostcopyAckMemRegions, SetLogBase, SetMtu}
 use Rattle.vhost_protocol.specs.Error.{Error, InvalidParam, InvalidOperation, InactiveFeature, InactiveOperation, InvalidMessage, IncorrectFds, FrontendInternalError}
 use Rattle.vhost_protocol.specs.Features.{PROTOCOL_FEATURES, MQ, LOG_SHMFD, MTU, BACKEND_REQ, PAGEFAULT, CONFIG, INFLIGHT_SHMFD, RESETS_DEVICE, CONFIGURE_MEM_SLOTS, SHARED_OBJECT, SHMEM}
-use Rattle.vhost_protocol.specs.Session.{Session, is_inactive, is_advise, is_listen}
+use Rattle.vhost_protocol.specs.Profile.{is_standard}
+use Rattle.vhost_protocol.specs.Session.{Session, is_inactive, is_advise, is_listen, enabling}
 use Rattle.vhost_protocol.specs.Split.{Message}
 use Rattle.vhost_protocol.specs.Step.{Refusal, Step, Refused, OpensBackend, OpensGpu, ◌>>=◌, ◌>>◌, silently, acknowledged}
 use Rattle.vhost_protocol.specs.Error.{test}
@@ -82,12 +83,17 @@ ring_row m call = do
 
 -- ---- regions
 
+-- a table's body has room for so many regions, and for nothing more; under Standard it may be longer
+abbrev pub is_table_size : Session → ℕ → ℕ → Bool
+is_table_size s n size =
+    if is_standard s.profile then nat_le (MEMORY_HEAD_SIZE + MEMORY_REGION_SIZE * n) size else size == MEMORY_HEAD_SIZE + MEMORY_REGION_SIZE * n
+
 -- a table of as many regions and handles as it says, each region valid ("Multiple Memory regions description")
-abbrev pub is_valid_table : {H : Type 0} → Message FrontendReq H → Bool
-is_valid_table m =
+abbrev pub is_valid_table : {H : Type 0} → Session → Message FrontendReq H → Bool
+is_valid_table s m =
     let n = (memory_of m.body).num_regions in
     not m.reply && nat_le MEMORY_HEAD_SIZE (length m.body) && is_valid_memory (memory_of m.body)
-    && length m.body == MEMORY_HEAD_SIZE + MEMORY_REGION_SIZE * n
+    && is_table_size s n (length m.body)
     && length m.handles == n && list_all is_valid_region (regions_of n (drop MEMORY_HEAD_SIZE m.body))
 
 -- the regions of a table
@@ -106,7 +112,7 @@ mapped_row s m = do
 -- a table of regions, which are to be mapped while listening
 abbrev pub table_row : {H B G : Type 0} → Session → Message FrontendReq H → Step H B G
 table_row s m = do
-  test (is_valid_table m) (acknowledged s m InvalidMessage)
+  test (is_valid_table s m) (acknowledged s m InvalidMessage)
   (if is_listen s.postcopy
       then calls s m (SetMemTable (table m) m.handles (Some true))
       else calls s m (SetMemTable (table m) m.handles (Some false)))
@@ -128,6 +134,10 @@ is_valid_area m = nat_le 12 (length m.body) && is_valid_config (config_of m.body
 abbrev pub channel : {H C : Type 0} → Session → Message FrontendReq H → Result C Error → Result C (Refusal H)
 channel s m (Ok c) = Ok c
 channel s m (Err e) = Err (acknowledged s m e)
+
+-- A request that nobody serves. Under Standard that is acknowledged, since real frontends wait for it, and its error is none of a malformed message.
+abbrev pub unserved : {H : Type 0} → Session → Message FrontendReq H → Refusal H
+unserved s m = if is_standard s.profile then acknowledged s m (InvalidOperation (codes "request not served")) else silently InvalidMessage
 
 -- ---- the table
 
@@ -186,7 +196,7 @@ row_of GET_MAX_MEM_SLOTS s m = do
   calls s m GetMaxMemSlots
 row_of SET_VRING_ENABLE s m = do
   v ← body 8 vring_state_of always m
-  test (has_bit s.acked PROTOCOL_FEATURES) (silently (InactiveFeature (2 ^ PROTOCOL_FEATURES)))
+  test (has_bit (enabling s) PROTOCOL_FEATURES) (silently (InactiveFeature (2 ^ PROTOCOL_FEATURES)))
   test (nat_le v.num 1) (silently InvalidParam)
   calls s m (SetVringEnable v.index (v.num == 1))
 row_of NET_SET_MTU s m = do
@@ -256,7 +266,7 @@ row_of POSTCOPY_END s m = do
   session_feature s PAGEFAULT
   test (is_listen s.postcopy) (silently (InvalidOperation (codes "postcopy not listening")))
   calls s m PostcopyEnd
-row_of _ s m = Refused (silently InvalidMessage)
+row_of _ s m = Refused (unserved s m)
 
 -- the row of a message
 abbrev pub row : {H B G : Type 0} → Session → Message FrontendReq H → Step H B G

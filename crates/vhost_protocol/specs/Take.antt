@@ -13,7 +13,8 @@ use Rattle.vhost_protocol.specs.declared.asked.Awaited.TheVariants.{Nobody, Ack,
 use Rattle.vhost_protocol.specs.declared.asked.Shape.TheVariants as shape
 use Rattle.vhost_protocol.specs.Error.{Error, InvalidParam, InvalidMessage, BackendInternalError}
 use Rattle.vhost_protocol.specs.FrontendCall.{FrontendCall, SetMemTable, GetConfig, Frontend}
-use Rattle.vhost_protocol.specs.ReplySplit.{Received, reply_split, bare_or_reply}
+use Rattle.vhost_protocol.specs.declared.profile.Profile.{Profile}
+use Rattle.vhost_protocol.specs.ReplySplit.{Received, split_by, any_by, config_by}
 use Rattle.vhost_protocol.specs.Served.{Silent, Acknowledged, Replied}
 use Rattle.vhost_protocol.specs.Split.{announced}
 use Rattle.vhost_protocol.specs.Stream.{Cell}
@@ -73,6 +74,15 @@ is_known h = is_some (announced request_of h)
 abbrev pub answers : Header → Header → Bool
 answers sent reply = is_reply_for request_of reply sent
 
+-- How a reply of a shape is read. That of the log may have any size under Standard, since real handlers send what they like.
+abbrev pub reply_cut : {H : Type 0} → Shape → Profile → (room : ℕ) → List (Cell H) → Result (Received H) Error × List (Cell H)
+reply_cut shape.Log profile room cells = any_by is_known profile (record_size shape.Log) (is_valid_record shape.Log) cells
+reply_cut shape profile room cells = split_by is_known profile (record_size shape) (is_valid_record shape) room cells
+
+-- the same of configuration bytes, or None where there are none
+abbrev pub config_cut : {H : Type 0} → Profile → (sent : Header) → (room : ℕ) → List (Cell H) → Result (Option (Received H)) Error × List (Cell H)
+config_cut profile sent room cells = config_by is_known profile (answers sent) (is_valid_record shape.Config) room cells
+
 -- an acknowledgement says 0 for success, and has no handle
 abbrev pub understood_ack : {H : Type 0} → FrontendCall H → Frontend → Received H → Option (Answered H)
 understood_ack call f r = if length r.handles == 0 then answer call Ack f (Acknowledged (u64_at 0 r.body == 0)) else Some (answered f (Err InvalidMessage))
@@ -96,21 +106,21 @@ understood_config call sent f (Err e) = Some (answered f (Err e))
 abbrev pub take_config : {H : Type 0} → FrontendCall H → (buffer : List ℕ) → (sent : Header) → Frontend → List (Cell H) → Option (Answered H) × List (Cell H)
 take_config call [] sent f cells = (Some (answered f (Err InvalidParam)), cells)
 take_config call (b ∷ buffer) sent f cells =
-    let cut = bare_or_reply is_known (answers sent) (is_valid_record shape.Config) (length (b ∷ buffer)) cells in
+    let cut = config_cut f.profile sent (length (b ∷ buffer)) cells in
     (understood_config call sent f cut.0, cut.1)
 
 -- a reply of a shape
 abbrev pub take_reply : {H : Type 0} → FrontendCall H → Shape → (sent : Header) → Frontend → List (Cell H) → Option (Answered H) × List (Cell H)
 take_reply (GetConfig offset size flags buffer) shape sent f cells = take_config (GetConfig offset size flags buffer) buffer sent f cells
 take_reply call shape sent f cells =
-    let cut = reply_split is_known (record_size shape) (is_valid_record shape) (room call) cells in
+    let cut = reply_cut shape f.profile (room call) cells in
     (understood call (Reply shape) sent f cut.0, cut.1)
 
 -- The caller's answer and the rest of the stream, from what is awaited and the header that was sent. One that was sent with REPLY has no reply.
 abbrev pub take : {H : Type 0} → FrontendCall H → Awaited → (sent : Header) → Frontend → List (Cell H) → Option (Answered H) × List (Cell H)
 take call Nobody sent f cells = (answer call Nobody f Silent, cells)
 take call Ack sent f cells =
-    let cut = reply_split is_known 8 (is_valid_record shape.U64) 0 cells in
+    let cut = reply_cut shape.U64 f.profile 0 cells in
     (understood call Ack sent f cut.0, cut.1)
 take call (Reply shape) sent f cells =
     if has_bit sent.flags 2 then (Some (answered f (Err InvalidParam)), cells) else take_reply call shape sent f cells

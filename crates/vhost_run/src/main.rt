@@ -1,18 +1,41 @@
 //! Runs the calls of a frontend, one a line, against an example device.
 #![tactic(auto)]
 
-use std::io;
 use std::io::BufReader;
 use std::process::ExitCode;
-use vhost_lines::{Fault, run_lines};
+use std::{env, io};
+use vhost_lines::{Fault, Profile, run_lines_as};
 
 fn main(rt: HostRuntime) -> ExitCode {
+    let Some(profile) = profile_asked(&rt) else {
+        let _ = eprintln!(rt; "usage: vhost_run [--profile=standard|--profile=vhost]");
+        return ExitCode::from(4);
+    };
     let Ok(mut input) = BufReader::new(rt.alloc(), rt.reader()) else {
         let _ = eprintln!(rt; "{}", Fault::OutOfMemory);
         return ExitCode::from(2);
     };
     // The output is not buffered: each line is one write, and a drop writes nothing.
     let mut output = io::writer(&rt);
-    let status = run_lines(rt.alloc(), &mut input, &mut output, &mut rt.stderr());
+    let status = run_lines_as(
+        rt.alloc(),
+        profile,
+        &mut input,
+        &mut output,
+        &mut rt.stderr(),
+    );
     ExitCode::from(status)
+}
+
+/// The profile that the arguments name; without one, that of the crate `vhost`. None: they are something else.
+fn profile_asked(rt: &HostRuntime) -> Option<Profile> {
+    let mut profile = Profile::Vhost;
+    for word in env::args(rt).ok()?.skip(1) {
+        match word.as_str() {
+            "--profile=standard" => profile = Profile::Standard,
+            "--profile=vhost" => profile = Profile::Vhost,
+            _ => return None,
+        }
+    }
+    Some(profile)
 }

@@ -18,6 +18,7 @@ use vhost_connection::Listener;
 use vhost_dummy_backend::DummyBackendReqHandler;
 use vhost_link::UnixLink;
 use vhost_message::Error;
+use vhost_protocol::Profile;
 
 type Handler<'a> = BackendReqHandler<SeenLink<'a>, Mutex<DummyBackendReqHandler<SeenLink<'a>>>>;
 
@@ -34,6 +35,8 @@ pub struct Options {
     pub count: Option<u32>,
     /// Whether it reports each request that is refused.
     pub verbose: bool,
+    /// Whose behaviour each session has.
+    pub profile: Profile,
 }
 
 /// Accepts so many connections and serves each in a thread of its own, with an example device of its own. It writes a line for each
@@ -61,6 +64,7 @@ where
     let options = Options {
         count: Some(count),
         verbose: false,
+        profile: Profile::Vhost,
     };
     let path = listener.path().unwrap_or("the listening socket");
     if let Ok(shared) = Shared::new(alloc, &mut *output, &mut *errors, path) {
@@ -117,7 +121,6 @@ where
         Some(count) => u64::from(count),
         None => u64::MAX,
     };
-    let verbose = options.verbose;
     let has_failed = thread::scope(thread::scope_env(), rt, move |scope| -> bool {
         let mut session: u64 = 0;
         let mut backoff = Backoff::new();
@@ -132,7 +135,7 @@ where
                         return true;
                     };
                     session = session.saturating_add(1);
-                    move || serve_whole(rt, alloc, session, link, gate, shared, verbose)
+                    move || serve_whole(rt, alloc, session, link, gate, shared, options)
                 }
             };
             shared.begin();
@@ -230,19 +233,14 @@ fn serve_whole<R: Wait, G: Gate, S: Sessions>(
     link: UnixLink,
     gate: &G,
     shared: &S,
-    verbose: bool,
+    options: Options,
 ) {
-    let ended = if verbose {
-        serve_told(rt, alloc, session, link, gate, shared)
+    let profile = options.profile;
+    let ended = if options.verbose {
+        serve_told(rt, alloc, session, link, profile, gate, shared)
     } else {
-        serve_over(
-            rt,
-            alloc,
-            session,
-            SeenLink::new(link, None),
-            gate,
-            &Unwatched,
-        )
+        let link = SeenLink::new(link, None);
+        serve_over(rt, alloc, session, link, profile, gate, &Unwatched)
     };
     shared.end(rt, session, ended);
     shared.leave();
@@ -254,6 +252,7 @@ fn serve_told<R: Wait, G: Gate, S: Sessions>(
     alloc: Global,
     session: u64,
     link: UnixLink,
+    profile: Profile,
     gate: &G,
     shared: &S,
 ) -> Ended {
@@ -265,7 +264,7 @@ fn serve_told<R: Wait, G: Gate, S: Sessions>(
         last: &last,
     };
     let seen = SeenLink::new(link, Some(&last));
-    let ended = serve_over(rt, alloc, session, seen, gate, &watch);
+    let ended = serve_over(rt, alloc, session, seen, profile, gate, &watch);
     drop(watch);
     ended
 }
@@ -276,12 +275,16 @@ fn serve_over<R: Wait, G: Gate, W: Watch>(
     alloc: Global,
     session: u64,
     link: SeenLink<'_>,
+    profile: Profile,
     gate: &G,
     watch: &W,
 ) -> Ended {
     let session = u32::try_from(session).unwrap_or(u32::MAX);
     match handler_over(alloc, link) {
-        Ok(mut handler) => serve_watched(rt, session, &mut handler, gate, watch),
+        Ok(mut handler) => {
+            handler.set_profile(profile);
+            serve_watched(rt, session, &mut handler, gate, watch)
+        }
         Err(_) => Ended {
             requests: 0,
             end: "OutOfMemory",

@@ -5,6 +5,7 @@ use crate::handles::handles_in;
 use crate::miss::{Miss, unreadable};
 use crate::numbers::{narrow, number_of};
 use std::alloc::Global;
+use vhost_protocol::Profile;
 
 /// Which device a session has.
 #[derive(Clone, Copy, PartialEq, Eq)]
@@ -28,6 +29,9 @@ pub struct Settings<'a> {
     pub over: Over<'a>,
     pub queues: u64,
     pub budget: u32,
+    /// Whose behaviour the side under test has; in joined sessions the one that asks, and the one that serves.
+    pub profile: Profile,
+    pub serving_profile: Profile,
     /// What the calls of the link do, and in joined sessions those of the serving end.
     pub cuts: &'a str,
     pub serving_cuts: &'a str,
@@ -46,6 +50,8 @@ impl<'a> Settings<'a> {
             over: Over::Untold,
             queues: 2,
             budget: 2,
+            profile: Profile::Vhost,
+            serving_profile: Profile::Vhost,
             cuts: "",
             serving_cuts: "",
             silent: "",
@@ -69,6 +75,8 @@ impl<'a> Settings<'a> {
             "over" => self.over = over_of(alloc, rest)?,
             "queues" => self.queues = number_of(alloc, rest)?,
             "budget" => self.budget = narrow(alloc, rest)?,
+            "profile" => self.profile = profile_of(alloc, rest)?,
+            "serving_profile" => self.serving_profile = profile_of(alloc, rest)?,
             "cuts" => {
                 let _readable = cuts_of(alloc, 0, rest)?;
                 self.cuts = rest;
@@ -94,6 +102,8 @@ fn belongs(kind: &str, word: &str) -> bool {
         "for" | "budget" | "cuts" => kind != "lines",
         "over" => matches!(kind, "served" | "reverse_served" | "joined"),
         "queues" => matches!(kind, "asking" | "joined"),
+        "profile" => matches!(kind, "served" | "asking" | "joined"),
+        "serving_profile" => kind == "joined",
         "serving_cuts" => matches!(kind, "joined" | "reverse"),
         "silent" => kind == "served",
         "gpu" => kind == "endpoint",
@@ -114,6 +124,15 @@ fn range_of(alloc: Global, text: &str) -> Result<(usize, usize), Miss> {
         return Ok((first as usize, end as usize));
     }
     Err(unreadable(alloc, "a range", text))
+}
+
+/// A profile.
+fn profile_of(alloc: Global, text: &str) -> Result<Profile, Miss> {
+    match text {
+        "standard" => Ok(Profile::Standard),
+        "vhost" => Ok(Profile::Vhost),
+        _ => Err(unreadable(alloc, "a profile", text)),
+    }
 }
 
 /// A device.

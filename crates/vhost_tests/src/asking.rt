@@ -10,6 +10,7 @@ use std::alloc::Global;
 use std::sync::Wait;
 use vhost_frontend_core::FrontendCall;
 use vhost_message::VhostUserProtocolFeatures;
+use vhost_protocol::Profile;
 use vhost_test_tools::{
     Miss, Settings, Traffic, answer_text, call_in, cuts_of, expect, number_of, unreadable,
 };
@@ -21,6 +22,8 @@ pub(crate) struct Asking<S: Side> {
     traffic: Traffic,
     /// The next call.
     call: Option<FrontendCall>,
+    /// The profile that the frontend is to have before its first call.
+    profile: Option<Profile>,
     alloc: Global,
 }
 
@@ -31,11 +34,15 @@ impl<S: Side> Player for Asking<S> {
             side: S::new(alloc, settings, cuts)?,
             traffic: Traffic::new(alloc, n),
             call: None,
+            profile: Some(settings.profile),
             alloc,
         })
     }
 
     fn step(&mut self, rt: &impl Wait, word: &str, rest: &str) -> Result<(), Miss> {
+        if let Some(profile) = self.profile.take() {
+            self.side.choose(rt, profile);
+        }
         match word {
             "call" if self.call.is_none() => {
                 self.call = Some(call_in(self.alloc, rest)?);

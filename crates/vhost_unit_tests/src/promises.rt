@@ -13,8 +13,8 @@ use vhost_message::{
     VhostUserConfigFlags, VhostUserMsgHeader,
 };
 use vhost_promises::{
-    Device, finds_own, first_answer, names_request, records_two, runs_two_lines, sends_in_one,
-    serves_by_halves, serves_three_new, shares_twice, two_callers,
+    Device, finds_own, first_answer, goes_on_unserved_new, names_request, records_two,
+    runs_two_lines, sends_in_one, serves_by_halves, serves_three_new, shares_twice, two_callers,
 };
 use vhost_recorder::{FrontendAnswer, FrontendCall, Halt, Log, Receipt, Recorded};
 
@@ -53,6 +53,26 @@ fn three_requests(rt: HostRuntime) -> Outcome<()> {
         1, 0, 0, 0, 5, 0, 0, 0, 8, 0, 0, 0, 3, 0, 0, 0x40, 0, 0, 0, 0,
     ];
     assert!(rt; wrote(rt.alloc(), &reply)?);
+    Ok(())
+}
+
+/// Whether a request that nobody serves is refused under Standard, the next one served, and nothing goes out.
+fn went_on(alloc: Global) -> Outcome<bool> {
+    match goes_on_unserved_new(alloc, Vec::new(alloc), small_cuts(alloc)?, 40) {
+        Ok((mut core, _device, answers)) => {
+            let is_right = matches!(
+                answers.as_slice(),
+                [Err(Error::InvalidOperation(_)), Ok(())]
+            );
+            Ok(is_right && core.endpoint_mut().link().taken().bytes().is_empty())
+        }
+        Err(_) => Ok(false),
+    }
+}
+
+#[test]
+fn one_unserved_under_standard(rt: HostRuntime) -> Outcome<()> {
+    assert!(rt; went_on(rt.alloc())?);
     Ok(())
 }
 

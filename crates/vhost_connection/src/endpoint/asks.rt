@@ -4,11 +4,13 @@ ghost use Rattle.std.specs.Prelude.{◌≡◌, ◌≤◌, ◌+◌, ◌++◌, IfO
 ghost use Rattle.vhost_message.specs.MsgHeader.{fields_of};
 ghost use Rattle.vhost_message.specs.declared.limits.TheConstants.{MAX_ATTACHED_FD_ENTRIES, MAX_MSG_SIZE};
 ghost use Rattle.vhost_protocol.specs.Written.{Payload, payload_text};
+ghost use Rattle.vhost_protocol.specs.declared.profile.Profile.TheVariants.{Vhost};
 
 use crate::endpoint::Endpoint;
 use crate::fault::break_on_fault;
 use vhost_link::Link;
 use vhost_message::{ByteValued, Error, Req, Result, VhostUserMsgHeader, VhostUserMsgValidator};
+use vhost_protocol::Profile;
 
 impl<R: Req, L: Link> Endpoint<VhostUserMsgHeader<R>, L> {
     ghost use Rattle.std.specs.Prelude.{None, true, false};
@@ -58,15 +60,33 @@ impl<R: Req, L: Link> Endpoint<VhostUserMsgHeader<R>, L> {
     /// Receives the reply for a request: the size that its header says, a record, how many bytes of payload lie in the room
     /// now, and the descriptors. It stands between a request and the end of its answer: an I/O error poisons the endpoint.
     ///
-    /// InvalidMessage: header or record are not valid, or what came is no reply for the request. PartialMessage: the
-    /// stream ended before the record did.
+    /// Under `Standard` the reply is read by its header, and its payload fills the room.
+    ///
+    /// InvalidMessage: header or record are not valid, or what came is no reply for the request; under `Standard`, too, it has
+    /// another size. PartialMessage: the stream ended before the record did.
     pub fn recv_reply<T: VhostUserMsgValidator + Drop>(
+        &mut self,
+        profile: Profile,
+        request: &VhostUserMsgHeader<R>,
+        room: &mut [u8],
+    ) -> Result<(u32, T, usize, Option<Vec<L::Handle>>)>
+        requires { T.SIZE ≤ MAX_MSG_SIZE }
+        ensures { RecvsReply L.event (is_known_by R.code) R.code profile T.SIZE T.read T.valid (state self.old) (fields_of request.now) room.old result room.new (state self.new) }
+    {
+        match profile {
+            Profile::Vhost => self.recv_record(request, room),
+            Profile::Standard => self.recv_sized(request, room),
+        }
+    }
+
+    /// The same, whatever the size that the header says: a record, and then what fits into the room.
+    fn recv_record<T: VhostUserMsgValidator + Drop>(
         &mut self,
         request: &VhostUserMsgHeader<R>,
         room: &mut [u8],
     ) -> Result<(u32, T, usize, Option<Vec<L::Handle>>)>
         requires { T.SIZE ≤ MAX_MSG_SIZE }
-        ensures { RecvsReply L.event (is_known_by R.code) R.code T.SIZE T.read T.valid (state self.old) (fields_of request.now) room.old result room.new (state self.new) }
+        ensures { RecvsReply L.event (is_known_by R.code) R.code Vhost T.SIZE T.read T.valid (state self.old) (fields_of request.now) room.old result room.new (state self.new) }
     {
         match self.recv_payload_into_buf::<T>(room) {
             Ok((header, body, count, handles)) => {

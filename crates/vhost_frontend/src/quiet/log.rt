@@ -14,7 +14,8 @@ impl<L: Link> Quiet<L> {
 
     /// Says where the log lies: at this base, or in this region where shared memory is agreed on.
     ///
-    /// InvalidParam: the region has no descriptor. InvalidMessage: the log region in the reply is not valid.
+    /// InvalidParam: the region has no descriptor. InvalidMessage: the log region in the reply is not valid; under `Standard` the
+    /// reply may have any size, and its payload is not looked at.
     pub fn set_log_base(
         &mut self,
         base: u64,

@@ -6,6 +6,7 @@ use crate::quiet::{Quiet, acknowledged};
 use vhost_link::Link;
 use vhost_message::Result;
 
+#[tactic(auto, using(crate::proofs::Whole::asked_awaits))]
 impl<L: Link> Quiet<L> {
     ghost use Rattle.vhost_frontend.specs.Whole.{Whole};
 

@@ -40,7 +40,7 @@ impl<L: Link> FrontendInternal<L> {
         param(VhostUserConfig::SIZE + buffer.len() <= MAX_MSG_SIZE)?;
         let request = (
             FrontendReq::SET_CONFIG,
-            self.session.header_flags,
+            self.session.flags(),
             self.session.acknowledgement(),
         );
         self.send(request, &part, buffer, &[])

@@ -25,7 +25,7 @@ use vhost_message::{
     ByteValued, Error, FrontendReq, MAX_MSG_SIZE, Result, VhostUserConfig, VhostUserConfigFlags,
     protocol_bit,
 };
-use vhost_protocol::{Awaited, Shape};
+use vhost_protocol::{Awaited, Profile, Shape};
 
 /// How many bytes the record of a part has.
 const RECORD: usize = VhostUserConfig::SIZE;
@@ -33,7 +33,7 @@ const RECORD: usize = VhostUserConfig::SIZE;
 impl<L: Link> FrontendInternal<L> {
     ghost use Rattle.vhost_frontend_core.specs.Asking.{AsksWithRoom};
     ghost use Rattle.vhost_frontend_core.specs.Frontend.{endpoint_of, session_of, awaits, MayAsk, IsAwaited};
-    ghost use Rattle.vhost_frontend_core.specs.TakingConfig.{RecvsConfig};
+    ghost use Rattle.vhost_frontend_core.specs.TakingConfig.{ReadsBytes, RecvsConfig};
     ghost use Rattle.vhost_frontend_core.specs.Halves.{AsksHalfWithRoom, TakesHalf};
 
     /// Asks for `size` bytes of the configuration space from this byte on; as many as the buffer has, which is sent along.
@@ -66,7 +66,7 @@ impl<L: Link> FrontendInternal<L> {
         let Ok(bytes) = Vec::from_slice(self.alloc, buffer) else {
             return Err(Error::OutOfMemory);
         };
-        let flags = self.session.header_flags;
+        let flags = self.session.flags();
         let request = (
             FrontendReq::GET_CONFIG,
             flags,
@@ -84,8 +84,8 @@ impl<L: Link> FrontendInternal<L> {
     /// Receives the bytes: where they lie in the space, and as many as the buffer had.
     ///
     /// InvalidParam: the buffer was empty, or the request was sent as a reply, so nothing was received.
-    /// BackendInternalError: the reply is bare, since the backend has no such bytes. InvalidMessage: the reply is of
-    /// another part, or has a descriptor.
+    /// BackendInternalError: the reply is bare, or under `Standard` has no body, since the backend has no such bytes.
+    /// InvalidMessage: the reply is of another part, or has a descriptor.
     pub fn take_get_config(&mut self, sent: Sent) -> Result<(VhostUserConfig, Vec<u8>)>
         requires { IsAwaited sent self.old }
         ensures taken { (offset size flags : ℕ) (buffer : List ℕ) → IsKeptFor {H = L.Handle} (call.GetConfig offset size flags buffer) (Reply shape.Config) sent.kept
@@ -116,15 +116,30 @@ impl<L: Link> FrontendInternal<L> {
         }
     }
 
+    /// Receives the reply with configuration bytes, or None for one that has none, by the session's profile.
+    fn recv_bytes(
+        &mut self,
+        request: &Header,
+        room: &mut [u8],
+    ) -> Result<Option<(Header, VhostUserConfig, usize, Option<Vec<L::Handle>>)>>
+        ensures same { self.new ≡ record self.old { endpoint = self.new.endpoint } }
+        ensures received { ReadsBytes L.event (session_of self.old).profile (fields_of request.now) (endpoint_of self.old) room.old result room.new (endpoint_of self.new) }
+    {
+        match self.session.profile {
+            Profile::Vhost => self.endpoint.recv_payload_or_bare(request, room),
+            Profile::Standard => self.endpoint.recv_sized_or_none(request, room),
+        }
+    }
+
     /// Receives the reply with configuration bytes, which fill the room, and answers which part they are.
     ///
-    /// InvalidMessage: it has another number of bytes, or a descriptor. BackendInternalError: it is bare.
+    /// InvalidMessage: it has another number of bytes, or a descriptor. BackendInternalError: it has none, or is bare.
     fn recv_config(&mut self, request: &Header, room: &mut [u8]) -> Result<VhostUserConfig>
         ensures same { self.new ≡ record self.old { endpoint = self.new.endpoint } }
-        ensures received { RecvsConfig L.event (length room.old) (endpoint_of self.old) (fields_of request.now) result room.new (endpoint_of self.new) }
+        ensures received { RecvsConfig L.event (session_of self.old).profile (length room.old) (endpoint_of self.old) (fields_of request.now) result room.new (endpoint_of self.new) }
     {
         let len = room.len();
-        let reply = match self.endpoint.recv_payload_or_bare(request, room) {
+        let reply = match self.recv_bytes(request, room) {
             Ok(reply) => reply,
             Err(error) => {
                 break_on_fault(&mut self.endpoint, &error);

@@ -13,11 +13,12 @@ use crate::internal::plan::{HandleCall, Plan, Record, RecordCall};
 use vhost_backend::VhostUserDirtyLogRegion;
 use vhost_link::Link;
 use vhost_message::{Error, FrontendReq, Result, VhostUserLog, has_bit, protocol_bit};
-use vhost_protocol::{Awaited, Shape};
+use vhost_protocol::{Awaited, Profile, Shape};
 
 impl<L: Link> FrontendInternal<L> {
     ghost use Rattle.vhost_frontend_core.specs.Frontend.{awaits, MayAsk, IsAwaited};
     ghost use Rattle.vhost_frontend_core.specs.Halves.{AsksHalf, TakesHalf, TakesAck};
+    ghost use Rattle.vhost_frontend_core.specs.Taking.{IsAck};
 
     /// Says where the log lies: at this base, or in this region where shared memory is agreed on.
     ///
@@ -48,21 +49,33 @@ impl<L: Link> FrontendInternal<L> {
 
     /// Receives the reply, where there is one.
     ///
-    /// InvalidMessage: the log region in the reply is not valid.
+    /// InvalidMessage: the log region in the reply is not valid; under `Standard` the reply may have any size, and its payload
+    /// is not looked at.
     pub fn take_set_log_base(&mut self, sent: Sent) -> Result<()>
         requires { IsAwaited sent self.old }
         ensures area { (base : ℕ) (region : Option (LogRegion L.Handle)) → sent.awaited ≡ Reply shape.Log
             → TakesHalf L.event (call.SetLogBase base region) (λ _. call.Nothing) (Reply shape.Log) sent self.old result self.new }
-        ensures base { (base : ℕ) (region : Option (LogRegion L.Handle)) → sent.awaited ≡ Nobody
-            → TakesHalf L.event (call.SetLogBase base region) (λ _. call.Nothing) Nobody sent self.old result self.new }
+        ensures base { (base : ℕ) (region : Option (LogRegion L.Handle)) → IsAck sent.awaited
+            → TakesHalf L.event (call.SetLogBase base region) (λ _. call.Nothing) sent.awaited sent self.old result self.new }
         ensures quiet { awaits self.new ≡ Nobody }
     {
         match sent.awaited {
-            Awaited::Nobody => self.take_ack(sent),
-            _ => match self.take_plain_reply::<VhostUserLog>(sent) {
+            Awaited::Reply(_) => self.take_log(sent),
+            _ => self.take_ack(sent),
+        }
+    }
+
+    /// Receives the reply.
+    fn take_log(&mut self, sent: Sent) -> Result<()>
+        ensures taken { (base : ℕ) (region : Option (LogRegion L.Handle)) → TakesHalf L.event (call.SetLogBase base region) (λ _. call.Nothing) (Reply shape.Log) sent self.old result self.new }
+        ensures quiet { awaits self.new ≡ Nobody }
+    {
+        match self.session.profile {
+            Profile::Vhost => match self.take_plain_reply::<VhostUserLog>(sent) {
                 Ok(_) => Ok(()),
                 Err(error) => Err(error),
             },
+            Profile::Standard => self.take_any_reply(sent),
         }
     }
 

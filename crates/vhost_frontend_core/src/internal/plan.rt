@@ -104,7 +104,7 @@ impl Plan {
         if self.quiet {
             self.next.quiet_flags()
         } else {
-            self.next.header_flags
+            self.next.flags()
         }
     }
 
@@ -191,7 +191,7 @@ impl<L: Link> FrontendInternal<L> {
                 request: SET_LOG_BASE,
                 quiet: false,
                 body: Record::U64(base),
-                awaited: Awaited::Nobody,
+                awaited: session.base_acknowledgement(),
                 next: session,
             }),
             SetVringNum(index, num) => self.sends_ring(SET_VRING_NUM, index, num.into()),

@@ -18,7 +18,7 @@ use vhost_protocol::Awaited;
 impl<L: Link> FrontendInternal<L> {
     ghost use Rattle.vhost_frontend_core.specs.Frontend.{endpoint_of, session_of, awaits, IsAwaited};
     ghost use Rattle.vhost_frontend_core.specs.Halves.{TakesAck};
-    ghost use Rattle.vhost_frontend_core.specs.Taking.{Recvs, Awaits, AwaitsAlone, AwaitsOne, RecvsAck, Acks};
+    ghost use Rattle.vhost_frontend_core.specs.Taking.{Recvs, Awaits, AwaitsAlone, AwaitsAny, AwaitsOne, RecvsAck, Acks};
 
     /// Receives the reply for a request: a record, and the descriptors.
     fn recv_record<T: VhostUserMsgValidator + Drop>(
@@ -27,9 +27,10 @@ impl<L: Link> FrontendInternal<L> {
     ) -> Result<(T, Option<Vec<L::Handle>>)>
         requires { T.SIZE ≤ MAX_MSG_SIZE }
         ensures same { self.new ≡ record self.old { endpoint = self.new.endpoint } }
-        ensures received { Recvs L.event T.SIZE T.read T.valid (endpoint_of self.old) (fields_of request.now) result (endpoint_of self.new) }
+        ensures received { Recvs L.event (session_of self.old).profile T.SIZE T.read T.valid (endpoint_of self.old) (fields_of request.now) result (endpoint_of self.new) }
     {
-        match self.endpoint.recv_reply(request, &mut []) {
+        let profile = self.session.profile;
+        match self.endpoint.recv_reply(profile, request, &mut []) {
             Ok((_, body, _, handles)) => Ok((body, handles)),
             Err(error) => Err(error),
         }
@@ -42,7 +43,7 @@ impl<L: Link> FrontendInternal<L> {
     pub(crate) fn take_ack(&mut self, sent: Sent) -> Result<()>
         ensures session { session_of self.new ≡ session_of self.old }
         ensures quiet { awaits self.new ≡ Nobody }
-        ensures taken { Acks L.event (endpoint_of self.old) (fields_of sent.request) sent.awaited result (endpoint_of self.new) }
+        ensures taken { Acks L.event (session_of self.old).profile (endpoint_of self.old) (fields_of sent.request) sent.awaited result (endpoint_of self.new) }
     {
         self.awaited = Awaited::Nobody;
         let (request, awaited) = (sent.request, sent.awaited);
@@ -67,7 +68,7 @@ impl<L: Link> FrontendInternal<L> {
     /// Receives an acknowledgement of a request.
     fn recv_ack(&mut self, request: &Header) -> Result<()>
         ensures same { self.new ≡ record self.old { endpoint = self.new.endpoint } }
-        ensures received { RecvsAck L.event (endpoint_of self.old) (fields_of request.now) result (endpoint_of self.new) }
+        ensures received { RecvsAck L.event (session_of self.old).profile (endpoint_of self.old) (fields_of request.now) result (endpoint_of self.new) }
     {
         let (number, handles): (VhostUserU64, Option<Vec<L::Handle>>) = self.recv_record(request)?;
         if handles.is_some() {
@@ -89,7 +90,7 @@ impl<L: Link> FrontendInternal<L> {
         requires { T.SIZE ≤ MAX_MSG_SIZE }
         ensures session { session_of self.new ≡ session_of self.old }
         ensures quiet { awaits self.new ≡ Nobody }
-        ensures taken { Awaits L.event T.SIZE T.read T.valid (endpoint_of self.old) (fields_of sent.request) result (endpoint_of self.new) }
+        ensures taken { Awaits L.event (session_of self.old).profile T.SIZE T.read T.valid (endpoint_of self.old) (fields_of sent.request) result (endpoint_of self.new) }
     {
         self.awaited = Awaited::Nobody;
         if sent.request.is_reply() {
@@ -106,13 +107,32 @@ impl<L: Link> FrontendInternal<L> {
         requires { T.SIZE ≤ MAX_MSG_SIZE }
         ensures session { session_of self.new ≡ session_of self.old }
         ensures quiet { awaits self.new ≡ Nobody }
-        ensures taken { AwaitsAlone L.event T.SIZE T.read T.valid (endpoint_of self.old) (fields_of sent.request) result (endpoint_of self.new) }
+        ensures taken { AwaitsAlone L.event (session_of self.old).profile T.SIZE T.read T.valid (endpoint_of self.old) (fields_of sent.request) result (endpoint_of self.new) }
     {
         let (body, handles) = self.take_reply(sent)?;
         if handles.is_some() {
             return Err(Error::InvalidMessage);
         }
         Ok(body)
+    }
+
+    /// Receives a reply of any size that has no descriptor.
+    ///
+    /// InvalidParam: the request was sent as a reply, so there is none. InvalidMessage: it has a descriptor.
+    pub(crate) fn take_any_reply(&mut self, sent: Sent) -> Result<()>
+        ensures session { session_of self.new ≡ session_of self.old }
+        ensures quiet { awaits self.new ≡ Nobody }
+        ensures taken { AwaitsAny L.event (endpoint_of self.old) (fields_of sent.request) result (endpoint_of self.new) }
+    {
+        self.awaited = Awaited::Nobody;
+        if sent.request.is_reply() {
+            return Err(Error::InvalidParam);
+        }
+        let handles = self.endpoint.recv_any_reply(&sent.request)?;
+        if handles.is_some() {
+            return Err(Error::InvalidMessage);
+        }
+        Ok(())
     }
 
     /// Receives a reply that has one descriptor.
@@ -125,7 +145,7 @@ impl<L: Link> FrontendInternal<L> {
         requires { T.SIZE ≤ MAX_MSG_SIZE }
         ensures session { session_of self.new ≡ session_of self.old }
         ensures quiet { awaits self.new ≡ Nobody }
-        ensures taken { AwaitsOne L.event T.SIZE T.read T.valid (endpoint_of self.old) (fields_of sent.request) result (endpoint_of self.new) }
+        ensures taken { AwaitsOne L.event (session_of self.old).profile T.SIZE T.read T.valid (endpoint_of self.old) (fields_of sent.request) result (endpoint_of self.new) }
     {
         let (body, handles) = self.take_reply(sent)?;
         let handle = one_of(handles)?;

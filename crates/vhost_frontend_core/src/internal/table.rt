@@ -49,7 +49,7 @@ impl<L: Link> FrontendInternal<L> {
         if self.session.is_listening() {
             return self.ask_bases(table, count, &handles[..count]);
         }
-        let (flags, awaited) = (self.session.header_flags, self.session.acknowledgement());
+        let (flags, awaited) = (self.session.flags(), self.session.acknowledgement());
         self.send_table((flags, awaited), &table[..count], &handles[..count])
     }
 
@@ -163,9 +163,13 @@ impl<L: Link> FrontendInternal<L> {
         requires few { count ≤ MAX_MEM_REGIONS }
         requires room { length room.old ≡ MEMORY_REGION_SIZE * count }
         ensures same { self.new ≡ record self.old { endpoint = self.new.endpoint } }
-        ensures received { RecvsTable L.event count (endpoint_of self.old) (fields_of request.now) result room.new (endpoint_of self.new) }
+        ensures received { RecvsTable L.event (session_of self.old).profile count (endpoint_of self.old) (fields_of request.now) result room.new (endpoint_of self.new) }
     {
-        match self.endpoint.recv_reply::<VhostUserMemory>(request, room) {
+        let profile = self.session.profile;
+        match self
+            .endpoint
+            .recv_reply::<VhostUserMemory>(profile, request, room)
+        {
             Ok((size, head, len, handles)) => {
                 if size as usize != MEMORY_HEAD_SIZE + MEMORY_REGION_SIZE * count {
                     return Err(Error::InvalidMessage);

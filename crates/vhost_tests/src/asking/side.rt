@@ -12,6 +12,7 @@ use vhost_frontend::Frontend;
 use vhost_frontend_core::{Awaited, FrontendAnswer, FrontendCall, FrontendInternal, ask, take};
 use vhost_link::{Cut, MemLink};
 use vhost_message::VhostUserHeaderFlag;
+use vhost_protocol::Profile;
 use vhost_test_tools::{
     Miss, PlainLink, Settings, Traffic, Wire, answer_text, differs, left_of_endpoint, left_of_link,
     lend,
@@ -21,6 +22,9 @@ use vhost_test_tools::{
 pub(crate) trait Side: Sized + Drop {
     /// A new one over a new link.
     fn new(alloc: Global, settings: &Settings<'_>, cuts: Vec<Cut>) -> Result<Self, Miss>;
+
+    /// Has it this profile from now on.
+    fn choose(&mut self, rt: &impl Wait, profile: Profile);
 
     /// Makes a call.
     fn call(
@@ -55,6 +59,10 @@ impl Side for FrontendInternal<MemLink> {
         let link = MemLink::new(alloc, cuts);
         let (queues, budget) = (settings.queues, settings.budget);
         Ok(FrontendInternal::new(alloc, link, queues, budget)?)
+    }
+
+    fn choose(&mut self, _rt: &impl Wait, profile: Profile) {
+        self.set_profile(profile);
     }
 
     fn call(
@@ -111,6 +119,10 @@ impl Side for Shared {
             frontend,
             wire,
         })
+    }
+
+    fn choose(&mut self, rt: &impl Wait, profile: Profile) {
+        self.frontend.set_profile(rt, profile);
     }
 
     fn call(

@@ -25,7 +25,10 @@ impl<D: VhostUserBackendReqHandlerMut<Link = MemLink> + TestDevice> Sides for Jo
         let device = D::new_device(alloc, settings, sheet)?;
         let scripts = scripts_of(alloc, settings, n)?;
         match Joined::new(alloc, device, settings.queues, settings.budget, scripts) {
-            Ok(joined) => Ok(joined),
+            Ok(mut joined) => {
+                joined.set_profiles(settings.profile, settings.serving_profile);
+                Ok(joined)
+            }
             Err(_) => Err(Miss::OutOfMemory),
         }
     }

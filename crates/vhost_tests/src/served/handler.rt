@@ -62,7 +62,8 @@ impl<D: VhostUserBackendReqHandlerMut<Link = TestLink> + TestDevice> Handler for
         sheet: &Rc<RefCell<Sheet>>,
     ) -> Result<Self, Miss> {
         let device = D::new_device(alloc, settings, sheet)?;
-        let core = SessionCore::new(alloc, link, settings.budget)?;
+        let mut core = SessionCore::new(alloc, link, settings.budget)?;
+        core.set_profile(settings.profile);
         Ok(Alone { core, device })
     }
 
@@ -115,7 +116,8 @@ impl<D: VhostUserBackendReqHandlerMut<Link = TestLink> + TestDevice> Handler for
         sheet: &Rc<RefCell<Sheet>>,
     ) -> Result<Self, Miss> {
         let device = Arc::new(alloc, Mutex::new(D::new_device(alloc, settings, sheet)?))?;
-        let handler = BackendReqHandler::from_stream(alloc, link, settings.budget, device)?;
+        let mut handler = BackendReqHandler::from_stream(alloc, link, settings.budget, device)?;
+        handler.set_profile(settings.profile);
         Ok(Locked { handler })
     }
 

@@ -5,6 +5,7 @@ use vhost_message::{
     BackendReq, FrontendReq, Req, VhostTransferStateDirection, VhostTransferStatePhase,
     VhostUserProtocolFeatures,
 };
+use vhost_protocol::{ASKED_PROTOCOL_FEATURES, SERVED_PROTOCOL_FEATURES};
 
 // How many of the numbers from 0 on are codes.
 fn count_codes<R: Req>(numbers: u32) -> u32 {
@@ -62,4 +63,5 @@ fn transfers(rt: HostRuntime) {
 fn features(rt: HostRuntime) {
     let unknown = VhostUserProtocolFeatures::from_bits(0x80_0000);
     assert!(rt; (VhostUserProtocolFeatures::all().bits(), unknown.is_none()) == (0x7f_ffff, true));
+    assert!(rt; (ASKED_PROTOCOL_FEATURES, SERVED_PROTOCOL_FEATURES) == (0x4c_b33b, 0x4c_bf3b));
 }

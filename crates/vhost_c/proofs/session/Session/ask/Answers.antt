@@ -7,8 +7,8 @@ use Rattle.vhost_protocol.specs.FrontendCall.{FrontendCall}
 use Rattle.vhost_link.specs.declared.plain.PlainHandle.{PlainHandle}
 use Rattle.vhost_frontend_core.specs.Frontend.{endpoint_of, awaits}
 use Rattle.vhost_c.specs.Awaiting.{awaited_of}
-use Rattle.vhost_c.specs.Session.{Becomes, Rests, Stays, sent, at_once}
-use Rattle.vhost_c.specs.declared.refusal.Refusal.{Refusal}
+use Rattle.vhost_c.specs.Session.{Becomes, sent, at_once}
+use Rattle.vhost_c_common.specs.declared.refusal.Refusal.{Refusal}
 use Rattle.vhost_c.specs.declared.session.Asked.{Asked}
 use Rattle.vhost_c.specs.declared.session.Session.{Session}
 use Rattle.vhost_c.proofs.session.Session.ask.Goals as goal

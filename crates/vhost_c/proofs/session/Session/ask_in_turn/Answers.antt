@@ -7,7 +7,8 @@ use Rattle.vhost_protocol.specs.FrontendCall.{Frontend}
 use Rattle.vhost_link.specs.Ends.{Ends}
 use Rattle.vhost_link.specs.declared.plain.PlainHandle.{PlainHandle}
 use Rattle.vhost_connection.specs.Talk.{State}
-use Rattle.vhost_c.specs.Session.{Fails, want, busy, fails, remembers, emptied}
+use Rattle.vhost_c_common.specs.Carrying.{emptied}
+use Rattle.vhost_c.specs.Session.{Fails, want, busy, fails, remembers}
 use Rattle.vhost_c.proofs.Asking.{asks-since, stays-since, collected}
 use Rattle.vhost_c.proofs.session.Session.ask_in_turn.Goals as goal
 

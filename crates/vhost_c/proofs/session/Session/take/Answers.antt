@@ -11,9 +11,11 @@ use Rattle.vhost_frontend_core.specs.declared.internal.FrontendInternal.{Fronten
 use Rattle.vhost_frontend_core.specs.declared.values.answer.FrontendAnswer.{FrontendAnswer}
 use Rattle.vhost_protocol.specs.declared.asked.Awaited.{Awaited}
 use Rattle.vhost_c.specs.Awaiting.{awaited_of}
+use Rattle.vhost_protocol.specs.declared.profile.Profile.{Profile}
 use Rattle.vhost_c.specs.Incoming.{is_sized}
-use Rattle.vhost_c.specs.Session.{TakesAt, emptied, is_sized_of, kept, failed, other_size, nothing_asked, not_yet}
-use Rattle.vhost_c.specs.declared.incoming.Incoming.{Incoming}
+use Rattle.vhost_c_common.specs.Carrying.{emptied}
+use Rattle.vhost_c.specs.Session.{TakesAt, is_sized_of, kept, failed, other_size, nothing_asked, not_yet}
+use Rattle.vhost_c_common.specs.declared.incoming.Incoming.{Incoming}
 use Rattle.vhost_c.specs.declared.session.Asked.{Asked}
 use Rattle.std.specs.Option.{ForSome}
 use Rattle.vhost_message.specs.declared.cause.IoCause.TheVariants.{Raw}
@@ -58,8 +60,8 @@ uncut-after : (asked : Asked) (end : End) (f : Frontend) (answer : FrontendAnswe
 uncut-after asked end f answer new law t = takes law (call_of asked.call) asked.sent.awaited (fields_of asked.sent.request) end f (answer_of answer) (endpoint_of new) (session_of new) (taken-at asked end f answer new t)
 
 -- whether what came has the size of the call's answer
-sized : (asked : Asked) (i : Incoming) (a : Awaited) (b : Bool) → a ≡ asked.sent.awaited → b ≡ is_sized (call_of asked.call) a (header_of i.head).size → is_sized_of asked i ≡ b
-sized asked i a b is found = sym (found ∙ ap (λ x. is_sized (call_of asked.call) x (header_of i.head).size) is)
+sized : (profile p : Profile) (asked : Asked) (i : Incoming) (a : Awaited) (b : Bool) → p ≡ profile → a ≡ asked.sent.awaited → b ≡ is_sized p (call_of asked.call) a (header_of i.head).size → is_sized_of profile asked i ≡ b
+sized profile p asked i a b same is found = sym (found ∙ (λ j. is_sized (same j) (call_of asked.call) (is j) (header_of i.head).size))
 
 pub take-requires-in-Some : goal.take-requires-in-Some
 take-requires-in-Some c = sym (c.args.self.now.awaited ∙ ap of-asked (sym c.in-Some.ensures.value))
@@ -84,7 +86,7 @@ invariant_of-self-in_default c =
 
 pub returns-then-not-is_sized : goal.returns-then-not-is_sized
 returns-then-not-is_sized c = other_size c.in-Some.field-0 c.take_nothing-nothing.result (none_missing _ _ c.missing.ensures.missing c.if-missing-gt0.false)
-    (sized c.in-Some.field-0 c.args.self.now.incoming c.awaited.result c.is_sized.result c.awaited.ensures c.is_sized.ensures ∙ c.if-not-is_sized.true) (record {
+    (sized _ _ c.in-Some.field-0 c.args.self.now.incoming c.awaited.result c.is_sized.result c.profile-profile.ensures c.awaited.ensures c.is_sized.ensures ∙ c.if-not-is_sized.true) (record {
       was = sym c.in-Some.ensures.value;
       taken = taken-at c.in-Some.field-0 _ _ _ _ c.take_nothing-nothing.ensures;
       now = c.take.ensures.after;
@@ -95,7 +97,7 @@ returns-then-not-is_sized c = other_size c.in-Some.field-0 c.take_nothing-nothin
 
 pub returns-in-Failed : goal.returns-in-Failed
 returns-in-Failed c = failed c.in-Some.field-0 (none_missing _ _ c.missing.ensures.missing c.if-missing-gt0.false)
-    (sized c.in-Some.field-0 c.args.self.now.incoming c.awaited.result c.is_sized.result c.awaited.ensures c.is_sized.ensures ∙ c.if-not-is_sized.false) (record {
+    (sized _ _ c.in-Some.field-0 c.args.self.now.incoming c.awaited.result c.is_sized.result c.profile-profile.ensures c.awaited.ensures c.is_sized.ensures ∙ c.if-not-is_sized.false) (record {
       was = sym c.in-Some.ensures.value;
       taken = taken c.in-Some.field-0 _ _ _ c.in-Failed.ensures;
       now = c.take.ensures.after;
@@ -109,7 +111,7 @@ returns-in-Some c =
     let asked = c.in-Some.field-0 in let old = c.args.self.now.frontend in let new = c.take-in-Some.new.frontend in
     let result = taken asked old c.take-in-Some.result new c.take-in-Some.ensures in
     kept asked (none_missing _ _ c.missing.ensures.missing c.if-missing-gt0.false)
-    (sized asked c.args.self.now.incoming c.awaited.result c.is_sized.result c.awaited.ensures c.is_sized.ensures ∙ c.if-not-is_sized.false) (record {
+    (sized _ _ asked c.args.self.now.incoming c.awaited.result c.is_sized.result c.profile-profile.ensures c.awaited.ensures c.is_sized.ensures ∙ c.if-not-is_sized.false) (record {
       was = sym c.in-Some.ensures.value;
       taken = result;
       now = c.take.ensures.after;

@@ -21,14 +21,14 @@ only-based false base (Err x) e = cc
 
 pub returns-in-Ok-clause-taken : goal.returns-in-Ok-clause-taken
 returns-in-Ok-clause-taken g c info kept =
-    let came : AwaitsAlone g.L.Link.event 40 single_region_of (λ v. true) (endpoint_of c.args.self.now) (fields_of c.args.sent.request) (Ok c.in-Ok.reply) (endpoint_of c.take_plain_reply.new.self) =
-    subst (λ (x : Sent). AwaitsAlone g.L.Link.event 40 single_region_of (λ v. true) (endpoint_of c.args.self.now) (fields_of x.request) (Ok c.in-Ok.reply) (endpoint_of c.take_plain_reply.new.self)) c.new.ensures c.in-Ok.ensures.taken in
+    let came : AwaitsAlone g.L.Link.event c.args.self.now.session.profile 40 single_region_of (λ v. true) (endpoint_of c.args.self.now) (fields_of c.args.sent.request) (Ok c.in-Ok.reply) (endpoint_of c.take_plain_reply.new.self) =
+    subst (λ (x : Sent). AwaitsAlone g.L.Link.event c.args.self.now.session.profile 40 single_region_of (λ v. true) (endpoint_of c.args.self.now) (fields_of x.request) (Ok c.in-Ok.reply) (endpoint_of c.take_plain_reply.new.self)) c.new.ensures c.in-Ok.ensures.taken in
     alone-replied came (λ cells. refl) (λ r. refl)
     (λ r is ok. (λ j. Some (answered (session_of c.args.self.now) (only_if (is_same_range info.region (sym is j).region) InvalidMessage (Base (Some (sym is j).region.user_addr)))))
     ∙ (λ j. Some (answered (sym c.take_plain_reply.ensures.session j) (only-based _ _ c.base_for.result (c.base_for.ensures info.region kept) j))))
 
 pub returns-in-Err-clause-taken : goal.returns-in-Err-clause-taken
 returns-in-Err-clause-taken g c info kept =
-    let came : AwaitsAlone g.L.Link.event 40 single_region_of (λ v. true) (endpoint_of c.args.self.now) (fields_of c.args.sent.request) (Err c.in-Err.error) (endpoint_of c.take_plain_reply.new.self) =
-    subst (λ (x : Sent). AwaitsAlone g.L.Link.event 40 single_region_of (λ v. true) (endpoint_of c.args.self.now) (fields_of x.request) (Err c.in-Err.error) (endpoint_of c.take_plain_reply.new.self)) c.new.ensures c.in-Err.ensures.taken in
+    let came : AwaitsAlone g.L.Link.event c.args.self.now.session.profile 40 single_region_of (λ v. true) (endpoint_of c.args.self.now) (fields_of c.args.sent.request) (Err c.in-Err.error) (endpoint_of c.take_plain_reply.new.self) =
+    subst (λ (x : Sent). AwaitsAlone g.L.Link.event c.args.self.now.session.profile 40 single_region_of (λ v. true) (endpoint_of c.args.self.now) (fields_of x.request) (Err c.in-Err.error) (endpoint_of c.take_plain_reply.new.self)) c.new.ensures c.in-Err.ensures.taken in
     alone-fails came (λ cells. refl) (λ r. refl) (λ r h hs. refl) c.take_plain_reply.ensures.session

@@ -31,7 +31,7 @@ returns-in-PostcopyEnd c = renamed (ap call_of c.in-PostcopyEnd.is) (record {
 
 pub returns-in-SetLogBase : goal.returns-in-SetLogBase
 returns-in-SetLogBase c = renamed (ap call_of c.in-SetLogBase.is) (record {
-  taken = λ may kept. took-either may (λ is. took-reply _ _ _ _ is c.done.ensures (c.take_set_log_base.ensures.base _ _ is))
+  taken = λ may kept. took-either may (λ is. took _ _ _ _ c.done.ensures (c.take_set_log_base.ensures.base _ _ is))
       (λ is. took-reply _ _ _ _ is c.done.ensures (c.take_set_log_base.ensures.area _ _ is));
   quiet = c.take_set_log_base.ensures.quiet;
 })

@@ -1,0 +1,21 @@
+use Rattle.std.proofs.Common.{◌≡◌, rules, arith, ℤ, FitsSigned, w32, to_z, of_z, Ok, Err, sym, subst}
+use Rattle.std.proofs.lemmas.Int.{ints}
+use Rattle.vhost_c_common.proofs.ByNumber.{by-none, by-some}
+use Rattle.vhost_c_backend.specs.Arguments.{ring_fd_arg}
+use Rattle.vhost_c_backend.specs.Serving.{Tells}
+use Rattle.vhost_c_backend.proofs.Told.{telling, refusing}
+use Rattle.vhost_c.proofs.backend_arguments.covretin_call_ring_fd.Goals as goal
+
+pub returns-in-None : goal.returns-in-None
+returns-in-None c = by-none _ _ _ _ c.in-None.ensures.taken c.in-None.ensures.left c.number_of.ensures
+
+pub returns-in-Ok : goal.returns-in-Ok
+returns-in-Ok c =
+    let fits : FitsSigned w32 c.in-Ok.number = search rules in
+    let same : to_z w32 (of_z w32 c.in-Ok.number) ≡ c.in-Ok.number = omega (arith, ints) in
+    by-some _ _ _ _ c.in-Some.held.value c.in-Some.held.value (Ok tt) c.in-Some.ensures.taken c.put.ensures c.number_of-in-Ok.ensures
+    (telling ring_fd_arg c.in-Some.held.value _ c.deref.ensures _ (subst {A = ℤ} (λ z. Tells ring_fd_arg c.deref.result.now (Ok (c.in-Ok.ring, z))) (sym same) c.in-Ok.ensures))
+
+pub returns-in-Err : goal.returns-in-Err
+returns-in-Err c = by-some _ _ _ _ c.in-Some.held.value c.in-Some.held.value (Err c.in-Err.refusal) c.in-Some.ensures.taken c.put.ensures c.number_of-in-Err.ensures
+    (refusing ring_fd_arg c.in-Some.held.value _ c.deref.ensures c.in-Err.refusal c.in-Err.ensures)

@@ -1,0 +1,14 @@
+use Rattle.std.proofs.Common.{Some, None}
+use Rattle.vhost_c_common.proofs.ByNumber.{as-said}
+use Rattle.vhost_c.specs.Channel as opens
+use Rattle.vhost_c.specs.Channel.{OpensServer}
+use Rattle.vhost_c.proofs.channel_server_opening.covretin_channel_server_open.Goals as goal
+
+pub returns-in-Some : goal.returns-in-Some
+returns-in-Some c = as-said OpensServer _ _ (Some c.in-Some.held.value) (Some c.in-Some.held.value) _ 102 c.in-Some.ensures.taken c.number_of.ensures c.put.ensures opens.OpensServer.was_open
+
+pub returns-in-Ok : goal.returns-in-Ok
+returns-in-Ok c = as-said OpensServer _ _ None (Some c.in-Ok.made.value) _ 0 c.in-None.ensures.taken c.number_of-in-Ok.ensures c.put-in-Ok.ensures (opens.OpensServer.opened c.in-Ok.ensures)
+
+pub returns-in-Err : goal.returns-in-Err
+returns-in-Err c = as-said OpensServer _ _ None None _ 24 c.in-None.ensures.taken c.number_of-in-Err.ensures c.in-None.ensures.left opens.OpensServer.no_room

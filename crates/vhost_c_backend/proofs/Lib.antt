@@ -1,0 +1,4 @@
+pub mod Placing
+pub mod Serving
+pub mod Three
+pub mod Told

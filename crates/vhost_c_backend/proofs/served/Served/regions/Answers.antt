@@ -1,0 +1,10 @@
+use Rattle.std.proofs.Common.{[], refl}
+use Rattle.vhost_c_backend.specs.Arguments.{PutsRegions}
+use Rattle.vhost_c_backend.proofs.Serving.{puts-some, puts-none}
+use Rattle.vhost_c_backend.proofs.served.Served.regions.Goals as goal
+
+pub returns-in-Some : goal.returns-in-Some
+returns-in-Some c = puts-some PutsRegions c.args.self.now c.handles.result.now _ _ _ c.in-Some.call c.in-Some.ensures.one c.in-Some.ensures.none c.handles.ensures c.put_regions.ensures
+
+pub returns-in-None : goal.returns-in-None
+returns-in-None c = puts-none PutsRegions c.args.self.now [] _ _ _ c.in-None.ensures.one refl refl

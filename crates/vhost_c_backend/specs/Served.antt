@@ -1,0 +1,109 @@
+-- What the calls of a session do that serves.
+use Rattle.std.specs.Prelude.{◌≡◌, ◌≤◌, ℕ, ℤ, Bool, true, false, ◌||◌, ◌==◌, nat_lt, List, [], ◌++◌, length, Option, Some, None, Result, Ok, Err, ⊤, is_some, if◌then◌else◌}
+use Rattle.vhost_message.specs.declared.limits.TheConstants.{MSG_HEADER_SIZE}
+use Rattle.vhost_message.specs.declared.error.Error.TheVariants.{InvalidParam}
+use Rattle.vhost_protocol.specs.declared.profile.Profile.{Profile}
+use Rattle.vhost_protocol.specs.declared.profile.Profile.TheVariants.{Standard}
+use Rattle.vhost_protocol.specs.Session.{Session, fresh}
+use Rattle.vhost_protocol.specs.Stream.{Cell}
+use Rattle.vhost_link.specs.Ends.{Ends}
+use Rattle.vhost_link.specs.declared.plain.PlainHandle.{PlainHandle}
+use Rattle.vhost_connection.specs.Memory.{stream}
+use Rattle.vhost_connection.specs.Talk.{State}
+use Rattle.vhost_backend_req_handler.specs.Core.{endpoint_of, session_in}
+use Rattle.vhost_c_common.specs.Incoming.{missing_of_request, Adds}
+use Rattle.vhost_c_common.specs.Moving.{HandsOut, TakesIn}
+use Rattle.vhost_c_common.specs.Number.{error_number}
+use Rattle.vhost_c_common.specs.declared.refusal.Refusal.{Refusal}
+use Rattle.vhost_c_common.specs.declared.refusal.Refusal.TheVariants.{Protocol, NotReplied}
+use Rattle.vhost_c_backend.specs.declared.served.Served.{Served}
+
+-- what is to be sent: bytes, each with the descriptors that go with it
+abbrev pub queued : Served → List (Cell PlainHandle)
+queued s = s.outgoing.link.pending ++ (endpoint_of s.core).link.sent
+
+-- what came, and was not read
+abbrev pub arrived : Served → List (Cell PlainHandle)
+arrived s = stream (endpoint_of s.core)
+
+-- the backend's end of the connection, but for what is to be sent and what came
+abbrev pub end_of : Served → State Ends PlainHandle
+end_of s = record (endpoint_of s.core) { link = record (endpoint_of s.core).link { pending = []; sent = [] }; ahead = [] }
+
+-- what is remembered of the frontend
+abbrev pub remembers : Served → Session
+remembers s = session_in s.core
+
+-- whether a call is to be replied to
+abbrev pub has_call : Served → Bool
+has_call s = is_some s.core.pending
+
+-- how many bytes can be told to be missing of a request: none where a call is to be replied to
+abbrev pub missing_of : Served → ℕ
+missing_of s = if has_call s then 0 else missing_of_request s.incoming
+
+-- The call that is to be replied to, and what is remembered, are as before.
+pub record Rests (old new : Served) : Type 0 where
+  pub pending : new.core.pending ≡ old.core.pending
+  pub body : new.core.body.value ≡ old.core.body.value
+  pub server : new.core.server ≡ old.core.server
+  pub inactive : new.inactive ≡ old.inactive
+
+-- A part of the request came, or nothing did; nothing else changed.
+pub record Waits (old new : Served) : Type 0 where
+  pub queue : queued new ≡ queued old
+  pub end : end_of new ≡ end_of old
+  pub rest : Rests old new
+
+-- what a session answers to bytes of a request: no more may come than are missing
+abbrev pub Receiving : List ℕ → List ℤ → Served → Result ⊤ Refusal → Served → Type 0
+Receiving bytes fds s (Ok done) s' = (length bytes ≤ missing_of s) × TakesIn bytes fds (arrived s) (arrived s') × Adds bytes s.incoming s'.incoming × Waits s s'
+Receiving bytes fds s (Err r) s' = (arrived s' ≡ arrived s) × (s'.incoming ≡ s.incoming) × Waits s s'
+
+-- A piece of what is to be sent went out, or nothing did; nothing else changed.
+pub record Hands (old new : Served) : Type 0 where
+  pub came : arrived new ≡ arrived old
+  pub incoming : new.incoming ≡ old.incoming
+  pub end : end_of new ≡ end_of old
+  pub rest : Rests old new
+
+-- what it answers where it is to hand out what is to be sent
+abbrev pub Sending : List ℕ → List ℤ → ℕ × ℕ → Served → Result ⊤ Refusal → Served → Type 0
+Sending bytes fds count s (Ok done) s' = HandsOut (queued s) (queued s') bytes fds count × Hands s s'
+Sending bytes fds count s (Err r) s' = (queued s' ≡ queued s) × Hands s s'
+
+-- what it means that the stream ended: between two requests, in a header, in a body
+abbrev pub end_number : Served → ℕ
+end_number s = if s.incoming.count == 0 || missing_of s == 0 then 10 else if nat_lt s.incoming.count MSG_HEADER_SIZE then 9 else 5
+
+-- what a new session remembers: it keeps to the specification, as real frontends do
+abbrev pub new_session : Session
+new_session = record fresh { profile = Standard }
+
+-- A new session: nothing is to be sent, nothing came, no call is to be replied to.
+pub record IsNew (s : Served) : Type 0 where
+  pub queue : queued s ≡ []
+  pub came : arrived s ≡ []
+  pub count : s.incoming.count ≡ 0
+  pub memory : remembers s ≡ new_session
+  pub idle : has_call s ≡ false
+
+-- It has this profile from now on; nothing else changed.
+pub record Chose (profile : Profile) (old new : Served) : Type 0 where
+  pub memory : remembers new ≡ record (remembers old) { profile = profile }
+  pub queue : queued new ≡ queued old
+  pub came : arrived new ≡ arrived old
+  pub incoming : new.incoming ≡ old.incoming
+  pub idle : has_call new ≡ false
+
+-- what a session answers where its profile is chosen: it is one, and no call is to be replied to
+abbrev pub Choosing : Option Profile → Served → Result ⊤ Refusal → Served → Type 0
+Choosing (Some profile) s (Ok done) s' = Chose profile s s'
+Choosing (Some profile) s (Err NotReplied) s' = (has_call s ≡ true) × (s' ≡ s)
+Choosing None s (Err (Protocol InvalidParam)) s' = s' ≡ s
+Choosing profile s _ s' = ⊥
+
+-- what is answered to the end of the stream
+abbrev pub Ending : Served → Result ⊤ Refusal → Served → Type 0
+Ending s (Err (Protocol e)) s' = (error_number e ≡ end_number s) × (s' ≡ s)
+Ending s _ s' = ⊥

@@ -1,0 +1,11 @@
+//! The backend for programs in C: a session whose link is its caller's, and whose device is its caller's.
+#![tactic(auto)]
+
+mod arguments;
+mod calls;
+mod regions;
+mod replies;
+mod served;
+
+pub use replies::Reply;
+pub use served::Served;

@@ -1,0 +1,409 @@
+//! A backend's session whose link is its caller's, and whose device is its caller's.
+
+ghost use Rattle.std.specs.Prelude.{◌≡◌, ◌≤◌, IfOk, IfErr};
+ghost use Rattle.vhost_c_common.specs.Number.{error_number};
+
+use crate::arguments::{
+    fd_of_call, inflight_of, log_of, number_of, ring_fd_of, ring_of, transfer_of, vring_of,
+};
+use crate::calls::number_of_call;
+use crate::regions::{put_config, put_name, put_regions};
+use crate::replies::{Form, Reply, form_of};
+use std::alloc::Global;
+use vhost_backend_core::{DeviceAnswer, DeviceCall, Laws};
+use vhost_backend_req::Backend;
+use vhost_backend_req_handler::SessionCore;
+use vhost_c_common::{
+    Config, Incoming, Inflight, Outgoing, Refusal, Region, Vring, carry_out, empty, feature_of,
+    handles_of, push,
+};
+use vhost_connection::talks_law;
+use vhost_gpu_backend_req::GpuBackend;
+use vhost_link::{MemLink, PlainHandle};
+use vhost_message::{Error, MAX_ATTACHED_FD_ENTRIES, MSG_HEADER_SIZE, VhostUserShMemConfig};
+use vhost_protocol::Profile;
+
+type Outcome<T> = std::result::Result<T, Refusal>;
+
+/// A link in memory is asked once: what it can't do it will not do.
+const BUDGET: u32 = 0;
+
+/// A session: what it reads and replies, what is to be sent, and how much came of the next request.
+#[derive(Drop)]
+pub struct Served {
+    core: SessionCore<MemLink>,
+    outgoing: Outgoing,
+    incoming: Incoming,
+    /// The feature that was not active, where the last request was refused for that; else 0.
+    inactive: u64,
+    alloc: Global,
+}
+
+impl Served {
+    ghost use Rattle.vhost_message.specs.declared.limits.TheConstants.{MAX_MSG_TEXT};
+    ghost use Rattle.vhost_c_common.specs.Moving.{HandsOut};
+    ghost use Rattle.vhost_c_backend.specs.Served.{IsNew, Choosing, missing_of, Receiving, end_number, queued, Hands, remembers, has_call};
+    ghost use Rattle.vhost_c_backend.specs.Replies.{form_in};
+    ghost use Rattle.vhost_c_backend.specs.Serving.{Request, IsServed, IsCall, Nexts, Answering, AnsweringShmem, Concludes, Rests};
+    ghost use Rattle.vhost_backend_core.specs.declared.call.DeviceCall.{DeviceCall};
+    ghost use Rattle.std.specs.Prelude.{Some, None, false};
+
+    /// A new session.
+    ///
+    /// OutOfMemory: an allocation failed.
+    pub fn new(alloc: Global) -> std::result::Result<Served, Error>
+        ensures { IfOk result (λ s. IsNew s) }
+    {
+        let link = MemLink::new(alloc, Vec::new(alloc));
+        let Ok(outgoing) = Outgoing::new(alloc) else {
+            return Err(Error::OutOfMemory);
+        };
+        match SessionCore::new(alloc, link, BUDGET) {
+            Ok(mut core) => {
+                core.set_profile(Profile::Standard);
+                Ok(Served {
+                    core,
+                    outgoing,
+                    incoming: Incoming::new(),
+                    inactive: 0,
+                    alloc,
+                })
+            }
+            Err(error) => Err(error),
+        }
+    }
+
+    /// Whose behaviour the session has from now on.
+    ///
+    /// InvalidParam: there is no such profile. NotReplied: a call is to be replied to. After both, nothing changed.
+    pub fn choose(&mut self, profile: Option<Profile>) -> Outcome<()>
+        ensures { Choosing profile self.old result self.new }
+    {
+        let Some(profile) = profile else {
+            return Err(Refusal::Protocol(Error::InvalidParam));
+        };
+        if self.core.has_call() {
+            return Err(Refusal::NotReplied);
+        }
+        self.core.set_profile(profile);
+        Ok(())
+    }
+
+    /// How many bytes are known to be missing of the next request. None are where a call is to be replied to.
+    pub fn missing(&self) -> usize
+        ensures missing { result ≡ missing_of self.now }
+        ensures within { result ≤ MAX_MSG_TEXT }
+    {
+        if self.core.has_call() {
+            return 0;
+        }
+        self.incoming.missing_of_request()
+    }
+
+    /// Receives bytes of the next request, with the descriptors that came with the first of them.
+    ///
+    /// TooManyBytes: they are more than are missing. InvalidParam: descriptors without a byte, more than a message may
+    /// have, or a negative one. OutOfMemory: an allocation failed. After each, nothing changed.
+    pub fn receive(&mut self, bytes: &[u8], fds: &[i32]) -> Outcome<()>
+        ensures { Receiving bytes.now fds.now self.old result self.new }
+    {
+        if bytes.len() > self.missing() {
+            return Err(Refusal::TooManyBytes);
+        }
+        match handles_of(self.alloc, fds) {
+            Ok(handles) => {
+                if handles.len() > MAX_ATTACHED_FD_ENTRIES || bytes.is_empty() && !fds.is_empty() {
+                    return Err(Refusal::Protocol(Error::InvalidParam));
+                }
+                match push(self.core.endpoint_mut(), bytes, &handles) {
+                    Ok(()) => {
+                        self.incoming.add(bytes);
+                        Ok(())
+                    }
+                    Err(error) => Err(Refusal::Protocol(error)),
+                }
+            }
+            Err(error) => Err(Refusal::Protocol(error)),
+        }
+    }
+
+    /// What it means that the stream ended here.
+    pub fn end(&self) -> Error
+        ensures { error_number result ≡ end_number self.now }
+    {
+        if self.incoming.count == 0 || self.missing() == 0 {
+            return Error::Disconnected;
+        }
+        if self.incoming.count < MSG_HEADER_SIZE {
+            return Error::PartialMessage;
+        }
+        Error::InvalidMessage
+    }
+
+    /// Hands out a piece of what is to be sent; the answer is how many bytes and descriptors. Nothing is left to be sent
+    /// where it is 0.
+    ///
+    /// NoRoom: there is no room for a byte, or not for all descriptors that one may bring. OutOfMemory: an allocation
+    /// failed. After each, nothing changed.
+    pub fn hand_out(&mut self, bytes: &mut [u8], fds: &mut [i32]) -> Outcome<(usize, usize)>
+        ensures out { IfOk result (λ n. HandsOut (queued self.old) (queued self.new) bytes.new fds.new n) }
+        ensures refused { IfErr result (λ _. queued self.new ≡ queued self.old) }
+        ensures rest { Hands self.old self.new }
+    {
+        if bytes.is_empty() || fds.len() < MAX_ATTACHED_FD_ENTRIES {
+            return Err(Refusal::NoRoom);
+        }
+        match carry_out(self.core.endpoint_mut(), &mut self.outgoing.link) {
+            Ok(()) => match self.outgoing.hand_out(bytes, fds) {
+                Ok(counts) => Ok(counts),
+                Err(error) => Err(Refusal::Protocol(error)),
+            },
+            Err(error) => Err(Refusal::Protocol(error)),
+        }
+    }
+
+    /// Reads the request that came: the number of the call of the device that it became.
+    ///
+    /// NotReplied: the call before is still to be replied to. NotYet: bytes are missing. After both, nothing changed. The
+    /// errors of a request that is refused; nothing of it is left.
+    pub fn next(&mut self) -> Outcome<u32>
+        ensures { Nexts self.old result self.new }
+    {
+        if self.core.has_call() {
+            return Err(Refusal::NotReplied);
+        }
+        if self.incoming.missing_of_request() > 0 {
+            return Err(Refusal::NotYet);
+        }
+        talks_law();
+        self.incoming = Incoming::new();
+        match self.core.begin() {
+            Ok(()) => {
+                self.inactive = 0;
+                match self.call() {
+                    Some(call) => Ok(number_of_call(&call)),
+                    None => Err(Refusal::OtherCall),
+                }
+            }
+            Err(error) => {
+                empty(self.core.endpoint_mut());
+                self.inactive = feature_of(&error);
+                Err(Refusal::Protocol(error))
+            }
+        }
+    }
+
+    /// The call that is to be replied to, if there is one. Its arguments are lent.
+    fn call(&self) -> Option<DeviceCall<'_>>
+        ensures one { (m : Request) → IsServed m self.now → (c : DeviceCall) × (result ≡ Some c) × IsCall (remembers self.now) m c }
+        ensures none { has_call self.now ≡ false → result ≡ None }
+    {
+        if self.core.has_call() {
+            return self.core.call();
+        }
+        None
+    }
+
+    /// Its file descriptors.
+    fn handles(&self) -> &[PlainHandle]
+        ensures { (m : Request) → IsServed m self.now → result.now ≡ m.handles }
+    {
+        self.core.handles()
+    }
+
+    /// The feature that was not active, where the last request was refused for that; else 0.
+    pub fn inactive(&self) -> u64
+        ensures { result ≡ self.now.inactive }
+    {
+        self.inactive
+    }
+
+    /// Replies to the call that is to be replied to.
+    ///
+    /// NothingAsked: there is none. OtherCall: it is replied to in another form. InvalidParam: an argument is not allowed.
+    /// OutOfMemory: an allocation failed. After these, nothing changed. The other errors are those of the session, and the call
+    /// was replied to.
+    pub fn reply(&mut self, reply: Reply<'_>) -> Outcome<()>
+        ensures { Answering reply.entry self.old result self.new }
+    {
+        let Some(form) = self.form() else {
+            return Err(Refusal::NothingAsked);
+        };
+        match form.answer(self.alloc, reply) {
+            Ok(answer) => match self.conclude(answer) {
+                Ok(()) => Ok(()),
+                Err(error) => Err(Refusal::Protocol(error)),
+            },
+            Err(refusal) => Err(refusal),
+        }
+    }
+
+    /// Replies by the regions of shared memory: how many there are, and the size of each.
+    ///
+    /// The errors are those of `reply`.
+    pub fn reply_shmem(&mut self, count: u32, sizes: &[u64]) -> Outcome<()>
+        ensures { AnsweringShmem count sizes.now self.old result self.new }
+    {
+        let Some(form) = self.form() else {
+            return Err(Refusal::NothingAsked);
+        };
+        match form {
+            Form::Shmem => {
+                if sizes.len() != 256 {
+                    return Err(Refusal::Protocol(Error::InvalidParam));
+                }
+                self.core.set_shmem(VhostUserShMemConfig::new(count, sizes));
+                match self.conclude(DeviceAnswer::Shmem(Ok(()))) {
+                    Ok(()) => Ok(()),
+                    Err(error) => Err(Refusal::Protocol(error)),
+                }
+            }
+            _ => Err(Refusal::OtherCall),
+        }
+    }
+
+    /// In which form the call is replied to that is to be replied to.
+    fn form(&self) -> Option<Form>
+        ensures one { (m : Request) → IsServed m self.now → (c : DeviceCall) × (result ≡ Some (form_in c)) × IsCall (remembers self.now) m c }
+        ensures none { has_call self.now ≡ false → result ≡ None }
+    {
+        match self.call() {
+            Some(call) => Some(form_of(&call)),
+            None => None,
+        }
+    }
+
+    /// What follows from a device's answer goes out.
+    fn conclude(&mut self, answer: DeviceAnswer<PlainHandle>) -> std::result::Result<(), Error>
+        ensures concluded { (m : Request) → IsServed m self.old → Concludes m self.old.core.server.shmem answer self.old self.new result }
+        ensures rest { Rests self.old self.new }
+    {
+        talks_law();
+        Laws::<PlainHandle, Backend<MemLink>, GpuBackend<MemLink>>::concludes_row();
+        self.core.conclude(answer)
+    }
+}
+
+/// The arguments of the call that is to be replied to, by its form.
+///
+/// OtherCall: no call is to be replied to, or it has arguments of another form.
+impl Served {
+    ghost use Rattle.vhost_c_backend.specs.Arguments.{number_arg, ring_arg, vring_arg, ring_fd_arg, fd_arg, inflight_arg, transfer_arg, log_arg, PutsRegions, PutsConfig, PutsName};
+    ghost use Rattle.vhost_c_backend.specs.Serving.{Tells, Puts};
+
+    /// A number, or features.
+    pub fn number(&self) -> Outcome<u64>
+        ensures { Tells (λ hs c. number_arg c) self.now result }
+    {
+        match self.call() {
+            Some(call) => number_of(&call).ok_or(Refusal::OtherCall),
+            None => Err(Refusal::OtherCall),
+        }
+    }
+
+    /// The index of a ring, and a number.
+    pub fn ring(&self) -> Outcome<(u32, u32)>
+        ensures { Tells (λ hs c. ring_arg c) self.now result }
+    {
+        match self.call() {
+            Some(call) => ring_of(&call).ok_or(Refusal::OtherCall),
+            None => Err(Refusal::OtherCall),
+        }
+    }
+
+    /// The index of a ring, and where it lies.
+    pub fn vring(&self) -> Outcome<(u32, Vring)>
+        ensures { Tells (λ hs c. vring_arg c) self.now result }
+    {
+        match self.call() {
+            Some(call) => vring_of(&call).ok_or(Refusal::OtherCall),
+            None => Err(Refusal::OtherCall),
+        }
+    }
+
+    /// The index of a ring, and a file descriptor; -1: none.
+    pub fn ring_fd(&self) -> Outcome<(u32, i32)>
+        ensures { Tells ring_fd_arg self.now result }
+    {
+        match self.call() {
+            Some(call) => ring_fd_of(&call, self.handles()).ok_or(Refusal::OtherCall),
+            None => Err(Refusal::OtherCall),
+        }
+    }
+
+    /// Writes regions to the start of a place: how many there are, and whether postcopy listens.
+    ///
+    /// NoRoom: the place is too small. After each error, nothing was written.
+    pub fn regions(&self, places: &mut [Region]) -> Outcome<(usize, bool)>
+        ensures { Puts PutsRegions self.now places.old places.new result }
+    {
+        match self.call() {
+            Some(call) => put_regions(&call, self.handles(), places),
+            None => Err(Refusal::OtherCall),
+        }
+    }
+
+    /// Writes bytes of the configuration space to the start of a place: how many there are, and which part they are.
+    ///
+    /// NoRoom: the place is too small. After each error, nothing was written.
+    pub fn config(&self, place: &mut [u8]) -> Outcome<(usize, Config)>
+        ensures { Puts (λ hs c. PutsConfig c) self.now place.old place.new result }
+    {
+        match self.call() {
+            Some(call) => put_config(&call, place),
+            None => Err(Refusal::OtherCall),
+        }
+    }
+
+    /// The socket of a channel.
+    pub fn fd(&self) -> Outcome<i32>
+        ensures { Tells fd_arg self.now result }
+    {
+        match self.call() {
+            Some(call) => fd_of_call(&call, self.handles()).ok_or(Refusal::OtherCall),
+            None => Err(Refusal::OtherCall),
+        }
+    }
+
+    /// Writes the name of a shared object to the start of a place.
+    ///
+    /// NoRoom: the place is too small. After each error, nothing was written.
+    pub fn name_to(&self, place: &mut [u8]) -> Outcome<()>
+        ensures { Puts (λ hs c. PutsName c) self.now place.old place.new result }
+    {
+        match self.call() {
+            Some(call) => put_name(&call, place),
+            None => Err(Refusal::OtherCall),
+        }
+    }
+
+    /// The inflight region, and the file descriptor that maps it; -1: none.
+    pub fn inflight(&self) -> Outcome<(Inflight, i32)>
+        ensures { Tells inflight_arg self.now result }
+    {
+        match self.call() {
+            Some(call) => inflight_of(&call, self.handles()).ok_or(Refusal::OtherCall),
+            None => Err(Refusal::OtherCall),
+        }
+    }
+
+    /// The direction and the phase of a transfer of the device's state, and its file descriptor.
+    pub fn transfer(&self) -> Outcome<(u32, u32, i32)>
+        ensures { Tells transfer_arg self.now result }
+    {
+        match self.call() {
+            Some(call) => transfer_of(&call, self.handles()).ok_or(Refusal::OtherCall),
+            None => Err(Refusal::OtherCall),
+        }
+    }
+
+    /// The log.
+    pub fn log(&self) -> Outcome<Region>
+        ensures { Tells log_arg self.now result }
+    {
+        match self.call() {
+            Some(call) => log_of(&call, self.handles()).ok_or(Refusal::OtherCall),
+            None => Err(Refusal::OtherCall),
+        }
+    }
+}

@@ -1,0 +1,134 @@
+-- What became of a call of a device's session, and of its reply.
+use Rattle.std.proofs.Common.{◌≡◌, ℕ, ◌<◌, ◌≤◌, arith, Bool, true, false, List, [], ◌++◌, append_assoc, Option, Some, None, Result, Ok, Err, refl, sym, ap, subst, ◌∙◌}
+use Rattle.std.proofs.lemmas.List.{append-nil}
+use Rattle.std.specs.Prelude.{⊤, is_some, if◌then◌else◌}
+use Rattle.vhost_message.specs.BackendReq.{backend_request_number}
+use Rattle.vhost_message.specs.MsgHeader.{fields_of}
+use Rattle.vhost_message.specs.declared.backend_req.BackendReq.{BackendReq}
+use Rattle.vhost_message.specs.declared.error.Error as declared
+use Rattle.vhost_message.specs.declared.error.Error.TheVariants.{InactiveOperation, InvalidMessage}
+use Rattle.vhost_message.specs.declared.io_error.IoError as io
+use Rattle.vhost_protocol.specs.IoError.{seen_io, seen_io_result}
+use Rattle.vhost_protocol.specs.JoinedReverse as input
+use Rattle.vhost_protocol.specs.JoinedReverse.{ReverseInput}
+use Rattle.vhost_protocol.specs.Reverse.{ReverseCall, ReverseAsked, Backend, Sends, Refuses, reverse_ask, reverse_take}
+use Rattle.vhost_protocol.specs.Stream.{Cell}
+use Rattle.vhost_protocol.specs.Written.{Written, written_cells, head_of}
+use Rattle.vhost_link.specs.Ends.{Ends}
+use Rattle.vhost_link.specs.Mem.{event}
+use Rattle.vhost_link.specs.declared.plain.PlainHandle.{PlainHandle}
+use Rattle.vhost_connection.specs.Memory.{stream, TalksLaw}
+use Rattle.vhost_connection.specs.Talk.{State}
+use Rattle.vhost_backend_req.specs.Asking as asking
+use Rattle.vhost_backend_req.specs.Asking.{RecvsNumber}
+use Rattle.vhost_backend_req.specs.Channel as link
+use Rattle.vhost_backend_req.specs.Channel.{channel, backend_of}
+use Rattle.vhost_backend_req.specs.Halves.{AsksHalf, AsksHalfFor, AsksValue, goes, refuses, fails}
+use Rattle.vhost_backend_req.specs.declared.call.Asked.TheVariants.{Sent}
+use Rattle.vhost_c_common.proofs.Hearing.{none-handed, hears-cut}
+use Rattle.vhost_c_common.specs.declared.outgoing.Outgoing.{Outgoing}
+use Rattle.vhost_c_common.specs.declared.refusal.Refusal.{Refusal}
+use Rattle.vhost_c_common.specs.declared.refusal.Refusal.TheVariants.{Protocol}
+use Rattle.vhost_c_channel.specs.Asking as session
+use Rattle.vhost_c_channel.specs.Asking.{Head, Asks, Asking, Refused, Stays, Keeps, Hears, Takes, error_in, lacks, endpoint_of, queued, arrived, remembers}
+use Rattle.vhost_c_channel.specs.declared.asking.Channel.{Channel}
+
+-- ---- a request that went out
+
+kept : (w : Written BackendReq PlainHandle) (awaited : Bool) (head : Head) → fields_of head ≡ head_of backend_request_number w → Keeps w awaited (Some (if awaited then Some head else None))
+kept w true head is = (head, refl, is)
+kept w false head is = refl
+
+-- it is behind what was sent before, and what came is as before
+record Went (asked : ReverseAsked PlainHandle) (head : Option Head) (old new : State Ends PlainHandle) : Type 0 where
+  w : Written BackendReq PlainHandle
+  awaited : Bool
+  is : asked ≡ Sends w awaited
+  keeps : Keeps w awaited (Some head)
+  text : new.link.sent ≡ old.link.sent ++ written_cells backend_request_number w
+  came : stream new ≡ stream old
+
+went : TalksLaw → (asked : ReverseAsked PlainHandle) (head : Option Head) (old new : State Ends PlainHandle) → AsksHalf event asked old (Ok head) new → Went asked head old new
+went law asked _ old new (goes {w = w} {awaited = awaited} head is out) = let t = law old new _ out.serves.talks in record {
+  w = w;
+  awaited = awaited;
+  is = is;
+  keeps = kept w awaited head out.header;
+  text = t.1;
+  came = none-handed (stream old) (stream new) t.0;
+}
+
+pub asks : TalksLaw → (i : ReverseInput PlainHandle) (k : ReverseCall PlainHandle) → i ≡ input.Asks k → (old new : Channel) (head : Option Head) → AsksValue event i (channel old.channel) (Ok (Sent head)) (channel new.channel)
+    → new.outgoing ≡ old.outgoing → new.asked ≡ Some head → new.incoming.count ≡ 0 → arrived old ≡ [] → Asks k old new
+asks law i k is old new head asked outgoing kept count none =
+    let half : AsksHalfFor event (reverse_ask (remembers old) k) (channel old.channel) (Ok head) (channel new.channel) = subst (λ (j : ReverseInput PlainHandle). AsksValue event j (channel old.channel) (Ok (Sent head)) (channel new.channel)) is asked in
+    let x = went law (reverse_ask (remembers old) k) head (endpoint_of old) (endpoint_of new) half.0 in
+    record {
+      w = x.w;
+      awaited = x.awaited;
+      is = x.is;
+      queue = ap {A = Outgoing} (λ q. q.link.pending ++ (endpoint_of new).link.sent) outgoing ∙ ap (λ xs. old.outgoing.link.pending ++ xs) x.text ∙ sym (append_assoc old.outgoing.link.pending (endpoint_of old).link.sent (written_cells backend_request_number x.w));
+      keeps = subst (λ (o : Option (Option Head)). Keeps x.w x.awaited o) (sym kept) x.keeps;
+      memory = ap {A = link.Channel Ends PlainHandle} backend_of half.1;
+      nothing_came = count;
+      nothing_waits = x.came ∙ none;
+    }
+
+-- ---- a call that was not asked
+
+why : (k : ReverseCall PlainHandle) (old : Channel) (e : io.IoError) (new : State Ends PlainHandle) → AsksHalf event (reverse_ask (remembers old) k) (endpoint_of old) (Err e) new → Refused k old (Protocol (error_in e (InactiveOperation (lacks (input.Asks k)))))
+why k old e new (refuses is) = session.refuses e is
+why k old e new (fails is f) = session.fails (endpoint_of old) new is f
+
+pub refused : (i : ReverseInput PlainHandle) (k : ReverseCall PlainHandle) → i ≡ input.Asks k → (old : Channel) (e : io.IoError) (mid : link.Channel Ends PlainHandle) → AsksValue event i (channel old.channel) (Err e) mid
+    → Refused k old (Protocol (error_in e (InactiveOperation (lacks i)))) × (backend_of mid ≡ remembers old)
+refused i k is old e mid asked =
+    let half : AsksHalfFor event (reverse_ask (remembers old) k) (channel old.channel) (Err e) mid = subst (λ (j : ReverseInput PlainHandle). AsksValue event j (channel old.channel) (Err e) mid) is asked in (
+      subst (λ (j : ReverseInput PlainHandle). Refused k old (Protocol (error_in e (InactiveOperation (lacks j))))) (sym is) (why k old e mid.endpoint half.0),
+      ap {A = link.Channel Ends PlainHandle} backend_of half.1,
+    )
+
+-- ---- what was asked in between was asked of the session before, where nothing but its places changed
+
+module _ (k : ReverseCall PlainHandle) (old mid new : Channel) (queue : queued mid ≡ queued old) (memory : remembers mid ≡ remembers old) (asked : mid.asked ≡ old.asked) (incoming : mid.incoming ≡ old.incoming) where
+  refused-since : (r : Refusal) → Refused k mid r → Refused k old r
+  refused-since _ (session.busy is) = session.busy (sym (ap is_some asked) ∙ is)
+  refused-since _ (session.refuses e is) = session.refuses e (subst {A = Backend} (λ b. reverse_ask b k ≡ Refuses (seen_io e)) memory is)
+  refused-since _ session.no_memory = session.no_memory
+  refused-since _ (session.fails {w = w} {awaited = awaited} before after is f) = session.fails before after (subst {A = Backend} (λ b. reverse_ask b k ≡ Sends w awaited) memory is) f
+
+  pub asking-since : (outcome : Result ⊤ Refusal) → Asking k mid outcome new → Asking k old outcome new
+  asking-since (Ok done) a = record {
+    w = a.w;
+    awaited = a.awaited;
+    is = subst {A = Backend} (λ b. reverse_ask b k ≡ Sends a.w a.awaited) memory a.is;
+    queue = a.queue ∙ ap (λ xs. xs ++ written_cells backend_request_number a.w) queue;
+    keeps = a.keeps;
+    memory = a.memory ∙ memory;
+    nothing_came = a.nothing_came;
+    nothing_waits = a.nothing_waits;
+  }
+  asking-since (Err r) (why, stays) = (refused-since r why, record { queue = stays.queue ∙ queue; memory = stays.memory ∙ memory; asked = stays.asked ∙ asked; incoming = stays.incoming ∙ incoming })
+
+-- what is to be sent is the same once it was collected
+pub collected : (before taken pending now : List (Cell PlainHandle)) → pending ≡ before ++ taken → now ≡ [] → pending ++ now ≡ before ++ taken
+collected before taken pending now is gone = ap (λ xs. pending ++ xs) gone ∙ append-nil pending ∙ is
+
+-- ---- replies
+
+-- what was received is what the definitions make of what came
+pub received : TalksLaw → (head : Head) (old new : Channel) (result : Result ℕ io.IoError) → RecvsNumber event (fields_of head) (endpoint_of old) result (endpoint_of new) → new.outgoing ≡ old.outgoing → Hears head old new result
+received law head old new result (asking.heard h listed) outgoing =
+    let cut = hears-cut law (reverse_take true (fields_of head)) (endpoint_of old) (endpoint_of new) (seen_io_result result) h.hears in
+    session.heard cut.0 (ap {A = Outgoing} (λ q. q.link.pending ++ (endpoint_of new).link.sent) outgoing ∙ ap (λ xs. old.outgoing.link.pending ++ xs) cut.1)
+received law head old new result (asking.stopped f) outgoing = session.fails f
+
+-- the same by the error that is answered
+pub failed : (old new : Channel) (d : declared.Error) (e : io.IoError) → d ≡ error_in e InvalidMessage → Takes old new (session.told (Err e)) → Takes old new (Err (Protocol d))
+failed old new d e is t = subst {A = declared.Error} (λ x. Takes old new (Err (Protocol x))) (sym is) t
+
+pub some-missing : (m n : ℕ) → m ≡ n → 0 < m → 0 < n
+some-missing m n is some = omega arith
+
+pub none-missing : (m n : ℕ) → m ≡ n → m ≤ 0 → n ≡ 0
+none-missing m n is none = omega arith

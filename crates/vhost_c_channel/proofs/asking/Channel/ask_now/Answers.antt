@@ -1,0 +1,33 @@
+use Rattle.std.proofs.Common.{List, ◌++◌, Ok, refl, sym, ap, subst, ◌∙◌}
+use Rattle.vhost_message.specs.declared.error.Error as declared
+use Rattle.vhost_message.specs.declared.error.Error.TheVariants.{InactiveOperation}
+use Rattle.vhost_message.specs.declared.flags.features.VhostUserProtocolFeatures.{VhostUserProtocolFeatures}
+use Rattle.vhost_protocol.specs.Stream.{Cell}
+use Rattle.vhost_link.specs.Ends.{Ends}
+use Rattle.vhost_link.specs.Mem.{event}
+use Rattle.vhost_link.specs.declared.plain.PlainHandle.{PlainHandle}
+use Rattle.vhost_connection.specs.Talk.{State}
+use Rattle.vhost_backend_req.specs.Channel.{channel}
+use Rattle.vhost_backend_req.specs.Halves.{AsksValue, input_of}
+use Rattle.vhost_backend_req.specs.declared.call.Asked.{Asked}
+use Rattle.vhost_c_common.specs.declared.refusal.Refusal.TheVariants.{Protocol}
+use Rattle.vhost_c_channel.specs.Asking.{Refused, error_in}
+use Rattle.vhost_c_channel.proofs.Calls.{asks, refused}
+use Rattle.vhost_c_channel.proofs.asking.Channel.ask_now.Goals as goal
+
+pub returns-in-Ok-Sent : goal.returns-in-Ok-Sent
+returns-in-Ok-Sent c = λ k is. asks c.talks_law.ensures.talks (input_of c.args.call.now) k is c.args.self.now _ c.in-Ok-Sent.head
+    (subst {A = Asked} (λ x. AsksValue event (input_of c.args.call.now) (channel c.args.self.now.channel) (Ok x) (channel c.ask_half.new.self)) c.in-Ok-Sent.field-0-is c.in-Ok-Sent.ensures.asked)
+    refl refl c.new-self.ensures c.requires.empty
+
+pub returns-in-Err : goal.returns-in-Err
+returns-in-Err c = λ k is.
+    let x = refused (input_of c.args.call.now) k is c.args.self.now c.in-Err.error (channel c.ask_half.new.self) c.in-Err.ensures.asked in (
+      subst {A = declared.Error} (λ e. Refused k c.args.self.now (Protocol e)) (sym (c.protocol_error.ensures ∙ ap {A = VhostUserProtocolFeatures} (λ f. error_in c.in-Err.error (InactiveOperation f)) c.feature_of.ensures)) x.0,
+      record {
+        queue = ap {A = List (Cell PlainHandle)} (λ xs. c.args.self.now.outgoing.link.pending ++ xs) (ap {A = State Ends PlainHandle} (λ e. e.link.sent) c.forget_sent.ensures ∙ sym c.requires.unsent);
+        memory = x.1;
+        asked = refl;
+        incoming = refl;
+      },
+    )

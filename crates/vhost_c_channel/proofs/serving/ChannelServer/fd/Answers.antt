@@ -1,0 +1,12 @@
+use Rattle.std.proofs.Common.{ap, ◌∙◌}
+use Rattle.std.specs.Prelude.{ok_or}
+use Rattle.vhost_c_common.specs.declared.refusal.Refusal.TheVariants.{OtherCall}
+use Rattle.vhost_c_channel.specs.Arguments.{fd_arg}
+use Rattle.vhost_c_channel.proofs.Requests.{tells-some, tells-none}
+use Rattle.vhost_c_channel.proofs.serving.ChannelServer.fd.Goals as goal
+
+pub returns-in-Some : goal.returns-in-Some
+returns-in-Some c = tells-some c.args.self.now c.in-Some.call.now c.in-Some.ensures.one (λ no. cc (c.in-Some.ensures.none no)) fd_arg _ (c.ok_or.ensures.value ∙ ap (λ o. ok_or o OtherCall) c.fd_of_call.ensures)
+
+pub returns-in-None : goal.returns-in-None
+returns-in-None c = tells-none c.args.self.now c.in-None.ensures.one fd_arg

@@ -1,0 +1,4 @@
+pub mod Records
+pub mod Arguments
+pub mod Asking
+pub mod Serving

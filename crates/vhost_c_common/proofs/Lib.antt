@@ -1,0 +1,4 @@
+pub mod ByNumber
+pub mod Heads
+pub mod Hearing
+pub mod OnWay

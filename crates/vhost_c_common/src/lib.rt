@@ -1,0 +1,17 @@
+//! What both sides have in common for programs in C: records, numbers of errors, and what goes between a link in memory and its
+//! caller.
+#![tactic(auto)]
+
+mod carrying;
+mod incoming;
+mod outgoing;
+mod profile;
+mod records;
+mod refusal;
+
+pub use carrying::{carry_out, empty, forget_sent, push};
+pub use incoming::Incoming;
+pub use outgoing::Outgoing;
+pub use profile::profile_of;
+pub use records::{Config, Inflight, Region, Vring, fd_of, handle_of, handles_of};
+pub use refusal::{Refusal, feature_of, inactive_of, number_of};

@@ -1,0 +1,33 @@
+//! A frontend's calls under the profile Standard, with exact answers.
+
+ghost use Rattle.std.specs.Prelude.{◌≡◌, ◌++◌, ℕ, false};
+ghost use Rattle.vhost_frontend_core.specs.Frontend.{endpoint_of, session_of};
+ghost use Rattle.vhost_promises.specs.Runs.{answer_of_link};
+ghost use Rattle.vhost_promises.specs.Served.{features_reply};
+ghost use Rattle.vhost_promises.specs.StandardAsking.{GoesOnAsking, no_config, with_config};
+ghost use Rattle.vhost_promises.specs.Streams.{stream};
+ghost use Rattle.vhost_protocol.specs.Stream.{plain};
+
+use bitflags::Flags;
+use vhost_frontend::Quiet;
+use vhost_link::{MemLink, stream_law};
+use vhost_message::{Result, VhostUserConfig, VhostUserConfigFlags};
+use vhost_protocol::Profile;
+
+/// A frontend that acknowledged CONFIG asks, under Standard, for eight bytes of configuration, and then for the features. Two
+/// replies came: one without a body, as real backends refuse the first request, and the features. However the link splits them,
+/// the first answer is BackendInternalError, the second is 0x40000003, exactly the two requests went out, and nothing is left;
+/// unless an answer is an error that a link or a failed allocation may bring.
+pub fn goes_on_without_config(
+    frontend: &mut Quiet<MemLink>,
+) -> (Result<(VhostUserConfig, Vec<u8>)>, Result<u64>)
+    ensures { (queues : ℕ) → session_of frontend.old.inner ≡ with_config queues → stream (endpoint_of frontend.old.inner) ≡ plain (no_config ++ features_reply)
+        → answer_of_link result.0 ≡ false → answer_of_link result.1 ≡ false
+        → GoesOnAsking queues (endpoint_of frontend.old.inner) result.0 result.1 (endpoint_of frontend.new.inner) (session_of frontend.new.inner) }
+{
+    stream_law();
+    frontend.set_profile(Profile::Standard);
+    let config = frontend.get_config(0, 8, VhostUserConfigFlags::empty(), &[0; 8]);
+    let features = frontend.get_features();
+    (config, features)
+}
