@@ -38,6 +38,8 @@ const char *covretin_error_text(enum covretin_error error)
     case COVRETIN_TOO_MANY_BYTES: return "more bytes than are missing";
     case COVRETIN_NO_ROOM: return "an array is too small";
     case COVRETIN_OTHER_ANSWER: return "the reply has another form";
+    case COVRETIN_NOT_REPLIED: return "the call before is still to be replied to";
+    case COVRETIN_OTHER_CALL: return "no call of this form is to be replied to";
     case COVRETIN_TIMED_OUT: return "the limit of time passed";
     case COVRETIN_FDS_LOST: return "file descriptors were lost";
     case COVRETIN_INVALID_PATH: return "the socket's path is empty or too long";

@@ -20,6 +20,7 @@ enum {
     POSTCOPY_ADVISE = 28,
     GET_INFLIGHT_FD = 31,
     SET_INFLIGHT_FD = 32,
+    SET_STATUS = 39,
     GET_SHARED_OBJECT = 41,
     SET_DEVICE_STATE_FD = 42,
     REPLY_FLAGS = 5 /* version 1, and that it is a reply */

@@ -246,7 +246,8 @@ static void refuses_other_sizes(void)
         give(header, sizeof header, fds, 0);
         while (covretin_missing(&session) != 0)
             give(zeros, covretin_missing(&session), fds, 0);
-        EXPECT(COVRETIN_INVALID_MESSAGE, covretin_take(&session));
+        /* (by a reply without a body a backend refuses to give its configuration) */
+        EXPECT(calls[i % 8].code == 24 && size == 0 ? COVRETIN_BACKEND_INTERNAL_ERROR : COVRETIN_INVALID_MESSAGE, covretin_take(&session));
     }
     covretin_close(&session);
 }

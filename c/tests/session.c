@@ -92,6 +92,7 @@ static void header_flags(void)
 {
     static const uint32_t others[] = {1, 2, 3, 4, 5, 9, 12, 16, 0x80000008, 0xffffffff};
     EXPECT(COVRETIN_OK, covretin_open(&session, 2));
+    EXPECT(0, covretin_set_profile(&session, COVRETIN_PROFILE_VHOST));
     EXPECT(0, covretin_set_hdr_flags(&session, COVRETIN_NEED_REPLY));
     for (size_t i = 0; i < sizeof others / sizeof others[0]; i++)
         EXPECT(COVRETIN_INVALID_PARAM, covretin_set_hdr_flags(&session, others[i]));
@@ -100,6 +101,30 @@ static void header_flags(void)
     expect_text("\3\0\0\0\11\0\0\0\0\0\0\0", 12, 0);
     EXPECT(0, covretin_take(&session));
     EXPECT(0, covretin_set_hdr_flags(&session, 0));
+    EXPECT(0, covretin_ask_set_owner(&session));
+    expect_text("\3\0\0\0\1\0\0\0\0\0\0\0", 12, 0);
+    EXPECT(0, covretin_take(&session));
+    covretin_close(&session);
+}
+
+/* A session begins with the profile Standard, and NEED_REPLY goes out under it only where REPLY_ACK is acknowledged. A number of no
+ * profile changes nothing. */
+static void profiles(void)
+{
+    static const uint32_t others[] = {2, 3, 256, 0xffffffff};
+    EXPECT(COVRETIN_NO_SESSION, covretin_set_profile(&session, COVRETIN_PROFILE_VHOST));
+    EXPECT(COVRETIN_OK, covretin_open(&session, 2));
+    EXPECT(0, covretin_set_hdr_flags(&session, COVRETIN_NEED_REPLY));
+    for (size_t i = 0; i < sizeof others / sizeof others[0]; i++)
+        EXPECT(COVRETIN_INVALID_PARAM, covretin_set_profile(&session, (enum covretin_profile)others[i]));
+    EXPECT(0, covretin_ask_set_owner(&session));
+    EXPECT(0, covretin_set_profile(&session, COVRETIN_PROFILE_VHOST));
+    expect_text("\3\0\0\0\1\0\0\0\0\0\0\0", 12, 0);
+    EXPECT(0, covretin_take(&session));
+    EXPECT(0, covretin_ask_set_owner(&session));
+    expect_text("\3\0\0\0\11\0\0\0\0\0\0\0", 12, 0);
+    EXPECT(0, covretin_take(&session));
+    EXPECT(0, covretin_set_profile(&session, COVRETIN_PROFILE_STANDARD));
     EXPECT(0, covretin_ask_set_owner(&session));
     expect_text("\3\0\0\0\1\0\0\0\0\0\0\0", 12, 0);
     EXPECT(0, covretin_take(&session));
@@ -202,7 +227,7 @@ static void error_texts(void)
 {
     static const struct {
         int from, to;
-    } numbers[] = {{0, 24}, {101, 108}, {201, 203}};
+    } numbers[] = {{0, 24}, {101, 110}, {201, 203}};
     const char *texts[64];
     size_t found = 0;
     for (size_t i = 0; i < sizeof numbers / sizeof numbers[0]; i++)
@@ -240,6 +265,7 @@ int main(void)
     RUN(out_of_turn);
     RUN(unawaited);
     RUN(header_flags);
+    RUN(profiles);
     RUN(rings_without_descriptor);
     RUN(config_bytes);
     RUN(accepts_features);

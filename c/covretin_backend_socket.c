@@ -1,0 +1,300 @@
+/* SPDX-License-Identifier: Apache-2.0 */
+/* The part of Covretin's backend that makes system calls: see covretin_backend_socket.h. */
+#ifndef _GNU_SOURCE
+#define _GNU_SOURCE /* for SOCK_CLOEXEC and accept4 */
+#endif
+
+#include "covretin_backend_socket.h"
+#include "covretin_serving.h"
+
+#include <errno.h>
+#include <fcntl.h>
+#include <poll.h>
+#include <stdlib.h>
+#include <string.h>
+#include <sys/file.h>
+#include <sys/socket.h>
+#include <sys/stat.h>
+#include <sys/un.h>
+#include <time.h>
+#include <unistd.h>
+
+/* -- Listening -- */
+
+/* What stands behind covretin_listener.opaque. */
+struct listening {
+    int socket;
+    struct sockaddr_un address; /* with an empty path where the socket was given */
+    struct stat made;           /* what was made at the path */
+};
+
+/* Whether nobody listens at the socket that is there. */
+static bool is_left_over(const struct sockaddr_un *address)
+{
+    struct stat found;
+    int fd, error;
+    if (lstat(address->sun_path, &found) || !S_ISSOCK(found.st_mode))
+        return false;
+    fd = socket(AF_UNIX, SOCK_STREAM | SOCK_CLOEXEC | SOCK_NONBLOCK, 0);
+    if (fd < 0)
+        return false;
+    error = connect(fd, (const struct sockaddr *)address, sizeof *address) ? errno : 0;
+    transport_close(fd);
+    return error == ECONNREFUSED;
+}
+
+/* Makes the socket at its path, and listens. Whoever else does so holds the same lock. */
+static bool make_listening(struct listening *listening)
+{
+    const struct sockaddr_un *address = &listening->address;
+    int fd = listening->socket;
+    if (bind(fd, (const struct sockaddr *)address, sizeof *address)) {
+        if (errno != EADDRINUSE)
+            return false;
+        if (!is_left_over(address)) {
+            errno = EADDRINUSE;
+            return false;
+        }
+        if (unlink(address->sun_path) || bind(fd, (const struct sockaddr *)address, sizeof *address))
+            return false;
+    }
+    if (listen(fd, SOMAXCONN) == 0 && lstat(address->sun_path, &listening->made) == 0)
+        return true;
+    unlink(address->sun_path);
+    return false;
+}
+
+/* Locks the folder of a path against others who listen in it, for whom it waits a second at most: anybody may hold such a lock.
+ * Its descriptor, or -1: it cannot be opened, and is not locked. */
+static int lock_folder(const char *path)
+{
+    const struct timespec pause = {0, 10000000};
+    char folder[sizeof((struct sockaddr_un *)NULL)->sun_path];
+    const char *slash = strrchr(path, '/');
+    size_t length = slash == NULL ? 0 : (size_t)(slash - path) + 1;
+    int fd;
+    memcpy(folder, path, length);
+    if (length == 0)
+        folder[length++] = '.';
+    folder[length] = 0;
+    fd = open(folder, O_RDONLY | O_DIRECTORY | O_CLOEXEC);
+    for (int tries = 0; fd >= 0 && tries < 100 && flock(fd, LOCK_EX | LOCK_NB); tries++)
+        nanosleep(&pause, NULL);
+    return fd;
+}
+
+/* Makes a socket at the address of `listening`, and listens there. */
+static enum covretin_error listen_there(struct listening *listening)
+{
+    bool is_made;
+    int lock = lock_folder(listening->address.sun_path);
+    listening->socket = socket(AF_UNIX, SOCK_STREAM | SOCK_CLOEXEC | SOCK_NONBLOCK, 0);
+    is_made = listening->socket >= 0 && make_listening(listening);
+    if (!is_made)
+        transport_close(listening->socket);
+    transport_close(lock);
+    return is_made ? COVRETIN_OK : COVRETIN_SOCKET_ERROR;
+}
+
+enum covretin_error covretin_listen(covretin_listener *listener, const char *path)
+{
+    struct listening *listening;
+    struct sockaddr_un address;
+    enum covretin_error error;
+    if (listener->opaque != NULL)
+        return COVRETIN_SESSION_OPEN;
+    error = transport_address(path, &address);
+    if (error)
+        return error;
+    listening = calloc(1, sizeof *listening);
+    if (listening == NULL)
+        return COVRETIN_OUT_OF_MEMORY;
+    listening->address = address;
+    error = listen_there(listening);
+    if (error)
+        free(listening);
+    else
+        listener->opaque = listening;
+    return error;
+}
+
+enum covretin_error covretin_listen_fd(covretin_listener *listener, int fd)
+{
+    struct listening *listening;
+    enum covretin_error error;
+    int flags;
+    if (listener->opaque != NULL)
+        return COVRETIN_SESSION_OPEN;
+    error = transport_check_socket(fd);
+    if (error)
+        return error;
+    listening = calloc(1, sizeof *listening);
+    if (listening == NULL)
+        return COVRETIN_OUT_OF_MEMORY;
+    flags = fcntl(fd, F_GETFL);
+    fcntl(fd, F_SETFL, flags | O_NONBLOCK);
+    listening->socket = fd;
+    listener->opaque = listening;
+    return COVRETIN_OK;
+}
+
+/* Removes the path, if it is still what was made there. */
+static void remove_path(const struct listening *listening)
+{
+    const char *path = listening->address.sun_path;
+    struct stat found;
+    int lock;
+    if (path[0] == 0)
+        return;
+    lock = lock_folder(path);
+    if (lstat(path, &found) == 0 && found.st_dev == listening->made.st_dev && found.st_ino == listening->made.st_ino)
+        unlink(path);
+    transport_close(lock);
+}
+
+void covretin_unlisten(covretin_listener *listener)
+{
+    struct listening *listening = listener->opaque;
+    if (listening == NULL)
+        return;
+    remove_path(listening);
+    transport_close(listening->socket);
+    free(listening);
+    listener->opaque = NULL;
+}
+
+int covretin_listener_fd(const covretin_listener *listener)
+{
+    const struct listening *listening = listener->opaque;
+    return listening == NULL ? -1 : listening->socket;
+}
+
+/* -- The session's side of the bytes -- */
+
+static size_t missing(void *session)
+{
+    return covretin_backend_missing(session);
+}
+
+static enum covretin_error receive(void *session, const uint8_t *bytes, size_t bytes_len, const int32_t *fds, size_t fds_len)
+{
+    return covretin_backend_receive(session, bytes, bytes_len, fds, fds_len);
+}
+
+static enum covretin_error to_send(void *session, uint8_t *bytes, size_t bytes_len, int32_t *fds, size_t fds_len, size_t *byte_count,
+                                   size_t *fd_count)
+{
+    return covretin_backend_to_send(session, bytes, bytes_len, fds, fds_len, byte_count, fd_count);
+}
+
+static enum covretin_error next(void *session, uint32_t *call)
+{
+    return covretin_backend_next(session, call);
+}
+
+static enum covretin_error end(void *session)
+{
+    return covretin_backend_end(session);
+}
+
+static const struct serving_side backend_side = {{missing, receive, to_send, true}, next, end};
+
+/* -- Frontends -- */
+
+enum covretin_error covretin_serve_fd(covretin_service *service, int fd)
+{
+    enum covretin_error error;
+    if (service->opaque != NULL)
+        return COVRETIN_SESSION_OPEN;
+    error = transport_check_socket(fd);
+    if (error)
+        return error;
+    error = covretin_backend_open(&service->backend);
+    if (error)
+        return error;
+    service->opaque = serving_new(&backend_side, &service->backend, fd);
+    if (service->opaque != NULL)
+        return COVRETIN_OK;
+    covretin_backend_close(&service->backend);
+    return COVRETIN_OUT_OF_MEMORY;
+}
+
+/* The next frontend's socket. */
+static enum covretin_error accept_one(int listener, int64_t end, int *fd)
+{
+    for (;;) {
+        enum covretin_error error;
+        *fd = accept4(listener, NULL, NULL, SOCK_CLOEXEC);
+        if (*fd >= 0)
+            return COVRETIN_OK;
+        if (errno == EINTR || errno == ECONNABORTED)
+            continue;
+        if (errno != EAGAIN)
+            return COVRETIN_SOCKET_ERROR;
+        error = transport_wait(listener, POLLIN, end);
+        if (error)
+            return error;
+    }
+}
+
+enum covretin_error covretin_accept(covretin_listener *listener, covretin_service *service, int milliseconds)
+{
+    const struct listening *listening = listener->opaque;
+    enum covretin_error error;
+    int fd;
+    if (listening == NULL)
+        return COVRETIN_NO_SESSION;
+    if (service->opaque != NULL)
+        return COVRETIN_SESSION_OPEN;
+    error = accept_one(listening->socket, transport_end_of(milliseconds), &fd);
+    if (error)
+        return error;
+    error = covretin_serve_fd(service, fd);
+    if (error)
+        transport_close(fd);
+    return error;
+}
+
+void covretin_hang_up(covretin_service *service)
+{
+    covretin_backend_close(&service->backend);
+    serving_free(service->opaque);
+    service->opaque = NULL;
+}
+
+int covretin_service_fd(const covretin_service *service)
+{
+    return serving_fd(service->opaque);
+}
+
+bool covretin_service_ended(const covretin_service *service)
+{
+    return serving_ended(service->opaque);
+}
+
+/* -- Requests -- */
+
+enum covretin_error covretin_next_call(covretin_service *service, uint32_t *call, int milliseconds)
+{
+    return serving_next_call(service->opaque, call, milliseconds);
+}
+
+enum covretin_error covretin_next_call_nowait(covretin_service *service, uint32_t *call, short *events)
+{
+    return serving_next_call_nowait(service->opaque, call, events);
+}
+
+enum covretin_error covretin_send_reply(covretin_service *service, int milliseconds)
+{
+    return serving_send_reply(service->opaque, milliseconds);
+}
+
+enum covretin_error covretin_send_reply_nowait(covretin_service *service, short *events)
+{
+    return serving_send_reply_nowait(service->opaque, events);
+}
+
+enum covretin_error covretin_claim_call_fd(covretin_service *service, int32_t fd)
+{
+    return serving_claim(service->opaque, fd);
+}

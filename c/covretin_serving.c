@@ -1,0 +1,180 @@
+/* SPDX-License-Identifier: Apache-2.0 */
+/* What the sessions of Covretin that serve share over a socket: see covretin_serving.h. */
+#include "covretin_serving.h"
+
+#include <poll.h>
+#include <stdlib.h>
+
+/* -- Its life -- */
+
+struct serving *serving_new(const struct serving_side *side, void *session, int socket)
+{
+    struct serving *serving = calloc(1, sizeof *serving);
+    if (serving == NULL)
+        return NULL;
+    serving->side = side;
+    serving->transport = transport_new(&side->bytes, session, socket);
+    if (serving->transport != NULL)
+        return serving;
+    free(serving);
+    return NULL;
+}
+
+void serving_free(struct serving *serving)
+{
+    if (serving == NULL)
+        return;
+    transport_free(serving->transport);
+    free(serving);
+}
+
+int serving_fd(const struct serving *serving)
+{
+    return serving == NULL ? -1 : serving->transport->socket;
+}
+
+bool serving_ended(const struct serving *serving)
+{
+    return serving == NULL || serving->transport->broken;
+}
+
+/* -- Requests -- */
+
+/* Whether the call that was handed out last is still to be replied to. */
+static bool is_pending(const struct serving *serving)
+{
+    return serving->calling && serving->side->bytes.missing(serving->transport->session) == 0;
+}
+
+/* Receives a request, and checks it. The end of the stream is what it means where it came. */
+static enum covretin_error receive_request(struct serving *serving, uint32_t *call)
+{
+    void *session = serving->transport->session;
+    enum covretin_error error = transport_receive(serving->transport);
+    if (error == COVRETIN_DISCONNECTED)
+        return serving->side->end(session);
+    if (error)
+        return error;
+    error = serving->side->next(session, call);
+    serving->calling = error == COVRETIN_OK;
+    if (error) {
+        serving->refusal = error;
+        transport_next(serving->transport);
+    }
+    return error;
+}
+
+/* Sends what is to be sent, unless a request is under way, and lets go of the call before. */
+static enum covretin_error send_before(struct serving *serving)
+{
+    enum covretin_error error;
+    if (serving->transport->begun && !serving->calling)
+        return COVRETIN_OK;
+    error = transport_send(serving->transport);
+    if (error || !serving->calling)
+        return error;
+    serving->calling = false;
+    transport_next(serving->transport);
+    return COVRETIN_OK;
+}
+
+/* Tells why a request was refused, once what is to be sent was sent. */
+static enum covretin_error tell_refusal(struct serving *serving)
+{
+    enum covretin_error error = transport_send(serving->transport);
+    if (error)
+        return error;
+    error = serving->refusal;
+    serving->refusal = COVRETIN_OK;
+    return error;
+}
+
+/* As serving_next_call_nowait; *events is what would be waited for. */
+static enum covretin_error next_call(struct serving *serving, uint32_t *call, short *events)
+{
+    enum covretin_error error;
+    if (is_pending(serving))
+        return COVRETIN_NOT_REPLIED;
+    *events = POLLOUT;
+    if (serving->refusal)
+        return tell_refusal(serving);
+    error = send_before(serving);
+    if (error)
+        return error;
+    *events = POLLIN;
+    error = receive_request(serving, call);
+    if (!serving->refusal)
+        return error;
+    *events = POLLOUT;
+    return tell_refusal(serving);
+}
+
+/* As serving_send_reply_nowait. */
+static enum covretin_error send_reply(struct serving *serving, uint32_t *call, short *events)
+{
+    (void)call;
+    if (is_pending(serving))
+        return COVRETIN_NOT_REPLIED;
+    *events = POLLOUT;
+    return send_before(serving);
+}
+
+/* One of the two, where the service is there and has not ended. */
+typedef enum covretin_error work(struct serving *serving, uint32_t *call, short *events);
+
+static enum covretin_error work_nowait(struct serving *serving, work *does, uint32_t *call, short *events)
+{
+    enum covretin_error error;
+    *events = 0;
+    if (serving == NULL)
+        return COVRETIN_NO_SESSION;
+    if (transport_is_broken(serving->transport))
+        return serving->transport->broken;
+    error = does(serving, call, events);
+    if (error != COVRETIN_NOT_YET)
+        *events = 0;
+    return transport_settle(serving->transport, error);
+}
+
+static enum covretin_error work_until(struct serving *serving, work *does, uint32_t *call, int milliseconds)
+{
+    int64_t end = transport_end_of(milliseconds);
+    for (;;) {
+        short events;
+        enum covretin_error error = work_nowait(serving, does, call, &events);
+        if (error != COVRETIN_NOT_YET)
+            return error;
+        error = transport_wait(serving->transport->socket, events, end);
+        if (error)
+            return transport_settle(serving->transport, error);
+    }
+}
+
+enum covretin_error serving_next_call(struct serving *serving, uint32_t *call, int milliseconds)
+{
+    return work_until(serving, next_call, call, milliseconds);
+}
+
+enum covretin_error serving_next_call_nowait(struct serving *serving, uint32_t *call, short *events)
+{
+    return work_nowait(serving, next_call, call, events);
+}
+
+enum covretin_error serving_send_reply(struct serving *serving, int milliseconds)
+{
+    uint32_t call;
+    return work_until(serving, send_reply, &call, milliseconds);
+}
+
+enum covretin_error serving_send_reply_nowait(struct serving *serving, short *events)
+{
+    uint32_t call;
+    return work_nowait(serving, send_reply, &call, events);
+}
+
+enum covretin_error serving_claim(struct serving *serving, int32_t fd)
+{
+    if (serving == NULL)
+        return COVRETIN_NO_SESSION;
+    return is_pending(serving) && transport_claim(serving->transport, fd) ? COVRETIN_OK : COVRETIN_OTHER_CALL;
+}

@@ -1,0 +1,86 @@
+/* SPDX-License-Identifier: Apache-2.0 */
+/* What both sides of Covretin over a Unix socket share: a socket, and what is under way between it and a session. Private: no
+ * program includes this. */
+#ifndef COVRETIN_TRANSPORT_H
+#define COVRETIN_TRANSPORT_H
+
+#include "covretin.h"
+
+/* The calls of a session that bytes go through. */
+struct transport_side {
+    size_t (*missing)(void *session);
+    enum covretin_error (*receive)(void *session, const uint8_t *bytes, size_t bytes_len, const int32_t *fds, size_t fds_len);
+    enum covretin_error (*to_send)(void *session, uint8_t *bytes, size_t bytes_len, int32_t *fds, size_t fds_len, size_t *byte_count,
+                                   size_t *fd_count);
+    bool hears_late; /* is told of descriptors that come amid a message, too */
+};
+
+/* A message goes out whole before the next is read, so both ways use `bytes`. */
+struct transport {
+    const struct transport_side *side;
+    void *session;
+    int socket;
+    enum covretin_error broken; /* what ended the connection, or 0; each call then returns it again, */
+    int broken_errno;           /* with this errno */
+    size_t at, end;             /* bytes[at .. end) are to be sent, or to be handed to the session */
+    uint8_t bytes[COVRETIN_MAX_MESSAGE];
+    int32_t fds[COVRETIN_MAX_FDS]; /* the caller's, to go with bytes[at] */
+    size_t fd_count;
+    bool begun;                     /* the awaited message has begun to come */
+    int32_t came[COVRETIN_MAX_FDS]; /* with its first byte; the connection's. -1: handed over */
+    size_t came_count;
+    int32_t late[COVRETIN_MAX_FDS]; /* with a later one; closed once the session was told */
+    size_t late_count;
+    size_t untold; /* how many of those that came the session was not told of yet: all, or none */
+};
+
+/* A transport over this socket, or NULL: an allocation failed. */
+struct transport *transport_new(const struct transport_side *side, void *session, int socket);
+
+/* Closes the socket and all that came, and frees it. */
+void transport_free(struct transport *transport);
+
+/* Sends all that the session has to send. NOT_YET: the socket takes no more now. */
+enum covretin_error transport_send(struct transport *transport);
+
+/* Receives what the session misses, and hands it in. An allocation that fails leaves it here. NOT_YET: the socket has no more. */
+enum covretin_error transport_receive(struct transport *transport);
+
+/* Sends what is to be sent, receives the reply, and has it taken once it is there whole. What `takes` returns, or why it does not come to
+ * that; NOT_YET: *events is what the socket has to be ready for. NO_SESSION: there is no transport. */
+typedef enum covretin_error transport_take(void *of);
+enum covretin_error transport_exchange_nowait(struct transport *transport, transport_take *takes, void *of, short *events);
+
+/* The same within a limit of time. */
+enum covretin_error transport_exchange(struct transport *transport, transport_take *takes, void *of, int milliseconds);
+
+/* Hands over a descriptor that came with the message. Whether it did. */
+bool transport_claim(struct transport *transport, int32_t fd);
+
+/* Closes what came and was not handed over; the next message may come. */
+void transport_next(struct transport *transport);
+
+/* Notes an error after which the connection is of no more use; returns it. */
+enum covretin_error transport_settle(struct transport *transport, enum covretin_error error);
+
+/* Whether one was noted; errno is then what it was. */
+bool transport_is_broken(const struct transport *transport);
+
+/* Closes a descriptor unless it is negative, and keeps errno. */
+void transport_close(int fd);
+
+/* Whether this is a stream socket of the family AF_UNIX. */
+enum covretin_error transport_check_socket(int fd);
+
+/* The address of a path. INVALID_PATH. */
+struct sockaddr_un;
+enum covretin_error transport_address(const char *path, struct sockaddr_un *address);
+
+/* When a limit of time is over; negative: never. And how many milliseconds are left until then, 0 where none are. */
+int64_t transport_end_of(int milliseconds);
+int transport_left_until(int64_t end);
+
+/* Waits until a socket is ready for this. TIMED_OUT, SOCKET_ERROR. */
+enum covretin_error transport_wait(int socket, short events, int64_t end);
+
+#endif
