@@ -1,0 +1,551 @@
+# SPDX-License-Identifier: Apache-2.0
+"""Virtual machines over the example disk: QEMU is the frontend, and Linux drives the virtqueues.
+
+    machine.py TRY DISK BOOT [ANY]    in an empty folder: DISK is the compiled c/blk.c, BOOT the sector of boot.S, ANY the compiled any.c
+
+Prints what is done. Status 0 where all was as it has to be; 1 where something was not, which the last line says. What runs is ended
+by then. The machines' consoles and the disks' lines are kept in the folder.
+"""
+import ctypes
+import glob
+import hashlib
+import json
+import os
+import random
+import re
+import shutil
+import signal
+import socket
+import struct
+import subprocess
+import sys
+import time
+
+SECTOR = 512
+KERNEL_AT = 2048  # sectors
+SYSTEM_AT = 65536
+SYSTEM_SIZE = 256 << 20
+LIMIT = 200  # seconds for whatever is waited for; a busy machine takes long
+MODULES = ["virtio_ring", "virtio", "virtio_pci_legacy_dev", "virtio_pci_modern_dev", "virtio_pci", "virtio_blk"]
+MODULES += ["crc16", "crc32c_generic", "mbcache", "jbd2", "ext4"]
+# Of the devices that are no disk: loaded by the try that has them.
+MORE_MODULES = ["virtio-rng", "failover", "net_failover", "virtio_net", "fuse", "virtiofs"]
+MORE_MODULES += ["vsock", "vmw_vsock_virtio_transport_common", "vmw_vsock_virtio_transport"]
+
+# What runs, to be ended at last.
+RUNNING = []
+
+
+def run(words, log):
+    """A process that ends with this one, whatever ends that."""
+
+    def follow():
+        ctypes.CDLL(None).prctl(1, signal.SIGKILL)
+
+    it = subprocess.Popen(words, stdin=subprocess.DEVNULL, stdout=log, stderr=log, preexec_fn=follow)
+    RUNNING.append(it)
+    return it
+
+
+def check(holds, what):
+    if not holds:
+        raise SystemExit(f"not so: {what}")
+
+
+def tell(text):
+    print(text, flush=True)
+
+
+def wait_until(holds, what, seconds=LIMIT):
+    end = time.monotonic() + seconds
+    while not holds():
+        check(time.monotonic() < end, f"{what}, in {seconds} seconds")
+        time.sleep(0.005)
+
+
+# -- The image --
+
+INIT = """#!/bin/busybox sh
+/bin/busybox --install -s /bin
+export PATH=/bin
+mount -t devtmpfs dev /dev
+mount -t proc proc /proc
+mount -t sysfs sys /sys
+mount -t tmpfs tmp /tmp
+for it in MODULES; do insmod /modules/$it.ko; done
+stty -echo
+echo "#ready"
+while read -r line; do
+    eval "$line"
+    echo "#status $?"
+done
+"""
+
+
+def make_first_system(to):
+    """The first file system of the kernel: a shell that does the lines that its console is told."""
+    release = os.path.basename(newest("/boot/vmlinuz-*")).removeprefix("vmlinuz-")
+    for it in ("bin", "dev", "proc", "sys", "tmp", "mnt", "modules"):
+        os.makedirs(f"first/{it}")
+    shutil.copy("/usr/bin/busybox", "first/bin/busybox")
+    for it in MODULES + MORE_MODULES:
+        found = glob.glob(f"/lib/modules/{release}/kernel/**/{it}.ko", recursive=True)
+        check(found, f"the kernel has a module {it}")
+        shutil.copy(found[0], "first/modules/")
+    with open("first/init", "w", encoding="ascii") as it:
+        it.write(INIT.replace("MODULES", " ".join(MODULES)))
+    os.chmod("first/init", 0o755)
+    with open(to, "wb") as it:
+        names = subprocess.run(["find", "."], cwd="first", stdout=subprocess.PIPE, check=True).stdout
+        subprocess.run(["cpio", "-o", "-H", "newc", "--quiet"], cwd="first", input=names, stdout=it, check=True)
+    shutil.rmtree("first")
+
+
+def newest(pattern):
+    found = sorted(glob.glob(pattern))
+    check(found, f"there is a {pattern}")
+    return found[-1]
+
+
+def make_image(boot):
+    """A disk that Linux boots from: the boot sector, what it is told, the kernel and its first file system, and a partition."""
+    make_first_system("first.cpio")
+    with open(newest("/boot/vmlinuz-*"), "rb") as it:
+        kernel = it.read()
+    with open("first.cpio", "rb") as it:
+        first = it.read()
+    with open(boot, "rb") as it:
+        sector = bytearray(it.read())
+    setup = (kernel[0x1F1] or 4) + 1
+    kernel_size, first_size = -(-len(kernel) // SECTOR), -(-len(first) // SECTOR)
+    first_at = KERNEL_AT + kernel_size
+    check(first_at + first_size <= SYSTEM_AT, "the kernel and its first file system lie before the partition")
+    told = struct.pack("<6I", KERNEL_AT, setup, kernel_size - setup, first_at, first_size, len(first))
+    sector[446:462] = struct.pack("<8BII", 0x80, 0xFE, 0xFF, 0xFF, 0x83, 0xFE, 0xFF, 0xFF, SYSTEM_AT, SYSTEM_SIZE // SECTOR)
+    with open("image", "wb") as it:
+        it.write(sector)
+        it.write(told + b"console=ttyS0 quiet panic=-1 mitigations=off init_on_alloc=0\0")
+        it.seek(KERNEL_AT * SECTOR)
+        it.write(kernel)
+        it.seek(first_at * SECTOR)
+        it.write(first)
+        it.truncate(SYSTEM_AT * SECTOR + SYSTEM_SIZE)
+    words = ["mke2fs", "-q", "-F", "-t", "ext2", "-b", "4096", "-E", f"offset={SYSTEM_AT * SECTOR}", "image", f"{SYSTEM_SIZE >> 10}k"]
+    subprocess.run(words, check=True, stderr=subprocess.DEVNULL)
+
+
+# -- The disk --
+
+
+class Disk:
+    """The example disk, as a process over the image."""
+
+    def __init__(self, program, name="disk"):
+        self.program, self.path = program, f"{name}-{os.getpid()}.socket"
+        self.log = open("disk.log", "ab")
+        self.start()
+
+    def start(self):
+        self.process = run([self.program, self.path, "image", "2"], self.log)
+        wait_until(self.is_there, "the disk listens", 10)
+
+    def is_there(self):
+        check(self.process.poll() is None, "the disk goes on")
+        with open("/proc/net/unix", encoding="utf-8") as it:
+            return any(line.split()[-1] == self.path for line in it)
+
+    def is_writing(self):
+        """Whether it pauses before it writes to its file, which is slow, by the numbers of nanosleep."""
+        with open(f"/proc/{self.process.pid}/syscall", encoding="utf-8") as it:
+            return it.read().split()[0] in ("35", "230")
+
+    def kill(self):
+        """Kills it amid a write."""
+        wait_until(self.is_writing, "the disk writes")
+        self.process.kill()
+        self.process.wait()
+
+    def mapped(self):
+        """How many regions of guest memory it has mapped."""
+        with open(f"/proc/{self.process.pid}/maps", encoding="utf-8") as it:
+            return sum("/memfd:memory-backend-memfd" in line for line in it)
+
+    def end(self):
+        """Ends it. Descriptors or memory that it lost would be told by its status."""
+        self.process.send_signal(signal.SIGTERM)
+        self.process.wait(LIMIT)
+        check(self.process.returncode == 0, "the disk ended well")
+
+
+# -- The machine --
+
+
+class Machine:
+    """QEMU over a disk."""
+
+    def __init__(self, name, disk, *words, reconnect=0, memory="256M"):
+        self.name = name
+        size = memory.partition(",")[0]
+        machine = ["-machine", "pc,accel=tcg,memory-backend=mem", "-object", f"memory-backend-memfd,id=mem,size={size},share=on"]
+        console = ["-display", "none", "-nodefaults", "-no-user-config", "-no-reboot", "-serial", f"unix:{name}.console,server=on,wait=on"]
+        words += ("-chardev", f"socket,id=disk,path={disk.path},reconnect={reconnect}")
+        words += ("-device", "vhost-user-blk-pci,chardev=disk,num-queues=2,bootindex=1")
+        qmp = ["-qmp", f"unix:{name}.qmp,server=on,wait=off"]
+        with open(f"{name}.log", "wb") as log:
+            self.process = run(["qemu-system-x86_64", *machine, "-m", memory, *console, *qmp, *words], log)
+        self.console = self.connect(f"{name}.console")
+        self.qmp = self.connect(f"{name}.qmp").makefile("rw", encoding="utf-8")
+        self.seen = b""
+        self.events = []
+        json.loads(self.qmp.readline())
+        self.ask("qmp_capabilities")
+
+    def connect(self, path):
+        it = socket.socket(socket.AF_UNIX)
+        it.settimeout(LIMIT)
+
+        def is_connected():
+            check(self.process.poll() is None, "the machine goes on")
+            try:
+                it.connect(path)
+            except OSError:
+                return False
+            return True
+
+        wait_until(is_connected, f"{path} is there", 20)
+        return it
+
+    def ask(self, command, **arguments):
+        """A command of QEMU's monitor."""
+        print(json.dumps({"execute": command, "arguments": arguments}), file=self.qmp, flush=True)
+        while True:
+            line = json.loads(self.qmp.readline())
+            if "event" in line:
+                self.events.append(line)
+                continue
+            check("return" in line, f"{command}: {line}")
+            return line["return"]
+
+    def hear(self, pattern):
+        """Waits until the console has said this."""
+        end = time.monotonic() + LIMIT
+        while True:
+            found = re.search(pattern, self.seen)
+            if found:
+                self.seen = self.seen[found.end() :]
+                return found
+            check(time.monotonic() < end, f"the console says {pattern}")
+            part = self.console.recv(4096)
+            check(part, f"the console says {pattern} before it ends")
+            self.seen += part
+            with open(f"{self.name}.said", "ab") as it:
+                it.write(part)
+
+    def begin(self, line):
+        self.console.sendall(line.encode() + b"\n")
+
+    def ended(self):
+        """What the line that was begun printed; it has to have succeeded."""
+        found = self.hear(rb"(?s)(.*?)#status (\d+)\r?\n")
+        check(found[2] == b"0", f"the guest's command succeeds: {found[1].decode()}")
+        return found[1].decode().replace("\r", "").strip()
+
+    def do(self, line):
+        """What the guest prints for a line of its shell, which has to succeed."""
+        self.begin(line)
+        return self.ended()
+
+    def power_off(self):
+        self.begin("poweroff -f")
+        self.process.wait(LIMIT)
+        check(self.process.returncode == 0, "the machine ended well")
+        self.console.close()
+        self.qmp.close()
+
+
+def wait_running(machine):
+    """Waits until a machine that was migrated to runs."""
+    wait_until(lambda: machine.ask("query-status")["status"] == "running", "the machine runs")
+
+
+def boot(name, disk, *words, **settings):
+    machine = Machine(name, disk, *words, **settings)
+    machine.hear(rb"the boot sector was read")
+    machine.hear(rb"#ready\r?\n")
+    return machine
+
+
+# -- The tries --
+
+
+def bytes_of(seed, size):
+    return random.Random(seed).randbytes(size)
+
+
+def tried_boot(program):
+    """Linux boots from the disk, mounts it, writes and powers off; what it wrote is in the file, and read by a second boot."""
+    disk = Disk(program)
+    machine = boot("first", disk)
+    check(machine.do("cat /sys/block/vda/size") == str(os.path.getsize("image") // SECTOR), "the disk has the image's size")
+    check(machine.do("cat /sys/block/vda/serial") == "covretin", "the disk has its name")
+    machine.do("mount -t ext4 /dev/vda1 /mnt && seq 100000 >/mnt/numbers && sync && umount /mnt && echo written")
+    machine.power_off()
+    with open("image", "rb") as it:
+        it.seek(SYSTEM_AT * SECTOR)
+        check("\n".join(map(str, range(1, 500))).encode() in it.read(), "what the guest wrote is in the image")
+    machine = boot("second", disk)
+    wanted = hashlib.sha256("".join(f"{i}\n" for i in range(1, 100001)).encode()).hexdigest()
+    found = machine.do("mount -t ext4 /dev/vda1 /mnt && sha256sum /mnt/numbers && umount /mnt")
+    check(found.split()[0] == wanted, "a second boot reads what the first wrote")
+    machine.power_off()
+    disk.end()
+
+
+def fill_system(size):
+    """Writes bytes that only this program knows behind the kernel, where the guest reads them by itself."""
+    data = bytes_of(size, size)
+    with open("image", "r+b") as it:
+        it.seek(SYSTEM_AT * SECTOR)
+        it.write(data)
+    return hashlib.sha256(data).hexdigest()
+
+
+WRITER = (
+    "(i=0; while [ ! -e /tmp/stop ]; do i=$((i + 1)); (echo block $i; seq $i $((i + 300))) | "
+    "dd of=/dev/vda1 bs=4k count=1 seek=$((32768 + i)) iflag=fullblock conv=notrunc,sync oflag=direct 2>/dev/null || "
+    "echo failed >/tmp/failed; echo $i >/tmp/count; done; echo ended >/tmp/ended) &"
+)
+
+
+def stop_writer(machine):
+    """Ends the guest's writer. How many blocks it wrote."""
+    machine.do("touch /tmp/stop; while [ ! -e /tmp/ended ]; do sleep 0.1; done; sync; [ ! -e /tmp/failed ]")
+    return int(machine.do("cat /tmp/count"))
+
+
+def check_blocks(count):
+    """Each block that the guest's writer wrote is in the image."""
+    with open("image", "rb") as it:
+        for i in range(1, count + 1):
+            it.seek(SYSTEM_AT * SECTOR + (32768 + i) * 4096)
+            wanted = (f"block {i}\n" + "".join(f"{n}\n" for n in range(i, i + 301))).encode()[:4096].ljust(4096, b"\0")
+            check(it.read(4096) == wanted, f"block {i} of {count} is in the image")
+    tell(f"{count} blocks are in the image")
+
+
+def written(machine):
+    """How many blocks the guest's writer has written; it may be about to tell."""
+    return int(machine.do("n=; while [ -z $n ]; do n=$(cat /tmp/count 2>/dev/null || echo 0); done; echo $n"))
+
+
+def migrate(source, target):
+    """Migrates, and waits until the target runs."""
+    source.ask("migrate", uri="unix:migration")
+
+    def is_over():
+        state = source.ask("query-migrate")["status"]
+        check(state not in ("failed", "cancelled"), "the migration goes on")
+        return state == "completed"
+
+    return is_over
+
+
+def two_machines(program):
+    """A machine that runs, over one disk, and one that it is to be migrated to, over another of the same image."""
+    disks = [Disk(program, "source"), Disk(program, "target")]
+    source = boot("source", disks[0])
+    target = Machine("target", disks[1], "-incoming", "defer")
+    return disks, source, target
+
+
+def tried_migration(program):
+    """A machine is migrated while it reads and writes: the pages that the disk writes meanwhile come along, since it logs them."""
+    disks, source, target = two_machines(program)
+    half = 16 << 20
+    wanted = fill_system(2 * half)
+    source.do(WRITER)
+    source.do("exec 3</dev/vda1; head -c 16777216 /dev/vda1 >/dev/null")
+    target.ask("migrate-incoming", uri="unix:migration")
+    source.ask("migrate-set-parameters", **{"max-bandwidth": 16 << 20, "downtime-limit": 2000})
+    is_over = migrate(source, target)
+    wait_until(lambda: source.ask("query-migrate").get("ram", {}).get("transferred", 0) > 64 << 20, "most pages were sent")
+    source.ask("migrate-set-parameters", **{"max-bandwidth": 1 << 16})
+    source.do("head -c 33554432 /dev/vda1 >/dev/null")
+    before = written(source)
+    check(not is_over(), "the migration goes on meanwhile")
+    source.ask("migrate-set-parameters", **{"max-bandwidth": 1 << 30})
+    wait_until(is_over, "the migration is over")
+    wait_running(target)
+    # what was read before is in the target's memory, and not read again
+    target.do("sectors() { awk '{ print $3 }' /sys/block/vda/vda1/stat; }; was=$(sectors)")
+    found = target.do("head -c 33554432 /dev/vda1 | sha256sum; [ $(($(sectors) - was)) -lt 1024 ]")
+    check(found.split()[0] == wanted, "what was read during the migration is what the disk has")
+    count = stop_writer(target)
+    tell(f"{before} blocks before the migration was over, {count} in all")
+    check(count > before > 0, "the guest wrote before and after")
+    target.power_off()
+    source.ask("quit")
+    source.process.wait(LIMIT)
+    for disk in disks:
+        disk.end()
+    check_blocks(count)
+
+
+def tried_postcopy(program):
+    """The same, but the target runs before its memory came: the disk waits for pages, too."""
+    disks, source, target = two_machines(program)
+    for machine in (source, target):
+        machine.ask("migrate-set-capabilities", capabilities=[{"capability": "postcopy-ram", "state": True}])
+    source.do(WRITER)
+    source.do("head -c 67108864 /dev/urandom >/tmp/random; sha256sum /tmp/random >/tmp/sum")
+    target.ask("migrate-incoming", uri="unix:migration")
+    source.ask("migrate-set-parameters", **{"max-bandwidth": 4 << 20, "max-postcopy-bandwidth": 16 << 20})
+    is_over = migrate(source, target)
+    wait_until(lambda: source.ask("query-migrate").get("ram", {}).get("transferred", 0) > 1 << 20, "the migration is under way")
+    before = written(source)
+    source.ask("migrate-start-postcopy")
+    wait_running(target)
+    target.do("sha256sum -c /tmp/sum")
+    wait_until(is_over, "the migration is over")
+    ram = source.ask("query-migrate")["ram"]
+    tell(f"{ram.get('postcopy-requests')} pages were waited for")
+    check(ram.get("postcopy-requests", 0) > 0, "pages were waited for")
+    count = stop_writer(target)
+    check(count > before, "the guest wrote before and after")
+    target.power_off()
+    source.ask("quit")
+    source.process.wait(LIMIT)
+    for disk in disks:
+        disk.end()
+    check_blocks(count)
+
+
+def tried_killed(program):
+    """The disk is killed amid writes, and started again: nothing is lost, and the guest goes on."""
+    disk = Disk(program)
+    machine = boot("machine", disk, reconnect=1)
+    machine.do(WRITER)
+    for _ in range(8):
+        before = written(machine)
+        wait_until(lambda: written(machine) > before + 3, "the guest writes")
+        disk.kill()
+        disk.start()
+    before = written(machine)
+    wait_until(lambda: written(machine) > before + 3, "the guest writes")
+    count = stop_writer(machine)
+    machine.power_off()
+    disk.end()
+    check_blocks(count)
+    with open("disk.log", encoding="utf-8") as it:
+        again = it.read().count("are done again")
+    tell(f"{again} disks did requests again")
+    check(again == 8, "each was killed amid a request")
+
+
+def tried_memory(program):
+    """Memory is plugged in, and used by the disk; and plugged out."""
+    wanted = None
+    disk = Disk(program)
+    machine = boot("machine", disk, memory="160M,slots=4,maxmem=1G")
+    wanted = fill_system(48 << 20)
+    before = disk.mapped()
+    machine.ask("object-add", **{"qom-type": "memory-backend-memfd", "id": "more", "size": 256 << 20, "share": True})
+    machine.ask("device_add", driver="pc-dimm", id="dimm", memdev="more")
+    wait_until(lambda: disk.mapped() > before, "the disk has the memory mapped")
+    machine.do("while ! grep -q offline /sys/devices/system/memory/memory*/state; do sleep 0.1; done; sleep 1")
+    machine.do("for it in /sys/devices/system/memory/memory*/state; do grep -q online $it || echo online_movable >$it; done")
+    check(int(machine.do("awk '/MemTotal/ { print $2 }' /proc/meminfo")) > 300 << 10, "the guest has the memory")
+    found = machine.do("head -c 50331648 /dev/vda1 | sha256sum")
+    check(found.split()[0] == wanted, "what is read into it is what the disk has")
+    machine.do("echo 3 >/proc/sys/vm/drop_caches")
+    machine.ask("device_del", id="dimm")
+    wait_until(lambda: disk.mapped() == before or machine.do("sleep 0.2") is None, "the disk has it mapped no more")
+    check(machine.do("head -c 4194304 /dev/vda1 | wc -c") == "4194304", "the disk goes on")
+    machine.power_off()
+    disk.end()
+
+
+# Devices of QEMU, by their names: how it has them, the driver in the guest, how many rings that sets up, and features that the device
+# offers. The network card has no MSI-X: with it, and without KVM, QEMU 7.2 ends by a segmentation fault.
+DEVICES = {
+    "rng": (["-device", "vhost-user-rng-pci,chardev=rng"], "virtio_rng", 1, 0),
+    "net": (["-netdev", "vhost-user,id=net,chardev=net", "-device", "virtio-net-pci,netdev=net,vectors=0"], "virtio_net", 2, 0x38008),
+    "fs": (["-device", "vhost-user-fs-pci,chardev=fs,tag=files"], "virtiofs", 2, 0),
+    "vsock": (["-device", "vhost-user-vsock-pci,chardev=vsock"], "vmw_vsock_virtio_transport", 2, 0),
+}
+
+
+def check_calls(name, rings):
+    """What a device of QEMU asked: all was served, and each ring was begun and stopped."""
+    with open(f"{name}.calls", encoding="utf-8") as it:
+        lines = it.read().splitlines()
+    check(lines[-1] == "ended: peer disconnected", f"{name} ended between two requests")
+    # (a network card enables its rings before it has accepted PROTOCOL_FEATURES, too, which is refused)
+    early = name == "net" and "refused 0: inactive feature"
+    check(not any(line.startswith("refused") and line != early for line in lines), f"each request of {name} was served")
+    for call in (12, 11):  # SET_VRING_KICK, GET_VRING_BASE
+        count = sum(line.startswith(f"call {call}:") for line in lines)
+        check(count >= rings, f"{name} made call {call} for each of its rings")
+    tell(f"{name}: {len(lines) - 1} requests")
+
+
+def tried_devices(program):
+    """QEMU's frontends of an entropy source, a network card, a file system and a socket device, each over a device that replies to
+    all that it is asked: what they ask from the negotiation to the end is served."""
+    disk = Disk(program)
+    words, devices = [], {}
+    for name, (device, _, rings, features) in DEVICES.items():
+        path = f"{name}-{os.getpid()}.socket"
+        with open(f"{name}.calls", "wb") as log:
+            devices[name] = run([ANY, path, str(rings), f"{features:x}"], log)
+        wait_until(lambda at=path: os.path.exists(at), f"{name} listens", 10)
+        words += ["-chardev", f"socket,id={name},path={path}", *device]
+    machine = boot("machine", disk, *words)
+    machine.do(f"for it in {' '.join(MORE_MODULES)}; do insmod /modules/$it.ko || exit 1; done")
+    for name, (_, driver, _, _) in DEVICES.items():
+        machine.do(f"ls /sys/bus/virtio/drivers/{driver} | grep -q virtio")
+    machine.do("ip link set eth0 up")
+    machine.power_off()
+    disk.end()
+    for name, (_, _, rings, _) in DEVICES.items():
+        devices[name].wait(LIMIT)
+        check(devices[name].returncode == 0, f"the device behind {name} ended well")
+        check_calls(name, rings)
+
+
+def tried_resized(program):
+    """The disk's file grows while the machine runs: the guest is told, and reads what is in the new part."""
+    disk = Disk(program)
+    machine = boot("machine", disk)
+    size = os.path.getsize("image")
+    check(machine.do("cat /sys/block/vda/size") == str(size // SECTOR), "the disk has the image's size")
+    data = bytes_of(7, 1 << 20)
+    with open("image", "r+b") as it:
+        it.seek(size)
+        it.write(data)
+    machine.do(f"while [ $(cat /sys/block/vda/size) != {size // SECTOR + 2048} ]; do sleep 0.1; done")
+    found = machine.do(f"dd if=/dev/vda bs=1M skip={size >> 20} count=1 2>/dev/null | sha256sum")
+    check(found.split()[0] == hashlib.sha256(data).hexdigest(), "what is read behind the end that was is what the disk has")
+    machine.power_off()
+    disk.end()
+
+
+def main():
+    global ANY
+    tries = {name.removeprefix("tried_"): it for name, it in globals().items() if name.startswith("tried_")}
+    if not 4 <= len(sys.argv) <= 5 or sys.argv[1] not in tries:
+        raise SystemExit(f"usage: machine.py {'|'.join(tries)} DISK BOOT [ANY]")
+    ANY = sys.argv[4] if len(sys.argv) == 5 else None
+    try:
+        make_image(sys.argv[3])
+        tries[sys.argv[1]](sys.argv[2])
+    finally:
+        for it in RUNNING:
+            it.kill()
+            it.wait()
+        for it in ("image", "first.cpio"):
+            if os.path.exists(it):
+                os.remove(it)
+
+
+main()
