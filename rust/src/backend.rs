@@ -152,7 +152,7 @@ backend! {
     fn set_mem_table(regions: &[VhostUserMemoryRegionInfo]) -> Result<Option<Vec<VhostUserMemoryRegionBase>>>;
 
     /// Tells the backend where the dirty log is kept: at this address, or in this region where LOG_SHMFD was accepted. To a region
-    /// a reply of 16 bytes is awaited: some backends send one of 8 bytes, which is refused, and some send none.
+    /// a reply is awaited: some backends send none. Some send one of 8 bytes, which is refused under the profile `Vhost`.
     fn set_log_base(base: u64, region: Option<VhostUserDirtyLogRegion>) -> Result<()>;
 
     /// Gives the eventfd by which the backend signals that it logged.

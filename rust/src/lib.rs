@@ -9,6 +9,7 @@ use std::{error, fmt, io, result};
 mod backend;
 #[allow(unsafe_code)]
 mod foreign;
+pub mod tap;
 pub mod vhost_user;
 
 pub use backend::*;

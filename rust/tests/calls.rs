@@ -7,7 +7,7 @@ use std::os::unix::io::{AsRawFd, OwnedFd};
 
 use common::*;
 use covretin::vhost_user::message::*;
-use covretin::vhost_user::{Frontend, VhostUserFrontend};
+use covretin::vhost_user::{Frontend, Profile, VhostUserFrontend};
 use covretin::{Result, VhostBackend, VhostUserDirtyLogRegion, VhostUserMemoryRegionInfo, VringConfigData};
 
 /// A call that has no reply of its own: without an acknowledgement, acknowledged, and refused. Its request has this code, this
@@ -197,40 +197,51 @@ fn postcopy_end() {
     acknowledged(30, "", 0, |it, _| it.postcopy_end());
 }
 
-/// Whether it is acknowledged is said by the features that it accepts itself.
+/// Whether it is acknowledged is said by the features that it accepts itself; and under the standard profile, whether it asks for that.
 #[test]
 fn set_protocol_features() {
     counted(|| {
-        let backend = |peer: &Peer| {
-            peer.hear(&message(16, WANTS, &8u64.to_le_bytes()));
-            peer.say_number(16, 0);
-            peer.hear(&message(16, WANTS, &0u64.to_le_bytes()));
-        };
-        negotiated(ALL, backend, |frontend| {
-            need_reply(frontend);
-            frontend.set_protocol_features(VhostUserProtocolFeatures::REPLY_ACK).unwrap();
-            frontend.set_protocol_features(VhostUserProtocolFeatures::empty()).unwrap();
-        });
+        for (profile, flags) in [(Profile::Standard, ASKS), (Profile::Vhost, WANTS)] {
+            let backend = move |peer: &Peer| {
+                peer.hear(&message(16, WANTS, &8u64.to_le_bytes()));
+                peer.say_number(16, 0);
+                peer.hear(&message(16, flags, &0u64.to_le_bytes()));
+            };
+            negotiated(ALL, backend, |frontend| {
+                frontend.set_profile(profile);
+                need_reply(frontend);
+                frontend.set_protocol_features(VhostUserProtocolFeatures::REPLY_ACK).unwrap();
+                frontend.set_protocol_features(VhostUserProtocolFeatures::empty()).unwrap();
+            });
+        }
     });
 }
 
-/// Only NEED_REPLY is a flag of requests; without REPLY_ACK nothing is awaited for it.
+/// Of the flags only NEED_REPLY is looked at; and under the standard profile it goes out only where REPLY_ACK was accepted.
 #[test]
 fn set_hdr_flags() {
     counted(|| {
-        let backend = |peer: &Peer| {
-            peer.hear(&message(3, ASKS, &[]));
-            peer.hear(&message(3, WANTS, &[]));
-            peer.hear(&message(3, ASKS, &[]));
-        };
-        negotiated(0, backend, |frontend| {
-            frontend.set_hdr_flags(VhostUserHeaderFlag::REPLY);
-            frontend.set_owner().unwrap();
-            frontend.set_hdr_flags(VhostUserHeaderFlag::ALL_FLAGS);
-            frontend.set_owner().unwrap();
-            frontend.set_hdr_flags(VhostUserHeaderFlag::empty());
-            frontend.set_owner().unwrap();
-        });
+        for (profile, features, flags) in
+            [(Profile::Vhost, 0, WANTS), (Profile::Standard, 0, ASKS), (Profile::Standard, 8, WANTS)]
+        {
+            let backend = move |peer: &Peer| {
+                for flags in [ASKS, flags, ASKS] {
+                    peer.hear(&message(3, flags, &[]));
+                    if (flags, features) == (WANTS, 8) {
+                        peer.say_number(3, 0);
+                    }
+                }
+            };
+            negotiated(features, backend, |frontend| {
+                frontend.set_profile(profile);
+                frontend.set_hdr_flags(VhostUserHeaderFlag::REPLY);
+                frontend.set_owner().unwrap();
+                frontend.set_hdr_flags(VhostUserHeaderFlag::ALL_FLAGS);
+                frontend.set_owner().unwrap();
+                frontend.set_hdr_flags(VhostUserHeaderFlag::empty());
+                frontend.set_owner().unwrap();
+            });
+        }
     });
 }
 
@@ -290,6 +301,8 @@ fn get_config() {
         assert_eq!([0xaa, 0xbb, 0xcc], bytes[..]);
         // By a record alone a backend says that it has no such bytes.
         failed("BackendInternalError", replied(24, asked, "10000000 00000000 02000000", vec![], asks));
+        // Real ones do it by nothing at all.
+        failed("BackendInternalError", replied(24, asked, "", vec![], asks));
     });
 }
 
@@ -383,6 +396,39 @@ fn set_log_base() {
         });
         let alone = |peer: &Peer| assert!(peer.hear(&message(6, ASKS, &hex("0050000000000000"))).is_empty());
         negotiated(0, alone, |frontend| frontend.set_log_base(0x5000, Some(log)).unwrap());
+    });
+}
+
+/// Real backends reply to it what they like, and acknowledge a base alone.
+#[test]
+fn set_log_base_of_real_backends() {
+    counted(|| {
+        let file = memory_file();
+        let log = VhostUserDirtyLogRegion { mmap_size: 0x800, mmap_offset: 0x10, mmap_handle: file.as_raw_fd() };
+        for size in [0, 8, 16, 4096] {
+            let backend = move |peer: &Peer| {
+                peer.hear_any();
+                peer.say(&message(6, REPLIES, &vec![0xff; size]), &[]);
+                peer.hear_any();
+                peer.say_number(6, 0);
+                peer.still_serves(5);
+            };
+            negotiated(ALL, backend, |frontend| {
+                frontend.set_log_base(0x5000, Some(log)).unwrap();
+                need_reply(frontend);
+                frontend.set_log_base(0x5000, None).unwrap();
+                frontend.set_hdr_flags(VhostUserHeaderFlag::empty());
+                assert_eq!(5, frontend.get_features().unwrap());
+            });
+        }
+        let crates = |peer: &Peer| {
+            peer.hear_any();
+            peer.say_number(6, 0);
+        };
+        negotiated(ALL, crates, |frontend| {
+            frontend.set_profile(Profile::Vhost);
+            failed("InvalidMessage", frontend.set_log_base(0x5000, Some(log)));
+        });
     });
 }
 

@@ -14,7 +14,7 @@ use covretin as vhost;
 
 use common::*;
 use vhost::vhost_user::message::*;
-use vhost::vhost_user::{Error as ProtocolError, Frontend, Listener, VhostUserFrontend};
+use vhost::vhost_user::{Error as ProtocolError, Frontend, Listener, Profile, VhostUserFrontend};
 use vhost::{
     Error, Result, VhostBackend, VhostBackendMut, VhostUserDirtyLogRegion, VhostUserMemoryRegionBase, VhostUserMemoryRegionInfo,
     VringConfigData,
@@ -233,6 +233,10 @@ fn numbers_of_the_header() {
         1u64 << number.parse::<u32>().unwrap()
     };
     assert_eq!(env!("CARGO_PKG_VERSION"), value("COVRETIN_VERSION"));
+    for (profile, name) in [(Profile::Standard, "STANDARD"), (Profile::Vhost, "VHOST")] {
+        assert!(header.contains(&format!("COVRETIN_PROFILE_{name} = {}", profile as u32)));
+    }
+    assert_eq!(Profile::Standard, Profile::default());
     assert_eq!(MAX_ATTACHED_FD_ENTRIES.to_string(), value("COVRETIN_MAX_FDS"));
     assert_eq!((MAX_MSG_SIZE + 12).to_string(), value("COVRETIN_MAX_MESSAGE"));
     assert_eq!(VhostUserHeaderFlag::NEED_REPLY.bits().to_string(), value("COVRETIN_NEED_REPLY"));

@@ -9,22 +9,11 @@ use std::net::Shutdown;
 use std::os::unix::io::AsRawFd;
 use std::os::unix::net::UnixStream;
 
+use common::random::*;
 use common::*;
 use covretin::vhost_user::message::*;
 use covretin::vhost_user::{Frontend, VhostUserFrontend};
 use covretin::{Result, VhostBackend};
-
-/// Numbers that look random (xorshift).
-struct Numbers(u64);
-
-impl Numbers {
-    fn below(&mut self, end: usize) -> usize {
-        self.0 ^= self.0 << 13;
-        self.0 ^= self.0 >> 7;
-        self.0 ^= self.0 << 17;
-        (self.0 >> 16) as usize % end
-    }
-}
 
 type Call = fn(&mut Frontend) -> Result<()>;
 
@@ -55,23 +44,6 @@ fn calls() -> Vec<(Call, Vec<u8>, usize)> {
         ),
         (|it| it.get_shmem_config().map(drop), message(44, REPLIES, &[0; 2056]), 0),
     ]
-}
-
-/// Changes a reply, or its number of descriptors; what is left of it may be nothing.
-fn change(numbers: &mut Numbers, reply: &mut Vec<u8>, count: &mut usize) {
-    match numbers.below(6) {
-        0 => *count = numbers.below(36),
-        1 => reply.truncate(numbers.below(reply.len())),
-        2 => reply.extend(vec![0; 1 + numbers.below(4200)]),
-        3 => {
-            let at = numbers.below(12.min(reply.len()));
-            reply[at] ^= 1 << numbers.below(8);
-        }
-        _ => {
-            let at = numbers.below(reply.len());
-            reply[at] = numbers.below(256) as u8;
-        }
-    }
 }
 
 /// A frontend that agreed with its backend on all features; the backend's end.

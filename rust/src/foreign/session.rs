@@ -2,29 +2,8 @@
 //! The sessions of `include/covretin.h`: the structs and calls as that header declares them. What each call does, and when each
 //! error comes, stands there.
 use std::os::unix::io::RawFd;
-use std::ptr::null_mut;
 
-pub(crate) const MAX_FDS: usize = 32;
-pub(crate) const MAX_MESSAGE: usize = 4108;
-
-/// A number of `enum covretin_error` that is not 0.
-#[derive(Clone, Copy, Debug, PartialEq, Eq)]
-pub(crate) struct Code(pub(crate) u32);
-
-pub(crate) type Outcome = Result<(), Code>;
-
-fn outcome(number: u32) -> Outcome {
-    match number {
-        0 => Ok(()),
-        number => Err(Code(number)),
-    }
-}
-
-/// `covretin_session`.
-#[repr(C)]
-struct Raw {
-    opaque: *mut u8,
-}
+use super::moving::{calls, outcome, sessions, values, Asks, Code, Moves, Outcome, Raw, MAX_FDS, MAX_MESSAGE};
 
 /// `covretin_region`.
 #[repr(C)]
@@ -37,8 +16,14 @@ pub(crate) struct Region {
     pub(crate) fd: i32,
 }
 
+impl Region {
+    /// A region of nothing.
+    pub(crate) const NONE: Region = Region { guest_phys_addr: 0, memory_size: 0, user_addr: 0, mmap_offset: 0, fd: -1 };
+}
+
 /// `covretin_vring`.
 #[repr(C)]
+#[derive(Clone, Copy, Default)]
 pub(crate) struct Vring {
     pub(crate) queue_max_size: u16,
     pub(crate) queue_size: u16,
@@ -69,33 +54,16 @@ pub(crate) struct Config {
     pub(crate) flags: u32,
 }
 
-/// An open session. It is closed when it is dropped.
-pub(crate) struct Session(Raw);
-
-// SAFETY: the header says that a session has no global state, and asks only that calls with the same one do not overlap; all of
-// them take `&mut self`, but for the drop, which owns it.
-unsafe impl Send for Session {}
-
-/// The calls whose arguments are numbers, and references to structs that are only read.
-macro_rules! asks {
-    ($($name:ident = $symbol:ident($($arg:ident: $ty:ty),*);)*) => {
-        extern "C" {
-            $(fn $symbol(session: &mut Raw, $($arg: $ty),*) -> u32;)*
-        }
-
-        impl Session {
-            $(pub(crate) fn $name(&mut self, $($arg: $ty),*) -> Outcome {
-                // SAFETY: it is declared as in the header. The session is open, and borrowed by this call alone; a struct is
-                // borrowed for the call, and has the header's layout. Any number may be passed.
-                outcome(unsafe { $symbol(&mut self.0, $($arg),*) })
-            })*
-        }
-    };
+sessions! {
+    /// A frontend's session.
+    Session: covretin_close, covretin_missing, covretin_receive, covretin_to_send;
 }
 
-asks! {
-    take = covretin_take();
+calls! {
+    Session:
+    take_reply = covretin_take();
     set_hdr_flags = covretin_set_hdr_flags(flags: u32);
+    set_profile = covretin_set_profile(profile: u32);
     get_features = covretin_ask_get_features();
     set_features = covretin_ask_set_features(features: u64);
     set_owner = covretin_ask_set_owner();
@@ -131,27 +99,19 @@ asks! {
     set_mtu = covretin_ask_set_mtu(mtu: u16);
 }
 
+values! {
+    Session:
+    answer_number = covretin_answer_number(number: u64 = 0) -> u64;
+    answer_fd = covretin_answer_fd(fd: i32 = -1) -> RawFd;
+    answer_inflight = covretin_answer_inflight(inflight: Inflight = Inflight::default(), fd: i32 = -1) -> (Inflight, RawFd);
+}
+
 extern "C" {
     fn covretin_open(session: &mut Raw, max_queue_num: u64) -> u32;
-    fn covretin_close(session: &mut Raw);
-    fn covretin_missing(session: &mut Raw) -> usize;
     fn covretin_inactive(session: &mut Raw) -> u64;
-    fn covretin_to_send(
-        session: &mut Raw,
-        bytes: *mut u8,
-        bytes_len: usize,
-        fds: *mut i32,
-        fds_len: usize,
-        byte_count: &mut usize,
-        fd_count: &mut usize,
-    ) -> u32;
-    fn covretin_receive(session: &mut Raw, bytes: *const u8, bytes_len: usize, fds: *const i32, fds_len: usize) -> u32;
-    fn covretin_answer_number(session: &mut Raw, number: &mut u64) -> u32;
     fn covretin_answer_bases(session: &mut Raw, bases: *mut u64, bases_len: usize, count: &mut usize) -> u32;
     fn covretin_answer_config(session: &mut Raw, config: &mut Config, bytes: *mut u8, bytes_len: usize, count: &mut usize)
         -> u32;
-    fn covretin_answer_fd(session: &mut Raw, fd: &mut i32) -> u32;
-    fn covretin_answer_inflight(session: &mut Raw, inflight: &mut Inflight, fd: &mut i32) -> u32;
     fn covretin_answer_shmem(session: &mut Raw, sizes: *mut u64, sizes_len: usize, count: &mut usize) -> u32;
     fn covretin_ask_set_mem_table(session: &mut Raw, regions: *const Region, count: usize) -> u32;
     fn covretin_ask_get_config_bytes(session: &mut Raw, offset: u32, flags: u32, bytes: *const u8, bytes_len: usize) -> u32;
@@ -164,54 +124,10 @@ extern "C" {
 // borrowed mutably, so no two of them overlap.
 impl Session {
     pub(crate) fn open(max_queue_num: u64) -> Result<Session, Code> {
-        let mut raw = Raw { opaque: null_mut() };
-        // SAFETY: as above; {0} is a session that is not open yet.
+        let mut raw = Raw::none();
+        // SAFETY: as above; it is not open yet.
         outcome(unsafe { covretin_open(&mut raw, max_queue_num) })?;
         Ok(Session(raw))
-    }
-
-    pub(crate) fn missing(&mut self) -> usize {
-        // SAFETY: as above.
-        unsafe { covretin_missing(&mut self.0) }
-    }
-
-    pub(crate) fn inactive(&mut self) -> u64 {
-        // SAFETY: as above.
-        unsafe { covretin_inactive(&mut self.0) }
-    }
-
-    /// How many bytes and descriptors are to be sent: from the start of each list on.
-    pub(crate) fn next_to_send(
-        &mut self,
-        bytes: &mut [u8; MAX_MESSAGE],
-        fds: &mut [RawFd; MAX_FDS],
-    ) -> Result<(usize, usize), Code> {
-        let (mut byte_count, mut fd_count) = (0, 0);
-        // SAFETY: as above.
-        outcome(unsafe {
-            covretin_to_send(
-                &mut self.0,
-                bytes.as_mut_ptr(),
-                bytes.len(),
-                fds.as_mut_ptr(),
-                fds.len(),
-                &mut byte_count,
-                &mut fd_count,
-            )
-        })?;
-        Ok((byte_count, fd_count))
-    }
-
-    pub(crate) fn receive(&mut self, bytes: &[u8], fds: &[RawFd]) -> Outcome {
-        // SAFETY: as above.
-        outcome(unsafe { covretin_receive(&mut self.0, bytes.as_ptr(), bytes.len(), fds.as_ptr(), fds.len()) })
-    }
-
-    pub(crate) fn answer_number(&mut self) -> Result<u64, Code> {
-        let mut number = 0;
-        // SAFETY: as above.
-        outcome(unsafe { covretin_answer_number(&mut self.0, &mut number) })?;
-        Ok(number)
     }
 
     /// How many bases were written.
@@ -228,20 +144,6 @@ impl Session {
         // SAFETY: as above.
         outcome(unsafe { covretin_answer_config(&mut self.0, &mut config, bytes.as_mut_ptr(), bytes.len(), &mut count) })?;
         Ok((config, count))
-    }
-
-    pub(crate) fn answer_fd(&mut self) -> Result<RawFd, Code> {
-        let mut fd = -1;
-        // SAFETY: as above.
-        outcome(unsafe { covretin_answer_fd(&mut self.0, &mut fd) })?;
-        Ok(fd)
-    }
-
-    pub(crate) fn answer_inflight(&mut self) -> Result<(Inflight, RawFd), Code> {
-        let (mut inflight, mut fd) = (Inflight::default(), -1);
-        // SAFETY: as above.
-        outcome(unsafe { covretin_answer_inflight(&mut self.0, &mut inflight, &mut fd) })?;
-        Ok((inflight, fd))
     }
 
     /// How many regions the backend has.
@@ -273,9 +175,13 @@ impl Session {
     }
 }
 
-impl Drop for Session {
-    fn drop(&mut self) {
-        // SAFETY: as above; nobody has it after this.
-        unsafe { covretin_close(&mut self.0) }
+impl Asks for Session {
+    fn take(&mut self) -> Outcome {
+        self.take_reply()
+    }
+
+    fn inactive(&mut self) -> u64 {
+        // SAFETY: as above.
+        unsafe { covretin_inactive(&mut self.0) }
     }
 }

@@ -1,15 +1,23 @@
 // SPDX-License-Identifier: Apache-2.0
 //! Bytes with descriptors over a Unix socket: `sendmsg`, `recvmsg` and `poll`.
 use std::io;
-use std::mem::{size_of, size_of_val, zeroed};
+use std::mem::{size_of, size_of_val, zeroed, MaybeUninit};
 use std::os::unix::io::{AsRawFd, FromRawFd, OwnedFd, RawFd};
 use std::os::unix::net::UnixStream;
 use std::ptr::copy_nonoverlapping;
 
-use super::session::MAX_FDS;
+use super::moving::MAX_FDS;
 
-// SAFETY: it computes a size.
-const ROOM: usize = unsafe { libc::CMSG_SPACE((size_of::<RawFd>() * MAX_FDS) as u32) } as usize;
+/// The greatest number of descriptors that the system passes on with a message.
+pub(crate) const SYSTEM_FDS: usize = 253;
+
+const ROOM: usize = room_for(SYSTEM_FDS);
+
+/// How much control data so many descriptors take.
+const fn room_for(fds: usize) -> usize {
+    // SAFETY: it computes a size.
+    unsafe { libc::CMSG_SPACE((size_of::<RawFd>() * fds) as u32) as usize }
+}
 
 /// Room for the control data of a message, at an address that its headers may stand at.
 #[repr(C)]
@@ -27,9 +35,9 @@ pub(crate) struct Received {
 }
 
 /// Sends a part of these bytes, at least one, with all of the descriptors on the first of them: how many bytes. It raises no
-/// SIGPIPE. The descriptors stay the caller's; there are `MAX_FDS` at most.
+/// SIGPIPE. The descriptors stay the caller's; there are `SYSTEM_FDS` at most.
 pub(crate) fn send(socket: &UnixStream, bytes: &[u8], fds: &[RawFd], is_waiting: bool) -> io::Result<usize> {
-    let mut control = Control { bytes: [0; ROOM] };
+    let mut control;
     let mut piece = libc::iovec { iov_base: bytes.as_ptr() as *mut libc::c_void, iov_len: bytes.len() };
     let flags = libc::MSG_NOSIGNAL | if is_waiting { 0 } else { libc::MSG_DONTWAIT };
     // SAFETY: a message of zeros is valid, and has no parts.
@@ -37,10 +45,11 @@ pub(crate) fn send(socket: &UnixStream, bytes: &[u8], fds: &[RawFd], is_waiting:
     message.msg_iov = &mut piece;
     message.msg_iovlen = 1;
     if !fds.is_empty() {
-        assert!(fds.len() <= MAX_FDS);
+        assert!(fds.len() <= SYSTEM_FDS);
         let length = size_of_val(fds) as u32;
+        control = Control { bytes: [0; ROOM] };
         message.msg_control = (&mut control as *mut Control).cast();
-        // SAFETY: the control data has room for a header and MAX_FDS descriptors, so the header is there, and its data is behind
+        // SAFETY: the control data has room for a header and SYSTEM_FDS descriptors, so the header is there, and its data is behind
         // it. The descriptors are copied as bytes, since that data need not be aligned for them.
         unsafe {
             message.msg_controllen = libc::CMSG_SPACE(length) as _;
@@ -59,19 +68,40 @@ pub(crate) fn send(socket: &UnixStream, bytes: &[u8], fds: &[RawFd], is_waiting:
 /// Receives a part of what fits, and puts the descriptors that came along behind `fds`: they are the caller's then, and do not
 /// pass to a program that is executed.
 pub(crate) fn receive(socket: &UnixStream, room: &mut [u8], fds: &mut Vec<OwnedFd>, is_waiting: bool) -> io::Result<Received> {
-    let mut control = Control { bytes: [0; ROOM] };
+    receive_within(socket, room, fds, MAX_FDS, is_waiting)
+}
+
+/// The same, with any number of descriptors.
+pub(crate) fn receive_any(
+    socket: &UnixStream,
+    room: &mut [u8],
+    fds: &mut Vec<OwnedFd>,
+    is_waiting: bool,
+) -> io::Result<Received> {
+    receive_within(socket, room, fds, SYSTEM_FDS, is_waiting)
+}
+
+/// The same, with so many descriptors at most, which are `SYSTEM_FDS` or fewer.
+fn receive_within(
+    socket: &UnixStream,
+    room: &mut [u8],
+    fds: &mut Vec<OwnedFd>,
+    most: usize,
+    is_waiting: bool,
+) -> io::Result<Received> {
+    let mut control = MaybeUninit::<Control>::uninit();
     let mut piece = libc::iovec { iov_base: room.as_mut_ptr().cast(), iov_len: room.len() };
     let flags = libc::MSG_CMSG_CLOEXEC | if is_waiting { 0 } else { libc::MSG_DONTWAIT };
     // SAFETY: a message of zeros is valid, and has no parts.
     let mut message: libc::msghdr = unsafe { zeroed() };
     message.msg_iov = &mut piece;
     message.msg_iovlen = 1;
-    message.msg_control = (&mut control as *mut Control).cast();
-    message.msg_controllen = ROOM as _;
-    // SAFETY: the message points to `piece`, the room and `control`, which all outlive the call.
+    message.msg_control = control.as_mut_ptr().cast();
+    message.msg_controllen = room_for(most) as _;
+    // SAFETY: the message points to `piece`, the room and `control`, which all outlive the call; `control` is only written.
     let got = unsafe { libc::recvmsg(socket.as_raw_fd(), &mut message, flags) };
     let count = usize::try_from(got).map_err(|_| io::Error::last_os_error())?;
-    // SAFETY: the system filled in the message.
+    // SAFETY: the system filled in the message, and of its control data as much as the message says.
     unsafe { gather(&message, fds) };
     Ok(Received { count, is_truncated: message.msg_flags & libc::MSG_CTRUNC != 0 })
 }
@@ -96,6 +126,18 @@ unsafe fn gather(message: &libc::msghdr, fds: &mut Vec<OwnedFd>) {
             }
             head = libc::CMSG_NXTHDR(message, head);
         }
+    }
+}
+
+/// An option of a socket: of SOL_SOCKET, by its number.
+pub(crate) fn option_of(socket: &impl AsRawFd, name: libc::c_int) -> io::Result<libc::c_int> {
+    let mut value: libc::c_int = 0;
+    let mut length = size_of::<libc::c_int>() as libc::socklen_t;
+    let place = (&mut value as *mut libc::c_int).cast();
+    // SAFETY: it is one number, and its size, borrowed for the call.
+    match unsafe { libc::getsockopt(socket.as_raw_fd(), libc::SOL_SOCKET, name, place, &mut length) } {
+        0 => Ok(value),
+        _ => Err(io::Error::last_os_error()),
     }
 }
 

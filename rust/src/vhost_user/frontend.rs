@@ -11,7 +11,7 @@ use std::time::Duration;
 
 use super::connection::Connection;
 use super::message::*;
-use super::Error as VhostUserError;
+use super::{Error as VhostUserError, Profile};
 use crate::foreign::{Inflight, Outcome, Region, Session, Vring};
 use crate::{
     Result, VhostBackend, VhostUserDirtyLogRegion, VhostUserMemoryRegionBase, VhostUserMemoryRegionInfo, VringConfigData,
@@ -109,7 +109,7 @@ pub trait VhostUserFrontend: VhostBackend {
 /// where it is not the reply's, and all of a reply that is refused.
 #[derive(Clone)]
 pub struct Frontend {
-    node: Arc<Mutex<Connection>>,
+    node: Arc<Mutex<Connection<Session>>>,
 }
 
 impl Frontend {
@@ -154,9 +154,17 @@ impl Frontend {
 
     /// The flags of each request from now on: NEED_REPLY, or none; no other is looked at. With NEED_REPLY each request is
     /// acknowledged that has no reply of its own, where REPLY_ACK was accepted; else a refusal of it by the backend is not seen.
-    /// Set it only once REPLY_ACK was accepted: a backend acknowledges each request that has it, and else nobody awaits that.
+    /// Under the profile `Vhost` set it only once REPLY_ACK was accepted: a backend acknowledges each request that has it, and else
+    /// nobody awaits that.
     pub fn set_hdr_flags(&self, flags: VhostUserHeaderFlag) {
-        self.node().set_hdr_flags((flags & VhostUserHeaderFlag::NEED_REPLY).bits());
+        self.node().set(|session| session.set_hdr_flags((flags & VhostUserHeaderFlag::NEED_REPLY).bits()));
+    }
+
+    /// Whose behaviour each call has from now on. Under `Standard` NEED_REPLY goes out only where REPLY_ACK was accepted,
+    /// `set_log_base` without a region is acknowledged like other calls, a reply to SET_LOG_BASE may have any size, and one to
+    /// GET_CONFIG without a body is BackendInternalError.
+    pub fn set_profile(&self, profile: Profile) {
+        self.node().set(|session| session.set_profile(profile as u32));
     }
 
     /// Limits the time of each call, all of it; None: no limit. A call that takes longer is SocketBroken, with a cause of the
@@ -170,7 +178,7 @@ impl Frontend {
         self.done(|session| session.set_mtu(mtu))
     }
 
-    fn node(&self) -> MutexGuard<'_, Connection> {
+    fn node(&self) -> MutexGuard<'_, Connection<Session>> {
         // A thread that panicked amid a call left no half of a message: what ends one stands in the connection.
         self.node.lock().unwrap_or_else(PoisonError::into_inner)
     }

@@ -1,5 +1,5 @@
 // SPDX-License-Identifier: Apache-2.0
-//! A frontend that backends connect to.
+//! A socket that the other side connects to.
 use std::fs::remove_file;
 use std::io::ErrorKind;
 use std::os::unix::io::{AsRawFd, RawFd};
@@ -8,7 +8,8 @@ use std::path::{Path, PathBuf};
 
 use super::{Error, Result};
 
-/// Listens at a Unix socket. What it accepts, [`Frontend::from_stream`](super::Frontend::from_stream) takes.
+/// Listens at a Unix socket. What it accepts, [`BackendReqHandler::from_stream`](super::BackendReqHandler::from_stream) and
+/// [`Frontend::from_stream`](super::Frontend::from_stream) take.
 #[derive(Debug)]
 pub struct Listener {
     listener: UnixListener,

@@ -1,6 +1,6 @@
 // SPDX-License-Identifier: Apache-2.0
-//! The protocol's codes, flags and records, as far as a frontend's caller holds them. The bytes of a message are made and read by
-//! the proved library alone.
+//! The protocol's codes, flags and records, as far as the caller of a frontend or a device holds them. The bytes of a message are
+//! made and read by the proved library alone.
 #![allow(non_camel_case_types)]
 #![allow(clippy::upper_case_acronyms)]
 use std::ops::Deref;
@@ -94,6 +94,21 @@ codes! {
         SET_DEVICE_STATE_FD = 42,
         CHECK_DEVICE_STATE = 43,
         GET_SHMEM_CONFIG = 44,
+    }
+
+    /// The requests of a backend. What each is for, the vhost-user specification says under its name.
+    #[allow(missing_docs)]
+    pub enum BackendReq {
+        IOTLB_MSG = 1,
+        CONFIG_CHANGE_MSG = 2,
+        VRING_HOST_NOTIFIER_MSG = 3,
+        VRING_CALL = 4,
+        VRING_ERR = 5,
+        SHARED_OBJECT_ADD = 6,
+        SHARED_OBJECT_REMOVE = 7,
+        SHARED_OBJECT_LOOKUP = 8,
+        SHMEM_MAP = 9,
+        SHMEM_UNMAP = 10,
     }
 
     /// Which way the state of a device goes.
@@ -191,6 +206,13 @@ bitflags! {
         const VHOST_VRING_F_LOG = 0x1;
     }
 
+    /// The flags of a part of a region of shared memory.
+    #[derive(Default)]
+    pub struct VhostUserMMapFlags: u64 {
+        /// It may be written.
+        const WRITABLE = 1 << 0;
+    }
+
     /// The flags of a part of the configuration space.
     pub struct VhostUserConfigFlags: u32 {
         /// A change by the guest's driver.
@@ -218,6 +240,7 @@ retaining! {
     VhostUserProtocolFeatures: u64,
     VhostUserVringAddrFlags: u32,
     VhostUserConfigFlags: u32,
+    VhostUserMMapFlags: u64,
 }
 
 /// Whether a record is one that the protocol allows.
@@ -311,6 +334,46 @@ impl Default for VhostUserShMemConfig {
 
 impl VhostUserMsgValidator for VhostUserShMemConfig {}
 
+/// A ring, and a number of it.
+#[derive(Clone, Copy, Debug, Default, PartialEq, Eq)]
+pub struct VhostUserVringState {
+    /// The ring.
+    pub index: u32,
+    /// At which descriptor it goes on.
+    pub num: u32,
+}
+
+impl VhostUserVringState {
+    /// A ring of these fields.
+    pub fn new(index: u32, num: u32) -> Self {
+        VhostUserVringState { index, num }
+    }
+}
+
+impl VhostUserMsgValidator for VhostUserVringState {}
+
+/// Where the dirty log is in what its descriptor maps.
+#[derive(Clone, Copy, Debug, Default, PartialEq, Eq)]
+pub struct VhostUserLog {
+    /// Its size, in bytes.
+    pub mmap_size: u64,
+    /// Where it begins.
+    pub mmap_offset: u64,
+}
+
+impl VhostUserLog {
+    /// A log of these fields.
+    pub fn new(mmap_size: u64, mmap_offset: u64) -> Self {
+        VhostUserLog { mmap_size, mmap_offset }
+    }
+}
+
+impl VhostUserMsgValidator for VhostUserLog {
+    fn is_valid(&self) -> bool {
+        self.mmap_size != 0 && !wraps(self.mmap_offset, self.mmap_size)
+    }
+}
+
 /// A part of the configuration space.
 #[derive(Clone, Copy, Debug, Default, PartialEq, Eq)]
 pub struct VhostUserConfig {
@@ -375,5 +438,30 @@ pub struct VhostUserSharedMsg {
 impl VhostUserMsgValidator for VhostUserSharedMsg {
     fn is_valid(&self) -> bool {
         !self.uuid.is_nil() && self.uuid.as_bytes() != &[0xff; 16]
+    }
+}
+
+/// A part of a region of shared memory, and what is mapped there.
+#[derive(Clone, Copy, Debug, Default, PartialEq, Eq)]
+pub struct VhostUserMMap {
+    /// The number of the region.
+    pub shmid: u8,
+    /// Not looked at.
+    pub padding: [u8; 7],
+    /// Where it begins in what its descriptor maps.
+    pub fd_offset: u64,
+    /// Where it begins in the region.
+    pub shm_offset: u64,
+    /// Its size, in bytes.
+    pub len: u64,
+    /// Bits of [`VhostUserMMapFlags`].
+    pub flags: u64,
+}
+
+impl VhostUserMsgValidator for VhostUserMMap {
+    fn is_valid(&self) -> bool {
+        let starts = [self.fd_offset, self.shm_offset];
+        let is_known = VhostUserMMapFlags::from_bits(self.flags).is_some();
+        self.len != 0 && is_known && !starts.iter().any(|start| wraps(*start, self.len))
     }
 }

@@ -1,19 +1,52 @@
 // SPDX-License-Identifier: Apache-2.0
-//! The vhost-user protocol, as its frontend speaks it.
+//! The vhost-user protocol, as its frontend and its backend speak it.
 use std::{error, fmt, io, result};
 
+mod backend;
+mod backend_req;
+mod backend_req_handler;
 mod connection;
+mod device;
 mod frontend;
+mod frontend_req_handler;
+mod gpu_backend_req;
 mod listener;
 pub mod message;
+mod served_connection;
+mod transport;
 
+pub use self::backend::BackendListener;
+pub use self::backend_req::Backend;
+pub use self::backend_req_handler::BackendReqHandler;
+pub use self::device::{VhostUserBackendReqHandler, VhostUserBackendReqHandlerMut};
 pub use self::frontend::{Frontend, VhostUserFrontend};
+pub use self::frontend_req_handler::{FrontendReqHandler, VhostUserFrontendReqHandler, VhostUserFrontendReqHandlerMut};
+pub use self::gpu_backend_req::GpuBackend;
 pub use self::listener::Listener;
 pub use self::message::{VhostUserProtocolFeatures, VhostUserVirtioFeatures};
 
+/// Whose behaviour a [`Frontend`] or a [`BackendReqHandler`] has where the specification and the crate `vhost` differ.
+#[derive(Clone, Copy, Debug, Default, PartialEq, Eq)]
+pub enum Profile {
+    /// That of the specification, and of QEMU, DPDK and other peers. Each has it at first.
+    #[default]
+    Standard = 0,
+    /// That of the crate `vhost`.
+    Vhost = 1,
+}
+
+/// The protocol features whose requests a [`BackendReqHandler`] serves: a device offers what it can do of these, and no more. A
+/// frontend that accepts another will send requests that nobody serves.
+pub const SERVED_PROTOCOL_FEATURES: VhostUserProtocolFeatures = VhostUserProtocolFeatures::from_bits_retain(
+    Frontend::PROTOCOL_FEATURES.bits()
+        | VhostUserProtocolFeatures::BACKEND_SEND_FD.bits()
+        | VhostUserProtocolFeatures::HOST_NOTIFIER.bits(),
+);
+
 /// Why a call of the protocol failed. After `SocketBroken`, `SocketError`, `PartialMessage`, `InvalidMessage` and
 /// `Disconnected` a [`Frontend`] is of no more use: each later call is `SocketBroken`. After all others it goes on, but after an
-/// `IncorrectFds` for descriptors that the system dropped.
+/// `IncorrectFds` for descriptors that the system dropped. What of a [`BackendReqHandler`] is,
+/// [`handle_request`](BackendReqHandler::handle_request) says.
 #[derive(Debug)]
 pub enum Error {
     /// An argument is not allowed; nothing was sent.
@@ -96,6 +129,12 @@ impl fmt::Display for Error {
 
 impl error::Error for Error {}
 
+impl From<Error> for io::Error {
+    fn from(cause: Error) -> Self {
+        io::Error::new(io::ErrorKind::Other, cause)
+    }
+}
+
 impl Error {
     /// Whether a new connection may help.
     pub fn should_reconnect(&self) -> bool {
@@ -108,3 +147,6 @@ impl Error {
 
 /// What a call of the protocol returns.
 pub type Result<T> = result::Result<T, Error>;
+
+/// What a call on the backend channel returns.
+pub type HandlerResult<T> = result::Result<T, io::Error>;

@@ -2,8 +2,12 @@
 //! What the tests have in common: a backend that a test plays by hand at the other end of a socket, and a count of open
 //! descriptors around each test. All bytes are the vhost-user specification's.
 #![allow(dead_code)]
+pub mod device;
+pub mod random;
+pub mod tap;
+
 use std::fs::{read_dir, File};
-use std::io::{Read, Write};
+use std::io::{ErrorKind, Read, Write};
 use std::mem::{size_of, size_of_val, zeroed};
 use std::os::unix::fs::MetadataExt;
 use std::os::unix::io::{AsRawFd, FromRawFd, OwnedFd, RawFd};
@@ -110,7 +114,11 @@ impl Peer {
     pub fn say(&self, bytes: &[u8], fds: &[&File]) {
         let fds: Vec<RawFd> = fds.iter().map(|it| it.as_raw_fd()).collect();
         send(&self.socket, &bytes[..1], &fds);
-        (&self.socket).write_all(&bytes[1..]).unwrap();
+        // Who refuses the first byte, for its descriptors, may be gone.
+        match (&self.socket).write_all(&bytes[1..]) {
+            Err(error) if error.kind() == ErrorKind::BrokenPipe => {}
+            written => written.unwrap(),
+        }
     }
 
     /// Replies by this number.

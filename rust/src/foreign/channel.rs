@@ -1,0 +1,127 @@
+// SPDX-License-Identifier: Apache-2.0
+//! The sessions of `include/covretin_channel.h`, as that header declares them. What each call does, and when each error comes,
+//! stands there.
+use std::os::unix::io::RawFd;
+
+use super::moving::{calls, outcome, sessions, values, Asks, Code, Moves, Outcome, Raw, Serves, MAX_FDS, MAX_MESSAGE};
+
+/// `covretin_mmap`.
+#[repr(C)]
+#[derive(Clone, Copy, Default)]
+pub(crate) struct Mmap {
+    pub(crate) fd_offset: u64,
+    pub(crate) shm_offset: u64,
+    pub(crate) len: u64,
+    pub(crate) flags: u64,
+    pub(crate) shmid: u8,
+}
+
+sessions! {
+    /// A device's session on the backend channel.
+    ChannelSession: covretin_channel_close, covretin_channel_missing, covretin_channel_receive, covretin_channel_to_send;
+    /// A frontend's session on the backend channel.
+    ChannelServer: covretin_channel_server_close, covretin_channel_server_missing, covretin_channel_server_receive,
+        covretin_channel_server_to_send;
+}
+
+calls! {
+    ChannelSession:
+    take_reply = covretin_channel_take();
+    set_reply_ack = covretin_channel_set_reply_ack(on: bool);
+    set_config_change = covretin_channel_set_config_change(on: bool);
+    set_shared_object = covretin_channel_set_shared_object(on: bool);
+    set_shmem = covretin_channel_set_shmem(on: bool);
+    config_change = covretin_channel_ask_config_change();
+    shmem_map = covretin_channel_ask_shmem_map(mmap: &Mmap, fd: i32);
+    shmem_unmap = covretin_channel_ask_shmem_unmap(mmap: &Mmap);
+}
+
+calls! {
+    ChannelServer:
+    stream_end = covretin_channel_server_end();
+    set_reply_ack = covretin_channel_server_set_reply_ack(on: bool);
+    reply_number = covretin_channel_reply_number(number: u64);
+    reply_errno = covretin_channel_reply_errno(number: i32);
+}
+
+values! {
+    ChannelServer:
+    next_call = covretin_channel_server_next(call: u32 = 0) -> u32;
+    mmap = covretin_channel_call_mmap(mmap: Mmap = Mmap::default()) -> Mmap;
+    fd = covretin_channel_call_fd(fd: i32 = -1) -> RawFd;
+}
+
+extern "C" {
+    fn covretin_channel_open(channel: &mut Raw) -> u32;
+    fn covretin_channel_ask_shared_object_add(channel: &mut Raw, name: *const u8, name_len: usize) -> u32;
+    fn covretin_channel_ask_shared_object_remove(channel: &mut Raw, name: *const u8, name_len: usize) -> u32;
+    fn covretin_channel_ask_shared_object_lookup(channel: &mut Raw, name: *const u8, name_len: usize, fd: i32) -> u32;
+    fn covretin_channel_server_open(server: &mut Raw) -> u32;
+    fn covretin_channel_call_name(server: &mut Raw, name: *mut u8, name_len: usize) -> u32;
+}
+
+// SAFETY, of each call below: it is declared as in the header. The session is open, and borrowed by this call alone. A name is
+// borrowed for the call, given by its pointer, which is never null, and its own length.
+impl ChannelSession {
+    pub(crate) fn open() -> Result<ChannelSession, Code> {
+        let mut raw = Raw::none();
+        // SAFETY: as above; it is not open yet.
+        outcome(unsafe { covretin_channel_open(&mut raw) })?;
+        Ok(ChannelSession(raw))
+    }
+
+    pub(crate) fn shared_object_add(&mut self, name: &[u8; 16]) -> Outcome {
+        // SAFETY: as above.
+        outcome(unsafe { covretin_channel_ask_shared_object_add(&mut self.0, name.as_ptr(), name.len()) })
+    }
+
+    pub(crate) fn shared_object_remove(&mut self, name: &[u8; 16]) -> Outcome {
+        // SAFETY: as above.
+        outcome(unsafe { covretin_channel_ask_shared_object_remove(&mut self.0, name.as_ptr(), name.len()) })
+    }
+
+    pub(crate) fn shared_object_lookup(&mut self, name: &[u8; 16], fd: RawFd) -> Outcome {
+        // SAFETY: as above.
+        outcome(unsafe { covretin_channel_ask_shared_object_lookup(&mut self.0, name.as_ptr(), name.len(), fd) })
+    }
+}
+
+impl ChannelServer {
+    pub(crate) fn open() -> Result<ChannelServer, Code> {
+        let mut raw = Raw::none();
+        // SAFETY: as above; it is not open yet.
+        outcome(unsafe { covretin_channel_server_open(&mut raw) })?;
+        Ok(ChannelServer(raw))
+    }
+
+    pub(crate) fn name(&mut self) -> Result<[u8; 16], Code> {
+        let mut name = [0; 16];
+        // SAFETY: as above.
+        outcome(unsafe { covretin_channel_call_name(&mut self.0, name.as_mut_ptr(), name.len()) })?;
+        Ok(name)
+    }
+}
+
+impl Asks for ChannelSession {
+    fn take(&mut self) -> Outcome {
+        self.take_reply()
+    }
+
+    fn inactive(&mut self) -> u64 {
+        0
+    }
+}
+
+impl Serves for ChannelServer {
+    fn end(&mut self) -> Outcome {
+        self.stream_end()
+    }
+
+    fn next(&mut self) -> Result<u32, Code> {
+        self.next_call()
+    }
+
+    fn inactive(&mut self) -> u64 {
+        0
+    }
+}

@@ -1,0 +1,181 @@
+// SPDX-License-Identifier: Apache-2.0
+//! A session of the proved library that serves, and the socket that it serves over: requests whole, one at a time.
+use std::fs::File;
+use std::os::unix::io::{AsRawFd, OwnedFd, RawFd};
+use std::os::unix::net::UnixStream;
+use std::time::Duration;
+use std::{io, result};
+
+use super::transport::{broken_by, end_after, error_of, last_error, numbers_of, receive_ready, send_all, take_from};
+use super::{Error, Result};
+use crate::foreign::{Code, Outcome, Serves, MAX_MESSAGE};
+
+/// COVRETIN_INVALID_OPERATION.
+const INVALID_OPERATION: Code = Code(2);
+
+/// A connection of a backend to its frontend; or on the backend channel the other way round.
+pub(super) struct ServedConnection<S: Serves> {
+    session: S,
+    socket: UnixStream,
+    /// How long it may take to send a reply.
+    send_timeout: Option<Duration>,
+    /// Bytes that were received, and then those of the reply: a request is received whole before it is replied to.
+    bytes: Box<[u8; MAX_MESSAGE]>,
+    /// What came with the request that is received or served, and was not claimed.
+    fds: Vec<OwnedFd>,
+    /// What ended it: the system's number of an error. A request that failed on its way has left a part of a message.
+    broken: Option<i32>,
+}
+
+impl<S: Serves> ServedConnection<S> {
+    /// A write timeout of the socket becomes the limit of time of each reply.
+    pub(super) fn over(session: S, socket: UnixStream) -> ServedConnection<S> {
+        let send_timeout = socket.write_timeout().ok().flatten();
+        let bytes = Box::new([0; MAX_MESSAGE]);
+        ServedConnection { session, socket, send_timeout, bytes, fds: Vec::new(), broken: None }
+    }
+
+    pub(super) fn try_clone_socket(&self) -> io::Result<UnixStream> {
+        self.socket.try_clone()
+    }
+
+    /// Ends it by this number of the system; None: it goes on.
+    pub(super) fn set_failed(&mut self, errno: Option<i32>) {
+        self.broken = errno;
+    }
+
+    /// Sets what the session needs to know.
+    pub(super) fn set(&mut self, set: impl FnOnce(&mut S) -> Outcome) {
+        // It can't fail: each call was replied to, or has ended the connection.
+        let _ = set(&mut self.session);
+    }
+
+    /// Receives the next request whole, and checks it: the number of what it asks. From then on a call of `reply` is owed.
+    /// SocketRetry: no more has come yet; the next call goes on.
+    pub(super) fn next_call(&mut self) -> Result<u32> {
+        if let Some(errno) = self.broken {
+            return Err(broken_by(errno));
+        }
+        self.receive_all()?;
+        match self.session.next() {
+            Ok(call) => {
+                // (until it is replied to, which a panic would prevent)
+                self.broken = Some(libc::EIO);
+                Ok(call)
+            }
+            Err(code) => Err(self.refuse_request(code)),
+        }
+    }
+
+    /// Replies, and sends what is to be sent. BackendInternalError: it was replied that the device refused.
+    pub(super) fn reply(&mut self, say: impl FnOnce(&mut S) -> Outcome) -> Result<()> {
+        let said = say(&mut self.session).map_err(|code| error_of(code, 0));
+        self.send()?;
+        self.fds.clear();
+        match said {
+            Ok(()) | Err(Error::BackendInternalError) => {
+                self.broken = None;
+                said
+            }
+            Err(error) => Err(self.break_by(error)),
+        }
+    }
+
+    /// Reads arguments of the call that is to be replied to.
+    pub(super) fn argument<T>(&mut self, read: impl FnOnce(&mut S) -> result::Result<T, Code>) -> Result<T> {
+        read(&mut self.session).map_err(|code| error_of(code, 0))
+    }
+
+    /// The file of this number, of those that came with the request. None for a negative number.
+    pub(super) fn claim_some(&mut self, fd: RawFd) -> Result<Option<File>> {
+        match fd {
+            fd if fd < 0 => Ok(None),
+            fd => Ok(Some(self.claim(fd)?)),
+        }
+    }
+
+    /// The same, where there has to be one.
+    pub(super) fn claim(&mut self, fd: RawFd) -> Result<File> {
+        take_from(&mut self.fds, fd).map_err(|error| self.break_by(error))
+    }
+
+    /// The same, which may write to a buffer for bytes.
+    pub(super) fn argument_bytes<T>(
+        &mut self,
+        read: impl FnOnce(&mut S, &mut [u8; MAX_MESSAGE]) -> result::Result<T, Code>,
+    ) -> Result<(T, &[u8; MAX_MESSAGE])> {
+        let read = read(&mut self.session, &mut self.bytes).map_err(|code| error_of(code, 0))?;
+        Ok((read, &self.bytes))
+    }
+
+    /// Receives what is missing of the request.
+    fn receive_all(&mut self) -> Result<()> {
+        loop {
+            // No further: the system does not say at which byte descriptors came.
+            let missing = self.session.missing().min(MAX_MESSAGE);
+            if missing == 0 {
+                return Ok(());
+            }
+            let first = self.fds.len();
+            let count = match receive_ready(&self.socket, &mut self.bytes[..missing], &mut self.fds, true) {
+                Ok(count) => count,
+                Err(Error::SocketRetry(cause)) => return Err(Error::SocketRetry(cause)),
+                Err(error) => return Err(self.break_by(error)),
+            };
+            if count == 0 {
+                return Err(self.end());
+            }
+            let numbers = numbers_of(&self.fds[first..]);
+            if let Err(code) = self.session.receive(&self.bytes[..count], &numbers) {
+                return Err(self.break_by(error_of(code, 0)));
+            }
+        }
+    }
+
+    /// What it means that the stream ended here. Between two requests it can be asked again.
+    fn end(&mut self) -> Error {
+        match self.session.end() {
+            Err(code) => match error_of(code, 0) {
+                Error::Disconnected => Error::Disconnected,
+                error => self.break_by(error),
+            },
+            Ok(()) => self.break_by(Error::Disconnected),
+        }
+    }
+
+    /// Why a request was refused. It may be acknowledged, and the connection goes on where the request was well-formed.
+    fn refuse_request(&mut self, code: Code) -> Error {
+        self.fds.clear();
+        let error = match code {
+            INVALID_OPERATION => Error::InvalidOperation("the request is not served, or not in this state of postcopy"),
+            code => error_of(code, self.session.inactive()),
+        };
+        match (self.send(), error) {
+            (Err(error), _) => error,
+            (Ok(()), error @ (Error::InvalidMessage | Error::SocketBroken(_) | Error::SocketRetry(_))) => self.break_by(error),
+            (Ok(()), error) => error,
+        }
+    }
+
+    fn send(&mut self) -> Result<()> {
+        let end = end_after(self.send_timeout);
+        let sent = send_all(&self.socket, &mut self.bytes, end, |bytes, fds| {
+            self.session.next_to_send(bytes, fds).map_err(|code| error_of(code, 0))
+        });
+        sent.map_err(|error| self.break_by(error))
+    }
+
+    /// Ends the connection by this error.
+    pub(super) fn break_by(&mut self, error: Error) -> Error {
+        let (error, errno) = last_error(error);
+        self.broken = Some(errno);
+        self.fds.clear();
+        error
+    }
+}
+
+impl<S: Serves> AsRawFd for ServedConnection<S> {
+    fn as_raw_fd(&self) -> RawFd {
+        self.socket.as_raw_fd()
+    }
+}

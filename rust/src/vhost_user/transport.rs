@@ -1,0 +1,171 @@
+// SPDX-License-Identifier: Apache-2.0
+//! What both sides do with a socket: they send and receive messages in parts, with descriptors; and they name errors as the crate
+//! does.
+use std::fs::File;
+use std::io;
+use std::os::unix::io::{AsRawFd, OwnedFd, RawFd};
+use std::os::unix::net::UnixStream;
+use std::time::{Duration, Instant};
+
+use super::{Error, Result, VhostUserProtocolFeatures, VhostUserVirtioFeatures};
+use crate::foreign::{is_ready, receive, send, Code, Received, MAX_FDS, MAX_MESSAGE};
+
+/// Until when something may take. None: for ever.
+pub(super) type End = Option<Instant>;
+
+/// The end of so long a time from now on.
+pub(super) fn end_after(limit: Option<Duration>) -> End {
+    limit.and_then(|limit| Instant::now().checked_add(limit))
+}
+
+/// Sends all that a session hands out, which is put into `bytes` piece by piece.
+pub(super) fn send_all(
+    socket: &UnixStream,
+    bytes: &mut [u8; MAX_MESSAGE],
+    end: End,
+    mut next: impl FnMut(&mut [u8; MAX_MESSAGE], &mut [RawFd; MAX_FDS]) -> Result<(usize, usize)>,
+) -> Result<()> {
+    let mut fds = [-1; MAX_FDS];
+    loop {
+        let (byte_count, fd_count) = next(bytes, &mut fds)?;
+        if byte_count == 0 {
+            return Ok(());
+        }
+        send_piece(socket, &bytes[..byte_count], &fds[..fd_count], end)?;
+    }
+}
+
+/// Sends all of these bytes, the descriptors with the first of them.
+fn send_piece(socket: &UnixStream, mut bytes: &[u8], mut fds: &[RawFd], end: End) -> Result<()> {
+    while !bytes.is_empty() {
+        match send(socket, bytes, fds, end.is_none()) {
+            Ok(count) => {
+                bytes = &bytes[count..];
+                fds = &[];
+            }
+            Err(cause) => match unready(cause)? {
+                None => {}
+                Some(_) => wait_for(socket, libc::POLLOUT, end)?,
+            },
+        }
+    }
+    Ok(())
+}
+
+/// Receives at least one byte, and waits for it: how many; 0 at the end of the stream.
+pub(super) fn receive_piece(socket: &UnixStream, room: &mut [u8], fds: &mut Vec<OwnedFd>, end: End) -> Result<usize> {
+    loop {
+        match receive_ready(socket, room, fds, end.is_none()) {
+            Err(Error::SocketRetry(_)) => wait_for(socket, libc::POLLIN, end)?,
+            received => return received,
+        }
+    }
+}
+
+/// The same; with `is_waiting` it waits as the socket does. SocketRetry: there is nothing yet.
+pub(super) fn receive_ready(socket: &UnixStream, room: &mut [u8], fds: &mut Vec<OwnedFd>, is_waiting: bool) -> Result<usize> {
+    loop {
+        match receive(socket, room, fds, is_waiting) {
+            Ok(Received { is_truncated: true, .. }) => return Err(Error::IncorrectFds),
+            Ok(Received { count, .. }) => return Ok(count),
+            Err(cause) => {
+                if let Some(cause) = unready(cause)? {
+                    return Err(Error::SocketRetry(cause));
+                }
+            }
+        }
+    }
+}
+
+/// None after a signal, and the cause where the socket would have waited. Another error is passed on.
+fn unready(cause: io::Error) -> Result<Option<io::Error>> {
+    match cause.kind() {
+        io::ErrorKind::Interrupted => Ok(None),
+        io::ErrorKind::WouldBlock => Ok(Some(cause)),
+        _ => Err(socket_error(cause)),
+    }
+}
+
+/// Waits until the socket is ready for this.
+fn wait_for(socket: &UnixStream, events: libc::c_short, end: End) -> Result<()> {
+    loop {
+        match is_ready(socket, events, left_until(end)) {
+            Ok(true) => return Ok(()),
+            Ok(false) if left_until(end) == 0 => return Err(Error::SocketBroken(io::Error::from_raw_os_error(libc::ETIMEDOUT))),
+            Ok(false) => {}
+            Err(cause) if cause.kind() == io::ErrorKind::Interrupted => {}
+            Err(cause) => return Err(socket_error(cause)),
+        }
+    }
+}
+
+/// How many milliseconds are left until then, rounded up, 0 where none are; negative: no limit.
+fn left_until(end: End) -> libc::c_int {
+    end.map_or(-1, |end| {
+        let left = end.saturating_duration_since(Instant::now());
+        let rounded = left.as_millis() + u128::from(left.subsec_nanos() % 1_000_000 != 0);
+        rounded.try_into().unwrap_or(libc::c_int::MAX)
+    })
+}
+
+/// The numbers of descriptors.
+pub(super) fn numbers_of(fds: &[OwnedFd]) -> Vec<RawFd> {
+    fds.iter().map(AsRawFd::as_raw_fd).collect()
+}
+
+/// Takes the descriptor of this number. One that is not among these would be another file of this program.
+pub(super) fn take_from(fds: &mut Vec<OwnedFd>, fd: RawFd) -> Result<File> {
+    match fds.iter().position(|it| it.as_raw_fd() == fd) {
+        Some(at) => Ok(File::from(fds.swap_remove(at))),
+        None => Err(Error::InvalidMessage),
+    }
+}
+
+/// Why a call of the socket failed, as the crate sorts the system's errors. What it would try again has ended a message here.
+fn socket_error(cause: io::Error) -> Error {
+    match cause.raw_os_error() {
+        Some(libc::EPIPE | libc::ECONNRESET | libc::ENOBUFS | libc::ENOMEM) => Error::SocketBroken(cause),
+        _ => Error::SocketError(cause),
+    }
+}
+
+/// An error of a session, in the crate's names, with the features that were lacking.
+pub(super) fn error_of(code: Code, inactive: u64) -> Error {
+    let no_memory = || io::Error::from_raw_os_error(libc::ENOMEM);
+    match code.0 {
+        1 => Error::InvalidParam,
+        3 => Error::InactiveFeature(VhostUserVirtioFeatures::from_bits_retain(inactive)),
+        4 => Error::InactiveOperation(VhostUserProtocolFeatures::from_bits_retain(inactive)),
+        5 => Error::InvalidMessage,
+        9 => Error::PartialMessage,
+        10 => Error::Disconnected,
+        11 => Error::OversizedMsg,
+        12 => Error::IncorrectFds,
+        15 => Error::SocketBroken(no_memory()),
+        16 | 24 => Error::SocketRetry(no_memory()),
+        17 => Error::BackendInternalError,
+        18 => Error::FrontendInternalError,
+        19 => Error::FeatureMismatch,
+        _ => Error::InvalidOperation("refused by the session"),
+    }
+}
+
+/// What ends a connection by this error: it, and the system's number for each later call. An allocation that failed amid a message
+/// can't be tried again.
+pub(super) fn last_error(error: Error) -> (Error, i32) {
+    let error = match error {
+        Error::SocketRetry(cause) => Error::SocketBroken(cause),
+        error => error,
+    };
+    let errno = match &error {
+        Error::SocketBroken(cause) | Error::SocketError(cause) => cause.raw_os_error().unwrap_or(libc::EIO),
+        Error::PartialMessage => libc::EPIPE,
+        _ => libc::EPROTO,
+    };
+    (error, errno)
+}
+
+/// What a connection that this ended returns to each later call.
+pub(super) fn broken_by(errno: i32) -> Error {
+    Error::SocketBroken(io::Error::from_raw_os_error(errno))
+}
