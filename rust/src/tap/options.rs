@@ -1,0 +1,133 @@
+// SPDX-License-Identifier: Apache-2.0
+//! How the program is called.
+use std::path::PathBuf;
+
+use crate::vhost_user::Profile;
+
+/// What the program prints where it is called in another way.
+pub(super) const USAGE: &str = "\
+usage: covretin-tap [--profile=standard|vhost] [--json] [--hex] [--record FILE] [--count=N] LISTEN CONNECT
+       covretin-tap [--profile=standard|vhost] [--json] [--hex] --replay FILE";
+
+/// What is said of it by --help.
+pub(super) const HELP: &str = "
+Passes each session of vhost-user on from the socket LISTEN to the backend at the socket CONNECT, shows its messages, and
+says behind '!' where one of them is none that the protocol's table has.
+
+  --profile=P    which table: standard, that of the specification and of real peers, or vhost, that of the crate vhost
+  --json         a line of JSON for each event
+  --hex          the bytes of each message
+  --record FILE  writes what is seen to FILE, a line of JSON each
+  --count=N      ends with the Nth session; without it the tap ends by SIGINT or SIGTERM
+  --replay FILE  shows and judges what was recorded, in place of a session
+
+Status: 0 where nothing is wrong; 1 where something is; 2 after wrong arguments, or where a path can't be used.";
+
+/// How events are shown.
+#[derive(Clone, Copy, Debug, PartialEq, Eq)]
+pub(super) enum Format {
+    Text,
+    Json,
+}
+
+/// What is tapped.
+#[derive(Clone, Debug, PartialEq, Eq)]
+pub(super) enum Source {
+    Sockets { listen: PathBuf, connect: PathBuf, record: Option<PathBuf>, count: Option<u64> },
+    Recording(PathBuf),
+}
+
+#[derive(Clone, Debug, PartialEq, Eq)]
+pub(super) struct Options {
+    pub(super) profile: Profile,
+    pub(super) format: Format,
+    pub(super) shows_bytes: bool,
+    pub(super) source: Source,
+}
+
+/// What the words ask for.
+#[derive(Clone, Debug, PartialEq, Eq)]
+pub(super) enum Asked {
+    Tap(Options),
+    Help,
+    Version,
+}
+
+/// The words behind the program's name; or what is wrong with them.
+pub(super) fn parse(words: impl IntoIterator<Item = String>) -> Result<Asked, String> {
+    let mut words = words.into_iter();
+    let (mut profile, mut format, mut shows_bytes) = (Profile::Standard, Format::Text, false);
+    let (mut record, mut replay, mut count, mut paths) = (None, None, None, Vec::new());
+    while let Some(word) = words.next() {
+        let mut file = |name: &str| words.next().map(PathBuf::from).ok_or(format!("{name} wants a file"));
+        match word.as_str() {
+            "--help" | "-h" => return Ok(Asked::Help),
+            "--version" => return Ok(Asked::Version),
+            "--json" => format = Format::Json,
+            "--hex" => shows_bytes = true,
+            "--record" => record = Some(file("--record")?),
+            "--replay" => replay = Some(file("--replay")?),
+            "--profile=standard" => profile = Profile::Standard,
+            "--profile=vhost" => profile = Profile::Vhost,
+            word => match word.strip_prefix("--count=") {
+                Some(number) => {
+                    count = Some(number.parse().ok().filter(|it| *it != 0).ok_or("--count wants a number from 1 on")?)
+                }
+                None if word.starts_with('-') => return Err(format!("no such option: {word}")),
+                None => paths.push(PathBuf::from(word)),
+            },
+        }
+    }
+    let source = source(paths, replay, record, count)?;
+    Ok(Asked::Tap(Options { profile, format, shows_bytes, source }))
+}
+
+fn source(paths: Vec<PathBuf>, replay: Option<PathBuf>, record: Option<PathBuf>, count: Option<u64>) -> Result<Source, String> {
+    let mut paths = paths.into_iter();
+    match (paths.next(), paths.next(), paths.next(), replay) {
+        (None, None, None, Some(file)) if record.is_none() && count.is_none() => Ok(Source::Recording(file)),
+        (Some(listen), Some(connect), None, None) => Ok(Source::Sockets { listen, connect, record, count }),
+        (_, _, _, Some(_)) => Err("--replay wants no sockets, and nothing to record or count".to_string()),
+        _ => Err("two sockets are wanted: one to listen at, and that of the backend".to_string()),
+    }
+}
+
+#[cfg(test)]
+mod tests {
+    use super::*;
+
+    fn parsed(text: &str) -> Result<Asked, String> {
+        parse(text.split_whitespace().map(str::to_string))
+    }
+
+    #[test]
+    fn sockets_and_a_recording() {
+        let sockets = |record, count| Source::Sockets { listen: "a".into(), connect: "b".into(), record, count };
+        let options = |source| Options { profile: Profile::Standard, format: Format::Text, shows_bytes: false, source };
+        assert_eq!(Ok(Asked::Tap(options(sockets(None, None)))), parsed("a b"));
+        assert_eq!(Ok(Asked::Tap(options(sockets(Some("f".into()), Some(3))))), parsed("--record f a --count=3 b"));
+        let recording = options(Source::Recording("f".into()));
+        assert_eq!(
+            Ok(Asked::Tap(Options { profile: Profile::Vhost, format: Format::Json, shows_bytes: true, ..recording })),
+            parsed("--json --hex --profile=vhost --replay f")
+        );
+        assert_eq!(Ok(Asked::Help), parsed("a b --help"));
+    }
+
+    #[test]
+    fn wrong_words() {
+        for words in [
+            "",
+            "a",
+            "a b c",
+            "--replay",
+            "--replay f a",
+            "--replay f --count=1",
+            "--profile=other a b",
+            "--count=0 a b",
+            "-x a b",
+        ] {
+            assert!(parsed(words).is_err(), "{words}");
+        }
+    }
+}

@@ -1,0 +1,178 @@
+// SPDX-License-Identifier: Apache-2.0
+//! Passes a stream on: each byte and descriptor unchanged, and at once. What is received of a message goes out by one send where it
+//! came at one time, and the rest of it when it comes. Whether anyone looks at it changes nothing.
+use std::io;
+use std::net::Shutdown;
+use std::os::unix::io::{AsRawFd, OwnedFd};
+use std::os::unix::net::UnixStream;
+use std::sync::Arc;
+use std::thread;
+
+use super::event::{Channel, Message, Side, Way, What};
+use super::gathering::{Gathering, Received, ROOM};
+use super::reporter::Reporter;
+use crate::foreign::{is_ready, option_of, receive_any, send};
+use crate::vhost_user::message::FrontendReq;
+
+/// One way between two sockets.
+struct Line {
+    way: Way,
+    from: Arc<UnixStream>,
+    to: Arc<UnixStream>,
+    reporter: Reporter,
+}
+
+/// Passes on between a frontend and a backend until both ways have ended, each way in a thread.
+pub(super) fn pass_between(channel: Channel, frontend: UnixStream, backend: UnixStream, reporter: &Reporter) {
+    let (frontend, backend) = (Arc::new(frontend), Arc::new(backend));
+    let line = |from: Side| {
+        let way = Way { channel, from };
+        let (from, to) = match from {
+            Side::Frontend => (frontend.clone(), backend.clone()),
+            Side::Backend => (backend.clone(), frontend.clone()),
+        };
+        Line { way, from, to, reporter: reporter.clone() }
+    };
+    let (there, back) = (line(Side::Frontend), line(Side::Backend));
+    match thread::Builder::new().spawn(move || back.pass_all()) {
+        Ok(thread) => {
+            there.pass_all();
+            let _ = thread.join();
+        }
+        // Both sockets are closed by their last owner, which is this call.
+        Err(cause) => reporter.tell(What::Ended(there.way, Some(cause.to_string()))),
+    }
+}
+
+impl Line {
+    fn pass_all(&self) {
+        let ended = self.pass_messages();
+        match &ended {
+            Ok(cause) => {
+                // The receiver is told in the same way: that no more comes, or that its peer is gone.
+                let is_gone = cause.is_some() || is_ready(&self.from, 0, 0).unwrap_or(true);
+                let _ = self.to.shutdown(if is_gone { Shutdown::Both } else { Shutdown::Write });
+            }
+            // The sender is told; what the receiver sent before still goes the other way.
+            Err(_) => drop(self.from.shutdown(Shutdown::Read)),
+        }
+        let cause = ended.unwrap_or_else(Some);
+        self.reporter.tell(What::Ended(self.way, cause.map(|cause| cause.to_string())));
+    }
+
+    /// Passes on until the sender's stream ends, or fails so. An error: the receiver takes no more.
+    fn pass_messages(&self) -> io::Result<Option<io::Error>> {
+        let mut gathering = Gathering::default();
+        let mut room = vec![0; ROOM];
+        loop {
+            let missing = gathering.missing();
+            let (count, fds) = match self.receive(&mut room[..missing], &gathering) {
+                Ok(Some(received)) => received,
+                // (what is there goes out before one waits for more)
+                Ok(None) => {
+                    self.pass_held(&mut gathering)?;
+                    continue;
+                }
+                Err(cause) => {
+                    self.end_amid(&mut gathering);
+                    return Ok(Some(cause));
+                }
+            };
+            if count == 0 {
+                self.end_amid(&mut gathering);
+                return Ok(None);
+            }
+            if !fds.is_empty() {
+                self.pass_held(&mut gathering)?;
+            }
+            self.pass_on(&mut gathering, &room[..count], fds)?;
+        }
+    }
+
+    /// Some bytes, and their descriptors. It waits where nothing is held back; None: it would have to.
+    fn receive(&self, room: &mut [u8], gathering: &Gathering) -> io::Result<Option<(usize, Vec<OwnedFd>)>> {
+        let mut fds = Vec::new();
+        loop {
+            match receive_any(&self.from, room, &mut fds, !gathering.holds()) {
+                Ok(received) => {
+                    if received.is_truncated {
+                        eprintln!("covretin-tap: the system dropped descriptors of a message, since too many are open");
+                    }
+                    return Ok(Some((received.count, fds)));
+                }
+                Err(cause) if cause.kind() == io::ErrorKind::Interrupted => {}
+                Err(cause) if cause.kind() == io::ErrorKind::WouldBlock => return Ok(None),
+                Err(cause) => return Err(cause),
+            }
+        }
+    }
+
+    /// Passes on what was received, if it ends a message; it is told of before, so that what follows from it is told of behind it.
+    fn pass_on(&self, gathering: &mut Gathering, bytes: &[u8], fds: Vec<OwnedFd>) -> io::Result<()> {
+        match gathering.take_in(bytes, fds) {
+            Received::Part => return Ok(()),
+            Received::Bytes => self.reporter.tell(What::Bytes(self.way, bytes.to_vec())),
+            Received::Message => {
+                self.reporter.tell(What::Message(self.way, gathering.message().clone()));
+                self.tap_channel(gathering);
+            }
+        }
+        self.pass_held(gathering)?;
+        gathering.begin();
+        Ok(())
+    }
+
+    fn pass_held(&self, gathering: &mut Gathering) -> io::Result<()> {
+        let (mut bytes, mut fds) = gathering.held();
+        while !bytes.is_empty() {
+            match send(&self.to, bytes, &fds, true) {
+                Ok(count) => {
+                    bytes = &bytes[count..];
+                    fds.clear();
+                }
+                Err(cause) if cause.kind() == io::ErrorKind::Interrupted => {}
+                Err(cause) => return Err(cause),
+            }
+        }
+        gathering.set_passed();
+        Ok(())
+    }
+
+    /// The stream ended amid a message, or not: what of it came is passed on.
+    fn end_amid(&self, gathering: &mut Gathering) {
+        // (where that fails, nobody is there to receive it)
+        let _ = self.pass_held(gathering);
+        let message = gathering.message();
+        if !message.bytes.is_empty() {
+            let message = Message { is_short: true, ..message.clone() };
+            self.reporter.tell(What::Message(self.way, message));
+        }
+    }
+
+    /// Where a frontend opens the backend channel, the backend gets another socket, from which that channel is passed on. Where
+    /// that can't be made it gets the frontend's own.
+    fn tap_channel(&self, gathering: &mut Gathering) {
+        let is_opened = self.way.channel == Channel::Device && self.way.from == Side::Frontend;
+        if !is_opened || !gathering.holds_all_of(FrontendReq::SET_BACKEND_REQ_FD.into()) {
+            return;
+        }
+        let _ = self.try_tap_channel(gathering);
+    }
+
+    fn try_tap_channel(&self, gathering: &mut Gathering) -> io::Result<()> {
+        let fd = gathering.clone_fd()?;
+        if !is_unix_stream(&fd)? {
+            return Ok(());
+        }
+        let (mine, given) = UnixStream::pair()?;
+        let frontend = UnixStream::from(fd);
+        let reporter = self.reporter.clone();
+        thread::Builder::new().spawn(move || pass_between(Channel::Backend, frontend, mine, &reporter))?;
+        gathering.replace_fds(given.into());
+        Ok(())
+    }
+}
+
+fn is_unix_stream(fd: &impl AsRawFd) -> io::Result<bool> {
+    Ok(option_of(fd, libc::SO_DOMAIN)? == libc::AF_UNIX && option_of(fd, libc::SO_TYPE)? == libc::SOCK_STREAM)
+}

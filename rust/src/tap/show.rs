@@ -1,0 +1,152 @@
+// SPDX-License-Identifier: Apache-2.0
+//! How an event is shown: a line of text, or of JSON.
+use super::event::{Event, Message, Way, What};
+use super::json::Json;
+use super::layout::{fd_name, fields_of, flag_names, name_of, Fields, Value};
+use super::options::Format;
+use super::recording::{hex_of, time_of};
+
+/// Shows events, each by a line.
+pub(super) struct Shower {
+    pub(super) format: Format,
+    pub(super) shows_bytes: bool,
+}
+
+impl Shower {
+    /// The line of an event. With its bytes it is two, unless it is JSON.
+    pub(super) fn event(&self, event: &Event) -> String {
+        match self.format {
+            Format::Json => self.json(event).to_string(),
+            Format::Text => self.text(event),
+        }
+    }
+
+    /// The line of what is wrong with the event before it.
+    pub(super) fn complaint(&self, event: &Event, complaint: &str) -> String {
+        match self.format {
+            Format::Json => {
+                let mut fields = head(event);
+                fields.push(("complaint", Json::text(complaint)));
+                Json::object(fields).to_string()
+            }
+            Format::Text => format!("! {complaint}"),
+        }
+    }
+
+    fn text(&self, event: &Event) -> String {
+        let head = |way: &Way| format!("{:9.4} {} {way}", event.time, event.session);
+        match &event.what {
+            What::Connected(Ok(())) => format!("{:9.4} {} connected", event.time, event.session),
+            What::Connected(Err(cause)) => format!("{:9.4} {} not connected: {cause}", event.time, event.session),
+            What::Ended(way, None) => format!("{} end", head(way)),
+            What::Ended(way, Some(cause)) => format!("{} end: {cause}", head(way)),
+            What::Bytes(way, bytes) => format!("{} {} bytes{}", head(way), bytes.len(), self.bytes_text(bytes)),
+            What::Message(way, message) => {
+                format!("{} {}{}", head(way), message_text(*way, message), self.bytes_text(&message.bytes))
+            }
+        }
+    }
+
+    fn bytes_text(&self, bytes: &[u8]) -> String {
+        if !self.shows_bytes {
+            return String::new();
+        }
+        let words: Vec<String> = bytes.chunks(4).map(hex_of).collect();
+        format!("\n          {}", words.join(" "))
+    }
+
+    fn json(&self, event: &Event) -> Json {
+        let mut fields = head(event);
+        match &event.what {
+            What::Connected(result) => {
+                fields.push(("connect", Json::text(result.as_ref().map_or_else(String::as_str, |()| "ok"))));
+            }
+            What::Ended(_, cause) => fields.push(("end", Json::text(cause.as_deref().unwrap_or("eof")))),
+            What::Bytes(_, bytes) => fields.extend([("raw", Json::text(hex_of(bytes)))]),
+            What::Message(way, message) => fields.extend(self.message_json(*way, message)),
+        }
+        Json::object(fields)
+    }
+
+    fn message_json(&self, way: Way, message: &Message) -> Vec<(&'static str, Json)> {
+        let names = |names: Vec<String>| Json::List(names.into_iter().map(Json::Text).collect());
+        let mut fields = vec![
+            ("name", Json::text(name_of(way, message))),
+            ("code", Json::Number(f64::from(message.code()))),
+            ("flags", names(flag_names(message))),
+            ("size", Json::count(message.size())),
+            ("fields", fields_json(&fields_of(way, message))),
+            ("fds", names(message.fds.iter().map(|fd| fd_name(fd).to_string()).collect())),
+        ];
+        fields.extend(message.is_short.then_some(("short", Json::Bool(true))));
+        fields.extend(self.shows_bytes.then(|| ("bytes", Json::text(hex_of(&message.bytes)))));
+        fields
+    }
+}
+
+/// What each line of JSON begins with.
+fn head(event: &Event) -> Vec<(&'static str, Json)> {
+    let way = match &event.what {
+        What::Connected(_) => None,
+        What::Message(way, _) | What::Bytes(way, _) | What::Ended(way, _) => Some(("way", Json::text(way.to_string()))),
+    };
+    let mut fields = vec![("t", time_of(event.time)), ("session", Json::Number(event.session as f64))];
+    fields.extend(way);
+    fields
+}
+
+fn message_text(way: Way, message: &Message) -> String {
+    let mut text =
+        if message.bytes.len() < super::event::HEADER { "a part of a header".to_string() } else { name_of(way, message) };
+    let flags = flag_names(message);
+    if !flags.is_empty() {
+        text += &format!(" [{}]", flags.join(" "));
+    }
+    text += &fields_text(&fields_of(way, message));
+    if !message.fds.is_empty() {
+        let fds: Vec<&str> = message.fds.iter().map(|fd| fd_name(fd)).collect();
+        text += &format!(" fds={}", fds.join(","));
+    }
+    if message.is_short {
+        text += &format!(" (cut short: {} bytes)", message.bytes.len());
+    }
+    text
+}
+
+/// Fields, each behind a space.
+pub(super) fn fields_text(fields: &Fields) -> String {
+    fields.iter().map(|(name, value)| format!(" {}", field_text(name, value))).collect()
+}
+
+fn field_text(name: &str, value: &Value) -> String {
+    match value {
+        Value::Number(number) => format!("{name}={number}"),
+        Value::Address(number) => format!("{name}={number:#x}"),
+        Value::Word(word) => format!("{name}={word}"),
+        Value::Bits(bits, names) => format!("{name}={bits:#x}({})", names.join("|")),
+        Value::Bytes(bytes) => format!("{name}={}", hex_of(bytes)),
+        Value::Records(records) => {
+            let records: Vec<String> = records.iter().map(|fields| format!("[{}]", fields_text(fields).trim_start())).collect();
+            records.join(" ")
+        }
+    }
+}
+
+fn fields_json(fields: &Fields) -> Json {
+    Json::Object(fields.iter().map(|(name, value)| (name.to_string(), value_json(value))).collect())
+}
+
+/// Numbers that may be great are texts, since many programs read a number of JSON inexactly.
+fn value_json(value: &Value) -> Json {
+    match value {
+        Value::Number(number) if *number < 1 << 53 => Json::Number(*number as f64),
+        Value::Number(number) | Value::Address(number) => Json::text(format!("{number:#x}")),
+        Value::Word(word) => Json::text(word),
+        Value::Bits(bits, names) => Json::object([
+            ("bits", Json::text(format!("{bits:#x}"))),
+            ("names", Json::List(names.iter().map(Json::text).collect())),
+        ]),
+        Value::Bytes(bytes) => Json::text(hex_of(bytes)),
+        Value::Records(records) => Json::List(records.iter().map(fields_json).collect()),
+    }
+}

@@ -1,0 +1,82 @@
+// SPDX-License-Identifier: Apache-2.0
+//! What was seen, in numbers.
+use std::collections::BTreeMap;
+
+use super::event::{Channel, Event, Side, What};
+use super::json::Json;
+use super::judge::Tally;
+use super::layout::name_of;
+
+#[derive(Default)]
+pub(super) struct Summary {
+    pub(super) sessions: usize,
+    from_the_frontend: usize,
+    from_the_backend: usize,
+    /// How many of each request came, of a frontend.
+    requests: BTreeMap<String, usize>,
+    pub(super) complaints: usize,
+    tally: Tally,
+}
+
+impl Summary {
+    pub(super) fn see(&mut self, event: &Event) {
+        if let What::Message(way, message) = &event.what {
+            match way.from {
+                Side::Frontend => self.from_the_frontend += 1,
+                Side::Backend => self.from_the_backend += 1,
+            }
+            if way.channel == Channel::Device && way.from == Side::Frontend {
+                let name = message.request().map_or_else(|| "unknown".to_string(), |_| name_of(*way, message));
+                *self.requests.entry(name).or_default() += 1;
+            }
+        }
+    }
+
+    /// Adds what was counted of a session.
+    pub(super) fn add(&mut self, tally: Tally) {
+        self.tally.refused_by_the_table += tally.refused_by_the_table;
+        self.tally.refused_by_the_backend += tally.refused_by_the_backend;
+        let longest = |tally: &Tally| tally.longest.as_ref().map_or(-1.0, |(time, _)| *time);
+        if longest(&tally) > longest(&self.tally) {
+            self.tally.longest = tally.longest;
+        }
+    }
+
+    pub(super) fn text(&self) -> String {
+        let requests: Vec<String> = self.requests.iter().map(|(name, count)| format!("{name} {count}")).collect();
+        let longest = self.tally.longest.as_ref();
+        let longest = longest.map_or_else(|| "none".to_string(), |(time, name)| format!("{time:.4} s, to {name}"));
+        format!(
+            "= sessions {}, messages F>B {} and B>F {}\n= requests: {}\n= refused by the table {}, by the backend {}\n\
+             = longest answer: {longest}\n= {}",
+            self.sessions,
+            self.from_the_frontend,
+            self.from_the_backend,
+            if requests.is_empty() { "none".to_string() } else { requests.join(", ") },
+            self.tally.refused_by_the_table,
+            self.tally.refused_by_the_backend,
+            match self.complaints {
+                0 => "nothing is wrong".to_string(),
+                count => format!("wrong: {count}"),
+            }
+        )
+    }
+
+    pub(super) fn json(&self) -> Json {
+        let requests = self.requests.iter().map(|(name, count)| (name.clone(), Json::count(*count)));
+        let longest = self.tally.longest.as_ref().map_or(Json::Null, |(time, name)| {
+            Json::object([("seconds", super::recording::time_of(*time)), ("request", Json::text(name))])
+        });
+        let summary = Json::object([
+            ("sessions", Json::count(self.sessions)),
+            ("from_the_frontend", Json::count(self.from_the_frontend)),
+            ("from_the_backend", Json::count(self.from_the_backend)),
+            ("requests", Json::Object(requests.collect())),
+            ("refused_by_the_table", Json::count(self.tally.refused_by_the_table)),
+            ("refused_by_the_backend", Json::count(self.tally.refused_by_the_backend)),
+            ("longest_answer", longest),
+            ("complaints", Json::count(self.complaints)),
+        ]);
+        Json::object([("summary", summary)])
+    }
+}

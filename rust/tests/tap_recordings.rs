@@ -1,0 +1,453 @@
+// SPDX-License-Identifier: Apache-2.0
+//! What covretin-tap says of recorded sessions of real programs, and of messages that no table has.
+mod common;
+
+use std::fs::{read_dir, read_to_string, remove_file, write};
+use std::path::{Path, PathBuf};
+
+use common::tap::*;
+use common::*;
+
+fn recordings() -> Vec<PathBuf> {
+    let folder = Path::new(env!("CARGO_MANIFEST_DIR")).join("tests/recordings");
+    let mut files: Vec<PathBuf> = read_dir(folder).unwrap().map(|it| it.unwrap().path()).collect();
+    files.sort();
+    files
+}
+
+fn name_of(file: &Path) -> String {
+    file.file_stem().unwrap().to_str().unwrap().to_string()
+}
+
+/// What is wrong with the recording of this name under a profile.
+fn wrong_with(name: &str, profile: &str) -> Vec<String> {
+    let file = recordings().into_iter().find(|file| name_of(file) == name).unwrap();
+    complaints(&tap(&[profile, "--replay", file.to_str().unwrap()]))
+}
+
+const LOG_REPLY: &str =
+    "24.6846 1 B>F SET_LOG_BASE [REPLY] size=0x2000 ! the reply to SET_LOG_BASE has 8 bytes of body, and not 16";
+
+#[test]
+fn real_peers_keep_to_the_table() {
+    assert_eq!(15, recordings().len());
+    for file in recordings() {
+        let name = name_of(&file);
+        // QEMU's storage daemon replies with a half of the record.
+        let known: &[&str] = if name == "mig_native-src" { &[LOG_REPLY] } else { &[] };
+        assert_eq!(known, wrong_with(&name, "--profile=standard"), "{name}");
+    }
+}
+
+#[test]
+fn each_known_difference_from_the_crate_is_told_at_its_message() {
+    let mut told = 0;
+    for file in recordings() {
+        let name = name_of(&file);
+        let found = wrong_with(&name, "--profile=vhost");
+        told += found.len();
+        match name.as_str() {
+            "mig_native-src" => assert_eq!([LOG_REPLY], found.as_slice()),
+            "br_net4" => {
+                assert_eq!(10, found.len());
+                for it in &found {
+                    assert!(it.contains(" F>B SET_VRING_ENABLE ring="), "{it}");
+                    assert!(it.contains(" enable=on ! SET_VRING_ENABLE is refused: PROTOCOL_FEATURES was not accepted;"), "{it}");
+                }
+            }
+            "uml_br_blk2" => {
+                assert_eq!(2, found.len());
+                let wants =
+                    "it wants 40 bytes and 1 descriptor for 1 region, each with a size, and came with 72 bytes and 1 descriptor";
+                assert!(
+                    found[0].starts_with("3.0860 1 F>B SET_MEM_TABLE [NEED_REPLY] regions=1 [guest=0x10325000"),
+                    "{}",
+                    found[0]
+                );
+                assert!(found[0].contains(wants), "{}", found[0]);
+                let reply =
+                    "3.0865 1 B>F SET_MEM_TABLE [REPLY] result=done ! the reply to SET_MEM_TABLE has result=done, and not \
+                             result=failed(1)";
+                assert_eq!(reply, found[1]);
+            }
+            _ => assert_eq!(Vec::<String>::new(), found, "{name}"),
+        }
+    }
+    assert_eq!(13, told);
+}
+
+/// Each message of a recording is a line of JSON, with its bytes where they are wanted.
+#[test]
+fn lines_of_json() {
+    for file in recordings() {
+        let recorded = read_to_string(&file).unwrap();
+        let output = tap(&["--json", "--hex", "--replay", file.to_str().unwrap()]);
+        let shown = text(&output.stdout);
+        assert!(shown.lines().all(|line| line.starts_with('{') && line.ends_with('}')));
+        let bytes = |text: &str| -> Vec<String> {
+            let parts =
+                text.lines().filter(|line| line.contains("\"code\": ")).filter_map(|line| line.rsplit_once("\"bytes\": \""));
+            parts.map(|(_, rest)| rest.split('"').next().unwrap().to_string()).collect()
+        };
+        assert_eq!(bytes(&recorded), bytes(&shown));
+        assert!(shown.lines().last().unwrap().starts_with("{\"summary\": {\"sessions\": "));
+        let told =
+            "{\"t\": 24.6846, \"session\": 1, \"way\": \"B>F\", \"complaint\": \"the reply to SET_LOG_BASE has 8 bytes of body, \
+                    and not 16\"}\n";
+        assert_eq!(name_of(&file) == "mig_native-src", shown.contains(told));
+    }
+}
+
+/// The session on its page is what is printed, line by line.
+#[test]
+fn the_session_on_its_page() {
+    let page = read_to_string(Path::new(env!("CARGO_MANIFEST_DIR")).join("../docs/TAP.md")).unwrap();
+    let mut quoted = page
+        .lines()
+        .skip_while(|line| !line.starts_with("    $ covretin-tap --replay rust/"))
+        .map_while(|it| it.strip_prefix("    "));
+    let file = quoted.next().unwrap().rsplit_once('/').unwrap().1;
+    let output = tap(&["--replay", Path::new(env!("CARGO_MANIFEST_DIR")).join("tests/recordings").join(file).to_str().unwrap()]);
+    let shown = text(&output.stdout);
+    let mut lines = shown.lines();
+    let mut count = 0;
+    let mut skips = false;
+    for line in quoted {
+        if line == ".." {
+            skips = true;
+            continue;
+        }
+        let found = if skips { lines.find(|it| *it == line) } else { lines.next() };
+        assert_eq!(Some(line), found);
+        (skips, count) = (false, count + 1);
+    }
+    assert!(count > 25);
+}
+
+// ---- messages by hand
+
+fn said(code: u32, flags: u32, body: &[u8], fds: usize) -> Said {
+    (message(code, flags, body), fds)
+}
+
+fn asks(code: u32, body: &[u8]) -> Said {
+    said(code, ASKS, body, 0)
+}
+
+fn wants(code: u32, body: &[u8]) -> Said {
+    said(code, WANTS, body, 0)
+}
+
+fn replies(code: u32, body: &[u8]) -> Said {
+    said(code, REPLIES, body, 0)
+}
+
+fn number(number: u64) -> Vec<u8> {
+    number.to_le_bytes().to_vec()
+}
+
+/// The two sides agree on these protocol features.
+fn agree(features: u64) -> Vec<Said> {
+    vec![
+        asks(1, &[]),
+        replies(1, &number(PROTOCOL)),
+        asks(2, &number(PROTOCOL)),
+        asks(15, &[]),
+        replies(15, &number(features)),
+        asks(16, &number(features)),
+    ]
+}
+
+/// What is wrong with a session behind such an agreement, without what it is about.
+#[track_caller]
+fn wrong_behind(profile: &str, features: u64, session: &[Said]) -> Vec<String> {
+    let whole = [agree(features), session.to_vec()].concat();
+    wrong(profile, &whole)
+}
+
+#[test]
+fn requests_that_are_refused() {
+    let ring = [0; 8];
+    let rows: [(&str, Said); 12] = [
+        ("GET_QUEUE_NUM is refused: MQ was not accepted; nothing is replied, though the frontend waits for it", asks(17, &[])),
+        (
+            "SET_VRING_NUM is refused: it is malformed: it wants 8 bytes and no descriptor, and came with 7 bytes and 0 descriptors; \
+             nothing is replied, so the frontend cannot know",
+            asks(8, &[0; 7]),
+        ),
+        (
+            "SET_VRING_NUM is refused: it is malformed: it wants 8 bytes and no descriptor, and came with 8 bytes and 1 descriptor; \
+             nothing is replied, so the frontend cannot know",
+            said(8, ASKS, &ring, 1),
+        ),
+        (
+            "SET_VRING_KICK is refused: it is malformed: it wants 8 bytes and one descriptor, or bit 8 set and none, and came with 8 \
+             bytes and 2 descriptors; nothing is replied, so the frontend cannot know",
+            said(12, ASKS, &ring, 2),
+        ),
+        (
+            "GPU_SET_SOCKET is refused: it is malformed: it wants one descriptor, and came with 0 bytes and 0 descriptors; it is \
+             acknowledged as failed",
+            wants(33, &[]),
+        ),
+        (
+            "SET_INFLIGHT_FD is refused: INFLIGHT_SHMFD was not accepted; nothing is replied, so the frontend cannot know",
+            said(32, ASKS, &[1; 24], 1),
+        ),
+        ("no request has the code 200", asks(200, &[])),
+        ("SET_OWNER is refused: its version is 2, and not 1; nothing is replied, so the frontend cannot know", said(3, 2, &[], 0)),
+        (
+            "SET_OWNER is refused: its flags are 0x11, of which bits are reserved; nothing is replied, so the frontend cannot know",
+            said(3, 0x11, &[], 0),
+        ),
+        ("SET_OWNER is refused: 40 descriptors came, and 32 are the most; nothing is replied, so the frontend cannot know", said(3, ASKS, &[], 40)),
+        (
+            "SET_MEM_TABLE is refused: it is malformed: it wants 1 to 32 regions, and not 0, and came with 8 bytes and 0 descriptors; \
+             nothing is replied, so the frontend cannot know",
+            asks(5, &ring),
+        ),
+        ("POSTCOPY_LISTEN is refused: PAGEFAULT was not accepted; nothing is replied, so the frontend cannot know", asks(29, &[])),
+    ];
+    for (wanted, request) in rows {
+        // (the refused request leaves nothing behind)
+        let mut session = vec![request];
+        if wanted.contains("acknowledged") {
+            session.push(replies(33, &number(1)));
+        }
+        session.extend([wants(3, &[]), replies(3, &number(0))]);
+        assert_eq!([wanted], wrong_behind(STANDARD, 8, &session).as_slice());
+    }
+}
+
+#[test]
+fn replies_that_the_table_has_not() {
+    let all = ALL;
+    let owner = wants(3, &[]);
+    let rows: [(&str, Vec<Said>); 11] = [
+        (
+            "a reply to SET_FEATURES, where one to SET_OWNER is awaited",
+            vec![owner.clone(), replies(2, &number(0)), replies(3, &number(0))],
+        ),
+        ("the reply to SET_OWNER has 4 bytes of body, and not 8", vec![owner.clone(), replies(3, &[0; 4])]),
+        ("the reply to SET_OWNER has 1 descriptor, and not 0", vec![owner.clone(), said(3, REPLIES, &number(0), 1)]),
+        ("the reply to SET_OWNER has the flags 0x6, and not 0x5", vec![owner.clone(), said(3, 6, &number(0), 0)]),
+        ("nobody awaits a reply to SET_OWNER: it was not asked for", vec![asks(3, &[]), replies(3, &number(0))]),
+        ("SET_OWNER was not replied to, and later requests go on", vec![owner.clone(), asks(17, &[]), replies(17, &number(2))]),
+        ("SET_OWNER was never replied to: the session ended 8.9940 s later", vec![owner]),
+        ("the reply to GET_QUEUE_NUM has 4 bytes of body, and not 8", vec![asks(17, &[]), replies(17, &[2, 0, 0, 0])]),
+        (
+            "the reply to GET_CONFIG has offset=0 size=1 bytes=05, and not offset=4 size=1 bytes=05",
+            vec![asks(24, &[4, 0, 0, 0, 1, 0, 0, 0, 0, 0, 0, 0, 0]), replies(24, &[0, 0, 0, 0, 1, 0, 0, 0, 0, 0, 0, 0, 5])],
+        ),
+        ("the reply to GET_INFLIGHT_FD has 0 descriptors, and not 1", vec![asks(31, &[1; 24]), replies(31, &[1; 24])]),
+        (
+            "the reply to SET_LOG_BASE has size=0x2000 offset=0x0, and not size=0x1000 offset=0x0",
+            vec![said(6, ASKS, &[number(0x1000), number(0)].concat(), 1), replies(6, &[number(0x2000), number(0)].concat())],
+        ),
+    ];
+    for (wanted, session) in rows {
+        assert_eq!([wanted], wrong_behind(STANDARD, all, &session).as_slice());
+    }
+}
+
+#[test]
+fn what_the_table_has_is_not_told() {
+    let region = [number(0), number(0x1000), number(0x7000), number(0)].concat();
+    let table = [number(1), region.clone()].concat();
+    let mapped = [number(1), number(0), number(0x1000), number(0x55_0000), number(0)].concat();
+    let one_mapped = [number(0), number(0), number(0x1000), number(0x55_0000), number(0)].concat();
+    let uuid = [0x10; 16];
+    let session = vec![
+        // a refusal, by whatever number; and a flag that a frontend does not look at
+        wants(3, &[]),
+        replies(3, &number(0xffff_ffff_ffff_ffea)),
+        asks(17, &[]),
+        said(17, REPLIES | 8, &number(2), 0),
+        // requests that follow each other at once
+        asks(3, &[]),
+        asks(36, &[]),
+        asks(11, &number(1)),
+        replies(36, &number(32)),
+        replies(11, &number(0x0005_0000_0001)),
+        // descriptors
+        said(41, ASKS, &uuid, 0),
+        said(41, REPLIES, &[], 1),
+        asks(41, &uuid),
+        replies(41, &[]),
+        said(42, ASKS, &number(0), 1),
+        replies(42, &number(0x100)),
+        said(42, ASKS, &number(1), 1),
+        said(42, REPLIES, &number(0), 1),
+        asks(43, &[]),
+        replies(43, &number(1)),
+        asks(44, &[]),
+        replies(44, &[number(1), vec![7; 2048]].concat()),
+        // reserved bytes
+        asks(31, &[1; 24]),
+        said(31, REPLIES, &[1; 24], 1),
+        // postcopy
+        asks(28, &[]),
+        said(28, REPLIES, &[], 1),
+        wants(29, &[]),
+        replies(29, &number(0)),
+        said(5, WANTS, &table, 1),
+        replies(5, &mapped),
+        asks(5, &number(0)),
+        said(37, WANTS, &[number(0), region].concat(), 1),
+        replies(37, &one_mapped),
+        asks(37, &number(0)),
+        wants(30, &[]),
+        replies(30, &number(0)),
+        // the configuration space, refused as the crate and as the specification do it
+        asks(24, &[4, 0, 0, 0, 1, 0, 0, 0, 0, 0, 0, 0, 0]),
+        replies(24, &[4, 0, 0, 0, 0, 0, 0, 0, 0, 0, 0, 0]),
+        asks(24, &[4, 0, 0, 0, 1, 0, 0, 0, 0, 0, 0, 0, 0]),
+        replies(24, &[]),
+    ];
+    assert_eq!(Vec::<String>::new(), wrong_behind(STANDARD, ALL, &session));
+    let empty = "the reply to GET_CONFIG has 0 bytes of body, and not 12";
+    assert_eq!([empty], wrong_behind(VHOST, ALL, &session).as_slice());
+}
+
+/// A backend that has no acknowledgements need not say that it has; one that sends them all the same is told.
+#[test]
+fn acknowledgements_that_were_not_agreed_on() {
+    assert_eq!(Vec::<String>::new(), wrong_behind(STANDARD, 1, &[wants(3, &[])]));
+    let unasked = "nobody awaits a reply to SET_OWNER: REPLY_ACK was not agreed on";
+    assert_eq!([unasked], wrong_behind(STANDARD, 1, &[wants(3, &[]), replies(3, &number(0))]).as_slice());
+}
+
+/// Requests that this library has no table for: whatever the backend makes of them is right, but they are acknowledged.
+#[test]
+fn requests_that_are_not_served() {
+    let session = [
+        wants(39, &number(1)),
+        replies(39, &number(0)),
+        wants(22, &[0; 32]),
+        replies(22, &number(1)),
+        asks(19, &number(1)),
+        asks(40, &[]),
+        replies(40, &number(0xf)),
+        asks(26, &[0; 64]),
+        replies(26, &[0; 64]),
+    ];
+    assert_eq!(Vec::<String>::new(), wrong_behind(STANDARD, ALL, &session));
+    let unanswered = "IOTLB_MSG was never replied to: the session ended 8.9940 s later";
+    assert_eq!([unanswered], wrong_behind(STANDARD, ALL, &[wants(22, &[0; 32])]).as_slice());
+    let refused = "IOTLB_MSG is refused: nobody serves it; nothing is replied, though the frontend waits for it";
+    assert_eq!([refused], wrong_behind(VHOST, ALL, &[wants(22, &[0; 32])]).as_slice());
+}
+
+/// A frontend that does not wait for what it asked, and goes on.
+#[test]
+fn many_requests_behind_one() {
+    let mut session = vec![wants(3, &[])];
+    session.extend(vec![asks(3, &[]); 1030]);
+    session.push(asks(17, &[]));
+    session.push(replies(17, &number(1)));
+    assert_eq!(["SET_OWNER was not replied to, and later requests go on"], wrong_behind(STANDARD, ALL, &session).as_slice());
+}
+
+/// What a backend replies to a request that the table refuses in silence is its own matter, as the request was told.
+#[test]
+fn a_refused_request_that_is_replied_to() {
+    let session = [asks(17, &[]), replies(17, &number(1)), asks(1, &[]), replies(1, &number(PROTOCOL))];
+    assert_eq!(1, wrong_behind(STANDARD, 8, &session).len());
+}
+
+/// The messages of a recording.
+fn messages_of(file: &Path) -> Vec<Said> {
+    let recorded = read_to_string(file).unwrap();
+    let messages = recorded.lines().filter_map(|line| Some((line, line.split_once("\"bytes\": \"")?.1)));
+    let fds = |line: &str| line.matches("\"file:").count() + line.matches("eventfd").count() + line.matches("\"socket\"").count();
+    messages.map(|(line, rest)| (hex(rest.split('"').next().unwrap()), fds(line))).collect()
+}
+
+/// How messages are shown, whatever is wrong with them.
+#[test]
+fn fields_by_their_names() {
+    let region = [number(0x1000), number(0x2000), number(0x7000), number(0x10)].concat();
+    let regions = |count| [number(count), region.clone(), region.clone()].concat();
+    let config = [4, 0, 0, 0, 2, 0, 0, 0, 3, 0, 0, 0, 0xa5, 0x5a];
+    let shown = "[guest=0x1000 size=0x2000 user=0x7000 offset=0x10]";
+    let rows: [(String, Said); 16] = [
+        (format!("F>B SET_MEM_TABLE regions=2 {shown} {shown} fds=socket,socket"), said(5, ASKS, &regions(2), 2)),
+        (format!("F>B SET_MEM_TABLE regions=1 {shown}"), asks(5, &regions(1))),
+        (format!("F>B ADD_MEM_REG {shown}"), asks(37, &[number(0), region.clone()].concat())),
+        ("F>B REM_MEM_REG mapped=done".to_string(), asks(38, &number(0))),
+        ("F>B SET_VRING_KICK ring=5".to_string(), asks(12, &number(5))),
+        ("F>B SET_VRING_KICK ring=5 polled=on".to_string(), asks(12, &number(0x105))),
+        ("F>B SET_VRING_ENABLE ring=1 enable=2".to_string(), asks(18, &number(0x2_0000_0001))),
+        ("F>B GET_VRING_BASE [NEED_REPLY] ring=1".to_string(), wants(11, &number(1))),
+        ("F>B SET_CONFIG offset=4 size=2 flags=0x3(WRITABLE|LIVE_MIGRATION) bytes=a55a".to_string(), asks(25, &config)),
+        ("F>B SET_DEVICE_STATE_FD direction=load phase=0".to_string(), asks(42, &number(1))),
+        ("F>B GET_SHARED_OBJECT bytes=10101010101010101010101010101010".to_string(), asks(41, &[0x10; 16])),
+        ("F>B SET_VRING_NUM body=0102".to_string(), asks(8, &[1, 2])),
+        (
+            "F>B SET_FEATURES [version2 0x10] features=0x40000021(bit0|bit5|PROTOCOL_FEATURES)".to_string(),
+            said(2, 0x12, &number(0x4000_0021), 0),
+        ),
+        ("B>F SET_OWNER [REPLY] result=failed(7)".to_string(), replies(3, &number(7))),
+        (
+            "B>F GET_SHMEM_CONFIG [REPLY] regions=2 [size=0x1000] [size=0x2000]".to_string(),
+            replies(44, &[number(2), number(0x1000), number(0x2000)].concat()),
+        ),
+        ("F>B request 99 bytes=01".to_string(), asks(99, &[1])),
+    ];
+    let side = |shown: &str| if shown.starts_with('B') { Side::Backend } else { Side::Frontend };
+    let session: Vec<Sent> = rows.iter().map(|(shown, (bytes, fds))| (side(shown), bytes.clone(), *fds)).collect();
+    let output = text(&replayed(STANDARD, &session).stdout);
+    let lines = output.lines().filter_map(|line| line.strip_prefix("   ")?.split_once(" 1 "));
+    let wanted: Vec<&str> = rows.iter().map(|(shown, _)| shown.as_str()).chain(["B>F end"]).collect();
+    assert_eq!(wanted, lines.map(|(_, shown)| shown).collect::<Vec<_>>());
+}
+
+/// Sessions that are changed at random are judged to their ends, whatever they are.
+#[test]
+fn recordings_that_are_changed() {
+    let mut numbers = random::Numbers(7);
+    for file in recordings() {
+        for _ in 0..8 {
+            let mut session = messages_of(&file);
+            for _ in 0..1 + numbers.below(8) {
+                let at = numbers.below(session.len());
+                let (bytes, fds) = &mut session[at];
+                if !bytes.is_empty() {
+                    random::change(&mut numbers, bytes, fds);
+                }
+                let other = numbers.below(session.len());
+                session.swap(at, if numbers.below(4) == 0 { other } else { at });
+            }
+            let profile = [STANDARD, VHOST][numbers.below(2)];
+            // (which looks at the status, too)
+            wrong(profile, &session);
+        }
+    }
+}
+
+#[test]
+fn bytes_that_are_no_message() {
+    let line = "{\"t\": 1, \"session\": 1, \"way\": \"F>B\", \"raw\": \"00ff\"}\n";
+    let short =
+        "{\"t\": 2, \"session\": 1, \"way\": \"F>B\", \"bytes\": \"0100\", \"fds\": [], \"fds_at\": [], \"body_fds\": 0, \
+                 \"cuts\": [2], \"short\": true}\n";
+    let file = std::env::temp_dir().join(format!("covretin-tap-{}-raw", std::process::id()));
+    write(&file, [line, short].concat()).unwrap();
+    let found = complaints(&tap(&["--replay", file.to_str().unwrap()]));
+    remove_file(&file).unwrap();
+    let wanted = [
+        "1.0000 1 F>B 2 bytes ! these bytes are no message; nothing behind it is judged",
+        "2.0000 1 F>B a part of a header [version0] (cut short: 2 bytes) ! the stream ended behind 2 bytes of a header",
+    ];
+    assert_eq!(wanted, found.as_slice());
+}
+
+#[test]
+fn what_is_no_recording() {
+    let output = tap(&["--replay", "no such file"]);
+    assert_eq!((Some(2), true), (output.status.code(), text(&output.stderr).contains("no such file: ")));
+    let output = tap(&["--replay", concat!(env!("CARGO_MANIFEST_DIR"), "/Cargo.toml")]);
+    assert_eq!((Some(2), true), (output.status.code(), text(&output.stderr).contains("line 1 is none of a recording")));
+    assert_eq!(Some(2), tap(&["--record"]).status.code());
+    assert_eq!(Some(0), tap(&["--help"]).status.code());
+}
