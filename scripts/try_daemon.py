@@ -329,17 +329,20 @@ def signals(path):
 def replaced_path(path):
     """What is put in the place of the socket stays at the end: a file, another process's socket."""
     for other in "file", "socket":
-        daemon = Daemon(path, "1")
-        client = connect(path)
-        os.remove(path)
+        daemon = Daemon(path, "2")
+        first = connect(path)
+        os.rename(path, path + ".own")
         if other == "file":
             pathlib.Path(path).write_text("kept")
         else:
             listening = socket.socket(socket.AF_UNIX)
             listening.bind(path)
             listening.listen()
-        client.close()
-        same(daemon.end(), (0, "session 1: 0 requests, end Disconnected\n", ""))
+        # With the last client it would remove the path.
+        last = connect(path + ".own")
+        first.close()
+        last.close()
+        same(daemon.end(), (0, "".join(f"session {i}: 0 requests, end Disconnected\n" for i in (1, 2)), ""))
         if other == "file":
             same(pathlib.Path(path).read_text(), "kept")
         else:
@@ -347,6 +350,7 @@ def replaced_path(path):
                 listening.accept()[0].close()
             listening.close()
         os.remove(path)
+        os.remove(path + ".own")
 
 
 def second_daemon(path):
@@ -436,10 +440,27 @@ def wrong_arguments(path):
         (["--count=1"], "--socket-path is missing"),
         (["--socket-path=" + path, "--cuont=1"], "--cuont=1: there is no such option"),
         (["--profile", path, "1"], "--profile: there is no such option"),
+        (["--profile=crate", path, "1"], "--profile=crate"),
+        (["--profile=vhost", "--profile=vhost", path, "1"], "twice"),
     ):
         status, output, errors = run(*words)
         same((status, output), (1, ""))
         assert name in errors and errors.endswith(USAGE), errors
+
+
+def profiles(path):
+    """A request that nobody serves is acknowledged under Standard, and its session goes on; else it ends it."""
+    acknowledged = message(16, struct.pack("<Q", 1 << 3))
+    unserved = message(35, struct.pack("<Q", 0), 9)
+    refused = message(35, struct.pack("<Q", 1), 5)
+    for words, ack, end in (
+        ([], b"", "1: 2 requests, end InvalidMessage"),
+        (["--profile=vhost"], b"", "1: 2 requests, end InvalidMessage"),
+        (["--profile=standard"], refused + FEATURES, "1: 4 requests, end Disconnected"),
+    ):
+        daemon = Daemon(path, "1", *words)
+        same(session(path, GET_FEATURES, acknowledged, unserved, GET_FEATURES), FEATURES + ack)
+        same(daemon.end()[:2], (0, f"session {end}\n"))
 
 
 def longest_path(path):
@@ -585,6 +606,7 @@ ROWS = [
     end_of_stream_at_once,
     verbose,
     output_fails,
+    profiles,
     longest_path,
     second_daemon,
     two_started_together,
@@ -630,6 +652,8 @@ def play(row):
 
 
 def main(words):
+    # (a shell ignores it in what runs in the background, and so would the daemon)
+    signal.signal(signal.SIGINT, signal.default_int_handler)
     # The program is built here, if it is not there.
     if subprocess.run([DAEMON, "--print-capabilities"], stdout=subprocess.DEVNULL).returncode != 0:
         print("try_daemon: the daemon could not be built", file=sys.stderr)
