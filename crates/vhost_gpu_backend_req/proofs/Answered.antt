@@ -1,5 +1,5 @@
 -- What a call of the channel does, step by step.
-use Rattle.std.proofs.Common.{◌≡◌, ℕ, ℤ, ◌+◌, ◌++◌, List, [], length, take, drop, Bool, true, false, Option, Some, None, Result, Ok, Err, Vec, refl, sym, ap, subst, ◌∙◌, lit≤, ◌≤◌, arith, inl, inr}
+use Rattle.std.proofs.Common.{◌≡◌, ℕ, ℤ, ◌+◌, ◌++◌, List, [], length, take, drop, Bool, true, false, Option, Some, None, Result, Ok, Err, Vec, refl, sym, ap, subst, ◌∙◌, lit≤, ◌≤◌, ◌<◌, arith, inl, inr}
 use Rattle.std.specs.Prelude.{◌≢◌, ◌&&◌, is_some, is_ok, not, codes, if◌then◌else◌, nat_lt}
 use Rattle.std.specs.Global.{Global}
 use Rattle.vhost_message.specs.declared.error.Error as declared
@@ -8,9 +8,10 @@ use Rattle.vhost_message.specs.Header.{Header, header_of, header_text, is_reply_
 use Rattle.vhost_gpu_message.specs.declared.gpu_backend_req.GpuBackendReq.{GpuBackendReq}
 use Rattle.vhost_gpu_message.specs.declared.header.VhostUserGpuMsgHeader.{VhostUserGpuMsgHeader}
 use Rattle.vhost_gpu_message.specs.GpuBackendReq.{gpu_request_of}
+use Rattle.vhost_gpu_message.specs.declared.limits.TheConstants.{MAX_GPU_MSG_SIZE}
 use Rattle.vhost_gpu_message.specs.GpuHeader.{gpu_fields_of, of_gpu_fields, is_valid_gpu_header}
 use Rattle.vhost_protocol.specs.Error.{Error, InvalidMessage, PartialMessage, SocketBroken, Raw, seen}
-use Rattle.vhost_protocol.specs.Gpu.{GpuReply, GpuSent, gpu_head, gpu_cells, gpu_record_size, is_known_gpu, gpu_refusal, gpu_take, gpu_understood}
+use Rattle.vhost_protocol.specs.Gpu.{GpuReply, GpuSent, gpu_row, sent_by, gpu_head, gpu_cells, gpu_record_size, is_known_gpu, gpu_refusal, gpu_take, gpu_understood}
 use Rattle.vhost_protocol.specs.IoError.{IoError, In, seen_io}
 use Rattle.vhost_protocol.specs.ReplySplit.{Received, reply_split}
 use Rattle.vhost_protocol.specs.Row.{always}
@@ -28,7 +29,12 @@ use Rattle.vhost_connection.proofs.Replies.{hears-by, reply_in, outcome, splits,
 use Rattle.vhost_gpu_backend_req.specs.Asking.{unexpected, RecvsRecord, Takes, Asks, read_as}
 use Rattle.vhost_gpu_backend_req.specs.Asking.Asks.{unsent, asked_for}
 use Rattle.vhost_gpu_backend_req.specs.Asking.RecvsRecord.{heard, stopped}
+use Rattle.vhost_gpu_backend_req.specs.Asking.{Unsent}
+use Rattle.vhost_gpu_backend_req.specs.Asking.Unsent.{refused as unsent_refused, no_memory as unsent_memory, too_long as unsent_long}
 use Rattle.vhost_gpu_backend_req.specs.Channel.{Channel}
+use Rattle.vhost_gpu_backend_req.specs.Halves.{FrontUnsent, NotReady, SendsFront, call_in, gpu_front, not_ready}
+use Rattle.vhost_gpu_backend_req.specs.Halves.NotReady.{refused, no_memory, too_long}
+use Rattle.vhost_gpu_backend_req.specs.declared.call.GpuCall as code
 
 module _ {L H : Type 0} (event : L → Event H → L → Type 0) where
   -- the message that was sent is that of the row, by the endpoint that has its list
@@ -37,6 +43,30 @@ module _ {L H : Type 0} (event : L → Event H → L → Type 0) where
   row-sends sent old mid new head r is same p =
       subst (λ (h : Header). Sends event (record old { list = true }) (carrying sent.handles (header_text h ++ sent.body ++ sent.payload)) r new) same
       (subst (λ (s : State L H). Sends event s (carrying sent.handles (header_text head ++ sent.body ++ sent.payload)) r new) is p)
+
+  -- the same of all but its pixels
+  pub front-sends : (sent : GpuSent H) (old mid new : State L H) (head : Header) (r : _) → mid ≡ record old { list = true } → head ≡ gpu_head sent
+      → Sends event mid (carrying sent.handles (header_text head ++ sent.body)) r new → Sends event (record old { list = true }) (gpu_front sent) r new
+  front-sends sent old mid new head r is same p =
+      subst (λ (h : Header). Sends event (record old { list = true }) (carrying sent.handles (header_text h ++ sent.body)) r new) same
+      (subst (λ (s : State L H). Sends event s (carrying sent.handles (header_text head ++ sent.body)) r new) is p)
+
+  -- where none of this size may be sent, this one is not
+  pub not-sent : (place : List ℕ) (sent : GpuSent H) (size : ℕ) (old new : Channel L H) (e : IoError) → size ≡ (gpu_head sent).size → NotReady place size old e new → Unsent event place sent old e new
+  not-sent place sent size old _ e is (refused why) = unsent_refused why
+  not-sent place sent size old new _ is (no_memory alive list same) = unsent_memory alive list same
+  not-sent place sent size old new _ is (too_long alive long same) = unsent_long alive (subst (λ n. MAX_GPU_MSG_SIZE < n) is long) same
+
+  -- nor all of it but its pixels
+  pub front-not-sent : (place : List ℕ) (sent : GpuSent H) (size : ℕ) (old new : Channel L H) (e : IoError) → size ≡ (gpu_head sent).size → NotReady place size old e new → FrontUnsent event place sent old e new
+  front-not-sent place sent size old new e is n = not_ready (subst {A = ℕ} (λ m. NotReady place m old e new) is n)
+
+  -- what was sent for a value is what is sent for the call
+  pub sends-call : (call value : code.GpuCall H) (request : GpuBackendReq) (pixels : List ℕ) (old new : Channel L H) (r : _) → call ≡ value → request ≡ (gpu_row (call_in value pixels)).request
+      → SendsFront event (sent_by (call_in value pixels)) (record (gpu_row (call_in value pixels)) { request = request }) old r new → SendsFront event (sent_by (call_in call pixels)) (gpu_row (call_in call pixels)) old r new
+  sends-call call value request pixels old new r is coded sends =
+      subst {A = code.GpuCall H} (λ k. SendsFront event (sent_by (call_in k pixels)) (gpu_row (call_in k pixels)) old r new) (sym is)
+      (subst {A = GpuBackendReq} (λ q. SendsFront event (sent_by (call_in value pixels)) (record (gpu_row (call_in value pixels)) { request = q }) old r new) coded sends)
 
 -- a test of the mark that passes says that there is none
 pub alive-is : {A E : Type 0} (failed : Option ℤ) {r : Result A E} {e : ℤ → E} → ((n : ℤ) → failed ≡ Some n → r ≡ Err (e n)) → is_ok r ≡ true → failed ≡ None

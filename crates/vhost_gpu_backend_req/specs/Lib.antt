@@ -1,3 +1,4 @@
 pub mod Channel
 pub mod Asking
+pub mod Halves
 pub mod Turn

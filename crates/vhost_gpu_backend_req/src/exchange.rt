@@ -1,6 +1,6 @@
 //! A call of the vhost-user-gpu channel: one message out, and one reply in.
 
-ghost use Rattle.std.specs.Prelude.{◌≡◌, ◌≤◌, ℕ, ℤ, List, [], length, map, true, Option, Some, None, Ok, Err, codes};
+ghost use Rattle.std.specs.Prelude.{◌≡◌, ◌≤◌, ◌+◌, ℕ, ℤ, List, [], length, map, true, Option, Some, None, Ok, Err, codes};
 ghost use Rattle.std.specs.Option.{option_map};
 ghost use Rattle.vhost_gpu_message.specs.GpuHeader.{gpu_fields_of};
 ghost use Rattle.vhost_message.specs.declared.io_error.IoError.TheVariants as io;
@@ -27,6 +27,7 @@ pub fn io_err_convert(place: &'static str, error: Error) -> IoError
 impl<L: Link> BackendInternal<L> {
     ghost use Rattle.vhost_gpu_backend_req.specs.Channel.{channel};
     ghost use Rattle.vhost_gpu_backend_req.specs.Asking.{SendsRow, RecvsRecord, Asks};
+    ghost use Rattle.vhost_gpu_backend_req.specs.Halves.{Prepares, SendsFront};
     ghost use Rattle.vhost_connection.specs.State.{state};
 
     /// SocketBroken: the channel was marked as failed.
@@ -57,16 +58,7 @@ impl<L: Link> BackendInternal<L> {
         ensures { (awaited : Option GpuReply) → length (T.text body.now) ≡ T.SIZE
             → SendsRow L.event place.now (record (gpu_message code (T.text body.now) payload.now awaited) { handles = map (λ h. h.now) handles.now }) (channel self.old) result (channel self.new) }
     {
-        if let Err(error) = self.check_state() {
-            return Err(error);
-        }
-        if self.endpoint.make_list().is_err() {
-            return Err(io_err_convert("check_state", Error::OutOfMemory));
-        }
-        if payload.len() > MAX_GPU_MSG_SIZE - T::SIZE {
-            return Err(io_err_convert(place, Error::OversizedMsg));
-        }
-        let header = Header::new(code, 0, (T::SIZE + payload.len()) as u32);
+        let header = self.prepare(place, code, T::SIZE, payload.len())?;
         match self
             .endpoint
             .send_message_with_payload(&header, body, payload, handles)
@@ -76,8 +68,74 @@ impl<L: Link> BackendInternal<L> {
         }
     }
 
+    /// Sends a header and a record, behind which its caller sends so many bytes, unless the channel was marked as failed; the
+    /// answer is the header that was sent.
+    pub(crate) fn send_front<T: ByteValued>(
+        &mut self,
+        place: &'static str,
+        code: GpuBackendReq,
+        body: &T,
+        behind: usize,
+        handles: &[&L::Handle],
+    ) -> HandlerResult<Header>
+        requires size { T.SIZE ≤ MAX_MSG_SIZE }
+        requires handles { length handles.now ≤ MAX_ATTACHED_FD_ENTRIES }
+        ensures { (payload : List ℕ) (awaited : Option GpuReply) → length payload ≡ behind → length (T.text body.now) ≡ T.SIZE
+            → SendsFront L.event place.now (record (gpu_message code (T.text body.now) payload awaited) { handles = map (λ h. h.now) handles.now }) (channel self.old) result (channel self.new) }
+    {
+        let header = self.prepare(place, code, T::SIZE, behind)?;
+        match self.endpoint.send_message(&header, body, handles) {
+            Ok(()) => Ok(header),
+            Err(error) => Err(io_err_convert(place, error)),
+        }
+    }
+
+    /// The same without bytes behind it, and with a file descriptor, if there is one.
+    pub(crate) fn send_with<T: ByteValued>(
+        &mut self,
+        code: GpuBackendReq,
+        body: &T,
+        handle: &Option<L::Handle>,
+    ) -> HandlerResult<Header>
+        requires { T.SIZE ≤ MAX_MSG_SIZE }
+        ensures { (awaited : Option GpuReply) → length (T.text body.now) ≡ T.SIZE
+            → SendsFront L.event (codes "send_message") (record (gpu_message code (T.text body.now) [] awaited) { handles = perhaps handle.now }) (channel self.old) result (channel self.new) }
+    {
+        match handle {
+            Some(handle) => self.send_front("send_message", code, body, 0, &[handle]),
+            None => self.send_front("send_message", code, body, 0, &[]),
+        }
+    }
+
+    /// The header of a message whose record has so many bytes, with so many behind it, unless the channel was marked as failed. The
+    /// endpoint has its descriptor buffer then.
+    fn prepare(
+        &mut self,
+        place: &'static str,
+        code: GpuBackendReq,
+        size: usize,
+        behind: usize,
+    ) -> HandlerResult<Header>
+        requires { size ≤ MAX_MSG_SIZE }
+        ensures { Prepares place.now code (size + behind) (channel self.old) result (channel self.new) }
+    {
+        if let Err(error) = self.check_state() {
+            return Err(error);
+        }
+        if self.endpoint.make_list().is_err() {
+            return Err(io_err_convert("check_state", Error::OutOfMemory));
+        }
+        if behind > MAX_GPU_MSG_SIZE - size {
+            return Err(io_err_convert(place, Error::OversizedMsg));
+        }
+        Ok(Header::new(code, 0, (size + behind) as u32))
+    }
+
     /// Receives the reply for a request: a header and a record, as the endpoint's `recv_body` does.
-    fn recv_record<T: VhostUserMsgValidator + Drop>(&mut self, request: &Header) -> HandlerResult<T>
+    pub(crate) fn recv_record<T: VhostUserMsgValidator + Drop>(
+        &mut self,
+        request: &Header,
+    ) -> HandlerResult<T>
         requires { T.SIZE ≤ MAX_MSG_SIZE }
         ensures same { self.new ≡ record self.old { endpoint = self.new.endpoint } }
         ensures received { (shape : GpuReply) → gpu_record_size shape ≡ T.SIZE → ((bs : List ℕ) → T.valid (T.read bs) ≡ true)
