@@ -12,8 +12,8 @@
  *
  * Every call must be taken before the next is asked, also one that awaits no reply (covretin_display_missing is 0 at once).
  *
- * PIXELS are never copied. covretin_display_ask_update_scanout and covretin_display_ask_cursor_update make the front of their
- * message alone: its header, whose size counts the pixels, and the rectangle or the cursor's place. The caller sends all that
+ * PIXELS are never copied. covretin_display_ask_update_scanout and covretin_display_ask_cursor_update make all of their message but
+ * the pixels: its header, whose size counts them, and the rectangle or the cursor's place. The caller sends all that
  * covretin_display_to_send hands out, then from his own buffer exactly as many bytes of pixels as he told, and only then asks again.
  *
  * No call makes a system call but for memory (malloc, realloc, free), waits for anything, or has a global state.
@@ -169,8 +169,8 @@ enum covretin_error covretin_display_ask_get_edid(covretin_display *display, uin
 /* A screen has this size, or is turned off. _take; no reply is awaited, here and below, where none is named. */
 enum covretin_error covretin_display_ask_set_scanout(covretin_display *display, const covretin_display_scanout *scanout);
 
-/* A rectangle of a screen has new pixels: pixels_len bytes, which the caller sends behind the front (see PIXELS). 4 bytes are a
- * pixel, and a row follows the other. OVERSIZED_MSG: the rectangle and the pixels have more than 2^32 - 1 bytes together. */
+/* A rectangle of a screen has new pixels: pixels_len bytes, which the caller sends himself (see PIXELS). 4 bytes are a pixel, and a
+ * row follows the other. OVERSIZED_MSG: the rectangle and the pixels have more than 2^32 - 1 bytes together. */
 enum covretin_error covretin_display_ask_update_scanout(covretin_display *display, const covretin_display_update *update,
                                             size_t pixels_len);
 
@@ -187,7 +187,7 @@ enum covretin_error covretin_display_ask_update_dmabuf_scanout(covretin_display 
 enum covretin_error covretin_display_ask_cursor_pos(covretin_display *display, const covretin_display_cursor_pos *cursor);
 enum covretin_error covretin_display_ask_cursor_pos_hide(covretin_display *display, const covretin_display_cursor_pos *cursor);
 
-/* The cursor has a new image, of COVRETIN_DISPLAY_CURSOR_SIZE bytes, which the caller sends behind the front (see PIXELS). */
+/* The cursor has a new image, of COVRETIN_DISPLAY_CURSOR_SIZE bytes, which the caller sends himself (see PIXELS). */
 enum covretin_error covretin_display_ask_cursor_update(covretin_display *display, const covretin_display_cursor_update *update);
 
 #ifdef __cplusplus
