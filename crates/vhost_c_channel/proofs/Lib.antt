@@ -1,3 +1,4 @@
 pub mod Calls
+pub mod Displays
 pub mod Requests
 pub mod Told

@@ -1,0 +1,178 @@
+-- What the calls of a device's session with a display do.
+use Rattle.std.specs.Prelude.{◌≡◌, ◌<◌, ◌≤◌, ℕ, ℤ, List, [], ◌++◌, length, drop, Option, Some, None, Result, Ok, Err, ⊤, Bool, true, false, is_some, codes}
+use Rattle.std.specs.Option.{option_map}
+use Rattle.vhost_message.specs.Header.{Header, header_of}
+use Rattle.vhost_message.specs.declared.error.Error as declared
+use Rattle.vhost_message.specs.declared.error.Error.TheVariants.{OutOfMemory, InvalidMessage}
+use Rattle.vhost_message.specs.declared.io_error.IoError as io
+use Rattle.vhost_message.specs.declared.io_error.IoError.TheVariants.{Of, In}
+use Rattle.vhost_gpu_message.specs.GpuHeader.{gpu_fields_of}
+use Rattle.vhost_gpu_message.specs.declared.limits.TheConstants.{MAX_GPU_MSG_SIZE}
+use Rattle.vhost_protocol.specs.Error.{seen}
+use Rattle.vhost_protocol.specs.Gpu.{GpuCall, GpuReply, TheEmpty, gpu_row, gpu_head, gpu_cells, gpu_record_size, gpu_take, sent_by}
+use Rattle.vhost_protocol.specs.IoError as seen_error
+use Rattle.vhost_protocol.specs.IoError.{seen_io, seen_io_result}
+use Rattle.vhost_protocol.specs.Stream.{Cell, plain}
+use Rattle.vhost_link.specs.Ends.{Ends}
+use Rattle.vhost_link.specs.Mem.{event}
+use Rattle.vhost_link.specs.declared.plain.PlainHandle.{PlainHandle}
+use Rattle.vhost_connection.specs.Hearing.{Fails}
+use Rattle.vhost_connection.specs.Memory.{stream}
+use Rattle.vhost_connection.specs.Talk.{State}
+use Rattle.vhost_gpu_backend_req.specs.Asking.{read_as}
+use Rattle.vhost_gpu_backend_req.specs.Channel as link
+use Rattle.vhost_gpu_backend_req.specs.Channel.{channel}
+use Rattle.vhost_gpu_backend_req.specs.Halves.{FrontUnsent, Keeps, reply_in}
+use Rattle.vhost_gpu_backend_req.specs.declared.call.Awaited.{Awaited}
+use Rattle.vhost_c_common.specs.Incoming.{missing_in, Adds}
+use Rattle.vhost_c_common.specs.Moving.{HandsOut, TakesIn}
+use Rattle.vhost_c_common.specs.declared.incoming.Incoming.{Incoming}
+use Rattle.vhost_c_common.specs.declared.refusal.Refusal.{Refusal}
+use Rattle.vhost_c_common.specs.declared.refusal.Refusal.TheVariants.{NotTaken, NothingAsked, NotYet, NoRoom, OtherAnswer, Protocol}
+use Rattle.vhost_c_channel.specs.declared.display.Display.{Display}
+
+-- ---- a session
+
+-- its end of the connection
+abbrev pub endpoint_of : Display → State Ends PlainHandle
+endpoint_of s = (channel s.channel).endpoint
+
+-- what is to be sent: bytes, each with the descriptors that go with it
+abbrev pub queued : Display → List (Cell PlainHandle)
+queued s = s.outgoing.link.pending ++ (endpoint_of s).link.sent
+
+-- what came, and was not taken
+abbrev pub arrived : Display → List (Cell PlainHandle)
+arrived s = stream (endpoint_of s)
+
+-- its end of the connection, but for what is to be sent and what came
+abbrev pub end_of : Display → State Ends PlainHandle
+end_of s = record (endpoint_of s) { link = record (endpoint_of s).link { pending = []; sent = [] }; ahead = [] }
+
+-- the number of the error with which it was marked as failed
+abbrev pub mark_of : Display → Option ℤ
+mark_of s = (channel s.channel).failed
+
+-- how many bytes can be told to be missing of a reply: none where none is awaited
+abbrev pub missing_for : Option (Option Awaited) → Incoming → ℕ
+missing_for (Some (Some awaited)) i = missing_in i
+missing_for _ i = 0
+
+abbrev pub missing_of : Display → ℕ
+missing_of s = missing_for s.asked s.incoming
+
+-- a call was asked that awaits no reply
+abbrev pub awaits_none : Option (Option Awaited) → Bool
+awaits_none (Some None) = true
+awaits_none _ = false
+
+-- A new session: nothing is to be sent, nothing came, nothing is asked.
+pub record IsNew (s : Display) : Type 0 where
+  pub queue : queued s ≡ []
+  pub came : arrived s ≡ []
+  pub asked : s.asked ≡ None
+  pub mark : mark_of s ≡ None
+
+-- ---- asks
+
+-- the error of the protocol that a call of the channel failed with
+abbrev pub error_in : io.IoError → declared.Error
+error_in (Of e) = e
+error_in (In place e) = e
+error_in _ = InvalidMessage
+
+-- A call was asked: what is to be sent and then its pixels are what was to be sent before and then its message. Of its reply nothing came yet, and nothing that came before waits.
+pub record Asks (c : GpuCall PlainHandle) (old new : Display) : Type 0 where
+  pub queue : queued new ++ plain (gpu_row c).payload ≡ queued old ++ gpu_cells (gpu_row c)
+  pub fits : (gpu_head (gpu_row c)).size ≤ MAX_GPU_MSG_SIZE
+  pub kept : Option Awaited
+  pub keeps : Keeps (gpu_row c) kept
+  pub asked : new.asked ≡ Some kept
+  pub mark : mark_of new ≡ mark_of old
+  pub nothing_came : new.incoming.count ≡ 0
+  pub nothing_waits : arrived new ≡ []
+
+-- Why a call was not asked: the reply before is still to be taken; memory was refused; or the channel did not send it.
+pub data Refused (c : GpuCall PlainHandle) (old : Display) : Refusal → Type 0 where
+  busy : is_some old.asked ≡ true → Refused c old NotTaken
+  no_memory : Refused c old (Protocol OutOfMemory)
+  unsent : (e : io.IoError) (before after : link.Channel Ends PlainHandle) → before.failed ≡ mark_of old → FrontUnsent event (sent_by c) (gpu_row c) before (seen_io e) after → Refused c old (Protocol (error_in e))
+
+-- It was not asked: nothing more is to be sent, and the rest is as before.
+pub record Stays (old new : Display) : Type 0 where
+  pub queue : queued new ≡ queued old
+  pub mark : mark_of new ≡ mark_of old
+  pub asked : new.asked ≡ old.asked
+  pub incoming : new.incoming ≡ old.incoming
+
+-- what a session answers to an ask
+abbrev pub Asking : GpuCall PlainHandle → Display → Result ⊤ Refusal → Display → Type 0
+Asking c s (Ok done) s' = Asks c s s'
+Asking c s (Err r) s' = Refused c s r × Stays s s'
+
+-- ---- bytes out and in
+
+-- A piece of what is to be sent went out, or nothing did; nothing else changed.
+pub record Hands (old new : Display) : Type 0 where
+  pub came : arrived new ≡ arrived old
+  pub end : end_of new ≡ end_of old
+  pub mark : mark_of new ≡ mark_of old
+  pub asked : new.asked ≡ old.asked
+  pub incoming : new.incoming ≡ old.incoming
+
+-- what a session answers where it is to hand out what is to be sent
+abbrev pub Sending : List ℕ → List ℤ → ℕ × ℕ → Display → Result ⊤ Refusal → Display → Type 0
+Sending bytes fds count s (Ok done) s' = HandsOut (queued s) (queued s') bytes fds count × Hands s s'
+Sending bytes fds count s (Err r) s' = (queued s' ≡ queued s) × Hands s s'
+
+-- A part of the reply came, or nothing did; nothing else changed.
+pub record Waits (old new : Display) : Type 0 where
+  pub queue : queued new ≡ queued old
+  pub end : end_of new ≡ end_of old
+  pub mark : mark_of new ≡ mark_of old
+  pub asked : new.asked ≡ old.asked
+
+-- what a session answers to bytes of its reply: no more may come than are missing
+abbrev pub Receiving : List ℕ → List ℤ → Display → Result ⊤ Refusal → Display → Type 0
+Receiving bytes fds s (Ok done) s' = (length bytes ≤ missing_of s) × TakesIn bytes fds (arrived s) (arrived s') × Adds bytes s.incoming s'.incoming × Waits s s'
+Receiving bytes fds s (Err r) s' = (arrived s' ≡ arrived s) × (s'.incoming ≡ s.incoming) × Waits s s'
+
+-- ---- replies
+
+-- Nothing is asked any more.
+pub record Settles (old new : Display) : Type 0 where
+  pub asked : new.asked ≡ None
+  pub mark : mark_of new ≡ mark_of old
+
+-- what a session answers for what came
+abbrev pub told : {T : Type 0} → Result T io.IoError → Result T Refusal
+told (Ok t) = Ok t
+told (Err e) = Err (Protocol (error_in e))
+
+module _ {T : Type 0} (reply : GpuReply) (read : List ℕ → T) where
+  -- What came is what the definitions make of it, and the rest is left; or the link failed, whose calls fail for want of memory alone.
+  pub data Hears (head : Header) (old new : Display) : Result T io.IoError → Type 0 where
+    heard : {answer : Result (List ℕ) seen_error.IoError} {result : Result T io.IoError} → gpu_take (Some reply) head (arrived old) ≡ (answer, arrived new) → seen_io_result result ≡ read_as read answer → queued new ≡ queued old
+        → Hears head old new result
+    fails : {e : io.IoError} (d : declared.Error) → Fails event (endpoint_of old) true d (endpoint_of new) → seen_io e ≡ seen_error.In (codes "recv_body") (seen d) → Hears head old new (Err e)
+
+  -- What taking such a record answers: a reply that came whole was read; or it announces another size than one has, and nothing of it is left; or the reply that is awaited has another form, or none is; or nothing was asked, or bytes of the reply are missing, and nothing changed.
+  pub data TakesRecord (old new : Display) : Result T Refusal → Type 0 where
+    reads : (a : Awaited) (result : Result T io.IoError) → missing_of old ≡ 0 → old.asked ≡ Some (Some a) → reply_in a.reply ≡ reply → (header_of old.incoming.head).size ≡ gpu_record_size reply
+        → Hears (gpu_fields_of a.request) old new result → Settles old new → TakesRecord old new (told result)
+    other_size : (a : Awaited) → missing_of old ≡ 0 → old.asked ≡ Some (Some a) → reply_in a.reply ≡ reply → ¬ ((header_of old.incoming.head).size ≡ gpu_record_size reply)
+        → arrived new ≡ [] → queued new ≡ queued old → Settles old new → TakesRecord old new (Err (Protocol InvalidMessage))
+    other_form : (kept : Option Awaited) → old.asked ≡ Some kept → ¬ (option_map (λ a. reply_in a.reply) kept ≡ Some reply) → new ≡ old → TakesRecord old new (Err OtherAnswer)
+    nothing_asked : old.asked ≡ None → new ≡ old → TakesRecord old new (Err NothingAsked)
+    not_yet : 0 < missing_of old → new ≡ old → TakesRecord old new (Err NotYet)
+
+-- The same of a place: the record's wire bytes are at its front; or it was not taken; or there is no room, and nothing changed.
+pub data TakesTo {T : Type 0} (reply : GpuReply) (read : List ℕ → T) (text : T → List ℕ) (before after : List ℕ) (old new : Display) : Result ⊤ Refusal → Type 0 where
+  taken : (t : T) → TakesRecord reply read old new (Ok t) → after ≡ text t ++ drop (gpu_record_size reply) before → TakesTo reply read text before after old new (Ok tt)
+  not_taken : (r : Refusal) → gpu_record_size reply ≤ length before → TakesRecord reply read old new (Err r) → after ≡ before → TakesTo reply read text before after old new (Err r)
+  no_room : length before < gpu_record_size reply → after ≡ before → new ≡ old → TakesTo reply read text before after old new (Err NoRoom)
+
+-- What taking a reply without a value answers: none was awaited; or it was taken as an empty record.
+pub data Takes (old new : Display) : Result ⊤ Refusal → Type 0 where
+  not_awaited : old.asked ≡ Some None → arrived new ≡ arrived old → queued new ≡ queued old → Settles old new → Takes old new (Ok tt)
+  takes : {result : Result ⊤ Refusal} → ¬ (old.asked ≡ Some None) → TakesRecord TheEmpty (λ bs. tt) old new result → Takes old new result
