@@ -24,7 +24,7 @@ use Rattle.vhost_c_common.specs.declared.outgoing.Outgoing.{Outgoing}
 use Rattle.vhost_c_common.specs.declared.refusal.Refusal.{Refusal}
 use Rattle.vhost_c_common.specs.declared.refusal.Refusal.TheVariants.{Protocol}
 use Rattle.vhost_c_channel.specs.Display as session
-use Rattle.vhost_c_channel.specs.Display.{Asks, Asking, Refused, Stays, Hears, TakesRecord, awaits_none, error_in, endpoint_of, queued, arrived, mark_of}
+use Rattle.vhost_c_channel.specs.Display.{Asks, Asking, Refused, Stays, Hears, TakesRecord, awaits_none, error_in, end_of, endpoint_of, queued, arrived, mark_of}
 use Rattle.vhost_c_channel.specs.declared.display.Display.{Display}
 
 -- ---- a request that went out
@@ -41,10 +41,10 @@ whole sent =
 
 -- it is behind what was sent before, and what came is as before
 went : TalksLaw → (sent : GpuSent PlainHandle) (old : link.Channel Ends PlainHandle) (new : State Ends PlainHandle) → FrontGoes event sent old new
-    → (new.link.sent ≡ old.endpoint.link.sent ++ gpu_front sent) × (stream new ≡ stream old.endpoint)
+    → (new.link.sent ≡ old.endpoint.link.sent ++ gpu_front sent) × (stream new ≡ stream old.endpoint) × (new.broken ≡ None)
 went law sent old new out =
     let (retries, serves, listed, left) = out.sends in
-    let t = law (record old.endpoint { list = true }) new _ serves.talks in (t.1, none-handed (stream old.endpoint) (stream new) t.0)
+    let t = law (record old.endpoint { list = true }) new _ serves.talks in (t.1, none-handed (stream old.endpoint) (stream new) t.0, serves.after)
 
 pub asks : TalksLaw → (c : GpuCall PlainHandle) (old new : Display) (kept : Option Awaited) → AsksHalf event c (channel old.channel) (Ok kept) (channel new.channel)
     → new.outgoing ≡ old.outgoing → new.asked ≡ Some kept → new.incoming.count ≡ 0 → arrived old ≡ [] → Asks c old new
@@ -62,6 +62,7 @@ asks law c old new kept (keeps, goes, same) outgoing asked count none =
       mark = ap {A = link.Channel Ends PlainHandle} (λ x. x.failed) same;
       nothing_came = count;
       nothing_waits = w.1 ∙ none;
+      sound = w.2;
     }
 
 -- ---- a call that was not asked
@@ -77,15 +78,15 @@ mark-unsent old new (stopped alive fits sends is) = ap {A = link.Channel Ends Pl
 
 pub unsent : (c : GpuCall PlainHandle) (old : Display) (e : io.IoError) (mid : link.Channel Ends PlainHandle) → AsksHalf event c (channel old.channel) (Err e) mid
     → Refused c old (Protocol (error_in e)) × (mid.failed ≡ mark_of old)
-unsent c old e mid asked = (session.unsent e (channel old.channel) mid refl asked, mark-unsent (channel old.channel) mid asked)
+unsent c old e mid asked = (session.unsent e (channel old.channel) mid refl refl asked, mark-unsent (channel old.channel) mid asked)
 
 -- ---- what was asked in between was asked of the session before, where nothing but its places changed
 
-module _ (c : GpuCall PlainHandle) (old mid new : Display) (queue : queued mid ≡ queued old) (mark : mark_of mid ≡ mark_of old) (asked : mid.asked ≡ old.asked) (incoming : mid.incoming ≡ old.incoming) where
+module _ (c : GpuCall PlainHandle) (old mid new : Display) (queue : queued mid ≡ queued old) (mark : mark_of mid ≡ mark_of old) (asked : mid.asked ≡ old.asked) (incoming : mid.incoming ≡ old.incoming) (end : end_of mid ≡ end_of old) where
   refused-since : (r : Refusal) → Refused c mid r → Refused c old r
   refused-since _ (session.busy is) = session.busy (sym (ap is_some asked) ∙ is)
   refused-since _ session.no_memory = session.no_memory
-  refused-since _ (session.unsent e before after same why) = session.unsent e before after (same ∙ mark) why
+  refused-since _ (session.unsent e before after same at why) = session.unsent e before after (same ∙ mark) (at ∙ end) why
 
   pub asking-since : (outcome : Result ⊤ Refusal) → Asking c mid outcome new → Asking c old outcome new
   asking-since (Ok done) a = record {
@@ -97,6 +98,7 @@ module _ (c : GpuCall PlainHandle) (old mid new : Display) (queue : queued mid �
     mark = a.mark ∙ mark;
     nothing_came = a.nothing_came;
     nothing_waits = a.nothing_waits;
+    sound = a.sound;
   }
   asking-since (Err r) (why, stays) = (refused-since r why, record { queue = stays.queue ∙ queue; mark = stays.mark ∙ mark; asked = stays.asked ∙ asked; incoming = stays.incoming ∙ incoming })
 
@@ -136,7 +138,7 @@ module _ {T : Type 0} (reply : GpuReply) (read : List ℕ → T) where
       → RecvsRecord event read (gpu_take (Some reply) head) (endpoint_of old) r (endpoint_of new) → new.outgoing ≡ old.outgoing → Hears reply read head old new result
   heard-as law head old new result _ is (asking.heard {answer = answer} h reads listed) outgoing =
       let cut = hears-cut law (gpu_take (Some reply) head) (endpoint_of old) (endpoint_of new) answer h in
-      session.heard cut.0 (is ∙ reads) (ap {A = Outgoing} (λ q. q.link.pending ++ (endpoint_of new).link.sent) outgoing ∙ ap (λ xs. old.outgoing.link.pending ++ xs) cut.1)
+      session.heard cut.0 (is ∙ reads) (ap {A = Outgoing} (λ q. q.link.pending ++ (endpoint_of new).link.sent) outgoing ∙ ap (λ xs. old.outgoing.link.pending ++ xs) cut.1) h.serves.after
   heard-as law head old new (Ok t) _ is (asking.stopped f) outgoing = absurd (cc is)
   heard-as law head old new (Err e) _ is (asking.stopped {e = d} f) outgoing = session.fails d f (cc is)
 
@@ -165,13 +167,13 @@ module _ {A B : Type 0} (f : A → B) (reply : GpuReply) (read : List ℕ → A)
   another-told (Err e) = refl
 
   hears-another : (head : Header) (old new : Display) (r : Result A io.IoError) → Hears reply read head old new r → Hears reply (λ bs. f (read bs)) head old new (as_another f r)
-  hears-another head old new r (session.heard {answer = answer} is reads queue) = session.heard is (another-read r answer reads) queue
+  hears-another head old new r (session.heard {answer = answer} is reads queue sound) = session.heard is (another-read r answer reads) queue sound
   hears-another head old new _ (session.fails d f' is) = session.fails d f' is
 
   pub takes-another : (old new : Display) (r : Result A Refusal) → TakesRecord reply read old new r → TakesRecord reply (λ bs. f (read bs)) old new (as_another f r)
   takes-another old new _ (session.reads a result m asked form size h settles) =
       subst (λ o. TakesRecord reply (λ bs. f (read bs)) old new o) (sym (another-told result)) (session.reads a (as_another f result) m asked form size (hears-another _ old new result h) settles)
-  takes-another old new _ (session.other_size a m asked form size none queue settles) = session.other_size a m asked form size none queue settles
+  takes-another old new _ (session.other_size a m asked form size none queue end settles) = session.other_size a m asked form size none queue end settles
   takes-another old new _ (session.other_form kept asked form same) = session.other_form kept asked form same
   takes-another old new _ (session.nothing_asked asked same) = session.nothing_asked asked same
   takes-another old new _ (session.not_yet some same) = session.not_yet some same

@@ -45,9 +45,16 @@ queued s = s.outgoing.link.pending ++ (endpoint_of s).link.sent
 abbrev pub arrived : Display → List (Cell PlainHandle)
 arrived s = stream (endpoint_of s)
 
--- its end of the connection, but for what is to be sent and what came
+-- an end of the connection, but for what is to be sent and what came
+abbrev pub bare : State Ends PlainHandle → State Ends PlainHandle
+bare e = record e { link = record e.link { pending = []; sent = [] }; ahead = [] }
+
 abbrev pub end_of : Display → State Ends PlainHandle
-end_of s = record (endpoint_of s) { link = record (endpoint_of s).link { pending = []; sent = [] }; ahead = [] }
+end_of s = bare (endpoint_of s)
+
+-- it is not poisoned
+abbrev pub IsSound : Display → Type 0
+IsSound s = (endpoint_of s).broken ≡ None
 
 -- the number of the error with which it was marked as failed
 abbrev pub mark_of : Display → Option ℤ
@@ -66,12 +73,13 @@ abbrev pub awaits_none : Option (Option Awaited) → Bool
 awaits_none (Some None) = true
 awaits_none _ = false
 
--- A new session: nothing is to be sent, nothing came, nothing is asked.
+-- A new session: nothing is to be sent, nothing came, nothing is asked, and its end of the connection is not poisoned.
 pub record IsNew (s : Display) : Type 0 where
   pub queue : queued s ≡ []
   pub came : arrived s ≡ []
   pub asked : s.asked ≡ None
   pub mark : mark_of s ≡ None
+  pub sound : IsSound s
 
 -- ---- asks
 
@@ -91,12 +99,13 @@ pub record Asks (c : GpuCall PlainHandle) (old new : Display) : Type 0 where
   pub mark : mark_of new ≡ mark_of old
   pub nothing_came : new.incoming.count ≡ 0
   pub nothing_waits : arrived new ≡ []
+  pub sound : IsSound new
 
--- Why a call was not asked: the reply before is still to be taken; memory was refused; or the channel did not send it.
+-- Why a call was not asked: the reply before is still to be taken; memory was refused; or the channel, by this end of the connection, did not send it.
 pub data Refused (c : GpuCall PlainHandle) (old : Display) : Refusal → Type 0 where
   busy : is_some old.asked ≡ true → Refused c old NotTaken
   no_memory : Refused c old (Protocol OutOfMemory)
-  unsent : (e : io.IoError) (before after : link.Channel Ends PlainHandle) → before.failed ≡ mark_of old → FrontUnsent event (sent_by c) (gpu_row c) before (seen_io e) after → Refused c old (Protocol (error_in e))
+  unsent : (e : io.IoError) (before after : link.Channel Ends PlainHandle) → before.failed ≡ mark_of old → bare before.endpoint ≡ end_of old → FrontUnsent event (sent_by c) (gpu_row c) before (seen_io e) after → Refused c old (Protocol (error_in e))
 
 -- It was not asked: nothing more is to be sent, and the rest is as before.
 pub record Stays (old new : Display) : Type 0 where
@@ -152,7 +161,7 @@ told (Err e) = Err (Protocol (error_in e))
 module _ {T : Type 0} (reply : GpuReply) (read : List ℕ → T) where
   -- What came is what the definitions make of it, and the rest is left; or the link failed, whose calls fail for want of memory alone.
   pub data Hears (head : Header) (old new : Display) : Result T io.IoError → Type 0 where
-    heard : {answer : Result (List ℕ) seen_error.IoError} {result : Result T io.IoError} → gpu_take (Some reply) head (arrived old) ≡ (answer, arrived new) → seen_io_result result ≡ read_as read answer → queued new ≡ queued old
+    heard : {answer : Result (List ℕ) seen_error.IoError} {result : Result T io.IoError} → gpu_take (Some reply) head (arrived old) ≡ (answer, arrived new) → seen_io_result result ≡ read_as read answer → queued new ≡ queued old → IsSound new
         → Hears head old new result
     fails : {e : io.IoError} (d : declared.Error) → Fails event (endpoint_of old) true d (endpoint_of new) → seen_io e ≡ seen_error.In (codes "recv_body") (seen d) → Hears head old new (Err e)
 
@@ -161,7 +170,7 @@ module _ {T : Type 0} (reply : GpuReply) (read : List ℕ → T) where
     reads : (a : Awaited) (result : Result T io.IoError) → missing_of old ≡ 0 → old.asked ≡ Some (Some a) → reply_in a.reply ≡ reply → (header_of old.incoming.head).size ≡ gpu_record_size reply
         → Hears (gpu_fields_of a.request) old new result → Settles old new → TakesRecord old new (told result)
     other_size : (a : Awaited) → missing_of old ≡ 0 → old.asked ≡ Some (Some a) → reply_in a.reply ≡ reply → ¬ ((header_of old.incoming.head).size ≡ gpu_record_size reply)
-        → arrived new ≡ [] → queued new ≡ queued old → Settles old new → TakesRecord old new (Err (Protocol InvalidMessage))
+        → arrived new ≡ [] → queued new ≡ queued old → end_of new ≡ end_of old → Settles old new → TakesRecord old new (Err (Protocol InvalidMessage))
     other_form : (kept : Option Awaited) → old.asked ≡ Some kept → ¬ (option_map (λ a. reply_in a.reply) kept ≡ Some reply) → new ≡ old → TakesRecord old new (Err OtherAnswer)
     nothing_asked : old.asked ≡ None → new ≡ old → TakesRecord old new (Err NothingAsked)
     not_yet : 0 < missing_of old → new ≡ old → TakesRecord old new (Err NotYet)
@@ -174,5 +183,5 @@ pub data TakesTo {T : Type 0} (reply : GpuReply) (read : List ℕ → T) (text :
 
 -- What taking a reply without a value answers: none was awaited; or it was taken as an empty record.
 pub data Takes (old new : Display) : Result ⊤ Refusal → Type 0 where
-  not_awaited : old.asked ≡ Some None → arrived new ≡ arrived old → queued new ≡ queued old → Settles old new → Takes old new (Ok tt)
+  not_awaited : old.asked ≡ Some None → arrived new ≡ arrived old → queued new ≡ queued old → end_of new ≡ end_of old → Settles old new → Takes old new (Ok tt)
   takes : {result : Result ⊤ Refusal} → ¬ (old.asked ≡ Some None) → TakesRecord TheEmpty (λ bs. tt) old new result → Takes old new result

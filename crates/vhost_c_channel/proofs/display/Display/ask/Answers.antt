@@ -6,7 +6,7 @@ use Rattle.vhost_connection.specs.Talk.{State}
 use Rattle.vhost_gpu_backend_req.specs.Halves.{call_in}
 use Rattle.vhost_c_common.specs.Carrying.{emptied}
 use Rattle.vhost_c_common.specs.declared.refusal.Refusal.TheVariants.{Protocol}
-use Rattle.vhost_c_channel.specs.Display.{Refused, busy, no_memory, endpoint_of}
+use Rattle.vhost_c_channel.specs.Display.{Refused, bare, busy, no_memory, endpoint_of}
 use Rattle.vhost_c_channel.proofs.Calls.{collected}
 use Rattle.vhost_c_channel.proofs.Displays.{asking-since}
 use Rattle.vhost_c_channel.proofs.display.Display.ask.Goals as goal
@@ -21,7 +21,9 @@ returns-in-Ok c = λ pixels long.
     collected s.outgoing.link.pending (endpoint_of s).link.sent _ _
     (c.in-Ok.ensures.collected.got ∙ ap {A = State Ends PlainHandle} (λ e. s.outgoing.link.pending ++ e.link.sent) c.endpoint_mut.ensures.value)
     (ap {A = State Ends PlainHandle} (λ e. e.link.sent) (c.empty.ensures ∙ ap {A = State Ends PlainHandle} emptied (c.endpoint_mut-in-Ok.ensures.value ∙ c.in-Ok.ensures.collected.given)))
-    ) refl refl refl c.ask_now.result (c.ask_now.ensures pixels long)
+    ) refl refl refl
+    (ap {A = State Ends PlainHandle} bare (c.empty.ensures ∙ ap {A = State Ends PlainHandle} emptied (c.endpoint_mut-in-Ok.ensures.value ∙ c.in-Ok.ensures.collected.given)) ∙ ap {A = State Ends PlainHandle} bare c.endpoint_mut.ensures.value)
+    c.ask_now.result (c.ask_now.ensures pixels long)
 
 pub returns-in-Err : goal.returns-in-Err
 returns-in-Err c = λ pixels long.

@@ -8,7 +8,7 @@ use Rattle.vhost_connection.specs.Talk.{State}
 use Rattle.vhost_gpu_backend_req.specs.Channel as link
 use Rattle.vhost_gpu_backend_req.specs.declared.call.Awaited.{Awaited}
 use Rattle.vhost_c_common.specs.Carrying.{emptied}
-use Rattle.vhost_c_channel.specs.Display.{reads, other_size, other_form, nothing_asked, not_yet}
+use Rattle.vhost_c_channel.specs.Display.{bare, reads, other_size, other_form, nothing_asked, not_yet}
 use Rattle.vhost_c_channel.proofs.Calls.{some-missing, none-missing}
 use Rattle.vhost_c_channel.proofs.Displays.{received, failed, same-form}
 use Rattle.vhost_c_channel.proofs.display.Display.take_record.Goals as goal
@@ -32,7 +32,7 @@ returns-then-size-SIZE-2 g c reply sized all =
     let gone = c.empty.ensures ∙ ap {A = State Ends PlainHandle} emptied c.endpoint_mut.ensures.value in
     other_size c.in-Some-asked.awaited (none-missing _ _ c.missing.ensures.missing c.if-missing-gt0.false) (c.in-Some.is ∙ ap {A = Option Awaited} Some c.in-Some-asked.is)
     (same-form _ _ (sym c.size.ensures ∙ c.if-size-SIZE.false ∙ c.SIZE.ensures ∙ sym sized))
-    (λ is. c.if-size-SIZE-2.true (c.size-2.ensures ∙ is ∙ sized ∙ sym c.SIZE-2.ensures)) (ap {A = State Ends PlainHandle} stream gone) (ap {A = State Ends PlainHandle} (λ e. c.args.self.now.outgoing.link.pending ++ e.link.sent) gone)
+    (λ is. c.if-size-SIZE-2.true (c.size-2.ensures ∙ is ∙ sized ∙ sym c.SIZE-2.ensures)) (ap {A = State Ends PlainHandle} stream gone) (ap {A = State Ends PlainHandle} (λ e. c.args.self.now.outgoing.link.pending ++ e.link.sent) gone) (ap {A = State Ends PlainHandle} bare gone)
     (record { asked = refl; mark = refl })
 
 pub returns-in-Ok : goal.returns-in-Ok
