@@ -5,6 +5,8 @@ pub mod BackendHolder
 pub mod Channel
 pub mod ChannelHolder
 pub mod ChannelServerHolder
+pub mod Display
+pub mod DisplayHolder
 pub mod Holder
 pub mod Incoming
 pub mod Records

@@ -1,0 +1,11 @@
+use Rattle.std.proofs.Common.{Some, sym, ap, ◌∙◌}
+use Rattle.vhost_c_common.proofs.ByNumber.{by-none, by-some}
+use Rattle.vhost_c_channel.specs.declared.display.Display.{Display}
+use Rattle.vhost_c.proofs.display_replies.covretin_display_take.Goals as goal
+
+pub returns-in-None : goal.returns-in-None
+returns-in-None c = by-none _ _ _ _ c.in-None.ensures.taken c.in-None.ensures.left c.number_of.ensures
+
+pub returns-in-Some : goal.returns-in-Some
+returns-in-Some c = by-some _ _ _ _ c.deref_mut.result.now c.take-outcome.new.self c.take-outcome.result
+    (c.in-Some.ensures.taken ∙ ap {A = Display} Some (sym c.deref_mut.ensures.value)) c.put.ensures c.number_of-in-Some.ensures c.take-outcome.ensures
