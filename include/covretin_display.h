@@ -40,6 +40,11 @@
 extern "C" {
 #endif
 
+/* Features of the channel, as bits of a number: a display that has the first is asked for an EDID, and one that has the second is shown
+ * a buffer by covretin_display_ask_set_dmabuf_scanout2. */
+#define COVRETIN_DISPLAY_FEATURE_EDID ((uint64_t)1 << 0)
+#define COVRETIN_DISPLAY_FEATURE_DMABUF2 ((uint64_t)1 << 1)
+
 /* The pixels of a cursor's image, in bytes: 64 rows of 64 pixels of 4 bytes. */
 #define COVRETIN_DISPLAY_CURSOR_SIZE 16384
 
@@ -154,7 +159,7 @@ enum covretin_error covretin_display_take_edid(covretin_display *display, uint8_
 /* -- Asks -----------------------------------------------------------------------------------------------------------
  * Each makes its request, which covretin_display_to_send then hands out. After an error nothing more is to be sent than before.
  * All may return NO_SESSION, NOT_TAKEN, OUT_OF_MEMORY, SOCKET_RETRY and SOCKET_BROKEN. Numbers of screens and sizes are the display's
- * to check. A device asks set_protocol_features first, and set_dmabuf_scanout2 and get_edid only where the display offers them. */
+ * to check. A device asks for the features first, and accepts those that it uses. */
 
 /* Which features of the channel the display has; and which of these the device accepted. covretin_display_take_number; _take. */
 enum covretin_error covretin_display_ask_get_protocol_features(covretin_display *display);

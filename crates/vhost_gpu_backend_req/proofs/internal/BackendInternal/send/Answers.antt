@@ -1,5 +1,5 @@
 -- A message is sent, where it may be.
-use Rattle.std.proofs.Common.{ℕ, ◌+◌, length, map, Ok, Err, refl, sym, ap, subst, ◌∙◌, arith}
+use Rattle.std.proofs.Common.{ℕ, ◌+◌, length, map, Ok, Err, sym, ap, ◌∙◌, arith}
 use Rattle.vhost_gpu_message.specs.GpuBackendReq.{gpu_request_number}
 use Rattle.vhost_connection.specs.State.{state}
 use Rattle.vhost_connection.proofs.Errors.{passed-on}
