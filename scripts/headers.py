@@ -1,0 +1,112 @@
+#!/usr/bin/env python3
+# SPDX-License-Identifier: Apache-2.0
+"""scripts/headers.py: whether each constant of the headers for C, and of the foreign calls in Rust, is that of the code.
+
+Status 0 where all are; 1 where some are not: each is printed, with its value there and in the code.
+"""
+import os
+import re
+import sys
+
+TOP = os.path.dirname(os.path.dirname(os.path.realpath(__file__)))
+MESSAGE = "crates/vhost_message/src"
+
+# The headers' names of refusals that no error of the protocol is: a socket's.
+OF_SOCKETS = {"TIMED_OUT", "FDS_LOST", "INVALID_PATH"}
+# Constants whose values say nothing of the code's.
+OWN = {"COVRETIN_VERSION"}
+
+
+def read(path):
+    with open(f"{TOP}/{path}", encoding="utf-8") as file:
+        return file.read()
+
+
+def value_of(expression, names):
+    """The number of an expression of C or Rust: literals, names, and the operators that both have."""
+    expression = re.sub(r"\(?\b(?:u?int\d+_t|u\d+|usize)\)|\bas \w+|\w+::(?=[A-Z])", "", expression.replace("\\\n", " "))
+    return eval("(" + re.sub(r"(?<=\d)[uUlL]+\b", "", expression) + ")", {"__builtins__": {}}, names)
+
+
+def constants(path, names=None):
+    """The constants of a file in Rust, in their order, each by those before it."""
+    found = dict(names or {})
+    for name, expression in re.findall(r"const (\w+): \w+ =\s*([^;]+);", read(path)):
+        found[name] = value_of(expression, found)
+    return found
+
+
+def codes(path):
+    """The numbers of an enum of requests."""
+    return {name: int(number) for name, number in re.findall(r"^    ([A-Z]\w+) = (\d+),", read(path), re.MULTILINE)}
+
+
+def plain(name):
+    """A name without what C and Rust write differently: MEMFD_CREATE_ERROR and MemFdCreateError are the same."""
+    return name.replace("_", "").upper()
+
+
+def wanted():
+    """What the headers have to say, by the code."""
+    limits = constants(f"{MESSAGE}/limits.rt")
+    bits = constants(f"{MESSAGE}/protocol_bit.rt")
+    features = constants("crates/vhost_protocol/src/features.rt", bits)
+    virtio = constants(f"{MESSAGE}/virtio_bit.rt")
+    config = constants("crates/vhost_c_backend/src/replies.rt", limits)["MAX_CONFIG"]
+    found = {
+        "COVRETIN_MAX_FDS": limits["MAX_ATTACHED_FD_ENTRIES"],
+        "COVRETIN_MAX_MESSAGE": limits["MAX_MSG_TEXT"],
+        "COVRETIN_MAX_CONFIG": config,
+        "COVRETIN_NEED_REPLY": 1 << constants(f"{MESSAGE}/header_bit.rt")["NEED_REPLY"],
+        "COVRETIN_ASKED_PROTOCOL_FEATURES": features["ASKED_PROTOCOL_FEATURES"],
+        "COVRETIN_SERVED_PROTOCOL_FEATURES": features["SERVED_PROTOCOL_FEATURES"],
+        "COVRETIN_OK": 0,
+    }
+    found.update({f"COVRETIN_PROTOCOL_{name}": 1 << bit for name, bit in bits.items()})
+    found.update({f"COVRETIN_FEATURE_{name}": 1 << bit for name, bit in virtio.items()})
+    found.update({f"COVRETIN_CALL_{name}": number for name, number in codes(f"{MESSAGE}/frontend_req.rt").items()})
+    found["COVRETIN_CALL_POSTCOPY_ACK"] = 256  # beyond each request's
+    for name, number in codes(f"{MESSAGE}/backend_req.rt").items():
+        found[f"COVRETIN_CHANNEL_CALL_{re.sub('_MSG$', '', name)}"] = number
+    for name, number in re.findall(r"number \(?(?:error|refusal)\.(\w+).* = (\d+)", read("crates/vhost_c_common/specs/Number.antt")):
+        found[f"COVRETIN_{name}"] = int(number)
+    for number, name in re.findall(r"(\d+) => Some\(Profile::(\w+)\)", read("crates/vhost_c_common/src/profile.rt")):
+        found[f"COVRETIN_PROFILE_{name}"] = int(number)
+    return found, {"MAX_FDS": "COVRETIN_MAX_FDS", "MAX_MESSAGE": "COVRETIN_MAX_MESSAGE", "MAX_CONFIG": "COVRETIN_MAX_CONFIG"}
+
+
+def said():
+    """What the headers say: each constant, with its header."""
+    names = {}
+    for header in sorted(os.listdir(f"{TOP}/include")):
+        text = re.sub(r"/\*.*?\*/", "", read(f"include/{header}"), flags=re.DOTALL)
+        defined = re.findall(r"^#define (COVRETIN_\w+)[ \t]+((?:.*\\\n)*.+)", text, re.MULTILINE)
+        counted = re.findall(r"^ +(COVRETIN_\w+) = (\d+)", text, re.MULTILINE)
+        for name, expression in defined + counted:
+            if name not in OWN:
+                names[name] = value_of(expression, names)
+                yield header, name, names[name]
+
+
+def main():
+    code, glue = wanted()
+    by_plain = {plain(name): value for name, value in code.items()}
+    wrong, met = [], set()
+    for header, name, value in said():
+        met.add(name)
+        of_code = by_plain.get(plain(name))
+        if name.removeprefix("COVRETIN_") not in OF_SOCKETS and of_code != value:
+            wrong.append(f"include/{header}: {name} is {value}, and of the code {of_code}")
+    lacking = [it for it in code if it.startswith("COVRETIN_PROTOCOL_") and it not in met]
+    wrong += [f"include: no header has {it}" for it in lacking]
+    for file in sorted(os.listdir(f"{TOP}/rust/src/foreign")):
+        path = f"rust/src/foreign/{file}"
+        for name, value in re.findall(r"const (\w+): usize = (\d+);", read(path)):
+            if name in glue and int(value) != code[glue[name]]:
+                wrong.append(f"{path}: {name} is {value}, and of the code {code[glue[name]]}")
+    print("\n".join(wrong + [f"headers: {len(met)} constants, {len(wrong)} wrong"]))
+    return bool(wrong)
+
+
+if __name__ == "__main__":
+    sys.exit(main())
