@@ -88,12 +88,12 @@ static enum covretin_error reason(void)
     }
 }
 
-/* Sends as much of bytes[at .. end) as goes without waiting, the descriptors with the first of them. 0: all of it. */
-static enum covretin_error send_piece(struct transport *transport)
+/* Sends as many of these bytes as go without waiting, the descriptors with the first of them, and counts them off. 0: all of them. */
+static enum covretin_error send_bytes(struct transport *transport, const uint8_t **bytes, size_t *left)
 {
-    while (transport->at < transport->end) {
+    while (*left != 0) {
         union control control;
-        struct iovec piece = {transport->bytes + transport->at, transport->end - transport->at};
+        struct iovec piece = {(void *)(uintptr_t)*bytes, *left}; /* it is only read */
         struct msghdr message = {.msg_iov = &piece, .msg_iovlen = 1};
         ssize_t sent;
         if (transport->fd_count != 0)
@@ -103,10 +103,27 @@ static enum covretin_error send_piece(struct transport *transport)
             continue;
         if (sent < 0)
             return reason();
-        transport->at += (size_t)sent;
+        *bytes += sent;
+        *left -= (size_t)sent;
         transport->fd_count = 0;
     }
     return COVRETIN_OK;
+}
+
+/* Sends what the session handed out. */
+static enum covretin_error send_piece(struct transport *transport)
+{
+    const uint8_t *bytes = transport->bytes + transport->at;
+    size_t left = transport->end - transport->at;
+    enum covretin_error error = send_bytes(transport, &bytes, &left);
+    transport->at = transport->end - left;
+    return error;
+}
+
+void transport_lend(struct transport *transport, const uint8_t *bytes, size_t bytes_len)
+{
+    transport->lent = bytes;
+    transport->lent_len = bytes_len;
 }
 
 enum covretin_error transport_send(struct transport *transport)
@@ -118,8 +135,10 @@ enum covretin_error transport_send(struct transport *transport)
         transport->at = transport->end = 0;
         error = transport->side->to_send(transport->session, transport->bytes, sizeof transport->bytes, transport->fds,
                                          COVRETIN_MAX_FDS, &transport->end, &transport->fd_count);
-        if (error || transport->end == 0)
+        if (error)
             return error;
+        if (transport->end == 0)
+            return send_bytes(transport, &transport->lent, &transport->lent_len);
     }
 }
 

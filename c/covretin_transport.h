@@ -26,6 +26,8 @@ struct transport {
     uint8_t bytes[COVRETIN_MAX_MESSAGE];
     int32_t fds[COVRETIN_MAX_FDS]; /* the caller's, to go with bytes[at] */
     size_t fd_count;
+    const uint8_t *lent; /* the caller's: lent[0 .. lent_len) are to be sent behind all that is the session's */
+    size_t lent_len;
     bool begun;                     /* the awaited message has begun to come */
     int32_t came[COVRETIN_MAX_FDS]; /* with its first byte; the connection's. -1: handed over */
     size_t came_count;
@@ -40,7 +42,10 @@ struct transport *transport_new(const struct transport_side *side, void *session
 /* Closes the socket and all that came, and frees it. */
 void transport_free(struct transport *transport);
 
-/* Sends all that the session has to send. NOT_YET: the socket takes no more now. */
+/* Bytes to be sent behind all that the session has to send now; they stay the caller's. */
+void transport_lend(struct transport *transport, const uint8_t *bytes, size_t bytes_len);
+
+/* Sends all that the session has to send, and what was lent. NOT_YET: the socket takes no more now. */
 enum covretin_error transport_send(struct transport *transport);
 
 /* Receives what the session misses, and hands it in. An allocation that fails leaves it here. NOT_YET: the socket has no more. */
