@@ -81,8 +81,7 @@ void reply_number(int peer, uint32_t code, uint64_t number)
     reply(peer, code, body, sizeof body, NULL, 0);
 }
 
-/* Receives all of these bytes, and how many descriptors came along, which are closed. */
-static bool hear_bytes(int peer, uint8_t *bytes, size_t count, size_t *fd_count)
+bool hear_bytes(int peer, uint8_t *bytes, size_t count, size_t *fd_count)
 {
     while (count != 0) {
         static union control control;

@@ -39,6 +39,9 @@ void say_header(int peer, uint32_t code, uint32_t flags, uint32_t size, const in
 void reply(int peer, uint32_t code, const void *body, size_t size, const int *fds, size_t fd_count);
 void reply_number(int peer, uint32_t code, uint64_t number);
 
+/* Receives all of these bytes, and how many descriptors came along, which are closed. False at the end of the stream. */
+bool hear_bytes(int peer, uint8_t *bytes, size_t count, size_t *fd_count);
+
 /* A request as it came. Its descriptors are closed. */
 struct request {
     uint32_t code, flags, size;
