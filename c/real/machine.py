@@ -1,67 +1,35 @@
 # SPDX-License-Identifier: Apache-2.0
 """Virtual machines over the example disk: QEMU is the frontend, and Linux drives the virtqueues.
 
-    machine.py TRY DISK BOOT [ANY]    in an empty folder: DISK is the compiled c/blk.c, BOOT the sector of boot.S, ANY the compiled any.c
+    machine.py TRY DISK BOOT [ANY]    in an empty folder: DISK is the compiled c/blk.c, BOOT the sector of boot.S, ANY the compiled any.c;
+                                      for display DISK is the compiled picture.c
 
 Prints what is done. Status 0 where all was as it has to be; 1 where something was not, which the last line says. What runs is ended
 by then. The machines' consoles and the disks' lines are kept in the folder.
 """
-import ctypes
 import glob
 import hashlib
-import json
 import os
 import random
 import re
 import shutil
 import signal
-import socket
 import struct
 import subprocess
 import sys
 import time
 
+from emulator import LIMIT, RUNNING, Emulator, Slot, check, run, tell, wait_until
+
 SECTOR = 512
 KERNEL_AT = 2048  # sectors
 SYSTEM_AT = 65536
 SYSTEM_SIZE = 256 << 20
-LIMIT = 200  # seconds for whatever is waited for; a busy machine takes long
 MODULES = ["virtio_ring", "virtio", "virtio_pci_legacy_dev", "virtio_pci_modern_dev", "virtio_pci", "virtio_blk"]
 MODULES += ["crc16", "crc32c_generic", "mbcache", "jbd2", "ext4"]
 # Of the devices that are no disk: loaded by the try that has them.
 MORE_MODULES = ["virtio-rng", "failover", "net_failover", "virtio_net", "fuse", "virtiofs"]
 MORE_MODULES += ["vsock", "vmw_vsock_virtio_transport_common", "vmw_vsock_virtio_transport"]
-
-# What runs, to be ended at last.
-RUNNING = []
-
-
-def run(words, log):
-    """A process that ends with this one, whatever ends that."""
-
-    def follow():
-        ctypes.CDLL(None).prctl(1, signal.SIGKILL)
-
-    it = subprocess.Popen(words, stdin=subprocess.DEVNULL, stdout=log, stderr=log, preexec_fn=follow)
-    RUNNING.append(it)
-    return it
-
-
-def check(holds, what):
-    if not holds:
-        raise SystemExit(f"not so: {what}")
-
-
-def tell(text):
-    print(text, flush=True)
-
-
-def wait_until(holds, what, seconds=LIMIT):
-    end = time.monotonic() + seconds
-    while not holds():
-        check(time.monotonic() < end, f"{what}, in {seconds} seconds")
-        time.sleep(0.005)
-
 
 # -- The image --
 
@@ -180,51 +148,17 @@ class Disk:
 # -- The machine --
 
 
-class Machine:
+class Machine(Emulator):
     """QEMU over a disk."""
 
     def __init__(self, name, disk, *words, reconnect=0, memory="256M"):
-        self.name = name
-        size = memory.partition(",")[0]
-        machine = ["-machine", "pc,accel=tcg,memory-backend=mem", "-object", f"memory-backend-memfd,id=mem,size={size},share=on"]
-        console = ["-display", "none", "-nodefaults", "-no-user-config", "-no-reboot", "-serial", f"unix:{name}.console,server=on,wait=on"]
+        words += ("-no-reboot", "-serial", f"unix:{name}.console,server=on,wait=on")
         words += ("-chardev", f"socket,id=disk,path={disk.path},reconnect={reconnect}")
         words += ("-device", "vhost-user-blk-pci,chardev=disk,num-queues=2,bootindex=1")
-        qmp = ["-qmp", f"unix:{name}.qmp,server=on,wait=off"]
-        with open(f"{name}.log", "wb") as log:
-            self.process = run(["qemu-system-x86_64", *machine, "-m", memory, *console, *qmp, *words], log)
+        super().__init__(name, "tcg", memory, *words)
         self.console = self.connect(f"{name}.console")
-        self.qmp = self.connect(f"{name}.qmp").makefile("rw", encoding="utf-8")
         self.seen = b""
-        self.events = []
-        json.loads(self.qmp.readline())
-        self.ask("qmp_capabilities")
-
-    def connect(self, path):
-        it = socket.socket(socket.AF_UNIX)
-        it.settimeout(LIMIT)
-
-        def is_connected():
-            check(self.process.poll() is None, "the machine goes on")
-            try:
-                it.connect(path)
-            except OSError:
-                return False
-            return True
-
-        wait_until(is_connected, f"{path} is there", 20)
-        return it
-
-    def ask(self, command, **arguments):
-        """A command of QEMU's monitor."""
-        print(json.dumps({"execute": command, "arguments": arguments}), file=self.qmp, flush=True)
-        while True:
-            line = json.loads(self.qmp.readline())
-            if "event" in line:
-                self.events.append(line)
-                continue
-            check("return" in line, f"{command}: {line}")
-            return line["return"]
+        self.greet()
 
     def hear(self, pattern):
         """Waits until the console has said this."""
@@ -384,8 +318,7 @@ def tried_migration(program):
     tell(f"{before} blocks before the migration was over, {count} in all")
     check(count > before > 0, "the guest wrote before and after")
     target.power_off()
-    source.ask("quit")
-    source.process.wait(LIMIT)
+    source.quit()
     for disk in disks:
         disk.end()
     check_blocks(count)
@@ -413,8 +346,7 @@ def tried_postcopy(program):
     count = stop_writer(target)
     check(count > before, "the guest wrote before and after")
     target.power_off()
-    source.ask("quit")
-    source.process.wait(LIMIT)
+    source.quit()
     for disk in disks:
         disk.end()
     check_blocks(count)
@@ -486,7 +418,7 @@ def check_calls(name, rings):
     for call in (12, 11):  # SET_VRING_KICK, GET_VRING_BASE
         count = sum(line.startswith(f"call {call}:") for line in lines)
         check(count >= rings, f"{name} made call {call} for each of its rings")
-    tell(f"{name}: {len(lines) - 1} requests")
+    tell(f"{name}: {sum(line.startswith(('call', 'refused')) for line in lines)} requests")
 
 
 def tried_devices(program):
@@ -530,6 +462,52 @@ def tried_resized(program):
     disk.end()
 
 
+def picture():
+    """What `picture.c` shows, as a file of the form PPM."""
+    pixels = (bytes((4 * x, 5 * y, x ^ y)) for y in range(48) for x in range(64))
+    return b"P6\n64 48\n255\n" + b"".join(pixels)
+
+
+def has_open(process, name):
+    """Whether a process has a file without a name open that is called so."""
+    found = (os.readlink(it) for it in glob.glob(f"/proc/{process.pid}/fd/*") if os.path.islink(it))
+    return any(it.startswith(f"/memfd:{name}") for it in found)
+
+
+def tried_display(program):
+    """QEMU is the display of a graphics device: what that shows is on QEMU's screen, pixel for pixel. No guest is there."""
+    if not os.access("/dev/kvm", os.R_OK | os.W_OK):
+        tell("QEMU 7.2 has this device only with KVM, and /dev/kvm cannot be opened")
+        raise SystemExit(4)
+    path = f"picture-{os.getpid()}.socket"
+    with open("picture.calls", "wb") as log:
+        device = run([program, path], log)
+    wait_until(lambda: os.path.exists(path), "the picture listens", 10)
+    words = ["-chardev", f"socket,id=card,path={path}", "-S", "-qtest", "unix:machine.test,server=on,wait=off", "-qtest-log", "none"]
+    words += ["-device", "vhost-user-gpu-pci,chardev=card,id=card,addr=5,max_outputs=2,xres=800,yres=600"]
+    machine = Emulator("machine", "kvm", "64M", *words)
+    machine.greet()
+    Slot(machine, "machine.test", 5).begin()
+    machine.ask("cont")
+
+    def is_shown():
+        check(device.poll() is None, "the picture goes on")
+        with open("picture.calls", encoding="utf-8") as it:
+            return "shown\n" in it
+
+    wait_until(is_shown, "the picture is shown", 60)
+    machine.ask("screendump", filename="screen.ppm", device="card", head=0)
+    with open("screen.ppm", "rb") as it:
+        check(it.read() == picture(), "QEMU's screen has the picture")
+    with open("picture.calls", encoding="utf-8") as it:
+        check(it.read().count("display: screen of 800 by 600, enabled\n") == 2, "the display says what QEMU's command does")
+    check(has_open(machine.process, "buffer"), "QEMU has the buffer")
+    machine.quit()
+    device.wait(LIMIT)
+    check(device.returncode == 0, "the picture ended well")
+    check_calls("picture", 0)
+
+
 def main():
     global ANY
     tries = {name.removeprefix("tried_"): it for name, it in globals().items() if name.startswith("tried_")}
@@ -537,7 +515,8 @@ def main():
         raise SystemExit(f"usage: machine.py {'|'.join(tries)} DISK BOOT [ANY]")
     ANY = sys.argv[4] if len(sys.argv) == 5 else None
     try:
-        make_image(sys.argv[3])
+        if sys.argv[1] != "display":  # which needs no disk
+            make_image(sys.argv[3])
         tries[sys.argv[1]](sys.argv[2])
     finally:
         for it in RUNNING:
