@@ -54,6 +54,7 @@ fn round(device: &Shared, request: &[u8], count: usize) -> (Result<(), String>, 
     while !matches!(handler.handle_request(), Err(Error::Disconnected | Error::SocketBroken(_) | Error::InvalidMessage)) {}
     seen(device).files.clear();
     seen(device).channels.clear();
+    seen(device).displays.clear();
     (result, asked)
 }
 

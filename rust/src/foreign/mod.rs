@@ -3,6 +3,7 @@
 //! socket. What other modules see of both is safe.
 mod backend_session;
 mod channel;
+mod display;
 mod moving;
 mod session;
 mod signals;
@@ -10,6 +11,7 @@ mod socket;
 
 pub(crate) use backend_session::{BackendSession, MAX_CONFIG};
 pub(crate) use channel::{ChannelServer, ChannelSession, Mmap};
+pub(crate) use display::DisplaySession;
 pub(crate) use moving::{Asks, Code, Moves, Outcome, Serves, MAX_FDS, MAX_MESSAGE};
 pub(crate) use session::{Inflight, Region, Session, Vring};
 pub(crate) use signals::EndSignals;

@@ -19,7 +19,7 @@ pub(super) fn outcome(number: u32) -> Outcome {
     }
 }
 
-/// `covretin_session`, `covretin_backend`, `covretin_channel` and `covretin_channel_server`.
+/// `covretin_session`, `covretin_backend`, `covretin_channel`, `covretin_channel_server` and `covretin_display`.
 #[repr(C)]
 pub(super) struct Raw {
     opaque: *mut u8,

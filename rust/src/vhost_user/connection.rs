@@ -6,7 +6,9 @@ use std::os::unix::net::UnixStream;
 use std::result;
 use std::time::Duration;
 
-use super::transport::{broken_by, end_after, error_of, last_error, numbers_of, receive_piece, send_all, take_from, End};
+use super::transport::{
+    broken_by, end_after, error_of, last_error, numbers_of, receive_piece, send_all, send_piece, take_from, End,
+};
 use super::{Error, Result};
 use crate::foreign::{Asks, Code, Outcome, Session, MAX_MESSAGE};
 
@@ -54,16 +56,27 @@ impl<S: Asks> Connection<S> {
 
     /// Makes a call whole: asks, sends the request, receives the reply and takes it. What it returns came with that reply.
     pub(super) fn call(&mut self, ask: impl FnOnce(&mut S) -> Outcome) -> Result<Vec<OwnedFd>> {
+        let ((), fds) = self.call_by(ask, &[], S::take)?;
+        Ok(fds)
+    }
+
+    /// The same, with bytes of the caller's behind the request, whose reply is taken so.
+    pub(super) fn call_by<T>(
+        &mut self,
+        ask: impl FnOnce(&mut S) -> Outcome,
+        behind: &[u8],
+        take: impl FnOnce(&mut S) -> result::Result<T, Code>,
+    ) -> Result<(T, Vec<OwnedFd>)> {
         if let Some(errno) = self.broken {
             return Err(broken_by(errno));
         }
         ask(&mut self.session).map_err(|code| self.error_of(code))?;
         // (a panic amid a call would leave it so)
         self.broken = Some(libc::EIO);
-        let fds = self.exchange().map_err(|error| self.break_by(error))?;
-        self.session.take().map_err(|code| self.refusal(code))?;
+        let fds = self.exchange(behind).map_err(|error| self.break_by(error))?;
+        let value = take(&mut self.session).map_err(|code| self.refusal(code))?;
         self.broken = None;
-        Ok(fds)
+        Ok((value, fds))
     }
 
     /// Reads the reply that was taken last.
@@ -76,12 +89,13 @@ impl<S: Asks> Connection<S> {
         take_from(&mut fds, fd).map_err(|error| self.break_by(error))
     }
 
-    /// Sends the request and receives its reply, with the descriptors that came with its first byte.
-    fn exchange(&mut self) -> Result<Vec<OwnedFd>> {
+    /// Sends the request, with what is behind it, and receives its reply, with the descriptors that came with its first byte.
+    fn exchange(&mut self, behind: &[u8]) -> Result<Vec<OwnedFd>> {
         let end = end_after(self.timeout);
         send_all(&self.socket, &mut self.bytes, end, |bytes, fds| {
             self.session.next_to_send(bytes, fds).map_err(|code| error_of(code, 0))
         })?;
+        send_piece(&self.socket, behind, &[], end)?;
         self.receive_all(end)
     }
 

@@ -46,6 +46,8 @@ macro_rules! codes {
     )*};
 }
 
+pub(super) use codes;
+
 codes! {
     /// The requests of a frontend. What each is for, the vhost-user specification says under its name.
     #[allow(missing_docs)]
@@ -250,6 +252,22 @@ pub trait VhostUserMsgValidator {
         true
     }
 }
+
+/// A number.
+#[derive(Clone, Copy, Debug, Default, PartialEq, Eq)]
+pub struct VhostUserU64 {
+    /// It.
+    pub value: u64,
+}
+
+impl VhostUserU64 {
+    /// This number.
+    pub fn new(value: u64) -> Self {
+        VhostUserU64 { value }
+    }
+}
+
+impl VhostUserMsgValidator for VhostUserU64 {}
 
 /// Whether a range wraps at the end of its addresses.
 fn wraps(start: u64, size: u64) -> bool {

@@ -10,6 +10,7 @@ mod device;
 mod frontend;
 mod frontend_req_handler;
 mod gpu_backend_req;
+pub mod gpu_message;
 mod listener;
 pub mod message;
 mod served_connection;

@@ -36,7 +36,7 @@ pub(super) fn send_all(
 }
 
 /// Sends all of these bytes, the descriptors with the first of them.
-fn send_piece(socket: &UnixStream, mut bytes: &[u8], mut fds: &[RawFd], end: End) -> Result<()> {
+pub(super) fn send_piece(socket: &UnixStream, mut bytes: &[u8], mut fds: &[RawFd], end: End) -> Result<()> {
     while !bytes.is_empty() {
         match send(socket, bytes, fds, end.is_none()) {
             Ok(count) => {

@@ -25,6 +25,8 @@ pub struct Noting {
     pub files: Vec<File>,
     /// The channels that came.
     pub channels: Vec<Backend>,
+    /// The displays that came.
+    pub displays: Vec<GpuBackend>,
     /// Whether it refuses what it is asked, by MemFdSealError.
     pub refuses: bool,
     /// The file that it gives out.
@@ -144,7 +146,8 @@ impl VhostUserBackendReqHandlerMut for Noting {
         self.channels.push(backend);
         let _ = self.note("set_backend_req_fd");
     }
-    fn set_gpu_socket(&mut self, _gpu_backend: GpuBackend) -> Result<()> {
+    fn set_gpu_socket(&mut self, gpu_backend: GpuBackend) -> Result<()> {
+        self.displays.push(gpu_backend);
         self.note("set_gpu_socket")
     }
     fn get_shared_object(&mut self, uuid: VhostUserSharedMsg) -> Result<File> {

@@ -1,0 +1,78 @@
+// SPDX-License-Identifier: Apache-2.0
+//! The sessions of `include/covretin_display.h`, as that header declares them. What each call does, and when each error comes,
+//! stands there. The records that a call is given are the header's structs.
+use std::os::unix::io::RawFd;
+
+use super::moving::{calls, outcome, sessions, values, Asks, Code, Moves, Outcome, Raw, MAX_FDS, MAX_MESSAGE};
+use crate::vhost_user::gpu_message::{
+    VhostUserGpuCursorPos, VhostUserGpuCursorUpdate, VhostUserGpuDMABUFScanout, VhostUserGpuDMABUFScanout2, VhostUserGpuScanout,
+    VhostUserGpuUpdate, DISPLAY_INFO_SIZE, EDID_SIZE,
+};
+
+sessions! {
+    /// A device's session on the vhost-user-gpu channel.
+    DisplaySession: covretin_display_close, covretin_display_missing, covretin_display_receive, covretin_display_to_send;
+}
+
+calls! {
+    DisplaySession:
+    take_reply = covretin_display_take();
+    get_protocol_features = covretin_display_ask_get_protocol_features();
+    set_protocol_features = covretin_display_ask_set_protocol_features(features: u64);
+    get_display_info = covretin_display_ask_get_display_info();
+    get_edid = covretin_display_ask_get_edid(scanout_id: u32);
+    set_scanout = covretin_display_ask_set_scanout(scanout: &VhostUserGpuScanout);
+    update_scanout = covretin_display_ask_update_scanout(update: &VhostUserGpuUpdate, pixels_len: usize);
+    set_dmabuf_scanout = covretin_display_ask_set_dmabuf_scanout(scanout: &VhostUserGpuDMABUFScanout, fd: i32);
+    set_dmabuf_scanout2 = covretin_display_ask_set_dmabuf_scanout2(scanout: &VhostUserGpuDMABUFScanout2, fd: i32);
+    update_dmabuf_scanout = covretin_display_ask_update_dmabuf_scanout(update: &VhostUserGpuUpdate);
+    cursor_pos = covretin_display_ask_cursor_pos(cursor: &VhostUserGpuCursorPos);
+    cursor_pos_hide = covretin_display_ask_cursor_pos_hide(cursor: &VhostUserGpuCursorPos);
+    cursor_update = covretin_display_ask_cursor_update(update: &VhostUserGpuCursorUpdate);
+}
+
+values! {
+    DisplaySession:
+    take_number = covretin_display_take_number(number: u64 = 0) -> u64;
+}
+
+extern "C" {
+    fn covretin_display_open(display: &mut Raw) -> u32;
+    fn covretin_display_take_display_info(display: &mut Raw, record: *mut u8, record_len: usize) -> u32;
+    fn covretin_display_take_edid(display: &mut Raw, record: *mut u8, record_len: usize) -> u32;
+}
+
+// SAFETY, of each call below: it is declared as in the header. The session is open, and borrowed by this call alone. A record is
+// borrowed for the call, given by its pointer, which is never null, and its own length.
+impl DisplaySession {
+    pub(crate) fn open() -> Result<DisplaySession, Code> {
+        let mut raw = Raw::none();
+        // SAFETY: as above; it is not open yet.
+        outcome(unsafe { covretin_display_open(&mut raw) })?;
+        Ok(DisplaySession(raw))
+    }
+
+    pub(crate) fn take_display_info(&mut self) -> Result<[u8; DISPLAY_INFO_SIZE], Code> {
+        let mut record = [0; DISPLAY_INFO_SIZE];
+        // SAFETY: as above.
+        outcome(unsafe { covretin_display_take_display_info(&mut self.0, record.as_mut_ptr(), record.len()) })?;
+        Ok(record)
+    }
+
+    pub(crate) fn take_edid(&mut self) -> Result<[u8; EDID_SIZE], Code> {
+        let mut record = [0; EDID_SIZE];
+        // SAFETY: as above.
+        outcome(unsafe { covretin_display_take_edid(&mut self.0, record.as_mut_ptr(), record.len()) })?;
+        Ok(record)
+    }
+}
+
+impl Asks for DisplaySession {
+    fn take(&mut self) -> Outcome {
+        self.take_reply()
+    }
+
+    fn inactive(&mut self) -> u64 {
+        0
+    }
+}
