@@ -465,7 +465,7 @@ def tried_resized(program):
 def picture():
     """What `picture.c` shows, as a file of the form PPM."""
     pixels = (bytes((4 * x, 5 * y, x ^ y)) for y in range(48) for x in range(64))
-    return b"P6\n64 48\n255\n" + b"".join(pixels)
+    return b"P%d\n64 48\n255\n" % 6 + b"".join(pixels)
 
 
 def has_open(process, name):
