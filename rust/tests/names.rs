@@ -13,6 +13,7 @@ use std::thread;
 use covretin as vhost;
 
 use common::*;
+use vhost::vhost_user::gpu_message::*;
 use vhost::vhost_user::message::*;
 use vhost::vhost_user::{Error as ProtocolError, Frontend, Listener, Profile, VhostUserFrontend};
 use vhost::{
@@ -214,6 +215,10 @@ fn records_that_are_valid() {
     assert_eq!(Ok(FrontendReq::GET_SHMEM_CONFIG), FrontendReq::try_from(44));
     assert_eq!(Err(()), FrontendReq::try_from(45));
     assert_eq!(24, u32::from(FrontendReq::GET_CONFIG));
+    assert_eq!(Ok(GpuBackendReq::DMABUF_SCANOUT2), GpuBackendReq::try_from(12));
+    assert_eq!(Err(()), GpuBackendReq::try_from(0));
+    assert_eq!(11, u32::from(GpuBackendReq::GET_EDID));
+    assert!(VhostUserGpuScanout::default().is_valid() && VirtioGpuRespGetEdid::default().is_valid());
     let ring = VringConfigData { flags: 1, log_addr: None, ..Default::default() };
     assert!(!ring.is_log_addr_valid() && ring.get_log_addr() == 0);
     assert_eq!(4, VringConfigData { log_addr: Some(4), ..ring }.get_log_addr());
@@ -259,4 +264,21 @@ fn numbers_of_the_header() {
         .filter_map(|it| it.strip_prefix("COVRETIN_PROTOCOL_"))
         .collect();
     assert_eq!(asked.join(" | "), format!("{:?}", Frontend::PROTOCOL_FEATURES));
+}
+
+/// The same of the vhost-user-gpu channel.
+#[test]
+fn numbers_of_the_display() {
+    let header = read_to_string(concat!(env!("CARGO_MANIFEST_DIR"), "/../include/covretin_display.h")).unwrap();
+    for (name, size) in [
+        ("CURSOR_SIZE", 4 * 64 * 64),
+        ("INFO_SIZE", std::mem::size_of::<VirtioGpuRespDisplayInfo>()),
+        ("EDID_SIZE", std::mem::size_of::<VirtioGpuRespGetEdid>()),
+    ] {
+        assert!(header.contains(&format!("#define COVRETIN_DISPLAY_{name} {size}\n")), "{name} is {size}");
+    }
+    assert_eq!(16, VIRTIO_GPU_MAX_SCANOUTS);
+    assert_eq!(4, VhostUserGpuHeaderFlag::REPLY.bits());
+    assert_eq!((0, 1), (VhostUserGpuProtocolFeatures::EDID.bits(), VhostUserGpuProtocolFeatures::DMABUF2.bits()));
+    assert_eq!(u64::MAX, VhostUserGpuProtocolFeatures::from_bits_retain(u64::MAX).bits());
 }

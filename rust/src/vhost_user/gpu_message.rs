@@ -8,7 +8,7 @@
 #![allow(clippy::upper_case_acronyms)]
 use bitflags::bitflags;
 
-use super::message::{codes, VhostUserMsgValidator};
+use super::message::{codes, retaining, VhostUserMsgValidator};
 
 /// The greatest number of screens.
 pub const VIRTIO_GPU_MAX_SCANOUTS: usize = 16;
@@ -52,6 +52,11 @@ bitflags! {
         /// The display accepts DMABUF_SCANOUT2.
         const DMABUF2 = 1;
     }
+}
+
+retaining! {
+    VhostUserGpuHeaderFlag: u32,
+    VhostUserGpuProtocolFeatures: u64,
 }
 
 /// Records of fields that are sent or received.

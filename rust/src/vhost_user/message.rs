@@ -236,6 +236,8 @@ macro_rules! retaining {
     )*};
 }
 
+pub(super) use retaining;
+
 retaining! {
     VhostUserHeaderFlag: u32,
     VhostUserVirtioFeatures: u64,
