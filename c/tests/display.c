@@ -376,7 +376,7 @@ static void refuses_replies(void)
     static const struct {
         size_t at;
         uint8_t by, fds;
-    } lies[] = {{0, 2, 0}, {3, 1, 0}, {4, 4, 0}, {4, 1, 0}, {8, 1, 0}, {8, 4, 0}, {11, 0x80, 0}, {0, 0, 1}, {0, 0, 3}};
+    } lies[] = {{0, 2, 0}, {3, 1, 0}, {4, 4, 0}, {4, 1, 0}, {8, 1, 0}, {8, 8, 0}, {11, 0x80, 0}, {0, 0, 1}, {0, 0, 3}};
     uint8_t bytes[MOST_REPLY + 16] = {0};
     int file = file_of("sent");
     for (const struct screen_call *call = NULL; (call = next_call(call, true)) != NULL;)

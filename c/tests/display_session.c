@@ -41,17 +41,18 @@ static void expect_each(enum covretin_error want)
         EXPECT(want, take_by(&display, form, &value, sizeof value.record));
 }
 
-/* Hands in what is missing of these bytes, and of zeros behind them, at most so many at a time. */
-static void hand_in(size_t length, size_t most, size_t with)
+/* Hands in what is missing of the reply's bytes, and of zeros behind them, at most so many at a time. */
+static void hand_in(const struct screen_call *call, size_t length, size_t most, size_t with)
 {
     static const uint8_t zeros[COVRETIN_MAX_MESSAGE];
     const int32_t given[1] = {7};
+    struct screen_value value;
     size_t missing, taken = 0;
     while ((missing = covretin_display_missing(&display)) != 0) {
         size_t now = taken < length ? length - taken : sizeof zeros;
         now = now < missing ? now : missing;
         now = now < most ? now : most;
-        expect_each(COVRETIN_NOT_YET);
+        EXPECT(COVRETIN_NOT_YET, take_by(&display, call->form, &value, sizeof value.record));
         EXPECT(0, covretin_display_receive(&display, taken < length ? reply + taken : zeros, now, given, taken == 0 ? with : 0));
         taken += now;
     }
@@ -68,7 +69,7 @@ static void each_call(void)
         expect_asked(call->text, call->length, call->fd);
         EXPECT(call->header == NULL ? 0 : 12, covretin_display_missing(&display));
         if (call->header != NULL)
-            hand_in(good_reply(call, reply), sizeof reply, 0);
+            hand_in(call, good_reply(call, reply), sizeof reply, 0);
         expect_no_other(call);
         take_good(&display, call);
         expect_each(COVRETIN_NOTHING_ASKED);
@@ -84,7 +85,7 @@ static void replies_in_pieces(void)
         for (size_t most = 1; call->header != NULL && most < 20; most += 6) {
             EXPECT(0, call->ask(&display));
             expect_asked(call->text, call->length, call->fd);
-            hand_in(good_reply(call, reply), most, 0);
+            hand_in(call, good_reply(call, reply), most, 0);
             take_good(&display, call);
         }
     covretin_display_close(&display);
@@ -102,7 +103,7 @@ static void requests_in_pieces(void)
         }
         expect_asked("", 0, -1);
         if (call->header != NULL)
-            hand_in(good_reply(call, reply), sizeof reply, 0);
+            hand_in(call, good_reply(call, reply), sizeof reply, 0);
         take_good(&display, call);
     }
     covretin_display_close(&display);
@@ -138,9 +139,9 @@ static void out_of_turn(void)
     EXPECT(COVRETIN_TOO_MANY_BYTES, covretin_display_receive(&display, bytes, 13, fds, 0));
     EXPECT(COVRETIN_INVALID_PARAM, covretin_display_receive(&display, bytes, 0, (const int32_t[]){3}, 1));
     EXPECT(COVRETIN_INVALID_PARAM, covretin_display_receive(&display, bytes, 1, (const int32_t[]){-1}, 1));
-    hand_in(good_reply(&screen_calls[0], reply), sizeof reply, 0);
+    hand_in(screen_calls, good_reply(screen_calls, reply), sizeof reply, 0);
     EXPECT(COVRETIN_TOO_MANY_BYTES, covretin_display_receive(&display, bytes, 1, fds, 0));
-    take_good(&display, &screen_calls[0]);
+    take_good(&display, screen_calls);
     covretin_display_close(&display);
 }
 
@@ -156,7 +157,7 @@ static void no_room(void)
         EXPECT(0, call->ask(&display));
         expect_asked(call->text, call->length, call->fd);
         size_t length = good_reply(call, reply);
-        hand_in(length, sizeof reply, 0);
+        hand_in(call, length, sizeof reply, 0);
         EXPECT(COVRETIN_NO_ROOM, take_by(&display, call->form, &value, length - 13));
         EXPECT(COVRETIN_NO_ROOM, take_by(&display, call->form, &value, 0));
         EXPECT(0, memcmp(&value, &untouched, sizeof value));
@@ -193,14 +194,14 @@ static void refuses(const struct screen_call *call, size_t length, size_t with)
     struct screen_value value = untouched;
     EXPECT(0, call->ask(&display));
     expect_asked(call->text, call->length, call->fd);
-    hand_in(length, sizeof reply, with);
+    hand_in(call, length, sizeof reply, with);
     EXPECT(COVRETIN_INVALID_MESSAGE, take_by(&display, call->form, &value, sizeof value.record));
     EXPECT(0, memcmp(&value, &untouched, sizeof value));
     expect_each(COVRETIN_NOTHING_ASKED);
     EXPECT(0, covretin_display_missing(&display));
     EXPECT(0, call->ask(&display));
     expect_asked(call->text, call->length, call->fd);
-    hand_in(good_reply(call, reply), sizeof reply, 0);
+    hand_in(call, good_reply(call, reply), sizeof reply, 0);
     take_good(&display, call);
 }
 

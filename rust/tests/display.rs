@@ -180,16 +180,20 @@ fn pixels() {
 fn replies_that_are_none() {
     counted(|| {
         for (call, code, _, size) in askings() {
-            let bytes = counting(size + 1);
-            let replies = [
+            let bytes = counting(size + 4);
+            let mut replies = vec![
                 message(code ^ 2, REPLY, &bytes[..size]),
                 message(0x100 + code, REPLY, &bytes[..size]),
                 message(code, 0, &bytes[..size]),
                 message(code, 5, &bytes[..size]),
+                message(code, REPLY, &bytes[..size + 1]),
                 message(code, REPLY, &bytes),
-                announced(code, REPLY, size as u32 ^ 4, &bytes[..size]),
                 announced(code, REPLY, u32::MAX, &bytes[..size]),
             ];
+            if size != 0 {
+                replies.push(message(code, REPLY, &bytes[..size - 1]));
+                replies.push(message(code, REPLY, &[]));
+            }
             let file = memory_file();
             for reply in replies {
                 let (channel, peer) = asking();
