@@ -44,8 +44,8 @@ void covretin_display_disconnect(covretin_display_connection *connection);
 int covretin_display_connection_fd(const covretin_display_connection *connection);
 
 /* As covretin_display_ask_update_scanout and covretin_display_ask_cursor_update, in whose place they stand: with the pixels
- * themselves, which the exchange sends behind the front. image has COVRETIN_DISPLAY_CURSOR_SIZE bytes. After an error nothing is
- * lent. */
+ * themselves, which the exchange sends behind the rest of the message. image has COVRETIN_DISPLAY_CURSOR_SIZE bytes. After an
+ * error nothing is lent. */
 enum covretin_error covretin_display_lend_pixels(covretin_display_connection *connection, const covretin_display_update *update,
                                      const uint8_t *pixels, size_t pixels_len);
 enum covretin_error covretin_display_lend_image(covretin_display_connection *connection, const covretin_display_cursor_update *update,

@@ -33,7 +33,7 @@ static enum covretin_error ask(uint8_t which, struct input *input, uint64_t *pix
     }
 }
 
-/* Takes what is to be sent: the front of one request, whose header counts the pixels, or nothing. How many bytes it has. */
+/* Takes what is to be sent: one request without its pixels, which its header counts, or nothing. How many bytes it has. */
 static size_t send_all(uint64_t pixels)
 {
     uint8_t bytes[COVRETIN_MAX_MESSAGE];

@@ -18,7 +18,7 @@
 #include <time.h>
 #include <unistd.h>
 
-enum { LIMIT = 20000, FRONT = 32 /* bytes before pixels */ };
+enum { LIMIT = 20000, REST = 32 /* bytes of a message before its pixels */ };
 
 static covretin_display_connection screen;
 static covretin_display *const display = &screen.display;
@@ -183,10 +183,10 @@ static void without_display(void)
 
 /* -- Pixels -- */
 
-/* So many bytes that nothing else has, and room for as many with their front behind them. */
+/* So many bytes that nothing else has, and room behind them for a message that has them. */
 static uint8_t *picture(size_t size)
 {
-    uint8_t *pixels = calloc(2, size + FRONT);
+    uint8_t *pixels = calloc(2, size + REST);
     uint32_t state = 1;
     if (pixels == NULL)
         give_up("calloc");
@@ -197,13 +197,13 @@ static uint8_t *picture(size_t size)
     return pixels;
 }
 
-/* What came is the front of these pixels, and they. */
-static void expect_pixels(const uint8_t *came, const uint8_t *pixels, size_t size, const char *front)
+/* What came is the message of these pixels: the text of its call, but for their number. */
+static void expect_pixels(const uint8_t *came, const uint8_t *pixels, size_t size, const char *text)
 {
-    EXPECT(0, memcmp(came, front, 4));
+    EXPECT(0, memcmp(came, text, 4));
     EXPECT(20 + size, came[8] | came[9] << 8 | came[10] << 16 | (long long)came[11] << 24);
-    EXPECT(0, memcmp(came + 12, front + 12, FRONT - 12));
-    EXPECT(0, memcmp(came + FRONT, pixels, size));
+    EXPECT(0, memcmp(came + 12, text + 12, REST - 12));
+    EXPECT(0, memcmp(came + REST, pixels, size));
 }
 
 static const struct screen_call *call_of(char code)
@@ -239,11 +239,11 @@ static void pixels_of_each_size(void)
     static const size_t sizes[] = {0, 1, 4096, COVRETIN_MAX_MESSAGE, 8 << 20};
     int peer = connected();
     for (size_t i = 0; i < sizeof sizes / sizeof *sizes; i++) {
-        uint8_t *pixels = picture(sizes[i]), *came = pixels + sizes[i] + FRONT;
+        uint8_t *pixels = picture(sizes[i]), *came = pixels + sizes[i] + REST;
         EXPECT(COVRETIN_OK, covretin_display_lend_pixels(&screen, &screen_update, pixels, sizes[i]));
         EXPECT(COVRETIN_NOT_TAKEN, covretin_display_lend_pixels(&screen, &screen_update, came, 1));
         EXPECT(COVRETIN_NOT_TAKEN, covretin_display_lend_image(&screen, &screen_cursor, came));
-        size_t turns = exchange_slowly(peer, came, FRONT + sizes[i]);
+        size_t turns = exchange_slowly(peer, came, REST + sizes[i]);
         EXPECT(sizes[i] > 1 << 20, turns > 100);
         expect_pixels(came, pixels, sizes[i], call_of(8)->text);
         free(pixels);
@@ -258,14 +258,14 @@ static void pixels_of_each_size(void)
 static void image(void)
 {
     int peer = connected();
-    uint8_t *pixels = picture(COVRETIN_DISPLAY_CURSOR_SIZE), *came = pixels + COVRETIN_DISPLAY_CURSOR_SIZE + FRONT;
+    uint8_t *pixels = picture(COVRETIN_DISPLAY_CURSOR_SIZE), *came = pixels + COVRETIN_DISPLAY_CURSOR_SIZE + REST;
     const struct screen_call *before = next_call(NULL, false);
     for (int turn = 0; turn < 2; turn++) {
         EXPECT(COVRETIN_OK, before->ask(display));
         EXPECT(COVRETIN_OK, covretin_display_exchange(&screen, LIMIT));
         expect_heard(peer, before);
         EXPECT(COVRETIN_OK, covretin_display_lend_image(&screen, &screen_cursor, pixels));
-        exchange_slowly(peer, came, FRONT + COVRETIN_DISPLAY_CURSOR_SIZE);
+        exchange_slowly(peer, came, REST + COVRETIN_DISPLAY_CURSOR_SIZE);
         expect_pixels(came, pixels, COVRETIN_DISPLAY_CURSOR_SIZE, call_of(6)->text);
     }
     free(pixels);
@@ -298,9 +298,9 @@ static void *read_slowly(void *of)
 static void slow_display(void)
 {
     const size_t size = 300000;
-    uint8_t *pixels = picture(size), *came = pixels + size + FRONT;
+    uint8_t *pixels = picture(size), *came = pixels + size + REST;
     int peer = connected();
-    struct reading reading = {peer, came, FRONT + size};
+    struct reading reading = {peer, came, REST + size};
     pthread_t thread;
     EXPECT(COVRETIN_OK, covretin_display_lend_pixels(&screen, &screen_update, pixels, size));
     EXPECT(COVRETIN_TIMED_OUT, covretin_display_exchange(&screen, 0));
@@ -319,7 +319,7 @@ static void slow_display(void)
 /* A display that ends amid pixels: each further exchange says so, and the pixels are read no more. */
 static void display_ends_amid_pixels(void)
 {
-    static const size_t heard[] = {0, 5, FRONT, FRONT + 1, 10000};
+    static const size_t heard[] = {0, 5, REST, REST + 1, 10000};
     for (size_t i = 0; i < sizeof heard / sizeof *heard; i++) {
         const size_t size = 300000;
         uint8_t *pixels = picture(size);
@@ -329,7 +329,7 @@ static void display_ends_amid_pixels(void)
         EXPECT(COVRETIN_NOT_YET, covretin_display_exchange_nowait(&screen, &events));
         for (size_t left = heard[i]; left != 0;) {
             size_t now = left < 1000 ? left : 1000;
-            hear_bytes(peer, pixels + size + FRONT, now, &fd_count);
+            hear_bytes(peer, pixels + size + REST, now, &fd_count);
             left -= now;
             EXPECT(COVRETIN_NOT_YET, covretin_display_exchange_nowait(&screen, &events));
         }

@@ -149,7 +149,7 @@ fn values_of_replies() {
     });
 }
 
-/// Pixels of any size go out from where they are, behind their front, however slowly they are read.
+/// Pixels of any size go out from where they are, behind their request, however slowly they are read.
 #[test]
 fn pixels() {
     counted(|| {
