@@ -41,6 +41,11 @@ def codes(path):
     return {name: int(number) for name, number in re.findall(r"^    ([A-Z]\w+) = (\d+),", read(path), re.MULTILINE)}
 
 
+def sizes(path):
+    """The sizes of a file's records on the wire."""
+    return {name: int(size) for name, size in re.findall(r"impl ByteValued for (\w+) \{\s+const SIZE: usize = (\d+);", read(path))}
+
+
 def plain(name):
     """A name without what C and Rust write differently: MEMFD_CREATE_ERROR and MemFdCreateError are the same."""
     return name.replace("_", "").upper()
@@ -53,10 +58,14 @@ def wanted():
     features = constants("crates/vhost_protocol/src/features.rt", bits)
     virtio = constants(f"{MESSAGE}/virtio_bit.rt")
     config = constants("crates/vhost_c_backend/src/replies.rt", limits)["MAX_CONFIG"]
+    replies = sizes("crates/vhost_gpu_message/src/records/replies.rt")
     found = {
         "COVRETIN_MAX_FDS": limits["MAX_ATTACHED_FD_ENTRIES"],
         "COVRETIN_MAX_MESSAGE": limits["MAX_MSG_TEXT"],
         "COVRETIN_MAX_CONFIG": config,
+        "COVRETIN_DISPLAY_CURSOR_SIZE": constants("crates/vhost_gpu_backend_req/src/halves.rt")["CURSOR_SIZE"],
+        "COVRETIN_DISPLAY_INFO_SIZE": replies["VirtioGpuRespDisplayInfo"],
+        "COVRETIN_DISPLAY_EDID_SIZE": replies["VirtioGpuRespGetEdid"],
         "COVRETIN_NEED_REPLY": 1 << constants(f"{MESSAGE}/header_bit.rt")["NEED_REPLY"],
         "COVRETIN_ASKED_PROTOCOL_FEATURES": features["ASKED_PROTOCOL_FEATURES"],
         "COVRETIN_SERVED_PROTOCOL_FEATURES": features["SERVED_PROTOCOL_FEATURES"],
