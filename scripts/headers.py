@@ -77,6 +77,9 @@ def wanted():
     found["COVRETIN_CALL_POSTCOPY_ACK"] = 256  # beyond each request's
     for name, number in codes(f"{MESSAGE}/backend_req.rt").items():
         found[f"COVRETIN_CHANNEL_CALL_{re.sub('_MSG$', '', name)}"] = number
+    # as in the crate, what the code calls a feature of this channel is the number of its bit
+    for name, number in re.findall(r"const (\w+): VhostUserGpu\w+ = \w+ \{ bits: 0x(\d+) \}", read("crates/vhost_gpu_message/src/flags/features.rt")):
+        found[f"COVRETIN_DISPLAY_FEATURE_{name}"] = 1 << int(number, 16)
     for name, number in re.findall(r"number \(?(?:error|refusal)\.(\w+).* = (\d+)", read("crates/vhost_c_common/specs/Number.antt")):
         found[f"COVRETIN_{name}"] = int(number)
     for number, name in re.findall(r"(\d+) => Some\(Profile::(\w+)\)", read("crates/vhost_c_common/src/profile.rt")):

@@ -1,5 +1,5 @@
-/* System calls of a device on the vhost-user-gpu channel that are interrupted, move a byte at a time or fail, each in turn; and each
- * allocation of a connection's life failing once. Linked with --wrap of the calls below. */
+/* System calls of a device on the vhost-user-gpu channel that are interrupted or would wait, move a few bytes or fail, each in turn; and
+ * each allocation of a connection's life failing once. Linked with --wrap of the calls below. */
 #ifndef _GNU_SOURCE
 #define _GNU_SOURCE
 #endif
@@ -29,15 +29,15 @@ void *__wrap_malloc(size_t size);
 void *__wrap_calloc(size_t count, size_t size);
 void *__wrap_realloc(void *at, size_t size);
 
-enum { LIMIT = 20000, CALLS = 6, PIXELS = 100, MOST_HEARD = 400 };
+enum { LIMIT = 20000, FEW = 7, CALLS = 6, PIXELS = 100, MOST_HEARD = 400 };
 
 static covretin_display_connection screen;
 static covretin_display *const display = &screen.display;
 static uint8_t pixels[PIXELS];
 
 /* What becomes of the connection's own system calls, not of the display's. */
-static bool interrupts;        /* every other one is interrupted */
-static bool shortens;          /* one byte at a time */
+static int interruption;       /* why every other one fails: EINTR; or EAGAIN, but where it waits; 0: none does */
+static bool shortens;          /* a few bytes at a time */
 static int until_failure = -1; /* so many succeed before one fails; negative: all do */
 static int cause;              /* with this errno */
 static int until_no_memory = -1;
@@ -58,10 +58,8 @@ static bool stopped(int fd)
         return true;
     }
     even = !even;
-    if (!interrupts || even)
-        return false;
-    errno = EINTR;
-    return true;
+    errno = interruption;
+    return interruption != 0 && !even;
 }
 
 ssize_t __wrap_sendmsg(int fd, const struct msghdr *message, int flags)
@@ -71,7 +69,7 @@ ssize_t __wrap_sendmsg(int fd, const struct msghdr *message, int flags)
     if (stopped(fd))
         return -1;
     if (shortens && is_of_screen(fd)) {
-        piece.iov_len = 1;
+        piece.iov_len = piece.iov_len < FEW ? piece.iov_len : FEW;
         some.msg_iov = &piece;
     }
     return __real_sendmsg(fd, &some, flags);
@@ -81,14 +79,14 @@ ssize_t __wrap_recvmsg(int fd, struct msghdr *message, int flags)
 {
     if (stopped(fd))
         return -1;
-    if (shortens && is_of_screen(fd))
-        message->msg_iov[0].iov_len = 1;
+    if (shortens && is_of_screen(fd) && message->msg_iov[0].iov_len > FEW)
+        message->msg_iov[0].iov_len = FEW;
     return __real_recvmsg(fd, message, flags);
 }
 
 int __wrap_poll(struct pollfd *polled, nfds_t count, int milliseconds)
 {
-    return stopped(polled[0].fd) ? -1 : __real_poll(polled, count, milliseconds);
+    return interruption != EAGAIN && stopped(polled[0].fd) ? -1 : __real_poll(polled, count, milliseconds);
 }
 
 static bool lacks_memory(void)
@@ -204,13 +202,14 @@ static int connected(void)
 
 static void goes_on_where_it_was_stopped(void)
 {
-    for (int way = 0; way < 4; way++) {
+    static const int interruptions[] = {0, EINTR, EAGAIN};
+    for (int way = 0; way < 6; way++) {
         int peer = connected();
         reply_to_all(peer);
-        interrupts = way & 1;
-        shortens = way & 2;
+        interruption = interruptions[way % 3];
+        shortens = way >= 3;
         EXPECT(COVRETIN_OK, life());
-        interrupts = shortens = false;
+        interruption = shortens = 0;
         expect_heard(peer);
         covretin_display_disconnect(&screen);
         close(peer);
