@@ -279,6 +279,10 @@ fn numbers_of_the_display() {
     }
     assert_eq!(16, VIRTIO_GPU_MAX_SCANOUTS);
     assert_eq!(4, VhostUserGpuHeaderFlag::REPLY.bits());
-    assert_eq!((0, 1), (VhostUserGpuProtocolFeatures::EDID.bits(), VhostUserGpuProtocolFeatures::DMABUF2.bits()));
+    // As in the crate, a feature is the number of its bit.
+    for (name, feature) in [("EDID", VhostUserGpuProtocolFeatures::EDID), ("DMABUF2", VhostUserGpuProtocolFeatures::DMABUF2)] {
+        let bit = format!("#define COVRETIN_DISPLAY_FEATURE_{name} ((uint64_t)1 << {})\n", feature.bits());
+        assert!(header.contains(&bit), "{bit}");
+    }
     assert_eq!(u64::MAX, VhostUserGpuProtocolFeatures::from_bits_retain(u64::MAX).bits());
 }

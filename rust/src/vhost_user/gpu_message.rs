@@ -45,7 +45,8 @@ bitflags! {
         const REPLY = 0x4;
     }
 
-    /// The features of the channel. As in the crate, EDID has no bit; the specification gives it bit 0, and DMABUF2 bit 1.
+    /// The features of the channel. As in the crate, each is the number of the bit that the specification gives it: so EDID has no
+    /// bit here, and DMABUF2 has that of EDID.
     pub struct VhostUserGpuProtocolFeatures: u64 {
         /// The display replies to GET_EDID.
         const EDID = 0;
