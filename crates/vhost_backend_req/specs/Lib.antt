@@ -1,4 +1,5 @@
 pub mod Channel
 pub mod Asking
 pub mod Halves
+pub mod Opened
 pub mod Turn

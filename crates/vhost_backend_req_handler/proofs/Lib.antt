@@ -1,4 +1,5 @@
 pub mod Channels
+pub mod Limits
 pub mod Fitting
 pub mod Finishing
 pub mod Handling

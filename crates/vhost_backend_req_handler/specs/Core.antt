@@ -17,8 +17,10 @@ use Rattle.vhost_connection.specs.Talk.{State}
 use Rattle.vhost_connection.specs.Calls.{HandsOver}
 use Rattle.vhost_connection.specs.declared.request.Request.{Request}
 use Rattle.vhost_backend_core.specs.Session.{session_of}
+use Rattle.vhost_backend_req.specs.declared.backend.Backend.{Backend}
+use Rattle.vhost_gpu_backend_req.specs.declared.backend.GpuBackend.{GpuBackend}
 use Rattle.vhost_backend_req_handler.specs.declared.session_core.SessionCore.{SessionCore}
-use Rattle.vhost_backend_req_handler.specs.Opening.{OpensAs}
+use Rattle.vhost_backend_req_handler.specs.Opening.{OpensAsBackend, OpensAsGpu}
 use Rattle.vhost_backend_req_handler.specs.Serving.{Answers}
 use Rattle.vhost_connection.specs.Requests.{Reads, IsReady}
 
@@ -35,8 +37,8 @@ abbrev pub with_endpoint : {L H : Type 0} → SessionCore L H → Endpoint (Vhos
 with_endpoint c endpoint = record c { endpoint = endpoint }
 
 -- A request is answered by its row, of the message that it is with these handles, over an endpoint that can reply.
-abbrev pub MeetsRowWith : {L H B G Dev : Type 0} → (event : L → Event H → L → Type 0) (opens : L → H → Result L IoCause → Type 0) (kinds : H → Result Kind IoCause → Type 0)
-    (gives : Dev → (c : Call H B G) → Answer c → Dev → Type 0)
+abbrev pub MeetsRowWith : {L H Dev : Type 0} → (event : L → Event H → L → Type 0) (opens : L → H → Result L IoCause → Type 0) (kinds : H → Result Kind IoCause → Type 0)
+    (gives : Dev → (c : Call H (Backend L H) (GpuBackend L H)) → Answer c → Dev → Type 0)
     → FrontendReq → SessionCore L H → Dev → Request FrontendReq → Option (Vec H Global) → Result ⊤ declared.Error → SessionCore L H → Dev → Type 0
 MeetsRowWith {H = H} event opens kinds gives r old d request handles result new d' = (m : Message FrontendReq H) → Reads old.body.value request m → HandsOver handles m.handles → request.code ≡ r → IsReady (endpoint_of old)
-    → Answers event gives (λ h o. OpensAs opens kinds h o) (λ h o. OpensAs opens kinds h o) r (row_of r (session_in old) m) (endpoint_of old) (session_in old) d result (endpoint_of new) (session_in new) d'
+    → Answers event gives (λ h o. OpensAsBackend opens kinds (endpoint_of old).budget h o) (λ h o. OpensAsGpu opens kinds (endpoint_of old).budget h o) r (row_of r (session_in old) m) (endpoint_of old) (session_in old) d result (endpoint_of new) (session_in new) d'

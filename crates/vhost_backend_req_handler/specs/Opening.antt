@@ -1,11 +1,15 @@
 -- Opening a handle as a channel.
-use Rattle.std.specs.Prelude.{◌≡◌, Result, Ok, Err, ⊤}
+use Rattle.std.specs.Prelude.{◌≡◌, ℕ, Result, Ok, Err}
 use Rattle.vhost_message.specs.declared.cause.IoCause.{IoCause}
 use Rattle.vhost_protocol.specs.Error.{Error, Cause, OutOfMemory, seen_cause}
 use Rattle.vhost_protocol.specs.Socket as protocol
 use Rattle.vhost_protocol.specs.Socket.{opened}
 use Rattle.vhost_link.specs.declared.handle.Kind.{Kind}
 use Rattle.vhost_link.specs.declared.handle.Kind.TheVariants.{NoSocket, NotUnix, NotStream, UnixStream}
+use Rattle.vhost_backend_req.specs.Opened as backend
+use Rattle.vhost_backend_req.specs.declared.backend.Backend.{Backend}
+use Rattle.vhost_gpu_backend_req.specs.Opened as gpu
+use Rattle.vhost_gpu_backend_req.specs.declared.backend.GpuBackend.{GpuBackend}
 
 -- a kind as it is seen
 abbrev pub seen_kind : Result Kind IoCause → Result protocol.Kind Cause
@@ -20,11 +24,11 @@ abbrev pub seen_made : {L : Type 0} → Result L IoCause → Result L Cause
 seen_made (Ok link) = Ok link
 seen_made (Err c) = Err (seen_cause c)
 
--- The channel over that link, unless there was none; or there was no memory for it.
-abbrev pub Becomes : {L C : Type 0} → Result L Error → Result C Error → Type 0
-Becomes (Err e) result = result ≡ Err e
-Becomes (Ok link) (Ok channel) = ⊤
-Becomes (Ok link) (Err e) = e ≡ OutOfMemory
+-- The channel over that link, with this retry limit, unless there was no link; or there was no memory for it.
+abbrev pub Becomes : {L C : Type 0} → (C → L → ℕ → Type 0) → ℕ → Result L Error → Result C Error → Type 0
+Becomes is_over budget (Err e) result = result ≡ Err e
+Becomes is_over budget (Ok link) (Ok channel) = is_over channel link budget
+Becomes is_over budget (Ok link) (Err e) = e ≡ OutOfMemory
 
 module _ {L H : Type 0} (opens : L → H → Result L IoCause → Type 0) (kinds : H → Result Kind IoCause → Type 0) where
   -- only a Unix stream socket is opened, by a link; of another handle it makes no difference what opening it would answer
@@ -36,6 +40,14 @@ module _ {L H : Type 0} (opens : L → H → Result L IoCause → Type 0) (kinds
   abbrev pub OpensLink : H → Result L Error → Type 0
   OpensLink h result = (kind : Result Kind IoCause) × kinds h kind × LinkOf kind h result
 
-  -- and then as a channel
-  abbrev pub OpensAs : {C : Type 0} → H → Result C Error → Type 0
-  OpensAs h result = (link : Result L Error) × OpensLink h link × Becomes link result
+  -- and then as a channel with the session's retry limit
+  abbrev pub OpensAs : {C : Type 0} → (C → L → ℕ → Type 0) → ℕ → H → Result C Error → Type 0
+  OpensAs is_over budget h result = (link : Result L Error) × OpensLink h link × Becomes is_over budget link result
+
+  -- the backend channel
+  abbrev pub OpensAsBackend : ℕ → H → Result (Backend L H) Error → Type 0
+  OpensAsBackend budget h result = OpensAs (λ c link n. backend.IsOver c link n) budget h result
+
+  -- the vhost-user-gpu channel
+  abbrev pub OpensAsGpu : ℕ → H → Result (GpuBackend L H) Error → Type 0
+  OpensAsGpu budget h result = OpensAs (λ c link n. gpu.IsOver c link n) budget h result

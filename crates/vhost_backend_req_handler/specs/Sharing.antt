@@ -10,7 +10,7 @@ use Rattle.vhost_gpu_backend_req.specs.declared.backend.GpuBackend.{GpuBackend}
 use Rattle.vhost_backend_req_handler.specs.declared.handler.BackendReqHandler.{BackendReqHandler}
 use Rattle.vhost_backend_req_handler.specs.declared.session_core.SessionCore.{SessionCore}
 use Rattle.vhost_backend_req_handler.specs.Core.{endpoint_of, session_in}
-use Rattle.vhost_backend_req_handler.specs.Opening.{OpensAs}
+use Rattle.vhost_backend_req_handler.specs.Opening.{OpensAsBackend, OpensAsGpu}
 use Rattle.vhost_backend_req_handler.specs.Serving.{CallsOnce}
 
 -- any answer: of such a device only its type is known
@@ -21,7 +21,7 @@ any_answer d c a d' = ⊤
 abbrev pub ServesShared : {L H : Type 0} → (L → Event H → L → Type 0) → (L → H → Result L IoCause → Type 0) → (H → Result Kind IoCause → Type 0)
     → SessionCore L H → Result ⊤ declared.Error → SessionCore L H → Type 0
 ServesShared {L} {H} event opens kinds old result new =
-    CallsOnce {B = Backend L H} {G = GpuBackend L H} event any_answer (λ h o. OpensAs opens kinds h o) (λ h o. OpensAs opens kinds h o)
+    CallsOnce {B = Backend L H} {G = GpuBackend L H} event any_answer (λ h o. OpensAsBackend opens kinds (endpoint_of old).budget h o) (λ h o. OpensAsGpu opens kinds (endpoint_of old).budget h o)
     (endpoint_of old) (session_in old) tt result (endpoint_of new) (session_in new) tt
 
 -- the session of a handler

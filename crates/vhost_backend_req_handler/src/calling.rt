@@ -1,6 +1,6 @@
 //! A call that is a value is made of a device that has a method for each.
 
-ghost use Rattle.std.specs.Prelude.{◌≡◌, List, Some};
+ghost use Rattle.std.specs.Prelude.{◌≡◌, ℕ, List, Some};
 ghost use Rattle.vhost_message.specs.declared.records.shmem.VhostUserShMemConfig.{VhostUserShMemConfig};
 ghost use Rattle.vhost_protocol.specs.DeviceCall.{GetConfig, SetConfig, SetMemTable, SetVringAddr};
 ghost use Rattle.vhost_protocol.specs.Error.{seen_result};
@@ -10,7 +10,7 @@ ghost use Rattle.vhost_backend_core.specs.Beginning.{config_in, handles_in, regi
 ghost use Rattle.vhost_backend_core.specs.Concluding.{bases_in, bytes_in, done_in};
 ghost use Rattle.vhost_backend_core.specs.declared.call.DeviceCall.TheVariants as call_;
 ghost use Rattle.vhost_backend_req_handler.specs.Calling.{CalledWith};
-ghost use Rattle.vhost_backend_req_handler.specs.Opening.{OpensAs};
+ghost use Rattle.vhost_backend_req_handler.specs.Opening.{OpensAsBackend, OpensAsGpu};
 
 use crate::opening::{give_backend, give_gpu};
 use crate::server::{Header, Server};
@@ -32,7 +32,7 @@ fn set_log_base<L: Link, D: VhostUserBackendReqHandlerMut<Link = L>>(
     log: VhostUserLog,
     handles: Option<Vec<L::Handle>>,
 ) -> Option<DeviceAnswer<L::Handle>>
-    ensures { (place : VhostUserShMemConfig) → CalledWith D.gives (λ h o. OpensAs L.opens L.Handle.kinds h o) (λ h o. OpensAs L.opens L.Handle.kinds h o) device.old place (call_.SetLogBase log) (handles_in handles) result device.new }
+    ensures { (budget : ℕ) (place : VhostUserShMemConfig) → CalledWith D.gives (λ h o. OpensAsBackend L.opens L.Handle.kinds budget h o) (λ h o. OpensAsGpu L.opens L.Handle.kinds budget h o) device.old place (call_.SetLogBase log) (handles_in handles) result device.new }
 {
     match take_single_file(handles) {
         Some(file) => Some(DeviceAnswer::Done(device.set_log_base(&log, file))),
@@ -45,7 +45,7 @@ fn set_inflight_fd<L: Link, D: VhostUserBackendReqHandlerMut<Link = L>>(
     area: VhostUserInflight,
     handles: Option<Vec<L::Handle>>,
 ) -> Option<DeviceAnswer<L::Handle>>
-    ensures { (place : VhostUserShMemConfig) → CalledWith D.gives (λ h o. OpensAs L.opens L.Handle.kinds h o) (λ h o. OpensAs L.opens L.Handle.kinds h o) device.old place (call_.SetInflightFd area) (handles_in handles) result device.new }
+    ensures { (budget : ℕ) (place : VhostUserShMemConfig) → CalledWith D.gives (λ h o. OpensAsBackend L.opens L.Handle.kinds budget h o) (λ h o. OpensAsGpu L.opens L.Handle.kinds budget h o) device.old place (call_.SetInflightFd area) (handles_in handles) result device.new }
 {
     match take_single_file(handles) {
         Some(file) => Some(DeviceAnswer::Done(device.set_inflight_fd(&area, file))),
@@ -59,7 +59,7 @@ fn add_mem_region<L: Link, D: VhostUserBackendReqHandlerMut<Link = L>>(
     listens: bool,
     handles: Option<Vec<L::Handle>>,
 ) -> Option<DeviceAnswer<L::Handle>>
-    ensures { (place : VhostUserShMemConfig) → CalledWith D.gives (λ h o. OpensAs L.opens L.Handle.kinds h o) (λ h o. OpensAs L.opens L.Handle.kinds h o) device.old place (call_.AddMemRegion region listens) (handles_in handles) result device.new }
+    ensures { (budget : ℕ) (place : VhostUserShMemConfig) → CalledWith D.gives (λ h o. OpensAsBackend L.opens L.Handle.kinds budget h o) (λ h o. OpensAsGpu L.opens L.Handle.kinds budget h o) device.old place (call_.AddMemRegion region listens) (handles_in handles) result device.new }
 {
     match take_single_file(handles) {
         Some(file) => Some(DeviceAnswer::Base(device.add_mem_region(&region, file, Some(listens)))),
@@ -73,7 +73,7 @@ fn set_device_state_fd<L: Link, D: VhostUserBackendReqHandlerMut<Link = L>>(
     phase: VhostTransferStatePhase,
     handles: Option<Vec<L::Handle>>,
 ) -> Option<DeviceAnswer<L::Handle>>
-    ensures { (place : VhostUserShMemConfig) → CalledWith D.gives (λ h o. OpensAs L.opens L.Handle.kinds h o) (λ h o. OpensAs L.opens L.Handle.kinds h o) device.old place (call_.SetDeviceStateFd direction phase) (handles_in handles) result device.new }
+    ensures { (budget : ℕ) (place : VhostUserShMemConfig) → CalledWith D.gives (λ h o. OpensAsBackend L.opens L.Handle.kinds budget h o) (λ h o. OpensAsGpu L.opens L.Handle.kinds budget h o) device.old place (call_.SetDeviceStateFd direction phase) (handles_in handles) result device.new }
 {
     match take_single_file(handles) {
         Some(file) => Some(DeviceAnswer::StateHandle(device.set_device_state_fd(
@@ -89,7 +89,7 @@ fn set_vring_kick<L: Link, D: VhostUserBackendReqHandlerMut<Link = L>>(
     wants: bool,
     handles: Option<Vec<L::Handle>>,
 ) -> Option<DeviceAnswer<L::Handle>>
-    ensures { (place : VhostUserShMemConfig) → CalledWith D.gives (λ h o. OpensAs L.opens L.Handle.kinds h o) (λ h o. OpensAs L.opens L.Handle.kinds h o) device.old place (call_.SetVringKick index wants) (handles_in handles) result device.new }
+    ensures { (budget : ℕ) (place : VhostUserShMemConfig) → CalledWith D.gives (λ h o. OpensAsBackend L.opens L.Handle.kinds budget h o) (λ h o. OpensAsGpu L.opens L.Handle.kinds budget h o) device.old place (call_.SetVringKick index wants) (handles_in handles) result device.new }
 {
     if !wants {
         return Some(DeviceAnswer::Done(device.set_vring_kick(index, None)));
@@ -106,7 +106,7 @@ fn set_vring_call<L: Link, D: VhostUserBackendReqHandlerMut<Link = L>>(
     wants: bool,
     handles: Option<Vec<L::Handle>>,
 ) -> Option<DeviceAnswer<L::Handle>>
-    ensures { (place : VhostUserShMemConfig) → CalledWith D.gives (λ h o. OpensAs L.opens L.Handle.kinds h o) (λ h o. OpensAs L.opens L.Handle.kinds h o) device.old place (call_.SetVringCall index wants) (handles_in handles) result device.new }
+    ensures { (budget : ℕ) (place : VhostUserShMemConfig) → CalledWith D.gives (λ h o. OpensAsBackend L.opens L.Handle.kinds budget h o) (λ h o. OpensAsGpu L.opens L.Handle.kinds budget h o) device.old place (call_.SetVringCall index wants) (handles_in handles) result device.new }
 {
     if !wants {
         return Some(DeviceAnswer::Done(device.set_vring_call(index, None)));
@@ -123,7 +123,7 @@ fn set_vring_err<L: Link, D: VhostUserBackendReqHandlerMut<Link = L>>(
     wants: bool,
     handles: Option<Vec<L::Handle>>,
 ) -> Option<DeviceAnswer<L::Handle>>
-    ensures { (place : VhostUserShMemConfig) → CalledWith D.gives (λ h o. OpensAs L.opens L.Handle.kinds h o) (λ h o. OpensAs L.opens L.Handle.kinds h o) device.old place (call_.SetVringErr index wants) (handles_in handles) result device.new }
+    ensures { (budget : ℕ) (place : VhostUserShMemConfig) → CalledWith D.gives (λ h o. OpensAsBackend L.opens L.Handle.kinds budget h o) (λ h o. OpensAsGpu L.opens L.Handle.kinds budget h o) device.old place (call_.SetVringErr index wants) (handles_in handles) result device.new }
 {
     if !wants {
         return Some(DeviceAnswer::Done(device.set_vring_err(index, None)));
@@ -215,7 +215,7 @@ fn set_backend_req_fd<L: Link, D: VhostUserBackendReqHandlerMut<Link = L>>(
     device: &mut D,
     handles: Option<Vec<L::Handle>>,
 ) -> Option<DeviceAnswer<L::Handle>>
-    ensures called { (place : VhostUserShMemConfig) → CalledWith D.gives (λ h o. OpensAs L.opens L.Handle.kinds h o) (λ h o. OpensAs L.opens L.Handle.kinds h o) device.old place call_.SetBackendReqFd (handles_in handles) result device.new }
+    ensures called { (place : VhostUserShMemConfig) → CalledWith D.gives (λ h o. OpensAsBackend L.opens L.Handle.kinds (state endpoint.old).budget h o) (λ h o. OpensAsGpu L.opens L.Handle.kinds (state endpoint.old).budget h o) device.old place call_.SetBackendReqFd (handles_in handles) result device.new }
     ensures same { endpoint.new ≡ endpoint.old }
 {
     match take_single_file(handles) {
@@ -230,7 +230,7 @@ fn set_gpu_socket<L: Link, D: VhostUserBackendReqHandlerMut<Link = L>>(
     device: &mut D,
     handles: Option<Vec<L::Handle>>,
 ) -> Option<DeviceAnswer<L::Handle>>
-    ensures called { (place : VhostUserShMemConfig) → CalledWith D.gives (λ h o. OpensAs L.opens L.Handle.kinds h o) (λ h o. OpensAs L.opens L.Handle.kinds h o) device.old place call_.SetGpuSocket (handles_in handles) result device.new }
+    ensures called { (place : VhostUserShMemConfig) → CalledWith D.gives (λ h o. OpensAsBackend L.opens L.Handle.kinds (state endpoint.old).budget h o) (λ h o. OpensAsGpu L.opens L.Handle.kinds (state endpoint.old).budget h o) device.old place call_.SetGpuSocket (handles_in handles) result device.new }
     ensures same { endpoint.new ≡ endpoint.old }
 {
     match take_single_file(handles) {
@@ -249,7 +249,7 @@ impl Server {
         call: &DeviceCall<'_>,
         handles: &mut Option<Vec<L::Handle>>,
     ) -> Option<DeviceAnswer<L::Handle>>
-        ensures called { CalledWith D.gives (λ h o. OpensAs L.opens L.Handle.kinds h o) (λ h o. OpensAs L.opens L.Handle.kinds h o) device.old self.new.shmem call.now (handles_in handles.old) result device.new }
+        ensures called { CalledWith D.gives (λ h o. OpensAsBackend L.opens L.Handle.kinds (state endpoint.old).budget h o) (λ h o. OpensAsGpu L.opens L.Handle.kinds (state endpoint.old).budget h o) device.old self.new.shmem call.now (handles_in handles.old) result device.new }
         ensures endpoint { state endpoint.new ≡ state endpoint.old }
         ensures session { self.new.session ≡ self.old.session }
         ensures regions { self.new.regions ≡ self.old.regions }
@@ -359,7 +359,7 @@ impl Server {
         &mut self,
         device: &mut D,
     ) -> Option<DeviceAnswer<L::Handle>>
-        ensures called { (hs : List L.Handle) → CalledWith D.gives (λ h o. OpensAs L.opens L.Handle.kinds h o) (λ h o. OpensAs L.opens L.Handle.kinds h o) device.old self.new.shmem call_.GetShmemConfig hs result device.new }
+        ensures called { (budget : ℕ) (hs : List L.Handle) → CalledWith D.gives (λ h o. OpensAsBackend L.opens L.Handle.kinds budget h o) (λ h o. OpensAsGpu L.opens L.Handle.kinds budget h o) device.old self.new.shmem call_.GetShmemConfig hs result device.new }
         ensures session { self.new.session ≡ self.old.session }
         ensures regions { self.new.regions ≡ self.old.regions }
     {

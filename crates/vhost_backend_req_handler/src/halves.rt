@@ -1,11 +1,11 @@
 //! Serving a request in two halves, without a device: it is read, and becomes a call; the call's answer is reported.
 
-ghost use Rattle.std.specs.Prelude.{◌≡◌, ℤ, List, [], IfOk, IfErr, IfSome, Some, None, Err, is_some, false, true};
+ghost use Rattle.std.specs.Prelude.{◌≡◌, ℕ, ℤ, List, [], IfOk, IfErr, IfSome, Some, None, Err, is_some, false, true};
 ghost use Rattle.vhost_message.specs.declared.cause.IoCause.TheVariants.{Raw};
 ghost use Rattle.vhost_message.specs.declared.error.Error.TheVariants.{SocketBroken};
 ghost use Rattle.vhost_backend_core.specs.Concluding.{concluded};
 ghost use Rattle.vhost_backend_req_handler.specs.Halves.{HalvesRefuse, HalvesServe};
-ghost use Rattle.vhost_backend_req_handler.specs.Opening.{OpensAs};
+ghost use Rattle.vhost_backend_req_handler.specs.Opening.{OpensAsBackend, OpensAsGpu};
 
 use crate::session_core::SessionCore;
 use crate::sizes::look;
@@ -37,7 +37,7 @@ impl<L: Link> SessionCore<L> {
     ghost use Rattle.vhost_backend_core.specs.Beginning.{handles_in, step_of};
     ghost use Rattle.vhost_backend_core.specs.Fits.{Makes};
     ghost use Rattle.vhost_backend_req_handler.specs.Calling.{Called, beside};
-    ghost use Rattle.vhost_backend_req_handler.specs.Opening.{OpensAs};
+    ghost use Rattle.vhost_backend_req_handler.specs.Opening.{OpensAsBackend, OpensAsGpu};
     ghost use Rattle.vhost_backend_req.specs.declared.backend.Backend.{Backend};
     ghost use Rattle.vhost_gpu_backend_req.specs.declared.backend.GpuBackend.{GpuBackend};
     ghost use Rattle.vhost_backend_req_handler.specs.Core.{endpoint_of, session_in};
@@ -135,7 +135,7 @@ impl<L: Link> SessionCore<L> {
         device: &mut D,
     ) -> Option<DeviceAnswer<L::Handle>>
         ensures called { (p : Pending L.Handle) (m : Message FrontendReq L.Handle) (rs : List VhostUserMemoryRegion) → self.old.pending ≡ Some p → Reads self.old.body.value p.request m → HandsOver p.handles m.handles
-            → IfSome result (λ a. Called D.gives (λ h o. OpensAs L.opens L.Handle.kinds h o) (λ h o. OpensAs L.opens L.Handle.kinds h o) device.old (beside rs self.new.server.shmem) (row_of m.request (session_in self.old) m) (Some a) device.new) }
+            → IfSome result (λ a. Called D.gives (λ h o. OpensAsBackend L.opens L.Handle.kinds (endpoint_of self.old).budget h o) (λ h o. OpensAsGpu L.opens L.Handle.kinds (endpoint_of self.old).budget h o) device.old (beside rs self.new.server.shmem) (row_of m.request (session_in self.old) m) (Some a) device.new) }
         ensures some { (p : Pending L.Handle) (m : Message FrontendReq L.Handle) → self.old.pending ≡ Some p → Reads self.old.body.value p.request m → HandsOver p.handles m.handles
             → Makes (row_of {B = Backend L L.Handle} {G = GpuBackend L L.Handle} m.request (session_in self.old) m) → is_some result ≡ true }
         ensures endpoint { endpoint_of self.new ≡ endpoint_of self.old }
@@ -160,7 +160,7 @@ impl<L: Link> SessionCore<L> {
         pending: &mut Pending<L::Handle>,
     ) -> Option<DeviceAnswer<L::Handle>>
         ensures called { (m : Message FrontendReq L.Handle) (rs : List VhostUserMemoryRegion) → Reads self.old.body.value pending.old.request m → HandsOver pending.old.handles m.handles
-            → IfSome result (λ a. Called D.gives (λ h o. OpensAs L.opens L.Handle.kinds h o) (λ h o. OpensAs L.opens L.Handle.kinds h o) device.old (beside rs self.new.server.shmem) (row_of m.request (session_in self.old) m) (Some a) device.new) }
+            → IfSome result (λ a. Called D.gives (λ h o. OpensAsBackend L.opens L.Handle.kinds (endpoint_of self.old).budget h o) (λ h o. OpensAsGpu L.opens L.Handle.kinds (endpoint_of self.old).budget h o) device.old (beside rs self.new.server.shmem) (row_of m.request (session_in self.old) m) (Some a) device.new) }
         ensures some { (m : Message FrontendReq L.Handle) → Reads self.old.body.value pending.old.request m → HandsOver pending.old.handles m.handles
             → Makes (row_of {B = Backend L L.Handle} {G = GpuBackend L L.Handle} m.request (session_in self.old) m) → is_some result ≡ true }
         ensures endpoint { endpoint_of self.new ≡ endpoint_of self.old }
@@ -257,6 +257,6 @@ impl<L: Link> SessionCore<L> {
 /// The two halves, with a device's answer between them, are what `handle_request` does with that device; and so is a request
 /// that the first one refuses.
 pub fn halves_law<L: Link, D: VhostUserBackendReqHandlerMut<Link = L>>()
-    ensures served { HalvesServe L.event D.gives (λ h o. OpensAs L.opens L.Handle.kinds h o) (λ h o. OpensAs L.opens L.Handle.kinds h o) }
-    ensures refused { HalvesRefuse L.event D.gives (λ h o. OpensAs L.opens L.Handle.kinds h o) (λ h o. OpensAs L.opens L.Handle.kinds h o) }
+    ensures served { (budget : ℕ) → HalvesServe L.event D.gives (λ h o. OpensAsBackend L.opens L.Handle.kinds budget h o) (λ h o. OpensAsGpu L.opens L.Handle.kinds budget h o) }
+    ensures refused { (budget : ℕ) → HalvesRefuse L.event D.gives (λ h o. OpensAsBackend L.opens L.Handle.kinds budget h o) (λ h o. OpensAsGpu L.opens L.Handle.kinds budget h o) }
 {}

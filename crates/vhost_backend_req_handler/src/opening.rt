@@ -2,8 +2,9 @@
 
 ghost use Rattle.std.specs.Prelude.{◌≡◌};
 ghost use Rattle.vhost_protocol.specs.Error.{seen_result};
+ghost use Rattle.vhost_connection.specs.State.{state};
 ghost use Rattle.vhost_backend_req_handler.specs.Calling.{GivesBackend, GivesGpu};
-ghost use Rattle.vhost_backend_req_handler.specs.Opening.{OpensAs, OpensLink};
+ghost use Rattle.vhost_backend_req_handler.specs.Opening.{OpensAsBackend, OpensAsGpu, OpensLink};
 
 use crate::server::Header;
 use std::alloc::Global;
@@ -21,7 +22,7 @@ pub(crate) fn give_backend<L: Link, D: VhostUserBackendReqHandlerMut<Link = L>>(
     device: &mut D,
     file: L::Handle,
 ) -> Result<()>
-    ensures gives { GivesBackend D.gives (λ h o. OpensAs L.opens L.Handle.kinds h o) device.old file result device.new }
+    ensures gives { GivesBackend D.gives (λ h o. OpensAsBackend L.opens L.Handle.kinds (state endpoint.old).budget h o) device.old file result device.new }
     ensures same { endpoint.new ≡ endpoint.old }
 {
     match open_backend(alloc, endpoint, file) {
@@ -40,7 +41,7 @@ pub(crate) fn give_gpu<L: Link, D: VhostUserBackendReqHandlerMut<Link = L>>(
     device: &mut D,
     file: L::Handle,
 ) -> Result<()>
-    ensures gives { GivesGpu D.gives (λ h o. OpensAs L.opens L.Handle.kinds h o) device.old file result device.new }
+    ensures gives { GivesGpu D.gives (λ h o. OpensAsGpu L.opens L.Handle.kinds (state endpoint.old).budget h o) device.old file result device.new }
     ensures same { endpoint.new ≡ endpoint.old }
 {
     match open_gpu(alloc, endpoint, file) {
@@ -55,7 +56,7 @@ fn open_backend<L: Link>(
     endpoint: &mut Endpoint<Header, L>,
     file: L::Handle,
 ) -> Result<Backend<L>>
-    ensures opened { OpensAs L.opens L.Handle.kinds file (seen_result result) }
+    ensures opened { OpensAsBackend L.opens L.Handle.kinds (state endpoint.old).budget file (seen_result result) }
     ensures same { endpoint.new ≡ endpoint.old }
 {
     match open(endpoint, file) {
@@ -70,7 +71,7 @@ fn open_gpu<L: Link>(
     endpoint: &mut Endpoint<Header, L>,
     file: L::Handle,
 ) -> Result<GpuBackend<L>>
-    ensures opened { OpensAs L.opens L.Handle.kinds file (seen_result result) }
+    ensures opened { OpensAsGpu L.opens L.Handle.kinds (state endpoint.old).budget file (seen_result result) }
     ensures same { endpoint.new ≡ endpoint.old }
 {
     match open(endpoint, file) {

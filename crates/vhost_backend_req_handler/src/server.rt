@@ -13,7 +13,7 @@ ghost use Rattle.vhost_gpu_backend_req.specs.declared.backend.GpuBackend.{GpuBac
 ghost use Rattle.vhost_backend_core.specs.Concluding.{regions_beside, regions_for, then_of, wanting};
 ghost use Rattle.vhost_backend_core.specs.Session.{session_of};
 ghost use Rattle.vhost_backend_req_handler.specs.Halves.{Denies, Prepares};
-ghost use Rattle.vhost_backend_req_handler.specs.Opening.{OpensAs};
+ghost use Rattle.vhost_backend_req_handler.specs.Opening.{OpensAsBackend, OpensAsGpu};
 ghost use Rattle.vhost_backend_req_handler.specs.Serving.{Answers, Finishes};
 
 use crate::sizes::look;
@@ -54,7 +54,7 @@ impl Server {
         handles: &mut Option<Vec<L::Handle>>,
     ) -> Result<()>
         ensures { IsReady (state endpoint.old)
-            → Answers L.event D.gives (λ h o. OpensAs L.opens L.Handle.kinds h o) (λ h o. OpensAs L.opens L.Handle.kinds h o) message.now.code (row_of message.now.code (session_of self.old.session) (message_in message.now (handles_in handles.old))) (state endpoint.old) (session_of self.old.session) device.old result (state endpoint.new) (session_of self.new.session) device.new }
+            → Answers L.event D.gives (λ h o. OpensAsBackend L.opens L.Handle.kinds (state endpoint.old).budget h o) (λ h o. OpensAsGpu L.opens L.Handle.kinds (state endpoint.old).budget h o) message.now.code (row_of message.now.code (session_of self.old.session) (message_in message.now (handles_in handles.old))) (state endpoint.old) (session_of self.old.session) device.old result (state endpoint.new) (session_of self.new.session) device.new }
     {
         match Rows::<L::Handle, Backend<L>, GpuBackend<L>>::begin(&self.session, message, handles) {
             Ok(Begun::Calls(call)) => self.make(endpoint, device, message, &call, handles),
@@ -73,7 +73,7 @@ impl Server {
         handles: &mut Option<Vec<L::Handle>>,
     ) -> Result<()>
         ensures { IsReady (state endpoint.old)
-            → Answers L.event D.gives (λ h o. OpensAs L.opens L.Handle.kinds h o) (λ h o. OpensAs L.opens L.Handle.kinds h o) message.now.code (step_of (session_of self.old.session) (message_in message.now (handles_in handles.old)) call.now) (state endpoint.old) (session_of self.old.session) device.old result (state endpoint.new) (session_of self.new.session) device.new }
+            → Answers L.event D.gives (λ h o. OpensAsBackend L.opens L.Handle.kinds (state endpoint.old).budget h o) (λ h o. OpensAsGpu L.opens L.Handle.kinds (state endpoint.old).budget h o) message.now.code (step_of (session_of self.old.session) (message_in message.now (handles_in handles.old)) call.now) (state endpoint.old) (session_of self.old.session) device.old result (state endpoint.new) (session_of self.new.session) device.new }
     {
         self.keep_table(call);
         match self.call_device(endpoint, device, call, handles) {

@@ -40,7 +40,7 @@ impl<L: Link> SessionCore<L> {
     ghost use Rattle.vhost_connection.specs.contracts.endpoint.Endpoint.{the_row as endpoint_row};
     ghost use Rattle.vhost_message.specs.contracts.header.VhostUserMsgHeader.{the_row as header_row};
     ghost use Rattle.vhost_message.specs.contracts.frontend_req.FrontendReq.{the_row as code_row};
-    ghost use Rattle.vhost_backend_req_handler.specs.Opening.{OpensAs};
+    ghost use Rattle.vhost_backend_req_handler.specs.Opening.{OpensAsBackend, OpensAsGpu};
     ghost use Rattle.vhost_backend_req_handler.specs.Serving.{HandlesOne, Runs};
 
     /// A new session over a link. Each message may use at most so many retries.
@@ -127,7 +127,7 @@ impl<L: Link> SessionCore<L> {
         ensures failed { (n : ℤ) → (session_in self.old).failed ≡ Some n
             → (result ≡ Err (SocketBroken (Raw n))) × (endpoint_of self.new ≡ endpoint_of self.old) × (session_in self.new ≡ session_in self.old) × (device.new ≡ device.old) }
         ensures handled { (session_in self.old).failed ≡ None
-            → HandlesOne L.event D.gives (λ h o. OpensAs L.opens L.Handle.kinds h o) (λ h o. OpensAs L.opens L.Handle.kinds h o) (endpoint_of self.old) (session_in self.old) device.old result (endpoint_of self.new) (session_in self.new) device.new }
+            → HandlesOne L.event D.gives (λ h o. OpensAsBackend L.opens L.Handle.kinds (endpoint_of self.old).budget h o) (λ h o. OpensAsGpu L.opens L.Handle.kinds (endpoint_of self.old).budget h o) (endpoint_of self.old) (session_in self.old) device.old result (endpoint_of self.new) (session_in self.new) device.new }
     {
         if let Some(number) = self.server.session.failed {
             return Err(Error::SocketBroken(IoCause::Raw(number)));
@@ -147,7 +147,7 @@ impl<L: Link> SessionCore<L> {
         device: &mut D,
         out: &mut Vec<Result<()>>,
     ) -> Result<()>
-        ensures run { IfOk result (λ _. Runs L.event D.gives (λ h o. OpensAs L.opens L.Handle.kinds h o) (λ h o. OpensAs L.opens L.Handle.kinds h o) (endpoint_of self.old) (session_in self.old) device.old count out.old.items out.new.items (endpoint_of self.new) (session_in self.new) device.new) }
+        ensures run { IfOk result (λ _. Runs L.event D.gives (λ h o. OpensAsBackend L.opens L.Handle.kinds (endpoint_of self.old).budget h o) (λ h o. OpensAsGpu L.opens L.Handle.kinds (endpoint_of self.old).budget h o) (endpoint_of self.old) (session_in self.old) device.old count out.old.items out.new.items (endpoint_of self.new) (session_in self.new) device.new) }
         ensures memory { IfErr result (λ e. (e ≡ OutOfMemory) × (endpoint_of self.new ≡ endpoint_of self.old) × (session_in self.new ≡ session_in self.old) × (device.new ≡ device.old) × (out.new.items ≡ out.old.items)) }
         ensures room { IfErr result (λ _. vec_capacity out.old < vec_len out.old + count) }
     {

@@ -1,6 +1,6 @@
 //! The vhost-user-gpu channel, which clones share.
 
-ghost use Rattle.std.specs.Prelude.{◌≡◌, IfErr};
+ghost use Rattle.std.specs.Prelude.{◌≡◌, IfOk, IfErr};
 ghost use Rattle.std.specs.Option.{option_map};
 ghost use Rattle.vhost_gpu_message.specs.Replies.{display_info_of, edid_of};
 ghost use Rattle.vhost_message.specs.Records.{u64_at};
@@ -9,6 +9,7 @@ ghost use Rattle.vhost_protocol.specs.Gpu.{GetProtocolFeatures, SetProtocolFeatu
 
 use crate::internal::BackendInternal;
 use std::alloc::{AllocError, Global};
+use std::snapshot::Snapshot;
 use std::sync::{Arc, Mutex, Wait};
 use vhost_gpu_message::{
     VhostUserGpuCursorPos, VhostUserGpuCursorUpdate, VhostUserGpuDMABUFScanout,
@@ -18,6 +19,14 @@ use vhost_gpu_message::{
 use vhost_link::Link;
 use vhost_message::{Error, HandlerResult, Result, VhostUserU64};
 
+/// What clones of a channel share: the channel itself behind a lock, and what it was opened with, for contracts alone.
+#[derive(Drop)]
+struct Shared<L: Link> {
+    channel: Mutex<BackendInternal<L>>,
+    link: Snapshot<L>,
+    budget: Snapshot<u32>,
+}
+
 /// The vhost-user-gpu channel, which a device is given by VHOST_USER_GPU_SET_SOCKET. It can be shared: clones are the same
 /// channel. Each call is that of `BackendInternal`, whole in one turn with the lock: also a failure is that of the channel
 /// which it found there.
@@ -25,21 +34,27 @@ use vhost_message::{Error, HandlerResult, Result, VhostUserU64};
 /// Mirrors `vhost::vhost_user::GpuBackend`.
 #[derive(Drop)]
 pub struct GpuBackend<L: Link> {
-    inner: Arc<Mutex<BackendInternal<L>>, Global>,
+    inner: Arc<Shared<L>, Global>,
 }
 
 impl<L: Link> GpuBackend<L> {
     ghost use Rattle.vhost_gpu_backend_req.specs.Asking.{AsksCall};
+    ghost use Rattle.vhost_gpu_backend_req.specs.Opened.{IsOver};
     ghost use Rattle.vhost_gpu_backend_req.specs.Turn.{Turn};
 
     /// A channel over a link. Each message may use at most so many retries.
     ///
     /// OutOfMemory: an allocation failed.
     pub fn from_stream(alloc: Global, link: L, budget: u32) -> Result<Self>
+        ensures opened { IfOk result (λ channel. IsOver channel link budget) }
         ensures memory { IfErr result (λ e. e ≡ OutOfMemory) }
     {
-        let inner = Mutex::new(BackendInternal::from_stream(alloc, link, budget)?);
-        match Arc::new(alloc, inner) {
+        let shared = Shared {
+            link: Snapshot::of(&link),
+            budget: Snapshot::of(&budget),
+            channel: Mutex::new(BackendInternal::from_stream(alloc, link, budget)?),
+        };
+        match Arc::new(alloc, shared) {
             Ok(inner) => Ok(GpuBackend { inner }),
             Err(_) => Err(Error::OutOfMemory),
         }
@@ -49,7 +64,7 @@ impl<L: Link> GpuBackend<L> {
     pub fn get_protocol_features(&self, rt: &impl Wait) -> HandlerResult<VhostUserU64>
         ensures { Turn (AsksCall L.event (λ bs. record { value = u64_at 0 bs }) GetProtocolFeatures) result }
     {
-        self.inner.lock(rt).get_protocol_features()
+        self.inner.channel.lock(rt).get_protocol_features()
     }
 
     /// `BackendInternal::set_protocol_features` under the lock.
@@ -60,14 +75,14 @@ impl<L: Link> GpuBackend<L> {
     ) -> HandlerResult<()>
         ensures { Turn (AsksCall L.event (λ _. tt) (SetProtocolFeatures features.now.value)) result }
     {
-        self.inner.lock(rt).set_protocol_features(features)
+        self.inner.channel.lock(rt).set_protocol_features(features)
     }
 
     /// `BackendInternal::get_display_info` under the lock.
     pub fn get_display_info(&self, rt: &impl Wait) -> HandlerResult<VirtioGpuRespDisplayInfo>
         ensures { Turn (AsksCall L.event display_info_of GetDisplayInfo) result }
     {
-        self.inner.lock(rt).get_display_info()
+        self.inner.channel.lock(rt).get_display_info()
     }
 
     /// `BackendInternal::get_edid` under the lock.
@@ -78,14 +93,14 @@ impl<L: Link> GpuBackend<L> {
     ) -> HandlerResult<VirtioGpuRespGetEdid>
         ensures { Turn (AsksCall L.event edid_of (GetEdid request.now)) result }
     {
-        self.inner.lock(rt).get_edid(request)
+        self.inner.channel.lock(rt).get_edid(request)
     }
 
     /// `BackendInternal::set_scanout` under the lock.
     pub fn set_scanout(&self, rt: &impl Wait, scanout: &VhostUserGpuScanout) -> HandlerResult<()>
         ensures { Turn (AsksCall L.event (λ _. tt) (SetScanout scanout.now)) result }
     {
-        self.inner.lock(rt).set_scanout(scanout)
+        self.inner.channel.lock(rt).set_scanout(scanout)
     }
 
     /// `BackendInternal::update_scanout` under the lock.
@@ -97,7 +112,7 @@ impl<L: Link> GpuBackend<L> {
     ) -> HandlerResult<()>
         ensures { Turn (AsksCall L.event (λ _. tt) (UpdateScanout update.now pixels.now)) result }
     {
-        self.inner.lock(rt).update_scanout(update, pixels)
+        self.inner.channel.lock(rt).update_scanout(update, pixels)
     }
 
     /// `BackendInternal::set_dmabuf_scanout` under the lock.
@@ -109,7 +124,10 @@ impl<L: Link> GpuBackend<L> {
     ) -> HandlerResult<()>
         ensures { Turn (AsksCall L.event (λ _. tt) (SetDmabufScanout scanout.now (option_map (λ h. h.now) handle.entry))) result }
     {
-        self.inner.lock(rt).set_dmabuf_scanout(scanout, handle)
+        self.inner
+            .channel
+            .lock(rt)
+            .set_dmabuf_scanout(scanout, handle)
     }
 
     /// `BackendInternal::set_dmabuf_scanout2` under the lock.
@@ -121,7 +139,10 @@ impl<L: Link> GpuBackend<L> {
     ) -> HandlerResult<()>
         ensures { Turn (AsksCall L.event (λ _. tt) (SetDmabufScanout2 scanout.now (option_map (λ h. h.now) handle.entry))) result }
     {
-        self.inner.lock(rt).set_dmabuf_scanout2(scanout, handle)
+        self.inner
+            .channel
+            .lock(rt)
+            .set_dmabuf_scanout2(scanout, handle)
     }
 
     /// `BackendInternal::update_dmabuf_scanout` under the lock.
@@ -132,14 +153,14 @@ impl<L: Link> GpuBackend<L> {
     ) -> HandlerResult<()>
         ensures { Turn (AsksCall L.event (λ _. tt) (UpdateDmabufScanout update.now)) result }
     {
-        self.inner.lock(rt).update_dmabuf_scanout(update)
+        self.inner.channel.lock(rt).update_dmabuf_scanout(update)
     }
 
     /// `BackendInternal::cursor_pos` under the lock.
     pub fn cursor_pos(&self, rt: &impl Wait, cursor: &VhostUserGpuCursorPos) -> HandlerResult<()>
         ensures { Turn (AsksCall L.event (λ _. tt) (MoveCursor cursor.now)) result }
     {
-        self.inner.lock(rt).cursor_pos(cursor)
+        self.inner.channel.lock(rt).cursor_pos(cursor)
     }
 
     /// `BackendInternal::cursor_pos_hide` under the lock.
@@ -150,7 +171,7 @@ impl<L: Link> GpuBackend<L> {
     ) -> HandlerResult<()>
         ensures { Turn (AsksCall L.event (λ _. tt) (HideCursor cursor.now)) result }
     {
-        self.inner.lock(rt).cursor_pos_hide(cursor)
+        self.inner.channel.lock(rt).cursor_pos_hide(cursor)
     }
 
     /// `BackendInternal::cursor_update` under the lock.
@@ -162,12 +183,12 @@ impl<L: Link> GpuBackend<L> {
     ) -> HandlerResult<()>
         ensures { Turn (AsksCall L.event (λ _. tt) (UpdateCursor update.now image.now)) result }
     {
-        self.inner.lock(rt).cursor_update(update, image)
+        self.inner.channel.lock(rt).cursor_update(update, image)
     }
 
     /// Marks the channel as failed with the number of a system's error, also with 0: from now on each call answers it.
     pub fn set_failed(&self, rt: &impl Wait, error: i32) {
-        self.inner.lock(rt).set_failed(error);
+        self.inner.channel.lock(rt).set_failed(error);
     }
 }
 

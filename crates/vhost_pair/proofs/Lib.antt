@@ -9,6 +9,7 @@ pub mod Carrying
 pub mod Moving
 pub mod Exchange
 pub mod Sound
+pub mod Limited
 pub mod Handing
 pub mod Exchanging
 pub mod HeaderFlags

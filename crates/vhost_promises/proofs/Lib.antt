@@ -25,3 +25,4 @@ pub mod ByScript
 pub mod Whatever
 pub mod KnownAnswer
 pub mod StandardAsking
+pub mod OwnChannel

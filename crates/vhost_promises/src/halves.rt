@@ -2,7 +2,7 @@
 
 ghost use Rattle.std.specs.Prelude.{◌≡◌, None, false, is_some};
 ghost use Rattle.vhost_backend_req_handler.specs.Core.{endpoint_of, session_in};
-ghost use Rattle.vhost_backend_req_handler.specs.Opening.{OpensAs};
+ghost use Rattle.vhost_backend_req_handler.specs.Opening.{OpensAsBackend, OpensAsGpu};
 ghost use Rattle.vhost_backend_req_handler.specs.Serving.{HandlesOne};
 ghost use Rattle.vhost_frontend_req_handler.specs.Core.{endpoint_of as channel_of, server_in};
 ghost use Rattle.vhost_frontend_req_handler.specs.Handling.{HandlesOne as AnswersOne};
@@ -22,7 +22,7 @@ pub fn serves_by_halves<L: Link, D: VhostUserBackendReqHandlerMut<Link = L>>(
 ) -> Result<()>
     requires { is_some core.old.pending ≡ false }
     ensures { (session_in core.old).failed ≡ None
-        → HandlesOne L.event D.gives (λ h o. OpensAs L.opens L.Handle.kinds h o) (λ h o. OpensAs L.opens L.Handle.kinds h o) (endpoint_of core.old) (session_in core.old) device.old result (endpoint_of core.new) (session_in core.new) device.new }
+        → HandlesOne L.event D.gives (λ h o. OpensAsBackend L.opens L.Handle.kinds (endpoint_of core.old).budget h o) (λ h o. OpensAsGpu L.opens L.Handle.kinds (endpoint_of core.old).budget h o) (endpoint_of core.old) (session_in core.old) device.old result (endpoint_of core.new) (session_in core.new) device.new }
 {
     halves_law::<L, D>();
     match core.begin() {

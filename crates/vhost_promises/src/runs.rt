@@ -4,7 +4,7 @@ ghost use Rattle.std.specs.Prelude.{◌≡◌, None, Some, false, IfOk};
 ghost use Rattle.vhost_message.specs.declared.cause.IoCause.{IoCause};
 ghost use Rattle.std.specs.List.{list_any};
 ghost use Rattle.vhost_backend_req_handler.specs.Core.{endpoint_of, session_in};
-ghost use Rattle.vhost_backend_req_handler.specs.Opening.{OpensAs};
+ghost use Rattle.vhost_backend_req_handler.specs.Opening.{OpensAsBackend, OpensAsGpu};
 ghost use Rattle.vhost_frontend_req_handler.specs.Core.{endpoint_of as endpoint_back, server_in};
 ghost use Rattle.vhost_promises.specs.Runs.{Unserved, WholeBack, WholeServed, answer_of_link};
 
@@ -24,7 +24,7 @@ pub fn serves_whole<L: Link, D: VhostUserBackendReqHandlerMut<Link = L>>(
     count: usize,
 ) -> Result<Vec<Result<()>>>
     ensures { IfOk result (λ answers. list_any answer_of_link answers.items ≡ false →
-        WholeServed L.event D.gives (λ h o. OpensAs L.opens L.Handle.kinds h o) (λ h o. OpensAs L.opens L.Handle.kinds h o) (endpoint_of core.old) (session_in core.old) device.old count answers.items (endpoint_of core.new) (session_in core.new) device.new) }
+        WholeServed L.event D.gives (λ h o. OpensAsBackend L.opens L.Handle.kinds (endpoint_of core.old).budget h o) (λ h o. OpensAsGpu L.opens L.Handle.kinds (endpoint_of core.old).budget h o) (endpoint_of core.old) (session_in core.old) device.old count answers.items (endpoint_of core.new) (session_in core.new) device.new) }
 {
     let mut answers = Vec::new(alloc);
     core.run(count, device, &mut answers)?;

@@ -1,5 +1,5 @@
 -- By the contracts of the halves, and their law.
-use Rattle.std.proofs.Common.{Some, sym, subst}
+use Rattle.std.proofs.Common.{ℕ, Some, sym, subst}
 use Rattle.vhost_message.specs.declared.frontend_req.FrontendReq.{FrontendReq}
 use Rattle.vhost_protocol.specs.Row.{row_of}
 use Rattle.vhost_protocol.specs.Session.{Session}
@@ -13,7 +13,7 @@ use Rattle.vhost_backend_core.specs.declared.answer.Then.{Then}
 use Rattle.vhost_backend_req_handler.specs.Calling.{Called}
 use Rattle.vhost_backend_req_handler.specs.Core.{endpoint_of, session_in}
 use Rattle.vhost_backend_req_handler.specs.Halves.{beside_then}
-use Rattle.vhost_backend_req_handler.specs.Opening.{OpensAs}
+use Rattle.vhost_backend_req_handler.specs.Opening.{OpensAsBackend, OpensAsGpu}
 use Rattle.vhost_backend_req_handler.specs.Serving.{Finishes}
 use Rattle.vhost_promises.proofs.halves.serves_by_halves.Goals as goal
 
@@ -28,11 +28,13 @@ returns-in-Some g c alive =
     let done = c.conclude.ensures.concluded q.0 q.1 ready in
     let told = subst (λ (t : Then). Finishes g.L.Link.event q.0.request.code (concluded (session_in last) q.0.request.need_reply (beside_then t last.server) t c.in-Some.answer) (endpoint_of last) (session_in last) c.conclude.result (endpoint_of c.conclude.new.self) (session_in c.conclude.new.self)) q.3 done in
     let finished = subst (λ (r : Request FrontendReq). Finishes g.L.Link.event r.code (concluded (session_in last) r.need_reply (beside_then p.then last.server) p.then c.in-Some.answer) (endpoint_of last) (session_in last) c.conclude.result (endpoint_of c.conclude.new.self) (session_in c.conclude.new.self)) q.2 told in
-    c.halves_law.ensures.served c.args.core.now c.begin.new.self last c.conclude.new.self c.args.device.now c.call_device.new.device c.in-Some.answer c.conclude.result begun
+    c.halves_law.ensures.served (endpoint_of c.args.core.now).budget c.args.core.now c.begin.new.self last c.conclude.new.self c.args.device.now c.call_device.new.device c.in-Some.answer c.conclude.result begun
     c.call_device.ensures.endpoint c.call_device.ensures.session c.call_device.ensures.regions
-    (subst (λ (s : Session). Called g.D.VhostUserBackendReqHandlerMut.gives (λ h o. OpensAs g.L.Link.opens g.L.Handle.Handle.kinds h o) (λ h o. OpensAs g.L.Link.opens g.L.Handle.Handle.kinds h o) c.args.device.now (beside_then p.then last.server)
+    (subst (λ (s : Session). Called g.D.VhostUserBackendReqHandlerMut.gives (λ h o. OpensAsBackend g.L.Link.opens g.L.Handle.Handle.kinds (endpoint_of c.args.core.now).budget h o) (λ h o. OpensAsGpu g.L.Link.opens g.L.Handle.Handle.kinds (endpoint_of c.args.core.now).budget h o) c.args.device.now (beside_then p.then last.server)
     (row_of {B = Backend g.row.L.Denot g.row.L-Handle.Denot} {G = GpuBackend g.row.L.Denot g.row.L-Handle.Denot} begun.reads.message.request s begun.reads.message) (Some c.in-Some.answer) c.call_device.new.device) begun.session
-    (c.in-Some.ensures.called p begun.reads.message (regions_for p.then last.server.regions) begun.is begun.reads.reads begun.reads.hands)) c.conclude.ensures.sized finished
+    (subst (λ (n : ℕ). Called g.D.VhostUserBackendReqHandlerMut.gives (λ h o. OpensAsBackend g.L.Link.opens g.L.Handle.Handle.kinds n h o) (λ h o. OpensAsGpu g.L.Link.opens g.L.Handle.Handle.kinds n h o) c.args.device.now (beside_then p.then last.server)
+    (row_of {B = Backend g.row.L.Denot g.row.L-Handle.Denot} {G = GpuBackend g.row.L.Denot g.row.L-Handle.Denot} begun.reads.message.request (session_in c.begin.new.self) begun.reads.message) (Some c.in-Some.answer) c.call_device.new.device) begun.reads.hears.serves.talks.budget
+    (c.in-Some.ensures.called p begun.reads.message (regions_for p.then last.server.regions) begun.is begun.reads.reads begun.reads.hands))) c.conclude.ensures.sized finished
 
 pub returns-in-Err : goal.returns-in-Err
-returns-in-Err g c alive = c.halves_law.ensures.refused c.args.core.now c.begin.new.self c.args.device.now c.in-Err.error alive (c.in-Err.ensures.refused alive)
+returns-in-Err g c alive = c.halves_law.ensures.refused (endpoint_of c.args.core.now).budget c.args.core.now c.begin.new.self c.args.device.now c.in-Err.error alive (c.in-Err.ensures.refused alive)

@@ -10,6 +10,7 @@ use Rattle.vhost_pair.specs.Sides as sides
 use Rattle.vhost_pair.specs.Sides.{parts_of, Reached}
 use Rattle.vhost_pair.specs.Wire.{text_in}
 use Rattle.vhost_pair.proofs.Asked.{End}
+use Rattle.vhost_pair.proofs.Limited.{handles-some}
 use Rattle.vhost_pair.proofs.Handing.{blocked, same-but, shut-same}
 use Rattle.vhost_pair.proofs.Running.{found, refusal}
 use Rattle.vhost_pair.proofs.sides.Sides.hand_over.Goals as goal
@@ -35,7 +36,7 @@ returns-then-is_err-2-clause-handed g c =
           subst (λ (s : Session). HandlesOne event g.D.VhostUserBackendReqHandlerMut.gives opens_backend opens_gpu he1 (session_in c.args.self.now.handler) c.args.self.now.device result (serving c.handle_request-served.new.self) s d2)
           (sym (c.carry_reply.ensures.handler ∙ c.copy_reply.ensures.handler))
           (subst (λ (s : Session). HandlesOne event g.D.VhostUserBackendReqHandlerMut.gives opens_backend opens_gpu he1 s c.args.self.now.device result (serving c.handle_request-served.new.self) (session_in c.handle_request-served.new.self) d2) c.carry_request.ensures.handler
-          (c.handle_request-served.ensures.handled (ap {A = Session} (λ s. s.failed) c.carry_request.ensures.handler ∙ none)));
+          (handles-some g.D.VhostUserBackendReqHandlerMut.gives _ _ _ _ _ _ _ _ (ap {A = Session} (λ s. s.failed) c.carry_request.ensures.handler ∙ none) (c.handle_request-served.ensures.handled (ap {A = Session} (λ s. s.failed) c.carry_request.ensures.handler ∙ none))));
       copied = c.copy_reply.ensures.text;
     } in
     sides.no_room_back result
@@ -60,7 +61,7 @@ returns-clause-handed g c =
             subst (λ (s : Session). HandlesOne event g.D.VhostUserBackendReqHandlerMut.gives opens_backend opens_gpu he1 (session_in c.args.self.now.handler) c.args.self.now.device result he2 s d2)
             (sym (c.carry_reply.ensures.handler ∙ c.copy_reply.ensures.handler))
             (subst (λ (s : Session). HandlesOne event g.D.VhostUserBackendReqHandlerMut.gives opens_backend opens_gpu he1 s c.args.self.now.device result he2 (session_in c.handle_request-served.new.self) d2) c.carry_request.ensures.handler
-            (c.handle_request-served.ensures.handled (ap {A = Session} (λ s. s.failed) c.carry_request.ensures.handler ∙ none)));
+            (handles-some g.D.VhostUserBackendReqHandlerMut.gives _ _ _ _ _ _ _ _ (ap {A = Session} (λ s. s.failed) c.carry_request.ensures.handler ∙ none) (c.handle_request-served.ensures.handled (ap {A = Session} (λ s. s.failed) c.carry_request.ensures.handler ∙ none))));
         copied = c.copy_reply.ensures.text;
       };
       back = subst (λ (e : End). Carries e (asking c.carry_request.new.frontend) (serving c.carry_reply.new.handler) (asking c.carry_reply.new.frontend)) c.copy_reply.ensures.same
