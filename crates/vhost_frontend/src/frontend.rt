@@ -9,7 +9,7 @@ ghost use Rattle.vhost_frontend_core.specs.Regions.{bases_seen, info_in, infos_i
 ghost use Rattle.vhost_frontend.specs.Turn.{Turn, within as answer_within};
 ghost use Rattle.vhost_frontend.specs.Whole.{Whole, WholeWithRoom};
 
-use crate::quiet::Quiet;
+use crate::held::Held;
 use crate::traits::VhostUserFrontend;
 use std::alloc::{AllocError, Global};
 use std::sync::{Arc, Mutex, Wait};
@@ -29,7 +29,7 @@ use vhost_message::{
 /// Mirrors `vhost::vhost_user::Frontend`.
 #[derive(Drop)]
 pub struct Frontend<L: Link> {
-    inner: Arc<Mutex<Quiet<L>>, Global>,
+    inner: Arc<Mutex<Held<L>>, Global>,
 }
 
 impl<L: Link> Clone for Frontend<L> {
@@ -57,7 +57,7 @@ impl<L: Link> Frontend<L> {
     ) -> vhost_message::Result<Self>
         ensures memory { IfErr result (λ e. e ≡ OutOfMemory) }
     {
-        let session = Quiet::new(alloc, link, max_queue_num, budget)?;
+        let session = Held::new(alloc, link, max_queue_num, budget)?;
         match Arc::new(alloc, Mutex::new(session)) {
             Ok(inner) => Ok(Frontend { inner }),
             Err(_) => Err(Error::OutOfMemory),
@@ -66,41 +66,42 @@ impl<L: Link> Frontend<L> {
 
     /// The flags of each request from now on: of these, REPLY and NEED_REPLY are sent.
     pub fn set_hdr_flags(&self, rt: &impl Wait, flags: VhostUserHeaderFlag) {
-        self.inner.lock(rt).set_hdr_flags(flags);
+        self.inner.lock(rt).quiet.set_hdr_flags(flags);
     }
 
     /// Whose behaviour it has from now on: that of the crate `vhost`, as a new session, or that of the specification and of
     /// real backends.
     pub fn set_profile(&self, rt: &impl Wait, profile: Profile) {
-        self.inner.lock(rt).set_profile(profile);
+        self.inner.lock(rt).quiet.set_profile(profile);
     }
 }
 
+#[tactic(auto, using(crate::proofs::Turns::turned, crate::proofs::Turns::turned_with_room))]
 impl<L: Link> VhostBackend for Frontend<L> {
     type Handle = L::Handle;
 
     fn get_features(&self, rt: &impl Wait) -> Result<u64>
-        ensures { Turn (Whole L.event call.GetFeatures call.Number) result }
+        ensures { Turn L.event (Whole L.event call.GetFeatures call.Number) result }
     {
-        within(self.inner.lock(rt).get_features())
+        within(self.inner.lock(rt).quiet.get_features())
     }
 
     fn set_features(&self, rt: &impl Wait, features: u64) -> Result<()>
-        ensures { Turn (Whole L.event (call.SetFeatures features) (λ _. call.Nothing)) result }
+        ensures { Turn L.event (Whole L.event (call.SetFeatures features) (λ _. call.Nothing)) result }
     {
-        within(self.inner.lock(rt).set_features(features))
+        within(self.inner.lock(rt).quiet.set_features(features))
     }
 
     fn set_owner(&self, rt: &impl Wait) -> Result<()>
-        ensures { Turn (Whole L.event call.SetOwner (λ _. call.Nothing)) result }
+        ensures { Turn L.event (Whole L.event call.SetOwner (λ _. call.Nothing)) result }
     {
-        within(self.inner.lock(rt).set_owner())
+        within(self.inner.lock(rt).quiet.set_owner())
     }
 
     fn reset_owner(&self, rt: &impl Wait) -> Result<()>
-        ensures { Turn (Whole L.event call.ResetOwner (λ _. call.Nothing)) result }
+        ensures { Turn L.event (Whole L.event call.ResetOwner (λ _. call.Nothing)) result }
     {
-        within(self.inner.lock(rt).reset_owner())
+        within(self.inner.lock(rt).quiet.reset_owner())
     }
 
     fn set_mem_table(
@@ -108,9 +109,9 @@ impl<L: Link> VhostBackend for Frontend<L> {
         rt: &impl Wait,
         regions: &[VhostUserMemoryRegionInfo<'_, L::Handle>],
     ) -> Result<Option<Vec<VhostUserMemoryRegionBase>>>
-        ensures { Turn (WholeWithRoom L.event (call.SetMemTable (infos_in regions.now)) (λ bases. call.Bases (bases_seen bases))) result }
+        ensures { Turn L.event (WholeWithRoom L.event (call.SetMemTable (infos_in regions.now)) (λ bases. call.Bases (bases_seen bases))) result }
     {
-        within(self.inner.lock(rt).set_mem_table(regions))
+        within(self.inner.lock(rt).quiet.set_mem_table(regions))
     }
 
     fn set_log_base(
@@ -119,21 +120,21 @@ impl<L: Link> VhostBackend for Frontend<L> {
         base: u64,
         region: Option<VhostUserDirtyLogRegion<'_, L::Handle>>,
     ) -> Result<()>
-        ensures { Turn (Whole L.event (call.SetLogBase base (log_region_in region.entry)) (λ _. call.Nothing)) result }
+        ensures { Turn L.event (Whole L.event (call.SetLogBase base (log_region_in region.entry)) (λ _. call.Nothing)) result }
     {
-        within(self.inner.lock(rt).set_log_base(base, region))
+        within(self.inner.lock(rt).quiet.set_log_base(base, region))
     }
 
     fn set_log_fd(&self, rt: &impl Wait, fd: &L::Handle) -> Result<()>
-        ensures { Turn (Whole L.event (call.SetLogFd fd.now) (λ _. call.Nothing)) result }
+        ensures { Turn L.event (Whole L.event (call.SetLogFd fd.now) (λ _. call.Nothing)) result }
     {
-        within(self.inner.lock(rt).set_log_fd(fd))
+        within(self.inner.lock(rt).quiet.set_log_fd(fd))
     }
 
     fn set_vring_num(&self, rt: &impl Wait, queue_index: usize, num: u16) -> Result<()>
-        ensures { Turn (Whole L.event (call.SetVringNum queue_index num) (λ _. call.Nothing)) result }
+        ensures { Turn L.event (Whole L.event (call.SetVringNum queue_index num) (λ _. call.Nothing)) result }
     {
-        within(self.inner.lock(rt).set_vring_num(queue_index, num))
+        within(self.inner.lock(rt).quiet.set_vring_num(queue_index, num))
     }
 
     fn set_vring_addr(
@@ -142,47 +143,53 @@ impl<L: Link> VhostBackend for Frontend<L> {
         queue_index: usize,
         config_data: &VringConfigData,
     ) -> Result<()>
-        ensures { Turn (Whole L.event (call.SetVringAddr queue_index config_data.now) (λ _. call.Nothing)) result }
+        ensures { Turn L.event (Whole L.event (call.SetVringAddr queue_index config_data.now) (λ _. call.Nothing)) result }
     {
-        within(self.inner.lock(rt).set_vring_addr(queue_index, config_data))
+        within(
+            self.inner
+                .lock(rt)
+                .quiet
+                .set_vring_addr(queue_index, config_data),
+        )
     }
 
     fn set_vring_base(&self, rt: &impl Wait, queue_index: usize, base: u16) -> Result<()>
-        ensures { Turn (Whole L.event (call.SetVringBase queue_index base) (λ _. call.Nothing)) result }
+        ensures { Turn L.event (Whole L.event (call.SetVringBase queue_index base) (λ _. call.Nothing)) result }
     {
-        within(self.inner.lock(rt).set_vring_base(queue_index, base))
+        within(self.inner.lock(rt).quiet.set_vring_base(queue_index, base))
     }
 
     fn get_vring_base(&self, rt: &impl Wait, queue_index: usize) -> Result<u32>
-        ensures { Turn (Whole L.event (call.GetVringBase queue_index) call.Number) result }
+        ensures { Turn L.event (Whole L.event (call.GetVringBase queue_index) call.Number) result }
     {
-        within(self.inner.lock(rt).get_vring_base(queue_index))
+        within(self.inner.lock(rt).quiet.get_vring_base(queue_index))
     }
 
     fn set_vring_call(&self, rt: &impl Wait, queue_index: usize, fd: &L::Handle) -> Result<()>
-        ensures { Turn (Whole L.event (call.SetVringCall queue_index (Some fd.now)) (λ _. call.Nothing)) result }
+        ensures { Turn L.event (Whole L.event (call.SetVringCall queue_index (Some fd.now)) (λ _. call.Nothing)) result }
     {
-        within(self.inner.lock(rt).set_vring_call(queue_index, fd))
+        within(self.inner.lock(rt).quiet.set_vring_call(queue_index, fd))
     }
 
     fn set_vring_kick(&self, rt: &impl Wait, queue_index: usize, fd: &L::Handle) -> Result<()>
-        ensures { Turn (Whole L.event (call.SetVringKick queue_index (Some fd.now)) (λ _. call.Nothing)) result }
+        ensures { Turn L.event (Whole L.event (call.SetVringKick queue_index (Some fd.now)) (λ _. call.Nothing)) result }
     {
-        within(self.inner.lock(rt).set_vring_kick(queue_index, fd))
+        within(self.inner.lock(rt).quiet.set_vring_kick(queue_index, fd))
     }
 
     fn set_vring_err(&self, rt: &impl Wait, queue_index: usize, fd: &L::Handle) -> Result<()>
-        ensures { Turn (Whole L.event (call.SetVringErr queue_index (Some fd.now)) (λ _. call.Nothing)) result }
+        ensures { Turn L.event (Whole L.event (call.SetVringErr queue_index (Some fd.now)) (λ _. call.Nothing)) result }
     {
-        within(self.inner.lock(rt).set_vring_err(queue_index, fd))
+        within(self.inner.lock(rt).quiet.set_vring_err(queue_index, fd))
     }
 }
 
+#[tactic(auto, using(crate::proofs::Turns::turned, crate::proofs::Turns::turned_with_room))]
 impl<L: Link> VhostUserFrontend for Frontend<L> {
     fn get_protocol_features(&mut self, rt: &impl Wait) -> Result<VhostUserProtocolFeatures>
-        ensures { Turn (Whole L.event call.GetProtocolFeatures (λ features. call.Number features.bits)) result }
+        ensures { Turn L.event (Whole L.event call.GetProtocolFeatures (λ features. call.Number features.bits)) result }
     {
-        within(self.inner.lock(rt).get_protocol_features())
+        within(self.inner.lock(rt).quiet.get_protocol_features())
     }
 
     fn set_protocol_features(
@@ -190,27 +197,32 @@ impl<L: Link> VhostUserFrontend for Frontend<L> {
         rt: &impl Wait,
         features: VhostUserProtocolFeatures,
     ) -> Result<()>
-        ensures { Turn (Whole L.event (call.SetProtocolFeatures features.bits) (λ _. call.Nothing)) result }
+        ensures { Turn L.event (Whole L.event (call.SetProtocolFeatures features.bits) (λ _. call.Nothing)) result }
     {
-        within(self.inner.lock(rt).set_protocol_features(features))
+        within(self.inner.lock(rt).quiet.set_protocol_features(features))
     }
 
     fn get_queue_num(&mut self, rt: &impl Wait) -> Result<u64>
-        ensures { Turn (Whole L.event call.GetQueueNum call.Number) result }
+        ensures { Turn L.event (Whole L.event call.GetQueueNum call.Number) result }
     {
-        within(self.inner.lock(rt).get_queue_num())
+        within(self.inner.lock(rt).quiet.get_queue_num())
     }
 
     fn reset_device(&mut self, rt: &impl Wait) -> Result<()>
-        ensures { Turn (Whole L.event call.ResetDevice (λ _. call.Nothing)) result }
+        ensures { Turn L.event (Whole L.event call.ResetDevice (λ _. call.Nothing)) result }
     {
-        within(self.inner.lock(rt).reset_device())
+        within(self.inner.lock(rt).quiet.reset_device())
     }
 
     fn set_vring_enable(&mut self, rt: &impl Wait, queue_index: usize, enable: bool) -> Result<()>
-        ensures { Turn (Whole L.event (call.SetVringEnable queue_index enable) (λ _. call.Nothing)) result }
+        ensures { Turn L.event (Whole L.event (call.SetVringEnable queue_index enable) (λ _. call.Nothing)) result }
     {
-        within(self.inner.lock(rt).set_vring_enable(queue_index, enable))
+        within(
+            self.inner
+                .lock(rt)
+                .quiet
+                .set_vring_enable(queue_index, enable),
+        )
     }
 
     fn get_config(
@@ -221,9 +233,14 @@ impl<L: Link> VhostUserFrontend for Frontend<L> {
         flags: VhostUserConfigFlags,
         buf: &[u8],
     ) -> Result<(VhostUserConfig, Vec<u8>)>
-        ensures { Turn (WholeWithRoom L.event (call.GetConfig offset size (config_bits flags) buf.now) (λ part. call.ConfigOf part.0 part.1.items)) result }
+        ensures { Turn L.event (WholeWithRoom L.event (call.GetConfig offset size (config_bits flags) buf.now) (λ part. call.ConfigOf part.0 part.1.items)) result }
     {
-        within(self.inner.lock(rt).get_config(offset, size, flags, buf))
+        within(
+            self.inner
+                .lock(rt)
+                .quiet
+                .get_config(offset, size, flags, buf),
+        )
     }
 
     fn set_config(
@@ -233,15 +250,15 @@ impl<L: Link> VhostUserFrontend for Frontend<L> {
         flags: VhostUserConfigFlags,
         buf: &[u8],
     ) -> Result<()>
-        ensures { Turn (Whole L.event (call.SetConfig offset (config_bits flags) buf.now) (λ _. call.Nothing)) result }
+        ensures { Turn L.event (Whole L.event (call.SetConfig offset (config_bits flags) buf.now) (λ _. call.Nothing)) result }
     {
-        within(self.inner.lock(rt).set_config(offset, flags, buf))
+        within(self.inner.lock(rt).quiet.set_config(offset, flags, buf))
     }
 
     fn set_backend_request_fd(&mut self, rt: &impl Wait, fd: &L::Handle) -> Result<()>
-        ensures { Turn (Whole L.event (call.SetBackendRequestFd fd.now) (λ _. call.Nothing)) result }
+        ensures { Turn L.event (Whole L.event (call.SetBackendRequestFd fd.now) (λ _. call.Nothing)) result }
     {
-        within(self.inner.lock(rt).set_backend_request_fd(fd))
+        within(self.inner.lock(rt).quiet.set_backend_request_fd(fd))
     }
 
     fn get_shared_object(
@@ -249,9 +266,9 @@ impl<L: Link> VhostUserFrontend for Frontend<L> {
         rt: &impl Wait,
         shared_msg: &VhostUserSharedMsg,
     ) -> Result<L::Handle>
-        ensures { Turn (Whole L.event (call.GetSharedObject shared_msg.now) call.HandleOf) result }
+        ensures { Turn L.event (Whole L.event (call.GetSharedObject shared_msg.now) call.HandleOf) result }
     {
-        within(self.inner.lock(rt).get_shared_object(shared_msg))
+        within(self.inner.lock(rt).quiet.get_shared_object(shared_msg))
     }
 
     fn get_inflight_fd(
@@ -259,9 +276,9 @@ impl<L: Link> VhostUserFrontend for Frontend<L> {
         rt: &impl Wait,
         inflight: &VhostUserInflight,
     ) -> Result<(VhostUserInflight, L::Handle)>
-        ensures { Turn (Whole L.event (call.GetInflightFd inflight.now) (λ buffer. call.InflightOf buffer.0 buffer.1)) result }
+        ensures { Turn L.event (Whole L.event (call.GetInflightFd inflight.now) (λ buffer. call.InflightOf buffer.0 buffer.1)) result }
     {
-        within(self.inner.lock(rt).get_inflight_fd(inflight))
+        within(self.inner.lock(rt).quiet.get_inflight_fd(inflight))
     }
 
     fn set_inflight_fd(
@@ -270,15 +287,15 @@ impl<L: Link> VhostUserFrontend for Frontend<L> {
         inflight: &VhostUserInflight,
         fd: &L::Handle,
     ) -> Result<()>
-        ensures { Turn (Whole L.event (call.SetInflightFd inflight.now fd.now) (λ _. call.Nothing)) result }
+        ensures { Turn L.event (Whole L.event (call.SetInflightFd inflight.now fd.now) (λ _. call.Nothing)) result }
     {
-        within(self.inner.lock(rt).set_inflight_fd(inflight, fd))
+        within(self.inner.lock(rt).quiet.set_inflight_fd(inflight, fd))
     }
 
     fn get_max_mem_slots(&mut self, rt: &impl Wait) -> Result<u64>
-        ensures { Turn (Whole L.event call.GetMaxMemSlots call.Number) result }
+        ensures { Turn L.event (Whole L.event call.GetMaxMemSlots call.Number) result }
     {
-        within(self.inner.lock(rt).get_max_mem_slots())
+        within(self.inner.lock(rt).quiet.get_max_mem_slots())
     }
 
     fn add_mem_region(
@@ -286,9 +303,9 @@ impl<L: Link> VhostUserFrontend for Frontend<L> {
         rt: &impl Wait,
         region: &VhostUserMemoryRegionInfo<'_, L::Handle>,
     ) -> Result<Option<u64>>
-        ensures { Turn (Whole L.event (call.AddMemRegion (info_in region.now)) call.Base) result }
+        ensures { Turn L.event (Whole L.event (call.AddMemRegion (info_in region.now)) call.Base) result }
     {
-        within(self.inner.lock(rt).add_mem_region(region))
+        within(self.inner.lock(rt).quiet.add_mem_region(region))
     }
 
     fn remove_mem_region(
@@ -296,15 +313,15 @@ impl<L: Link> VhostUserFrontend for Frontend<L> {
         rt: &impl Wait,
         region: &VhostUserMemoryRegionInfo<'_, L::Handle>,
     ) -> Result<()>
-        ensures { Turn (Whole L.event (call.RemoveMemRegion (info_in region.now)) (λ _. call.Nothing)) result }
+        ensures { Turn L.event (Whole L.event (call.RemoveMemRegion (info_in region.now)) (λ _. call.Nothing)) result }
     {
-        within(self.inner.lock(rt).remove_mem_region(region))
+        within(self.inner.lock(rt).quiet.remove_mem_region(region))
     }
 
     fn get_shmem_config(&mut self, rt: &impl Wait) -> Result<VhostUserShMemConfig>
-        ensures { Turn (Whole L.event call.GetShmemConfig call.ShmemOf) result }
+        ensures { Turn L.event (Whole L.event call.GetShmemConfig call.ShmemOf) result }
     {
-        within(self.inner.lock(rt).get_shmem_config())
+        within(self.inner.lock(rt).quiet.get_shmem_config())
     }
 
     fn set_device_state_fd(
@@ -314,49 +331,50 @@ impl<L: Link> VhostUserFrontend for Frontend<L> {
         phase: VhostTransferStatePhase,
         fd: L::Handle,
     ) -> Result<Option<L::Handle>>
-        ensures { Turn (Whole L.event (call.SetDeviceStateFd (record { direction = direction_number direction; phase = phase_number phase }) fd) call.StateHandle) result }
+        ensures { Turn L.event (Whole L.event (call.SetDeviceStateFd (record { direction = direction_number direction; phase = phase_number phase }) fd) call.StateHandle) result }
     {
         within(
             self.inner
                 .lock(rt)
+                .quiet
                 .set_device_state_fd(direction, phase, &fd),
         )
     }
 
     fn check_device_state(&self, rt: &impl Wait) -> Result<()>
-        ensures { Turn (Whole L.event call.CheckDeviceState (λ _. call.Nothing)) result }
+        ensures { Turn L.event (Whole L.event call.CheckDeviceState (λ _. call.Nothing)) result }
     {
-        within(self.inner.lock(rt).check_device_state())
+        within(self.inner.lock(rt).quiet.check_device_state())
     }
 
     fn postcopy_advise(&mut self, rt: &impl Wait) -> Result<L::Handle>
-        ensures { Turn (Whole L.event call.PostcopyAdvise call.HandleOf) result }
+        ensures { Turn L.event (Whole L.event call.PostcopyAdvise call.HandleOf) result }
     {
-        within(self.inner.lock(rt).postcopy_advise())
+        within(self.inner.lock(rt).quiet.postcopy_advise())
     }
 
     fn postcopy_listen(&mut self, rt: &impl Wait) -> Result<()>
-        ensures { Turn (Whole L.event call.PostcopyListen (λ _. call.Nothing)) result }
+        ensures { Turn L.event (Whole L.event call.PostcopyListen (λ _. call.Nothing)) result }
     {
-        within(self.inner.lock(rt).postcopy_listen())
+        within(self.inner.lock(rt).quiet.postcopy_listen())
     }
 
     fn postcopy_end(&mut self, rt: &impl Wait) -> Result<()>
-        ensures { Turn (Whole L.event call.PostcopyEnd (λ _. call.Nothing)) result }
+        ensures { Turn L.event (Whole L.event call.PostcopyEnd (λ _. call.Nothing)) result }
     {
-        within(self.inner.lock(rt).postcopy_end())
+        within(self.inner.lock(rt).quiet.postcopy_end())
     }
 
     fn postcopy_ack_mem_regions(&mut self, rt: &impl Wait, code: FrontendReq) -> Result<()>
-        ensures { Turn (Whole L.event (call.PostcopyAckMemRegions code) (λ _. call.Nothing)) result }
+        ensures { Turn L.event (Whole L.event (call.PostcopyAckMemRegions code) (λ _. call.Nothing)) result }
     {
-        within(self.inner.lock(rt).postcopy_ack_mem_regions(code))
+        within(self.inner.lock(rt).quiet.postcopy_ack_mem_regions(code))
     }
 
     fn set_mtu(&mut self, rt: &impl Wait, mtu: u16) -> Result<()>
-        ensures { Turn (Whole L.event (call.SetMtu mtu) (λ _. call.Nothing)) result }
+        ensures { Turn L.event (Whole L.event (call.SetMtu mtu) (λ _. call.Nothing)) result }
     {
-        within(self.inner.lock(rt).set_mtu(mtu))
+        within(self.inner.lock(rt).quiet.set_mtu(mtu))
     }
 }
 

@@ -3,6 +3,7 @@
 
 mod connect;
 mod frontend;
+mod held;
 mod memory_context;
 mod quiet;
 mod traits;

@@ -26,3 +26,4 @@ pub mod Whatever
 pub mod KnownAnswer
 pub mod StandardAsking
 pub mod OwnChannel
+pub mod Blaming

@@ -12,7 +12,7 @@ use Rattle.vhost_frontend.specs.Whole.Calls.{answered}
 use Rattle.vhost_promises.specs.Shared.{OwnAnswer}
 
 module _ {L H A : Type 0} {event : L → Event H → L → Type 0} {call : FrontendCall H} (value : A → Value H) where
-  pub own-answer : (result : Result A device.Error) → Turn (Whole event call value) result → IfOk result (λ a. OwnAnswer event call (value a))
+  pub own-answer : (result : Result A device.Error) → Turn event (Whole event call value) result → IfOk result (λ a. OwnAnswer event call (value a))
   own-answer (Err e) t = tt
   own-answer (Ok a) t = by t.answer t.went t.answers
     where

@@ -47,7 +47,7 @@ pub use records::{
 pub use runs::{serves_no_broken, serves_no_broken_back, serves_whole, serves_whole_back};
 pub use scripts::{passes_its_script, stops_by_its_script};
 pub use served::{serves_three, serves_three_new};
-pub use shared::own_features;
+pub use shared::{finds_sound, own_features};
 pub use standard::{goes_on_unserved, goes_on_unserved_new};
 pub use standard_asking::goes_on_without_config;
 pub use streams::{finds_none, finds_none_back};
