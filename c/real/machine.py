@@ -92,7 +92,7 @@ def make_image(boot):
     sector[446:462] = struct.pack("<8BII", 0x80, 0xFE, 0xFF, 0xFF, 0x83, 0xFE, 0xFF, 0xFF, SYSTEM_AT, SYSTEM_SIZE // SECTOR)
     with open("image", "wb") as it:
         it.write(sector)
-        it.write(told + b"console=ttyS0 quiet panic=-1 mitigations=off init_on_alloc=0\0")
+        it.write(told + b"console=ttyS0 quiet panic=-1 mitigations=off init_on_alloc=0 no_timer_check\0")
         it.seek(KERNEL_AT * SECTOR)
         it.write(kernel)
         it.seek(first_at * SECTOR)
