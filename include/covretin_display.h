@@ -40,8 +40,8 @@
 extern "C" {
 #endif
 
-/* Features of the channel, as bits, which the specification numbers so: a display that has the first is asked for an EDID, and one that has the second is shown
- * a buffer by covretin_display_ask_set_dmabuf_scanout2. */
+/* Features of the channel, as bits, which the specification numbers so: a display that has the first is asked for an EDID,
+ * and one that has the second is shown a buffer by covretin_display_ask_set_dmabuf_scanout2. */
 #define COVRETIN_DISPLAY_FEATURE_EDID ((uint64_t)1 << 0)
 #define COVRETIN_DISPLAY_FEATURE_DMABUF2 ((uint64_t)1 << 1)
 
