@@ -263,9 +263,26 @@ enum covretin_error covretin_answer_shmem(covretin_session *session, uint64_t *s
 
 /* -- Asks -----------------------------------------------------------------------------------------------------------
  * Each makes its request, which covretin_to_send then hands out. After an error nothing more is to be sent than before.
- * All may return NO_SESSION, NOT_TAKEN, OUT_OF_MEMORY, SOCKET_RETRY, SOCKET_BROKEN, and INVALID_PARAM for an argument. What
- * else comes is said here. A request with no reply of its own is acknowledged where REPLY_ACK was accepted and
- * COVRETIN_NEED_REPLY is set; else nothing is awaited, and a refusal by the backend is not seen. */
+ * All may return NO_SESSION, NOT_TAKEN, OUT_OF_MEMORY, SOCKET_RETRY, SOCKET_BROKEN, and INVALID_PARAM for an argument. A
+ * request with no reply of its own is acknowledged where REPLY_ACK was accepted and COVRETIN_NEED_REPLY is set; else nothing is
+ * awaited, and a refusal by the backend is not seen.
+ *
+ * INACTIVE_FEATURE, PROTOCOL_FEATURES was not offered by the backend (it need not be accepted): get_protocol_features,
+ *   set_protocol_features.
+ * INACTIVE_FEATURE, PROTOCOL_FEATURES was not accepted; then a ring is enabled from its start: set_vring_enable.
+ * INACTIVE_OPERATION, this protocol feature was not accepted:
+ *   MQ: get_queue_num.
+ *   MTU: set_mtu.
+ *   BACKEND_REQ: set_backend_request_fd.
+ *   PAGEFAULT: postcopy_advise, postcopy_listen, postcopy_end.
+ *   CONFIG: get_config, get_config_bytes, set_config.
+ *   INFLIGHT_SHMFD: get_inflight_fd, set_inflight_fd.
+ *   RESET_DEVICE: reset_device.
+ *   CONFIGURE_MEM_SLOTS: get_max_mem_slots, add_mem_region, remove_mem_region.
+ *   SHARED_OBJECT: get_shared_object.
+ *   DEVICE_STATE: set_device_state_fd, check_device_state.
+ *   SHMEM: get_shmem_config.
+ */
 
 /* Whose behaviour the session has from now on, also for the answer that is awaited: COVRETIN_PROFILE_STANDARD, which it begins
  * with, or COVRETIN_PROFILE_VHOST. Nothing is sent for it, and nothing is to be taken. INVALID_PARAM: any other value; the
@@ -287,25 +304,21 @@ enum covretin_error covretin_ask_get_features(covretin_session *session);
 enum covretin_error covretin_ask_set_features(covretin_session *session, uint64_t features);
 enum covretin_error covretin_ask_set_owner(covretin_session *session);
 enum covretin_error covretin_ask_reset_owner(covretin_session *session);
-/* INACTIVE_FEATURE: the backend has not offered PROTOCOL_FEATURES. They need not be accepted before. */
 enum covretin_error covretin_ask_get_protocol_features(covretin_session *session);
 /* Sends all of these bits, and remembers them as accepted: leave out what the backend did not offer, and what is not in
- * COVRETIN_ASKED_PROTOCOL_FEATURES. INACTIVE_FEATURE: as above. */
+ * COVRETIN_ASKED_PROTOCOL_FEATURES. */
 enum covretin_error covretin_ask_set_protocol_features(covretin_session *session, uint64_t features);
-/* From then on a ring's index is below this number. Some virtual switches count pairs of rings here: do not ask those.
- * INACTIVE_OPERATION: MQ was not accepted. */
+/* From then on a ring's index is below this number. Some virtual switches count pairs of rings here: do not ask those. */
 enum covretin_error covretin_ask_get_queue_num(covretin_session *session);
-/* INACTIVE_OPERATION: RESET_DEVICE was not accepted. */
 enum covretin_error covretin_ask_reset_device(covretin_session *session);
 
 /* 1 to 32 regions, each with a size and a descriptor. Some backends take only 8 regions (libvhost-user, as in
  * qemu-storage-daemon), and more by add_mem_region. */
 enum covretin_error covretin_ask_set_mem_table(covretin_session *session, const covretin_region *regions, size_t count);
-/* INACTIVE_OPERATION: CONFIGURE_MEM_SLOTS was not accepted. */
 enum covretin_error covretin_ask_get_max_mem_slots(covretin_session *session);
-/* A region with a size and a descriptor. INACTIVE_OPERATION: likewise. */
+/* A region with a size and a descriptor. */
 enum covretin_error covretin_ask_add_mem_region(covretin_session *session, const covretin_region *region);
-/* A region with a size; its descriptor is not sent. INACTIVE_OPERATION: likewise. */
+/* A region with a size; its descriptor is not sent. */
 enum covretin_error covretin_ask_remove_mem_region(covretin_session *session, const covretin_region *region);
 
 /* Where the dirty log is kept: the memory_size, mmap_offset and fd of a region. Without LOG_SHMFD the base alone is sent, and it
@@ -329,37 +342,32 @@ enum covretin_error covretin_ask_get_vring_base(covretin_session *session, size_
 enum covretin_error covretin_ask_set_vring_call(covretin_session *session, size_t index, int32_t fd);
 enum covretin_error covretin_ask_set_vring_kick(covretin_session *session, size_t index, int32_t fd);
 enum covretin_error covretin_ask_set_vring_err(covretin_session *session, size_t index, int32_t fd);
-/* INACTIVE_FEATURE: PROTOCOL_FEATURES was not accepted; then a ring is enabled from its start. */
 enum covretin_error covretin_ask_set_vring_enable(covretin_session *session, size_t index, bool enable);
 
 /* size is 1 to COVRETIN_MAX_CONFIG, and offset and size together are 4096 at most; flags are those of covretin_config. The
  * request brings size bytes along: zeros. BACKEND_INTERNAL_ERROR at take: there are no such bytes. With COVRETIN_PROFILE_VHOST
- * a reply without a body, by which some backends say so, is INVALID_MESSAGE. INACTIVE_OPERATION: CONFIG was not accepted. */
+ * a reply without a body, by which some backends say so, is INVALID_MESSAGE. */
 enum covretin_error covretin_ask_get_config(covretin_session *session, uint32_t offset, uint32_t size, uint32_t flags);
 /* The same, with the caller's bytes in the request in place of zeros; bytes_len is the size. */
 enum covretin_error covretin_ask_get_config_bytes(covretin_session *session, uint32_t offset, uint32_t flags,
                                       const uint8_t *bytes, size_t bytes_len);
-/* bytes_len as size above. INACTIVE_OPERATION: likewise. */
+/* bytes_len as size above. */
 enum covretin_error covretin_ask_set_config(covretin_session *session, uint32_t offset, uint32_t flags, const uint8_t *bytes,
                                 size_t bytes_len);
 
-/* The socket on which the backend makes requests of its own, which the caller serves. INACTIVE_OPERATION: BACKEND_REQ was
- * not accepted. */
+/* The socket on which the backend makes requests of its own, which the caller serves. */
 enum covretin_error covretin_ask_set_backend_request_fd(covretin_session *session, int32_t fd);
-/* name is a UUID: name_len is 16. INACTIVE_OPERATION: SHARED_OBJECT was not accepted. */
+/* name is a UUID: name_len is 16. */
 enum covretin_error covretin_ask_get_shared_object(covretin_session *session, const uint8_t *name, size_t name_len);
-/* INACTIVE_OPERATION: INFLIGHT_SHMFD was not accepted. */
 enum covretin_error covretin_ask_get_inflight_fd(covretin_session *session, const covretin_inflight *inflight);
-/* Gives the region to a backend that takes the place of one that ended. INACTIVE_OPERATION: likewise. */
+/* Gives the region to a backend that takes the place of one that ended. */
 enum covretin_error covretin_ask_set_inflight_fd(covretin_session *session, const covretin_inflight *inflight, int32_t fd);
-/* INACTIVE_OPERATION: SHMEM was not accepted. */
 enum covretin_error covretin_ask_get_shmem_config(covretin_session *session);
 
-/* direction 0 from the backend (save), 1 to it (load); phase 0, stopped. INACTIVE_OPERATION: DEVICE_STATE was not accepted. */
+/* direction 0 from the backend (save), 1 to it (load); phase 0, stopped. */
 enum covretin_error covretin_ask_set_device_state_fd(covretin_session *session, uint32_t direction, uint32_t phase, int32_t fd);
 enum covretin_error covretin_ask_check_device_state(covretin_session *session);
 
-/* INACTIVE_OPERATION: PAGEFAULT was not accepted. */
 enum covretin_error covretin_ask_postcopy_advise(covretin_session *session);
 enum covretin_error covretin_ask_postcopy_listen(covretin_session *session);
 /* A storage daemon and a packet switch reply to it also without COVRETIN_NEED_REPLY, and that reply is then taken for the
@@ -368,7 +376,7 @@ enum covretin_error covretin_ask_postcopy_end(covretin_session *session);
 /* The request that brought the regions: 5, SET_MEM_TABLE, or 37, ADD_MEM_REG. */
 enum covretin_error covretin_ask_postcopy_ack_mem_regions(covretin_session *session, uint32_t request);
 
-/* The greatest size of what a frame carries. INACTIVE_OPERATION: MTU was not accepted. */
+/* The greatest size of what a frame carries. */
 enum covretin_error covretin_ask_set_mtu(covretin_session *session, uint16_t mtu);
 
 #ifdef __cplusplus

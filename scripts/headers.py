@@ -1,8 +1,9 @@
 #!/usr/bin/env python3
 # SPDX-License-Identifier: Apache-2.0
-"""scripts/headers.py: whether each constant of the headers for C, and of the foreign calls in Rust, is that of the code.
+"""scripts/headers.py: whether each constant of the headers for C, and of the foreign calls in Rust, is that of the code; and
+whether the feature that a frontend's call needs is the same in the header, in the package for Rust and in docs/protocol/asking.md.
 
-Status 0 where all are; 1 where some are not: each is printed, with its value there and in the code.
+Status 0 where all are; 1 where some are not: each is printed, with what stands there and what is wanted.
 """
 import os
 import re
@@ -100,6 +101,44 @@ def said():
                 yield header, name, names[name]
 
 
+def needed(bits):
+    """The feature that each call of a frontend needs, by the table of docs/protocol/asking.md; where its pages ask for bit 30, PROTOCOL_FEATURES."""
+    found = {}
+    for calls, checks in re.findall(r"^\| ([^|]+) \| ([^|]*) \|", read("docs/protocol/asking.md").partition("## The calls")[2], re.MULTILINE):
+        features = {it for it in re.split("[;,] *", checks.strip()) if it in bits}
+        features |= {"PROTOCOL_FEATURES"} if re.match("bit 30", checks) else set()
+        found.update({re.sub(r"\(.*", "", call): features for call in calls.split(", ")})
+    return found
+
+
+def needed_in_c():
+    """The same by the comment above the asks of covretin.h."""
+    comment = re.search(r"/\* -- Asks -.*?\*/", read("include/covretin.h"), re.DOTALL)[0].replace("\n *", "")
+    listed = re.findall(r"(PROTOCOL_FEATURES) was not [^:]*: ([a-z_, ]+)\.", comment) + re.findall(r"([A-Z_]+): ([a-z_, ]+)\.", comment)
+    return [(call, feature) for feature, calls in listed for call in re.split(", +", calls)]
+
+
+def needed_in_rust(bits):
+    """The same by the last word of each call's documentation in the package for Rust."""
+    found = re.findall(r"((?:^ +/// .*\n)+) +(?:pub )?fn (\w+)\(", read("rust/src/vhost_user/frontend.rs"), re.MULTILINE)
+    for text, call in found:
+        last = re.search(r"(?:^|\. |/// )([A-Z_]+)(?: offered| accepted)?\.(?: Leave out .*)?$", re.sub(r"\s+///", "", text.strip()))
+        if last and last[1] in {*bits, "PROTOCOL_FEATURES"}:
+            yield call, last[1]
+
+
+def wrong_needs(bits):
+    """Where a feature that a call needs is another one in the header, or in the package for Rust."""
+    rule, wrong = needed(bits), []
+    rule["get_config_bytes"] = rule["get_config"]
+    for where, listed in (("include/covretin.h", needed_in_c()), ("rust/src/vhost_user/frontend.rs", [*needed_in_rust(bits)])):
+        said = {call: {of for it, of in listed if it == call} for call, _ in listed}
+        for call in sorted({*rule, *said}):
+            if said.get(call, set()) != rule.get(call, set()) and not (call == "get_config_bytes" and where.startswith("rust")):
+                wrong.append(f"{where}: {call} needs {said.get(call)}, and by docs/protocol/asking.md {rule.get(call)}")
+    return wrong
+
+
 def main():
     code, glue = wanted()
     by_plain = {plain(name): value for name, value in code.items()}
@@ -116,6 +155,7 @@ def main():
         for name, value in re.findall(r"const (\w+): usize = (\d+);", read(path)):
             if name in glue and int(value) != code[glue[name]]:
                 wrong.append(f"{path}: {name} is {value}, and of the code {code[glue[name]]}")
+    wrong += wrong_needs(constants(f"{MESSAGE}/protocol_bit.rt"))
     print("\n".join(wrong + [f"headers: {len(met)} constants, {len(wrong)} wrong"]))
     return bool(wrong)
 
