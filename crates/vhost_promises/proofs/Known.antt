@@ -1,90 +1,21 @@
 -- A stream that is known is cut as the definitions say, whatever the link does.
 use Rattle.std.proofs.Common.{◌≡◌, ℕ, zero, suc, ◌<◌, Bool, true, false, List, [], ◌∷◌, ◌++◌, replicate, append_assoc, Option, Result, Ok, Err, inl, inr, refl, sym, ap, subst, ◌∙◌, arith}
 use Rattle.std.specs.Prelude.{ℤ}
-use Rattle.std.proofs.lemmas.List.{append-nil, map-append}
+use Rattle.std.proofs.lemmas.List.{append-nil}
 use Rattle.vhost_message.specs.declared.error.Error as declared
 use Rattle.vhost_protocol.specs.Error.{Error, seen_result}
 use Rattle.vhost_protocol.specs.Run as run
 use Rattle.vhost_protocol.specs.Split.{Message, Splits, split}
 use Rattle.vhost_protocol.specs.Stream.{Cell, Item, Byte, End, items, heard}
-use Rattle.vhost_link.specs.Law.{Move}
-use Rattle.vhost_link.specs.Mem.{event, HandsFront, StreamLaw}
+use Rattle.vhost_link.specs.Mem.{event, HandsFront}
 use Rattle.vhost_link.specs.declared.plain.PlainHandle.{PlainHandle}
 use Rattle.vhost_connection.specs.Hearing.{Hears}
 use Rattle.vhost_connection.specs.Requests.{Replies}
 use Rattle.vhost_connection.specs.Serving.{Handled, HandlesOne}
-use Rattle.vhost_connection.specs.Talk.{Talks}
+use Rattle.vhost_connection.specs.Memory.{stream, TalksLaw}
 use Rattle.vhost_promises.specs.Runs.{answer_of_link}
-use Rattle.vhost_promises.specs.Streams.{Near, stream, FindsNone}
+use Rattle.vhost_promises.specs.Streams.{Near, FindsNone}
 use Rattle.vhost_promises.proofs.Whole.{breaks-of-link}
-
--- ---- fronts of a stream
-
--- only ends were told, so nothing waits
-only-ends : {H : Type 0} (told : List (Item H)) (ahead : List (Cell H)) (n : ℕ) → told ++ items ahead ≡ replicate n End → (k : ℕ) × (told ≡ replicate k End) × (ahead ≡ [])
-only-ends [] [] n is = (0, refl, refl)
-only-ends [] (a ∷ ahead) zero is = cc
-only-ends [] (a ∷ ahead) (suc n) is = cc
-only-ends (t ∷ told) ahead zero is = cc
-only-ends (t ∷ told) ahead (suc n) is =
-    let (k, same, none) = only-ends told ahead n (let e : told ++ items ahead ≡ replicate n End = cc in e) in
-    let first : t ≡ End = cc in (suc k, ap (λ x. x ∷ told) first ∙ ap (λ xs. End ∷ xs) same, none)
-
--- some cells of these, and then ends
-record Fronts {H : Type 0} (told : List (Item H)) (ahead cells left : List (Cell H)) : Type 0 where
-  some : List (Cell H)
-  ends : ℕ
-  order : told ≡ items some ++ replicate ends End
-  front : cells ++ left ≡ some ++ (ahead ++ left)
-  last : 0 < ends → ahead ++ left ≡ []
-
-fronts : {H : Type 0} (told : List (Item H)) (ahead cells left : List (Cell H)) (n : ℕ) → told ++ items ahead ≡ items cells ++ replicate n End → (0 < n → left ≡ []) → Fronts told ahead cells left
-fronts [] [] [] left n is last = record { some = []; ends = 0; order = refl; front = refl; last = λ h. absurd (omega arith) }
-fronts [] [] (c ∷ cells) left n is last = absurd cc
-fronts [] (a ∷ ahead) [] left zero is last = absurd cc
-fronts [] (a ∷ ahead) [] left (suc n) is last = absurd cc
-fronts [] (a ∷ ahead) (c ∷ cells) left n is last =
-    let f = fronts [] ahead cells left n (let e : items ahead ≡ items cells ++ replicate n End = cc in e) last in
-    let same : c ≡ a = cc in
-    let none : f.some ≡ [] = no-cells f.some f.ends f.order in
-    record { some = []; ends = 0; order = refl; front = ap (λ x. x ∷ cells ++ left) same ∙ ap (λ xs. a ∷ xs) (f.front ∙ ap (λ xs. xs ++ (ahead ++ left)) none); last = λ h. absurd (omega arith) }
-  where
-    no-cells : {H : Type 0} (some : List (Cell H)) (ends : ℕ) → [] ≡ items some ++ replicate ends End → some ≡ []
-    no-cells [] ends e = refl
-    no-cells (x ∷ xs) ends e = absurd cc
-fronts (t ∷ told) ahead (c ∷ cells) left n is last =
-    let f = fronts told ahead cells left n (let e : told ++ items ahead ≡ items cells ++ replicate n End = cc in e) last in
-    let first : t ≡ Byte c = cc in
-    record { some = c ∷ f.some; ends = f.ends; order = ap (λ x. x ∷ told) first ∙ ap (λ xs. Byte c ∷ xs) f.order; front = ap (λ xs. c ∷ xs) f.front; last = f.last }
-fronts (t ∷ told) ahead [] left zero is last = absurd cc
-fronts (t ∷ told) ahead [] left (suc n) is last =
-    let (k, same, none) = only-ends (t ∷ told) ahead (suc n) is in
-    let over : ahead ++ left ≡ [] = ap (λ xs. xs ++ left) none ∙ last (omega arith) in
-    record { some = []; ends = k; order = same; front = last (omega arith) ∙ sym over; last = λ h. over }
-
--- what waits belongs to what is left
-behind : {H : Type 0} (before : List (Cell H)) (told : List (Item H)) (ahead left : List (Cell H)) → HandsFront before (told ++ items ahead) left → HandsFront before told (ahead ++ left)
-behind before told ahead left h =
-    let f = fronts told ahead h.cells left h.ends h.order h.last in
-    record { cells = f.some; ends = f.ends; order = f.order; front = h.front ∙ f.front; last = f.last }
-
--- what waited comes first
-before-it : {H : Type 0} (ahead before : List (Cell H)) (told : List (Item H)) (left : List (Cell H)) → HandsFront before told left → HandsFront (ahead ++ before) (items ahead ++ told) left
-before-it ahead before told left h = record {
-  cells = ahead ++ h.cells;
-  ends = h.ends;
-  order = ap (λ xs. items ahead ++ xs) h.order ∙ sym (append_assoc (items ahead) (items h.cells) (replicate h.ends End)) ∙ ap (λ xs. xs ++ replicate h.ends End) (sym (map-append Byte ahead h.cells));
-  front = ap (λ xs. ahead ++ xs) h.front ∙ sym (append_assoc ahead h.cells left);
-  last = h.last;
-}
-
--- an endpoint over a link in memory hands out its stream, in order, and appends what it takes
-pub talked : StreamLaw → (old new : Near) (m : Move PlainHandle) → Talks event old m new → HandsFront (stream old) m.handed (stream new) × (new.link.sent ≡ old.link.sent ++ m.taken)
-talked law old new m t =
-    let r = law old.link new.link t.below t.moved in (
-      behind (stream old) m.handed new.ahead new.link.pending (subst (λ is. HandsFront (stream old) is new.link.pending) t.handed (before-it old.ahead old.link.pending t.below.handed new.link.pending r.stream)),
-      r.taken ∙ ap (λ xs. old.link.sent ++ xs) t.taken,
-    )
 
 -- where nothing was handed out, all is left
 pub none-handed : {H : Type 0} (before left : List (Cell H)) → HandsFront before [] left → left ≡ before
@@ -143,22 +74,22 @@ cuts cut cells true outcome before left later s h =
     record { rest = []; is = ap cut (p.front ∙ ap (λ xs. cells ++ xs) none ∙ append-nil cells) ∙ s.0; hands = hands }
 
 -- what an endpoint heard is what the definitions make of its stream, and the rest is left
-pub hears-cut : {A : Type 0} → StreamLaw → (cut : List (Cell PlainHandle) → A × List (Cell PlainHandle)) (old new : Near) (outcome : A) → Hears event cut old outcome new
+pub hears-cut : {A : Type 0} → TalksLaw → (cut : List (Cell PlainHandle) → A × List (Cell PlainHandle)) (old new : Near) (outcome : A) → Hears event cut old outcome new
     → (cut (stream old) ≡ (outcome, stream new)) × (new.link.sent ≡ old.link.sent)
 hears-cut law cut old new outcome h =
-    let t = talked law old new _ h.serves.talks in
+    let t = law old new _ h.serves.talks in
     let c = cuts cut h.cells h.ended outcome (stream old) (stream new) [] h.splits (subst (λ is. HandsFront (stream old) is (stream new)) (sym (append-nil (heard h.cells h.ended))) t.0) in
     (c.is ∙ ap (λ xs. (outcome, xs)) (sym (none-handed c.rest (stream new) c.hands)), t.1 ∙ append-nil old.link.sent)
 
 -- what it wrote stands behind what it had written, and its stream is as it was
-pub replies-told : StreamLaw → (old new : Near) (written : List (Cell PlainHandle)) → Replies event old written new → (stream new ≡ stream old) × (new.link.sent ≡ old.link.sent ++ written)
+pub replies-told : TalksLaw → (old new : Near) (written : List (Cell PlainHandle)) → Replies event old written new → (stream new ≡ stream old) × (new.link.sent ≡ old.link.sent ++ written)
 replies-told law old new written r =
-    let t = talked law old new _ r.serves.talks in (none-handed (stream old) (stream new) t.0, t.1)
+    let t = law old new _ r.serves.talks in (none-handed (stream old) (stream new) t.0, t.1)
 
 -- ---- one call
 
 module _ {R S A Dev : Type 0} (request_of : ℕ → Option R) (allows_handles : R → ℕ → Bool) (failed : S → Option ℤ)
-    (kept : R → S → S → S) (Meets : S → Dev → Message R PlainHandle → Result A Error → List (Cell PlainHandle) → S → Dev → Type 0) (law : StreamLaw) where
+    (kept : R → S → S → S) (Meets : S → Dev → Message R PlainHandle → Result A Error → List (Cell PlainHandle) → S → Dev → Type 0) (law : TalksLaw) where
   -- a call that was served found no message where the definitions find none
   finds-none : (old : Near) (s : S) (d : Dev) (result : Result A declared.Error) (new : Near) (s' : S) (d' : Dev) (e : Error) (rest : List (Cell PlainHandle))
       → split request_of allows_handles (stream old) ≡ (Err e, rest)

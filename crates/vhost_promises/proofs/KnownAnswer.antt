@@ -17,7 +17,8 @@ use Rattle.vhost_protocol.specs.declared.asked.Awaited.TheVariants.{Reply}
 use Rattle.vhost_protocol.specs.declared.asked.Shape.{Shape}
 use Rattle.vhost_link.specs.Ends.{Ends}
 use Rattle.vhost_link.specs.Law.{Event}
-use Rattle.vhost_link.specs.Mem.{event, StreamLaw}
+use Rattle.vhost_link.specs.Mem.{event}
+use Rattle.vhost_connection.specs.Memory.{stream, TalksLaw}
 use Rattle.vhost_link.specs.declared.plain.PlainHandle.{PlainHandle}
 use Rattle.vhost_connection.specs.Hearing.{Fails}
 use Rattle.vhost_connection.specs.Hearing.Fails.{was_broken, no_memory, fault}
@@ -35,8 +36,8 @@ use Rattle.vhost_frontend_core.specs.Taking.Takes.{taken, stopped}
 use Rattle.vhost_frontend_core.specs.declared.asked.Sent.{Sent}
 use Rattle.vhost_frontend_core.specs.declared.internal.FrontendInternal.{FrontendInternal}
 use Rattle.vhost_promises.specs.Runs.{of_link, answer_of_link}
-use Rattle.vhost_promises.specs.Streams.{Near, stream}
-use Rattle.vhost_promises.proofs.Known.{hears-cut, none-handed, talked}
+use Rattle.vhost_promises.specs.Streams.{Near}
+use Rattle.vhost_promises.proofs.Known.{hears-cut, none-handed}
 use Rattle.vhost_promises.proofs.Whole.{cause-of-link}
 
 abbrev pub Inner : Type 0
@@ -60,7 +61,7 @@ pub record Answers {A : Type 0} (value : A → Value PlainHandle) (request : Wri
   pub left : stream new ≡ rest
   pub session : g ≡ f'
 
-module _ {A : Type 0} (law : StreamLaw) (call : FrontendCall PlainHandle) (value : A → Value PlainHandle) (f f' : Frontend) (request : Written FrontendReq PlainHandle) (shape : Shape)
+module _ {A : Type 0} (law : TalksLaw) (call : FrontendCall PlainHandle) (value : A → Value PlainHandle) (f f' : Frontend) (request : Written FrontendReq PlainHandle) (shape : Shape)
     (outcome : Result (Value PlainHandle) Error) (cells left : List (Cell PlainHandle)) (sent_so : ask f call ≡ Sends request (Reply shape) f)
     (answered_so : take call (Reply shape) (head_of request_number request) f cells ≡ (Some (answered f' outcome), left)) where
   -- the request went out, and nothing was received
@@ -75,7 +76,7 @@ module _ {A : Type 0} (law : StreamLaw) (call : FrontendCall PlainHandle) (value
   went old before sent mid g after (goes {w} {awaited} is gone) =
       let both : Sends w awaited g ≡ Sends request (Reply shape) f = sym is ∙ sent_so in
       let same : w ≡ request = cc in
-      let t = talked law old mid _ gone.serves.talks in
+      let t = law old mid _ gone.serves.talks in
       record {
         text = t.1 ∙ ap (λ x. old.link.sent ++ written_cells request_number x) same;
         stream = none-handed (stream old) (stream mid) t.0;

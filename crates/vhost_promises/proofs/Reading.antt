@@ -19,7 +19,8 @@ use Rattle.vhost_protocol.specs.declared.asked.Awaited.TheVariants.{Reply}
 use Rattle.vhost_protocol.specs.declared.asked.Shape.TheVariants as shape
 use Rattle.vhost_link.specs.Ends.{Ends}
 use Rattle.vhost_link.specs.Law.{Event}
-use Rattle.vhost_link.specs.Mem.{event, StreamLaw}
+use Rattle.vhost_link.specs.Mem.{event}
+use Rattle.vhost_connection.specs.Memory.{stream, TalksLaw}
 use Rattle.vhost_link.specs.declared.plain.PlainHandle.{PlainHandle}
 use Rattle.vhost_connection.specs.Hearing.{Fails}
 use Rattle.vhost_connection.specs.Hearing.Fails.{was_broken, no_memory, fault}
@@ -37,8 +38,8 @@ use Rattle.vhost_frontend_core.specs.declared.internal.FrontendInternal.{Fronten
 use Rattle.vhost_promises.specs.Read.{ReadsFeatures}
 use Rattle.vhost_promises.specs.Runs.{of_link, answer_of_link}
 use Rattle.vhost_promises.specs.Served.{features_reply, features_request}
-use Rattle.vhost_promises.specs.Streams.{Near, stream}
-use Rattle.vhost_promises.proofs.Known.{hears-cut, none-handed, talked}
+use Rattle.vhost_promises.specs.Streams.{Near}
+use Rattle.vhost_promises.proofs.Known.{hears-cut, none-handed}
 use Rattle.vhost_promises.proofs.Whole.{cause-of-link}
 
 -- a call of a side fails only for its link, or for want of memory
@@ -73,11 +74,11 @@ takes-of cells f = take GetFeatures (Reply shape.U64) (head_of request_number re
 abbrev remembers : ℕ → Frontend
 remembers queues = record (new_frontend queues) { offered = 0x40000003 }
 
-module _ (law : StreamLaw) (queues : ℕ) where
+module _ (law : TalksLaw) (queues : ℕ) where
   went : (old : Near) (before : Awaited) (sent : Sent) (mid : Near) (f : Frontend) (after : Awaited) → Asks event (ask (new_frontend queues) GetFeatures) old (new_frontend queues) before (Ok sent) mid f after → Went queues old sent mid f
   went old before sent mid f after (goes {w} is g) =
       let same : w ≡ request = cc in
-      let t = talked law old mid _ g.serves.talks in
+      let t = law old mid _ g.serves.talks in
       record {
         text = t.1 ∙ ap (λ x. old.link.sent ++ written_cells request_number x) same;
         stream = none-handed (stream old) (stream mid) t.0;

@@ -15,16 +15,17 @@ use Rattle.vhost_protocol.specs.Served.{reply, cells_of}
 use Rattle.vhost_protocol.specs.Session.{Session, fresh}
 use Rattle.vhost_protocol.specs.Split.{Message, split, split_after, split_body, body_outcome}
 use Rattle.vhost_protocol.specs.Stream.{Cell, Item, plain}
-use Rattle.vhost_link.specs.Mem.{event, HandsFront, StreamLaw}
+use Rattle.vhost_link.specs.Mem.{event, HandsFront}
+use Rattle.vhost_connection.specs.Memory.{stream, TalksLaw}
 use Rattle.vhost_link.specs.declared.plain.PlainHandle.{PlainHandle}
 use Rattle.vhost_dummy_backend.specs.Dummy.{DummyGives, Does, refusal}
 use Rattle.vhost_backend_req_handler.specs.Serving.{fitting}
 use Rattle.vhost_promises.specs.Example.{Device, owner_request, serving}
 use Rattle.vhost_promises.specs.Runs.{WholeServed, answer_of_link}
 use Rattle.vhost_promises.specs.Served.{ServesThree, features_reply, three_requests}
-use Rattle.vhost_promises.specs.Streams.{Near, stream}
+use Rattle.vhost_promises.specs.Streams.{Near}
 use Rattle.vhost_promises.proofs.Claiming.{number_in, read}
-use Rattle.vhost_promises.proofs.Known.{cuts, none-handed, talked}
+use Rattle.vhost_promises.proofs.Known.{cuts, none-handed}
 
 -- a message without a flag, a body or a handle
 abbrev pub asks : FrontendReq → Message FrontendReq PlainHandle
@@ -121,10 +122,10 @@ module _ {B G : Type 0} (opens_backend : PlainHandle → Result B Error → Type
         d4 ∙ is_d3,
       )
 
-  pub three : StreamLaw → (old new : Near) (device now : Device) (s s' : Session) (answers : List (Result ⊤ declared.Error)) → s ≡ fresh → device.owned ≡ false → stream old ≡ plain three_requests
+  pub three : TalksLaw → (old new : Near) (device now : Device) (s s' : Session) (answers : List (Result ⊤ declared.Error)) → s ≡ fresh → device.owned ≡ false → stream old ≡ plain three_requests
       → WholeServed event (DummyGives {B = B} {G = G} (λ handle copy. copy ≡ Ok handle)) opens_backend opens_gpu old s device 3 answers new s' now → ServesThree device old answers new s' now
   three law old new device now s s' (a ∷ b ∷ c ∷ []) begins free is (count, w) =
-      let (front, sent) = talked law old new w.move w.talks in
+      let (front, sent) = law old new w.move w.talks in
       let (is_a, is_b, is_c, is_w, none, is_s, is_d) = three-of device now s' (seen_result a) (seen_result b) (seen_result c) (stream old) (stream new) w.move.handed w.move.taken free is front
       (subst (λ t. run.Run request_of allows_handles (λ (u : Session). u.failed) Meets t device (seen_result a ∷ seen_result b ∷ seen_result c ∷ []) w.move.handed w.move.taken s' now) begins w.run) in
       record {
@@ -140,7 +141,7 @@ module _ {B G : Type 0} (opens_backend : PlainHandle → Result B Error → Type
   three law old new device now s s' (a ∷ b ∷ c ∷ d ∷ later) begins free is (count, w) = absurd cc
 
   -- by what a run answered
-  pub serves : StreamLaw → (old new : Near) (device now : Device) (s s' : Session) (result : Result (Vec (Result ⊤ declared.Error) Global) declared.Error)
+  pub serves : TalksLaw → (old new : Near) (device now : Device) (s s' : Session) (result : Result (Vec (Result ⊤ declared.Error) Global) declared.Error)
       → IfOk result (λ answers. list_any answer_of_link answers.items ≡ false → WholeServed event (DummyGives {B = B} {G = G} (λ handle copy. copy ≡ Ok handle)) opens_backend opens_gpu old s device 3 answers.items new s' now)
       → IfOk result (λ answers. s ≡ fresh → device.owned ≡ false → stream old ≡ plain three_requests → list_any answer_of_link answers.items ≡ false → ServesThree device old answers.items new s' now)
   serves law old new device now s s' (Err e) whole = tt

@@ -16,7 +16,8 @@ use Rattle.vhost_protocol.specs.Written.{ConfigBytes, Empty, Written, head_of}
 use Rattle.vhost_protocol.specs.declared.asked.Awaited.TheVariants.{Reply}
 use Rattle.vhost_protocol.specs.declared.asked.Shape.TheVariants as shape
 use Rattle.vhost_protocol.specs.declared.profile.Profile.TheVariants.{Standard}
-use Rattle.vhost_link.specs.Mem.{event, StreamLaw}
+use Rattle.vhost_link.specs.Mem.{event}
+use Rattle.vhost_connection.specs.Memory.{stream, TalksLaw}
 use Rattle.vhost_link.specs.declared.plain.PlainHandle.{PlainHandle}
 use Rattle.vhost_frontend.specs.Whole.{Whole, WholeWithRoom}
 use Rattle.vhost_frontend_core.specs.Frontend.{endpoint_of, session_of}
@@ -24,7 +25,7 @@ use Rattle.vhost_frontend_core.specs.Taking.{valued}
 use Rattle.vhost_promises.specs.Runs.{answer_of_link}
 use Rattle.vhost_promises.specs.Served.{features_reply, features_request}
 use Rattle.vhost_promises.specs.StandardAsking.{GoesOnAsking, config_request, no_config, with_config}
-use Rattle.vhost_promises.specs.Streams.{Near, stream}
+use Rattle.vhost_promises.specs.Streams.{Near}
 use Rattle.vhost_promises.proofs.KnownAnswer.{Inner, roomy-known, whole-known}
 
 abbrev begin : ℕ → Frontend
@@ -72,7 +73,7 @@ by-number : (result : Result ℕ declared.Error) (n : ℕ) → valued {H = Plain
 by-number (Ok m) n is = cc
 by-number (Err e) n is = absurd cc
 
-pub goes-on-asking : {A : Type 0} → StreamLaw → (queues flags : ℕ) (buffer : List ℕ) (value : A → Value PlainHandle) (old chosen mid new : Inner) (config : Result A declared.Error) (features : Result ℕ declared.Error)
+pub goes-on-asking : {A : Type 0} → TalksLaw → (queues flags : ℕ) (buffer : List ℕ) (value : A → Value PlainHandle) (old chosen mid new : Inner) (config : Result A declared.Error) (features : Result ℕ declared.Error)
     → flags ≡ 0 → buffer ≡ zeros → endpoint_of chosen ≡ endpoint_of old → session_of chosen ≡ record (session_of old) { profile = Standard }
     → WholeWithRoom event (GetConfig 0 8 flags buffer) value chosen config mid → Whole event GetFeatures Number mid features new
     → session_of old ≡ with_config queues → stream (endpoint_of old) ≡ plain (no_config ++ features_reply) → answer_of_link config ≡ false → answer_of_link features ≡ false

@@ -16,14 +16,15 @@ use Rattle.vhost_protocol.specs.Served.{reply, cells_of}
 use Rattle.vhost_protocol.specs.Session.{Session, fresh}
 use Rattle.vhost_protocol.specs.Split.{Message, split, split_after, split_body, body_outcome}
 use Rattle.vhost_protocol.specs.Stream.{Cell, Item, plain}
-use Rattle.vhost_link.specs.Mem.{event, HandsFront, StreamLaw}
+use Rattle.vhost_link.specs.Mem.{event, HandsFront}
+use Rattle.vhost_connection.specs.Memory.{stream, TalksLaw}
 use Rattle.vhost_link.specs.declared.plain.PlainHandle.{PlainHandle}
 use Rattle.vhost_dummy_backend.specs.Dummy.{DummyGives, Does, refusal}
 use Rattle.vhost_promises.specs.Example.{Device, owner_request}
 use Rattle.vhost_promises.specs.Runs.{WholeServed, answer_of_link}
 use Rattle.vhost_promises.specs.Standard.{GoesOn, standing, two_requests}
-use Rattle.vhost_promises.specs.Streams.{Near, stream}
-use Rattle.vhost_promises.proofs.Known.{none-handed, talked}
+use Rattle.vhost_promises.specs.Streams.{Near}
+use Rattle.vhost_promises.proofs.Known.{none-handed}
 use Rattle.vhost_promises.proofs.Serving.{Calls, Meets, asks, next}
 
 -- the request that nobody serves
@@ -69,10 +70,10 @@ module _ {B G : Type 0} (opens_backend : PlainHandle → Result B Error → Type
         d3 ∙ is_d2,
       )
 
-  two : StreamLaw → (old new : Near) (device now : Device) (s s' : Session) (answers : List (Result ⊤ declared.Error)) → s ≡ standing → device.owned ≡ false → stream old ≡ plain two_requests
+  two : TalksLaw → (old new : Near) (device now : Device) (s s' : Session) (answers : List (Result ⊤ declared.Error)) → s ≡ standing → device.owned ≡ false → stream old ≡ plain two_requests
       → WholeServed event (DummyGives {B = B} {G = G} (λ handle copy. copy ≡ Ok handle)) opens_backend opens_gpu old s device 2 answers new s' now → GoesOn device old answers new s' now
   two law old new device now s s' (a ∷ b ∷ []) begins free is (count, w) =
-      let (front, sent) = talked law old new w.move w.talks in
+      let (front, sent) = law old new w.move w.talks in
       let (is_a, is_b, is_w, none, is_s, is_d) = two-of device now s' (seen_result a) (seen_result b) (stream old) (stream new) w.move.handed w.move.taken free is front
       (subst (λ t. run.Run request_of allows_handles (λ (u : Session). u.failed) (Meets opens_backend opens_gpu) t device (seen_result a ∷ seen_result b ∷ []) w.move.handed w.move.taken s' now) begins w.run) in
       record {
@@ -87,7 +88,7 @@ module _ {B G : Type 0} (opens_backend : PlainHandle → Result B Error → Type
   two law old new device now s s' (a ∷ b ∷ c ∷ later) begins free is (count, w) = absurd cc
 
   -- by what a run answered, after a new session was set to Standard
-  pub goes-on : StreamLaw → (old mid new : Near) (device now : Device) (first s s' : Session) (result : Result (Vec (Result ⊤ declared.Error) Global) declared.Error) → mid ≡ old → s ≡ record first { profile = Standard }
+  pub goes-on : TalksLaw → (old mid new : Near) (device now : Device) (first s s' : Session) (result : Result (Vec (Result ⊤ declared.Error) Global) declared.Error) → mid ≡ old → s ≡ record first { profile = Standard }
       → IfOk result (λ answers. list_any answer_of_link answers.items ≡ false → WholeServed event (DummyGives {B = B} {G = G} (λ handle copy. copy ≡ Ok handle)) opens_backend opens_gpu mid s device 2 answers.items new s' now)
       → IfOk result (λ answers. first ≡ fresh → device.owned ≡ false → stream old ≡ plain two_requests → list_any answer_of_link answers.items ≡ false → GoesOn device old answers.items new s' now)
   goes-on law old mid new device now first s s' (Err e) same set whole = tt

@@ -1,20 +1,17 @@
 -- What a handler makes of a stream that is known, however its link is cut.
-use Rattle.std.specs.Prelude.{◌≡◌, ℕ, List, [], ◌∷◌, ◌++◌, Option, None, false, ℤ, Result, Err}
+use Rattle.std.specs.Prelude.{◌≡◌, ℕ, List, [], ◌∷◌, Option, None, false, ℤ, Result, Err}
 use Rattle.vhost_message.specs.declared.error.Error as declared
 use Rattle.vhost_protocol.specs.Error.{Error, seen_result}
 use Rattle.vhost_protocol.specs.Stream.{Cell}
 use Rattle.vhost_link.specs.Ends.{Ends}
 use Rattle.vhost_link.specs.declared.plain.PlainHandle.{PlainHandle}
+use Rattle.vhost_connection.specs.Memory.{stream}
 use Rattle.vhost_connection.specs.Talk.{State}
 use Rattle.vhost_promises.specs.Runs.{answer_of_link}
 
 -- an endpoint over a link in memory
 abbrev pub Near : Type 0
 Near = State Ends PlainHandle
-
--- what it is still to receive: what it has heard ahead, and then what its link holds
-abbrev pub stream : Near → List (Cell PlainHandle)
-stream endpoint = endpoint.ahead ++ endpoint.link.pending
 
 -- A call found no message: this is its answer, this is left of the stream, and nothing was written or changed.
 pub record FindsNone {S Dev A : Type 0} (e : Error) (rest : List (Cell PlainHandle)) (old : Near) (s : S) (d : Dev) (result : Result A declared.Error) (new : Near) (s' : S) (d' : Dev) : Type 0 where

@@ -6,13 +6,14 @@ ghost use Rattle.vhost_frontend_core.specs.Frontend.{endpoint_of, session_of};
 ghost use Rattle.vhost_promises.specs.Read.{ReadsFeatures, replied};
 ghost use Rattle.vhost_promises.specs.Runs.{answer_of_link};
 ghost use Rattle.vhost_promises.specs.Served.{features_reply};
-ghost use Rattle.vhost_promises.specs.Streams.{stream};
+ghost use Rattle.vhost_connection.specs.Memory.{stream};
 ghost use Rattle.vhost_protocol.specs.FrontendCall.{new_frontend};
 ghost use Rattle.vhost_protocol.specs.Stream.{plain};
 
 use std::alloc::Global;
+use vhost_connection::talks_law;
 use vhost_frontend::Quiet;
-use vhost_link::{Cut, MemLink, stream_law};
+use vhost_link::{Cut, MemLink};
 use vhost_message::{Error, Result};
 
 /// A new frontend asks for the features of a backend whose reply came. However the link splits it, the answer is 0x40000003, exactly the
@@ -22,7 +23,7 @@ pub fn reads_features(frontend: &mut Quiet<MemLink>) -> Result<u64>
     ensures { (queues : ℕ) → session_of frontend.old.inner ≡ new_frontend queues → stream (endpoint_of frontend.old.inner) ≡ plain features_reply → answer_of_link result ≡ false
         → ReadsFeatures (endpoint_of frontend.old.inner) (new_frontend queues) result (endpoint_of frontend.new.inner) (session_of frontend.new.inner) }
 {
-    stream_law();
+    talks_law();
     frontend.get_features()
 }
 

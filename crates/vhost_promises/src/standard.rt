@@ -9,13 +9,14 @@ ghost use Rattle.vhost_protocol.specs.Session.{fresh as new_session};
 ghost use Rattle.vhost_protocol.specs.Stream.{plain};
 ghost use Rattle.vhost_promises.specs.Runs.{answer_of_link};
 ghost use Rattle.vhost_promises.specs.Standard.{GoesOn, holding_two, two_requests};
-ghost use Rattle.vhost_promises.specs.Streams.{stream};
+ghost use Rattle.vhost_connection.specs.Memory.{stream};
 
 use crate::runs::serves_whole;
 use std::alloc::Global;
 use vhost_backend_req_handler::SessionCore;
+use vhost_connection::talks_law;
 use vhost_dummy_backend::DummyBackendReqHandler;
-use vhost_link::{Cut, MemLink, PlainHandle, stream_law};
+use vhost_link::{Cut, MemLink, PlainHandle};
 use vhost_message::{Error, Result};
 use vhost_protocol::Profile;
 
@@ -33,7 +34,7 @@ pub fn goes_on_unserved(
     ensures { IfOk result (λ answers. session_in core.old ≡ new_session → device.old.owned ≡ false → stream (endpoint_of core.old) ≡ plain two_requests
         → list_any answer_of_link answers.items ≡ false → GoesOn device.old (endpoint_of core.old) answers.items (endpoint_of core.new) (session_in core.new) device.new) }
 {
-    stream_law();
+    talks_law();
     core.set_profile(Profile::Standard);
     serves_whole(alloc, core, device, 2)
 }

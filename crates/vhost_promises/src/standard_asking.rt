@@ -5,12 +5,13 @@ ghost use Rattle.vhost_frontend_core.specs.Frontend.{endpoint_of, session_of};
 ghost use Rattle.vhost_promises.specs.Runs.{answer_of_link};
 ghost use Rattle.vhost_promises.specs.Served.{features_reply};
 ghost use Rattle.vhost_promises.specs.StandardAsking.{GoesOnAsking, no_config, with_config};
-ghost use Rattle.vhost_promises.specs.Streams.{stream};
+ghost use Rattle.vhost_connection.specs.Memory.{stream};
 ghost use Rattle.vhost_protocol.specs.Stream.{plain};
 
 use bitflags::Flags;
+use vhost_connection::talks_law;
 use vhost_frontend::Quiet;
-use vhost_link::{MemLink, stream_law};
+use vhost_link::MemLink;
 use vhost_message::{Result, VhostUserConfig, VhostUserConfigFlags};
 use vhost_protocol::Profile;
 
@@ -25,7 +26,7 @@ pub fn goes_on_without_config(
         → answer_of_link result.0 ≡ false → answer_of_link result.1 ≡ false
         → GoesOnAsking queues (endpoint_of frontend.old.inner) result.0 result.1 (endpoint_of frontend.new.inner) (session_of frontend.new.inner) }
 {
-    stream_law();
+    talks_law();
     frontend.set_profile(Profile::Standard);
     let config = frontend.get_config(0, 8, VhostUserConfigFlags::empty(), &[0; 8]);
     let features = frontend.get_features();

@@ -11,12 +11,14 @@ ghost use Rattle.vhost_protocol.specs.Error.{Error as Refusal, Disconnected, Inv
 ghost use Rattle.vhost_protocol.specs.Reverse.{backend_allows_handles};
 ghost use Rattle.vhost_protocol.specs.Split.{split};
 ghost use Rattle.vhost_protocol.specs.Stream.{Cell, plain};
-ghost use Rattle.vhost_promises.specs.Streams.{Refuses, stream, in_header, in_body, in_body_back, other_version, other_version_back};
+ghost use Rattle.vhost_connection.specs.Memory.{stream};
+ghost use Rattle.vhost_promises.specs.Streams.{Refuses, in_header, in_body, in_body_back, other_version, other_version_back};
 
 use vhost_backend_req_handler::SessionCore;
+use vhost_connection::talks_law;
 use vhost_device::VhostUserBackendReqHandlerMut;
 use vhost_frontend_req_handler::{FrontendReqCore, VhostUserFrontendReqHandlerMut};
-use vhost_link::{MemLink, PlainHandle, stream_law};
+use vhost_link::{MemLink, PlainHandle};
 use vhost_message::Result;
 
 /// Serves one request where the stream has none, over every device and however the link splits it. It answers the error that the
@@ -39,7 +41,7 @@ pub fn finds_none<D: VhostUserBackendReqHandlerMut<Link = MemLink>>(
     ensures version { stream (endpoint_of core.old) ≡ plain other_version
         → Refuses (session_in core.old).failed InvalidMessage [] (endpoint_of core.old) (session_in core.old) device.old result (endpoint_of core.new) (session_in core.new) device.new }
 {
-    stream_law();
+    talks_law();
     core.handle_request(device)
 }
 
@@ -59,6 +61,6 @@ pub fn finds_none_back<D: VhostUserFrontendReqHandlerMut<Handle = PlainHandle>>(
     ensures version { stream (endpoint_back core.old) ≡ plain other_version_back
         → Refuses (server_in core.old).failed InvalidMessage [] (endpoint_back core.old) (server_in core.old) device.old result (endpoint_back core.new) (server_in core.new) device.new }
 {
-    stream_law();
+    talks_law();
     core.handle_request(device)
 }

@@ -16,7 +16,7 @@ use Rattle.vhost_promises.proofs.streams.finds_none.Goals as goal
 pub returns-clause-known : goal.returns-clause-known
 returns-clause-known g c e rest none alive sound =
     one-none request_of allows_handles (λ (t : Session). t.failed) kept_unsent
-    (MeetsRow (fitting g.D.VhostUserBackendReqHandlerMut.gives) (λ h o. OpensAsBackend opens kinds (endpoint_of c.args.core.now).budget h o) (λ h o. OpensAsGpu opens kinds (endpoint_of c.args.core.now).budget h o)) c.stream_law.ensures.stream
+    (MeetsRow (fitting g.D.VhostUserBackendReqHandlerMut.gives) (λ h o. OpensAsBackend opens kinds (endpoint_of c.args.core.now).budget h o) (λ h o. OpensAsGpu opens kinds (endpoint_of c.args.core.now).budget h o)) c.talks_law.ensures.talks
     (endpoint_of c.args.core.now) (session_in c.args.core.now) c.args.device.now _ (endpoint_of c.handle_request.new.self) (session_in c.handle_request.new.self) c.handle_request.new.device e rest none sound
     (c.handle_request.ensures.handled alive)
 
