@@ -8,7 +8,8 @@ use crate::endpoint::Endpoint;
 use crate::list::Front;
 use vhost_link::Link;
 use vhost_message::{
-    ByteValued, Error, Req, Result, VhostUserConfig, VhostUserMsgHeader, VhostUserMsgValidator,
+    ByteValued, Error, MSG_HEADER_SIZE, Req, Result, VhostUserConfig, VhostUserMsgHeader,
+    VhostUserMsgValidator,
 };
 
 impl<R: Req, L: Link> Endpoint<VhostUserMsgHeader<R>, L> {
@@ -45,13 +46,15 @@ impl<R: Req, L: Link> Endpoint<VhostUserMsgHeader<R>, L> {
             left,
             list,
             ..
-        } = self.recv_front(24)?;
-        if count < 24 {
+        } = self.recv_front(MSG_HEADER_SIZE + VhostUserConfig::SIZE)?;
+        if count < MSG_HEADER_SIZE + VhostUserConfig::SIZE {
             self.put_back(list);
             return Err(Error::PartialMessage);
         }
-        let header = VhostUserMsgHeader::decode(&self.text[..12]);
-        let part = VhostUserConfig::decode(&self.text[12..24]);
+        let header = VhostUserMsgHeader::decode(&self.text[..MSG_HEADER_SIZE]);
+        let part = VhostUserConfig::decode(
+            &self.text[MSG_HEADER_SIZE..MSG_HEADER_SIZE + VhostUserConfig::SIZE],
+        );
         if is_bare(&header, request, &list, &part) {
             self.put_back(list);
             return Ok(None);
@@ -84,7 +87,7 @@ fn is_bare<R: Req, H>(
 {
     header.is_valid()
         && header.is_reply_for(request)
-        && header.get_size() == 12
+        && header.get_size() as usize == VhostUserConfig::SIZE
         && handles.is_empty()
         && part.size == 0
 }

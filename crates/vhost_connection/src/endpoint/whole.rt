@@ -12,7 +12,8 @@ use crate::list::Front;
 use crate::pass::{PassEnd, recv_bytes};
 use vhost_link::Link;
 use vhost_message::{
-    ByteValued, Error, Req, Result, VhostUserConfig, VhostUserMsgHeader, VhostUserMsgValidator,
+    ByteValued, Error, MSG_HEADER_SIZE, Req, Result, VhostUserConfig, VhostUserMsgHeader,
+    VhostUserMsgValidator,
 };
 
 impl<R: Req, L: Link> Endpoint<VhostUserMsgHeader<R>, L> {
@@ -108,17 +109,17 @@ impl<R: Req, L: Link> Endpoint<VhostUserMsgHeader<R>, L> {
     {
         let (header, front) = self.recv_whole()?;
         let size = header.get_size() as usize;
-        let part = VhostUserConfig::decode(&self.text[..12]);
+        let part = VhostUserConfig::decode(&self.text[..VhostUserConfig::SIZE]);
         if is_empty(&header, request, &front.list, &part) {
             self.put_back(front.list);
             return Ok(None);
         }
         let count = buf.len();
-        if !is_sum(size, 12, count) || !part.is_valid() {
+        if !is_sum(size, VhostUserConfig::SIZE, count) || !part.is_valid() {
             self.put_back(front.list);
             return Err(Error::InvalidMessage);
         }
-        buf.copy_from_slice(&self.text[12..size]);
+        buf.copy_from_slice(&self.text[VhostUserConfig::SIZE..size]);
         Ok(Some((header, part, count, self.give(front.list))))
     }
 
@@ -134,12 +135,12 @@ impl<R: Req, L: Link> Endpoint<VhostUserMsgHeader<R>, L> {
             left,
             list,
             ..
-        } = self.recv_front(12)?;
-        if count < 12 {
+        } = self.recv_front(MSG_HEADER_SIZE)?;
+        if count < MSG_HEADER_SIZE {
             self.put_back(list);
             return Err(Error::PartialMessage);
         }
-        let header = VhostUserMsgHeader::decode(&self.text[..12]);
+        let header = VhostUserMsgHeader::decode(&self.text[..MSG_HEADER_SIZE]);
         if !header.is_valid() {
             self.put_back(list);
             return Err(Error::InvalidMessage);
@@ -211,8 +212,8 @@ fn is_empty<R: Req, H>(
     ensures { result ≡ (is_reply_for R.code (fields_of header.now) (fields_of request.now) && length handles.now == 0
         && ((fields_of header.now).size == 0 || (fields_of header.now).size == 12 && part.now.size == 0)) }
 {
-    let size = header.get_size();
+    let size = header.get_size() as usize;
     header.is_reply_for(request)
         && handles.is_empty()
-        && (size == 0 || size == 12 && part.size == 0)
+        && (size == 0 || size == VhostUserConfig::SIZE && part.size == 0)
 }

@@ -8,27 +8,27 @@ pub returns-in_err-count : goal.returns-in_err-count
 returns-in_err-count g c =
     rw (passed-on c.from_residual.result c.from_residual.ensures.1) (head-fails g.L.Link.event g.R.Req.code (state c.args.self.now) (state c.recv_front.new.self) _ c.in_err-count.ensures)
 
-pub returns-then-count-lt12 : goal.returns-then-count-lt12
-returns-then-count-lt12 g c =
-    head-ends g.L.Link.event g.R.Req.code (state c.args.self.now) (state c.recv_front.new.self) c.in_ok-count.ensures.1.0 c.in_ok-count.ensures.1.1 (state c.put_back.new.self) c.if-count-lt12.true c.put_back.ensures.state
+pub returns-then-count-lt-MSG_HEADER_SIZE : goal.returns-then-count-lt-MSG_HEADER_SIZE
+returns-then-count-lt-MSG_HEADER_SIZE g c =
+    head-ends g.L.Link.event g.R.Req.code (state c.args.self.now) (state c.recv_front.new.self) c.in_ok-count.ensures.1.0 c.in_ok-count.ensures.1.1 (state c.put_back.new.self) c.if-count-lt-MSG_HEADER_SIZE.true c.put_back.ensures.state
 
 pub returns-then-not-is_valid : goal.returns-then-not-is_valid
 returns-then-not-is_valid g c =
-    head-refused g.L.Link.event g.R.Req.code (state c.args.self.now) (state c.recv_front.new.self) c.in_ok-count.ensures.1.0 c.in_ok-count.ensures.1.1 c.if-count-lt12.false c.decode-header.result (rw c.deref.ensures at c.decode-header.ensures.read)
+    head-refused g.L.Link.event g.R.Req.code (state c.args.self.now) (state c.recv_front.new.self) c.in_ok-count.ensures.1.0 c.in_ok-count.ensures.1.1 c.if-count-lt-MSG_HEADER_SIZE.false c.decode-header.result (rw c.deref.ensures at c.decode-header.ensures.read)
     (state c.put_back-then-not-is_valid.new.self) (sym c.is_valid.ensures ∙ c.if-not-is_valid.true) c.put_back-then-not-is_valid.ensures.state
 
 pub returns-then-more-size : goal.returns-then-more-size
 returns-then-more-size g c =
-    body-ends g.L.Link.event g.R.Req.code (state c.args.self.now) (state c.recv_front.new.self) c.in_ok-count.ensures.1.0 c.in_ok-count.ensures.1.1 c.if-count-lt12.false c.decode-header.result (rw c.deref.ensures at c.decode-header.ensures.read)
+    body-ends g.L.Link.event g.R.Req.code (state c.args.self.now) (state c.recv_front.new.self) c.in_ok-count.ensures.1.0 c.in_ok-count.ensures.1.1 c.if-count-lt-MSG_HEADER_SIZE.false c.decode-header.result (rw c.deref.ensures at c.decode-header.ensures.read)
     (sym c.is_valid.ensures ∙ c.if-not-is_valid.false) (state c.recv_behind.new.self) (state c.put_back-then-more-size.new.self) c.recv_behind.new.self.text.value c.in-Ok.more (rw c.get_size-size.ensures at c.in-Ok.ensures) (rw c.get_size-size.ensures at c.if-more-size.true) c.put_back-then-more-size.ensures.state
 
 pub returns-else-more-size : goal.returns-else-more-size
 returns-else-more-size g c =
-    body-comes g.L.Link.event g.R.Req.code (state c.args.self.now) (state c.recv_front.new.self) c.in_ok-count.ensures.1.0 c.in_ok-count.ensures.1.1 c.if-count-lt12.false c.decode-header.result (rw c.deref.ensures at c.decode-header.ensures.read)
+    body-comes g.L.Link.event g.R.Req.code (state c.args.self.now) (state c.recv_front.new.self) c.in_ok-count.ensures.1.0 c.in_ok-count.ensures.1.1 c.if-count-lt-MSG_HEADER_SIZE.false c.decode-header.result (rw c.deref.ensures at c.decode-header.ensures.read)
     (sym c.is_valid.ensures ∙ c.if-not-is_valid.false) (state c.recv_behind.new.self) c.recv_behind.new.self.text.value c.in-Ok.more c.in_ok-count.field-0 (rw c.get_size-size.ensures at c.in-Ok.ensures)
     (λ few. let le = rw (sym c.get_size-size.ensures) at few in omega (arith, le, c.if-more-size.false)) refl
 
 pub returns-in-Err : goal.returns-in-Err
 returns-in-Err g c =
-    body-fails g.L.Link.event g.R.Req.code (state c.args.self.now) (state c.recv_front.new.self) c.in_ok-count.ensures.1.0 c.in_ok-count.ensures.1.1 c.if-count-lt12.false c.decode-header.result (rw c.deref.ensures at c.decode-header.ensures.read)
+    body-fails g.L.Link.event g.R.Req.code (state c.args.self.now) (state c.recv_front.new.self) c.in_ok-count.ensures.1.0 c.in_ok-count.ensures.1.1 c.if-count-lt-MSG_HEADER_SIZE.false c.decode-header.result (rw c.deref.ensures at c.decode-header.ensures.read)
     (sym c.is_valid.ensures ∙ c.if-not-is_valid.false) (state c.recv_behind.new.self) (state c.put_back-in-Err.new.self) c.recv_behind.new.self.text.value c.in-Err.error (rw c.get_size-size.ensures at c.in-Err.ensures) c.put_back-in-Err.ensures.state
