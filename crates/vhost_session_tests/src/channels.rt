@@ -2,5 +2,4 @@
 
 mod asks;
 mod display_asks;
-mod joined;
 mod serves;

@@ -1,4 +1,4 @@
-//! Callers of a recorder: one alone, and four in threads of their own.
+//! Four callers of a recorder in threads of their own.
 
 ghost use Rattle.std.specs.Prelude.{◌≡◌, ◌+◌, ◌<◌, IfOk, length};
 ghost use Rattle.vhost_recorder.specs.Share.{parts_of, count_of};
@@ -12,12 +12,11 @@ use vhost_device::VhostUserBackendReqHandlerMut;
 use vhost_link::{Cut, MemLink};
 use vhost_recorder::{FrontendCall, Halt, Log, Receipt, Recorder, Share};
 
-/// What a caller hands back: its share, which has counted its receipts, and why its last call was not done, if one was not.
+/// What a caller hands back: its share, which has counted its receipts.
 #[derive(Drop)]
 struct Spent<L: Ledger> {
     share: Share<L>,
     receipts: Vec<Receipt>,
-    halt: Option<Halt>,
     ghost one_part: { parts_of share ≡ 1 },
     ghost counted: { count_of share ≡ length receipts.items },
 }
@@ -30,14 +29,6 @@ pub(crate) struct Crowd<D: VhostUserBackendReqHandlerMut<Link = MemLink>> {
     pub(crate) second: Vec<Receipt>,
     pub(crate) third: Vec<Receipt>,
     pub(crate) fourth: Vec<Receipt>,
-}
-
-/// The log of one caller, its receipts, and why its last call was not done, if one was not.
-#[derive(Drop)]
-pub(crate) struct Alone<D: VhostUserBackendReqHandlerMut<Link = MemLink>> {
-    pub(crate) log: Log<D>,
-    pub(crate) receipts: Vec<Receipt>,
-    pub(crate) halt: Option<Halt>,
 }
 
 /// What a caller begins with: a share that has counted nothing.
@@ -69,28 +60,15 @@ fn call_all<D: VhostUserBackendReqHandlerMut<Link = MemLink>, L: Ledger, R: Wait
 ) -> Spent<L> {
     let Fresh { mut share } = fresh;
     let mut receipts = Vec::new(alloc);
-    let mut halt = None;
     for call in calls {
         if receipts.reserve(1).is_err() {
             break;
         }
-        match recorder.call(rt, &mut share, call) {
-            Ok(receipt) => receipts.push_reserved(receipt),
-            Err(why) => halt = Some(why),
+        if let Ok(receipt) = recorder.call(rt, &mut share, call) {
+            receipts.push_reserved(receipt);
         }
     }
-    hand_back(share, receipts, halt)
-}
-
-/// What a caller hands back.
-fn hand_back<L: Ledger>(share: Share<L>, receipts: Vec<Receipt>, halt: Option<Halt>) -> Spent<L>
-    requires { (parts_of share ≡ 1) × (count_of share ≡ length receipts.items) }
-{
-    Spent {
-        share,
-        receipts,
-        halt,
-    }
+    Spent { share, receipts }
 }
 
 /// What two threads hand back.
@@ -121,69 +99,6 @@ fn two_ask<
     Both { one, other }
 }
 
-/// A recorder over a device, with a retry limit and a script of the frontend's link, and the share of caller 0.
-///
-/// `Halt::OutOfMemory`: an allocation failed.
-fn open<D: VhostUserBackendReqHandlerMut<Link = MemLink>, L: Ledger>(
-    alloc: Global,
-    blank: Blank,
-    device: D,
-    budget: u32,
-    script: Vec<Cut>,
-) -> Result<(Recorder<D, L>, Share<L>), Halt>
-    requires { (blank.name ≡ L.name) × (blank.parts ≡ L.parts) }
-    ensures { IfOk result (λ opened. (parts_of opened.1 ≡ L.parts) × (count_of opened.1 ≡ 0)) }
-{
-    let scripts = (script, Vec::new(alloc));
-    Recorder::open(blank, alloc, device, 2, budget, scripts)
-}
-
-/// A caller makes its calls alone.
-fn one_calls<D: VhostUserBackendReqHandlerMut<Link = MemLink>, L: Ledger, R: Wait>(
-    rt: &R,
-    alloc: Global,
-    blank: Blank,
-    device: D,
-    caller: u32,
-    calls: &[FrontendCall],
-    link: (u32, Vec<Cut>),
-) -> Result<Alone<D>, Halt>
-    requires { (blank.name ≡ L.name) × (blank.parts ≡ L.parts) × (L.parts ≡ 2) }
-    ensures { IfOk result (λ alone. length alone.log.entries ≡ length alone.receipts.items) }
-{
-    let (budget, script) = link;
-    let (recorder, mut all) = open::<D, L>(alloc, blank, device, budget, script)?;
-    let fresh = fresh_share(&mut all, caller);
-    let Spent {
-        share,
-        receipts,
-        halt,
-    } = call_all(rt, alloc, &recorder, fresh, calls);
-    all.join(share);
-    Ok(Alone {
-        log: recorder.close(all),
-        receipts,
-        halt,
-    })
-}
-
-/// A caller makes these calls alone, with a retry limit, and a script of the frontend's link. The log has as many entries as it has
-/// receipts.
-///
-/// `Halt::OutOfMemory`: an allocation failed before the first call.
-pub(crate) fn call_alone<D: VhostUserBackendReqHandlerMut<Link = MemLink>, R: Wait>(
-    rt: &R,
-    alloc: Global,
-    device: D,
-    caller: u32,
-    calls: &[FrontendCall],
-    link: (u32, Vec<Cut>),
-) -> Result<Alone<D>, Halt>
-    ensures { IfOk result (λ alone. length alone.log.entries ≡ length alone.receipts.items) }
-{
-    one_calls::<D, Brand, R>(rt, alloc, Blank::new(2), device, caller, calls, link)
-}
-
 /// Four callers, 1 to 4, in threads of their own, each of whom makes these calls. The log has as many entries as they have
 /// receipts.
 ///
@@ -192,11 +107,20 @@ fn four_ask<
     D: VhostUserBackendReqHandlerMut<Link = MemLink> + Send,
     L: Ledger + Send + Sync,
     R: Threads + Wait + Sync,
->(rt: &R, alloc: Global, blank: Blank, device: D, calls: &[FrontendCall]) -> Result<Crowd<D>, Halt>
+>(
+    rt: &R,
+    alloc: Global,
+    blank: Blank,
+    device: D,
+    calls: &[FrontendCall],
+    link: (u32, Vec<Cut>),
+) -> Result<Crowd<D>, Halt>
     requires { (blank.name ≡ L.name) × (blank.parts ≡ L.parts) × (L.parts ≡ 5) }
     ensures { IfOk result (λ crowd. length crowd.log.entries ≡ length crowd.first.items + length crowd.second.items + length crowd.third.items + length crowd.fourth.items) }
 {
-    let (recorder, mut all) = open::<D, L>(alloc, blank, device, 3, Vec::new(alloc))?;
+    let (budget, script) = link;
+    let scripts = (script, Vec::new(alloc));
+    let (recorder, mut all) = Recorder::<D, L>::open(blank, alloc, device, 2, budget, scripts)?;
     let first = fresh_share(&mut all, 1);
     let second = fresh_share(&mut all, 2);
     let third = fresh_share(&mut all, 3);
@@ -229,25 +153,21 @@ fn gather<D: VhostUserBackendReqHandlerMut<Link = MemLink>, L: Ledger>(
     let Spent {
         share,
         receipts: first,
-        halt: _,
     } = one;
     all.join(share);
     let Spent {
         share,
         receipts: second,
-        halt: _,
     } = two;
     all.join(share);
     let Spent {
         share,
         receipts: third,
-        halt: _,
     } = three;
     all.join(share);
     let Spent {
         share,
         receipts: fourth,
-        halt: _,
     } = four;
     all.join(share);
     Crowd {
@@ -259,15 +179,21 @@ fn gather<D: VhostUserBackendReqHandlerMut<Link = MemLink>, L: Ledger>(
     }
 }
 
-/// Four callers, 1 to 4, in threads of their own, each of whom makes these calls. The log has as many
-/// entries as they have receipts.
+/// Four callers, 1 to 4, in threads of their own, each of whom makes these calls, with a retry limit, and a script of the frontend's
+/// link. The log has as many entries as they have receipts.
 ///
 /// `Halt::OutOfMemory`: an allocation failed before the first call.
 pub(crate) fn four_callers<
     D: VhostUserBackendReqHandlerMut<Link = MemLink> + Send,
     R: Threads + Wait + Sync,
->(rt: &R, alloc: Global, device: D, calls: &[FrontendCall]) -> Result<Crowd<D>, Halt>
+>(
+    rt: &R,
+    alloc: Global,
+    device: D,
+    calls: &[FrontendCall],
+    link: (u32, Vec<Cut>),
+) -> Result<Crowd<D>, Halt>
     ensures { IfOk result (λ crowd. length crowd.log.entries ≡ length crowd.first.items + length crowd.second.items + length crowd.third.items + length crowd.fourth.items) }
 {
-    four_ask::<D, Brand, R>(rt, alloc, Blank::new(5), device, calls)
+    four_ask::<D, Brand, R>(rt, alloc, Blank::new(5), device, calls, link)
 }
