@@ -3,7 +3,7 @@
 use std::alloc::{AllocError, Global};
 use std::thread::Threads;
 use vhost_link::{Kind, PlainHandle};
-use vhost_link_promises::carries;
+use vhost_promises::carries;
 
 /// How many of a thousand bytes, sent in parts with a descriptor each, the ring accepted, and whether its end was compared.
 fn carried<R: Threads + Sync>(rt: &R, alloc: Global) -> Result<(usize, bool), AllocError> {
