@@ -14,6 +14,8 @@ mod ring;
 mod several;
 mod single;
 mod table;
+mod why;
 mod words;
 
 pub use line::call_of;
+pub(crate) use why::why_none;

@@ -11,5 +11,5 @@ mod output;
 pub use answer_text::{Answer, Message, name_of};
 pub use call_words::call_of;
 pub use fault::Fault;
-pub use lines::{run_lines, run_lines_as};
+pub use lines::{explain_lines_as, run_lines, run_lines_as};
 pub use vhost_frontend_core::Profile;
