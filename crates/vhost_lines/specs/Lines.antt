@@ -1,6 +1,7 @@
 -- A text as lines, and what is to become of them.
 use Rattle.std.specs.Prelude.{◌≡◌, ℕ, ◌+◌, Bool, true, false, List, [], ◌∷◌, ◌++◌, Option, Some, None, is_some, ⊤, ◌==◌, if◌then◌else◌, codes, decimal}
-use Rattle.vhost_call_words.specs.Calls.{call_in}
+use Rattle.std.specs.Io.KnownBytes.{Appends}
+use Rattle.vhost_lines.specs.Calls.{call_in}
 
 -- a byte in front of the first of some texts
 abbrev pub with_first : ℕ → List (List ℕ) → List (List ℕ)
@@ -26,6 +27,11 @@ status_of (Some n) = 1
 abbrev pub complaint_of : Option ℕ → List ℕ
 complaint_of None = []
 complaint_of (Some n) = codes "line " ++ (decimal n ++ codes ": bad call\n")
+
+-- what is told of it where its reason is wanted, too: the number of a word, and what is wrong there, behind the same first words
+abbrev pub Explains : Option (List ℕ) → Option (List ℕ) → Option ℕ → Type 0
+Explains old new None = Appends old new []
+Explains old new (Some n) = (word : ℕ) × (reason : List ℕ) × Appends old new (codes "line " ++ (decimal n ++ (codes ": bad call: word " ++ (decimal word ++ (codes ": " ++ (reason ++ codes "\n"))))))
 
 -- a reader gave a line, or was at its end, where its bytes are known
 abbrev pub GivesLine : Option (List ℕ) → Option (List ℕ) → Bool → List ℕ → Type 0

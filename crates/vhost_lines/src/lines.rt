@@ -3,21 +3,21 @@
 ghost use Rattle.std.specs.Prelude.{◌≡◌, ◌≢◌, ◌≤◌, Some, IfSome, IfOk, OnOk, codes};
 ghost use Rattle.vhost_pair.specs.declared.halt.Stop.TheVariants.{Premise};
 ghost use Rattle.std.specs.Io.KnownBytes.{Appends};
-ghost use Rattle.vhost_lines.specs.Lines.{lines, bad_line, status_of, complaint_of, GivesLine};
+ghost use Rattle.vhost_lines.specs.Lines.{lines, bad_line, status_of, complaint_of, Explains, GivesLine};
 ghost use Rattle.vhost_lines.specs.Shown.{line_text};
 ghost use Rattle.vhost_frontend_core.specs.Values.{call_of};
 ghost use Rattle.vhost_protocol.specs.declared.profile.Profile.TheVariants.{Vhost};
 ghost use Rattle.vhost_lines.specs.Run.{ShowsLines, ShowsFront};
 ghost use Rattle.vhost_lines.specs.Session.{IsFresh, Answers, AnswersLines, AnswersFront};
 
+use crate::answer_text::{Answer, Message};
+use crate::call_words::{call_of, why_none};
 use crate::device::{Device, new_device};
 use crate::fault::{Fault, input_fault};
 use crate::output::write_line;
 use std::alloc::Global;
 use std::io;
 use std::io::{BufRead, ErrorKind, Write};
-use vhost_answer_text::{Answer, Message};
-use vhost_call_words::call_of;
 use vhost_device::VhostUserBackendReqHandlerMut;
 use vhost_frontend_core::{FrontendAnswer, FrontendCall, Profile};
 use vhost_link::MemLink;
@@ -64,9 +64,39 @@ pub fn run_lines_as<I: BufRead, W: Write, E: Write>(
     ensures shown { result ≢ 2 → IfSome (I.remaining input.old) (λ text. ShowsLines profile text (W.contents output.old) (W.contents output.new)) }
     ensures front { IfSome (I.remaining input.old) (λ text. ShowsFront profile text (W.contents output.old) (W.contents output.new)) }
 {
-    match answer_lines(alloc, profile, input, output) {
+    let mut line = Vec::new(alloc);
+    match answer_lines(alloc, profile, input, output, &mut line) {
         Ok(None) => 0,
         Ok(Some(number)) => match complain(number, errors) {
+            Ok(()) => 1,
+            Err(_) => 2,
+        },
+        Err(fault) => {
+            tell(fault, errors);
+            2
+        }
+    }
+}
+
+/// The same, where the report of a line that is no call says why: which word is wrong, and what is wrong with it.
+#[tactic(auto, using(crate::proofs::InRun::lines_known, crate::proofs::InRun::front_known))]
+pub fn explain_lines_as<I: BufRead, W: Write, E: Write>(
+    alloc: Global,
+    profile: Profile,
+    input: &mut I,
+    output: &mut W,
+    errors: &mut E,
+) -> u8
+    ensures range { result ≤ 2 }
+    ensures status { result ≢ 2 → IfSome (I.remaining input.old) (λ text. result ≡ status_of (bad_line 1 (lines text))) }
+    ensures told { result ≢ 2 → IfSome (I.remaining input.old) (λ text. Explains (E.contents errors.old) (E.contents errors.new) (bad_line 1 (lines text))) }
+    ensures shown { result ≢ 2 → IfSome (I.remaining input.old) (λ text. ShowsLines profile text (W.contents output.old) (W.contents output.new)) }
+    ensures front { IfSome (I.remaining input.old) (λ text. ShowsFront profile text (W.contents output.old) (W.contents output.new)) }
+{
+    let mut line = Vec::new(alloc);
+    match answer_lines(alloc, profile, input, output, &mut line) {
+        Ok(None) => 0,
+        Ok(Some(number)) => match explain(number, why_none(&line), errors) {
             Ok(()) => 1,
             Err(_) => 2,
         },
@@ -85,6 +115,15 @@ fn complain<E: Write>(number: u64, errors: &mut E) -> io::Result<()>
     errors.flush()
 }
 
+/// The same, and which word is wrong, and what is wrong with it.
+fn explain<E: Write>(number: u64, why: (u64, &'static str), errors: &mut E) -> io::Result<()>
+    ensures { OnOk result (Explains (E.contents errors.old) (E.contents errors.new) (Some number)) }
+{
+    let (word, reason) = why;
+    writeln!(errors, "line {number}: bad call: word {word}: {reason}")?;
+    errors.flush()
+}
+
 /// Reports why the lines can't go on. Where that can't be written either, the report is lost.
 fn tell<E: Write>(fault: Fault, errors: &mut E) {
     if writeln!(errors, "{fault}").is_ok() {
@@ -92,27 +131,27 @@ fn tell<E: Write>(fault: Fault, errors: &mut E) {
     }
 }
 
-/// Answers the lines up to the end, or to one that is no call; its number.
+/// Answers the lines up to the end, or to one that is no call, which is then `line`; its number.
 fn answer_lines<I: BufRead, W: Write>(
     alloc: Global,
     profile: Profile,
     input: &mut I,
     output: &mut W,
+    line: &mut Vec<u8>,
 ) -> Result<Option<u64>, Fault>
     ensures bad { IfOk result (λ bad. IfSome (I.remaining input.old) (λ text. bad ≡ bad_line 1 (lines text))) }
     ensures shown { OnOk result (IfSome (I.remaining input.old) (λ text. AnswersLines profile text (W.contents output.old) (W.contents output.new))) }
     ensures front { IfSome (I.remaining input.old) (λ text. AnswersFront profile text (W.contents output.old) (W.contents output.new)) }
 {
     let mut session = new_session(alloc, profile)?;
-    let mut line = Vec::new(alloc);
     let mut shown = Vec::new(alloc);
     for number in 1..u64::MAX {
-        match read_line(input, &mut line) {
+        match read_line(input, line) {
             Ok(true) => {}
             Ok(false) => return Ok(None),
             Err(error) => return Err(input_fault(error)),
         }
-        match call_of(alloc, &line)? {
+        match call_of(alloc, line)? {
             Some(call) => {
                 show_call(&mut session, &call, &mut shown)?;
                 write_line(output, &shown)?;

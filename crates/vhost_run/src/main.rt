@@ -4,11 +4,11 @@
 use std::io::BufReader;
 use std::process::ExitCode;
 use std::{env, io};
-use vhost_lines::{Fault, Profile, run_lines_as};
+use vhost_lines::{Fault, Profile, explain_lines_as, run_lines_as};
 
 fn main(rt: HostRuntime) -> ExitCode {
-    let Some(profile) = profile_asked(&rt) else {
-        let _ = eprintln!(rt; "usage: vhost_run [--profile=standard|--profile=vhost]");
+    let Some((profile, explains)) = asked(&rt) else {
+        let _ = eprintln!(rt; "usage: vhost_run [-v] [--profile=standard|--profile=vhost]");
         return ExitCode::from(4);
     };
     let Ok(mut input) = BufReader::new(rt.alloc(), rt.reader()) else {
@@ -17,25 +17,26 @@ fn main(rt: HostRuntime) -> ExitCode {
     };
     // The output is not buffered: each line is one write, and a drop writes nothing.
     let mut output = io::writer(&rt);
-    let status = run_lines_as(
-        rt.alloc(),
-        profile,
-        &mut input,
-        &mut output,
-        &mut rt.stderr(),
-    );
-    ExitCode::from(status)
+    let mut errors = rt.stderr();
+    ExitCode::from(if explains {
+        explain_lines_as(rt.alloc(), profile, &mut input, &mut output, &mut errors)
+    } else {
+        run_lines_as(rt.alloc(), profile, &mut input, &mut output, &mut errors)
+    })
 }
 
-/// The profile that the arguments name; without one, that of the crate `vhost`. None: they are something else.
-fn profile_asked(rt: &HostRuntime) -> Option<Profile> {
+/// The profile that the arguments name, without one that of the crate `vhost`; and whether a bad line is to say why. None: they are
+/// something else.
+fn asked(rt: &HostRuntime) -> Option<(Profile, bool)> {
     let mut profile = Profile::Vhost;
+    let mut explains = false;
     for word in env::args(rt).ok()?.skip(1) {
         match word.as_str() {
             "--profile=standard" => profile = Profile::Standard,
             "--profile=vhost" => profile = Profile::Vhost,
+            "-v" => explains = true,
             _ => return None,
         }
     }
-    Some(profile)
+    Some((profile, explains))
 }

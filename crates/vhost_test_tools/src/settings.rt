@@ -39,6 +39,8 @@ pub struct Settings<'a> {
     pub silent: &'a str,
     /// Whether messages have the headers of the vhost-user-gpu channel.
     pub gpu: bool,
+    /// Whether a line that is no call says why.
+    pub explained: bool,
 }
 
 impl<'a> Settings<'a> {
@@ -56,6 +58,7 @@ impl<'a> Settings<'a> {
             serving_cuts: "",
             silent: "",
             gpu: false,
+            explained: false,
         }
     }
 
@@ -90,6 +93,7 @@ impl<'a> Settings<'a> {
                 self.silent = rest;
             }
             "gpu" => self.gpu = true,
+            "explained" => self.explained = true,
             _ => return Ok(false),
         }
         Ok(true)
@@ -107,6 +111,7 @@ fn belongs(kind: &str, word: &str) -> bool {
         "serving_cuts" => matches!(kind, "joined" | "reverse"),
         "silent" => kind == "served",
         "gpu" => kind == "endpoint",
+        "explained" => kind == "lines",
         _ => true,
     }
 }

@@ -3,7 +3,7 @@
 use crate::player::Player;
 use std::alloc::{AllocError, Global};
 use std::sync::Wait;
-use vhost_lines::run_lines;
+use vhost_lines::{Profile, explain_lines_as, run_lines};
 use vhost_test_tools::{Miss, Settings, bytes_of, differs, expect, unreadable};
 
 /// The input of a run, and what it must print.
@@ -14,16 +14,19 @@ pub(crate) struct Lines {
     errors: String,
     /// Whether it has run.
     is_over: bool,
+    /// Whether a bad line says why.
+    explained: bool,
     alloc: Global,
 }
 
 impl Player for Lines {
-    fn new(alloc: Global, _settings: &Settings<'_>, _n: usize) -> Result<Lines, Miss> {
+    fn new(alloc: Global, settings: &Settings<'_>, _n: usize) -> Result<Lines, Miss> {
         Ok(Lines {
             input: Vec::new(alloc),
             output: String::new(alloc),
             errors: String::new(alloc),
             is_over: false,
+            explained: settings.explained,
             alloc,
         })
     }
@@ -71,7 +74,12 @@ impl Lines {
         let mut input = self.input.as_slice();
         let mut output = Vec::new(self.alloc);
         let mut errors = Vec::new(self.alloc);
-        let status = run_lines(self.alloc, &mut input, &mut output, &mut errors);
+        let status = if self.explained {
+            let profile = Profile::Vhost;
+            explain_lines_as(self.alloc, profile, &mut input, &mut output, &mut errors)
+        } else {
+            run_lines(self.alloc, &mut input, &mut output, &mut errors)
+        };
         compare(self.alloc, self.output.as_str(), &output)?;
         compare(self.alloc, self.errors.as_str(), &errors)?;
         let status = format!(in self.alloc; "{status}")?;
