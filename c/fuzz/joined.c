@@ -7,6 +7,25 @@
 static covretin_session session;
 static covretin_backend backend;
 
+/* Whether the two may believe that something else was agreed on: a request was refused whose reply the frontend did not await, or the
+ * device offered other features than before. And what it offered last: features of virtio, and protocol features. */
+static bool may_differ;
+static struct {
+    uint64_t features;
+    bool is_there;
+} offers[2];
+
+/* What the device replied is an offer. */
+static void heed_offer(uint32_t code)
+{
+    unsigned which = code == COVRETIN_CALL_GET_PROTOCOL_FEATURES;
+    if (code != COVRETIN_CALL_GET_FEATURES && code != COVRETIN_CALL_GET_PROTOCOL_FEATURES)
+        return;
+    may_differ = may_differ || (offers[which].is_there && offers[which].features != replied.number);
+    offers[which].features = replied.number;
+    offers[which].is_there = true;
+}
+
 /* A message on its way. */
 static struct {
     uint8_t bytes[COVRETIN_MAX_MESSAGE + 1];
@@ -158,6 +177,8 @@ static enum covretin_error serve(void)
         read_arguments(&backend, must_be_of_request);
         must(is_as_asked(call));
         error = reply_to(&backend, call, must_be_of_request);
+        if (error == COVRETIN_OK)
+            heed_offer(call);
     }
     reply.length = take_reply(&backend, code_of_request(), reply.bytes, reply.fds, &reply.fd_count);
     return error;
@@ -216,12 +237,13 @@ static bool is_as_replied(uint32_t code)
 }
 
 /* The frontend takes the reply. It says that a call succeeded whose reply it awaited only if the device did it, and awaits what does
- * not come only where the call was refused. Whether both go on. */
+ * not come only where this call was refused, or both may believe something else. Whether they go on. */
 static bool take(uint8_t which, bool is_awaited, enum covretin_error served)
 {
     enum covretin_error error = covretin_take(&session);
     outcome(number_of(which) + 64, error);
-    must(error != COVRETIN_NOT_YET || served != COVRETIN_OK);
+    must(error != COVRETIN_NOT_YET || served != COVRETIN_OK || may_differ);
+    may_differ = may_differ || (served != COVRETIN_OK && !is_awaited);
     if (is_starved(served) || is_starved(error) || error == COVRETIN_NOT_YET)
         return false;
     if (error == COVRETIN_OK) {
@@ -278,6 +300,8 @@ static void open_both(void)
 void run_session(void)
 {
     open_both();
+    may_differ = false;
+    memset(offers, 0, sizeof offers);
     while (more_steps()) {
         set(next_byte());
         if (!exchange())
