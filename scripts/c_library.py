@@ -3,6 +3,9 @@
 """Builds the proved library for programs in C, crates/vhost_c/out/libvhost_c.a, where it is not there or a source is newer,
 and beside it libvhost_c.verdict, the line in which the checker says what is proved. Status 0, or 3 with why not.
 
+`c_library.py --watched` builds it once more, as out/watched/libvhost_c.a: the same proved functions, compiled with a counter at each
+branch, by which libFuzzer sees where an input went (`./vhost-fuzz`).
+
 The libraries below it are taken as `rt ci` or `rt lib` left them in out/, and then only vhost_c is proved. Where one is
 missing or older than its sources, each is built by `rt lib` first, lowest first. In that order `rt lib` has no need of its
 quick pass over all sources at once, which reports errors in functions that this library does not reach.
@@ -19,6 +22,7 @@ NAME = "vhost_c"
 CRATE = f"{TOP}/crates/{NAME}"
 ARCHIVE = f"{CRATE}/out/lib{NAME}.a"
 VERDICT = f"{CRATE}/out/lib{NAME}.verdict"
+WATCHED = f"{CRATE}/out/watched/lib{NAME}.a"
 # It runs on every processor of the family.
 CPU = "x86-64"
 
@@ -70,19 +74,34 @@ def run(folder, *words):
     return ran.stdout, ran.returncode == 0
 
 
-def over_libraries(kit, uses):
+def watching(kit):
+    """The kit's toolchain, in a folder of links, with a compiler that puts a counter at each branch."""
+    theirs, folder = f"{kit}/toolchain", f"{os.path.dirname(WATCHED)}/toolchain"
+    shutil.rmtree(folder, ignore_errors=True)
+    os.makedirs(f"{folder}/bin")
+    os.symlink(f"{theirs}/lib", f"{folder}/lib")
+    for it in os.listdir(f"{theirs}/bin"):
+        if it != "clang":
+            os.symlink(f"{theirs}/bin/{it}", f"{folder}/bin/{it}")
+    with open(f"{folder}/bin/clang", "w", encoding="utf-8") as it:
+        it.write(f'#!/bin/sh\nexec "{theirs}/bin/clang" -fsanitize-coverage=inline-8bit-counters,pc-table "$@"\n')
+    os.chmod(f"{folder}/bin/clang", 0o755)
+    return folder
+
+
+def over_libraries(kit, uses, archive, toolchain):
     """Proves and builds it over the libraries that are there."""
     words = ["--crate-name", NAME, "src/lib.rt", "--crate-type", "staticlib", "--cpu", CPU, "--links", f"{NAME}=", "--backend", "llvm"]
     for it in ["std", *uses[NAME]]:
         words += ["--extern", f"{it}={rlib(it) if it in uses else f'{kit}/rlibs/{it}.rlib'}"]
     for it in [f"{kit}/rlibs", *(os.path.dirname(rlib(it)) for it in below(NAME, uses))]:
         words += ["-L", f"dependency={it}"]
-    words += ["--antt-project", f"{kit}/rattle/logic/antt-project.json", "--logic-built", f"{kit}/logic_built", "--toolchain", f"{kit}/toolchain"]
+    words += ["--antt-project", f"{kit}/rattle/logic/antt-project.json", "--logic-built", f"{kit}/logic_built", "--toolchain", toolchain]
     jobs = os.environ.get("RT_JOBS") or min(len(os.sched_getaffinity(0)), 4)
-    words += ["--jobs", str(jobs), "-o", ARCHIVE]
+    words += ["--jobs", str(jobs), "-o", archive]
     # (with work that checks kept it takes a minute, and then the checker's line says so)
     words += ["--incremental", "out/incremental"] if os.path.isdir(f"{CRATE}/out/incremental") else []
-    os.makedirs(os.path.dirname(ARCHIVE), exist_ok=True)
+    os.makedirs(os.path.dirname(archive), exist_ok=True)
     return run(CRATE, f"{kit}/bin/rattle", "build", *words)
 
 
@@ -100,18 +119,11 @@ def with_libraries(uses):
     return said, True
 
 
-def main():
-    if not shutil.which("rt"):
-        stop("the command rt of the Rattle kit is not on PATH")
-    uses = used()
-    names = [*below(NAME, uses), NAME]
-    if is_current(ARCHIVE, names) and is_current(VERDICT, names):
-        return
-    began = time.time()
-    kit = os.path.dirname(run(TOP, "rt", "doc")[0].strip())
+def build(kit, uses, names):
+    """Proves and builds the library, with those below it where they are not there."""
     is_built = False
     if all(is_current(rlib(it), [*below(it, uses), it]) for it in names[:-1]):
-        said, is_built = over_libraries(kit, uses)
+        said, is_built = over_libraries(kit, uses, ARCHIVE, f"{kit}/toolchain")
     if not is_built:
         said, is_built = with_libraries(uses)
     lines = re.findall(r"(?m)^logic=proved .*$", said)
@@ -120,9 +132,36 @@ def main():
         stop("not proved, or not built")
     with open(VERDICT, "w", encoding="utf-8") as it:
         it.write(f"{lines[-1]}\n")
+
+
+def watch(kit, uses):
+    """Builds it once more, with counters."""
+    said, is_built = over_libraries(kit, uses, WATCHED, watching(kit))
+    if not is_built:
+        print(said, end="", file=sys.stderr)
+        stop("not built with counters")
+
+
+def main(words):
+    if words not in ([], ["--watched"]):
+        print("usage: c_library.py [--watched]", file=sys.stderr)
+        sys.exit(3)
+    if not shutil.which("rt"):
+        stop("the command rt of the Rattle kit is not on PATH")
+    uses = used()
+    names = [*below(NAME, uses), NAME]
+    kit = os.path.dirname(run(TOP, "rt", "doc")[0].strip())
+    began = time.time()
+    made = []
+    if not (is_current(ARCHIVE, names) and is_current(VERDICT, names)):
+        build(kit, uses, names)
+        made += [ARCHIVE, VERDICT]
+    if words and not is_current(WATCHED, names):
+        watch(kit, uses)
+        made.append(WATCHED)
     # (what is changed while it is built is newer)
-    for it in (ARCHIVE, VERDICT):
+    for it in made:
         os.utime(it, (began, began))
 
 
-main()
+main(sys.argv[1:])

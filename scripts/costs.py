@@ -2,11 +2,12 @@
 # SPDX-License-Identifier: Apache-2.0
 """costs.py PROGRAM: what one more of each figure's work costs, beside time.
 
-PROGRAM is vhost_bench. Each figure's work is done so often and twice as often; the difference, divided, is one's: system calls (by strace,
-those that a message makes: read, write, send and receive, and waiting), growths of memory, bytes copied and set by the C library's
-functions (by scripts/count.c, loaded before the C library), and the smallest stack, in kilobytes, under which the work still ends.
+PROGRAM is crates/vhost_c/out/bench, which ./bench compiles. Each figure's work is done so often and twice as often; the difference,
+divided, is one's: system calls (by strace, those that a message makes: read, write, send and receive, and waiting), growths of memory,
+bytes copied and set by the C library's functions (by scripts/count.c, loaded before the C library), instructions (by valgrind, of all
+threads), and the smallest stack, in kilobytes, under which the work still ends.
 
-Status 0; 2 where a tool (cc, strace) or the program is not there, or a run failed.
+Status 0; 2 where a tool (cc, strace, valgrind) or the program is not there, or a run failed.
 """
 import os
 import re
@@ -18,19 +19,22 @@ import tempfile
 
 # A figure, and how often its work is done at first.
 FIGURES = {
-    "served_get_features": 1000,
-    "served_set_vring_num": 1000,
-    "served_acknowledged": 1000,
-    "served_get_config_256": 1000,
-    "socket_queued": 1000,
-    "socket_served": 200,
+    "backend_get_features": 1000,
+    "backend_set_vring_num": 1000,
+    "backend_acknowledged": 1000,
+    "backend_get_config_256": 1000,
+    "frontend_get_features": 1000,
+    "frontend_set_vring_num": 1000,
+    "frontend_acknowledged": 1000,
+    "frontend_get_config_256": 1000,
+    "both_get_features": 1000,
+    "both_get_config_256": 1000,
+    "both_set_mem_table_8": 1000,
+    "service_queued": 1000,
+    "service_trip": 200,
     "threads_get_features": 200,
     "threads_acknowledged": 200,
     "threads_get_config_256": 200,
-    "joined_get_features": 1000,
-    "joined_get_config_256": 1000,
-    "joined_set_mem_table_8": 1000,
-    "line_get_features": 1000,
 }
 CALLS = "read,readv,recvfrom,recvmsg,write,writev,sendto,sendmsg,poll,ppoll"
 
@@ -53,6 +57,15 @@ def counts(program, library, room, figure, count):
     run([program, "--one", figure, str(count)], env={**os.environ, "LD_PRELOAD": library, "COUNTS": told})
     with open(told, "rb") as it:
         return struct.unpack("=3Q", it.read())
+
+
+def instructions(program, figure, count):
+    words = ["valgrind", "--tool=callgrind", "--callgrind-out-file=/dev/null", program, "--one", figure, str(count)]
+    ran = subprocess.run(words, stdout=subprocess.DEVNULL, stderr=subprocess.PIPE, text=True)
+    found = re.search(r"Collected : (\d+)", ran.stderr)
+    if ran.returncode or not found:
+        sys.exit(f"costs: valgrind of {figure} ended with status {ran.returncode}: {ran.stderr[-300:]}")
+    return int(found[1])
 
 
 def ends_within(program, figure, kilobytes):
@@ -80,12 +93,13 @@ def main():
         library = f"{room}/count.so"
         source = f"{os.path.dirname(os.path.abspath(__file__))}/count.c"
         run(["cc", "-O1", "-fno-builtin", "-shared", "-fPIC", "-o", library, source, "-ldl"])
-        print("figure calls growths copied set stack")
+        print("figure calls growths copied set instructions stack")
         for figure, count in FIGURES.items():
             calls = (system_calls(program, room, figure, 2 * count) - system_calls(program, room, figure, count)) / count
             more, less = (counts(program, library, room, figure, it) for it in (2 * count, count))
             each = [(a - b) / count for a, b in zip(more, less)]
-            print(f"{figure} {calls:.2f} {each[0]:.2f} {each[1]:.0f} {each[2]:.0f} {stack(program, figure)}", flush=True)
+            work = (instructions(program, figure, 2 * count) - instructions(program, figure, count)) / count
+            print(f"{figure} {calls:.2f} {each[0]:.2f} {each[1]:.0f} {each[2]:.0f} {work:.0f} {stack(program, figure)}", flush=True)
 
 
 if __name__ == "__main__":

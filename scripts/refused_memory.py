@@ -61,20 +61,18 @@ def refuse_all(words, given, library, room):
 
 
 def main():
-    top, name, program = sys.argv[1:]
+    top, program = sys.argv[1:]
     with tempfile.TemporaryDirectory() as room:
         library = f"{room}/refuse.so"
         made = subprocess.run(["cc", "-shared", "-fPIC", "-O2", "-o", library, f"{top}/scripts/refuse.c", "-ldl"], check=False)
         if made.returncode:
             return 3
-        runs = [([program, "1", "300"], b"")]
-        if name == "vhost-run":
-            runs = [([program], given) for given in sessions(top)]
+        runs = [([program], given) for given in sessions(top)]
         sums = [0, 0, 0, 0]
         for words, given in runs:
             sums = [a + b for a, b in zip(sums, refuse_all(words, given, library, room))]
     same, device, front, other = sums
-    print(f"{name}: {len(runs)} runs, {sum(sums)} growths refused: {same} ended as else, {device} with a refusal of the device, {front} with status 2, {other} otherwise")
+    print(f"vhost-run: {len(runs)} runs, {sum(sums)} growths refused: {same} ended as else, {device} with a refusal of the device, {front} with status 2, {other} otherwise")
     return 1 if other else 0
 
 

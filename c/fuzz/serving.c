@@ -1,7 +1,6 @@
 /* SPDX-License-Identifier: Apache-2.0 */
 /* A backend's session whose frontend sends anything, and whose device answers anything. */
-#include "covretin_backend.h"
-#include "input.h"
+#include "serves.h"
 
 static covretin_backend backend;
 
@@ -26,15 +25,21 @@ static void must_be_own(int32_t fd)
 }
 
 /* Hands in a piece. */
-static void receive(struct input *input)
+static void receive(void)
 {
+    enum covretin_error error;
     size_t missing = covretin_backend_missing(&backend);
+    uint32_t none = 0;
     struct piece piece;
     must(missing <= COVRETIN_MAX_MESSAGE - 12 && (came >= 12 || missing <= 12 - came));
-    next_piece(input, missing, &piece);
+    must(missing == 0 || (covretin_backend_next(&backend, &none) == COVRETIN_NOT_YET && none == 0));
+    next_piece(missing, &piece);
     if (piece.length == 0)
         return;
-    must(covretin_backend_receive(&backend, piece.bytes, piece.length, piece.fds, piece.fd_count) == COVRETIN_OK);
+    do
+        error = covretin_backend_receive(&backend, piece.bytes, piece.length, piece.fds, piece.fd_count);
+    while (is_again(error));
+    must(error == COVRETIN_OK);
     if (came == 0) {
         memcpy(own, piece.fds, sizeof own);
         own_count = piece.fd_count;
@@ -45,125 +50,88 @@ static void receive(struct input *input)
     memcpy(&code, header, sizeof code);
 }
 
-/* Reads the arguments in every form: at most one is the call's. */
-static void read_arguments(void)
-{
-    static uint8_t bytes[COVRETIN_MAX_CONFIG];
-    covretin_region regions[32], log = {.fd = -1};
-    covretin_inflight inflight;
-    covretin_config config;
-    covretin_vring ring;
-    uint64_t number;
-    uint32_t first, second;
-    size_t count = 0, forms = 0;
-    bool listening;
-    int32_t fd = -1;
-    forms += covretin_call_number(&backend, &number) == COVRETIN_OK;
-    forms += covretin_call_ring(&backend, &first, &second) == COVRETIN_OK;
-    forms += covretin_call_vring(&backend, &first, &ring) == COVRETIN_OK;
-    forms += covretin_call_ring_fd(&backend, &first, &fd) == COVRETIN_OK;
-    if (covretin_call_regions(&backend, regions, 32, &count, &listening) == COVRETIN_OK) {
-        forms++;
-        must(count >= 1 && count <= 32);
-        for (size_t i = 0; i < count; i++)
-            must_be_own(regions[i].fd);
-    }
-    if (covretin_call_config(&backend, &config, bytes, sizeof bytes, &count) == COVRETIN_OK) {
-        forms++;
-        must(count <= COVRETIN_MAX_CONFIG && (count == 0 || count == config.size));
-    }
-    forms += covretin_call_fd(&backend, &fd) == COVRETIN_OK;
-    forms += covretin_call_name(&backend, bytes, 16) == COVRETIN_OK;
-    forms += covretin_call_inflight(&backend, &inflight, &fd) == COVRETIN_OK;
-    forms += covretin_call_transfer(&backend, &first, &second, &fd) == COVRETIN_OK;
-    forms += covretin_call_log(&backend, &log) == COVRETIN_OK;
-    must_be_own(fd);
-    must_be_own(log.fd);
-    must(forms <= 1);
-}
-
-enum { REPLIED_FD = 7 };
-
-/* Replies as the input says. */
-static enum covretin_error reply(struct input *input)
-{
-    static const uint64_t bases[32] = {4096, 8192};
-    static uint64_t sizes[256];
-    static uint8_t bytes[COVRETIN_MAX_CONFIG];
-    const covretin_inflight inflight = {4096, 0, 1, 8};
-    uint8_t form = next_byte(input);
-    sizes[form] = next_number(input);
-    switch (form % 9) {
-    case 0: return covretin_reply_done(&backend);
-    case 1: return covretin_reply_number(&backend, next_number(input));
-    case 2: return covretin_reply_ring(&backend, next_byte(input), next_byte(input));
-    case 3: return covretin_reply_bases(&backend, bases, next_byte(input) % 33);
-    case 4: return covretin_reply_config(&backend, bytes, next_number(input) % (COVRETIN_MAX_CONFIG + 1));
-    case 5: return covretin_reply_fd(&backend, next_byte(input) % 2 ? REPLIED_FD : -1);
-    case 6: return covretin_reply_inflight(&backend, &inflight, REPLIED_FD);
-    case 7: return covretin_reply_shmem(&backend, sizes, 256, next_byte(input));
-    default: return covretin_reply_refused(&backend);
-    }
-}
-
-/* Takes what is to be sent: a reply to the request that came last, whole, or nothing. */
 static void send_all(uint32_t to)
 {
-    uint8_t bytes[COVRETIN_MAX_MESSAGE];
-    int32_t fds[COVRETIN_MAX_FDS];
-    size_t count = 0, fd_count = 0;
-    uint32_t head[3];
-    must(covretin_backend_to_send(&backend, bytes, sizeof bytes, fds, COVRETIN_MAX_FDS, &count, &fd_count) == COVRETIN_OK);
-    must(fd_count <= 1 && (fd_count == 0 || fds[0] == REPLIED_FD));
-    if (count == 0)
-        return;
-    must(count >= sizeof head);
-    memcpy(head, bytes, sizeof head);
-    must(head[0] == to && (head[1] & 7) == 5 && head[2] == count - 12);
-    must(covretin_backend_to_send(&backend, bytes, sizeof bytes, fds, COVRETIN_MAX_FDS, &count, &fd_count) == COVRETIN_OK);
-    must(count == 0 && fd_count == 0);
+    static uint8_t bytes[COVRETIN_MAX_MESSAGE + 1];
+    int32_t fds[2 * COVRETIN_MAX_FDS];
+    size_t fd_count = 0;
+    take_reply(&backend, to, bytes, fds, &fd_count);
 }
 
-/* Checks the request, if it is there, and has the device reply. Whether the session is of more use. */
-static bool serve(struct input *input)
+/* A session that was broken amid a reply stays so: it serves nothing that comes, and sends nothing more. */
+static bool is_broken(void)
 {
+    static const uint8_t get_features[12] = {1, [4] = 1};
+    enum covretin_error error;
+    uint32_t call = 0;
+    size_t missing;
+    for (size_t at = 0; at < sizeof get_features && (missing = covretin_backend_missing(&backend)) != 0; at += missing) {
+        do
+            error = covretin_backend_receive(&backend, get_features + at, missing, own, 0);
+        while (is_again(error));
+        must(error == COVRETIN_OK);
+    }
+    error = covretin_backend_next(&backend, &call);
+    must((error == COVRETIN_SOCKET_BROKEN || is_again(error)) && call == 0);
+    send_all(0);
+    return true;
+}
+
+/* Has the device reply; at times the session has another profile from then on. Whether it is of more use. */
+static bool reply(uint32_t call)
+{
+    enum covretin_error error;
+    must(covretin_backend_missing(&backend) == 0 && covretin_backend_next(&backend, &call) == COVRETIN_NOT_REPLIED);
+    must(covretin_backend_set_profile(&backend, COVRETIN_PROFILE_VHOST) == COVRETIN_NOT_REPLIED);
+    TELL(call);
+    error = reply_to(&backend, call, must_be_own);
+    must(covretin_reply_refused(&backend) == COVRETIN_NOTHING_ASKED);
+    if (replied.form >= 240)
+        outcome(511, covretin_backend_set_profile(&backend, replied.form % 3));
+    return error != COVRETIN_SOCKET_RETRY && error != COVRETIN_SOCKET_BROKEN ? true : !is_broken();
+}
+
+/* Checks the request, if it is there, and serves it. Whether the session is of more use. */
+static bool serve(void)
+{
+    bool goes_on;
     uint32_t call = 0, of = code;
     enum covretin_error error = covretin_backend_next(&backend, &call);
     if (error == COVRETIN_NOT_YET)
         return true;
-    note(error, of < 64 ? of : 64);
-    if (error == COVRETIN_OK) {
-        must(covretin_backend_missing(&backend) == 0 && covretin_backend_next(&backend, &call) == COVRETIN_NOT_REPLIED);
-        note(100, call);
-        for (int tries = 0; tries < 3; tries++) {
-            read_arguments();
-            error = reply(input);
-            note(call, error);
-            if (error != COVRETIN_OTHER_CALL && error != COVRETIN_INVALID_PARAM)
-                break;
-        }
-        if (error == COVRETIN_OTHER_CALL || error == COVRETIN_INVALID_PARAM)
-            error = covretin_reply_refused(&backend);
-        must(covretin_reply_refused(&backend) == COVRETIN_NOTHING_ASKED);
-    } else
-        must(call == 0);
+    outcome(512 + (of < 64 ? of : 64), error);
+    must(error == COVRETIN_OK || (call == 0 && covretin_reply_refused(&backend) == COVRETIN_NOTHING_ASKED));
+    if (error == COVRETIN_OK)
+        goes_on = reply(call);
+    else
+        goes_on = error != COVRETIN_INVALID_MESSAGE && error != COVRETIN_SOCKET_BROKEN;
     forget_request();
-    read_arguments();
+    read_arguments(&backend, must_be_own);
+    must(called.form == NO_FORM);
     send_all(of);
-    return error != COVRETIN_INVALID_MESSAGE && error != COVRETIN_SOCKET_BROKEN;
+    return goes_on;
 }
 
-int LLVMFuzzerTestOneInput(const uint8_t *data, size_t size)
+/* Where the stream ends is where it was cut. */
+static void end(void)
 {
-    struct input input = {data, size};
-    must(covretin_backend_open(&backend) == COVRETIN_OK);
+    enum covretin_error error = covretin_backend_end(&backend);
+    must(error == (came == 0 ? COVRETIN_DISCONNECTED : came < 12 ? COVRETIN_PARTIAL_MESSAGE : COVRETIN_INVALID_MESSAGE));
+}
+
+void run_session(void)
+{
+    enum covretin_error error;
+    do
+        error = covretin_backend_open(&backend);
+    while (is_again(error));
+    must(error == COVRETIN_OK);
     forget_request();
-    while (input.left != 0) {
-        receive(&input);
-        if (covretin_backend_missing(&backend) == 0 && !serve(&input))
+    while (more_bytes()) {
+        receive();
+        if (covretin_backend_missing(&backend) == 0 && !serve())
             break;
     }
-    note(101, covretin_backend_end(&backend));
+    end();
     covretin_backend_close(&backend);
-    return 0;
 }
