@@ -2,6 +2,7 @@ pub mod Exits
 pub mod Taking
 pub mod Asking
 pub mod Awaiting
+pub mod Wanting
 pub mod Tables
 pub mod TakingTable
 pub mod ReplyingConfig

@@ -7,7 +7,7 @@ ghost use Rattle.vhost_frontend_core.specs.Frontend.{MayAsk, awaits};
 ghost use Rattle.vhost_frontend_core.specs.Halves.{AsksHalf, AsksHalfWithRoom};
 ghost use Rattle.vhost_frontend_core.specs.Kept.{IsKeptFor};
 ghost use Rattle.vhost_frontend_core.specs.Values.{call_of, info_of, log_region_of};
-ghost use Rattle.vhost_frontend_core.specs.ValueHalves.{IsSent, IsProper, AsksCall, AsksWell, awaited_after};
+ghost use Rattle.vhost_frontend_core.specs.ValueHalves.{IsSent, IsProper, AsksCall, AsksWell, WantsFor, awaited_after};
 
 use crate::asked::Sent;
 use crate::internal::FrontendInternal;
@@ -21,13 +21,15 @@ use vhost_message::{
 
 /// Sends the request by the half of the call's name. None: nothing is sent for the call, and it was done.
 ///
-/// Errors are those of that half.
+/// Errors are those of that half. OutOfMemory: an allocation failed, and nothing changed; only where a call makes room for
+/// its answer, or where the descriptor buffer was moved out.
 pub fn ask(frontend: &mut FrontendInternal<MemLink>, call: &FrontendCall) -> Result<Option<Sent>>
     requires { MayAsk frontend.old }
     ensures asked { AsksCall (call_of call.now) frontend.old result frontend.new }
     ensures awaited { awaits frontend.new ≡ awaited_after result (awaits frontend.old) }
     ensures kept { IfOk result (λ asked. IfSome asked (λ sent. IsKeptFor (call_of call.now) sent.awaited sent.kept)) }
     ensures proper { IfOk result (λ asked. IfSome asked (λ sent. IsProper (call_of call.now))) }
+    ensures memory { WantsFor (call_of call.now) frontend.old result frontend.new }
 {
     match call {
         FrontendCall::SetHdrFlags(flags) => {
@@ -171,11 +173,13 @@ fn ask_log_base(
 }
 
 /// The half of SET_MEM_TABLE. More regions than a table may have are refused.
+#[tactic(auto, using(crate::proofs::ValuePlain::wants_for_table))]
 fn ask_table(frontend: &mut FrontendInternal<MemLink>, regions: &[RegionInfo]) -> Result<Sent>
     requires { MayAsk frontend.old }
     ensures asked { AsksHalfWithRoom event (calls.SetMemTable (map info_of regions.now)) frontend.old result frontend.new }
     ensures kept { IfOk result (λ sent. IsKeptFor (calls.SetMemTable (map info_of regions.now)) sent.awaited sent.kept) }
     ensures proper { IfOk result (λ _. IsProper (calls.SetMemTable (map info_of regions.now))) }
+    ensures memory { WantsFor (calls.SetMemTable (map info_of regions.now)) frontend.old result frontend.new }
 {
     if regions.len() > MAX_MEM_REGIONS {
         return Err(Error::InvalidParam);
