@@ -25,6 +25,7 @@ const TURNS: usize = 199;
 /// The calls of a turn.
 const CALLS: usize = 100;
 const CONFIG: usize = 256;
+const MAX_MESSAGE: usize = 4108;
 /// Room for 32 descriptors beside a message.
 const ROOM: usize = 24 + 32 * size_of::<RawFd>();
 
@@ -76,10 +77,17 @@ fn measure(turns: usize) -> covretin::Result<()> {
     for Figure { name, call, request, reply } in FIGURES {
         let (mine, other) = UnixStream::pair().map_err(Error::SocketError)?;
         // (it ends with the stream)
-        let answering = thread::spawn(move || while receive(&other, request).is_ok() && send(&other, reply).is_ok() {});
+        let answering = thread::spawn(move || {
+            let mut bytes = [0; MAX_MESSAGE];
+            while receive(&other, &mut bytes, request).is_ok() && send(&other, &bytes, reply).is_ok() {}
+        });
+        let mut bytes = [0; MAX_MESSAGE];
         let (mut alone, mut whole) = (Vec::new(), Vec::new());
         for _ in 0..turns {
-            alone.push(turn(|| Ok(send(&mine, request).and_then(|()| receive(&mine, reply)).map_err(Error::SocketError)?))?);
+            alone.push(turn(|| {
+                let sent = send(&mine, &bytes, request);
+                Ok(sent.and_then(|()| receive(&mine, &mut bytes, reply)).map_err(Error::SocketError)?)
+            })?);
             whole.push(turn(|| call(&mut frontend))?);
         }
         drop(mine);
@@ -106,10 +114,9 @@ fn middle(mut figures: Vec<f64>) -> f64 {
 }
 
 /// Sends a message with a body of this size.
-fn send(socket: &UnixStream, size: usize) -> io::Result<()> {
-    let mut bytes = [0u8; 4108];
-    let mut piece = libc::iovec { iov_base: bytes.as_mut_ptr().cast(), iov_len: 12 + size };
-    // SAFETY: the message points to the bytes, which outlive the call.
+fn send(socket: &UnixStream, bytes: &[u8; MAX_MESSAGE], size: usize) -> io::Result<()> {
+    let mut piece = libc::iovec { iov_base: bytes.as_ptr() as *mut libc::c_void, iov_len: 12 + size };
+    // SAFETY: the message points to the bytes, which outlive the call and are only read.
     let sent = unsafe {
         let mut message: libc::msghdr = zeroed();
         message.msg_iov = &mut piece;
@@ -120,8 +127,7 @@ fn send(socket: &UnixStream, size: usize) -> io::Result<()> {
 }
 
 /// Receives a header, and then a body of this size, with room for descriptors.
-fn receive(socket: &UnixStream, size: usize) -> io::Result<()> {
-    let mut bytes = [0u8; 4108];
+fn receive(socket: &UnixStream, bytes: &mut [u8; MAX_MESSAGE], size: usize) -> io::Result<()> {
     for size in [12, size].into_iter().filter(|size| *size != 0) {
         let mut room = [0u64; ROOM / 8];
         let mut piece = libc::iovec { iov_base: bytes.as_mut_ptr().cast(), iov_len: size };

@@ -135,6 +135,7 @@ impl Server {
     }
 
     /// Refuses a request, and acknowledges that where it wants an acknowledgement.
+    #[cold]
     fn refuse<L: Link>(
         &mut self,
         endpoint: &mut Endpoint<Header, L>,

@@ -110,6 +110,7 @@ impl<M: MsgHeader, L: Link> Endpoint<M, L> {
 
     /// The link failed: this poisons the endpoint if something has moved.
     #[tactic(auto, using(crate::proofs::Errors::no_memory_error), unfolding(crate::specs::State::ahead_of))]
+    #[cold]
     fn fail(&mut self, cause: IoCause, moved: bool) -> Error
         ensures error { result ≡ error_of cause }
         ensures memory { result ≢ OutOfMemory }

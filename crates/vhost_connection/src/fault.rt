@@ -10,6 +10,7 @@ use vhost_message::{Error, MsgHeader};
 
 /// Poisons the endpoint where a call between a request and the end of its answer met an I/O error of the link, whether or not a
 /// byte had moved. Its cause is that of the error, unless the endpoint was poisoned before.
+#[cold]
 pub fn break_on_fault<M: MsgHeader, L: Link>(end: &mut Endpoint<M, L>, error: &Error)
     ensures { state end.new ≡ broken_on error.now (state end.old) }
 {

@@ -16,6 +16,7 @@ pub struct HandleList<H> {
 
 impl<H> HandleList<H> {
     /// A new buffer, unless its allocation failed.
+    #[cold]
     pub fn new(alloc: Global) -> Result<HandleList<H>, AllocError> {
         Ok(HandleList {
             list: Vec::with_capacity(alloc, MAX_ATTACHED_FD_ENTRIES)?,

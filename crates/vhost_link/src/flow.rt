@@ -80,6 +80,15 @@ impl Flow {
         find_handles(&self.marks, self.from + index)
     }
 
+    /// Forgets all bytes, and keeps the buffer.
+    pub(crate) fn clear(&mut self)
+        ensures { self.new ≡ [] }
+    {
+        self.bytes.clear();
+        self.marks.clear();
+        self.from = 0;
+    }
+
     /// Begins again at the start of the buffer, where at least half of it has gone.
     fn restart(&mut self)
         ensures { self.new ≡ self.old }

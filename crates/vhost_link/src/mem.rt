@@ -73,6 +73,9 @@ impl MemLink {
         ensures refused { OnErr result ((from.new ≡ from.old) × (to.new ≡ to.old)) }
         ensures succeeds { to.old.pending ≡ [] → IsOk result }
     {
+        if from.sent.is_empty() {
+            return Ok(());
+        }
         if to.pending.is_empty() {
             swap(&mut from.sent, &mut to.pending);
             return Ok(());
@@ -80,11 +83,11 @@ impl MemLink {
         to.pending.append(&mut from.sent)
     }
 
-    /// Forgets what it would hand out.
+    /// Forgets what it would hand out. The room for it is kept for what comes next.
     pub fn forget(&mut self)
         ensures { self.new ≡ record self.old { pending = [] } }
     {
-        self.pending = Flow::new(self.alloc);
+        self.pending.clear();
     }
 
     /// Puts bytes behind what it will hand out, with the descriptors on the first of them.

@@ -15,4 +15,4 @@ pub(crate) use display::DisplaySession;
 pub(crate) use moving::{Asks, Code, Moves, Outcome, Serves, MAX_FDS, MAX_MESSAGE};
 pub(crate) use session::{Inflight, Region, Session, Vring};
 pub(crate) use signals::EndSignals;
-pub(crate) use socket::{is_ready, option_of, receive, receive_any, send, Received};
+pub(crate) use socket::{is_ready, numbers_of, option_of, receive, receive_any, send, Received};

@@ -5,6 +5,7 @@ use std::mem::{size_of, size_of_val, zeroed, MaybeUninit};
 use std::os::unix::io::{AsRawFd, FromRawFd, OwnedFd, RawFd};
 use std::os::unix::net::UnixStream;
 use std::ptr::copy_nonoverlapping;
+use std::slice::from_raw_parts;
 
 use super::moving::MAX_FDS;
 
@@ -37,7 +38,7 @@ pub(crate) struct Received {
 /// Sends a part of these bytes, at least one, with all of the descriptors on the first of them: how many bytes. It raises no
 /// SIGPIPE. The descriptors stay the caller's; there are `SYSTEM_FDS` at most.
 pub(crate) fn send(socket: &UnixStream, bytes: &[u8], fds: &[RawFd], is_waiting: bool) -> io::Result<usize> {
-    let mut control;
+    let mut control = MaybeUninit::<Control>::uninit();
     let mut piece = libc::iovec { iov_base: bytes.as_ptr() as *mut libc::c_void, iov_len: bytes.len() };
     let flags = libc::MSG_NOSIGNAL | if is_waiting { 0 } else { libc::MSG_DONTWAIT };
     // SAFETY: a message of zeros is valid, and has no parts.
@@ -45,24 +46,29 @@ pub(crate) fn send(socket: &UnixStream, bytes: &[u8], fds: &[RawFd], is_waiting:
     message.msg_iov = &mut piece;
     message.msg_iovlen = 1;
     if !fds.is_empty() {
-        assert!(fds.len() <= SYSTEM_FDS);
-        let length = size_of_val(fds) as u32;
-        control = Control { bytes: [0; ROOM] };
-        message.msg_control = (&mut control as *mut Control).cast();
-        // SAFETY: the control data has room for a header and SYSTEM_FDS descriptors, so the header is there, and its data is behind
-        // it. The descriptors are copied as bytes, since that data need not be aligned for them.
-        unsafe {
-            message.msg_controllen = libc::CMSG_SPACE(length) as _;
-            let head = libc::CMSG_FIRSTHDR(&message);
-            (*head).cmsg_level = libc::SOL_SOCKET;
-            (*head).cmsg_type = libc::SCM_RIGHTS;
-            (*head).cmsg_len = libc::CMSG_LEN(length) as _;
-            copy_nonoverlapping(fds.as_ptr().cast::<u8>(), libc::CMSG_DATA(head), length as usize);
-        }
+        attach(&mut message, &mut control, fds);
     }
     // SAFETY: the message points to `piece`, the bytes and `control`, which all outlive the call; the bytes are only read.
     let sent = unsafe { libc::sendmsg(socket.as_raw_fd(), &message, flags) };
     usize::try_from(sent).map_err(|_| io::Error::last_os_error())
+}
+
+/// Lets a message bring these descriptors, of which there are `SYSTEM_FDS` at most. It points to the control data then.
+#[cold]
+fn attach(message: &mut libc::msghdr, control: &mut MaybeUninit<Control>, fds: &[RawFd]) {
+    assert!(fds.len() <= SYSTEM_FDS);
+    let length = size_of_val(fds) as u32;
+    message.msg_control = (control.write(Control { bytes: [0; ROOM] }) as *mut Control).cast();
+    // SAFETY: the control data has room for a header and SYSTEM_FDS descriptors, so the header is there, and its data is behind it.
+    // The descriptors are copied as bytes, since that data need not be aligned for them.
+    unsafe {
+        message.msg_controllen = libc::CMSG_SPACE(length) as _;
+        let head = libc::CMSG_FIRSTHDR(message);
+        (*head).cmsg_level = libc::SOL_SOCKET;
+        (*head).cmsg_type = libc::SCM_RIGHTS;
+        (*head).cmsg_len = libc::CMSG_LEN(length) as _;
+        copy_nonoverlapping(fds.as_ptr().cast::<u8>(), libc::CMSG_DATA(head), length as usize);
+    }
 }
 
 /// Receives a part of what fits, and puts the descriptors that came along behind `fds`: they are the caller's then, and do not
@@ -101,8 +107,10 @@ fn receive_within(
     // SAFETY: the message points to `piece`, the room and `control`, which all outlive the call; `control` is only written.
     let got = unsafe { libc::recvmsg(socket.as_raw_fd(), &mut message, flags) };
     let count = usize::try_from(got).map_err(|_| io::Error::last_os_error())?;
-    // SAFETY: the system filled in the message, and of its control data as much as the message says.
-    unsafe { gather(&message, fds) };
+    if message.msg_controllen != 0 {
+        // SAFETY: the system filled in the message, and of its control data as much as the message says.
+        unsafe { gather(&message, fds) };
+    }
     Ok(Received { count, is_truncated: message.msg_flags & libc::MSG_CTRUNC != 0 })
 }
 
@@ -111,6 +119,7 @@ fn receive_within(
 /// # Safety
 ///
 /// `recvmsg` filled in the message, its control data is still there, and nobody took its descriptors over before.
+#[cold]
 unsafe fn gather(message: &libc::msghdr, fds: &mut Vec<OwnedFd>) {
     // SAFETY: the headers and their lengths are the system's, and within the control data. What comes as SCM_RIGHTS was opened
     // for this process by that call, and belongs to nobody else. The data need not be aligned.
@@ -127,6 +136,12 @@ unsafe fn gather(message: &libc::msghdr, fds: &mut Vec<OwnedFd>) {
             head = libc::CMSG_NXTHDR(message, head);
         }
     }
+}
+
+/// The numbers of descriptors.
+pub(crate) fn numbers_of(fds: &[OwnedFd]) -> &[RawFd] {
+    // SAFETY: std says that an OwnedFd has the representation of its number.
+    unsafe { from_raw_parts(fds.as_ptr().cast(), fds.len()) }
 }
 
 /// An option of a socket: of SOL_SOCKET, by its number.

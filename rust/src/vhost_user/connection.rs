@@ -6,11 +6,9 @@ use std::os::unix::net::UnixStream;
 use std::result;
 use std::time::Duration;
 
-use super::transport::{
-    broken_by, end_after, error_of, last_error, numbers_of, receive_piece, send_all, send_piece, take_from, End,
-};
+use super::transport::{broken_by, end_after, error_of, last_error, receive_piece, send_all, send_piece, take_from, End};
 use super::{Error, Result};
-use crate::foreign::{Asks, Code, Outcome, Session, MAX_MESSAGE};
+use crate::foreign::{numbers_of, Asks, Code, Outcome, Session, MAX_MESSAGE};
 
 /// A connection of a frontend to its backend; or on the backend channel the other way round.
 pub(super) struct Connection<S: Asks> {
@@ -92,37 +90,40 @@ impl<S: Asks> Connection<S> {
     /// Sends the request, with what is behind it, and receives its reply, with the descriptors that came with its first byte.
     fn exchange(&mut self, behind: &[u8]) -> Result<Vec<OwnedFd>> {
         let end = end_after(self.timeout);
-        send_all(&self.socket, &mut self.bytes, end, |bytes, fds| {
-            self.session.next_to_send(bytes, fds).map_err(|code| error_of(code, 0))
-        })?;
-        send_piece(&self.socket, behind, &[], end)?;
+        send_all(&self.socket, &mut self.session, &mut self.bytes, end)?;
+        if !behind.is_empty() {
+            send_piece(&self.socket, behind, &[], end)?;
+        }
         self.receive_all(end)
     }
 
     fn receive_all(&mut self, end: End) -> Result<Vec<OwnedFd>> {
         let mut fds = Vec::new();
-        let mut is_first = true;
+        let mut first = None;
         loop {
             let missing = self.session.missing().min(MAX_MESSAGE);
             if missing == 0 {
                 return Ok(fds);
             }
-            let mut came = Vec::new();
-            let count = receive_piece(&self.socket, &mut self.bytes[..missing], &mut came, end)?;
+            let count = receive_piece(&self.socket, &mut self.bytes[..missing], &mut fds, end)?;
             if count == 0 {
                 return Err(Error::PartialMessage);
             }
             // The protocol gives no meaning to descriptors behind a reply's first byte: those are closed here.
-            let numbers = if is_first { numbers_of(&came) } else { Vec::new() };
-            self.session.receive(&self.bytes[..count], &numbers).map_err(|code| self.error_of(code))?;
-            if is_first {
-                fds = came;
-            }
-            is_first = false;
+            let numbers = match first {
+                None => numbers_of(&fds),
+                Some(first) => {
+                    fds.truncate(first);
+                    &[]
+                }
+            };
+            self.session.receive(&self.bytes[..count], numbers).map_err(|code| self.error_of(code))?;
+            first = Some(fds.len());
         }
     }
 
     /// Ends the connection by this error.
+    #[cold]
     fn break_by(&mut self, error: Error) -> Error {
         let (error, errno) = last_error(error);
         self.broken = Some(errno);
@@ -130,6 +131,7 @@ impl<S: Asks> Connection<S> {
     }
 
     /// Why a reply was refused. The connection goes on where the reply was a refusal by the peer, or had too many descriptors.
+    #[cold]
     fn refusal(&mut self, code: Code) -> Error {
         match self.error_of(code) {
             error @ (Error::BackendInternalError | Error::FrontendInternalError | Error::IncorrectFds) => {
@@ -140,6 +142,7 @@ impl<S: Asks> Connection<S> {
         }
     }
 
+    #[cold]
     fn error_of(&mut self, code: Code) -> Error {
         error_of(code, self.session.inactive())
     }

@@ -6,9 +6,9 @@ use std::os::unix::net::UnixStream;
 use std::time::Duration;
 use std::{io, result};
 
-use super::transport::{broken_by, end_after, error_of, last_error, numbers_of, receive_ready, send_all, take_from};
+use super::transport::{broken_by, end_after, error_of, last_error, receive_ready, send_all, take_from};
 use super::{Error, Result};
-use crate::foreign::{Code, Outcome, Serves, MAX_MESSAGE};
+use crate::foreign::{numbers_of, Code, Outcome, Serves, MAX_MESSAGE};
 
 /// COVRETIN_INVALID_OPERATION.
 const INVALID_OPERATION: Code = Code(2);
@@ -126,13 +126,14 @@ impl<S: Serves> ServedConnection<S> {
                 return Err(self.end());
             }
             let numbers = numbers_of(&self.fds[first..]);
-            if let Err(code) = self.session.receive(&self.bytes[..count], &numbers) {
+            if let Err(code) = self.session.receive(&self.bytes[..count], numbers) {
                 return Err(self.break_by(error_of(code, 0)));
             }
         }
     }
 
     /// What it means that the stream ended here. Between two requests it can be asked again.
+    #[cold]
     fn end(&mut self) -> Error {
         match self.session.end() {
             Err(code) => match error_of(code, 0) {
@@ -144,6 +145,7 @@ impl<S: Serves> ServedConnection<S> {
     }
 
     /// Why a request was refused. It may be acknowledged, and the connection goes on where the request was well-formed.
+    #[cold]
     fn refuse_request(&mut self, code: Code) -> Error {
         self.fds.clear();
         let error = match code {
@@ -159,13 +161,12 @@ impl<S: Serves> ServedConnection<S> {
 
     fn send(&mut self) -> Result<()> {
         let end = end_after(self.send_timeout);
-        let sent = send_all(&self.socket, &mut self.bytes, end, |bytes, fds| {
-            self.session.next_to_send(bytes, fds).map_err(|code| error_of(code, 0))
-        });
+        let sent = send_all(&self.socket, &mut self.session, &mut self.bytes, end);
         sent.map_err(|error| self.break_by(error))
     }
 
     /// Ends the connection by this error.
+    #[cold]
     pub(super) fn break_by(&mut self, error: Error) -> Error {
         let (error, errno) = last_error(error);
         self.broken = Some(errno);

@@ -8,7 +8,7 @@ use std::os::unix::net::UnixStream;
 use std::time::{Duration, Instant};
 
 use super::{Error, Result, VhostUserProtocolFeatures, VhostUserVirtioFeatures};
-use crate::foreign::{is_ready, receive, send, Code, Received, MAX_FDS, MAX_MESSAGE};
+use crate::foreign::{is_ready, receive, send, Code, Moves, Received, MAX_FDS, MAX_MESSAGE};
 
 /// Until when something may take. None: for ever.
 pub(super) type End = Option<Instant>;
@@ -19,15 +19,10 @@ pub(super) fn end_after(limit: Option<Duration>) -> End {
 }
 
 /// Sends all that a session hands out, which is put into `bytes` piece by piece.
-pub(super) fn send_all(
-    socket: &UnixStream,
-    bytes: &mut [u8; MAX_MESSAGE],
-    end: End,
-    mut next: impl FnMut(&mut [u8; MAX_MESSAGE], &mut [RawFd; MAX_FDS]) -> Result<(usize, usize)>,
-) -> Result<()> {
+pub(super) fn send_all(socket: &UnixStream, session: &mut impl Moves, bytes: &mut [u8; MAX_MESSAGE], end: End) -> Result<()> {
     let mut fds = [-1; MAX_FDS];
     loop {
-        let (byte_count, fd_count) = next(bytes, &mut fds)?;
+        let (byte_count, fd_count) = session.next_to_send(bytes, &mut fds).map_err(|code| error_of(code, 0))?;
         if byte_count == 0 {
             return Ok(());
         }
@@ -35,10 +30,19 @@ pub(super) fn send_all(
     }
 }
 
-/// Sends all of these bytes, the descriptors with the first of them.
-pub(super) fn send_piece(socket: &UnixStream, mut bytes: &[u8], mut fds: &[RawFd], end: End) -> Result<()> {
-    while !bytes.is_empty() {
-        match send(socket, bytes, fds, end.is_none()) {
+/// Sends all of these bytes, the descriptors with the first of them. There is at least one byte.
+pub(super) fn send_piece(socket: &UnixStream, bytes: &[u8], fds: &[RawFd], end: End) -> Result<()> {
+    match send(socket, bytes, fds, end.is_none()) {
+        Ok(count) if count == bytes.len() => Ok(()),
+        sent => send_rest(socket, bytes, fds, end, sent),
+    }
+}
+
+/// The same, of which this was sent at first.
+#[cold]
+fn send_rest(socket: &UnixStream, mut bytes: &[u8], mut fds: &[RawFd], end: End, mut sent: io::Result<usize>) -> Result<()> {
+    loop {
+        match sent {
             Ok(count) => {
                 bytes = &bytes[count..];
                 fds = &[];
@@ -48,8 +52,11 @@ pub(super) fn send_piece(socket: &UnixStream, mut bytes: &[u8], mut fds: &[RawFd
                 Some(_) => wait_for(socket, libc::POLLOUT, end)?,
             },
         }
+        if bytes.is_empty() {
+            return Ok(());
+        }
+        sent = send(socket, bytes, fds, end.is_none());
     }
-    Ok(())
 }
 
 /// Receives at least one byte, and waits for it: how many; 0 at the end of the stream.
@@ -66,8 +73,8 @@ pub(super) fn receive_piece(socket: &UnixStream, room: &mut [u8], fds: &mut Vec<
 pub(super) fn receive_ready(socket: &UnixStream, room: &mut [u8], fds: &mut Vec<OwnedFd>, is_waiting: bool) -> Result<usize> {
     loop {
         match receive(socket, room, fds, is_waiting) {
-            Ok(Received { is_truncated: true, .. }) => return Err(Error::IncorrectFds),
-            Ok(Received { count, .. }) => return Ok(count),
+            Ok(Received { count, is_truncated: false }) => return Ok(count),
+            Ok(_) => return Err(Error::IncorrectFds),
             Err(cause) => {
                 if let Some(cause) = unready(cause)? {
                     return Err(Error::SocketRetry(cause));
@@ -78,6 +85,7 @@ pub(super) fn receive_ready(socket: &UnixStream, room: &mut [u8], fds: &mut Vec<
 }
 
 /// None after a signal, and the cause where the socket would have waited. Another error is passed on.
+#[cold]
 fn unready(cause: io::Error) -> Result<Option<io::Error>> {
     match cause.kind() {
         io::ErrorKind::Interrupted => Ok(None),
@@ -87,6 +95,7 @@ fn unready(cause: io::Error) -> Result<Option<io::Error>> {
 }
 
 /// Waits until the socket is ready for this.
+#[cold]
 fn wait_for(socket: &UnixStream, events: libc::c_short, end: End) -> Result<()> {
     loop {
         match is_ready(socket, events, left_until(end)) {
@@ -108,11 +117,6 @@ fn left_until(end: End) -> libc::c_int {
     })
 }
 
-/// The numbers of descriptors.
-pub(super) fn numbers_of(fds: &[OwnedFd]) -> Vec<RawFd> {
-    fds.iter().map(AsRawFd::as_raw_fd).collect()
-}
-
 /// Takes the descriptor of this number. One that is not among these would be another file of this program.
 pub(super) fn take_from(fds: &mut Vec<OwnedFd>, fd: RawFd) -> Result<File> {
     match fds.iter().position(|it| it.as_raw_fd() == fd) {
@@ -130,6 +134,7 @@ fn socket_error(cause: io::Error) -> Error {
 }
 
 /// An error of a session, in the crate's names, with the features that were lacking.
+#[cold]
 pub(super) fn error_of(code: Code, inactive: u64) -> Error {
     let no_memory = || io::Error::from_raw_os_error(libc::ENOMEM);
     match code.0 {
@@ -152,6 +157,7 @@ pub(super) fn error_of(code: Code, inactive: u64) -> Error {
 
 /// What ends a connection by this error: it, and the system's number for each later call. An allocation that failed amid a message
 /// can't be tried again.
+#[cold]
 pub(super) fn last_error(error: Error) -> (Error, i32) {
     let error = match error {
         Error::SocketRetry(cause) => Error::SocketBroken(cause),
