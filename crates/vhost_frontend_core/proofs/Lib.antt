@@ -2,12 +2,13 @@ pub mod Exits
 pub mod Taking
 pub mod Asking
 pub mod Awaiting
+pub mod Wanting
 pub mod Tables
 pub mod TakingTable
 pub mod ReplyingConfig
 pub mod TakingConfig
 pub mod TakingLog
-pub mod ValueHalves
+pub mod AskedValues
+pub mod TakenValues
+pub mod KeptValues
 pub mod ValueTables
-pub mod ValuePlain
-pub mod ValueTaken

@@ -11,7 +11,7 @@ ghost use Rattle.vhost_protocol.specs.FrontendCall.{new_frontend};
 ghost use Rattle.vhost_protocol.specs.Stream.{plain};
 
 use std::alloc::Global;
-use vhost_frontend::Quiet;
+use vhost_frontend::{Call, Quiet};
 use vhost_link::{Cut, MemLink, stream_law};
 use vhost_message::{Error, Result};
 
@@ -23,7 +23,7 @@ pub fn reads_features(frontend: &mut Quiet<MemLink>) -> Result<u64>
         → ReadsFeatures (endpoint_of frontend.old.inner) (new_frontend queues) result (endpoint_of frontend.new.inner) (session_of frontend.new.inner) }
 {
     stream_law();
-    frontend.get_features()
+    frontend.number(&Call::GetFeatures)
 }
 
 /// The same over a link in memory whose calls go as the script says.

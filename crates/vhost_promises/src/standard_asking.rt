@@ -9,7 +9,7 @@ ghost use Rattle.vhost_promises.specs.Streams.{stream};
 ghost use Rattle.vhost_protocol.specs.Stream.{plain};
 
 use bitflags::Flags;
-use vhost_frontend::Quiet;
+use vhost_frontend::{Call, Quiet};
 use vhost_link::{MemLink, stream_law};
 use vhost_message::{Result, VhostUserConfig, VhostUserConfigFlags};
 use vhost_protocol::Profile;
@@ -27,7 +27,9 @@ pub fn goes_on_without_config(
 {
     stream_law();
     frontend.set_profile(Profile::Standard);
-    let config = frontend.get_config(0, 8, VhostUserConfigFlags::empty(), &[0; 8]);
-    let features = frontend.get_features();
+    let bytes = [0; 8];
+    let asked = Call::GetConfig(0, 8, VhostUserConfigFlags::empty(), &bytes);
+    let config = frontend.config(&asked);
+    let features = frontend.number(&Call::GetFeatures);
     (config, features)
 }

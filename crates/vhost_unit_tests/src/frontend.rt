@@ -3,7 +3,7 @@
 use std::alloc::Global;
 use std::sync::Wait;
 use std::test::Fail;
-use vhost_frontend::{Frontend, Quiet, VhostUserMemoryContext};
+use vhost_frontend::{Call, Frontend, Quiet, VhostUserMemoryContext};
 use vhost_frontend_core::{FrontendAnswer, FrontendCall, FrontendInternal};
 use vhost_link::{Cut, Kind, MemLink, PlainHandle};
 use vhost_message::{Error, IoCause, VhostUserHeaderFlag, VhostUserMemoryRegion};
@@ -19,9 +19,9 @@ static FEATURES: [u8; 20] = [
 /// Whether the first call meets the link's error 5, the second succeeds, and after each the session reports which.
 fn tells(quiet: &mut Quiet<MemLink>) -> [bool; 4] {
     quiet.set_hdr_flags(VhostUserHeaderFlag::NEED_REPLY);
-    let first = quiet.set_owner();
+    let first = quiet.done(&Call::SetOwner);
     let faulted = quiet.faulted();
-    let second = quiet.set_owner();
+    let second = quiet.done(&Call::SetOwner);
     let sound = !quiet.faulted();
     let failed = matches!(first, Err(Error::SocketError(IoCause::Raw(5))));
     [failed, faulted, second.is_ok(), sound]
