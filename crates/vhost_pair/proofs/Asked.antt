@@ -1,5 +1,5 @@
 -- A request that was sent, what was carried, and an answer that was taken.
-use Rattle.std.proofs.Common.{◌≡◌, ◌⊎◌, inl, inr, true, false, List, [], ◌∷◌, ◌++◌, Option, None, Ok, Err, refl, sym, ◌∙◌, ap, append_assoc}
+use Rattle.std.proofs.Common.{◌≡◌, ◌⊎◌, inl, inr, true, false, List, [], ◌∷◌, ◌++◌, Option, None, Ok, Err, refl, sym, ◌∙◌, ap, subst, append_assoc}
 use Rattle.std.proofs.lemmas.List.{append-nil}
 use Rattle.vhost_message.specs.declared.error.Error as declared
 use Rattle.vhost_message.specs.declared.error.Error.TheVariants as error
@@ -12,7 +12,7 @@ use Rattle.vhost_protocol.specs.Ask.{Refuses, Sends, ask}
 use Rattle.vhost_protocol.specs.declared.asked.Awaited.{Awaited}
 use Rattle.vhost_protocol.specs.Error.{seen}
 use Rattle.vhost_protocol.specs.FrontendCall.{FrontendCall, Frontend}
-use Rattle.vhost_protocol.specs.Stream.{Cell, has_some}
+use Rattle.vhost_protocol.specs.Stream.{Cell, has_some, first_handles}
 use Rattle.vhost_protocol.specs.Take.{take}
 use Rattle.vhost_protocol.specs.Written.{Written, head_of, written_cells}
 use Rattle.vhost_link.specs.declared.plain.PlainHandle.{PlainHandle}
@@ -26,7 +26,7 @@ use Rattle.vhost_frontend_core.specs.Taking.{Reads, unread, read}
 use Rattle.vhost_pair.specs.OnWay.{incoming, outgoing, Carries}
 use Rattle.vhost_pair.specs.Joined.{Passes}
 use Rattle.vhost_pair.specs.Sides.{cuts_of}
-use Rattle.vhost_pair.proofs.OnWay.{incoming-handed, incoming-cut, outgoing-taken}
+use Rattle.vhost_pair.proofs.OnWay.{incoming-handed, incoming-heard, incoming-cut, outgoing-taken}
 use Rattle.vhost_pair.proofs.Spent.{Faults, faults, no-memory, passes, all-moved, sent-passes, still-passes}
 
 abbrev pub End : Type 0
@@ -126,6 +126,13 @@ module _ (call : FrontendCall PlainHandle) (awaited : Awaited) (sent : Header) (
     pub broken : fe'.broken ≡ None
     pub faulted : fe'.faulted ≡ false
     pub budget : fe'.budget ≡ fe.budget
+    -- it has its list of handles, where no handle was coming
+    pub list : has_some (first_handles (incoming fe)) ≡ false → fe.list ≡ true → fe'.list ≡ true
+
+  -- what was read of cells without a handle brought none
+  first-read : (front left : List (Cell PlainHandle)) → has_some (first_handles (front ++ left)) ≡ false → has_some (first_handles front) ≡ false
+  first-read [] left none = refl
+  first-read (c ∷ front) left none = none
 
   pub is-taken : {fe' : End} → fe.broken ≡ None → fe.faulted ≡ false → Reads event call awaited sent f fe x fe' → IsTaken fe'
   is-taken whole sound (unread here) = record {
@@ -135,6 +142,7 @@ module _ (call : FrontendCall PlainHandle) (awaited : Awaited) (sent : Header) (
     broken = whole;
     faulted = sound;
     budget = refl;
+    list = λ none listed. listed;
   }
   is-taken {fe' = fe'} whole sound (read came) = let h = came.hears in record {
     cut = incoming-cut fe fe' _ h.serves.talks (take call awaited sent f) h.cells h.ended x refl h.splits;
@@ -143,4 +151,5 @@ module _ (call : FrontendCall PlainHandle) (awaited : Awaited) (sent : Header) (
     broken = h.serves.after;
     faulted = h.serves.faulted;
     budget = h.serves.talks.budget;
+    list = λ none listed. came.list (first-read h.cells (incoming fe') (subst (λ (cells : List (Cell PlainHandle)). has_some (first_handles cells) ≡ false) (incoming-heard fe fe' _ h.serves.talks h.cells h.ended refl) none));
   }

@@ -36,7 +36,7 @@ use Rattle.vhost_pair.specs.Device.{Gives, opens_backend, opens_gpu}
 use Rattle.vhost_frontend_core.specs.ValueHalves.{IsProper, TakesResult}
 use Rattle.vhost_pair.specs.OnWay.{incoming, outgoing}
 use Rattle.vhost_pair.specs.Text.{text_of, no_text}
-use Rattle.vhost_pair.specs.Joined.{Cuts, IsReady, Passes, PassesBoth, Keeps, Answers, ends}
+use Rattle.vhost_pair.specs.Joined.{View, Cuts, IsReady, Passes, PassesBoth, Keeps, Answers, ends}
 use Rattle.vhost_pair.specs.Sides as sides
 use Rattle.vhost_pair.specs.Sides.{Parts, cuts_of, as_view, IsSound, HaveLists, stop_of, Served, Serves, EndsUnsent, IsAskedBy, Exchanges}
 use Rattle.vhost_pair.proofs.Asked.{End, both-empty, IsAsked, is-asked, IsUnasked, is-unasked, arrived, emptied, kept, held, sender-cuts, receiver-cuts, IsTaken, is-taken}
@@ -53,7 +53,11 @@ from_some : {A : Type 0} → A → Option A → A
 from_some a None = a
 from_some a (Some b) = b
 
-module _ {Dev : Type 0} (gives : Gives Dev) (call : FrontendCall PlainHandle) (bit : Bool) (old : Parts Dev) (sound : IsSound old) (lists : HaveLists old) (ready : IsReady bit (as_view old None)) where
+module _ {Dev : Type 0} (gives : Gives Dev) (call : FrontendCall PlainHandle) (bit : Bool) (old : Parts Dev) (sound : IsSound old) (lists : HaveLists old) (had : Bool) (ready : IsReady bit (record (as_view old None) { lists = had })) where
+  -- what was seen before the lists of handles were made
+  abbrev before : View Dev
+  before = record (as_view old None) { lists = had }
+
   nothing-asked : incoming old.serving ≡ []
   nothing-asked = (both-empty (incoming old.serving) (outgoing old.asking) ready.in_step.no_request).0
 
@@ -115,7 +119,7 @@ module _ {Dev : Type 0} (gives : Gives Dev) (call : FrontendCall PlainHandle) (b
       nothing-left = kept fe1 old.serving fe2 he1 v.reached.there ∙ ask1.incoming ∙ nothing-incoming
 
       abbrev Goal : Type 0
-      Goal = Answers gives (as_view old None) call ans (as_view new stop)
+      Goal = Answers gives before call ans (as_view new stop)
 
       -- a fault on one side stops the run
       premise : (new.asking.faulted || new.serving.faulted) ≡ true → Goal
@@ -215,7 +219,7 @@ module _ {Dev : Type 0} (gives : Gives Dev) (call : FrontendCall PlainHandle) (b
           shown : Shown PlainHandle
           shown = record { request = written_cells request_number w; handled = Some h.outcome.answer; reply = replied; result = ans; last = last }
 
-          keeps : stop ≡ last_stop last → (Some h.outcome.answer ≡ Some (Err OutOfMemory) → ⊥) → Keeps gives (as_view old None) call ans (as_view new stop)
+          keeps : stop ≡ last_stop last → (Some h.outcome.answer ≡ Some (Err OutOfMemory) → ⊥) → Keeps gives before call ans (as_view new stop)
           keeps at_last without = record {
             shown = shown;
             step = subst (λ x. protocol.Exchanges gives opens_backend opens_gpu old.frontend old.session old.device call x shown new.frontend new.session new.device) (sym ask1.asked) (h.outcome, k.meets, h.session, k.known.known ∙ sym some, refl, refl, refl, refl);
@@ -255,14 +259,14 @@ module _ {Dev : Type 0} (gives : Gives Dev) (call : FrontendCall PlainHandle) (b
           by-cases x (inr (same, e, is, fails)) = asking-fault e (faults fe3 new.asking true e fails asking-whole asking-list)
 
     -- a request that was sent: it was served, since nothing was in its way
-    sent-out : (x : Exchanged) (new : Parts Dev) → Serves gives call sent (record old { asking = fe1; frontend = f1; awaited = aw1 }) x new → Answers gives (as_view old None) call (answer_of x.answer) (as_view new x.stop)
+    sent-out : (x : Exchanged) (new : Parts Dev) → Serves gives call sent (record old { asking = fe1; frontend = f1; awaited = aw1 }) x new → Answers gives before call (answer_of x.answer) (as_view new x.stop)
     sent-out x new (sides.served v) = exchanged (answer_of x.answer) x.stop new v
     sent-out x new (sides.no_way v) = inr v.stops
 
   -- ---- a call that was not sent
 
   -- it was refused, and nothing changed
-  refused-here : (e : Error) (new : Parts Dev) → ask old.frontend call ≡ ask.Refuses e → new ≡ record old { request = new.request; reply = no_text } → new.request ≡ text_of (outgoing old.asking) → Keeps gives (as_view old None) call (Err e) (as_view new None)
+  refused-here : (e : Error) (new : Parts Dev) → ask old.frontend call ≡ ask.Refuses e → new ≡ record old { request = new.request; reply = no_text } → new.request ≡ text_of (outgoing old.asking) → Keeps gives before call (Err e) (as_view new None)
   refused-here e new refuses same is_request = record {
     shown = unsent (Err e);
     step = subst (λ x. protocol.Exchanges gives opens_backend opens_gpu old.frontend old.session old.device call x (unsent (Err e)) new.frontend new.session new.device) (sym refuses)
@@ -280,33 +284,33 @@ module _ {Dev : Type 0} (gives : Gives Dev) (call : FrontendCall PlainHandle) (b
     budget = ap {A = Parts Dev} (λ p. p.asking.budget) same;
   }
 
-  unsent-so : (e : declared.Error) (asked : Parts Dev) (x : Exchanged) (new : Parts Dev) → (e ≡ error.OutOfMemory → ⊥) → IsAskedBy call old (Err e) asked → EndsUnsent e asked x new → Answers gives (as_view old None) call (answer_of x.answer) (as_view new x.stop)
+  unsent-so : (e : declared.Error) (asked : Parts Dev) (x : Exchanged) (new : Parts Dev) → (e ≡ error.OutOfMemory → ⊥) → IsAskedBy call old (Err e) asked → EndsUnsent e asked x new → Answers gives before call (answer_of x.answer) (as_view new x.stop)
   unsent-so e asked x new other by end = by-cases u.why
     where
       u : IsUnasked call old.asking old.frontend old.awaited e asked.asking asked.frontend asked.awaited
       u = is-unasked call old.asking old.frontend old.awaited other sound.asks lists.0 by.asks
 
-      by-cases : ((ask old.frontend call ≡ ask.Refuses (seen e)) × (asked.asking ≡ old.asking)) ⊎ (((w : Written FrontendReq PlainHandle) × (aw : Awaited) × (g : Frontend) × (ask old.frontend call ≡ ask.Sends w aw g)) × Faults old.asking asked.asking e) → Answers gives (as_view old None) call (answer_of x.answer) (as_view new x.stop)
+      by-cases : ((ask old.frontend call ≡ ask.Refuses (seen e)) × (asked.asking ≡ old.asking)) ⊎ (((w : Written FrontendReq PlainHandle) × (aw : Awaited) × (g : Frontend) × (ask old.frontend call ≡ ask.Sends w aw g)) × Faults old.asking asked.asking e) → Answers gives before call (answer_of x.answer) (as_view new x.stop)
       by-cases (inl (refuses, unchanged)) =
           let none : x.stop ≡ None = end.goes_on (ap {A = End} (λ s. s.faulted) unchanged ∙ sound.sound) in
           let here : asked ≡ old = by.same ∙ ap {A = End} (λ s. record old { asking = s; frontend = asked.frontend; awaited = asked.awaited }) unchanged ∙ ap {A = Frontend} (λ g. record old { frontend = g; awaited = asked.awaited }) u.session ∙ ap {A = Awaited} (λ a. record old { awaited = a }) u.awaits in
           let same : new ≡ record old { request = new.request; reply = no_text } = end.same ∙ ap {A = Parts Dev} (λ p. record p { request = new.request; reply = no_text }) here in
           let gone_none : outgoing asked.asking ≡ [] = ap {A = End} (λ s. outgoing s) unchanged ∙ sound.no_request in
           let is_request : new.request ≡ text_of (outgoing old.asking) = end.request (subst (λ cells. length cells ≤ MAX_MSG_TEXT) (sym gone_none) (omega arith)) ∙ ap {A = End} (λ s. text_of (outgoing s)) unchanged in
-          inl (subst (λ t. Keeps gives (as_view old None) call (answer_of x.answer) (as_view new t)) (sym none)
-          (subst (λ a. Keeps gives (as_view old None) call a (as_view new None)) (sym end.answer) (refused-here (seen e) new refuses same is_request)))
+          inl (subst (λ t. Keeps gives before call (answer_of x.answer) (as_view new t)) (sym none)
+          (subst (λ a. Keeps gives before call a (as_view new None)) (sym end.answer) (refused-here (seen e) new refuses same is_request)))
       by-cases (inr (sends, k)) = inr (end.stopped k.faulted)
 
   -- it was answered at once
   at-once : (x : Exchanged) (new : Parts Dev) (flags : ℕ) → call ≡ SetHdrFlags flags → answer_of x.answer ≡ Ok Nothing → x.stop ≡ None
-      → new ≡ record old { frontend = record old.frontend { header_flags = flags }; request = no_text; reply = no_text } → Answers gives (as_view old None) call (answer_of x.answer) (as_view new x.stop)
+      → new ≡ record old { frontend = record old.frontend { header_flags = flags }; request = no_text; reply = no_text } → Answers gives before call (answer_of x.answer) (as_view new x.stop)
   at-once x new flags asked is none same =
-      inl (subst (λ t. Keeps gives (as_view old None) call (answer_of x.answer) (as_view new t)) (sym none) (subst (λ a. Keeps gives (as_view old None) call a (as_view new None)) (sym is) (subst (λ p. Keeps gives (as_view old None) call (Ok Nothing) (as_view p None)) (sym same) (subst (λ c. Keeps gives (as_view old None) c (Ok Nothing) (as_view after None)) (sym asked) keeps))))
+      inl (subst (λ t. Keeps gives before call (answer_of x.answer) (as_view new t)) (sym none) (subst (λ a. Keeps gives before call a (as_view new None)) (sym is) (subst (λ p. Keeps gives before call (Ok Nothing) (as_view p None)) (sym same) (subst (λ c. Keeps gives before c (Ok Nothing) (as_view after None)) (sym asked) keeps))))
     where
       after : Parts Dev
       after = record old { frontend = record old.frontend { header_flags = flags }; request = no_text; reply = no_text }
 
-      keeps : Keeps gives (as_view old None) (SetHdrFlags flags) (Ok Nothing) (as_view after None)
+      keeps : Keeps gives before (SetHdrFlags flags) (Ok Nothing) (as_view after None)
       keeps = record {
         shown = unsent (Ok Nothing);
         step = (refl, refl, refl, refl);
@@ -330,7 +334,7 @@ module _ {Dev : Type 0} (gives : Gives Dev) (call : FrontendCall PlainHandle) (b
 
   -- ---- whatever became of a call
 
-  pub answers-so : {x : Exchanged} {new : Parts Dev} → Exchanges gives call old (Ok x) new → Answers gives (as_view old None) call (answer_of x.answer) (as_view new x.stop)
+  pub answers-so : {x : Exchanged} {new : Parts Dev} → Exchanges gives call old (Ok x) new → Answers gives before call (answer_of x.answer) (as_view new x.stop)
   answers-so {x} {new} (sides.at_once flags asked is none same) = at-once x new flags asked is none same
   answers-so {x} {new} (sides.unsent e asked other by end) = unsent-so e asked x new other by end
   answers-so {x} {new} (sides.sent_out sent asked good by done) =

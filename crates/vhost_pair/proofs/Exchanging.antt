@@ -1,5 +1,5 @@
 -- What became of a call that was asked, as an exchange.
-use Rattle.std.proofs.Common.{◌≡◌, Option, Some, None, Result, Ok, Err, true, refl, sym, ◌∙◌, ap, subst}
+use Rattle.std.proofs.Common.{◌≡◌, inl, inr, Option, Some, None, Result, Ok, Err, true, refl, sym, ◌∙◌, ap, subst}
 use Rattle.std.specs.Prelude.{IfSome}
 use Rattle.vhost_message.specs.declared.error.Error as declared
 use Rattle.vhost_message.specs.declared.error.Error.TheVariants as error
@@ -12,13 +12,13 @@ use Rattle.vhost_link.specs.Mem.{event}
 use Rattle.vhost_frontend_core.specs.Asking as asking
 use Rattle.vhost_frontend_core.specs.Awaiting.{MayAwait}
 use Rattle.vhost_frontend_core.specs.Frontend.{endpoint_of, session_of, awaits}
-use Rattle.vhost_frontend_core.specs.Halves.{AsksHalfWithRoom}
+use Rattle.vhost_frontend_core.specs.Halves.{AsksHalfWithRoom, makes_room}
 use Rattle.vhost_frontend_core.specs.declared.asked.Sent.{Sent}
 use Rattle.vhost_frontend_core.specs.declared.internal.FrontendInternal.{FrontendInternal}
 use Rattle.vhost_frontend_core.proofs.Awaiting.{may-await-with-room}
 use Rattle.vhost_frontend_core.specs.Values.{answer_of}
 use Rattle.vhost_frontend_core.specs.ValueHalves as halves
-use Rattle.vhost_frontend_core.specs.ValueHalves.{IsProper, AsksCall}
+use Rattle.vhost_frontend_core.specs.ValueHalves.{IsProper, AsksCall, MayWant, WantsFor}
 use Rattle.vhost_pair.specs.declared.halt.Halt.TheVariants as halt
 use Rattle.vhost_pair.specs.declared.sides.Exchanged.{Exchanged}
 use Rattle.vhost_pair.specs.Device.{Gives}
@@ -76,9 +76,14 @@ module _ (call : FrontendCall PlainHandle) (old new : Core) where
     pub unsent-exchange : (e : declared.Error) (x : Exchanged) (end : Parts Dev) → (e ≡ error.OutOfMemory → ⊥) → AsksCall call old (Err e) new → EndsUnsent e after x end → Exchanges gives call before (Ok x) end
     unsent-exchange e x end other h ends = sides.unsent e after other (asked-by (Err e) (refusal-of e h)) ends
 
+    -- the list was there, so the call makes room
+    roomy : before.asking.list ≡ true → MayWant call old new → makes_room before.frontend call ≡ true
+    roomy list (inl room) = ap (λ f. makes_room f call) frontend ∙ room
+    roomy list (inr (away, same)) = absurd (cc (sym (ap {A = End} (λ e. e.list) asks ∙ away) ∙ list))
+
     -- there was no room for its answer
-    pub roomless-exchange : (e : declared.Error) → e ≡ error.OutOfMemory → before.asking.list ≡ true → AsksCall call old (Err e) new → Exchanges gives call before (Err halt.OutOfMemory) after
-    roomless-exchange e is list h =
+    pub roomless-exchange : (e : declared.Error) → e ≡ error.OutOfMemory → before.asking.list ≡ true → AsksCall call old (Err e) new → WantsFor {A = Option Sent} call old (Err e) new → Exchanges gives call before (Err halt.OutOfMemory) after
+    roomless-exchange e is list h wants =
         let none : AsksHalfWithRoom event call old (Err error.OutOfMemory) new = subst (λ (x : declared.Error). AsksHalfWithRoom event call old (Err x) new) is (refusal-of e h) in
         let kept = unroomy call (endpoint_of old) (session_of old) (awaits old) (ap {A = End} (λ e. e.list) (sym asks) ∙ list) none in
-        sides.no_room (same-asked before (endpoint_of new) (session_of new) (awaits new) (kept.0 ∙ sym asks) (kept.1 ∙ sym frontend) (kept.2 ∙ sym awaited))
+        sides.no_room (roomy list (wants is)) (same-asked before (endpoint_of new) (session_of new) (awaits new) (kept.0 ∙ sym asks) (kept.1 ∙ sym frontend) (kept.2 ∙ sym awaited))

@@ -8,6 +8,7 @@ pub mod Served
 pub mod Carrying
 pub mod Moving
 pub mod Exchange
+pub mod Listing
 pub mod Sound
 pub mod Limited
 pub mod Handing

@@ -30,8 +30,15 @@ shown-bit bit call result shown same offered n is answered =
 -- ---- steps
 
 module _ {Dev : Type 0} (gives : Gives Dev) where
-  halted-same : (old new : View Dev) (c : code.FrontendCall) (h : Halt) → Steps gives old (call_of c) (Err h) new → new ≡ old
-  halted-same old new c halt.Stopped s = s.1
+  -- the same, whatever became of the lists of handles
+  abbrev IsSameBut : View Dev → View Dev → Type 0
+  IsSameBut old new = new ≡ record old { lists = new.lists }
+
+  same-but-lists : (old new : View Dev) → new ≡ old → IsSameBut old new
+  same-but-lists old new same = ap {A = View Dev} {B = View Dev} (λ v. record v { lists = new.lists }) same
+
+  halted-same : (old new : View Dev) (c : code.FrontendCall) (h : Halt) → Steps gives old (call_of c) (Err h) new → IsSameBut old new
+  halted-same old new c halt.Stopped s = same-but-lists old new s.1
   halted-same old new c halt.OutOfMemory s = s.1
 
   -- a run that has stopped answers no more
@@ -41,16 +48,17 @@ module _ {Dev : Type 0} (gives : Gives Dev) where
   stopped-same old new [] [] (Err h) stop e s = absurd s
   stopped-same old new [] (a ∷ as') end stop e s = absurd s
   stopped-same old new (c ∷ cs) [] (Ok u) stop e s = absurd s
-  stopped-same old new (c ∷ cs) [] (Err h) stop e s = (halted-same old new c h s, refl)
+  stopped-same old new (c ∷ cs) [] (Err halt.Stopped) stop e s = (s.1, refl)
+  stopped-same old new (c ∷ cs) [] (Err halt.OutOfMemory) stop e s = absurd (cc (sym e ∙ s.0))
   stopped-same old new (c ∷ cs) (a ∷ as') end stop e s = let none = s.1.0 in absurd (cc (sym e ∙ none))
 
   module _ (bit : Bool) where
     -- no call was answered
-    unstepped : (old new : View Dev) (calls : List code.FrontendCall) → IsReady bit old → new ≡ old → InLockstep gives bit old calls [] new
+    unstepped : (old new : View Dev) (calls : List code.FrontendCall) → IsReady bit old → IsSameBut old new → InLockstep gives bit old calls [] new
     unstepped old new calls ready same = record {
       run = none calls;
       each = same;
-      in_step = λ on. subst (λ v. IsReady bit v) (sym same) ready;
+      in_step = λ on. subst (λ v. IsReady bit v) (sym same) (record { in_step = ready.in_step; plain = ready.plain; negotiates = ready.negotiates });
       no_request = ap (λ v. v.to_handler) same ∙ ready.in_step.no_request;
       no_reply = ap (λ v. v.to_frontend) same ∙ ready.in_step.no_reply;
     }
@@ -59,7 +67,7 @@ module _ {Dev : Type 0} (gives : Gives Dev) where
         none [] = (ap (λ v. v.frontend) same, ap (λ v. v.session) same, ap (λ v. v.device) same)
         none (c ∷ cs) = (ap (λ v. v.frontend) same, ap (λ v. v.session) same, ap (λ v. v.device) same)
 
-    pub unanswered : (old new : View Dev) (calls : List code.FrontendCall) → IsReady bit old → old.stopped ≡ None → new ≡ old → Lockstep gives bit old calls [] new
+    pub unanswered : (old new : View Dev) (calls : List code.FrontendCall) → IsReady bit old → old.stopped ≡ None → IsSameBut old new → Lockstep gives bit old calls [] new
     unanswered old new calls ready going same = inl (unstepped old new calls ready same, λ premise. cc (sym (ap (λ v. v.stopped) same ∙ going) ∙ premise))
 
     -- both sides are ready for the next call
@@ -88,7 +96,7 @@ module _ {Dev : Type 0} (gives : Gives Dev) where
       in-step-last : k.shown.last ≡ true → mid.stopped ≡ Some Table → new ≡ mid → as' ≡ [] → InLockstep gives bit old (c ∷ cs) (a ∷ as') new
       in-step-last at_end stopped same none = subst (λ xs. InLockstep gives bit old (c ∷ cs) (a ∷ xs) new) (sym none) (record {
         run = (k.shown, mid.frontend, mid.session, mid.device, k.step, sym k.answered, λ t. no-entries cs, no-run cs);
-        each = (mid, k, (λ on. absurd (cc (sym at_end ∙ on))), (λ t. refl), same);
+        each = (mid, k, (λ on. absurd (cc (sym at_end ∙ on))), (λ t. refl), same-but-lists mid new same);
         in_step = λ on. absurd (cc (sym (ap (λ v. v.stopped) same ∙ stopped) ∙ on));
         no_request = ap (λ v. v.to_handler) same ∙ k.no_request;
         no_reply = ap (λ v. v.to_frontend) same ∙ k.no_reply;
@@ -163,7 +171,7 @@ module _ {Dev : Type 0} (gives : Gives Dev) where
 
     pub lockstep : (old new : View Dev) (calls : List code.FrontendCall) (answers : List FrontendAnswer) (end : Result ⊤ Halt)
         → AreOffered bit calls answers ⊎ Offers gives bit → IsReady bit old → old.stopped ≡ None → ArePlain calls → StepsAll gives old calls answers end new → Lockstep gives bit old calls answers new
-    lockstep old new [] [] (Ok u) offers ready going plain s = unanswered old new [] ready going s
+    lockstep old new [] [] (Ok u) offers ready going plain s = unanswered old new [] ready going (same-but-lists old new s)
     lockstep old new [] [] (Err h) offers ready going plain s = absurd s
     lockstep old new [] (a ∷ as') end offers ready going plain s = absurd s
     lockstep old new (c ∷ cs) [] (Ok u) offers ready going plain s = absurd s

@@ -1,6 +1,6 @@
 -- What one exchange does, whatever was before.
 use Rattle.std.proofs.Common.{◌≡◌, ℕ, ◌≤◌, ◌⊎◌, inl, inr, Bool, true, false, List, [], ◌∷◌, ◌++◌, length, take, Option, Some, None, Result, Ok, Err, refl, sym, ◌∙◌, ap, subst, arith}
-use Rattle.std.specs.Prelude.{◌||◌, ⊤}
+use Rattle.std.specs.Prelude.{◌||◌, ◌&&◌, ⊤}
 use Rattle.std.proofs.Math.Bool.{or-true}
 use Rattle.std.proofs.lemmas.List.{append-nil, length-take}
 use Rattle.vhost_message.specs.declared.error.Error as declared
@@ -14,7 +14,7 @@ use Rattle.vhost_protocol.specs.Ask as ask
 use Rattle.vhost_protocol.specs.Ask.{ask}
 use Rattle.vhost_protocol.specs.Codes.{allows_handles}
 use Rattle.vhost_protocol.specs.declared.asked.Awaited.{Awaited}
-use Rattle.vhost_protocol.specs.Error.{Error, OutOfMemory, seen, seen_result}
+use Rattle.vhost_protocol.specs.Error.{Error, seen, seen_result}
 use Rattle.vhost_protocol.specs.FrontendCall.{FrontendCall, SetHdrFlags, Value, Nothing, Frontend}
 use Rattle.vhost_protocol.specs.Handler.{MeetsRow}
 use Rattle.vhost_protocol.specs.Joined.{read_as}
@@ -67,9 +67,10 @@ stops-as b (Err e) [] = refl
 stops-as true (Err e) (x ∷ reply) = refl
 stops-as false (Err e) (x ∷ reply) = refl
 
-module _ {Dev : Type 0} (gives : Gives Dev) (call : FrontendCall PlainHandle) (old : Parts Dev) (sound : IsSound old) (lists : HaveLists old) where
+module _ {Dev : Type 0} (gives : Gives Dev) (call : FrontendCall PlainHandle) (old : Parts Dev) (sound : IsSound old) (lists : HaveLists old) (had : Bool) where
+  -- what was seen before the lists of handles were made
   abbrev before : View Dev
-  before = as_view old None
+  before = record (as_view old None) { lists = had }
 
   -- what was on the way is with its receiver
   to-handler : before.to_handler ≡ incoming old.serving
@@ -84,10 +85,10 @@ module _ {Dev : Type 0} (gives : Gives Dev) (call : FrontendCall PlainHandle) (o
     abbrev w : Written FrontendReq PlainHandle
     w = ask1.message
 
-    asked-whole : outgoing fe1 ≡ request_cells w
+    pub asked-whole : outgoing fe1 ≡ request_cells w
     asked-whole = ask1.request ∙ ap (λ xs. xs ++ request_cells w) sound.no_request
 
-    few-asked : length (outgoing fe1) ≤ MAX_MSG_TEXT
+    pub few-asked : length (outgoing fe1) ≤ MAX_MSG_TEXT
     few-asked = subst (λ cells. length cells ≤ MAX_MSG_TEXT) (sym asked-whole) (few-written w (sendable call good old.frontend w aw1 f1 ask1.asked).size)
 
     abbrev mid : Parts Dev
@@ -102,7 +103,7 @@ module _ {Dev : Type 0} (gives : Gives Dev) (call : FrontendCall PlainHandle) (o
       coming : before.to_handler ++ request_cells w ≡ incoming he1
       coming = ap (λ xs. xs ++ request_cells w) to-handler ∙ sym (arrived-behind fe1 old.serving fe2 he1 rc.there ∙ ap (λ xs. incoming old.serving ++ xs) asked-whole)
 
-      clear : outgoing he1 ≡ []
+      pub clear : outgoing he1 ≡ []
       clear = held fe1 old.serving fe2 he1 rc.there ∙ sound.no_reply
 
       serving-budget : he1.budget ≡ old.asking.budget
@@ -115,7 +116,7 @@ module _ {Dev : Type 0} (gives : Gives Dev) (call : FrontendCall PlainHandle) (o
       served-or-not = split-handled gives he1 he2 old.session s' old.device d' result (rc.handled sound.failed) (ap {A = End} (λ e. e.broken) rc.there.receiver ∙ sound.serves) (ap {A = End} (λ e. e.list) rc.there.receiver ∙ lists.1)
 
       -- where nothing was on the way, the handler reads this request
-      own-request : before.to_handler ≡ [] → incoming he1 ≡ request_cells w
+      pub own-request : before.to_handler ≡ [] → incoming he1 ≡ request_cells w
       own-request none = sym coming ∙ ap (λ xs. xs ++ request_cells w) none
 
       own-both : (heard : Result (Message FrontendReq PlainHandle) Error) (left : List (Cell PlainHandle)) → split request_of allows_handles (incoming he1) ≡ (heard, left) → before.to_handler ≡ []
@@ -138,7 +139,7 @@ module _ {Dev : Type 0} (gives : Gives Dev) (call : FrontendCall PlainHandle) (o
       unheard1 = joined.unheard before.to_handler (request_cells w)
 
       -- what was written is short, at least where this request was the first
-      few-served : Handled1 gives he1 he2 old.session s' old.device d' (seen_result result) → before.to_handler ≡ [] → length (outgoing he2) ≤ MAX_MSG_TEXT
+      pub few-served : Handled1 gives he1 he2 old.session s' old.device d' (seen_result result) → before.to_handler ≡ [] → length (outgoing he2) ≤ MAX_MSG_TEXT
       few-served h none =
           let k : IsServed gives he1 he2 old.session s' old.device d' w (seen_result result) = is-served gives he1 he2 old.session s' old.device d' w (seen_result result) (sendable call good old.frontend w aw1 f1 ask1.asked) h (own-request none) clear in
           subst (λ cells. length cells ≤ MAX_MSG_TEXT) (sym k.written) (few-met call good old.frontend w aw1 f1 ask1.asked gives old.session old.device d' k.outcome k.meets)
@@ -216,7 +217,7 @@ module _ {Dev : Type 0} (gives : Gives Dev) (call : FrontendCall PlainHandle) (o
       abbrev view : View Dev
       view = as_view new stop
 
-      came-back : before.to_frontend ++ outgoing he2 ≡ incoming fe3
+      pub came-back : before.to_frontend ++ outgoing he2 ≡ incoming fe3
       came-back = sym (arrived-behind he2 fe2 new.serving fe3 v.back ∙ ap (λ xs. xs ++ outgoing he2) (still-coming v.result fe2 he2 new.reply new.session new.device v.reached))
 
       handler-left : view.to_handler ≡ incoming he2 ++ outgoing new.asking
@@ -237,7 +238,7 @@ module _ {Dev : Type 0} (gives : Gives Dev) (call : FrontendCall PlainHandle) (o
       asking-sound : fe3.faulted ≡ false
       asking-sound = ap {A = End} (λ e. e.faulted) v.back.receiver ∙ ap {A = End} (λ e. e.faulted) v.reached.there.sender ∙ ask1.faulted
 
-      asking-list : fe3.list ≡ true
+      pub asking-list : fe3.list ≡ true
       asking-list = ap {A = End} (λ e. e.list) v.back.receiver ∙ ap {A = End} (λ e. e.list) v.reached.there.sender ∙ ask1.list
 
       nothing-unsent : outgoing fe3 ≡ []
@@ -419,10 +420,14 @@ module _ {Dev : Type 0} (gives : Gives Dev) (call : FrontendCall PlainHandle) (o
 
   -- ---- a call that was not sent
 
+  -- both lists are there
+  listed : (p : Parts Dev) → p.asking.list ≡ true → p.serving.list ≡ true → (stopped : Option Stop) → as_view p stopped ≡ record (as_view p stopped) { lists = true }
+  listed p asks serves stopped = ap {A = Bool} {B = View Dev} (λ b. record (as_view p stopped) { lists = b }) (ap (λ b. b && p.serving.list) asks ∙ serves)
+
   -- what differs once the frontend's link failed
   abbrev shape : Cuts → List (Cell PlainHandle) → List (Cell PlainHandle) → ℕ → Text → Option Stop → View Dev
   shape asking to_handler to_frontend budget request stopped =
-      record before { asking = asking; to_handler = to_handler; to_frontend = to_frontend; budget = budget; request = request; reply = no_text; stopped = stopped }
+      record before { asking = asking; to_handler = to_handler; to_frontend = to_frontend; budget = budget; lists = true; request = request; reply = no_text; stopped = stopped }
 
   reshaped : (a a' : Cuts) → a ≡ a' → (h h' : List (Cell PlainHandle)) → h ≡ h' → (f f' : List (Cell PlainHandle)) → f ≡ f' → (n n' : ℕ) → n ≡ n' → (t t' : Text) → t ≡ t' → (s s' : Option Stop) → s ≡ s'
       → shape a h f n t s ≡ shape a' h' f' n' t' s'
@@ -449,7 +454,8 @@ module _ {Dev : Type 0} (gives : Gives Dev) (call : FrontendCall PlainHandle) (o
           let text : new.request ≡ no_text = end.request (subst (λ cells. length cells ≤ MAX_MSG_TEXT) (sym gone_none) (omega arith)) ∙ ap text_of gone_none in
           joined.refused (seen e) refuses end.answer
           (ap {A = Parts Dev} {B = View Dev} (λ p. as_view p x.stop) (same ∙ ap {A = End} {B = Parts Dev} (λ s. record old { asking = s; request = new.request; reply = no_text }) unchanged ∙ ap {A = Text} {B = Parts Dev} (λ t. record old { request = t; reply = no_text }) text)
-          ∙ ap {A = Option Stop} {B = View Dev} (λ s. as_view (record old { request = no_text; reply = no_text }) s) (end.goes_on (ap {A = End} (λ s. s.faulted) unchanged ∙ sound.sound)))
+          ∙ ap {A = Option Stop} {B = View Dev} (λ s. as_view (record old { request = no_text; reply = no_text }) s) (end.goes_on (ap {A = End} (λ s. s.faulted) unchanged ∙ sound.sound))
+          ∙ listed (record old { request = no_text; reply = no_text }) lists.0 lists.1 None)
       by-cases (inr ((w, aw, g, sends), k)) =
           let gone : outgoing asked.asking ≡ k.gone = k.sent ∙ ap (λ xs. xs ++ k.gone) sound.no_request in
           let text : new.request ≡ text_of k.gone = end.request (subst (λ cells. length cells ≤ MAX_MSG_TEXT) (sym gone) k.few) ∙ ap text_of gone in
@@ -458,7 +464,7 @@ module _ {Dev : Type 0} (gives : Gives Dev) (call : FrontendCall PlainHandle) (o
           (subst (λ s. Stops old.asking.budget k.cause (cuts_of old.asking.link) (cuts_of s.link)) (sym link) k.stopped)
           (end.answer ∙ ap {A = declared.Error} {B = Result (Value PlainHandle) Error} (λ y. Err (seen y)) k.error)
           (to-frontend ∙ k.came ∙ ap (λ xs. k.read ++ xs) (sym (left (ap {A = Parts Dev} (λ p. p.serving) same) link)))
-          (ap {A = Parts Dev} {B = View Dev} (λ p. as_view p x.stop) same ∙ reshaped _ _ (ap {A = End} {B = Cuts} (λ s. cuts_of s.link) (sym link))
+          (ap {A = Parts Dev} {B = View Dev} (λ p. as_view p x.stop) same ∙ listed (record old { asking = asked.asking; request = new.request; reply = no_text }) k.list lists.1 x.stop ∙ reshaped _ _ (ap {A = End} {B = Cuts} (λ s. cuts_of s.link) (sym link))
           _ _ (ap (λ xs. incoming old.serving ++ xs) gone ∙ ap (λ xs. xs ++ k.gone) (sym to-handler))
           _ _ (ap (λ xs. incoming asked.asking ++ xs) sound.no_reply ∙ append-nil (incoming asked.asking) ∙ sym (left (ap {A = Parts Dev} (λ p. p.serving) same) link))
           _ _ k.budget _ _ text _ _ (end.stopped k.faulted))
@@ -471,7 +477,8 @@ module _ {Dev : Type 0} (gives : Gives Dev) (call : FrontendCall PlainHandle) (o
       → new ≡ record old { frontend = record old.frontend { header_flags = flags }; request = no_text; reply = no_text } → Moves gives before call (answer_of x.answer) (as_view new x.stop)
   moved-at-once x new flags asked is none same =
       joined.at_once Nothing (record old.frontend { header_flags = flags }) (ap {A = FrontendCall PlainHandle} (λ c. ask old.frontend c) asked) is
-      (ap {A = Parts Dev} {B = View Dev} (λ p. as_view p x.stop) same ∙ ap {A = Option Stop} {B = View Dev} (λ s. as_view (record old { frontend = record old.frontend { header_flags = flags }; request = no_text; reply = no_text }) s) none)
+      (ap {A = Parts Dev} {B = View Dev} (λ p. as_view p x.stop) same ∙ ap {A = Option Stop} {B = View Dev} (λ s. as_view (record old { frontend = record old.frontend { header_flags = flags }; request = no_text; reply = no_text }) s) none
+      ∙ listed (record old { frontend = record old.frontend { header_flags = flags }; request = no_text; reply = no_text }) lists.0 lists.1 None)
 
   -- ---- whatever became of a call
 

@@ -96,16 +96,19 @@ module _ (old new : State Ends PlainHandle) (m : Move PlainHandle) (p : Talks ev
       ∙ behind-items old.ahead (items s.cells ++ replicate s.ends End) ∙ behind-items s.cells (replicate s.ends End) ∙ behind-ends s.ends in
       ap (λ xs. xs ++ new.link.pending) ahead ∙ s.last (omega arith)
 
+  -- what was received, and what is still coming
+  pub incoming-heard : (cs : List (Cell PlainHandle)) (ended : Bool) → m.handed ≡ heard cs ended → incoming old ≡ cs ++ incoming new
+  incoming-heard cs ended e = incoming-handed ∙ ap (λ is. cells_in is ++ incoming new) e ∙ ap (λ xs. xs ++ incoming new) (heard-cells cs ended)
+
   -- what was received has the outcome that all that was coming has, and the rest of it is what is still coming
   pub incoming-cut : {A : Type 0} (cut : List (Cell PlainHandle) → A × List (Cell PlainHandle)) (cs : List (Cell PlainHandle)) (ended : Bool) (outcome : A)
       → m.handed ≡ heard cs ended → Splits cut cs ended outcome → cut (incoming old) ≡ (outcome, incoming new)
   incoming-cut cut cs true outcome e splits =
       let none = incoming-ended cs e in
-      let front : incoming old ≡ cs = incoming-handed ∙ ap (λ is. cells_in is ++ incoming new) e ∙ ap (λ xs. xs ++ incoming new) (heard-cells cs true) ∙ ap (λ xs. cs ++ xs) none ∙ append-nil cs in
+      let front : incoming old ≡ cs = incoming-heard cs true e ∙ ap (λ xs. cs ++ xs) none ∙ append-nil cs in
       ap cut front ∙ splits.0 ∙ ap (λ xs. (outcome, xs)) (sym none)
   incoming-cut cut cs false outcome e splits =
-      let front : incoming old ≡ cs ++ incoming new = incoming-handed ∙ ap (λ is. cells_in is ++ incoming new) e ∙ ap (λ xs. xs ++ incoming new) (heard-cells cs false) in
-      ap cut front ∙ splits (incoming new)
+      ap cut (incoming-heard cs false e) ∙ splits (incoming new)
 
   -- what was taken in is behind what had gone
   pub outgoing-taken : outgoing new ≡ outgoing old ++ m.taken

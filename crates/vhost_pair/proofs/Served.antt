@@ -74,6 +74,7 @@ module _ {Dev : Type 0} (gives : Gives Dev) (he he' : End) (s s' : Session) (d d
   -- The request was served.
   pub record IsServed (w : Written FrontendReq PlainHandle) (r : Result ⊤ Error) : Type 0 where
     pub handled : Handled1 r
+    pub heard : handled.heard ≡ Ok (read_as w)
     pub outcome : Outcome PlainHandle
     pub meets : Meets (fitting gives) opens_backend opens_gpu s d (read_as w) outcome d'
     pub answer : r ≡ outcome.answer
@@ -90,6 +91,7 @@ module _ {Dev : Type 0} (gives : Gives Dev) (he he' : End) (s s' : Session) (d d
       subst (λ x. run.Handles request_of allows_handles (λ (t : Session). t.failed) Met s d x r h.written s' d') (pair-first both) h.handles in
       record {
         handled = h;
+        heard = pair-first both;
         outcome = m.0;
         meets = m.1;
         answer = m.2;

@@ -39,14 +39,14 @@ module _ {Dev : Type 0} (gives : Gives Dev) (call : FrontendCall PlainHandle) (o
     faulted-stops : (new.asking.faulted || new.serving.faulted) ≡ true → ⊥
     faulted-stops faulted = let why = v.stops ∙ ap (λ b. stop_of (ends call) b v.result new.reply.bytes) faulted in absurd (cc (sym why ∙ on))
 
-    handled : Handled2
+    pub handled : Handled2
     handled = by-cases (split-handled gives v.reached.serving_then v.serving_after old.session new.session old.device new.device v.result (v.reached.handled sound.failed) (ap {A = End} (λ e. e.broken) v.reached.there.receiver ∙ sound.serves) (ap {A = End} (λ e. e.list) v.reached.there.receiver ∙ lists.1))
       where
         by-cases : Handled2 ⊎ ServingFaults gives v.reached.serving_then v.serving_after old.session new.session old.device new.device → Handled2
         by-cases (inl h) = h
         by-cases (inr k) = absurd (faulted-stops (ap (λ b. new.asking.faulted || b) (ap {A = End} (λ e. e.faulted) v.back.sender ∙ faulted-so gives v.reached.serving_then v.serving_after old.session new.session old.device new.device k) ∙ or-true new.asking.faulted))
 
-    taken : IsTaken call sent.awaited (fields_of sent.request) f1 v.asking_after (Some (answered new.frontend ans)) new.asking
+    pub taken : IsTaken call sent.awaited (fields_of sent.request) f1 v.asking_after (Some (answered new.frontend ans)) new.asking
     taken = by-cases v.takes
       where
         whole : v.asking_after.broken ≡ None

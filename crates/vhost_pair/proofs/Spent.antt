@@ -116,6 +116,7 @@ pub record Faults (old new : End) (e : declared.Error) : Type 0 where
   pub came : incoming old ≡ read ++ incoming new
   pub faulted : new.faulted ≡ true
   pub budget : new.budget ≡ old.budget
+  pub list : new.list ≡ true
 
 pub faults : (old new : End) (between : Bool) (e : declared.Error) → Fails event old between e new → old.broken ≡ None → old.list ≡ true → Faults old new e
 faults old new between _ (was_broken b same) whole list = let h = sym b ∙ whole in absurd (cc h)
@@ -131,6 +132,7 @@ faults old new between _ (fault c m b fell none most spent few broken faulted ke
   came = incoming-handed old new _ (fell-talks c fell);
   faulted = faulted;
   budget = (fell-talks c fell).budget;
+  list = kept.0 list;
 }
 
 -- The link failed while one received, who sent nothing.

@@ -33,6 +33,7 @@ use Rattle.vhost_pair.specs.Device.{Gives, opens_backend, opens_gpu}
 use Rattle.vhost_pair.specs.Text.{Text, text_of, no_text}
 use Rattle.vhost_frontend_core.specs.declared.values.call.FrontendCall as code
 use Rattle.vhost_frontend_core.specs.declared.values.answer.FrontendAnswer.{FrontendAnswer}
+use Rattle.vhost_frontend_core.specs.Halves.{makes_room}
 use Rattle.vhost_frontend_core.specs.Values.{call_of, answer_of}
 use Rattle.vhost_pair.specs.declared.halt.Halt.{Halt}
 use Rattle.vhost_pair.specs.declared.halt.Halt.TheVariants as halt
@@ -44,7 +45,7 @@ pub record Cuts : Type 0 where
   pub script : List Cut
   pub wants : ℕ
 
--- A joined run: both sessions, what is awaited, the device, what is on the way, and what the last step wrote.
+-- A joined run: both sessions, what is awaited, the device, what is on the way, the lists of handles, and what the last step wrote.
 pub record View (Dev : Type 0) : Type 0 where
   pub frontend : Frontend
   pub awaited : Awaited
@@ -56,6 +57,8 @@ pub record View (Dev : Type 0) : Type 0 where
   pub asking : Cuts
   pub serving : Cuts
   pub budget : ℕ
+  -- whether both sides have their lists of handles: a message's handles take them away, and the next step makes them again
+  pub lists : Bool
   -- the messages of the last step that was answered
   pub request : Text
   pub reply : Text
@@ -135,6 +138,16 @@ abbrev pub unheard : (on_way request : List (Cell PlainHandle)) → List (Cell P
 unheard [] request = request
 unheard (c ∷ on_way) request = []
 
+-- ---- lists of handles
+
+-- A step that did not stop the run leaves both lists of handles, unless a handle was in one of its messages, or something was on the way before.
+abbrev pub KeepsLists : {Dev : Type 0} → View Dev → View Dev → Type 0
+KeepsLists old new = new.stopped ≡ None → old.to_handler ≡ [] → old.to_frontend ≡ [] → new.request.handles ≡ [] → new.reply.handles ≡ [] → new.lists ≡ true
+
+-- why there may be no memory for a call: a list of handles is away; or the call makes room for its answer
+abbrev pub MayWant : {Dev : Type 0} → View Dev → FrontendCall PlainHandle → Type 0
+MayWant old call = (old.lists ≡ false) ⊎ (makes_room old.frontend call ≡ true)
+
 module _ {Dev : Type 0} (gives : Gives Dev) where
   -- ---- what a step does, whatever was before
 
@@ -201,8 +214,8 @@ module _ {Dev : Type 0} (gives : Gives Dev) where
 
   -- Whatever was before: a call is refused, or answered at once; or its request was stopped by the frontend's link; or it was sent. Nothing else changes.
   pub data Moves (old : View Dev) (call : FrontendCall PlainHandle) (result : Result (Value PlainHandle) Error) (new : View Dev) : Type 0 where
-    refused : (e : Error) → ask old.frontend call ≡ ask.Refuses e → result ≡ Err e → new ≡ record old { request = no_text; reply = no_text } → Moves old call result new
-    at_once : (v : Value PlainHandle) (g : Frontend) → ask old.frontend call ≡ ask.Answers v g → result ≡ Ok v → new ≡ record old { frontend = g; request = no_text; reply = no_text }
+    refused : (e : Error) → ask old.frontend call ≡ ask.Refuses e → result ≡ Err e → new ≡ record old { lists = true; request = no_text; reply = no_text } → Moves old call result new
+    at_once : (v : Value PlainHandle) (g : Frontend) → ask old.frontend call ≡ ask.Answers v g → result ≡ Ok v → new ≡ record old { frontend = g; lists = true; request = no_text; reply = no_text }
         → Moves old call result new
     unsent : (message : Written FrontendReq PlainHandle) (awaited : Awaited) (after : Frontend) (c : IoCause) (gone read : List (Cell PlainHandle))
         → ask old.frontend call ≡ ask.Sends message awaited after → Stops old.budget c old.asking new.asking → result ≡ Err (seen (error_of c)) → old.to_frontend ≡ read ++ new.to_frontend
@@ -210,6 +223,7 @@ module _ {Dev : Type 0} (gives : Gives Dev) where
           asking = new.asking;
           to_handler = old.to_handler ++ gone;
           to_frontend = new.to_frontend;
+          lists = true;
           request = text_of gone;
           reply = no_text;
           stopped = Some stop.Premise;
@@ -243,11 +257,11 @@ module _ {Dev : Type 0} (gives : Gives Dev) where
   abbrev pub Offers : Bool → Type 0
   Offers bit = (d d' : Dev) (n : ℕ) → gives d GetFeatures (Ok n) d' → has_bit n PROTOCOL_FEATURES ≡ bit
 
-  -- one step: a run that stopped before, and want of memory before the first byte, change nothing; an answered step is that of both sides in step
+  -- One step: a run that stopped before changes nothing, nor does want of memory before the first byte, but that lists of handles may be there again; an answered step is that of both sides in step.
   abbrev pub Steps : View Dev → FrontendCall PlainHandle → Result FrontendAnswer Halt → View Dev → Type 0
-  Steps old call (Ok a) new = (old.stopped ≡ None) × Moves old call (answer_of a) new × ((bit : Bool) → IsReady bit old → Answers old call (answer_of a) new)
+  Steps old call (Ok a) new = (old.stopped ≡ None) × Moves old call (answer_of a) new × ((bit : Bool) → IsReady bit old → Answers old call (answer_of a) new) × KeepsLists old new
   Steps old call (Err halt.Stopped) new = (is_some old.stopped ≡ true) × (new ≡ old)
-  Steps old call (Err halt.OutOfMemory) new = (old.stopped ≡ None) × (new ≡ old)
+  Steps old call (Err halt.OutOfMemory) new = (old.stopped ≡ None) × (new ≡ record old { lists = new.lists }) × MayWant old call
 
   -- steps one after another, until one is not done
   abbrev pub StepsAll : View Dev → List code.FrontendCall → List FrontendAnswer → Result ⊤ Halt → View Dev → Type 0

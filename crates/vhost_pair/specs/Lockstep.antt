@@ -41,9 +41,9 @@ AreOffered bit (c ∷ cs) (a ∷ as') = IsOffered bit (call_of c) (answer_of a) 
 AreOffered bit _ _ = ⊤
 
 module _ {Dev : Type 0} (gives : Gives Dev) (bit : Bool) where
-  -- Answered calls one after another, each of which keeps the protocol. Both sides are in step after each but the last step, and behind that there is none.
+  -- Answered calls one after another, each of which keeps the protocol. Both sides are in step after each but the last step, and behind that there is none. Behind them nothing changed but that lists of handles may be there again.
   abbrev pub KeepsAll : View Dev → List code.FrontendCall → List FrontendAnswer → View Dev → Type 0
-  KeepsAll old cs [] new = new ≡ old
+  KeepsAll old cs [] new = new ≡ record old { lists = new.lists }
   KeepsAll old [] (a ∷ as') new = ⊥
   KeepsAll old (c ∷ cs) (a ∷ as') new =
       (mid : View Dev) × (k : Keeps gives old (call_of c) (answer_of a) mid) × (k.shown.last ≡ false → IsReady bit mid) × (k.shown.last ≡ true → as' ≡ []) × KeepsAll mid cs as' new

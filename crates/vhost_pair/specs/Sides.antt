@@ -1,5 +1,5 @@
 -- Both sides of a joined run, as contracts see them, and one exchange between them.
-use Rattle.std.specs.Prelude.{◌≡◌, ℕ, ◌≤◌, List, [], ◌++◌, ◌⊎◌, length, Option, Some, None, Bool, true, false, ◌||◌, Result, Ok, Err, ⊤}
+use Rattle.std.specs.Prelude.{◌≡◌, ℕ, ◌≤◌, List, [], ◌++◌, ◌⊎◌, length, Option, Some, None, Bool, true, false, ◌||◌, ◌&&◌, Result, Ok, Err, ⊤}
 use Rattle.vhost_message.specs.declared.error.Error as declared
 use Rattle.vhost_message.specs.declared.error.Error.TheVariants.{OutOfMemory}
 use Rattle.vhost_message.specs.MsgHeader.{fields_of}
@@ -31,6 +31,7 @@ use Rattle.vhost_pair.specs.declared.sides.Sides.{Sides}
 use Rattle.vhost_frontend_core.specs.Values.{answer_of}
 use Rattle.vhost_pair.specs.Device.{Gives, opens_backend, opens_gpu}
 use Rattle.vhost_frontend_core.specs.ValueHalves.{IsProper, TakesResult}
+use Rattle.vhost_frontend_core.specs.Halves.{makes_room}
 use Rattle.vhost_pair.specs.Joined.{View, Cuts, ends}
 use Rattle.vhost_pair.specs.OnWay.{incoming, outgoing, Carries}
 use Rattle.vhost_pair.specs.Text.{Text, text_of, no_text}
@@ -77,6 +78,10 @@ fresh_parts device queues budget asking serving = record {
 abbrev pub cuts_of : Ends → Cuts
 cuts_of l = record { script = l.script; wants = l.wants }
 
+-- whether both endpoints have their lists of handles
+abbrev pub has_lists : {Dev : Type 0} → Parts Dev → Bool
+has_lists p = p.asking.list && p.serving.list
+
 -- what it sees of both sides
 abbrev pub as_view : {Dev : Type 0} → Parts Dev → Option Stop → View Dev
 as_view p stopped = record {
@@ -89,6 +94,7 @@ as_view p stopped = record {
   asking = cuts_of p.asking.link;
   serving = cuts_of p.serving.link;
   budget = p.asking.budget;
+  lists = has_lists p;
   request = p.request;
   reply = p.reply;
   stopped = stopped;
@@ -105,7 +111,7 @@ pub record IsSound {Dev : Type 0} (p : Parts Dev) : Type 0 where
   pub no_request : outgoing p.asking ≡ []
   pub no_reply : outgoing p.serving ≡ []
 
--- both endpoints have their lists of handles
+-- both endpoints have them
 abbrev pub HaveLists : {Dev : Type 0} → Parts Dev → Type 0
 HaveLists p = (p.asking.list ≡ true) × (p.serving.list ≡ true)
 
@@ -192,4 +198,4 @@ module _ {Dev : Type 0} (gives : Gives Dev) (call : FrontendCall PlainHandle) wh
         → new ≡ record old { frontend = record old.frontend { header_flags = flags }; request = no_text; reply = no_text } → Exchanges old (Ok x) new
     unsent : {x : Exchanged} {new : Parts Dev} (e : declared.Error) (asked : Parts Dev) → (e ≡ OutOfMemory → ⊥) → IsAskedBy call old (Err e) asked → EndsUnsent e asked x new → Exchanges old (Ok x) new
     sent_out : {x : Exchanged} {new : Parts Dev} (sent : Sent) (asked : Parts Dev) → IsProper call → IsAskedBy call old (Ok sent) asked → Serves sent asked x new → Exchanges old (Ok x) new
-    no_room : {new : Parts Dev} → new ≡ old → Exchanges old (Err halt.OutOfMemory) new
+    no_room : {new : Parts Dev} → makes_room old.frontend call ≡ true → new ≡ old → Exchanges old (Err halt.OutOfMemory) new

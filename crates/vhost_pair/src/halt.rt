@@ -1,6 +1,6 @@
 //! Why a joined run does not go on.
 
-/// Why a joined step was not done. It changed nothing.
+/// Why a joined step was not done. It changed nothing but that descriptor buffers may be there again.
 #[derive(Clone, Copy, Debug, PartialEq, Eq)]
 pub enum Halt {
     /// The run has stopped before.

@@ -74,8 +74,9 @@ impl<D: VhostUserBackendReqHandlerMut<Link = MemLink>> Joined<D> {
 
     /// Does one call: the request goes to the handler, which calls the device, and the reply comes back.
     ///
-    /// `Halt::Stopped`: the run has stopped before. `Halt::OutOfMemory`: an allocation failed before the first byte.
-    /// In both cases nothing changed.
+    /// `Halt::Stopped`: the run has stopped before. `Halt::OutOfMemory`: an allocation failed before the first byte, of a
+    /// descriptor buffer that a message's descriptors took away, or of room for the answer of a call that makes some. In
+    /// both cases nothing changed but that descriptor buffers may be there again.
     pub fn step(&mut self, call: &FrontendCall) -> Result<FrontendAnswer, Halt>
         ensures step { Steps D.gives self.old (call_of call.now) result self.new }
         ensures listed { IfOk result (λ answer. IsListedFor (call_of call.now) (answer_of answer)) }

@@ -1,6 +1,6 @@
 //! Both sides of a joined run, and one exchange between them.
 
-ghost use Rattle.std.specs.Prelude.{◌≡◌, ◌||◌, Some, None, Ok, IfOk, IfErr};
+ghost use Rattle.std.specs.Prelude.{◌≡◌, ◌||◌, false, Some, None, Ok, IfOk, IfErr};
 ghost use Rattle.vhost_message.specs.declared.error.Error.TheVariants.{OutOfMemory};
 ghost use Rattle.vhost_frontend_core.specs.Values.{call_of, answer_of};
 ghost use Rattle.vhost_pair.specs.Lists.{IsListedFor};
@@ -45,7 +45,7 @@ impl<D: VhostUserBackendReqHandlerMut<Link = MemLink>> Sides<D> {
     ghost use Rattle.vhost_frontend_core.specs.Awaiting.{MayAwait};
     ghost use Rattle.vhost_frontend_core.specs.Frontend.{endpoint_of as asking_end, awaits, IsAwaited};
     ghost use Rattle.vhost_frontend_core.specs.Kept.{IsKeptFor};
-    ghost use Rattle.vhost_pair.specs.Sides.{parts_of, fresh_parts, HaveLists, Exchanges, Serves, HandsOver, EndsUnsent, stop_of};
+    ghost use Rattle.vhost_pair.specs.Sides.{parts_of, fresh_parts, has_lists, HaveLists, Exchanges, Serves, HandsOver, EndsUnsent, stop_of};
     ghost use Rattle.vhost_pair.specs.Text.{no_text};
     ghost use Rattle.vhost_pair.specs.Wire.{text_in};
     ghost use Rattle.vhost_protocol.specs.FrontendCall.{Nothing};
@@ -85,11 +85,12 @@ impl<D: VhostUserBackendReqHandlerMut<Link = MemLink>> Sides<D> {
         self.handler.set_profile(serving);
     }
 
-    /// Allocates what a step may need before its first byte.
+    /// Allocates the descriptor buffers that a step may need before its first byte, where they were moved out.
     ///
     /// OutOfMemory: an allocation failed.
     pub fn prepare(&mut self) -> Result<()>
         ensures lists { IfOk result (λ _. HaveLists (parts_of self.new)) }
+        ensures short { IfErr result (λ _. has_lists (parts_of self.old) ≡ false) }
         ensures asking { (parts_of self.new).asking ≡ record (parts_of self.old).asking { list = (parts_of self.new).asking.list } }
         ensures serving { (parts_of self.new).serving ≡ record (parts_of self.old).serving { list = (parts_of self.new).serving.list } }
         ensures rest { parts_of self.new ≡ record (parts_of self.old) { asking = (parts_of self.new).asking; serving = (parts_of self.new).serving } }
@@ -114,7 +115,7 @@ impl<D: VhostUserBackendReqHandlerMut<Link = MemLink>> Sides<D> {
 
     /// Does a call whose descriptor buffers were allocated.
     ///
-    /// `Halt::OutOfMemory`: an allocation for its answer failed; nothing changed.
+    /// `Halt::OutOfMemory`: the call makes room for its answer, and that allocation failed; nothing changed.
     #[inline(never)]
     pub fn exchange(&mut self, call: &FrontendCall) -> std::result::Result<Exchanged, Halt>
         requires lists { HaveLists (parts_of self.old) }

@@ -1,6 +1,6 @@
 //! What goes from one side to the other.
 
-ghost use Rattle.std.specs.Prelude.{◌≡◌, ◌≤◌, [], IfOk, IfErr, OnOk, OnErr, IsOk, length, true};
+ghost use Rattle.std.specs.Prelude.{◌≡◌, ◌≤◌, [], IfOk, IfErr, OnOk, OnErr, IsOk, length, true, false};
 ghost use Rattle.vhost_backend_req_handler.specs.Core.{endpoint_of as serving, session_in};
 ghost use Rattle.vhost_connection.specs.State.{state};
 ghost use Rattle.vhost_message.specs.declared.error.Error.TheVariants.{OutOfMemory};
@@ -97,7 +97,7 @@ pub fn copy_reply(handler: &mut SessionCore<MemLink>, wire: &mut Wire)
 /// OutOfMemory: its allocation failed, and nothing changed.
 pub fn make_reply_list(frontend: &mut FrontendInternal<MemLink>) -> Result<()>
     ensures made { IfOk result (λ _. asking frontend.new ≡ record (asking frontend.old) { list = true }) }
-    ensures memory { IfErr result (λ e. (e ≡ OutOfMemory) × (asking frontend.new ≡ asking frontend.old)) }
+    ensures memory { IfErr result (λ e. (e ≡ OutOfMemory) × ((asking frontend.old).list ≡ false) × (asking frontend.new ≡ asking frontend.old)) }
     ensures frontend { (session_of frontend.new ≡ session_of frontend.old) × (awaits frontend.new ≡ awaits frontend.old) }
 {
     frontend.endpoint_mut().make_list()
@@ -108,7 +108,7 @@ pub fn make_reply_list(frontend: &mut FrontendInternal<MemLink>) -> Result<()>
 /// OutOfMemory: its allocation failed, and nothing changed.
 pub fn make_request_list(handler: &mut SessionCore<MemLink>) -> Result<()>
     ensures made { IfOk result (λ _. serving handler.new ≡ record (serving handler.old) { list = true }) }
-    ensures memory { IfErr result (λ e. (e ≡ OutOfMemory) × (serving handler.new ≡ serving handler.old)) }
+    ensures memory { IfErr result (λ e. (e ≡ OutOfMemory) × ((serving handler.old).list ≡ false) × (serving handler.new ≡ serving handler.old)) }
     ensures session { session_in handler.new ≡ session_in handler.old }
 {
     handler.endpoint_mut().make_list()

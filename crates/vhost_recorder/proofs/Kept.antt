@@ -1,5 +1,5 @@
 -- A recorded step keeps the log legal.
-use Rattle.std.proofs.Common.{◌≡◌, ℕ, ◌+◌, ◌<◌, ◌&&◌, inl, inr, Bool, true, false, cond, List, [], ◌∷◌, ◌++◌, length, map, Option, Some, None, Result, Ok, refl, sym, ◌∙◌, ap, subst, arith}
+use Rattle.std.proofs.Common.{◌≡◌, ℕ, ◌+◌, ◌<◌, ◌&&◌, inl, inr, Bool, true, false, cond, List, [], ◌∷◌, ◌++◌, length, map, Option, Some, None, Result, Ok, Err, refl, sym, ◌∙◌, ap, subst, arith}
 use Rattle.std.specs.Prelude.{not}
 use Rattle.std.proofs.lemmas.List.{map-append, append-nil}
 use Rattle.vhost_message.specs.Bits.{has_bit}
@@ -12,6 +12,8 @@ use Rattle.vhost_protocol.specs.Session.{Session, fresh}
 use Rattle.vhost_link.specs.declared.plain.PlainHandle.{PlainHandle}
 use Rattle.vhost_frontend_core.specs.declared.values.answer.FrontendAnswer.{FrontendAnswer}
 use Rattle.vhost_frontend_core.specs.Values.{answer_of}
+use Rattle.vhost_pair.specs.declared.halt.Halt.{Halt}
+use Rattle.vhost_pair.specs.declared.halt.Halt.TheVariants as halt
 use Rattle.vhost_pair.specs.declared.halt.Stop.TheVariants.{Table, Premise}
 use Rattle.vhost_pair.specs.Device.{Gives, opens_backend, opens_gpu}
 use Rattle.vhost_pair.specs.Joined.{View, IsReady, Keeps, Answers, Steps}
@@ -248,6 +250,23 @@ module _ {Dev : Type 0} (gives : Gives Dev) (old : Recording Dev) (caller serial
         step = step;
         queues = refl;
       }
+
+-- ---- a step that was not done
+
+module _ {Dev : Type 0} (gives : Gives Dev) (old : Recording Dev) (call : FrontendCall PlainHandle) (w : View Dev) where
+  but-lists : (lists : Bool) → IsKept gives old → IsKept gives (record old { joined = record old.joined { lists = lists } })
+  but-lists lists kept = record {
+    legal = kept.legal;
+    goes_on = λ on plain. let g = kept.goes_on on plain in record {
+      opening = g.opening;
+      run = g.run;
+      ready = λ bit allows. let r = g.ready bit allows in record { in_step = r.in_step; plain = r.plain; negotiates = r.negotiates };
+    };
+  }
+
+  pub kept-halted : (h : Halt) → Steps gives old.joined call (Err h) w → IsKept gives old → IsKept gives (record old { joined = w })
+  kept-halted halt.Stopped step kept = subst (λ v. IsKept gives (record old { joined = v })) (sym step.1) kept
+  kept-halted halt.OutOfMemory step kept = subst (λ v. IsKept gives (record old { joined = v })) (sym step.1) (but-lists w.lists kept)
 
 -- a recording that begins
 pub kept-fresh : {Dev : Type 0} (gives : Gives Dev) (joined : View Dev) (queues : ℕ) → joined.frontend ≡ new_frontend queues → joined.session ≡ fresh → ((bit : Bool) → IsReady bit joined)

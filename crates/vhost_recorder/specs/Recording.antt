@@ -1,11 +1,12 @@
 -- A joined run with the log of its calls, as contracts see it.
-use Rattle.std.specs.Prelude.{◌≡◌, ℕ, List, [], ◌∷◌, ◌++◌, Option, Some, Bool, true, false, Result, Ok, Err}
+use Rattle.std.specs.Prelude.{◌≡◌, ℕ, List, [], ◌∷◌, ◌++◌, Option, Some, None, Bool, true, false, Result, Ok, Err, is_some}
 use Rattle.vhost_protocol.specs.FrontendCall.{FrontendCall}
 use Rattle.vhost_protocol.specs.Log.{Entry, calls_of, IsLegal}
 use Rattle.vhost_link.specs.declared.plain.PlainHandle.{PlainHandle}
 use Rattle.vhost_frontend_core.specs.declared.values.answer.FrontendAnswer.{FrontendAnswer}
 use Rattle.vhost_frontend_core.specs.Values.{answer_of}
 use Rattle.vhost_pair.specs.declared.halt.Halt.{Halt}
+use Rattle.vhost_pair.specs.declared.halt.Halt.TheVariants as halt
 use Rattle.vhost_pair.specs.declared.halt.Stop.{Stop}
 use Rattle.vhost_pair.specs.declared.halt.Stop.TheVariants.{Premise}
 use Rattle.vhost_pair.specs.Device.{Gives, opens_backend, opens_gpu}
@@ -38,7 +39,8 @@ module _ {Dev : Type 0} (gives : Gives Dev) where
     pub step : Steps gives old.joined asked (Ok answer) new.joined
     pub queues : new.queues ≡ old.queues
 
-  -- one recorded step; one that was not done changes nothing
+  -- One recorded step. One that was not done changes nothing but that lists of handles may be there again; it may want memory at any time, for the entry and its copy.
   abbrev pub Records : Recording Dev → (caller : ℕ) → FrontendCall PlainHandle → Result (Entry PlainHandle) Halt → Recording Dev → Type 0
   Records old caller call (Ok entry) new = Appends old caller call entry new
-  Records old caller call (Err halt) new = Steps gives old.joined call (Err halt) new.joined × (new ≡ old)
+  Records old caller call (Err halt.Stopped) new = (is_some old.joined.stopped ≡ true) × (new ≡ old)
+  Records old caller call (Err halt.OutOfMemory) new = (old.joined.stopped ≡ None) × (new ≡ record old { joined = record old.joined { lists = new.joined.lists } })

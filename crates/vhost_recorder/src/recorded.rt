@@ -119,7 +119,7 @@ impl<D: VhostUserBackendReqHandlerMut<Link = MemLink>> Recorded<D> {
     /// Does one call for a caller, appends it with its answer to the log, and answers a copy of that entry.
     ///
     /// `Halt::Stopped`: the run has stopped before. `Halt::OutOfMemory`: an allocation failed before the first byte, also one
-    /// for the entry or its copy. In both cases nothing changed.
+    /// for the entry or its copy. In both cases nothing changed but that descriptor buffers may be there again.
     pub fn step(&mut self, caller: u32, call: &FrontendCall) -> Result<Receipt, Halt>
         ensures { Records D.gives self.old caller (call_of call.now) result self.new }
     {

@@ -30,7 +30,7 @@ pub returns-in-OutOfMemory : goal.returns-in-OutOfMemory
 returns-in-OutOfMemory g c =
     record {
       done =
-          roomless-exchange (call_of c.args.call.now) c.args.self.now.frontend c.ask.new.frontend g.D.VhostUserBackendReqHandlerMut.gives (parts_of c.args.self.now) refl refl refl c.in-Err.error c.in-OutOfMemory.is c.requires.lists.0 c.in-Err.ensures.asked;
+          roomless-exchange (call_of c.args.call.now) c.args.self.now.frontend c.ask.new.frontend g.D.VhostUserBackendReqHandlerMut.gives (parts_of c.args.self.now) refl refl refl c.in-Err.error c.in-OutOfMemory.is c.requires.lists.0 c.in-Err.ensures.asked c.in-Err.ensures.memory;
       listed = tt;
     }
 
