@@ -2,7 +2,7 @@
 
 use bitflags::Flags;
 use std::fmt;
-use vhost_answer_text::name_of;
+use vhost_lines::name_of;
 use vhost_message::{Error, IoCause};
 
 /// What an answer carries.

@@ -1,3 +1,14 @@
+pub mod Digits
+pub mod AnswerRows
+pub mod NumberLaws
+pub mod WordLaws
+pub mod FirstWords
+pub mod ArgumentLaws
+pub mod OtherCounts
+pub mod RegionLaws
+pub mod CallLineLaws
+pub mod CallRows
+pub mod Naming
 pub mod LineLaws
 pub mod Progress
 pub mod Rows

@@ -7,11 +7,11 @@ use Rattle.std.proofs.lemmas.Nat.Bits.{bit_at_and}
 use Rattle.vhost_message.specs.Bits.{has_bit}
 use Rattle.vhost_protocol.specs.FrontendCall.{SetVringNum, SetVringBase, SetVringCall, SetVringKick, SetVringErr, SetVringEnable, SetLogBase, GetInflightFd, SetInflightFd, AddMemRegion, RemoveMemRegion, SetDeviceStateFd, SetMemTable, GetConfig, SetConfig, SetHdrFlags}
 use Rattle.vhost_pair.specs.Lockstep.{IsPlain}
-use Rattle.vhost_call_words.specs.Arguments.{◌>>=◌, switch, header_flags, config_flags, handle, direction, phase, byte_string, within}
-use Rattle.vhost_call_words.specs.Number.{u64, u32, u16}
-use Rattle.vhost_call_words.specs.Shapes.{bare, one, two, three, optional}
-use Rattle.vhost_call_words.specs.Calls.{Call, buffer, only_region, regions, set_log_base, set_vring_addr, area, get_inflight_fd, set_inflight_fd, add_mem_region, remove_mem_region, set_mem_table, calls, named, call_named, call_in}
-use Rattle.vhost_call_words.specs.Words.{words}
+use Rattle.vhost_lines.specs.Arguments.{◌>>=◌, switch, header_flags, config_flags, handle, direction, phase, byte_string, within}
+use Rattle.vhost_lines.specs.Number.{u64, u32, u16}
+use Rattle.vhost_lines.specs.Shapes.{bare, one, two, three, optional}
+use Rattle.vhost_lines.specs.Calls.{Call, buffer, only_region, regions, set_log_base, set_vring_addr, area, get_inflight_fd, set_inflight_fd, add_mem_region, remove_mem_region, set_mem_table, calls, named, call_named, call_in}
+use Rattle.vhost_lines.specs.Words.{words}
 
 -- of a value, where there is one
 abbrev Every : {A : Type 0} → (A → Type 0) → Option A → Type 0

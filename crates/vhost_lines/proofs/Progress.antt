@@ -6,7 +6,7 @@ use Rattle.vhost_pair.specs.Text.{Text}
 use Rattle.vhost_frontend_core.specs.declared.values.answer.FrontendAnswer.{FrontendAnswer}
 use Rattle.vhost_pair.specs.declared.halt.Halt.{Halt}
 use Rattle.vhost_pair.specs.declared.halt.Stop.{Stop}
-use Rattle.vhost_call_words.specs.Calls.{Call, call_in}
+use Rattle.vhost_lines.specs.Calls.{Call, call_in}
 use Rattle.vhost_lines.specs.Lines.{lines, bad_line, GivesLine}
 use Rattle.vhost_lines.specs.Output.{AppendsFront}
 use Rattle.vhost_lines.specs.Shown.{good_lines, AnswersCall, AnswersAll, ShowsText, ShowsFrontOf}

@@ -1,3 +1,12 @@
+pub mod Numbers
+pub mod Errors
+pub mod Text
+pub mod Words
+pub mod Number
+pub mod Arguments
+pub mod Shapes
+pub mod Calls
+pub mod Read
 pub mod Lines
 pub mod Output
 pub mod Shown

@@ -1,6 +1,6 @@
 -- A text as lines, and what is to become of them.
 use Rattle.std.specs.Prelude.{◌≡◌, ℕ, ◌+◌, Bool, true, false, List, [], ◌∷◌, ◌++◌, Option, Some, None, is_some, ⊤, ◌==◌, if◌then◌else◌, codes, decimal}
-use Rattle.vhost_call_words.specs.Calls.{call_in}
+use Rattle.vhost_lines.specs.Calls.{call_in}
 
 -- a byte in front of the first of some texts
 abbrev pub with_first : ℕ → List (List ℕ) → List (List ℕ)

@@ -13,7 +13,7 @@ use Rattle.vhost_frontend_core.specs.Values.{answer_of}
 use Rattle.vhost_frontend_core.specs.declared.values.answer.FrontendAnswer.{FrontendAnswer}
 use Rattle.vhost_pair.specs.Device.{opens_backend, opens_gpu}
 use Rattle.vhost_pair.specs.Text.{text_of}
-use Rattle.vhost_call_words.specs.Calls.{Call, call_in}
+use Rattle.vhost_lines.specs.Calls.{Call, call_in}
 use Rattle.vhost_lines.specs.Lines.{lines}
 use Rattle.vhost_lines.specs.Output.{AppendsFront}
 use Rattle.vhost_lines.specs.Session.{Device, spares, copies}

@@ -7,10 +7,10 @@ use Rattle.vhost_pair.specs.declared.halt.Halt.TheVariants.{Stopped, OutOfMemory
 use Rattle.vhost_pair.specs.declared.halt.Stop.{Stop}
 use Rattle.vhost_pair.specs.declared.halt.Stop.TheVariants.{Premise}
 use Rattle.std.specs.Io.KnownBytes.{Appends}
-use Rattle.vhost_call_words.specs.Calls.{Call, call_in}
+use Rattle.vhost_lines.specs.Calls.{Call, call_in}
 use Rattle.vhost_lines.specs.Lines.{lines}
 use Rattle.vhost_lines.specs.Output.{AppendsFront}
-use Rattle.vhost_answer_text.specs.Text.{message_text, answer_text}
+use Rattle.vhost_lines.specs.Text.{message_text, answer_text}
 
 -- the lines before the first one that is no call
 abbrev pub good_lines : List (List ℕ) → List (List ℕ)

@@ -10,14 +10,14 @@ ghost use Rattle.vhost_protocol.specs.declared.profile.Profile.TheVariants.{Vhos
 ghost use Rattle.vhost_lines.specs.Run.{ShowsLines, ShowsFront};
 ghost use Rattle.vhost_lines.specs.Session.{IsFresh, Answers, AnswersLines, AnswersFront};
 
+use crate::answer_text::{Answer, Message};
+use crate::call_words::call_of;
 use crate::device::{Device, new_device};
 use crate::fault::{Fault, input_fault};
 use crate::output::write_line;
 use std::alloc::Global;
 use std::io;
 use std::io::{BufRead, ErrorKind, Write};
-use vhost_answer_text::{Answer, Message};
-use vhost_call_words::call_of;
 use vhost_device::VhostUserBackendReqHandlerMut;
 use vhost_frontend_core::{FrontendAnswer, FrontendCall, Profile};
 use vhost_link::MemLink;

@@ -27,3 +27,4 @@ pub mod KnownAnswer
 pub mod StandardAsking
 pub mod OwnChannel
 pub mod Blaming
+pub mod Carrying

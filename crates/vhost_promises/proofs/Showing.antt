@@ -21,7 +21,7 @@ use Rattle.vhost_frontend_core.specs.declared.values.answer.FrontendAnswer.{Fron
 use Rattle.vhost_frontend_core.specs.declared.values.answer.FrontendAnswer.TheVariants as answer
 use Rattle.vhost_pair.specs.Device.{opens_backend, opens_gpu}
 use Rattle.vhost_pair.specs.Text.{text_of}
-use Rattle.vhost_call_words.specs.Calls.{call_in}
+use Rattle.vhost_lines.specs.Calls.{call_in}
 use Rattle.vhost_lines.specs.Lines.{bad_line, lines, status_of}
 use Rattle.vhost_protocol.specs.declared.profile.Profile.TheVariants.{Vhost}
 use Rattle.vhost_lines.specs.Run.{Behind, RunShows, ShowsLines, stopped_text}

@@ -16,6 +16,7 @@ mod opening;
 mod read;
 mod recorder;
 mod records;
+mod rings;
 mod runs;
 mod scripts;
 mod served;
@@ -44,6 +45,7 @@ pub use records::{
     back_and_there, names_request, same_config, same_cursor, same_gpu_header, same_name,
     same_number, same_region, same_scanout, there_and_back,
 };
+pub use rings::{Carried, Part, carries};
 pub use runs::{serves_no_broken, serves_no_broken_back, serves_whole, serves_whole_back};
 pub use scripts::{passes_its_script, stops_by_its_script};
 pub use served::{serves_three, serves_three_new};

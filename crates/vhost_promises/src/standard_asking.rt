@@ -2,15 +2,18 @@
 
 ghost use Rattle.std.specs.Prelude.{◌≡◌, ◌++◌, ℕ, false};
 ghost use Rattle.vhost_frontend_core.specs.Frontend.{endpoint_of, session_of};
+ghost use Rattle.vhost_frontend.specs.Whole.{WholeWithRoom};
+ghost use Rattle.vhost_protocol.specs.FrontendCall.{ConfigOf, GetConfig};
 ghost use Rattle.vhost_promises.specs.Runs.{answer_of_link};
 ghost use Rattle.vhost_promises.specs.Served.{features_reply};
 ghost use Rattle.vhost_promises.specs.StandardAsking.{GoesOnAsking, no_config, with_config};
 ghost use Rattle.vhost_promises.specs.Streams.{stream};
 ghost use Rattle.vhost_protocol.specs.Stream.{plain};
 
+use crate::read::asks_features;
 use bitflags::Flags;
 use vhost_frontend::{Call, Quiet};
-use vhost_link::{MemLink, stream_law};
+use vhost_link::{Link, MemLink, stream_law};
 use vhost_message::{Result, VhostUserConfig, VhostUserConfigFlags};
 use vhost_protocol::Profile;
 
@@ -27,9 +30,18 @@ pub fn goes_on_without_config(
 {
     stream_law();
     frontend.set_profile(Profile::Standard);
-    let bytes = [0; 8];
-    let asked = Call::GetConfig(0, 8, VhostUserConfigFlags::empty(), &bytes);
-    let config = frontend.config(&asked);
-    let features = frontend.number(&Call::GetFeatures);
+    let config = asks_config(frontend, VhostUserConfigFlags::empty(), &[0; 8]);
+    let features = asks_features(frontend);
     (config, features)
+}
+
+/// Asks for eight bytes of configuration, over any link.
+fn asks_config<L: Link>(
+    frontend: &mut Quiet<L>,
+    flags: VhostUserConfigFlags,
+    buffer: &[u8],
+) -> Result<(VhostUserConfig, Vec<u8>)>
+    ensures { WholeWithRoom L.event (GetConfig 0 8 flags.bits buffer.now) (λ part. ConfigOf part.0 part.1.items) frontend.old.inner result frontend.new.inner }
+{
+    frontend.config(&Call::GetConfig(0, 8, flags, buffer))
 }

@@ -3,8 +3,8 @@
 use crate::errors::carried_text;
 use crate::handles::handle_text;
 use std::alloc::{AllocError, Global};
-use vhost_answer_text::Answer;
 use vhost_frontend_core::FrontendAnswer;
+use vhost_lines::Answer;
 use vhost_link::PlainHandle;
 use vhost_message::{Result as Outcome, VhostUserInflight};
 

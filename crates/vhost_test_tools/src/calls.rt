@@ -6,8 +6,8 @@ use crate::miss::{Miss, unreadable};
 use crate::numbers::narrow;
 use bitflags::Flags;
 use std::alloc::Global;
-use vhost_call_words::call_of;
 use vhost_frontend_core::FrontendCall;
+use vhost_lines::call_of;
 use vhost_link::PlainHandle;
 use vhost_message::VhostUserHeaderFlag;
 

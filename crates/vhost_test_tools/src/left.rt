@@ -6,7 +6,7 @@ use crate::miss::Miss;
 use std::alloc::{AllocError, Global};
 use vhost_connection::Endpoint;
 use vhost_link::{Link, PlainHandle};
-use vhost_message::{Error, MsgHeader};
+use vhost_message::{Error, MAX_ATTACHED_FD_ENTRIES, MsgHeader};
 
 /// How many bytes are received at once.
 const ROOM: usize = 64;
@@ -47,7 +47,7 @@ pub fn left_of_link<L: Link<Handle: ScriptHandle>>(
     let mut text = String::new(alloc);
     for _ in 0..CALLS {
         let mut room = [0u8; ROOM];
-        let mut handles = Vec::with_capacity(alloc, 32)?;
+        let mut handles = Vec::with_capacity(alloc, MAX_ATTACHED_FD_ENTRIES)?;
         match link.recv(&mut room, &mut handles) {
             Ok(0) => break,
             Ok(count) => {

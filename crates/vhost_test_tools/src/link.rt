@@ -7,7 +7,7 @@ use std::alloc::Global;
 use std::cell::RefCell;
 use std::rc::Rc;
 use vhost_link::{Cut, Handle, Kind, Link, MemLink, PlainHandle};
-use vhost_message::IoCause;
+use vhost_message::{IoCause, MAX_ATTACHED_FD_ENTRIES};
 
 /// A descriptor that a script can name.
 pub trait ScriptHandle: Handle {
@@ -127,7 +127,7 @@ impl Link for TestLink {
                 return Err(IoCause::Raw(12));
             }
         }
-        list.truncate(32);
+        list.truncate(MAX_ATTACHED_FD_ENTRIES);
         match self.wire.try_borrow_mut() {
             Ok(mut wire) => wire.mem.send(bytes, list.as_slice()),
             Err(_) => Err(IoCause::Named("in use")),
@@ -136,8 +136,8 @@ impl Link for TestLink {
 
     fn recv(&mut self, room: &mut [u8], handles: &mut Vec<TestHandle>) -> Result<usize, IoCause> {
         let (Ok(mut list), Ok(mut taken)) = (
-            Vec::with_capacity(self.alloc, 32),
-            Vec::with_capacity(self.alloc, 32),
+            Vec::with_capacity(self.alloc, MAX_ATTACHED_FD_ENTRIES),
+            Vec::with_capacity(self.alloc, MAX_ATTACHED_FD_ENTRIES),
         ) else {
             return Err(IoCause::Raw(12));
         };
@@ -149,7 +149,7 @@ impl Link for TestLink {
             let is_silent = wire.silent.contains(plain);
             let _pushed = taken.push(TestHandle::of_plain(*plain, is_silent));
         }
-        if count > 0 && taken.len() <= 32 {
+        if count > 0 && taken.len() <= MAX_ATTACHED_FD_ENTRIES {
             let _moved = handles.append(&mut taken);
         }
         Ok(count)

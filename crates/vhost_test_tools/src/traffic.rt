@@ -4,6 +4,7 @@ use crate::message::{message_of, push_held, push_message, push_some};
 use crate::miss::{Miss, differs, expect, unreadable};
 use std::alloc::Global;
 use vhost_link::{MemLink, PlainHandle};
+use vhost_message::MAX_ATTACHED_FD_ENTRIES;
 
 /// What the side under test is to write next, and how much it wrote before.
 #[derive(Drop)]
@@ -33,7 +34,7 @@ impl Traffic {
     /// Puts a message on its way to the side under test.
     pub fn push(&self, mem: &mut MemLink, text: &str) -> Result<(), Miss> {
         let message = message_of(self.alloc, self.n, text)?;
-        if message.handles.len() > 32 {
+        if message.handles.len() > MAX_ATTACHED_FD_ENTRIES {
             return Err(unreadable(self.alloc, "at most 32 handles", text));
         }
         Ok(mem.push(&message.bytes, &message.handles)?)

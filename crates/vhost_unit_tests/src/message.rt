@@ -1,7 +1,5 @@
-//! Values and texts from outside.
+//! Numbers and texts from outside.
 
-mod codes;
-mod descriptors;
 mod errors;
 mod headers;
-mod records;
+mod numbers;

@@ -1,7 +1,7 @@
 //! Links between threads: rings and hubs.
 
 mod hub;
-pub(crate) mod part;
+mod part;
 mod ring;
 mod script;
 mod threads;

@@ -1,7 +1,6 @@
 //! The texts of errors.
 
-use crate::texts::{are_shown, is_shown};
-use std::alloc::Global;
+use crate::texts::are_shown;
 use vhost_backend::Error;
 use vhost_message::{Error as ProtocolError, IoCause};
 
@@ -35,16 +34,4 @@ static ERRORS: [(Error, &str); 12] = [
 #[test]
 fn texts(rt: HostRuntime) {
     assert!(rt; are_shown(rt.alloc(), &ERRORS));
-}
-
-/// Whether an error of the protocol is shown as this text where a VMM sees it.
-fn is_shown_to_drivers(alloc: Global, error: ProtocolError, text: &str) -> bool {
-    is_shown(alloc, &Error::from(error), text)
-}
-
-#[test]
-fn text_of_an_error_of_the_protocol(rt: HostRuntime) {
-    let error = ProtocolError::SocketBroken(IoCause::Raw(32));
-    let text = "vhost-user: socket is broken: os error 32";
-    assert!(rt; is_shown_to_drivers(rt.alloc(), error, text));
 }

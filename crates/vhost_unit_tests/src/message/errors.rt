@@ -96,61 +96,17 @@ static OF_HANDLERS: [(IoError, &str, &str); 4] = [
     ),
 ];
 
+/// Whether each error and its cause are shown as the texts beside it.
+fn are_told(alloc: Global, cases: &[(IoError, &str, &str)]) -> bool {
+    for (error, text, cause) in cases {
+        if !is_shown(alloc, error, text) || !is_shown(alloc, &error.cause(), cause) {
+            return false;
+        }
+    }
+    true
+}
+
 #[test]
 fn errors_of_handlers(rt: HostRuntime) {
-    for (error, text, cause) in &OF_HANDLERS {
-        assert!(rt; is_shown(rt.alloc(), error, text));
-        assert!(rt; is_shown(rt.alloc(), &error.cause(), cause));
-    }
-}
-
-#[test]
-fn number_of_an_error_of_handlers(rt: HostRuntime) {
-    assert!(rt; OF_HANDLERS[0].0.raw_os_error() == Some(38));
-}
-
-/// Whether an error of the protocol is shown as this text where a handler answers it.
-fn is_shown_by_handler(alloc: Global, error: Error, text: &str) -> bool {
-    is_shown(alloc, &IoError::from(error), text)
-}
-
-#[test]
-fn an_error_of_the_protocol_is_one_of_handlers(rt: HostRuntime) {
-    let shown = is_shown_by_handler(rt.alloc(), Error::PartialMessage, "partial message");
-    assert!(rt; shown);
-}
-
-/// Causes, each with the text of its error.
-static CAUSES: [(IoCause, &str); 4] = [
-    (IoCause::Raw(105), "temporary socket error: os error 105"),
-    (IoCause::Raw(32), "socket is broken: os error 32"),
-    (IoCause::Raw(13), "can't connect to peer: os error 13"),
-    (IoCause::Named("x"), "socket error: x"),
-];
-
-/// Whether the error of a cause is shown as this text.
-fn is_shown_as_error(alloc: Global, cause: IoCause, text: &str) -> bool {
-    is_shown(alloc, &Error::from(cause), text)
-}
-
-#[test]
-fn causes(rt: HostRuntime) {
-    for (cause, text) in &CAUSES {
-        assert!(rt; is_shown_as_error(rt.alloc(), *cause, text));
-    }
-}
-
-static RETRY: Error = Error::SocketRetry(IoCause::Raw(4));
-
-static INTERNAL: Error = Error::BackendInternalError;
-
-#[test]
-fn what_is_tried_again(rt: HostRuntime) {
-    let told = [
-        IoCause::Raw(11).is_retry(),
-        IoCause::Raw(104).is_retry(),
-        INTERNAL.should_reconnect(),
-        RETRY.should_reconnect(),
-    ];
-    assert!(rt; told == [true, false, true, false]);
+    assert!(rt; are_told(rt.alloc(), &OF_HANDLERS));
 }

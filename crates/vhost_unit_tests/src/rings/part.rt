@@ -28,7 +28,7 @@ pub(crate) fn new_hub(alloc: Global) -> Result<Arc<Hub, Global>, AllocError> {
     Arc::new(alloc, Hub::new(alloc)).map_err(|_| AllocError)
 }
 
-/// Both ends of a new link of this hub, whose rings have room for 33 pieces.
+/// Both ends of a new link of this hub, whose rings have the least size: room for 33 pieces.
 pub(crate) fn pair_in<R: Copy + Drop>(
     rt: R,
     alloc: Global,
@@ -36,7 +36,7 @@ pub(crate) fn pair_in<R: Copy + Drop>(
 ) -> Result<(SharedLink<R>, SharedLink<R>), AllocError>
     ensures { IfOk result (λ p. p.0.output ≡ p.1.input) }
 {
-    SharedLink::pair(rt, alloc, hub, 33)
+    SharedLink::pair(rt, alloc, hub, MAX_ATTACHED_FD_ENTRIES + 1)
 }
 
 /// The same in a hub of its own.

@@ -1,43 +1,11 @@
 //! Rings between two threads. What they show is the same whatever the schedule.
 
-ghost use Rattle.std.specs.Prelude.{◌≤◌, length};
-ghost use Rattle.vhost_message.specs.declared.limits.TheConstants.{MAX_ATTACHED_FD_ENTRIES};
-
-use crate::rings::part::{handle, pair, send};
+use crate::rings::part::{pair, send};
 use std::alloc::{AllocError, Global};
 use std::sync::Wait;
 use std::thread::{Threads, join, yield_now};
-use vhost_link::{Link, PlainHandle, SharedLink};
-use vhost_link_promises::{Carried, carries};
+use vhost_link::{Link, SharedLink};
 use vhost_message::MAX_ATTACHED_FD_ENTRIES;
-
-/// How many pieces the sends took in, where each had so many file descriptors.
-fn pieces_sent(carried: &Carried, handles: usize) -> usize {
-    let mut pieces = 0usize;
-    for count in &carried.counts {
-        if *count > 0 {
-            pieces = pieces.saturating_add(*count).saturating_add(handles);
-        }
-    }
-    pieces
-}
-
-/// How many pieces the receives handed out, unless a byte is not the one that was to come.
-fn pieces_received(carried: &Carried, bytes: &[u8]) -> Option<usize> {
-    let mut pieces = 0usize;
-    let mut done = 0usize;
-    for part in &carried.parts {
-        let end = done.saturating_add(part.bytes.len());
-        if bytes.get(done..end) != Some(part.bytes.as_slice()) {
-            return None;
-        }
-        done = end;
-        pieces = pieces
-            .saturating_add(part.bytes.len())
-            .saturating_add(part.handles.len());
-    }
-    Some(pieces)
-}
 
 /// Numbers from 0 on, each modulo 251.
 fn numbers(alloc: Global, count: usize) -> Result<Vec<u8>, AllocError> {
@@ -46,39 +14,6 @@ fn numbers(alloc: Global, count: usize) -> Result<Vec<u8>, AllocError> {
         all.push((i % 251) as u8)?;
     }
     Ok(all)
-}
-
-/// Whether what was received, in order, and what is left are all that was sent.
-fn is_all(carried: &Carried, bytes: &[u8], handles: usize) -> bool {
-    match (carried.left, pieces_received(carried, bytes)) {
-        (Some(left), Some(received)) => {
-            received.saturating_add(left) == pieces_sent(carried, handles)
-        }
-        _ => false,
-    }
-}
-
-/// Whether nothing is lost of ten thousand bytes sent in parts with these file descriptors.
-fn loses_none<R: Threads + Sync>(
-    rt: &R,
-    alloc: Global,
-    handles: &[&PlainHandle],
-) -> Result<bool, AllocError>
-    requires { length handles.now ≤ MAX_ATTACHED_FD_ENTRIES }
-{
-    let bytes = numbers(alloc, 10_000)?;
-    let carried = carries(rt, alloc, &bytes, handles, 100_000)?;
-    Ok(is_all(&carried, &bytes, handles.len()))
-}
-
-#[test]
-fn loses_nothing(rt: HostRuntime) {
-    assert!(rt; loses_none(&rt, rt.alloc(), &[]) == Ok(true));
-}
-
-#[test]
-fn loses_no_handle(rt: HostRuntime) {
-    assert!(rt; loses_none(&rt, rt.alloc(), &[&handle(7), &handle(8)]) == Ok(true));
 }
 
 /// Sends all bytes, as there is room for them.

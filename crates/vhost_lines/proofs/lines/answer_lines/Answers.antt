@@ -1,6 +1,6 @@
 use Rattle.std.specs.Prelude.{Some, None}
 use Rattle.std.proofs.Common.{◌≡◌, refl}
-use Rattle.vhost_call_words.specs.Calls.{call_in}
+use Rattle.vhost_lines.specs.Calls.{call_in}
 use Rattle.vhost_frontend_core.specs.Values.{call_of}
 use Rattle.vhost_lines.specs.Session.{IsFresh, Steps, request_of, reply_of, stopped_of}
 use Rattle.vhost_lines.proofs.Progress.{goes-more, shown-end, shown-bad, bad-end, bad-found, front-none, front-now, front-next}

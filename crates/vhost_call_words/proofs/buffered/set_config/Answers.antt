@@ -1,7 +1,0 @@
-use Rattle.std.proofs.Common.{sym, rules, tests}
-use Rattle.vhost_call_words.proofs.OtherCounts.{set_config-other}
-use Rattle.vhost_call_words.proofs.buffered.set_config.Goals as goal
-use Rattle.vhost_call_words.proofs.buffered.set_config.Goals.{in_default-via-then-args-lt3, in_default-via-else-args-lt3+else-args-lt4}
-
-pub returns-in_default : goal.returns-in_default
-returns-in_default c = sym (set_config-other c.args.args.now (λ is. elim c.in_default.branch [ in_default-via-then-args-lt3 w ↦ search (rules, tests) | in_default-via-else-args-lt3+else-args-lt4 w ↦ search (rules, tests) ]))

@@ -1,7 +1,0 @@
-use Rattle.std.proofs.Common.{sym, rules, tests}
-use Rattle.vhost_call_words.proofs.OtherCounts.{set_inflight_fd-other}
-use Rattle.vhost_call_words.proofs.several.set_inflight_fd.Goals as goal
-use Rattle.vhost_call_words.proofs.several.set_inflight_fd.Goals.{in_default-via-then-args-lt5, in_default-via-else-args-lt5+else-args-lt6}
-
-pub returns-in_default : goal.returns-in_default
-returns-in_default c = sym (set_inflight_fd-other c.args.args.now (λ is. elim c.in_default.branch [ in_default-via-then-args-lt5 w ↦ search (rules, tests) | in_default-via-else-args-lt5+else-args-lt6 w ↦ search (rules, tests) ]))

@@ -1,6 +1,0 @@
-use Rattle.std.proofs.Common.{◌≡◌}
-use Rattle.vhost_link_promises.specs.Parts.{part_cells}
-use Rattle.vhost_link_promises.proofs.rings.receive_all.Given as goal
-
-abbrev pub invariant-loop-i : goal.invariant-loop-i
-invariant-loop-i l = (l.link.input ≡ l.initial.link.input) × (l.link.received ≡ part_cells l.parts.items)

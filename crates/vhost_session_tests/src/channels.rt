@@ -1,0 +1,5 @@
+//! The channels of a device.
+
+mod asks;
+mod display_asks;
+mod serves;

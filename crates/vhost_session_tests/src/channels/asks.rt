@@ -1,0 +1,65 @@
+//! What a device asks its frontend.
+
+use std::alloc::Global;
+use uuid::Uuid;
+use vhost_backend_req::BackendInternal;
+use vhost_link::{Kind, Link, MemLink, PlainHandle};
+use vhost_message::{HandlerResult, Result, VhostUserMMap, VhostUserSharedMsg};
+use vhost_promises::{adds_again, adds_object, maps_memory};
+
+const HANDLE: PlainHandle = PlainHandle {
+    id: 7,
+    kind: Kind::NoSocket,
+};
+
+/// The reply to SHARED_OBJECT_ADD: 0.
+static ADDED: [u8; 20] = [6, 0, 0, 0, 5, 0, 0, 0, 8, 0, 0, 0, 0, 0, 0, 0, 0, 0, 0, 0];
+
+fn name() -> VhostUserSharedMsg {
+    VhostUserSharedMsg {
+        uuid: Uuid::from_bytes([1, 2, 3, 4, 5, 6, 7, 8, 9, 10, 11, 12, 13, 14, 15, 16]),
+    }
+}
+
+/// A channel on which all is agreed, over this link.
+fn channel<L: Link>(alloc: Global, link: L, reply_ack: bool) -> Result<BackendInternal<L>> {
+    let mut channel = BackendInternal::from_stream(alloc, link, 0)?;
+    channel.set_reply_ack_flag(reply_ack);
+    channel.set_shared_object_flag(true);
+    channel.set_shmem_flag(true);
+    Ok(channel)
+}
+
+/// What an object is answered that is added and acknowledged.
+fn added(alloc: Global) -> Option<HandlerResult<u64>> {
+    let mut link = MemLink::new(alloc, Vec::new(alloc));
+    link.push(&ADDED, &[]).ok()?;
+    let mut channel = channel(alloc, link, true).ok()?;
+    Some(adds_object(&mut channel, &name()))
+}
+
+#[test]
+fn one_acknowledged(rt: HostRuntime) {
+    assert!(rt; matches!(added(rt.alloc()), Some(Ok(0))));
+}
+
+/// Whether memory is mapped, with a descriptor, and objects are added, without an answer.
+fn unanswered(alloc: Global) -> Option<[bool; 3]> {
+    let link = MemLink::new(alloc, Vec::new(alloc));
+    let mut channel = channel(alloc, link, false).ok()?;
+    let mapped = matches!(
+        maps_memory(&mut channel, &VhostUserMMap::default(), &HANDLE),
+        Ok(0)
+    );
+    let brought = channel.endpoint_mut().link().taken().handles(0).len() == 1;
+    Some([
+        mapped,
+        brought,
+        adds_again(&mut channel, &name(), 2).is_ok(),
+    ])
+}
+
+#[test]
+fn three_unanswered(rt: HostRuntime) {
+    assert!(rt; unanswered(rt.alloc()) == Some([true; 3]));
+}

@@ -1,0 +1,179 @@
+//! What a device asks, as its frontend serves it.
+
+ghost use Rattle.std.specs.Prelude.{⊤};
+
+use std::alloc::{AllocError, Global};
+use std::sync::{Arc, Wait};
+use vhost_frontend_req_handler::{
+    FrontendReqCore, FrontendReqHandler, VhostUserFrontendReqHandler,
+    VhostUserFrontendReqHandlerMut,
+};
+use vhost_link::{Cut, Kind, Link, MemLink, PlainHandle};
+use vhost_message::{Error, HandlerResult, IoCause, Result, VhostUserMMap, VhostUserSharedMsg};
+use vhost_promises::{
+    answers_by_halves, finds_none_back, meets_fault_back, serves_no_broken_back, serves_whole_back,
+    stays_broken_back,
+};
+
+/// SHARED_OBJECT_ADD, which wants an acknowledgement.
+static ADD: [u8; 28] = [
+    6, 0, 0, 0, 9, 0, 0, 0, 16, 0, 0, 0, 1, 2, 3, 4, 5, 6, 7, 8, 9, 10, 11, 12, 13, 14, 15, 16,
+];
+
+/// The acknowledgement: 5.
+static ADDED: [u8; 20] = [6, 0, 0, 0, 5, 0, 0, 0, 8, 0, 0, 0, 5, 0, 0, 0, 0, 0, 0, 0];
+
+/// Answers each call with the number 5.
+#[derive(Drop)]
+struct Five;
+
+impl VhostUserFrontendReqHandlerMut for Five {
+    type Handle = PlainHandle;
+
+    ghost gives = { λ _ _ _ _. ⊤ };
+
+    fn handle_config_change(&mut self) -> HandlerResult<u64> {
+        Ok(5)
+    }
+
+    fn shared_object_add(&mut self, _uuid: &VhostUserSharedMsg) -> HandlerResult<u64> {
+        Ok(5)
+    }
+
+    fn shared_object_remove(&mut self, _uuid: &VhostUserSharedMsg) -> HandlerResult<u64> {
+        Ok(5)
+    }
+
+    fn shared_object_lookup(
+        &mut self,
+        _uuid: &VhostUserSharedMsg,
+        _fd: &PlainHandle,
+    ) -> HandlerResult<u64> {
+        Ok(5)
+    }
+
+    fn shmem_map(&mut self, _req: &VhostUserMMap, _fd: &PlainHandle) -> HandlerResult<u64> {
+        Ok(5)
+    }
+
+    fn shmem_unmap(&mut self, _req: &VhostUserMMap) -> HandlerResult<u64> {
+        Ok(5)
+    }
+}
+
+/// A session on which these bytes came, over a link with this script.
+fn new_core(alloc: Global, bytes: &[u8], cuts: Vec<Cut>) -> Option<FrontendReqCore<MemLink>> {
+    let mut link = MemLink::new(alloc, cuts);
+    link.push(bytes, &[]).ok()?;
+    FrontendReqCore::new(alloc, link, 0).ok()
+}
+
+/// Whether a request is served, and the end of the stream is the answer after it.
+fn served_whole(alloc: Global) -> Option<bool> {
+    let mut core = new_core(alloc, &ADD, Vec::new(alloc))?;
+    let answers = serves_whole_back(alloc, &mut core, &mut Five, 2).ok()?;
+    Some(matches!(answers.as_slice(), [Ok(5), Err(Error::Disconnected)]))
+}
+
+#[test]
+fn whole(rt: HostRuntime) {
+    assert!(rt; served_whole(rt.alloc()) == Some(true));
+}
+
+/// Whether a request is answered that the endpoint was poisoned before.
+fn unserved(alloc: Global) -> Option<bool> {
+    let mut core = new_core(alloc, &ADD, Vec::new(alloc))?;
+    core.endpoint_mut().break_with(IoCause::Raw(5));
+    let answer = serves_no_broken_back(&mut core, &mut Five);
+    Some(matches!(answer, Err(Error::SocketBroken(IoCause::Raw(5)))))
+}
+
+#[test]
+fn broken(rt: HostRuntime) {
+    assert!(rt; unserved(rt.alloc()) == Some(true));
+}
+
+/// Whether a request that the link's error 5 stops after five bytes is answered so, and one behind it that the endpoint is poisoned.
+fn stopped(alloc: Global, cuts: Vec<Cut>) -> Option<[bool; 2]> {
+    let mut core = new_core(alloc, &ADD, cuts)?;
+    let first = meets_fault_back(&mut core, &mut Five);
+    let later = stays_broken_back(alloc, &mut core, &mut Five, 1).ok()?;
+    Some([
+        matches!(first, Err(Error::SocketError(IoCause::Raw(5)))),
+        matches!(
+            later.as_slice(),
+            [Err(Error::SocketBroken(IoCause::Raw(5)))]
+        ),
+    ])
+}
+
+/// The same over such a link.
+fn torn(alloc: Global) -> Option<[bool; 2]> {
+    let cuts = vec![in alloc; Cut::Give(5), Cut::Fault(5)].ok()?;
+    stopped(alloc, cuts)
+}
+
+#[test]
+fn torn_and_broken(rt: HostRuntime) {
+    assert!(rt; torn(rt.alloc()) == Some([true; 2]));
+}
+
+/// Whether a stream that ends inside a header is answered so.
+fn none_found(alloc: Global) -> Option<bool> {
+    let mut core = new_core(alloc, &ADD[..5], Vec::new(alloc))?;
+    let answer = finds_none_back(&mut core, &mut Five);
+    Some(matches!(answer, Err(Error::PartialMessage)))
+}
+
+#[test]
+fn no_message(rt: HostRuntime) {
+    assert!(rt; none_found(rt.alloc()) == Some(true));
+}
+
+/// Whether a request that is served in two halves is answered, and acknowledged, and a new session has no call before it.
+fn in_halves(alloc: Global) -> Option<[bool; 3]> {
+    let mut core = new_core(alloc, &ADD, Vec::new(alloc))?;
+    core.set_reply_ack_flag(true);
+    let is_new = !core.has_call();
+    let answer = answers_by_halves(&mut core, &mut Five);
+    let written = core.endpoint_mut().link().taken().bytes() == ADDED.as_slice();
+    Some([is_new, matches!(answer, Ok(5)), written])
+}
+
+#[test]
+fn one_in_halves(rt: HostRuntime) {
+    assert!(rt; in_halves(rt.alloc()) == Some([true; 3]));
+}
+
+/// Has none of the calls.
+#[derive(Drop)]
+struct Nothing;
+
+impl VhostUserFrontendReqHandler for Nothing {
+    type Handle = PlainHandle;
+}
+
+/// What a frontend that has none of the calls, and is shared, answers to one.
+fn shared_nothing(rt: &impl Wait, alloc: Global) -> Option<i32> {
+    let mut link = MemLink::new(alloc, Vec::new(alloc));
+    link.push(&ADD, &[]).ok()?;
+    let tx = PlainHandle {
+        id: 7,
+        kind: Kind::NoSocket,
+    };
+    let mut handler = FrontendReqHandler::new(alloc, tx, link, 0, shared(alloc).ok()?).ok()?;
+    match handler.handle_request(rt) {
+        Err(Error::ReqHandlerError(IoCause::Raw(number))) => Some(number),
+        _ => None,
+    }
+}
+
+/// Such a frontend.
+fn shared(alloc: Global) -> std::result::Result<Arc<Nothing, Global>, AllocError> {
+    Arc::new(alloc, Nothing).map_err(|_| AllocError)
+}
+
+#[test]
+fn calls_that_are_not_there(rt: HostRuntime) {
+    assert!(rt; shared_nothing(&rt, rt.alloc()) == Some(38));
+}

@@ -1,0 +1,86 @@
+//! Worked consequences of a frontend's calls, each run once.
+
+use std::alloc::Global;
+use std::sync::Wait;
+use vhost_frontend::{Frontend, Quiet};
+use vhost_frontend_core::{FrontendAnswer, FrontendCall, FrontendInternal};
+use vhost_link::{Cut, MemLink};
+use vhost_message::{Error, IoCause};
+use vhost_promises::{asks_again, meets_fault_calling, own_features, reads_features_new};
+
+/// The reply to GET_FEATURES: 0x40000001.
+static FEATURES: [u8; 20] = [
+    1, 0, 0, 0, 5, 0, 0, 0, 8, 0, 0, 0, 1, 0, 0, 0x40, 0, 0, 0, 0,
+];
+
+/// What a new frontend reads of a reply, which comes in two pieces.
+fn read_in_pieces(alloc: Global) -> Option<u64> {
+    let cuts = vec![in alloc; Cut::Give(12), Cut::Give(3)].ok()?;
+    let (_frontend, answer) = reads_features_new(alloc, cuts, 0).ok()?;
+    answer.ok()
+}
+
+#[test]
+fn reads_the_features(rt: HostRuntime) {
+    assert!(rt; read_in_pieces(rt.alloc()) == Some(0x4000_0003));
+}
+
+/// Which number of the system a call failed with, and whether it was the link's error or that the endpoint is poisoned.
+fn failure(answer: FrontendAnswer) -> Option<(i32, bool)> {
+    match answer {
+        FrontendAnswer::Failed(Error::SocketError(IoCause::Raw(number))) => Some((number, false)),
+        FrontendAnswer::Failed(Error::SocketBroken(IoCause::Raw(number))) => Some((number, true)),
+        _ => None,
+    }
+}
+
+/// What two calls of a ring's size are answered over a link with this script.
+fn sizes_twice(alloc: Global, cuts: Vec<Cut>) -> Option<[Option<(i32, bool)>; 2]> {
+    let mut frontend = FrontendInternal::new(alloc, MemLink::new(alloc, cuts), 4, 2).ok()?;
+    let call = FrontendCall::SetVringNum(0, 128);
+    let first = failure(meets_fault_calling(&mut frontend, &call));
+    Some([first, failure(meets_fault_calling(&mut frontend, &call))])
+}
+
+/// The same over a link that fails after five bytes.
+fn torn(alloc: Global) -> Option<[Option<(i32, bool)>; 2]> {
+    let cuts = vec![in alloc; Cut::Give(5), Cut::Fault(5)].ok()?;
+    sizes_twice(alloc, cuts)
+}
+
+#[test]
+fn meets_faults(rt: HostRuntime) {
+    assert!(rt; torn(rt.alloc()) == Some([Some((5, false)), Some((5, true))]));
+}
+
+/// A link on which so many replies came.
+fn replied(alloc: Global, count: usize) -> Option<MemLink> {
+    let mut link = MemLink::new(alloc, Vec::new(alloc));
+    for _ in 0..count {
+        link.push(&FEATURES, &[]).ok()?;
+    }
+    Some(link)
+}
+
+/// Whether the first of two calls of a shared frontend answers the only reply, and the second fails.
+fn answers_one(rt: &impl Wait, alloc: Global) -> Option<[bool; 2]> {
+    let frontend = Frontend::from_stream(alloc, replied(alloc, 1)?, 1, 0).ok()?;
+    let first = matches!(own_features(&frontend, rt), Ok(0x4000_0001));
+    Some([first, own_features(&frontend, rt).is_err()])
+}
+
+#[test]
+fn answers_its_own_caller(rt: HostRuntime) {
+    assert!(rt; answers_one(&rt, rt.alloc()) == Some([true; 2]));
+}
+
+/// Whether two calls, one after another, succeed.
+fn asks_two(alloc: Global) -> Option<bool> {
+    let mut quiet = Quiet::new(alloc, replied(alloc, 2)?, 1, 0).ok()?;
+    Some(asks_again(&mut quiet, 2).is_ok())
+}
+
+#[test]
+fn asks_one_after_another(rt: HostRuntime) {
+    assert!(rt; asks_two(rt.alloc()) == Some(true));
+}

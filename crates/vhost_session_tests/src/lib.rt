@@ -1,0 +1,17 @@
+//! Tests of whole sessions that no script can say: worked consequences, each run once, lines, recorders, and sessions side by side.
+#![tactic(auto)]
+
+#[cfg(test)]
+mod channels;
+#[cfg(test)]
+mod frontend;
+#[cfg(test)]
+mod lines;
+#[cfg(test)]
+mod promises;
+#[cfg(test)]
+mod recorder;
+#[cfg(test)]
+mod rings;
+#[cfg(test)]
+mod serving;

@@ -1,0 +1,190 @@
+//! Worked consequences, each run once with ample memory.
+
+use std::alloc::Global;
+use std::sync::Wait;
+use vhost_backend_req_handler::SessionCore;
+use vhost_connection::Endpoint;
+use vhost_device::VhostUserBackendReqHandlerMut;
+use vhost_dummy_backend::DummyBackendReqHandler;
+use vhost_link::MemLink;
+use vhost_message::{
+    Error, FrontendReq, IoError, VhostUserConfig, VhostUserConfigFlags, VhostUserMsgHeader,
+};
+use vhost_promises::{
+    Device, finds_own, first_answer, goes_on_unserved_new, records_two, runs_two_lines,
+    sends_in_one, serves_by_halves, serves_three_new, shares_twice, two_callers,
+};
+use vhost_recorder::{FrontendAnswer, FrontendCall, Halt, Log, Receipt, Recorded};
+
+/// The reply to GET_FEATURES: 0x40000003.
+static FEATURES: [u8; 20] = [
+    1, 0, 0, 0, 5, 0, 0, 0, 8, 0, 0, 0, 3, 0, 0, 0x40, 0, 0, 0, 0,
+];
+
+/// Whether a handler wrote these bytes.
+fn wrote(core: &mut SessionCore<MemLink>, bytes: &[u8]) -> bool {
+    core.endpoint_mut().link().taken().bytes() == bytes
+}
+
+/// Whether three requests are answered as the example device does, and its features go out.
+fn three_served(alloc: Global) -> Option<[bool; 2]> {
+    let none = Vec::new(alloc);
+    let (mut core, _device, answers) = serves_three_new(alloc, Vec::new(alloc), none, 40).ok()?;
+    let is_right = matches!(
+        answers.as_slice(),
+        [Ok(()), Ok(()), Err(Error::InvalidOperation(_))]
+    );
+    Some([is_right, wrote(&mut core, &FEATURES)])
+}
+
+#[test]
+fn three_requests(rt: HostRuntime) {
+    assert!(rt; three_served(rt.alloc()) == Some([true; 2]));
+}
+
+/// Whether a request that nobody serves is refused under Standard, the next one served, and nothing goes out.
+fn went_on(alloc: Global) -> Option<[bool; 2]> {
+    let none = Vec::new(alloc);
+    let (mut core, _device, answers) = goes_on_unserved_new(alloc, Vec::new(alloc), none, 40).ok()?;
+    let is_right = matches!(
+        answers.as_slice(),
+        [Err(Error::InvalidOperation(_)), Ok(())]
+    );
+    Some([is_right, wrote(&mut core, &[])])
+}
+
+#[test]
+fn one_unserved_under_standard(rt: HostRuntime) {
+    assert!(rt; went_on(rt.alloc()) == Some([true; 2]));
+}
+
+/// Whether GET_FEATURES, served in two halves, is answered, and the features go out.
+fn in_halves(alloc: Global) -> Option<[bool; 2]> {
+    let mut link = MemLink::new(alloc, Vec::new(alloc));
+    link.push(&[1, 0, 0, 0, 1, 0, 0, 0, 0, 0, 0, 0], &[]).ok()?;
+    let mut core = SessionCore::new(alloc, link, 40).ok()?;
+    let mut device = DummyBackendReqHandler::new(alloc, Vec::new(alloc));
+    let answer = serves_by_halves(&mut core, &mut device);
+    Some([answer.is_ok(), wrote(&mut core, &FEATURES)])
+}
+
+#[test]
+fn one_request_in_halves(rt: HostRuntime) {
+    assert!(rt; in_halves(rt.alloc()) == Some([true; 2]));
+}
+
+/// What two lines print.
+const SHOWN: &str =
+    "010000000100000000000000 0100000005000000080000000300004000000000 ok 0x40000003\n030000000100000000000000 - ok\n";
+
+/// Whether two lines are printed so.
+fn two_printed(alloc: Global) -> Option<bool> {
+    let output = runs_two_lines(alloc).ok()?;
+    Some(output.as_slice() == SHOWN.as_bytes())
+}
+
+#[test]
+fn two_lines(rt: HostRuntime) {
+    assert!(rt; two_printed(rt.alloc()) == Some(true));
+}
+
+/// The reply to SHARED_OBJECT_ADD that refuses: -38.
+static REFUSED: [u8; 20] = [
+    6, 0, 0, 0, 5, 0, 0, 0, 8, 0, 0, 0, 0xda, 255, 255, 255, 255, 255, 255, 255,
+];
+
+/// Whether an object that is shared twice is refused the second time.
+fn shared_twice(alloc: Global) -> Option<[bool; 2]> {
+    let mut answers = Vec::new(alloc);
+    let joined = shares_twice(alloc, &mut answers).ok()?;
+    let is_refused = joined.last_reply().0 == REFUSED.as_slice();
+    let last = answers.as_slice().last();
+    Some([
+        is_refused,
+        matches!(last, Some(Err(IoError::Of(Error::FrontendInternalError)))),
+    ])
+}
+
+#[test]
+fn one_object(rt: HostRuntime) {
+    assert!(rt; shared_twice(rt.alloc()) == Some([true; 2]));
+}
+
+/// Two bytes of the configuration space, behind their header and record.
+static CONFIG: [u8; 26] = [
+    25, 0, 0, 0, 1, 0, 0, 0, 14, 0, 0, 0, 4, 0, 0, 0, 2, 0, 0, 0, 1, 0, 0, 0, 7, 8,
+];
+
+/// Whether that message is sent, and goes out.
+fn config_sent(alloc: Global) -> Option<[bool; 2]> {
+    let link = MemLink::new(alloc, Vec::new(alloc));
+    let mut end = Endpoint::from_stream(alloc, link, 2).ok()?;
+    let header = VhostUserMsgHeader::new(FrontendReq::SET_CONFIG, 0, 14);
+    let part = VhostUserConfig::new(4, 2, VhostUserConfigFlags::WRITABLE);
+    let sent = sends_in_one(&mut end, &header, &part, &[7, 8]).is_ok();
+    Some([sent, end.link().taken().bytes() == CONFIG.as_slice()])
+}
+
+#[test]
+fn a_message_in_one_call(rt: HostRuntime) {
+    assert!(rt; config_sent(rt.alloc()) == Some([true; 2]));
+}
+
+/// What a reader of a log saw, as plain values.
+#[derive(Clone, Copy, Debug, PartialEq, Eq)]
+struct Seen {
+    entries: usize,
+    confirmed: bool,
+    features: Option<u64>,
+}
+
+fn seen_of(log: &Log<Device>, first: &Receipt, second: &Receipt) -> Seen {
+    let features = match first_answer(log) {
+        Some(FrontendAnswer::Number(number)) => Some(*number),
+        _ => None,
+    };
+    Seen {
+        entries: log.entries().len(),
+        confirmed: log.confirms(first) && log.confirms(second),
+        features,
+    }
+}
+
+fn two_callers_seen<R: Wait>(rt: &R, alloc: Global) -> Option<Seen> {
+    let (log, first, second) = two_callers(rt, alloc).ok()?;
+    Some(seen_of(&log, &first, &second))
+}
+
+#[test]
+fn a_log_of_two_callers(rt: HostRuntime) {
+    let seen = Seen {
+        entries: 2,
+        confirmed: true,
+        features: Some(0x4000_0003),
+    };
+    assert!(rt; two_callers_seen(&rt, rt.alloc()) == Some(seen));
+}
+
+/// The serials of two calls that are recorded for caller 7, and whether the receipt of a third is found.
+fn record_three<D: VhostUserBackendReqHandlerMut<Link = MemLink>>(
+    recorded: &mut Recorded<D>,
+) -> Result<(u64, u64, bool), Halt> {
+    let (get, own) = (FrontendCall::GetFeatures, FrontendCall::SetOwner);
+    let (one, two) = records_two(recorded, 7, &get, &own)?;
+    Ok((one.serial(), two.serial(), finds_own(recorded, 7, &get)?))
+}
+
+/// The same over a new example device.
+fn three_recorded(alloc: Global) -> Result<(u64, u64, bool), Halt> {
+    let device = Device::new(alloc, Vec::new(alloc));
+    let scripts = (Vec::new(alloc), Vec::new(alloc));
+    match Recorded::new(alloc, device, 2, 3, scripts) {
+        Ok(mut recorded) => record_three(&mut recorded),
+        Err(_) => Err(Halt::OutOfMemory),
+    }
+}
+
+#[test]
+fn one_caller_records(rt: HostRuntime) {
+    assert!(rt; three_recorded(rt.alloc()) == Ok((0, 1, true)));
+}
