@@ -2,7 +2,7 @@
 
 use bitflags::Flags;
 use std::alloc::Global;
-use vhost_frontend::Quiet;
+use vhost_frontend::{Call, Quiet};
 use vhost_link::{Link, MemLink};
 use vhost_message::{Result, VhostUserConfigFlags, VhostUserHeaderFlag, VhostUserProtocolFeatures};
 
@@ -28,10 +28,10 @@ const ANSWERS: [&[u8]; 5] = [
 /// Negotiates features with the backend, and wants each request acknowledged from then on; the protocol features that were
 /// accepted.
 fn negotiate<L: Link>(frontend: &mut Quiet<L>) -> Result<VhostUserProtocolFeatures> {
-    let features = frontend.get_features()?;
-    frontend.set_features(features)?;
-    let features = frontend.get_protocol_features()?;
-    frontend.set_protocol_features(features)?;
+    let features = frontend.number(&Call::GetFeatures)?;
+    frontend.done(&Call::SetFeatures(features))?;
+    let features = frontend.features(&Call::GetProtocolFeatures)?;
+    frontend.done(&Call::SetProtocolFeatures(features))?;
     frontend.set_hdr_flags(VhostUserHeaderFlag::NEED_REPLY);
     Ok(features)
 }
@@ -47,16 +47,18 @@ fn show<T: Drop>(rt: &HostRuntime, name: &str, answer: Result<T>) -> anyhow::Res
 
 /// Owns the backend, and sets up its rings.
 fn set_up<L: Link>(rt: &HostRuntime, frontend: &mut Quiet<L>) -> anyhow::Result<()> {
-    show(rt, "set_owner", frontend.set_owner())?;
-    let answer = frontend.set_vring_num(0, 1000);
+    show(rt, "set_owner", frontend.done(&Call::SetOwner))?;
+    let answer = frontend.done(&Call::SetVringNum(0, 1000));
     show(rt, "set_vring_num of ring 0", answer)?;
-    let answer = frontend.set_vring_num(2, 256);
+    let answer = frontend.done(&Call::SetVringNum(2, 256));
     show(rt, "set_vring_num of ring 2", answer)
 }
 
 /// Prints four bytes of the configuration space.
 fn show_config<L: Link>(rt: &HostRuntime, frontend: &mut Quiet<L>) -> anyhow::Result<()> {
-    let (part, bytes) = frontend.get_config(0x100, 4, VhostUserConfigFlags::empty(), &[0; 4])?;
+    let buffer = [0; 4];
+    let asked = Call::GetConfig(0x100, 4, VhostUserConfigFlags::empty(), &buffer);
+    let (part, bytes) = frontend.config(&asked)?;
     println!(rt; "get_config at {:#x}: {:?}", part.offset, bytes.as_slice())?;
     Ok(())
 }
@@ -67,7 +69,8 @@ fn ask<L: Link>(rt: &HostRuntime, frontend: &mut Quiet<L>) -> anyhow::Result<()>
     println!(rt; "protocol features: {:#x}", features.bits())?;
     set_up(rt, frontend)?;
     show_config(rt, frontend)?;
-    show(rt, "get_vring_base of ring 1", frontend.get_vring_base(1))
+    let answer = frontend.ring_index(&Call::GetVringBase(1));
+    show(rt, "get_vring_base of ring 1", answer)
 }
 
 /// A link that holds the replies.

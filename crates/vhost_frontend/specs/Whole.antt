@@ -7,7 +7,7 @@ use Rattle.vhost_protocol.specs.declared.asked.Awaited.TheVariants.{Nobody}
 use Rattle.vhost_link.specs.Law.{Event}
 use Rattle.vhost_frontend_core.specs.declared.asked.Sent.{Sent}
 use Rattle.vhost_frontend_core.specs.declared.internal.FrontendInternal.{FrontendInternal}
-use Rattle.vhost_frontend_core.specs.Halves.{AsksHalf, AsksHalfWithRoom, TakesHalf}
+use Rattle.vhost_frontend_core.specs.Halves.{AsksHalf, AsksHalfWithRoom, AsksAny, TakesHalf}
 
 -- what a frontend awaits that awaited nothing, and was asked
 abbrev pub awaited_of : Result Sent declared.Error → Awaited
@@ -29,3 +29,7 @@ module _ {L H : Type 0} (event : L → Event H → L → Type 0) (call : Fronten
   -- the same of a call that makes room for its reply
   abbrev pub WholeWithRoom : {A : Type 0} → (A → Value H) → FrontendInternal L H → Result A declared.Error → FrontendInternal L H → Type 0
   WholeWithRoom value old result new = Calls (AsksHalfWithRoom event call) value old result new
+
+  -- the same of any call, whose answer is a value
+  abbrev pub WholeCall : FrontendInternal L H → Result (Value H) declared.Error → FrontendInternal L H → Type 0
+  WholeCall old result new = Calls (AsksAny event call) (λ v. v) old result new

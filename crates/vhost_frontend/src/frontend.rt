@@ -14,7 +14,7 @@ use crate::traits::VhostUserFrontend;
 use std::alloc::{AllocError, Global};
 use std::sync::{Arc, Mutex, Wait};
 use vhost_backend::{Result, VhostBackend, VhostUserDirtyLogRegion, VhostUserMemoryRegionInfo};
-use vhost_frontend_core::Profile;
+use vhost_frontend_core::{Call, Profile};
 use vhost_link::Link;
 use vhost_message::{
     Error, FrontendReq, VhostTransferStateDirection, VhostTransferStatePhase, VhostUserConfig,
@@ -23,8 +23,8 @@ use vhost_message::{
 };
 
 /// A frontend's session, shared: a clone is the same session. Each call waits until it has the session for itself: it finds
-/// a session that awaits nothing, is whole there as `Quiet`'s call of its name, and leaves a session that awaits nothing.
-/// Its errors are those of `Quiet`'s calls, within `VhostUserProtocol`.
+/// a session that awaits nothing, is whole there, and leaves a session that awaits nothing. Its errors are those of the `Call` of its
+/// name, within `VhostUserProtocol`.
 ///
 /// Mirrors `vhost::vhost_user::Frontend`.
 #[derive(Drop)]
@@ -83,25 +83,25 @@ impl<L: Link> VhostBackend for Frontend<L> {
     fn get_features(&self, rt: &impl Wait) -> Result<u64>
         ensures { Turn L.event (Whole L.event call.GetFeatures call.Number) result }
     {
-        within(self.inner.lock(rt).quiet.get_features())
+        within(self.inner.lock(rt).quiet.number(&Call::GetFeatures))
     }
 
     fn set_features(&self, rt: &impl Wait, features: u64) -> Result<()>
         ensures { Turn L.event (Whole L.event (call.SetFeatures features) (λ _. call.Nothing)) result }
     {
-        within(self.inner.lock(rt).quiet.set_features(features))
+        within(self.inner.lock(rt).quiet.done(&Call::SetFeatures(features)))
     }
 
     fn set_owner(&self, rt: &impl Wait) -> Result<()>
         ensures { Turn L.event (Whole L.event call.SetOwner (λ _. call.Nothing)) result }
     {
-        within(self.inner.lock(rt).quiet.set_owner())
+        within(self.inner.lock(rt).quiet.done(&Call::SetOwner))
     }
 
     fn reset_owner(&self, rt: &impl Wait) -> Result<()>
         ensures { Turn L.event (Whole L.event call.ResetOwner (λ _. call.Nothing)) result }
     {
-        within(self.inner.lock(rt).quiet.reset_owner())
+        within(self.inner.lock(rt).quiet.done(&Call::ResetOwner))
     }
 
     fn set_mem_table(
@@ -111,7 +111,8 @@ impl<L: Link> VhostBackend for Frontend<L> {
     ) -> Result<Option<Vec<VhostUserMemoryRegionBase>>>
         ensures { Turn L.event (WholeWithRoom L.event (call.SetMemTable (infos_in regions.now)) (λ bases. call.Bases (bases_seen bases))) result }
     {
-        within(self.inner.lock(rt).quiet.set_mem_table(regions))
+        let call = Call::SetMemTable(regions);
+        within(self.inner.lock(rt).quiet.bases(&call))
     }
 
     fn set_log_base(
@@ -122,19 +123,29 @@ impl<L: Link> VhostBackend for Frontend<L> {
     ) -> Result<()>
         ensures { Turn L.event (Whole L.event (call.SetLogBase base (log_region_in region.entry)) (λ _. call.Nothing)) result }
     {
-        within(self.inner.lock(rt).quiet.set_log_base(base, region))
+        within(
+            self.inner
+                .lock(rt)
+                .quiet
+                .done(&Call::SetLogBase(base, region)),
+        )
     }
 
     fn set_log_fd(&self, rt: &impl Wait, fd: &L::Handle) -> Result<()>
         ensures { Turn L.event (Whole L.event (call.SetLogFd fd.now) (λ _. call.Nothing)) result }
     {
-        within(self.inner.lock(rt).quiet.set_log_fd(fd))
+        within(self.inner.lock(rt).quiet.done(&Call::SetLogFd(fd)))
     }
 
     fn set_vring_num(&self, rt: &impl Wait, queue_index: usize, num: u16) -> Result<()>
         ensures { Turn L.event (Whole L.event (call.SetVringNum queue_index num) (λ _. call.Nothing)) result }
     {
-        within(self.inner.lock(rt).quiet.set_vring_num(queue_index, num))
+        within(
+            self.inner
+                .lock(rt)
+                .quiet
+                .done(&Call::SetVringNum(queue_index, num)),
+        )
     }
 
     fn set_vring_addr(
@@ -149,38 +160,63 @@ impl<L: Link> VhostBackend for Frontend<L> {
             self.inner
                 .lock(rt)
                 .quiet
-                .set_vring_addr(queue_index, config_data),
+                .done(&Call::SetVringAddr(queue_index, *config_data)),
         )
     }
 
     fn set_vring_base(&self, rt: &impl Wait, queue_index: usize, base: u16) -> Result<()>
         ensures { Turn L.event (Whole L.event (call.SetVringBase queue_index base) (λ _. call.Nothing)) result }
     {
-        within(self.inner.lock(rt).quiet.set_vring_base(queue_index, base))
+        within(
+            self.inner
+                .lock(rt)
+                .quiet
+                .done(&Call::SetVringBase(queue_index, base)),
+        )
     }
 
     fn get_vring_base(&self, rt: &impl Wait, queue_index: usize) -> Result<u32>
         ensures { Turn L.event (Whole L.event (call.GetVringBase queue_index) call.Number) result }
     {
-        within(self.inner.lock(rt).quiet.get_vring_base(queue_index))
+        within(
+            self.inner
+                .lock(rt)
+                .quiet
+                .ring_index(&Call::GetVringBase(queue_index)),
+        )
     }
 
     fn set_vring_call(&self, rt: &impl Wait, queue_index: usize, fd: &L::Handle) -> Result<()>
         ensures { Turn L.event (Whole L.event (call.SetVringCall queue_index (Some fd.now)) (λ _. call.Nothing)) result }
     {
-        within(self.inner.lock(rt).quiet.set_vring_call(queue_index, fd))
+        within(
+            self.inner
+                .lock(rt)
+                .quiet
+                .done(&Call::SetVringCall(queue_index, Some(fd))),
+        )
     }
 
     fn set_vring_kick(&self, rt: &impl Wait, queue_index: usize, fd: &L::Handle) -> Result<()>
         ensures { Turn L.event (Whole L.event (call.SetVringKick queue_index (Some fd.now)) (λ _. call.Nothing)) result }
     {
-        within(self.inner.lock(rt).quiet.set_vring_kick(queue_index, fd))
+        within(
+            self.inner
+                .lock(rt)
+                .quiet
+                .done(&Call::SetVringKick(queue_index, Some(fd))),
+        )
     }
 
     fn set_vring_err(&self, rt: &impl Wait, queue_index: usize, fd: &L::Handle) -> Result<()>
         ensures { Turn L.event (Whole L.event (call.SetVringErr queue_index (Some fd.now)) (λ _. call.Nothing)) result }
     {
-        within(self.inner.lock(rt).quiet.set_vring_err(queue_index, fd))
+        within(
+            self.inner
+                .lock(rt)
+                .quiet
+                .done(&Call::SetVringErr(queue_index, Some(fd))),
+        )
     }
 }
 
@@ -189,7 +225,12 @@ impl<L: Link> VhostUserFrontend for Frontend<L> {
     fn get_protocol_features(&mut self, rt: &impl Wait) -> Result<VhostUserProtocolFeatures>
         ensures { Turn L.event (Whole L.event call.GetProtocolFeatures (λ features. call.Number features.bits)) result }
     {
-        within(self.inner.lock(rt).quiet.get_protocol_features())
+        within(
+            self.inner
+                .lock(rt)
+                .quiet
+                .features(&Call::GetProtocolFeatures),
+        )
     }
 
     fn set_protocol_features(
@@ -199,19 +240,24 @@ impl<L: Link> VhostUserFrontend for Frontend<L> {
     ) -> Result<()>
         ensures { Turn L.event (Whole L.event (call.SetProtocolFeatures features.bits) (λ _. call.Nothing)) result }
     {
-        within(self.inner.lock(rt).quiet.set_protocol_features(features))
+        within(
+            self.inner
+                .lock(rt)
+                .quiet
+                .done(&Call::SetProtocolFeatures(features)),
+        )
     }
 
     fn get_queue_num(&mut self, rt: &impl Wait) -> Result<u64>
         ensures { Turn L.event (Whole L.event call.GetQueueNum call.Number) result }
     {
-        within(self.inner.lock(rt).quiet.get_queue_num())
+        within(self.inner.lock(rt).quiet.number(&Call::GetQueueNum))
     }
 
     fn reset_device(&mut self, rt: &impl Wait) -> Result<()>
         ensures { Turn L.event (Whole L.event call.ResetDevice (λ _. call.Nothing)) result }
     {
-        within(self.inner.lock(rt).quiet.reset_device())
+        within(self.inner.lock(rt).quiet.done(&Call::ResetDevice))
     }
 
     fn set_vring_enable(&mut self, rt: &impl Wait, queue_index: usize, enable: bool) -> Result<()>
@@ -221,7 +267,7 @@ impl<L: Link> VhostUserFrontend for Frontend<L> {
             self.inner
                 .lock(rt)
                 .quiet
-                .set_vring_enable(queue_index, enable),
+                .done(&Call::SetVringEnable(queue_index, enable)),
         )
     }
 
@@ -239,7 +285,7 @@ impl<L: Link> VhostUserFrontend for Frontend<L> {
             self.inner
                 .lock(rt)
                 .quiet
-                .get_config(offset, size, flags, buf),
+                .config(&Call::GetConfig(offset, size, flags, buf)),
         )
     }
 
@@ -252,13 +298,23 @@ impl<L: Link> VhostUserFrontend for Frontend<L> {
     ) -> Result<()>
         ensures { Turn L.event (Whole L.event (call.SetConfig offset (config_bits flags) buf.now) (λ _. call.Nothing)) result }
     {
-        within(self.inner.lock(rt).quiet.set_config(offset, flags, buf))
+        within(
+            self.inner
+                .lock(rt)
+                .quiet
+                .done(&Call::SetConfig(offset, flags, buf)),
+        )
     }
 
     fn set_backend_request_fd(&mut self, rt: &impl Wait, fd: &L::Handle) -> Result<()>
         ensures { Turn L.event (Whole L.event (call.SetBackendRequestFd fd.now) (λ _. call.Nothing)) result }
     {
-        within(self.inner.lock(rt).quiet.set_backend_request_fd(fd))
+        within(
+            self.inner
+                .lock(rt)
+                .quiet
+                .done(&Call::SetBackendRequestFd(fd)),
+        )
     }
 
     fn get_shared_object(
@@ -268,7 +324,12 @@ impl<L: Link> VhostUserFrontend for Frontend<L> {
     ) -> Result<L::Handle>
         ensures { Turn L.event (Whole L.event (call.GetSharedObject shared_msg.now) call.HandleOf) result }
     {
-        within(self.inner.lock(rt).quiet.get_shared_object(shared_msg))
+        within(
+            self.inner
+                .lock(rt)
+                .quiet
+                .handle(&Call::GetSharedObject(*shared_msg)),
+        )
     }
 
     fn get_inflight_fd(
@@ -278,7 +339,12 @@ impl<L: Link> VhostUserFrontend for Frontend<L> {
     ) -> Result<(VhostUserInflight, L::Handle)>
         ensures { Turn L.event (Whole L.event (call.GetInflightFd inflight.now) (λ buffer. call.InflightOf buffer.0 buffer.1)) result }
     {
-        within(self.inner.lock(rt).quiet.get_inflight_fd(inflight))
+        within(
+            self.inner
+                .lock(rt)
+                .quiet
+                .inflight(&Call::GetInflightFd(*inflight)),
+        )
     }
 
     fn set_inflight_fd(
@@ -289,13 +355,18 @@ impl<L: Link> VhostUserFrontend for Frontend<L> {
     ) -> Result<()>
         ensures { Turn L.event (Whole L.event (call.SetInflightFd inflight.now fd.now) (λ _. call.Nothing)) result }
     {
-        within(self.inner.lock(rt).quiet.set_inflight_fd(inflight, fd))
+        within(
+            self.inner
+                .lock(rt)
+                .quiet
+                .done(&Call::SetInflightFd(*inflight, fd)),
+        )
     }
 
     fn get_max_mem_slots(&mut self, rt: &impl Wait) -> Result<u64>
         ensures { Turn L.event (Whole L.event call.GetMaxMemSlots call.Number) result }
     {
-        within(self.inner.lock(rt).quiet.get_max_mem_slots())
+        within(self.inner.lock(rt).quiet.number(&Call::GetMaxMemSlots))
     }
 
     fn add_mem_region(
@@ -305,7 +376,7 @@ impl<L: Link> VhostUserFrontend for Frontend<L> {
     ) -> Result<Option<u64>>
         ensures { Turn L.event (Whole L.event (call.AddMemRegion (info_in region.now)) call.Base) result }
     {
-        within(self.inner.lock(rt).quiet.add_mem_region(region))
+        within(self.inner.lock(rt).quiet.base(&Call::AddMemRegion(*region)))
     }
 
     fn remove_mem_region(
@@ -315,7 +386,12 @@ impl<L: Link> VhostUserFrontend for Frontend<L> {
     ) -> Result<()>
         ensures { Turn L.event (Whole L.event (call.RemoveMemRegion (info_in region.now)) (λ _. call.Nothing)) result }
     {
-        within(self.inner.lock(rt).quiet.remove_mem_region(region))
+        within(
+            self.inner
+                .lock(rt)
+                .quiet
+                .done(&Call::RemoveMemRegion(*region)),
+        )
     }
 
     fn get_shmem_config(&mut self, rt: &impl Wait) -> Result<VhostUserShMemConfig>
@@ -337,44 +413,49 @@ impl<L: Link> VhostUserFrontend for Frontend<L> {
             self.inner
                 .lock(rt)
                 .quiet
-                .set_device_state_fd(direction, phase, &fd),
+                .state_handle(&Call::SetDeviceStateFd(direction, phase, &fd)),
         )
     }
 
     fn check_device_state(&self, rt: &impl Wait) -> Result<()>
         ensures { Turn L.event (Whole L.event call.CheckDeviceState (λ _. call.Nothing)) result }
     {
-        within(self.inner.lock(rt).quiet.check_device_state())
+        within(self.inner.lock(rt).quiet.done(&Call::CheckDeviceState))
     }
 
     fn postcopy_advise(&mut self, rt: &impl Wait) -> Result<L::Handle>
         ensures { Turn L.event (Whole L.event call.PostcopyAdvise call.HandleOf) result }
     {
-        within(self.inner.lock(rt).quiet.postcopy_advise())
+        within(self.inner.lock(rt).quiet.handle(&Call::PostcopyAdvise))
     }
 
     fn postcopy_listen(&mut self, rt: &impl Wait) -> Result<()>
         ensures { Turn L.event (Whole L.event call.PostcopyListen (λ _. call.Nothing)) result }
     {
-        within(self.inner.lock(rt).quiet.postcopy_listen())
+        within(self.inner.lock(rt).quiet.done(&Call::PostcopyListen))
     }
 
     fn postcopy_end(&mut self, rt: &impl Wait) -> Result<()>
         ensures { Turn L.event (Whole L.event call.PostcopyEnd (λ _. call.Nothing)) result }
     {
-        within(self.inner.lock(rt).quiet.postcopy_end())
+        within(self.inner.lock(rt).quiet.done(&Call::PostcopyEnd))
     }
 
     fn postcopy_ack_mem_regions(&mut self, rt: &impl Wait, code: FrontendReq) -> Result<()>
         ensures { Turn L.event (Whole L.event (call.PostcopyAckMemRegions code) (λ _. call.Nothing)) result }
     {
-        within(self.inner.lock(rt).quiet.postcopy_ack_mem_regions(code))
+        within(
+            self.inner
+                .lock(rt)
+                .quiet
+                .done(&Call::PostcopyAckMemRegions(code)),
+        )
     }
 
     fn set_mtu(&mut self, rt: &impl Wait, mtu: u16) -> Result<()>
         ensures { Turn L.event (Whole L.event (call.SetMtu mtu) (λ _. call.Nothing)) result }
     {
-        within(self.inner.lock(rt).quiet.set_mtu(mtu))
+        within(self.inner.lock(rt).quiet.done(&Call::SetMtu(mtu)))
     }
 }
 

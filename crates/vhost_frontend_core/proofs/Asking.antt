@@ -85,6 +85,14 @@ module _ {L H : Type 0} {event : L → Event H → L → Type 0} where
       → Asks event no_asked old f before result new f' after → Asks event (if holds then yes_asked else no_asked) old f before result new f' after
   else_as yes_asked {no_asked} {old} {new} {f} {f'} {before} {after} {result} is p = subst (λ (b : Bool). Asks event (if b then yes_asked else no_asked) old f before result new f' after) (sym is) p
 
+  -- what was asked, by another name
+  pub asked-as : {asked other : Asked H} {old new : State L H} {f f' : Frontend} {before after : Awaited} {result : Result Sent declared.Error} → asked ≡ other → Asks event asked old f before result new f' after → Asks event other old f before result new f' after
+  asked-as {old = old} {new} {f} {f'} {before} {after} {result} is p = subst (λ (x : Asked H). Asks event x old f before result new f' after) is p
+
+  pub asked-as-with-room : {asked other : Asked H} {old new : State L H} {f f' : Frontend} {before after : Awaited} {result : Result Sent declared.Error} → asked ≡ other → AsksWithRoom event asked old f before result new f' after
+      → AsksWithRoom event other old f before result new f' after
+  asked-as-with-room {old = old} {new} {f} {f'} {before} {after} {result} is p = subst (λ (x : Asked H). AsksWithRoom event x old f before result new f' after) is p
+
   -- what is kept of the request makes no difference
   pub keeping : {asked : Asked H} {old new : State L H} {f f' : Frontend} {before after : Awaited} {sent : Sent} (kept : Kept) → Asks event asked old f before (Ok sent) new f' after
       → Asks event asked old f before (Ok (record sent { kept = kept })) new f' after

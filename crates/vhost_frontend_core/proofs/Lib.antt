@@ -8,7 +8,7 @@ pub mod TakingTable
 pub mod ReplyingConfig
 pub mod TakingConfig
 pub mod TakingLog
-pub mod ValueHalves
+pub mod AskedValues
+pub mod TakenValues
+pub mod KeptValues
 pub mod ValueTables
-pub mod ValuePlain
-pub mod ValueTaken

@@ -28,7 +28,7 @@ use Rattle.vhost_link.proofs.Cells.{length-bytes}
 use Rattle.vhost_connection.specs.Pass.{receives}
 use Rattle.vhost_connection.specs.Talk.{State, IfSound}
 use Rattle.vhost_connection.specs.Came.{Came, Alone}
-use Rattle.vhost_connection.specs.Calls.{HandsOver, IsNoMessage, is_sound}
+use Rattle.vhost_connection.specs.Calls.{IsNoMessage, is_sound}
 use Rattle.vhost_connection.specs.Calls.IsNoMessage.{too_few, not_valid}
 use Rattle.vhost_connection.specs.Bare.{is_bare, ReadsOrBare}
 use Rattle.vhost_connection.specs.Hearing.{HearsReply, broken_on}

@@ -1,6 +1,6 @@
 -- The half that takes the reply about the log.
-use Rattle.std.proofs.Common.{◌≡◌, ℕ, List, [], ◌∷◌, Bool, true, false, Option, Some, Result, Ok, Err, refl, sym, ap, subst, ◌∙◌}
-use Rattle.std.specs.Prelude.{if◌then◌else◌, ⊤}
+use Rattle.std.proofs.Common.{◌≡◌, ℕ, List, [], ◌∷◌, true, false, Option, Some, Result, Ok, Err, refl, sym, ap, subst, ◌∙◌}
+use Rattle.std.specs.Prelude.{⊤}
 use Rattle.vhost_message.specs.declared.error.Error as declared
 use Rattle.vhost_message.specs.declared.records.log.VhostUserLog.{VhostUserLog}
 use Rattle.vhost_message.specs.Bits.{has_bit}
@@ -11,7 +11,7 @@ use Rattle.vhost_protocol.specs.AnswerTable.{Answered, answered, answer}
 use Rattle.vhost_protocol.specs.declared.asked.Awaited.TheVariants.{Reply}
 use Rattle.vhost_protocol.specs.declared.asked.Shape.TheVariants as shape
 use Rattle.vhost_protocol.specs.declared.profile.Profile.TheVariants.{Vhost, Standard}
-use Rattle.vhost_protocol.specs.Error.{Error, InvalidParam, InvalidMessage, seen}
+use Rattle.vhost_protocol.specs.Error.{Error, InvalidMessage, seen}
 use Rattle.vhost_protocol.specs.FrontendCall.{Frontend, LogRegion, SetLogBase, Nothing}
 use Rattle.vhost_protocol.specs.ReplySplit.{Received, whole_split}
 use Rattle.vhost_protocol.specs.Served.{Replied}

@@ -73,7 +73,7 @@ listening-only H false reply other h = h
 listens : {H : Type 0} (f : Frontend) (infos : List (Info H)) → AwaitsOnly (is_listen f.postcopy) (ask f (SetMemTable infos))
 listens f infos = search (tested-only, listening-only, acked-only)
 
-table-listens : {H : Type 0} (f : Frontend) (infos : List (Info H)) (w : Written FrontendReq H) (s : Shape) (g : Frontend) → ask f (SetMemTable infos) ≡ Sends w (Reply s) g → is_listen f.postcopy ≡ true
+pub table-listens : {H : Type 0} (f : Frontend) (infos : List (Info H)) (w : Written FrontendReq H) (s : Shape) (g : Frontend) → ask f (SetMemTable infos) ≡ Sends w (Reply s) g → is_listen f.postcopy ≡ true
 table-listens f infos w s g is =
     subst (λ (x : Asked _). AwaitsOnly (is_listen f.postcopy) x) is (listens f infos)
 
@@ -98,12 +98,6 @@ module _ {L H : Type 0} {event : L → Event H → L → Type 0} where
       → IfErr r (λ e. e ≡ error.OutOfMemory → P ⊎ IsAway old new)
   wants-plainly P call (Ok sent) asks = tt
   wants-plainly P call (Err e) asks = λ is. inr (asked-away call asks is)
-
-  -- of a table, which makes room only while postcopy listens
-  pub wants-for-table : (infos : List (Info H)) {old new : State L H} {f f' : Frontend} {before after : Awaited} {r : Result Sent declared.Error} → AsksWithRoom event (ask f (SetMemTable infos)) old f before r new f' after
-      → IfErr r (λ e. e ≡ error.OutOfMemory → (is_listen f.postcopy ≡ true) ⊎ IsAway old new)
-  wants-for-table infos {r = r} (asking.roomy asks) = wants-plainly _ (SetMemTable infos) r asks
-  wants-for-table infos {f = f} (asking.no_room sends) = λ is. inl (table-listens f infos _ _ _ sends)
 
 -- and of one that makes room
 pub wants-with-room : (P Q : Type 0) {A : Type 0} (r : Result A declared.Error) → P → IfErr r (λ e. e ≡ error.OutOfMemory → P ⊎ Q)

@@ -10,3 +10,4 @@ pub mod TakingConfig
 pub mod Plan
 pub mod Values
 pub mod ValueHalves
+pub mod Kinds

@@ -1,5 +1,5 @@
 -- The halves of a call that is a value.
-use Rattle.std.specs.Prelude.{◌≡◌, ◌⊎◌, ℕ, Bool, true, false, ⊤, IfOk, IfErr, Option, Some, None, Result, Ok, Err}
+use Rattle.std.specs.Prelude.{◌≡◌, ◌⊎◌, ℕ, true, false, ⊤, IfOk, IfErr, Option, Some, None, Result, Ok, Err}
 use Rattle.vhost_message.specs.declared.error.Error as declared
 use Rattle.vhost_message.specs.declared.error.Error.TheVariants.{OutOfMemory}
 use Rattle.vhost_message.specs.Header.{Header}
@@ -9,28 +9,35 @@ use Rattle.vhost_protocol.specs.Agreement.{Fits}
 use Rattle.vhost_protocol.specs.declared.asked.Awaited.{Awaited}
 use Rattle.vhost_protocol.specs.declared.asked.Awaited.TheVariants.{Nobody}
 use Rattle.vhost_protocol.specs.Error.{Error, seen}
-use Rattle.vhost_protocol.specs.FrontendCall.{FrontendCall, SetMemTable, GetConfig, GetShmemConfig, SetHdrFlags, Value, Frontend}
-use Rattle.vhost_protocol.specs.Session.{is_listen}
+use Rattle.vhost_protocol.specs.FrontendCall.{FrontendCall, SetMemTable, SetHdrFlags, Value, Frontend}
 use Rattle.vhost_protocol.specs.Heard.{CallFits, IsNamedWell}
 use Rattle.vhost_link.specs.declared.plain.PlainHandle.{PlainHandle}
 use Rattle.vhost_link.specs.Ends.{Ends}
+use Rattle.vhost_link.specs.Law.{Event}
 use Rattle.vhost_link.specs.Mem.{event}
 use Rattle.vhost_connection.specs.Talk.{State}
 use Rattle.vhost_connection.specs.Hearing.{Fails}
 use Rattle.vhost_frontend_core.specs.Frontend.{endpoint_of, session_of, awaits}
-use Rattle.vhost_frontend_core.specs.Halves.{AsksHalfWithRoom}
+use Rattle.vhost_frontend_core.specs.Halves.{AsksHalfWithRoom, AsksAny, TakesHalf, makes_room}
 use Rattle.vhost_frontend_core.specs.Awaiting.{MayAwait}
 use Rattle.vhost_frontend_core.specs.Kept.{IsKeptFor}
 use Rattle.vhost_frontend_core.specs.Taking.{Reads}
+use Rattle.vhost_frontend_core.specs.declared.answer.Answer.{Answer}
 use Rattle.vhost_frontend_core.specs.declared.asked.Sent.{Sent}
 use Rattle.vhost_frontend_core.specs.declared.internal.FrontendInternal.{FrontendInternal}
 use Rattle.vhost_frontend_core.specs.declared.values.answer.FrontendAnswer.{FrontendAnswer}
-use Rattle.vhost_frontend_core.specs.Values.{answer_of}
+use Rattle.vhost_frontend_core.specs.Values.{answer_of, outcome_of}
 
 -- every call but the one for which nothing is sent
 abbrev pub IsSent : {H : Type 0} → FrontendCall H → Type 0
 IsSent (SetHdrFlags flags) = ⊥
 IsSent _ = ⊤
+
+-- a call whose value lends all that it is made of: every one but a table, whose regions lie elsewhere then, and the one for which nothing is sent
+abbrev pub IsLent : {H : Type 0} → FrontendCall H → Type 0
+IsLent (SetMemTable infos) = ⊥
+IsLent (SetHdrFlags flags) = ⊥
+IsLent _ = ⊤
 
 -- what a call is made of has the sizes of its types
 pub record IsProper {H : Type 0} (call : FrontendCall H) : Type 0 where
@@ -43,13 +50,6 @@ abbrev pub awaited_after : Result (Option Sent) declared.Error → Awaited → A
 awaited_after (Ok (Some sent)) before = sent.awaited
 awaited_after _ before = before
 
--- whether a call makes room for its answer before it is sent: for bytes of the configuration space, for regions of shared memory, or, while postcopy listens, for where the regions of a table are mapped
-abbrev pub makes_room : {H : Type 0} → Frontend → FrontendCall H → Bool
-makes_room f (SetMemTable infos) = is_listen f.postcopy
-makes_room f (GetConfig offset size flags buffer) = true
-makes_room f GetShmemConfig = true
-makes_room f _ = false
-
 -- why a call that is asked may want memory: it makes room for its answer; or the list of handles had been given away, and nothing changed
 abbrev pub MayWant : {L H : Type 0} → FrontendCall H → FrontendInternal L H → FrontendInternal L H → Type 0
 MayWant call old new = (makes_room (session_of old) call ≡ true) ⊎ (((endpoint_of old).list ≡ false) × (endpoint_of new ≡ record (endpoint_of old) { faulted = false }))
@@ -58,12 +58,18 @@ MayWant call old new = (makes_room (session_of old) call ≡ true) ⊎ (((endpoi
 abbrev pub WantsFor : {L H A : Type 0} → FrontendCall H → FrontendInternal L H → Result A declared.Error → FrontendInternal L H → Type 0
 WantsFor call old result new = IfErr result (λ e. e ≡ OutOfMemory → MayWant call old new)
 
--- A call was asked by its half: what is kept is what its answer needs, and where it was sent, it is made of numbers that fit.
-pub record AsksWell (call : FrontendCall PlainHandle) (old : FrontendInternal Ends PlainHandle) (result : Result Sent declared.Error) (new : FrontendInternal Ends PlainHandle) : Type 0 where
-  pub asked : AsksHalfWithRoom event call old result new
-  pub kept : IfOk result (λ sent. IsKeptFor call sent.awaited sent.kept)
-  pub proper : IfOk result (λ _. IsProper call)
-  pub memory : WantsFor call old result new
+module _ {L H : Type 0} (event : L → Event H → L → Type 0) (call : FrontendCall H) where
+  -- A call was asked, and what is kept is what its answer needs.
+  pub record AsksWell (old : FrontendInternal L H) (result : Result Sent declared.Error) (new : FrontendInternal L H) : Type 0 where
+    pub asked : AsksAny event call old result new
+    pub kept : IfOk result (λ sent. IsKeptFor call sent.awaited sent.kept)
+
+  -- The answer of a call was taken, of what was sent for it, and nothing is awaited.
+  pub record TakesValue (sent : Sent) (old : FrontendInternal L H) (answer : Answer H) (new : FrontendInternal L H) : Type 0 where
+    pub taken : MayAwait call sent.awaited → IsKeptFor call sent.awaited sent.kept → TakesHalf event call (λ v. v) sent.awaited sent old (outcome_of answer) new
+    pub quiet : awaits new ≡ Nobody
+
+-- ---- over links in memory
 
 -- the half that takes, of any call: the answer by the stream; or the link failed, this is the answer, and the session is as before
 abbrev pub TakesResult : FrontendCall PlainHandle → Awaited → Header → State Ends PlainHandle → Frontend → Result (Value PlainHandle) Error → State Ends PlainHandle → Frontend → Type 0

@@ -2,10 +2,16 @@
 use Rattle.std.specs.Prelude.{ℕ, List, map, Option, Some, None, Result, Ok, Err, Vec}
 use Rattle.std.specs.Global.{Global}
 use Rattle.vhost_message.specs.Transfer.{direction_number, phase_number}
+use Rattle.vhost_message.specs.declared.error.Error as declared
 use Rattle.vhost_protocol.specs.Error.{Error, seen}
 use Rattle.vhost_protocol.specs.FrontendCall as calls
 use Rattle.vhost_protocol.specs.FrontendCall.{FrontendCall, Info, Value}
 use Rattle.vhost_link.specs.declared.plain.PlainHandle.{PlainHandle}
+use Rattle.vhost_frontend_core.specs.Regions.{lent, info_in, infos_in, log_region_in, bases_seen}
+use Rattle.vhost_frontend_core.specs.declared.answer.Answer.{Answer}
+use Rattle.vhost_frontend_core.specs.declared.answer.Answer.TheVariants as any
+use Rattle.vhost_frontend_core.specs.declared.call.Call.{Call}
+use Rattle.vhost_frontend_core.specs.declared.call.Call.TheVariants as lending
 use Rattle.vhost_frontend_core.specs.declared.values.call.FrontendCall as code
 use Rattle.vhost_frontend_core.specs.declared.values.call.FrontendCall.TheVariants as call
 use Rattle.vhost_frontend_core.specs.declared.values.call.LogRegion.{LogRegion}
@@ -61,6 +67,63 @@ call_of call.PostcopyEnd = calls.PostcopyEnd
 call_of (call.PostcopyAckMemRegions r) = calls.PostcopyAckMemRegions r
 call_of (call.SetMtu mtu) = calls.SetMtu mtu
 call_of (call.SetHdrFlags flags) = calls.SetHdrFlags flags.bits
+
+-- a call of the code that lends what it is made of
+abbrev pub call_in : {H : Type 0} → Call H → FrontendCall H
+call_in lending.GetFeatures = calls.GetFeatures
+call_in (lending.SetFeatures n) = calls.SetFeatures n
+call_in lending.SetOwner = calls.SetOwner
+call_in lending.ResetOwner = calls.ResetOwner
+call_in lending.GetProtocolFeatures = calls.GetProtocolFeatures
+call_in (lending.SetProtocolFeatures f) = calls.SetProtocolFeatures f.bits
+call_in lending.GetQueueNum = calls.GetQueueNum
+call_in lending.ResetDevice = calls.ResetDevice
+call_in (lending.SetMemTable regions) = calls.SetMemTable (infos_in regions.now)
+call_in (lending.SetLogBase base region) = calls.SetLogBase base (log_region_in region)
+call_in (lending.SetLogFd h) = calls.SetLogFd h.now
+call_in (lending.SetVringNum i n) = calls.SetVringNum i n
+call_in (lending.SetVringBase i n) = calls.SetVringBase i n
+call_in (lending.SetVringAddr i c) = calls.SetVringAddr i c
+call_in (lending.GetVringBase i) = calls.GetVringBase i
+call_in (lending.SetVringCall i h) = calls.SetVringCall i (lent h)
+call_in (lending.SetVringKick i h) = calls.SetVringKick i (lent h)
+call_in (lending.SetVringErr i h) = calls.SetVringErr i (lent h)
+call_in (lending.SetVringEnable i on) = calls.SetVringEnable i on
+call_in (lending.GetConfig offset size flags buffer) = calls.GetConfig offset size flags.bits buffer.now
+call_in (lending.SetConfig offset flags buffer) = calls.SetConfig offset flags.bits buffer.now
+call_in (lending.SetBackendRequestFd h) = calls.SetBackendRequestFd h.now
+call_in (lending.GetSharedObject name) = calls.GetSharedObject name
+call_in (lending.GetInflightFd area) = calls.GetInflightFd area
+call_in (lending.SetInflightFd area h) = calls.SetInflightFd area h.now
+call_in lending.GetMaxMemSlots = calls.GetMaxMemSlots
+call_in (lending.AddMemRegion info) = calls.AddMemRegion (info_in info)
+call_in (lending.RemoveMemRegion info) = calls.RemoveMemRegion (info_in info)
+call_in lending.GetShmemConfig = calls.GetShmemConfig
+call_in (lending.SetDeviceStateFd direction phase h) = calls.SetDeviceStateFd (record { direction = direction_number direction; phase = phase_number phase }) h.now
+call_in lending.CheckDeviceState = calls.CheckDeviceState
+call_in lending.PostcopyAdvise = calls.PostcopyAdvise
+call_in lending.PostcopyListen = calls.PostcopyListen
+call_in lending.PostcopyEnd = calls.PostcopyEnd
+call_in (lending.PostcopyAckMemRegions r) = calls.PostcopyAckMemRegions r
+call_in (lending.SetMtu mtu) = calls.SetMtu mtu
+
+-- a result, shown as this value
+abbrev pub shown : {A H : Type 0} → (A → Value H) → Result A declared.Error → Result (Value H) declared.Error
+shown value (Ok a) = Ok (value a)
+shown value (Err e) = Err e
+
+-- an answer over the handles of any link
+abbrev pub outcome_of : {H : Type 0} → Answer H → Result (Value H) declared.Error
+outcome_of (any.Failed e) = Err e
+outcome_of any.Done = Ok calls.Nothing
+outcome_of (any.Number n) = Ok (calls.Number n)
+outcome_of (any.Bases bases) = Ok (calls.Bases (bases_seen bases))
+outcome_of (any.Base base) = Ok (calls.Base base)
+outcome_of (any.Config part bytes) = Ok (calls.ConfigOf part bytes.items)
+outcome_of (any.Handle h) = Ok (calls.HandleOf h)
+outcome_of (any.Inflight area h) = Ok (calls.InflightOf area h)
+outcome_of (any.StateHandle h) = Ok (calls.StateHandle h)
+outcome_of (any.ShmemConfig c) = Ok (calls.ShmemOf c.value)
 
 -- where regions are mapped
 abbrev pub bases_of : Option (Vec ℕ Global) → Option (List ℕ)

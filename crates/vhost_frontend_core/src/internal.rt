@@ -13,23 +13,12 @@ use vhost_link::Link;
 use vhost_message::{FrontendReq, Result, VhostUserHeaderFlag, VhostUserMsgHeader};
 use vhost_protocol::{Awaited, Profile};
 
+mod asking;
 mod config;
-mod config_bytes;
-mod features;
-mod inflight;
-mod log;
-mod memory;
-mod network;
-mod objects;
-mod ownership;
 mod plan;
-mod postcopy;
 mod replies;
-mod ring_handles;
-mod rings;
-mod sending;
 mod table;
-mod transfer;
+mod taking;
 
 type Header = VhostUserMsgHeader<FrontendReq>;
 

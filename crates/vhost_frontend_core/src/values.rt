@@ -1,12 +1,10 @@
-//! A frontend's calls as values: each is sent and its answer received by the halves of its name.
+//! A frontend's calls as logs and lines keep them, and answers.
 
 mod answer;
 mod asking;
 mod call;
 mod table;
-mod taking;
 
 pub use answer::FrontendAnswer;
-pub use asking::ask;
+pub use asking::{ask, take};
 pub use call::{FrontendCall, LogRegion, RegionInfo};
-pub use taking::take;

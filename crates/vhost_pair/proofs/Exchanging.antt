@@ -12,13 +12,13 @@ use Rattle.vhost_link.specs.Mem.{event}
 use Rattle.vhost_frontend_core.specs.Asking as asking
 use Rattle.vhost_frontend_core.specs.Awaiting.{MayAwait}
 use Rattle.vhost_frontend_core.specs.Frontend.{endpoint_of, session_of, awaits}
-use Rattle.vhost_frontend_core.specs.Halves.{AsksHalfWithRoom}
+use Rattle.vhost_frontend_core.specs.Halves.{AsksHalfWithRoom, makes_room}
 use Rattle.vhost_frontend_core.specs.declared.asked.Sent.{Sent}
 use Rattle.vhost_frontend_core.specs.declared.internal.FrontendInternal.{FrontendInternal}
 use Rattle.vhost_frontend_core.proofs.Awaiting.{may-await-with-room}
 use Rattle.vhost_frontend_core.specs.Values.{answer_of}
 use Rattle.vhost_frontend_core.specs.ValueHalves as halves
-use Rattle.vhost_frontend_core.specs.ValueHalves.{IsProper, AsksCall, MayWant, WantsFor, makes_room}
+use Rattle.vhost_frontend_core.specs.ValueHalves.{IsProper, AsksCall, MayWant, WantsFor}
 use Rattle.vhost_pair.specs.declared.halt.Halt.TheVariants as halt
 use Rattle.vhost_pair.specs.declared.sides.Exchanged.{Exchanged}
 use Rattle.vhost_pair.specs.Device.{Gives}

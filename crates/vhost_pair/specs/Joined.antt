@@ -33,7 +33,7 @@ use Rattle.vhost_pair.specs.Device.{Gives, opens_backend, opens_gpu}
 use Rattle.vhost_pair.specs.Text.{Text, text_of, no_text}
 use Rattle.vhost_frontend_core.specs.declared.values.call.FrontendCall as code
 use Rattle.vhost_frontend_core.specs.declared.values.answer.FrontendAnswer.{FrontendAnswer}
-use Rattle.vhost_frontend_core.specs.ValueHalves.{makes_room}
+use Rattle.vhost_frontend_core.specs.Halves.{makes_room}
 use Rattle.vhost_frontend_core.specs.Values.{call_of, answer_of}
 use Rattle.vhost_pair.specs.declared.halt.Halt.{Halt}
 use Rattle.vhost_pair.specs.declared.halt.Halt.TheVariants as halt

@@ -30,7 +30,8 @@ use Rattle.vhost_pair.specs.declared.sides.Exchanged.{Exchanged}
 use Rattle.vhost_pair.specs.declared.sides.Sides.{Sides}
 use Rattle.vhost_frontend_core.specs.Values.{answer_of}
 use Rattle.vhost_pair.specs.Device.{Gives, opens_backend, opens_gpu}
-use Rattle.vhost_frontend_core.specs.ValueHalves.{IsProper, TakesResult, makes_room}
+use Rattle.vhost_frontend_core.specs.ValueHalves.{IsProper, TakesResult}
+use Rattle.vhost_frontend_core.specs.Halves.{makes_room}
 use Rattle.vhost_pair.specs.Joined.{View, Cuts, ends}
 use Rattle.vhost_pair.specs.OnWay.{incoming, outgoing, Carries}
 use Rattle.vhost_pair.specs.Text.{Text, text_of, no_text}

@@ -12,7 +12,7 @@ ghost use Rattle.vhost_protocol.specs.FrontendCall.{GetFeatures, Number};
 ghost use Rattle.vhost_protocol.specs.Reverse.{SharedObjectAdd};
 
 use vhost_backend_req::BackendInternal;
-use vhost_frontend::Quiet;
+use vhost_frontend::{Call, Quiet};
 use vhost_link::Link;
 use vhost_message::{HandlerResult, Result, VhostUserSharedMsg};
 
@@ -23,7 +23,7 @@ pub fn asks_again<L: Link>(frontend: &mut Quiet<L>, count: usize) -> Result<()>
     ensures listed { (endpoint_of frontend.old.inner).list ≡ true → IfErr result (λ e. e ≡ OutOfMemory → ⊥) }
 {
     'calls: for _ in 0..count {
-        match frontend.get_features() {
+        match frontend.number(&Call::GetFeatures) {
             Ok(_) => {}
             Err(error) => return Err(error),
         }

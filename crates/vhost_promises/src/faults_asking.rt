@@ -13,7 +13,7 @@ ghost use Rattle.vhost_protocol.specs.IoError.{In, seen_io_result};
 
 use std::alloc::{AllocError, Global};
 use vhost_backend_req::BackendInternal;
-use vhost_frontend::Quiet;
+use vhost_frontend::{Call, Quiet};
 use vhost_gpu_backend_req::BackendInternal as Display;
 use vhost_link::Link;
 use vhost_message::{HandlerResult, Result as VhostResult, VhostUserSharedMsg, VhostUserU64};
@@ -23,7 +23,7 @@ use vhost_message::{HandlerResult, Result as VhostResult, VhostUserSharedMsg, Vh
 pub fn meets_fault_asking<L: Link>(frontend: &mut Quiet<L>) -> VhostResult<u64>
     ensures { (endpoint_of frontend.new.inner).faulted ≡ true → MeetsFault L.event (endpoint_of frontend.old.inner) result (endpoint_of frontend.new.inner) }
 {
-    frontend.get_features()
+    frontend.number(&Call::GetFeatures)
 }
 
 /// Asks so many times over an endpoint that an I/O error has poisoned and that has its descriptor buffer: each answer is SocketBroken with
@@ -38,7 +38,7 @@ pub fn asks_broken<L: Link>(
 {
     let mut answers = Vec::new(alloc);
     'calls: for _ in 0..count {
-        let answer = frontend.get_features();
+        let answer = frontend.number(&Call::GetFeatures);
         answers.push(answer)?;
     }
     Ok(answers)

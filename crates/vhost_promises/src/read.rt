@@ -7,13 +7,14 @@ ghost use Rattle.vhost_promises.specs.Read.{ReadsFeatures, replied};
 ghost use Rattle.vhost_promises.specs.Runs.{answer_of_link};
 ghost use Rattle.vhost_promises.specs.Served.{features_reply};
 ghost use Rattle.vhost_connection.specs.Memory.{stream};
-ghost use Rattle.vhost_protocol.specs.FrontendCall.{new_frontend};
+ghost use Rattle.vhost_frontend.specs.Whole.{Whole};
+ghost use Rattle.vhost_protocol.specs.FrontendCall.{GetFeatures, Number, new_frontend};
 ghost use Rattle.vhost_protocol.specs.Stream.{plain};
 
 use std::alloc::Global;
 use vhost_connection::talks_law;
-use vhost_frontend::Quiet;
-use vhost_link::{Cut, MemLink};
+use vhost_frontend::{Call, Quiet};
+use vhost_link::{Cut, Link, MemLink};
 use vhost_message::{Error, Result};
 
 /// A new frontend asks for the features of a backend whose reply came. However the link splits it, the answer is 0x40000003, exactly the
@@ -24,7 +25,14 @@ pub fn reads_features(frontend: &mut Quiet<MemLink>) -> Result<u64>
         → ReadsFeatures (endpoint_of frontend.old.inner) (new_frontend queues) result (endpoint_of frontend.new.inner) (session_of frontend.new.inner) }
 {
     talks_law();
-    frontend.get_features()
+    asks_features(frontend)
+}
+
+/// Asks for the features, over any link.
+pub(crate) fn asks_features<L: Link>(frontend: &mut Quiet<L>) -> Result<u64>
+    ensures { Whole L.event GetFeatures Number frontend.old.inner result frontend.new.inner }
+{
+    frontend.number(&Call::GetFeatures)
 }
 
 /// The same over a link in memory whose calls go as the script says.

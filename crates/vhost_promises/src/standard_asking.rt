@@ -2,16 +2,19 @@
 
 ghost use Rattle.std.specs.Prelude.{◌≡◌, ◌++◌, ℕ, false};
 ghost use Rattle.vhost_frontend_core.specs.Frontend.{endpoint_of, session_of};
+ghost use Rattle.vhost_frontend.specs.Whole.{WholeWithRoom};
+ghost use Rattle.vhost_protocol.specs.FrontendCall.{ConfigOf, GetConfig};
 ghost use Rattle.vhost_promises.specs.Runs.{answer_of_link};
 ghost use Rattle.vhost_promises.specs.Served.{features_reply};
 ghost use Rattle.vhost_promises.specs.StandardAsking.{GoesOnAsking, no_config, with_config};
 ghost use Rattle.vhost_connection.specs.Memory.{stream};
 ghost use Rattle.vhost_protocol.specs.Stream.{plain};
 
+use crate::read::asks_features;
 use bitflags::Flags;
 use vhost_connection::talks_law;
-use vhost_frontend::Quiet;
-use vhost_link::MemLink;
+use vhost_frontend::{Call, Quiet};
+use vhost_link::{Link, MemLink};
 use vhost_message::{Result, VhostUserConfig, VhostUserConfigFlags};
 use vhost_protocol::Profile;
 
@@ -28,7 +31,18 @@ pub fn goes_on_without_config(
 {
     talks_law();
     frontend.set_profile(Profile::Standard);
-    let config = frontend.get_config(0, 8, VhostUserConfigFlags::empty(), &[0; 8]);
-    let features = frontend.get_features();
+    let config = asks_config(frontend, VhostUserConfigFlags::empty(), &[0; 8]);
+    let features = asks_features(frontend);
     (config, features)
+}
+
+/// Asks for eight bytes of configuration, over any link.
+fn asks_config<L: Link>(
+    frontend: &mut Quiet<L>,
+    flags: VhostUserConfigFlags,
+    buffer: &[u8],
+) -> Result<(VhostUserConfig, Vec<u8>)>
+    ensures { WholeWithRoom L.event (GetConfig 0 8 flags.bits buffer.now) (λ part. ConfigOf part.0 part.1.items) frontend.old.inner result frontend.new.inner }
+{
+    frontend.config(&Call::GetConfig(0, 8, flags, buffer))
 }

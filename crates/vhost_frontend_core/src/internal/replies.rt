@@ -16,7 +16,7 @@ use vhost_message::{Error, Result, VhostUserMsgValidator, VhostUserU64};
 use vhost_protocol::Awaited;
 
 impl<L: Link> FrontendInternal<L> {
-    ghost use Rattle.vhost_frontend_core.specs.Frontend.{endpoint_of, session_of, awaits, IsAwaited};
+    ghost use Rattle.vhost_frontend_core.specs.Frontend.{endpoint_of, session_of, awaits};
     ghost use Rattle.vhost_frontend_core.specs.Halves.{TakesAck};
     ghost use Rattle.vhost_frontend_core.specs.Taking.{Recvs, Awaits, AwaitsAlone, AwaitsAny, AwaitsOne, RecvsAck, Acks};
 
@@ -55,10 +55,7 @@ impl<L: Link> FrontendInternal<L> {
     }
 
     /// Receives what is awaited of any call that is only acknowledged and leaves the session as it is.
-    ///
-    /// Errors are those of an acknowledgement.
-    pub fn take_done(&mut self, sent: Sent) -> Result<()>
-        requires { IsAwaited sent self.old }
+    pub(crate) fn take_done(&mut self, sent: Sent) -> Result<()>
         ensures taken { (call : FrontendCall L.Handle) → plain_value call ≡ Nothing → after_success (session_of self.old) call ≡ session_of self.old → TakesAck L.event call sent self.old result self.new }
         ensures quiet { awaits self.new ≡ Nobody }
     {

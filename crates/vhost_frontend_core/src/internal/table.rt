@@ -1,4 +1,4 @@
-//! The memory table.
+//! The memory table: what is sent, and what is received for it.
 
 ghost use Rattle.std.specs.Prelude.{◌≡◌, ◌≤◌, ◌*◌, List, IfOk, length, map, take};
 ghost use Rattle.vhost_message.specs.declared.limits.TheConstants.{MAX_ATTACHED_FD_ENTRIES, MAX_MEM_REGIONS, MEMORY_REGION_SIZE};
@@ -26,19 +26,15 @@ use vhost_protocol::{Awaited, Shape};
 impl<L: Link> FrontendInternal<L> {
     ghost use Rattle.vhost_connection.specs.Asking.{request_with};
     ghost use Rattle.vhost_frontend_core.specs.Asking.{AsksWithRoom, Tries};
-    ghost use Rattle.vhost_frontend_core.specs.Frontend.{endpoint_of, session_of, awaits, MayAsk, IsAwaited};
+    ghost use Rattle.vhost_frontend_core.specs.Frontend.{endpoint_of, session_of, awaits};
     ghost use Rattle.vhost_frontend_core.specs.Taking.{IsAck, RecvsTable};
     ghost use Rattle.vhost_frontend_core.specs.Halves.{AsksHalfWithRoom, TakesHalf};
 
-    /// Gives the backend the guest's memory: 1 region or more, each with the descriptor that maps it.
-    ///
-    /// InvalidParam: there is no region, there are more than a table may have, or one has the size 0 or no descriptor.
-    /// OutOfMemory: an allocation failed, and nothing changed.
-    pub fn ask_set_mem_table(
+    /// Gives the backend the guest's memory.
+    pub(crate) fn ask_table(
         &mut self,
         regions: &[VhostUserMemoryRegionInfo<L::Handle>],
     ) -> Result<Sent>
-        requires { MayAsk self.old }
         ensures asked { AsksHalfWithRoom L.event (call.SetMemTable (infos_in regions.now)) self.old result self.new }
         ensures kept { IfOk result (λ sent. IsKeptFor {H = L.Handle} (call.SetMemTable (infos_in regions.now)) sent.awaited sent.kept) }
     {
@@ -107,12 +103,8 @@ impl<L: Link> FrontendInternal<L> {
         self.send(request, &head, payload, handles)
     }
 
-    /// Receives the acknowledgement, where there is one; or, while postcopy listens, where each region is mapped, in their
-    /// order.
-    ///
-    /// InvalidMessage: the reply is of other regions.
-    pub fn take_set_mem_table(&mut self, sent: Sent) -> Result<Option<Vec<u64>>>
-        requires { IsAwaited sent self.old }
+    /// Receives the acknowledgement, where there is one; or where each region is mapped.
+    pub(crate) fn take_set_mem_table(&mut self, sent: Sent) -> Result<Option<Vec<u64>>>
         ensures mapped { (infos : List (call.Info L.Handle)) → IsKeptFor {H = L.Handle} (call.SetMemTable infos) (Reply shape.Memory) sent.kept → sent.awaited ≡ Reply shape.Memory
             → TakesHalf L.event (call.SetMemTable infos) (λ bases. call.Bases (bases_seen bases)) (Reply shape.Memory) sent self.old result self.new }
         ensures acked { (infos : List (call.Info L.Handle)) → IsAck sent.awaited

@@ -1,28 +1,28 @@
-//! The half of each call that sends the request.
+//! Calls that are kept: each is sent, and its answer received, as the call that it lends.
 
-ghost use Rattle.std.specs.Prelude.{◌≡◌, ◌<◌, IfOk, IfSome, map, length};
+ghost use Rattle.std.specs.Prelude.{◌≡◌, IfOk, IfSome, map};
 ghost use Rattle.vhost_link.specs.Mem.{event};
 ghost use Rattle.vhost_protocol.specs.FrontendCall as calls;
-ghost use Rattle.vhost_frontend_core.specs.Frontend.{MayAsk, awaits};
-ghost use Rattle.vhost_frontend_core.specs.Halves.{AsksHalf, AsksHalfWithRoom};
+ghost use Rattle.vhost_frontend_core.specs.Frontend.{MayAsk, IsAwaited, awaits};
+ghost use Rattle.vhost_frontend_core.specs.ValueHalves.{IsSent, IsProper, AsksCall, AsksWell, TakesValue, TakesWell, WantsFor, awaited_after};
 ghost use Rattle.vhost_frontend_core.specs.Kept.{IsKeptFor};
-ghost use Rattle.vhost_frontend_core.specs.Values.{call_of, info_of, log_region_of};
-ghost use Rattle.vhost_frontend_core.specs.ValueHalves.{IsSent, IsProper, AsksCall, AsksWell, WantsFor, awaited_after};
+ghost use Rattle.vhost_frontend_core.specs.Values.{call_of, info_of};
 
+use crate::answer::{Answer, bases, done};
 use crate::asked::Sent;
+use crate::call::Call;
 use crate::internal::FrontendInternal;
-use crate::values::call::{FrontendCall, LogRegion, RegionInfo};
+use crate::values::answer::FrontendAnswer;
+use crate::values::call::{FrontendCall, RegionInfo};
 use crate::values::table::table_of;
 use bitflags::Flags;
+use vhost_backend::{VhostUserDirtyLogRegion, VhostUserMemoryRegionInfo};
 use vhost_link::{MemLink, PlainHandle};
-use vhost_message::{
-    ByteValued, Error, MAX_MEM_REGIONS, Result, VhostUserHeaderFlag, VhostUserSharedMsg,
-};
+use vhost_message::{Error, MAX_MEM_REGIONS, Result, VhostUserHeaderFlag};
 
-/// Sends the request by the half of the call's name. None: nothing is sent for the call, and it was done.
+/// Sends the request of a call. None: nothing is sent for the call, and it was done.
 ///
-/// Errors are those of that half. OutOfMemory: an allocation failed, and nothing changed; only where a call makes room for
-/// its answer, or where the descriptor buffer was moved out.
+/// Errors are those of the call that it lends.
 pub fn ask(frontend: &mut FrontendInternal<MemLink>, call: &FrontendCall) -> Result<Option<Sent>>
     requires { MayAsk frontend.old }
     ensures asked { AsksCall (call_of call.now) frontend.old result frontend.new }
@@ -43,147 +43,69 @@ pub fn ask(frontend: &mut FrontendInternal<MemLink>, call: &FrontendCall) -> Res
     }
 }
 
-/// Sends the request by the half of the call's name, where something is sent for it.
-#[tactic(auto, using(crate::proofs::ValuePlain::plain))]
+/// Sends the request of a call for which something is sent.
 fn ask_half(frontend: &mut FrontendInternal<MemLink>, call: &FrontendCall) -> Result<Sent>
     requires sent { IsSent (call_of call.now) }
     requires quiet { MayAsk frontend.old }
-    ensures { AsksWell (call_of call.now) frontend.old result frontend.new }
+    ensures asked { AsksWell event (call_of call.now) frontend.old result frontend.new }
+    ensures proper { IfOk result (λ _. IsProper (call_of call.now)) }
 {
+    names_regions(None, None);
     match call {
-        FrontendCall::GetFeatures => frontend.ask_get_features(),
-        FrontendCall::SetFeatures(features) => frontend.ask_set_features(*features),
-        FrontendCall::SetOwner => frontend.ask_set_owner(),
-        FrontendCall::ResetOwner => frontend.ask_reset_owner(),
-        FrontendCall::GetProtocolFeatures => frontend.ask_get_protocol_features(),
-        FrontendCall::SetProtocolFeatures(features) => {
-            frontend.ask_set_protocol_features(*features)
-        },
-        FrontendCall::GetQueueNum => frontend.ask_get_queue_num(),
-        FrontendCall::ResetDevice => frontend.ask_reset_device(),
         FrontendCall::SetMemTable(regions) => ask_table(frontend, regions),
-        FrontendCall::SetLogBase(base, region) => ask_log_base(frontend, *base, region),
-        FrontendCall::SetLogFd(handle) => frontend.ask_set_log_fd(handle),
-        FrontendCall::SetVringNum(index, num) => frontend.ask_set_vring_num(*index, *num),
-        FrontendCall::SetVringBase(index, base) => frontend.ask_set_vring_base(*index, *base),
-        FrontendCall::SetVringAddr(index, config) => frontend.ask_set_vring_addr(*index, config),
-        FrontendCall::GetVringBase(index) => frontend.ask_get_vring_base(*index),
-        FrontendCall::SetVringCall(index, handle) => ask_ring_call(frontend, *index, handle),
-        FrontendCall::SetVringKick(index, handle) => ask_ring_kick(frontend, *index, handle),
-        FrontendCall::SetVringErr(index, handle) => ask_ring_err(frontend, *index, handle),
-        FrontendCall::SetVringEnable(index, enable) => frontend.ask_set_vring_enable(
-            *index, *enable,
-        ),
-        FrontendCall::GetConfig(offset, size, flags, buffer) => {
-            frontend.ask_get_config(*offset, *size, *flags, buffer)
-        },
-        FrontendCall::SetConfig(offset, flags, buffer) => frontend.ask_set_config(
-            *offset, *flags, buffer,
-        ),
-        FrontendCall::SetBackendRequestFd(handle) => frontend.ask_set_backend_request_fd(handle),
-        FrontendCall::GetSharedObject(name) => ask_object(frontend, name),
-        FrontendCall::GetInflightFd(buffer) => frontend.ask_get_inflight_fd(buffer),
-        FrontendCall::SetInflightFd(buffer, handle) => frontend.ask_set_inflight_fd(buffer, handle),
-        FrontendCall::GetMaxMemSlots => frontend.ask_get_max_mem_slots(),
-        FrontendCall::AddMemRegion(info) => frontend.ask_add_mem_region(&info.lent()),
-        FrontendCall::RemoveMemRegion(info) => frontend.ask_remove_mem_region(&info.lent()),
-        FrontendCall::GetShmemConfig => frontend.ask_get_shmem_config_with_place(),
-        FrontendCall::SetDeviceStateFd(direction, phase, handle) =>
-            frontend.ask_set_device_state_fd(*direction, *phase, handle),
-        FrontendCall::CheckDeviceState => frontend.ask_check_device_state(),
-        FrontendCall::PostcopyAdvise => frontend.ask_postcopy_advise(),
-        FrontendCall::PostcopyListen => frontend.ask_postcopy_listen(),
-        FrontendCall::PostcopyEnd => frontend.ask_postcopy_end(),
-        FrontendCall::PostcopyAckMemRegions(code) => frontend.ask_postcopy_ack_mem_regions(*code),
-        FrontendCall::SetMtu(mtu) => frontend.ask_set_mtu(*mtu),
-        FrontendCall::SetHdrFlags(_) => Err(Error::InvalidParam),
+        _ => frontend.ask(&call.lent()),
     }
 }
 
-/// The half of GET_SHARED_OBJECT. A name has sixteen bytes.
-fn ask_object(frontend: &mut FrontendInternal<MemLink>, name: &VhostUserSharedMsg) -> Result<Sent>
-    requires { MayAsk frontend.old }
-    ensures asked { AsksHalf event (calls.GetSharedObject name.now) frontend.old result frontend.new }
-    ensures named { length name.now.uuid ≡ 16 }
-{
-    let mut text = [0; 16];
-    name.encode_into(&mut text);
-    frontend.ask_get_shared_object(name)
-}
-
-/// The half of SET_VRING_CALL, with a file descriptor or without.
-fn ask_ring_call(
-    frontend: &mut FrontendInternal<MemLink>,
-    index: usize,
-    handle: &Option<PlainHandle>,
-) -> Result<Sent>
-    requires { MayAsk frontend.old }
-    ensures { AsksHalf event (calls.SetVringCall index handle.now) frontend.old result frontend.new }
-{
-    let Some(handle) = handle else {
-        return frontend.ask_set_vring_call_bare(index);
-    };
-    frontend.ask_set_vring_call(index, handle)
-}
-
-/// The half of SET_VRING_KICK, with a file descriptor or without.
-fn ask_ring_kick(
-    frontend: &mut FrontendInternal<MemLink>,
-    index: usize,
-    handle: &Option<PlainHandle>,
-) -> Result<Sent>
-    requires { MayAsk frontend.old }
-    ensures { AsksHalf event (calls.SetVringKick index handle.now) frontend.old result frontend.new }
-{
-    let Some(handle) = handle else {
-        return frontend.ask_set_vring_kick_bare(index);
-    };
-    frontend.ask_set_vring_kick(index, handle)
-}
-
-/// The half of SET_VRING_ERR, with a file descriptor or without.
-fn ask_ring_err(
-    frontend: &mut FrontendInternal<MemLink>,
-    index: usize,
-    handle: &Option<PlainHandle>,
-) -> Result<Sent>
-    requires { MayAsk frontend.old }
-    ensures { AsksHalf event (calls.SetVringErr index handle.now) frontend.old result frontend.new }
-{
-    let Some(handle) = handle else {
-        return frontend.ask_set_vring_err_bare(index);
-    };
-    frontend.ask_set_vring_err(index, handle)
-}
-
-/// The half of SET_LOG_BASE.
-fn ask_log_base(
-    frontend: &mut FrontendInternal<MemLink>,
-    base: u64,
-    region: &Option<LogRegion>,
-) -> Result<Sent>
-    requires { MayAsk frontend.old }
-    ensures asked { AsksHalf event (calls.SetLogBase base (log_region_of region.now)) frontend.old result frontend.new }
-    ensures proper { IfOk result (λ _. IsProper (calls.SetLogBase base (log_region_of region.now))) }
-{
-    let Some(region) = region else {
-        return frontend.ask_set_log_base(base, None);
-    };
-    frontend.ask_set_log_base(base, Some(region.lent()))
-}
-
-/// The half of SET_MEM_TABLE. More regions than a table may have are refused.
-#[tactic(auto, using(crate::proofs::ValuePlain::wants_for_table))]
+/// Sends a table. More regions than a table may have are refused.
 fn ask_table(frontend: &mut FrontendInternal<MemLink>, regions: &[RegionInfo]) -> Result<Sent>
     requires { MayAsk frontend.old }
-    ensures asked { AsksHalfWithRoom event (calls.SetMemTable (map info_of regions.now)) frontend.old result frontend.new }
-    ensures kept { IfOk result (λ sent. IsKeptFor (calls.SetMemTable (map info_of regions.now)) sent.awaited sent.kept) }
+    ensures asked { AsksWell event (calls.SetMemTable (map info_of regions.now)) frontend.old result frontend.new }
     ensures proper { IfOk result (λ _. IsProper (calls.SetMemTable (map info_of regions.now))) }
-    ensures memory { WantsFor (calls.SetMemTable (map info_of regions.now)) frontend.old result frontend.new }
 {
     if regions.len() > MAX_MEM_REGIONS {
         return Err(Error::InvalidParam);
     }
+    names_regions(None, None);
     let table = table_of(regions);
-    frontend.ask_set_mem_table(&table[..regions.len()])
+    frontend.ask(&Call::SetMemTable(&table[..regions.len()]))
 }
+
+/// Receives the answer, of what [`ask`](crate::ask) answered for the same call; of a call that is only acknowledged, its
+/// acknowledgement.
+///
+/// Errors are those of the call that it lends.
+pub fn take(
+    frontend: &mut FrontendInternal<MemLink>,
+    call: &FrontendCall,
+    sent: Sent,
+) -> FrontendAnswer
+    requires { IsAwaited sent frontend.old }
+    ensures { TakesWell (call_of call.now) sent frontend.old result frontend.new }
+{
+    let answer = take_value(frontend, call, sent);
+    FrontendAnswer::of(answer)
+}
+
+/// The same, before the answer is kept.
+fn take_value(
+    frontend: &mut FrontendInternal<MemLink>,
+    call: &FrontendCall,
+    sent: Sent,
+) -> Answer<PlainHandle>
+    requires { IsAwaited sent frontend.old }
+    ensures { TakesValue event (call_of call.now) sent frontend.old result frontend.new }
+{
+    names_regions(None, None);
+    match call {
+        FrontendCall::SetHdrFlags(_) => done(frontend.take_done(sent)),
+        FrontendCall::SetMemTable(_) => bases(frontend.take_set_mem_table(sent)),
+        _ => frontend.take(&call.lent(), sent),
+    }
+}
+
+/// Names the types with a descriptor that a call holds: where one is lent over links in memory, the checker has to find them named.
+fn names_regions(
+    _region: Option<VhostUserMemoryRegionInfo<'_, PlainHandle>>,
+    _log: Option<VhostUserDirtyLogRegion<'_, PlainHandle>>,
+) {}

@@ -1,17 +1,19 @@
 //! What a caller asks of a frontend.
 
-ghost use Rattle.std.specs.Prelude.{◌≡◌, ◌<◌, ◌^◌, Some};
+ghost use Rattle.std.specs.Prelude.{◌≡◌, ◌<◌, ◌^◌, Some, IfSome, length};
 ghost use Rattle.vhost_message.specs.RecordLaws.{RegionFits};
 ghost use Rattle.vhost_backend.specs.Region.{region_in};
 ghost use Rattle.vhost_frontend_core.specs.Regions.{info_in, log_region_in};
 ghost use Rattle.vhost_frontend_core.specs.Values.{info_of, log_region_of};
 
+use crate::call::Call;
+use bitflags::Flags;
 use vhost_backend::{VhostUserDirtyLogRegion, VhostUserMemoryRegionInfo};
 use vhost_link::PlainHandle;
 use vhost_message::{
-    FrontendReq, VhostTransferStateDirection, VhostTransferStatePhase, VhostUserConfigFlags,
-    VhostUserHeaderFlag, VhostUserInflight, VhostUserMemoryRegion, VhostUserProtocolFeatures,
-    VhostUserSharedMsg, VringConfigData,
+    ByteValued, FrontendReq, VhostTransferStateDirection, VhostTransferStatePhase,
+    VhostUserConfigFlags, VhostUserHeaderFlag, VhostUserInflight, VhostUserMemoryRegion,
+    VhostUserProtocolFeatures, VhostUserSharedMsg, VringConfigData,
 };
 
 /// A region of guest memory, and the descriptor that maps it.
@@ -92,8 +94,8 @@ fn lent_log(
     }
 }
 
-/// A call of the frontend with its arguments: each is the call of its name, and is refused where that is. A ring is named
-/// by its index.
+/// A call of a frontend with its arguments, as logs and lines keep it: it owns what it is made of, over links in memory. Each is the
+/// `Call` of its name.
 #[derive(Drop)]
 pub enum FrontendCall {
     GetFeatures,
@@ -140,4 +142,105 @@ pub enum FrontendCall {
     SetMtu(u16),
     /// The flags of each request from then on. Nothing is sent for it.
     SetHdrFlags(VhostUserHeaderFlag),
+}
+
+impl FrontendCall {
+    ghost use Rattle.vhost_protocol.specs.Agreement.{Fits};
+    ghost use Rattle.vhost_protocol.specs.Heard.{CallFits, IsNamedWell};
+    ghost use Rattle.vhost_frontend_core.specs.ValueHalves.{IsLent};
+    ghost use Rattle.vhost_frontend_core.specs.Values.{call_in, call_of};
+
+    /// The same, with what it is made of lent; but a table, whose regions are lent by `table_of`, and the call for which nothing
+    /// is sent.
+    pub(crate) fn lent(&self) -> Call<'_, PlainHandle>
+        requires { IsLent (call_of self.now) }
+        ensures same { call_in result ≡ call_of self.now }
+        ensures named { IsNamedWell (call_of self.now) }
+        ensures bits { Fits (call_of self.now) }
+        ensures small { CallFits (call_of self.now) }
+    {
+        match self {
+            FrontendCall::GetFeatures => Call::GetFeatures,
+            FrontendCall::SetFeatures(features) => Call::SetFeatures(*features),
+            FrontendCall::SetOwner => Call::SetOwner,
+            FrontendCall::ResetOwner => Call::ResetOwner,
+            FrontendCall::GetProtocolFeatures => Call::GetProtocolFeatures,
+            FrontendCall::SetProtocolFeatures(features) => {
+                measure_bits(features);
+                Call::SetProtocolFeatures(*features)
+            }
+            FrontendCall::GetQueueNum => Call::GetQueueNum,
+            FrontendCall::ResetDevice => Call::ResetDevice,
+            FrontendCall::SetLogBase(base, region) => Call::SetLogBase(*base, lent_log_of(region)),
+            FrontendCall::SetLogFd(handle) => Call::SetLogFd(handle),
+            FrontendCall::SetVringNum(index, num) => Call::SetVringNum(*index, *num),
+            FrontendCall::SetVringBase(index, base) => Call::SetVringBase(*index, *base),
+            FrontendCall::SetVringAddr(index, config) => Call::SetVringAddr(*index, *config),
+            FrontendCall::GetVringBase(index) => Call::GetVringBase(*index),
+            FrontendCall::SetVringCall(index, handle) => Call::SetVringCall(
+                *index,
+                handle.as_ref(),
+            ),
+            FrontendCall::SetVringKick(index, handle) => Call::SetVringKick(
+                *index,
+                handle.as_ref(),
+            ),
+            FrontendCall::SetVringErr(index, handle) => Call::SetVringErr(*index, handle.as_ref()),
+            FrontendCall::SetVringEnable(index, enable) => Call::SetVringEnable(*index, *enable),
+            FrontendCall::GetConfig(offset, size, flags, buffer) => {
+                Call::GetConfig(*offset, *size, *flags, buffer)
+            }
+            FrontendCall::SetConfig(offset, flags, buffer) => {
+                Call::SetConfig(*offset, *flags, buffer)
+            }
+            FrontendCall::SetBackendRequestFd(handle) => Call::SetBackendRequestFd(handle),
+            FrontendCall::GetSharedObject(name) => {
+                measure(name);
+                Call::GetSharedObject(*name)
+            }
+            FrontendCall::GetInflightFd(area) => Call::GetInflightFd(*area),
+            FrontendCall::SetInflightFd(area, handle) => Call::SetInflightFd(*area, handle),
+            FrontendCall::GetMaxMemSlots => Call::GetMaxMemSlots,
+            FrontendCall::AddMemRegion(info) => Call::AddMemRegion(info.lent()),
+            FrontendCall::RemoveMemRegion(info) => Call::RemoveMemRegion(info.lent()),
+            FrontendCall::GetShmemConfig => Call::GetShmemConfig,
+            FrontendCall::SetDeviceStateFd(direction, phase, handle) => {
+                Call::SetDeviceStateFd(*direction, *phase, handle)
+            }
+            FrontendCall::CheckDeviceState => Call::CheckDeviceState,
+            FrontendCall::PostcopyAdvise => Call::PostcopyAdvise,
+            FrontendCall::PostcopyListen => Call::PostcopyListen,
+            FrontendCall::PostcopyEnd => Call::PostcopyEnd,
+            FrontendCall::PostcopyAckMemRegions(code) => Call::PostcopyAckMemRegions(*code),
+            FrontendCall::SetMtu(mtu) => Call::SetMtu(*mtu),
+            FrontendCall::SetMemTable(_) => Call::GetFeatures,
+            FrontendCall::SetHdrFlags(_) => Call::GetFeatures,
+        }
+    }
+}
+
+/// Where the log is kept, with its descriptor lent.
+fn lent_log_of(region: &Option<LogRegion>) -> Option<VhostUserDirtyLogRegion<'_, PlainHandle>>
+    ensures same { log_region_in result ≡ log_region_of region.now }
+    ensures fits { IfSome region.now (λ area. (area.mmap_size < 2 ^ 64) × (area.mmap_offset < 2 ^ 64)) }
+{
+    let Some(region) = region else {
+        return None;
+    };
+    Some(region.lent())
+}
+
+/// A name has sixteen bytes.
+fn measure(name: &VhostUserSharedMsg)
+    ensures { length name.now.uuid ≡ 16 }
+{
+    let mut text = [0; 16];
+    name.encode_into(&mut text);
+}
+
+/// Features have sixty-four bits.
+fn measure_bits(features: &VhostUserProtocolFeatures)
+    ensures { features.now.bits < 2 ^ 64 }
+{
+    let _bits = features.bits();
 }

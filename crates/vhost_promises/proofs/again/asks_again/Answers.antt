@@ -14,7 +14,7 @@ calls-init g c = record { made = none; listed = λ is. is }
 pub calls-preserved : goal.calls-preserved
 calls-preserved g c = record {
   made = more c.calls.invariant.made c.in-Ok.ensures;
-  listed = λ _. asks-listed g.L.Link.event c.in-Ok.field-0 c.calls.frontend.inner c.get_features.new.self.inner c.in-Ok.ensures;
+  listed = λ _. asks-listed g.L.Link.event c.in-Ok.field-0 c.calls.frontend.inner c.number.new.self.inner c.in-Ok.ensures;
 }
 
 pub returns-clause-made : goal.returns-clause-made
@@ -24,4 +24,4 @@ pub returns-in-Err-clause-made : goal.returns-in-Err-clause-made
 returns-in-Err-clause-made g c = failed c.calls-test.true c.calls.invariant.made c.in-Err.ensures
 
 pub returns-in-Err-clause-listed : goal.returns-in-Err-clause-listed
-returns-in-Err-clause-listed g c listed is = asks-without-memory g.L.Link.event c.in-Err.error c.calls.frontend.inner c.get_features.new.self.inner c.in-Err.ensures (c.calls.invariant.listed listed) is
+returns-in-Err-clause-listed g c listed is = asks-without-memory g.L.Link.event c.in-Err.error c.calls.frontend.inner c.number.new.self.inner c.in-Err.ensures (c.calls.invariant.listed listed) is

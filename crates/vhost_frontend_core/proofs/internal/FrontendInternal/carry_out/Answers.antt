@@ -7,4 +7,4 @@ pub returns-in-Ok : goal.returns-in-Ok
 returns-in-Ok g c = went refl (written-as c.flags.ensures c.in-Ok.ensures.sent)
 
 pub returns-in-Err : goal.returns-in-Err
-returns-in-Err g c = stayed refl c.send_record.ensures.session (written-as c.flags.ensures c.in-Err.ensures.sent)
+returns-in-Err g c = stayed refl c.send_planned.ensures.session (written-as c.flags.ensures c.in-Err.ensures.sent)

@@ -3,7 +3,8 @@ use Rattle.vhost_protocol.specs.FrontendCall.{SetHdrFlags}
 use Rattle.vhost_frontend_core.specs.Values.{call_of}
 use Rattle.vhost_frontend_core.specs.ValueHalves.{half, refused, at_once}
 use Rattle.vhost_frontend_core.proofs.Awaiting.{sent-awaits-with-room, still-awaits-with-room}
-use Rattle.vhost_frontend_core.proofs.ValueHalves.{is-sent}
+use Rattle.vhost_frontend_core.proofs.AskedValues.{wants-any}
+use Rattle.vhost_frontend_core.proofs.KeptValues.{is-sent}
 use Rattle.vhost_frontend_core.proofs.values.asking.ask.Goals as goal
 
 pub ask_half-requires-clause-sent : goal.ask_half-requires-clause-sent
@@ -13,13 +14,19 @@ pub returns-in-SetHdrFlags-clause-asked : goal.returns-in-SetHdrFlags-clause-ask
 returns-in-SetHdrFlags-clause-asked c = at_once _ (ap call_of c.in-SetHdrFlags.is ∙ ap SetHdrFlags (sym (c.from_bits_retain.ensures tt ∙ c.bits.ensures tt))) c.set_hdr_flags.ensures.endpoint c.set_hdr_flags.ensures.session c.set_hdr_flags.ensures.awaited
 
 pub returns-in-Ok-clause-asked : goal.returns-in-Ok-clause-asked
-returns-in-Ok-clause-asked c = half c.in-Ok.ensures.asked
+returns-in-Ok-clause-asked c = half c.in-Ok.ensures.asked.asked.with_room
 
 pub returns-in-Err-clause-asked : goal.returns-in-Err-clause-asked
-returns-in-Err-clause-asked c = refused c.in-Err.ensures.asked
+returns-in-Err-clause-asked c = refused c.in-Err.ensures.asked.asked.with_room
 
 pub returns-in-Ok-clause-awaited : goal.returns-in-Ok-clause-awaited
-returns-in-Ok-clause-awaited c = sym (sent-awaits-with-room c.in-Ok.ensures.asked)
+returns-in-Ok-clause-awaited c = sym (sent-awaits-with-room c.in-Ok.ensures.asked.asked.with_room)
 
 pub returns-in-Err-clause-awaited : goal.returns-in-Err-clause-awaited
-returns-in-Err-clause-awaited c = still-awaits-with-room c.in-Err.ensures.asked
+returns-in-Err-clause-awaited c = still-awaits-with-room c.in-Err.ensures.asked.asked.with_room
+
+pub returns-in-Ok-clause-kept : goal.returns-in-Ok-clause-kept
+returns-in-Ok-clause-kept c = c.in-Ok.ensures.asked.kept
+
+pub returns-in-Err-clause-memory : goal.returns-in-Err-clause-memory
+returns-in-Err-clause-memory c = wants-any c.in-Err.ensures.asked.asked

@@ -1,7 +1,0 @@
--- GET_FEATURES whole.
-use Rattle.std.proofs.Common.{refl}
-use Rattle.vhost_frontend.proofs.Whole.{replied}
-use Rattle.vhost_frontend.proofs.quiet.Quiet.get_features.Goals as goal
-
-pub returns-in-Ok : goal.returns-in-Ok
-returns-in-Ok g c = replied c.ask_get_features.new.self refl c.in-Ok.ensures c.take_get_features.ensures.taken

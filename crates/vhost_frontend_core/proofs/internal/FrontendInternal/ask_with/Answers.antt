@@ -1,7 +1,0 @@
--- The table refused a call with a handle.
-use Rattle.std.proofs.Common.{sym}
-use Rattle.vhost_frontend_core.specs.Asking.Asks.{refuses}
-use Rattle.vhost_frontend_core.proofs.internal.FrontendInternal.ask_with.Goals as goal
-
-pub returns-in-Err : goal.returns-in-Err
-returns-in-Err g c = refuses (sym (c.in-Err.ensures c.args.handle.now))
