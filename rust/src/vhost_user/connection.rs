@@ -97,9 +97,11 @@ impl<S: Asks> Connection<S> {
         self.receive_all(end)
     }
 
+    /// Receives what is missing of the reply: the descriptors that came with its first byte.
     fn receive_all(&mut self, end: End) -> Result<Vec<OwnedFd>> {
         let mut fds = Vec::new();
-        let mut first = None;
+        // (how many of them came with the first byte, once that has come)
+        let mut kept = None;
         loop {
             let missing = self.session.missing().min(MAX_MESSAGE);
             if missing == 0 {
@@ -110,15 +112,15 @@ impl<S: Asks> Connection<S> {
                 return Err(Error::PartialMessage);
             }
             // The protocol gives no meaning to descriptors behind a reply's first byte: those are closed here.
-            let numbers = match first {
+            let numbers = match kept {
                 None => numbers_of(&fds),
-                Some(first) => {
-                    fds.truncate(first);
+                Some(kept) => {
+                    fds.truncate(kept);
                     &[]
                 }
             };
             self.session.receive(&self.bytes[..count], numbers).map_err(|code| self.error_of(code))?;
-            first = Some(fds.len());
+            kept = Some(fds.len());
         }
     }
 

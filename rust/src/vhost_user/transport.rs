@@ -18,7 +18,7 @@ pub(super) fn end_after(limit: Option<Duration>) -> End {
     limit.and_then(|limit| Instant::now().checked_add(limit))
 }
 
-/// Sends all that a session hands out, which is put into `bytes` piece by piece.
+/// Sends all that a session hands out, which is put into `bytes` piece by piece. It has one message to send at a time.
 pub(super) fn send_all(socket: &UnixStream, session: &mut impl Moves, bytes: &mut [u8; MAX_MESSAGE], end: End) -> Result<()> {
     let mut fds = [-1; MAX_FDS];
     loop {
@@ -27,6 +27,17 @@ pub(super) fn send_all(socket: &UnixStream, session: &mut impl Moves, bytes: &mu
             return Ok(());
         }
         send_piece(socket, &bytes[..byte_count], &fds[..fd_count], end)?;
+        if is_whole(&bytes[..byte_count]) {
+            return Ok(());
+        }
+    }
+}
+
+/// Whether these bytes are a header and as many as it announces.
+fn is_whole(bytes: &[u8]) -> bool {
+    match *bytes {
+        [_, _, _, _, _, _, _, _, a, b, c, d, ref body @ ..] => u32::from_le_bytes([a, b, c, d]) as usize == body.len(),
+        _ => false,
     }
 }
 
