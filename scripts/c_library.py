@@ -15,6 +15,7 @@ import re
 import shutil
 import subprocess
 import sys
+import tempfile
 import time
 
 TOP = os.path.dirname(os.path.dirname(os.path.abspath(__file__)))
@@ -74,10 +75,8 @@ def run(folder, *words):
     return ran.stdout, ran.returncode == 0
 
 
-def watching(kit):
-    """The kit's toolchain, in a folder of links, with a compiler that puts a counter at each branch."""
-    theirs, folder = f"{kit}/toolchain", f"{os.path.dirname(WATCHED)}/toolchain"
-    shutil.rmtree(folder, ignore_errors=True)
+def watching(theirs, folder):
+    """Makes a toolchain in a folder: links to theirs, and a compiler that puts a counter at each branch."""
     os.makedirs(f"{folder}/bin")
     os.symlink(f"{theirs}/lib", f"{folder}/lib")
     for it in os.listdir(f"{theirs}/bin"):
@@ -86,7 +85,6 @@ def watching(kit):
     with open(f"{folder}/bin/clang", "w", encoding="utf-8") as it:
         it.write(f'#!/bin/sh\nexec "{theirs}/bin/clang" -fsanitize-coverage=inline-8bit-counters,pc-table "$@"\n')
     os.chmod(f"{folder}/bin/clang", 0o755)
-    return folder
 
 
 def over_libraries(kit, uses, archive, toolchain):
@@ -136,7 +134,10 @@ def build(kit, uses, names):
 
 def watch(kit, uses):
     """Builds it once more, with counters."""
-    said, is_built = over_libraries(kit, uses, WATCHED, watching(kit))
+    # (`rt` refuses a crate's folder that has links)
+    with tempfile.TemporaryDirectory() as room:
+        watching(f"{kit}/toolchain", f"{room}/toolchain")
+        said, is_built = over_libraries(kit, uses, WATCHED, f"{room}/toolchain")
     if not is_built:
         print(said, end="", file=sys.stderr)
         stop("not built with counters")

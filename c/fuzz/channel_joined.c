@@ -6,6 +6,7 @@
 
 static covretin_channel channel;
 static covretin_channel_server server;
+static bool acknowledges; /* the frontend replies to what asks for it */
 
 /* A message on its way. */
 static struct {
@@ -91,7 +92,8 @@ static bool carry_reply(void)
     return true;
 }
 
-/* One asks, the other serves, and the reply is taken. Whether both are of more use. */
+/* One asks, the other serves, and the reply is taken: it succeeded only if the frontend replied 0, and is awaited in vain only where the
+ * request was refused, or the frontend acknowledges none. Whether both are of more use. */
 static bool exchange(void)
 {
     uint8_t which = next_byte();
@@ -109,13 +111,15 @@ static bool exchange(void)
     error = covretin_channel_take(&channel);
     outcome(which % 6 + 64, error);
     must(error != COVRETIN_OK || !is_awaited || is_good);
+    must(error != COVRETIN_NOT_YET || served != COVRETIN_OK || !acknowledges);
     return !is_starved(served) && (error == COVRETIN_OK || error == COVRETIN_FRONTEND_INTERNAL_ERROR);
 }
 
 void run_session(void)
 {
     open_channel(&channel);
-    open_server(&server, next_byte() % 4 != 0);
+    acknowledges = next_byte() % 4 != 0;
+    open_server(&server, acknowledges);
     while (more_steps()) {
         set_flag(&channel);
         if (!exchange())

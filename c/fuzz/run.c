@@ -219,8 +219,16 @@ void tell(const void *told, size_t size)
     run.told++;
 }
 
+/* A session has no socket, and so none of these errors. */
+static bool is_of_socket(enum covretin_error error)
+{
+    return error == COVRETIN_SOCKET_ERROR || error == COVRETIN_SOCKET_CONNECT || error == COVRETIN_DISCONNECTED ||
+           error == COVRETIN_INVALID_SOCKET_FD || error == COVRETIN_NOT_UNIX_SOCKET || error == COVRETIN_NOT_STREAM_SOCKET;
+}
+
 void outcome(uint32_t what, enum covretin_error error)
 {
+    must(!is_of_socket(error));
     note(what * 131 + error);
     must(error < sizeof tally.errors / sizeof *tally.errors);
     tally.errors[error]++;
