@@ -26,4 +26,5 @@ pub mod Whatever
 pub mod KnownAnswer
 pub mod StandardAsking
 pub mod OwnChannel
+pub mod WithoutMemory
 pub mod Blaming
