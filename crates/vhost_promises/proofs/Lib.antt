@@ -26,5 +26,6 @@ pub mod Whatever
 pub mod KnownAnswer
 pub mod StandardAsking
 pub mod OwnChannel
+pub mod WithoutMemory
 pub mod Blaming
 pub mod Carrying

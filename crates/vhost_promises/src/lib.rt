@@ -12,6 +12,7 @@ mod faults_calling;
 mod halves;
 mod joined;
 mod lines;
+mod memory;
 mod opening;
 mod read;
 mod recorder;
@@ -38,6 +39,7 @@ pub use joined::{
     refuses_whatever_was, runs_back_in_lockstep, runs_in_lockstep, shows_no_reply, stays_in_step,
 };
 pub use lines::runs_two_lines;
+pub use memory::{asks_without_memory, steps_without_memory};
 pub use opening::opens_its_own;
 pub use read::{reads_features, reads_features_new};
 pub use recorder::{finds_own, first_answer, records_two, two_callers};

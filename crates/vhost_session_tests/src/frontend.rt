@@ -6,7 +6,10 @@ use vhost_frontend::{Frontend, Quiet};
 use vhost_frontend_core::{FrontendAnswer, FrontendCall, FrontendInternal};
 use vhost_link::{Cut, MemLink};
 use vhost_message::{Error, IoCause};
-use vhost_promises::{asks_again, meets_fault_calling, own_features, reads_features_new};
+use vhost_promises::{
+    asks_again, asks_without_memory, finds_sound, meets_fault_calling, own_features,
+    reads_features_new,
+};
 
 /// The reply to GET_FEATURES: 0x40000001.
 static FEATURES: [u8; 20] = [
@@ -72,6 +75,48 @@ fn answers_one(rt: &impl Wait, alloc: Global) -> Option<[bool; 2]> {
 #[test]
 fn answers_its_own_caller(rt: HostRuntime) {
     assert!(rt; answers_one(&rt, rt.alloc()) == Some([true; 2]));
+}
+
+/// What two calls of a shared frontend, one after another, are answered over this link.
+fn asked_twice(rt: &impl Wait, alloc: Global, link: MemLink) -> Option<[Option<u64>; 2]> {
+    let frontend = Frontend::from_stream(alloc, link, 1, 0).ok()?;
+    let first = finds_sound(&frontend, rt).ok();
+    Some([first, finds_sound(&frontend, rt).ok()])
+}
+
+/// The same over a link that fails once a part of the first request has gone, where both replies lie ready.
+fn asked_where_torn(rt: &impl Wait, alloc: Global) -> Option<[Option<u64>; 2]> {
+    let cuts = vec![in alloc; Cut::Give(5), Cut::Fault(5)].ok()?;
+    let mut link = MemLink::new(alloc, cuts);
+    link.push(&FEATURES, &[]).ok()?;
+    link.push(&FEATURES, &[]).ok()?;
+    asked_twice(rt, alloc, link)
+}
+
+/// The same over a link on which both replies came.
+fn asked_where_sound(rt: &impl Wait, alloc: Global) -> Option<[Option<u64>; 2]> {
+    asked_twice(rt, alloc, replied(alloc, 2)?)
+}
+
+/// The second call finds a session that is sound, unless the link has failed.
+#[test]
+fn finds_a_sound_session(rt: HostRuntime) {
+    let features = Some(0x4000_0001);
+    assert!(rt; asked_where_sound(&rt, rt.alloc()) == Some([features, features]));
+    assert!(rt; asked_where_torn(&rt, rt.alloc()) == Some([None, None]));
+}
+
+/// Whether a new session sends a call by value that makes no room for its answer.
+fn sends_without_memory(alloc: Global) -> Option<bool> {
+    let link = MemLink::new(alloc, Vec::new(alloc));
+    let mut frontend = FrontendInternal::new(alloc, link, 1, 0).ok()?;
+    let sent = asks_without_memory(&mut frontend, &FrontendCall::GetFeatures);
+    Some(matches!(sent, Ok(Some(_))))
+}
+
+#[test]
+fn asks_by_value(rt: HostRuntime) {
+    assert!(rt; sends_without_memory(rt.alloc()) == Some(true));
 }
 
 /// Whether two calls, one after another, succeed.

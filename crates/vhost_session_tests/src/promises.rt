@@ -6,13 +6,16 @@ use vhost_backend_req_handler::SessionCore;
 use vhost_connection::Endpoint;
 use vhost_device::VhostUserBackendReqHandlerMut;
 use vhost_dummy_backend::DummyBackendReqHandler;
-use vhost_link::MemLink;
+use vhost_link::{Kind, MemLink, PlainHandle};
 use vhost_message::{
-    Error, FrontendReq, IoError, VhostUserConfig, VhostUserConfigFlags, VhostUserMsgHeader,
+    Error, FrontendReq, IoError, Result as Answer, VhostUserConfig, VhostUserConfigFlags,
+    VhostUserMsgHeader,
 };
+use vhost_pair::Joined;
 use vhost_promises::{
-    Device, finds_own, first_answer, goes_on_unserved_new, records_two, runs_two_lines,
-    sends_in_one, serves_by_halves, serves_three_new, shares_twice, two_callers,
+    Device, finds_own, first_answer, goes_on_unserved_new, opens_its_own, records_two,
+    runs_two_lines, sends_in_one, serves_by_halves, serves_three_new, shares_twice,
+    steps_without_memory, two_callers,
 };
 use vhost_recorder::{FrontendAnswer, FrontendCall, Halt, Log, Receipt, Recorded};
 
@@ -103,6 +106,58 @@ fn shared_twice(alloc: Global) -> Option<[bool; 2]> {
         is_refused,
         matches!(last, Some(Err(IoError::Of(Error::FrontendInternalError)))),
     ])
+}
+
+/// SET_PROTOCOL_FEATURES with BACKEND_REQ alone, and SET_BACKEND_REQ_FD.
+static AGREE: [u8; 20] = [
+    16, 0, 0, 0, 1, 0, 0, 0, 8, 0, 0, 0, 0x20, 0, 0, 0, 0, 0, 0, 0,
+];
+
+static OPEN: [u8; 12] = [21, 0, 0, 0, 1, 0, 0, 0, 0, 0, 0, 0];
+
+/// What a request for the backend channel is answered, which brings a descriptor of this kind.
+fn opened(alloc: Global, kind: Kind) -> Option<Answer<()>> {
+    let mut link = MemLink::new(alloc, Vec::new(alloc));
+    link.push(&AGREE, &[]).ok()?;
+    link.push(&OPEN, &[PlainHandle { id: 7, kind }]).ok()?;
+    let mut core = SessionCore::new(alloc, link, 3).ok()?;
+    let mut device = DummyBackendReqHandler::new(alloc, Vec::new(alloc));
+    opens_its_own(&mut core, &mut device).ok()?;
+    Some(opens_its_own(&mut core, &mut device))
+}
+
+#[test]
+fn a_channel_over_its_descriptor(rt: HostRuntime) {
+    let alloc = rt.alloc();
+    assert!(rt; matches!(opened(alloc, Kind::UnixStream), Some(Ok(()))));
+    assert!(rt;
+        matches!(
+            opened(alloc, Kind::NotUnix),
+            Some(Err(Error::NotUnixSocket))
+        )
+    );
+}
+
+/// What two calls of a joined run are answered, the first of which is the device's features.
+fn stepped_twice(alloc: Global, second: &FrontendCall) -> Option<[Option<FrontendAnswer>; 2]> {
+    let device = Device::new(alloc, Vec::new(alloc));
+    let scripts = (Vec::new(alloc), Vec::new(alloc));
+    let mut joined = Joined::new(alloc, device, 2, 3, scripts).ok()?;
+    let (first, then) = steps_without_memory(&mut joined, &FrontendCall::GetFeatures, second);
+    Some([first.ok(), then.and_then(|done| done.ok())])
+}
+
+#[test]
+fn two_steps_without_memory(rt: HostRuntime) {
+    assert!(rt;
+        matches!(
+            stepped_twice(rt.alloc(), &FrontendCall::SetOwner),
+            Some([
+                Some(FrontendAnswer::Number(0x4000_0003)),
+                Some(FrontendAnswer::Done)
+            ])
+        )
+    );
 }
 
 #[test]
