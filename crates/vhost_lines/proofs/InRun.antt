@@ -51,7 +51,7 @@ run-shows : (old new : View) (ls : List (List ℕ)) (text : List ℕ) → IsRead
 run-shows old new [] text ready going (none, same) = none
 run-shows old new (line ∷ ls) text ready going (call, first, rest, mid, asks, (Err Stopped, step, shows), split, all) = absurd (cc (subst (λ s. is_some s ≡ true) going step.0))
 run-shows old new (line ∷ ls) text ready going (call, first, rest, mid, asks, (Err OutOfMemory, step, shows), split, all) = absurd shows
-run-shows old new (line ∷ ls) text ready going (call, first, rest, mid, asks, (Ok a, (on, moved, steps), (goes_on, shows)), split, all) = go (steps true ready) (λ next on'. run-shows mid new ls rest next on' all)
+run-shows old new (line ∷ ls) text ready going (call, first, rest, mid, asks, (Ok a, (on, moved, steps, lists), (goes_on, shows)), split, all) = go (steps true ready) (λ next on'. run-shows mid new ls rest next on' all)
   where
     go : joined.Answers moves old call (answer_of a) mid → (IsReady true mid → mid.stopped ≡ None → RunShows mid.frontend mid.session mid.device ls rest)
         → RunShows old.frontend old.session old.device (line ∷ ls) text

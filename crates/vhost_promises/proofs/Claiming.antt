@@ -166,7 +166,7 @@ claimed alloc spare old new answers (Err e) device script script' is_device is_s
 -- the step after a claim, from its contract: it is refused in silence, and the run stops there
 pub claimed-again : (device : Device) (done : List FrontendAnswer) (old new : View Device) (a : FrontendAnswer)
     → Claims device done old → Steps moves old SetOwner (Ok a) new → (new.stopped ≡ Some Premise → ⊥) → RefusesAgain a new
-claimed-again device done old new a claim (going, moved, steps) goes_on = go (steps true claim.ready)
+claimed-again device done old new a claim (going, moved, steps, lists) goes_on = go (steps true claim.ready)
   where
     go : Answers moves old SetOwner (answer_of a) new → RefusesAgain a new
     go (inl kept) =

@@ -33,14 +33,14 @@ some-request w = refl
 module _ {Dev : Type 0} (gives : Gives Dev) (old new : View Dev) (call : FrontendCall PlainHandle) where
   -- ---- a call that its tests refuse
 
-  refuses : (e : Error) (result : Result (Value PlainHandle) Error) → ask old.frontend call ≡ ask.Refuses e → Moves gives old call result new → (result ≡ Err e) × (new ≡ record old { request = no_text; reply = no_text })
+  refuses : (e : Error) (result : Result (Value PlainHandle) Error) → ask old.frontend call ≡ ask.Refuses e → Moves gives old call result new → (result ≡ Err e) × (new ≡ record old { lists = true; request = no_text; reply = no_text })
   unfolding refusal_in
   refuses e result is (joined.refused x asked answers same) = (answers ∙ ap (λ (y : Error). Err y) (ap refusal_in (sym asked ∙ is)), same)
   refuses e result is (joined.at_once v g asked answers same) = absurd (cc (sym asked ∙ is))
   refuses e result is (joined.unsent w awaited after c gone read asked stops answers on_way same) = absurd (cc (sym asked ∙ is))
   refuses e result is (joined.sent x) = let asked = x.asked in absurd (cc (sym asked ∙ is))
 
-  pub step-refuses : (e : Error) (r : Result FrontendAnswer Halt) → ask old.frontend call ≡ ask.Refuses e → Steps gives old call r new → IfOk r (λ a. (answer_of a ≡ Err e) × (new ≡ record old { request = no_text; reply = no_text }))
+  pub step-refuses : (e : Error) (r : Result FrontendAnswer Halt) → ask old.frontend call ≡ ask.Refuses e → Steps gives old call r new → IfOk r (λ a. (answer_of a ≡ Err e) × (new ≡ record old { lists = true; request = no_text; reply = no_text }))
   step-refuses e (Ok a) is steps = refuses e (answer_of a) is steps.1
   step-refuses e (Err h) is steps = tt
 

@@ -1,6 +1,6 @@
 //! Both sides joined.
 
-ghost use Rattle.std.specs.Prelude.{◌≡◌, ◌≢◌, ◌++◌, [], None, Some, Err, IfOk, Bool, List};
+ghost use Rattle.std.specs.Prelude.{◌≡◌, ◌≢◌, ◌++◌, [], None, Some, Err, IfOk, Bool, List, true};
 ghost use Rattle.vhost_pair.specs.declared.halt.Stop.TheVariants.{Premise};
 ghost use Rattle.vhost_pair.specs.Joined.{IsReady, Offers};
 ghost use Rattle.vhost_pair.specs.Lockstep.{ArePlain, AreOffered, Lockstep};
@@ -61,13 +61,13 @@ pub fn stays_in_step<D: VhostUserBackendReqHandlerMut<Link = MemLink>>(
 }
 
 /// Does one call which its tests refuse: whatever was before, and however requests are sent, the answer is that refusal, and nothing
-/// else changed but that no message was written last.
+/// else changed but that no message was written last, and that both sides have their descriptor buffers.
 pub fn refuses_whatever_was<D: VhostUserBackendReqHandlerMut<Link = MemLink>>(
     joined: &mut Joined<D>,
     call: &FrontendCall,
 ) -> Result<FrontendAnswer, Halt>
     ensures { (e : Error) → ask joined.old.frontend (call_of call.now) ≡ Refuses e
-        → IfOk result (λ answer. (answer_of answer ≡ Err e) × (joined.new ≡ record joined.old { request = no_text; reply = no_text })) }
+        → IfOk result (λ answer. (answer_of answer ≡ Err e) × (joined.new ≡ record joined.old { lists = true; request = no_text; reply = no_text })) }
 {
     joined.step(call)
 }
