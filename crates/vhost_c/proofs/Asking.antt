@@ -1,14 +1,15 @@
 -- What became of a call that was asked.
-use Rattle.std.proofs.Common.{◌≡◌, ℕ, false, List, [], ◌∷◌, ◌++◌, replicate, append_assoc, Some, None, Ok, Err, refl, sym, ap, subst, ◌∙◌}
+use Rattle.std.proofs.Common.{◌≡◌, inl, inr, ℕ, true, false, List, [], ◌∷◌, ◌++◌, replicate, append_assoc, Some, None, Ok, Err, refl, sym, ap, subst, ◌∙◌}
 use Rattle.std.proofs.lemmas.List.{append-nil}
 use Rattle.vhost_message.specs.declared.error.Error as declared
+use Rattle.vhost_message.specs.declared.error.Error.TheVariants.{OutOfMemory}
 use Rattle.vhost_message.specs.declared.frontend_req.FrontendReq.{FrontendReq}
 use Rattle.vhost_message.specs.FrontendReq.{request_number}
 use Rattle.vhost_message.specs.MsgHeader.{fields_of}
 use Rattle.vhost_protocol.specs.Ask.{ask, Sends}
 use Rattle.vhost_protocol.specs.declared.asked.Awaited.{Awaited}
 use Rattle.vhost_protocol.specs.FrontendCall.{FrontendCall, SetHdrFlags, Frontend}
-use Rattle.vhost_protocol.specs.Stream.{Cell, End, items}
+use Rattle.vhost_protocol.specs.Stream.{Cell, End, items, has_some}
 use Rattle.vhost_protocol.specs.Written.{Written, written_cells, head_of}
 use Rattle.vhost_link.specs.Ends.{Ends}
 use Rattle.vhost_link.specs.Mem.{event, HandsFront, StreamLaw}
@@ -21,11 +22,11 @@ use Rattle.vhost_frontend_core.specs.Frontend.{endpoint_of, session_of, awaits}
 use Rattle.vhost_frontend_core.specs.Halves.{AsksHalfWithRoom}
 use Rattle.vhost_frontend_core.specs.declared.asked.Sent.{Sent}
 use Rattle.vhost_frontend_core.specs.declared.internal.FrontendInternal.{FrontendInternal}
-use Rattle.vhost_frontend_core.specs.ValueHalves.{AsksCall, half, refused, at_once}
-use Rattle.vhost_c.specs.Session.{Asks, sent, Stays, Rests, Fails, want, queued, remembers}
+use Rattle.vhost_frontend_core.specs.ValueHalves.{AsksCall, MayWant, makes_room, half, refused, at_once}
+use Rattle.vhost_c.specs.Session.{Asks, sent, Stays, Rests, Fails, queued, remembers}
 use Rattle.vhost_c.specs.declared.session.Session.{Session}
 use Rattle.vhost_c.specs.Session as session
-use Rattle.vhost_c.proofs.Wants.{IsUncut, failed}
+use Rattle.vhost_c.proofs.Wants.{IsUncut, IsWant, list_away, by_link, broke_before, failed}
 
 abbrev pub Front : Type 0
 Front = FrontendInternal Ends PlainHandle
@@ -66,11 +67,48 @@ module _ (law : StreamLaw) (call : FrontendCall PlainHandle) (old new : Front) (
   pub asked-so : Went call (session_of old) s (endpoint_of old) (endpoint_of new) (awaits new) (session_of new)
   asked-so = went law call (endpoint_of old) (endpoint_of new) (session_of old) (session_of new) (awaits old) (awaits new) s half
 
--- A call that was not asked leaves what is remembered, and this is why.
-pub stayed : StreamLaw → (call : FrontendCall PlainHandle) (old new : State Ends PlainHandle) (f f' : Frontend) (before after : Awaited) (e : declared.Error) → IsUncut old → AsksWithRoom event (ask f call) old f before (Err e) new f' after → (f' ≡ f) × Fails call f e
-stayed law call old new f f' before after e uncut (roomy (core.refuses is)) = (refl, session.refused is)
-stayed law call old new f f' before after e uncut (roomy (fails is why)) = (refl, want (failed law old new false e why uncut).1)
-stayed law call old new f f' before after e uncut (no_room is) = (refl, want tt)
+-- A call that was not asked leaves what is remembered.
+pub stayed : (call : FrontendCall PlainHandle) (old new : State Ends PlainHandle) (f f' : Frontend) (before after : Awaited) (e : declared.Error) → AsksWithRoom event (ask f call) old f before (Err e) new f' after → f' ≡ f
+stayed call old new f f' before after e (roomy (core.refuses is)) = refl
+stayed call old new f f' before after e (roomy (fails is why)) = refl
+stayed call old new f f' before after e (no_room is) = refl
+
+module _ (call : FrontendCall PlainHandle) (s : Session) where
+  wanted : {w : Written FrontendReq PlainHandle} {awaited : Awaited} {f : Frontend} (e : declared.Error) → ask (remembers s) call ≡ Sends w awaited f → IsWant (endpoint_of s.frontend) e → Fails call s e
+  wanted _ is (list_away list) = session.no_list list
+  wanted _ is by_link = session.no_request is
+  wanted _ is (broke_before broken) = session.was_broken broken
+
+  may-want : (new : Front) → MayWant call s.frontend new → Fails call s OutOfMemory
+  may-want new (inl room) = session.no_answer room
+  may-want new (inr (list, same)) = session.no_list list
+
+  by-cause : StreamLaw → (old new : State Ends PlainHandle) (f' : Frontend) (before after : Awaited) (e : declared.Error) → IsUncut old → (e ≡ OutOfMemory → Fails call s OutOfMemory)
+      → ((w : Written FrontendReq PlainHandle) (awaited : Awaited) (f : Frontend) → ask (remembers s) call ≡ Sends w awaited f → IsWant old e → Fails call s e)
+      → AsksWithRoom event (ask (remembers s) call) old (remembers s) before (Err e) new f' after → Fails call s e
+  by-cause law old new f' before after e uncut wants by (roomy (core.refuses is)) = session.refused is
+  by-cause law old new f' before after e uncut wants by (roomy (fails is why)) = by _ _ _ is (failed law old new false e why uncut).1
+  by-cause law old new f' before after e uncut wants by (no_room is) = wants refl
+
+  -- and this is why
+  pub reason : StreamLaw → (new : Front) (f' : Frontend) (before after : Awaited) (e : declared.Error) → IsUncut (endpoint_of s.frontend) → (e ≡ OutOfMemory → MayWant call s.frontend new)
+      → AsksWithRoom event (ask (remembers s) call) (endpoint_of s.frontend) (remembers s) before (Err e) (endpoint_of new) f' after → Fails call s e
+  reason law new f' before after e uncut wants asks = by-cause law (endpoint_of s.frontend) (endpoint_of new) f' before after e uncut (λ is. may-want new (wants is)) (λ w awaited f is want. wanted e is want) asks
+
+-- there is something where there is something in front
+pub some-first : {A : Type 0} (xs ys : List A) → (xs ≡ [] → ⊥) → has_some (xs ++ ys) ≡ true
+some-first [] ys some = absurd (some refl)
+some-first (x ∷ xs) ys some = refl
+
+-- what failed a session in between failed the one before, where nothing but its places changed
+pub fails-since : (call : FrontendCall PlainHandle) (old mid : Session) (e : declared.Error) → queued mid ≡ queued old → remembers mid ≡ remembers old → (endpoint_of mid.frontend).list ≡ (endpoint_of old.frontend).list
+    → (endpoint_of mid.frontend).broken ≡ (endpoint_of old.frontend).broken → Fails call mid e → Fails call old e
+fails-since call old mid _ queue memory list broken (session.refused is) = session.refused (ap (λ f. ask f call) (sym memory) ∙ is)
+fails-since call old mid _ queue memory list broken (session.no_queue some) = session.no_queue (ap (λ xs. has_some xs) (sym queue) ∙ some)
+fails-since call old mid _ queue memory list broken (session.no_list away) = session.no_list (sym list ∙ away)
+fails-since call old mid _ queue memory list broken (session.no_answer room) = session.no_answer (ap (λ f. makes_room f call) (sym memory) ∙ room)
+fails-since call old mid _ queue memory list broken (session.no_request is) = session.no_request (ap (λ f. ask f call) (sym memory) ∙ is)
+fails-since call old mid _ queue memory list broken (session.was_broken was) = session.was_broken (sym broken ∙ was)
 
 pub by-half : (call : FrontendCall PlainHandle) (old new : Front) (s : Sent) → AsksCall call old (Ok (Some s)) new → AsksHalfWithRoom event call old (Ok s) new
 by-half call old new s (half h) = h

@@ -10,6 +10,7 @@ use Rattle.vhost_message.specs.declared.cause.IoCause.{IoCause}
 use Rattle.vhost_message.specs.declared.cause.IoCause.TheVariants.{Raw}
 use Rattle.vhost_message.specs.declared.errno.TheConstants.{ENOMEM}
 use Rattle.vhost_message.specs.declared.error.Error as declared
+use Rattle.vhost_message.specs.declared.error.Error.TheVariants.{OutOfMemory, SocketRetry, SocketBroken}
 use Rattle.vhost_protocol.specs.Ask.{Asked}
 use Rattle.vhost_protocol.specs.Error.{Error}
 use Rattle.vhost_protocol.specs.FrontendCall.{FrontendCall, Value, Frontend}
@@ -29,7 +30,6 @@ use Rattle.vhost_frontend_core.specs.ValueHalves as halves
 use Rattle.vhost_frontend_core.specs.ValueHalves.{AsksCall, TakesResult}
 use Rattle.vhost_frontend_core.specs.declared.asked.Sent.{Sent}
 use Rattle.vhost_frontend_core.specs.declared.internal.FrontendInternal.{FrontendInternal}
-use Rattle.vhost_c.specs.Session.{IsWant}
 
 abbrev pub End : Type 0
 End = State Ends PlainHandle
@@ -57,8 +57,17 @@ chosen : (b : Bool) (c : IoCause) (o : Option IoCause) → o ≡ cond b (Some c)
 chosen true c o is want x at = cc
 chosen false c o is want x at = cc
 
-error-want : (c : IoCause) → c ≡ Raw ENOMEM → IsWant (error_of c)
-error-want c is = subst (λ x. IsWant (error_of x)) (sym is) refl
+-- Memory was refused to an endpoint: for its list of handles, on its link, or before on its link.
+pub data IsWant (old : End) : declared.Error → Type 0 where
+  list_away : old.list ≡ false → IsWant old OutOfMemory
+  by_link : IsWant old (SocketRetry (Raw ENOMEM))
+  broke_before : old.broken ≡ Some (Raw ENOMEM) → IsWant old (SocketBroken (Raw ENOMEM))
+
+error-want : (old : End) (c : IoCause) → c ≡ Raw ENOMEM → IsWant old (error_of c)
+error-want old c is = subst (λ x. IsWant old (error_of x)) (sym is) by_link
+
+broken-want : (old : End) (c : IoCause) → old.broken ≡ Some c → c ≡ Raw ENOMEM → IsWant old (SocketBroken c)
+broken-want old c was is = subst (λ x. IsWant old (SocketBroken x)) (sym is) (broke_before (was ∙ ap (λ x. Some x) is))
 
 -- where link and breaking are as before
 pub alike : (old new : End) → new.link.script ≡ old.link.script → new.broken ≡ old.broken → IsUncut old → IsUncut new
@@ -76,12 +85,12 @@ module _ (law : StreamLaw) where
   served : (old new : End) (limit : ℕ) (m : Move PlainHandle) → Serves event old limit m new → IsUncut old → IsUncut new
   served old new limit m s u = record { uncut = still old.link new.link s.talks.below s.talks.moved u.uncut; broken = never new.broken s.after }
 
-  pub failed : (old new : End) (between : Bool) (e : declared.Error) → Fails event old between e new → IsUncut old → IsUncut new × IsWant e
-  failed old new between e (was_broken {c = c} is at) u = (alike old new (ap {A = End} (λ s. s.link.script) at) (ap {A = End} (λ s. s.broken) at) u, u.broken c is)
-  failed old new between e (no_memory sound is at) u = (alike old new (ap {A = End} (λ s. s.link.script) at) (ap {A = End} (λ s. s.broken) at) u, tt)
+  pub failed : (old new : End) (between : Bool) (e : declared.Error) → Fails event old between e new → IsUncut old → IsUncut new × IsWant old e
+  failed old new between e (was_broken {c = c} is at) u = (alike old new (ap {A = End} (λ s. s.link.script) at) (ap {A = End} (λ s. s.broken) at) u, broken-want old c is (u.broken c is))
+  failed old new between e (no_memory sound is at) u = (alike old new (ap {A = End} (λ s. s.link.script) at) (ap {A = End} (λ s. s.broken) at) u, list_away is)
   failed old new between e (fault c m unbroken fell failures retries retry short broken faulted rest) u =
       let l = last fell.before new.link c fell.last (still old.link fell.before fell.talks.below fell.talks.moved u.uncut) in
-      (record { uncut = l.1; broken = chosen (between || has_moved m) c new.broken broken l.0 }, error-want c l.0)
+      (record { uncut = l.1; broken = chosen (between || has_moved m) c new.broken broken l.0 }, error-want old c l.0)
 
   asks : (asked : Asked PlainHandle) (old new : End) (f f' : Frontend) (before after : Awaited) (result : Result Sent declared.Error) → AsksWithRoom event asked old f before result new f' after → IsUncut old → IsUncut new
   asks asked old new f f' before after result (roomy (refuses is)) u = u

@@ -9,12 +9,13 @@ use Rattle.vhost_message.specs.FrontendReq.{request_number}
 use Rattle.vhost_message.specs.Header.{header_of}
 use Rattle.vhost_message.specs.MsgHeader.{fields_of}
 use Rattle.vhost_protocol.specs.Ask.{ask, Sends, Refuses}
+use Rattle.vhost_protocol.specs.declared.asked.Awaited.{Awaited}
 use Rattle.vhost_protocol.specs.declared.asked.Awaited.TheVariants.{Nobody}
 use Rattle.vhost_protocol.specs.declared.profile.Profile.{Profile}
 use Rattle.vhost_protocol.specs.declared.profile.Profile.TheVariants.{Standard}
 use Rattle.vhost_protocol.specs.Error.{seen}
 use Rattle.vhost_protocol.specs.FrontendCall.{FrontendCall, SetHdrFlags, Frontend, new_frontend}
-use Rattle.vhost_protocol.specs.Stream.{Cell, first_handles}
+use Rattle.vhost_protocol.specs.Stream.{Cell, first_handles, has_some}
 use Rattle.vhost_protocol.specs.Written.{Written, written_cells, head_of}
 use Rattle.vhost_link.specs.Ends.{Ends}
 use Rattle.vhost_link.specs.declared.plain.PlainHandle.{PlainHandle}
@@ -24,7 +25,7 @@ use Rattle.vhost_frontend_core.specs.Awaiting.{MayAwait}
 use Rattle.vhost_frontend_core.specs.Frontend.{endpoint_of, session_of, awaits}
 use Rattle.vhost_frontend_core.specs.Kept.{IsKeptFor}
 use Rattle.vhost_frontend_core.specs.Values.{call_of, answer_of}
-use Rattle.vhost_frontend_core.specs.ValueHalves.{TakesResult}
+use Rattle.vhost_frontend_core.specs.ValueHalves.{TakesResult, makes_room}
 use Rattle.vhost_frontend_core.specs.declared.asked.Sent.{Sent}
 use Rattle.vhost_frontend_core.specs.declared.internal.FrontendInternal.{FrontendInternal}
 use Rattle.vhost_frontend_core.specs.declared.values.answer.FrontendAnswer.{FrontendAnswer}
@@ -98,17 +99,19 @@ pub data Asks (call : FrontendCall PlainHandle) (old new : Session) : Type 0 whe
   at_once : (flags : ℕ) → call ≡ SetHdrFlags flags → remembers new ≡ record (remembers old) { header_flags = flags } → queued new ≡ queued old → new.asked ≡ old.asked → new.incoming ≡ old.incoming → new.answer ≡ old.answer
       → Asks call old new
 
--- memory was refused: now, or before on the link, which broke the session
-abbrev pub IsWant : declared.Error → Type 0
-IsWant OutOfMemory = ⊤
-IsWant (SocketRetry c) = c ≡ Raw ENOMEM
-IsWant (SocketBroken c) = c ≡ Raw ENOMEM
-IsWant _ = ⊥
-
 -- Why a call was not asked: its own tests say so; or memory was refused.
-pub data Fails (call : FrontendCall PlainHandle) (f : Frontend) : declared.Error → Type 0 where
-  refused : {e : declared.Error} → ask f call ≡ Refuses (seen e) → Fails call f e
-  want : {e : declared.Error} → IsWant e → Fails call f e
+pub data Fails (call : FrontendCall PlainHandle) (s : Session) : declared.Error → Type 0 where
+  refused : {e : declared.Error} → ask (remembers s) call ≡ Refuses (seen e) → Fails call s e
+  -- for what still waits to be sent, behind which the request goes
+  no_queue : has_some (queued s) ≡ true → Fails call s OutOfMemory
+  -- for the list of handles, which the descriptors of an answer took away
+  no_list : (endpoint_of s.frontend).list ≡ false → Fails call s OutOfMemory
+  -- for the answer of a call that makes room for it
+  no_answer : makes_room (remembers s) call ≡ true → Fails call s OutOfMemory
+  -- for the request
+  no_request : {w : Written FrontendReq PlainHandle} {awaited : Awaited} {f : Frontend} → ask (remembers s) call ≡ Sends w awaited f → Fails call s (SocketRetry (Raw ENOMEM))
+  -- for a part of an earlier message, which broke the session
+  was_broken : (endpoint_of s.frontend).broken ≡ Some (Raw ENOMEM) → Fails call s (SocketBroken (Raw ENOMEM))
 
 -- What is remembered, what is asked, what came of its answer and the answer that was taken last are as before.
 pub record Rests (old new : Session) : Type 0 where
@@ -125,7 +128,7 @@ pub record Stays (old new : Session) : Type 0 where
 -- Why a session refused to ask: the answer before is still to be taken; or the call failed.
 pub data Refused (call : FrontendCall PlainHandle) (s : Session) : Refusal → Type 0 where
   busy : is_some s.asked ≡ true → Refused call s NotTaken
-  fails : {e : declared.Error} → Fails call (remembers s) e → Refused call s (Protocol e)
+  fails : {e : declared.Error} → Fails call s e → Refused call s (Protocol e)
 
 -- What becomes of a call.
 abbrev pub Becomes : FrontendCall PlainHandle → Session → Result ⊤ Refusal → Session → Type 0

@@ -1,6 +1,6 @@
 //! What goes between a frontend's link and its caller.
 
-ghost use Rattle.std.specs.Prelude.{◌≡◌, ◌≤◌, ◌++◌, [], length, OnOk, OnErr, IfErr};
+ghost use Rattle.std.specs.Prelude.{◌≡◌, ◌≤◌, ◌++◌, [], length, OnOk, OnErr, IfErr, IsOk};
 ghost use Rattle.vhost_message.specs.declared.error.Error.TheVariants.{OutOfMemory};
 ghost use Rattle.vhost_message.specs.declared.limits.TheConstants.{MAX_ATTACHED_FD_ENTRIES};
 ghost use Rattle.vhost_protocol.specs.Stream.{carrying};
@@ -17,7 +17,7 @@ use vhost_message::Result;
 
 /// What a frontend sent goes behind what is to be sent.
 ///
-/// OutOfMemory: an allocation failed, and nothing changed.
+/// OutOfMemory: there was something to be sent before, an allocation failed, and nothing changed.
 pub(crate) fn collect(
     frontend: &mut FrontendInternal<MemLink>,
     outgoing: &mut MemLink,
@@ -25,6 +25,7 @@ pub(crate) fn collect(
     ensures collected { OnOk result (Collects (endpoint_of frontend.old) (endpoint_of frontend.new) outgoing.old.pending outgoing.new.pending) }
     ensures refused { OnErr result ((endpoint_of frontend.new ≡ endpoint_of frontend.old) × (outgoing.new ≡ outgoing.old)) }
     ensures memory { IfErr result (λ e. e ≡ OutOfMemory) }
+    ensures succeeds { outgoing.old.pending ≡ [] → IsOk result }
     ensures rest { (session_of frontend.new ≡ session_of frontend.old) × (awaits frontend.new ≡ awaits frontend.old) }
 {
     carry_out(frontend.endpoint_mut(), outgoing)

@@ -92,8 +92,9 @@ impl Session {
     /// Asks. What is to be sent then waits to be handed out.
     ///
     /// NotTaken: the answer of the call before is still to be decoded. The errors of the call's own tests. OutOfMemory: an
-    /// allocation failed; SocketRetry, SocketBroken: one of the link's failed, now or before. After each, nothing more is
-    /// to be sent than before.
+    /// allocation failed, where something still waits to be sent, where the descriptors of an answer took the buffer for
+    /// them away, or for the answer of a call that makes room for it; SocketRetry, SocketBroken: one of the link's failed,
+    /// now or before. After each, nothing more is to be sent than before.
     pub(crate) fn ask(&mut self, call: FrontendCall) -> Outcome<()>
         ensures { Asking (call_of call) self.old result self.new }
     {
@@ -129,7 +130,7 @@ impl Session {
         requires none_ahead { (endpoint_of self.old.frontend).ahead ≡ [] }
         ensures asked { IfOk result (λ _. Asks (call_of call) self.old self.new) }
         ensures refused { IfErr result (λ _. Stays self.old self.new) }
-        ensures reason { IfErr result (λ e. Fails (call_of call) (remembers self.old) e) }
+        ensures reason { IfErr result (λ e. Fails (call_of call) self.old e) }
     {
         stream_law();
         talks_law();

@@ -3,13 +3,12 @@ use Rattle.std.specs.Prelude.{is_some}
 use Rattle.vhost_frontend_core.specs.Values.{call_of}
 use Rattle.vhost_frontend_core.specs.Frontend.{endpoint_of}
 use Rattle.vhost_message.specs.declared.error.Error as declared
-use Rattle.vhost_protocol.specs.FrontendCall.{Frontend}
 use Rattle.vhost_link.specs.Ends.{Ends}
 use Rattle.vhost_link.specs.declared.plain.PlainHandle.{PlainHandle}
 use Rattle.vhost_connection.specs.Talk.{State}
 use Rattle.vhost_c_common.specs.Carrying.{emptied}
-use Rattle.vhost_c.specs.Session.{Fails, want, busy, fails, remembers}
-use Rattle.vhost_c.proofs.Asking.{asks-since, stays-since, collected}
+use Rattle.vhost_c.specs.Session.{Fails, no_queue, busy, fails}
+use Rattle.vhost_c.proofs.Asking.{asks-since, stays-since, some-first, fails-since, collected}
 use Rattle.vhost_c.proofs.session.Session.ask_in_turn.Goals as goal
 
 -- nothing is there where it is not something
@@ -25,7 +24,8 @@ returns-then-is_some c = (busy (sym c.is_some.ensures ∙ c.if-is_some.true), re
 
 pub returns-in-Err : goal.returns-in-Err
 returns-in-Err c = (
-  fails (subst {A = declared.Error} (λ e. Fails (call_of c.args.call) (remembers c.args.self.now) e) (sym c.in-Err.ensures.memory) (want tt)),
+  fails (subst {A = declared.Error} (λ e. Fails (call_of c.args.call) c.args.self.now e) (sym c.in-Err.ensures.memory)
+      (no_queue (some-first c.args.self.now.outgoing.link.pending (endpoint_of c.args.self.now.frontend).link.sent (λ none. cc (c.in-Err.ensures.succeeds none))))),
   record { queue = λ i. (c.in-Err.ensures.refused.1 i).pending ++ (c.in-Err.ensures.refused.0 i).link.sent; rest = record { memory = c.in-Err.ensures.rest.0; asked = refl; incoming = refl; answer = refl } },
 )
 
@@ -36,7 +36,11 @@ returns-in-Ok-ask_now c =
 
 pub returns-in-Err-ask_now : goal.returns-in-Err-ask_now
 returns-in-Err-ask_now c = (
-  fails (subst {A = Frontend} (λ f. Fails (call_of c.args.call) f c.in-Err-ask_now.error) (c.forget_arrived.ensures.rest.0 ∙ c.in-Ok.ensures.rest.0) c.in-Err-ask_now.ensures.reason),
+  fails (fails-since (call_of c.args.call) c.args.self.now _ c.in-Err-ask_now.error
+      (collected c.args.self.now.outgoing.link.pending (endpoint_of c.args.self.now.frontend).link.sent _ _ c.in-Ok.ensures.collected.got (ap {A = State Ends PlainHandle} (λ e. e.link.sent) (c.forget_arrived.ensures.forgotten ∙ ap {A = State Ends PlainHandle} emptied c.in-Ok.ensures.collected.given)))
+      (c.forget_arrived.ensures.rest.0 ∙ c.in-Ok.ensures.rest.0)
+      (ap {A = State Ends PlainHandle} (λ e. e.list) (c.forget_arrived.ensures.forgotten ∙ ap {A = State Ends PlainHandle} emptied c.in-Ok.ensures.collected.given))
+      (ap {A = State Ends PlainHandle} (λ e. e.broken) (c.forget_arrived.ensures.forgotten ∙ ap {A = State Ends PlainHandle} emptied c.in-Ok.ensures.collected.given)) c.in-Err-ask_now.ensures.reason),
   stays-since _ _ _ (collected c.args.self.now.outgoing.link.pending (endpoint_of c.args.self.now.frontend).link.sent _ _ c.in-Ok.ensures.collected.got (ap {A = State Ends PlainHandle} (λ e. e.link.sent) (c.forget_arrived.ensures.forgotten ∙ ap {A = State Ends PlainHandle} emptied c.in-Ok.ensures.collected.given)))
       (record { memory = c.forget_arrived.ensures.rest.0 ∙ c.in-Ok.ensures.rest.0; asked = refl; incoming = refl; answer = refl }) c.in-Err-ask_now.ensures.refused,
 )

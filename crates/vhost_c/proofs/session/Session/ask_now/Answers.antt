@@ -17,7 +17,7 @@ use Rattle.vhost_frontend_core.proofs.Awaiting.{may-await-with-room}
 use Rattle.vhost_c.specs.Awaiting.{awaited_of}
 use Rattle.vhost_c.specs.Session.{sent, at_once}
 use Rattle.vhost_c.specs.declared.session.Asked.{Asked}
-use Rattle.vhost_c.proofs.Asking.{Front, cells, came-before, asked-so, stayed, by-half, by-refusal, by-flags, behind}
+use Rattle.vhost_c.proofs.Asking.{Front, cells, came-before, asked-so, stayed, reason, by-half, by-refusal, by-flags, behind}
 use Rattle.vhost_c.proofs.Wants.{alike, asks-call}
 use Rattle.vhost_c.proofs.session.Session.ask_now.Goals as goal
 
@@ -71,13 +71,14 @@ returns-in-Ok-None-clause-asked c =
 pub returns-in-Err-clause-refused : goal.returns-in-Err-clause-refused
 returns-in-Err-clause-refused c =
     let old = c.args.self.now.frontend in let new = c.ask.new.frontend in
-    let s = stayed c.stream_law.ensures.stream (call_of c.args.call) (endpoint_of old) (endpoint_of new) (session_of old) (session_of new) (awaits old) (awaits new) c.in-Err.error (record { uncut = c.args.self.now.uncut; broken = c.args.self.now.broken }) (by-refusal (call_of c.args.call) old new c.in-Err.error c.in-Err.ensures.asked) in
+    let s = stayed (call_of c.args.call) (endpoint_of old) (endpoint_of new) (session_of old) (session_of new) (awaits old) (awaits new) c.in-Err.error (by-refusal (call_of c.args.call) old new c.in-Err.error c.in-Err.ensures.asked) in
     record {
       queue = ap {A = List (Cell PlainHandle)} (λ xs. c.args.self.now.outgoing.link.pending ++ xs) (ap {A = State Ends PlainHandle} (λ e. e.link.sent) c.forget.ensures.forgotten ∙ sym c.requires.unsent);
-      rest = record { memory = c.forget.ensures.rest.0 ∙ s.0; asked = refl; incoming = refl; answer = refl };
+      rest = record { memory = c.forget.ensures.rest.0 ∙ s; asked = refl; incoming = refl; answer = refl };
     }
 
 pub returns-in-Err-clause-reason : goal.returns-in-Err-clause-reason
 returns-in-Err-clause-reason c =
     let old = c.args.self.now.frontend in let new = c.ask.new.frontend in
-    (stayed c.stream_law.ensures.stream (call_of c.args.call) (endpoint_of old) (endpoint_of new) (session_of old) (session_of new) (awaits old) (awaits new) c.in-Err.error (record { uncut = c.args.self.now.uncut; broken = c.args.self.now.broken }) (by-refusal (call_of c.args.call) old new c.in-Err.error c.in-Err.ensures.asked)).1
+    reason (call_of c.args.call) c.args.self.now c.stream_law.ensures.stream new (session_of new) (awaits old) (awaits new) c.in-Err.error (record { uncut = c.args.self.now.uncut; broken = c.args.self.now.broken }) c.in-Err.ensures.memory
+    (by-refusal (call_of c.args.call) old new c.in-Err.error c.in-Err.ensures.asked)
