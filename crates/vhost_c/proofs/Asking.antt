@@ -19,10 +19,10 @@ use Rattle.vhost_connection.specs.Talk.{State}
 use Rattle.vhost_frontend_core.specs.Asking as core
 use Rattle.vhost_frontend_core.specs.Asking.{AsksWithRoom, roomy, no_room, goes, fails}
 use Rattle.vhost_frontend_core.specs.Frontend.{endpoint_of, session_of, awaits}
-use Rattle.vhost_frontend_core.specs.Halves.{AsksHalfWithRoom}
+use Rattle.vhost_frontend_core.specs.Halves.{AsksHalfWithRoom, makes_room}
 use Rattle.vhost_frontend_core.specs.declared.asked.Sent.{Sent}
 use Rattle.vhost_frontend_core.specs.declared.internal.FrontendInternal.{FrontendInternal}
-use Rattle.vhost_frontend_core.specs.ValueHalves.{AsksCall, MayWant, makes_room, half, refused, at_once}
+use Rattle.vhost_frontend_core.specs.ValueHalves.{AsksCall, MayWant, half, refused, at_once}
 use Rattle.vhost_c.specs.Session.{Asks, sent, Stays, Rests, Fails, queued, remembers}
 use Rattle.vhost_c.specs.declared.session.Session.{Session}
 use Rattle.vhost_c.specs.Session as session

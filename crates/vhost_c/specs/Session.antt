@@ -25,7 +25,8 @@ use Rattle.vhost_frontend_core.specs.Awaiting.{MayAwait}
 use Rattle.vhost_frontend_core.specs.Frontend.{endpoint_of, session_of, awaits}
 use Rattle.vhost_frontend_core.specs.Kept.{IsKeptFor}
 use Rattle.vhost_frontend_core.specs.Values.{call_of, answer_of}
-use Rattle.vhost_frontend_core.specs.ValueHalves.{TakesResult, makes_room}
+use Rattle.vhost_frontend_core.specs.Halves.{makes_room}
+use Rattle.vhost_frontend_core.specs.ValueHalves.{TakesResult}
 use Rattle.vhost_frontend_core.specs.declared.asked.Sent.{Sent}
 use Rattle.vhost_frontend_core.specs.declared.internal.FrontendInternal.{FrontendInternal}
 use Rattle.vhost_frontend_core.specs.declared.values.answer.FrontendAnswer.{FrontendAnswer}

@@ -7,7 +7,8 @@ use Rattle.vhost_protocol.specs.FrontendCall.{FrontendCall}
 use Rattle.vhost_link.specs.Ends.{Ends}
 use Rattle.vhost_link.specs.declared.plain.PlainHandle.{PlainHandle}
 use Rattle.vhost_frontend_core.specs.Frontend.{endpoint_of, session_of}
-use Rattle.vhost_frontend_core.specs.ValueHalves.{MayWant, WantsFor, makes_room}
+use Rattle.vhost_frontend_core.specs.Halves.{makes_room}
+use Rattle.vhost_frontend_core.specs.ValueHalves.{MayWant, WantsFor}
 use Rattle.vhost_frontend_core.specs.declared.asked.Sent.{Sent}
 use Rattle.vhost_frontend_core.specs.declared.internal.FrontendInternal.{FrontendInternal}
 

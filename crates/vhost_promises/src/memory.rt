@@ -2,7 +2,7 @@
 
 ghost use Rattle.std.specs.Prelude.{◌≡◌, ◌≢◌, IfErr, IsOk, IfSome, None, true, false};
 ghost use Rattle.vhost_frontend_core.specs.Frontend.{MayAsk, endpoint_of, session_of};
-ghost use Rattle.vhost_frontend_core.specs.ValueHalves.{makes_room};
+ghost use Rattle.vhost_frontend_core.specs.Halves.{makes_room};
 ghost use Rattle.vhost_frontend_core.specs.Values.{call_of};
 ghost use Rattle.vhost_message.specs.declared.error.Error.TheVariants.{OutOfMemory};
 ghost use Rattle.vhost_promises.specs.Memory.{IsBefore, MakesNoRoom};
