@@ -9,7 +9,7 @@ use vhost_backend_req_handler::SessionCore;
 use vhost_device::VhostUserBackendReqHandlerMut;
 use vhost_dummy_backend::DummyBackendReqHandler;
 use vhost_frontend::Frontend;
-use vhost_link::{Hub, Link, SharedLink};
+use vhost_link::{Hub, Link, PlainHandle, SharedLink};
 use vhost_message::{Error, MAX_ATTACHED_FD_ENTRIES};
 
 /// How many retries a message may use: a ring is full until the other side has received.
@@ -68,7 +68,7 @@ fn serve_with<L: Link, D: VhostUserBackendReqHandlerMut<Link = L>>(
 }
 
 /// The same over an example device.
-fn serve<L: Link>(link: L, alloc: Global) -> Result<(), Error> {
+fn serve<L: Link<Handle = PlainHandle>>(link: L, alloc: Global) -> Result<(), Error> {
     serve_with(
         link,
         alloc,
