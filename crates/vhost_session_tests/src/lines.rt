@@ -57,7 +57,7 @@ fn run<I: BufRead, W: Write, E: Write>(
 }
 
 /// Whether an input that breaks off shows what came before, and tells why.
-fn torn(alloc: Global) -> Option<[bool; 3]> {
+fn shows_what_came(alloc: Global) -> Option<[bool; 3]> {
     let torn = Torn {
         left: b"get_features\nset_own",
     };
@@ -73,7 +73,7 @@ fn torn(alloc: Global) -> Option<[bool; 3]> {
 
 #[test]
 fn torn_input(rt: HostRuntime) {
-    assert!(rt; torn(rt.alloc()) == Some([true; 3]));
+    assert!(rt; shows_what_came(rt.alloc()) == Some([true; 3]));
 }
 
 /// The status of a run of one good line over an output with so much room, and what it tells.
