@@ -331,6 +331,8 @@ def replaced_path(path):
     for other in "file", "socket":
         daemon = Daemon(path, "2")
         first = connect(path)
+        # (once it serves it knows which socket at the path is its own)
+        ask(first)
         os.rename(path, path + ".own")
         if other == "file":
             pathlib.Path(path).write_text("kept")
@@ -342,7 +344,8 @@ def replaced_path(path):
         last = connect(path + ".own")
         first.close()
         last.close()
-        same(daemon.end(), (0, "".join(f"session {i}: 0 requests, end Disconnected\n" for i in (1, 2)), ""))
+        ends = "".join(f"session {i}: {count} requests, end Disconnected\n" for i, count in ((1, 1), (2, 0)))
+        same(daemon.end(), (0, ends, ""))
         if other == "file":
             same(pathlib.Path(path).read_text(), "kept")
         else:
