@@ -130,19 +130,21 @@ fn no_message(rt: HostRuntime) {
     assert!(rt; none_found(rt.alloc()) == Some(true));
 }
 
-/// Whether a request that is served in two halves is answered, and acknowledged, and a new session has no call before it.
-fn in_halves(alloc: Global) -> Option<[bool; 3]> {
+/// Whether a request that is served in two halves is answered, and acknowledged. None where a new session has a call before it.
+fn in_halves(alloc: Global) -> Option<[bool; 2]> {
     let mut core = new_core(alloc, &ADD, Vec::new(alloc))?;
     core.set_reply_ack_flag(true);
-    let is_new = !core.has_call();
+    if core.has_call() {
+        return None;
+    }
     let answer = answers_by_halves(&mut core, &mut Five);
     let written = core.endpoint_mut().link().taken().bytes() == ADDED.as_slice();
-    Some([is_new, matches!(answer, Ok(5)), written])
+    Some([matches!(answer, Ok(5)), written])
 }
 
 #[test]
 fn one_in_halves(rt: HostRuntime) {
-    assert!(rt; in_halves(rt.alloc()) == Some([true; 3]));
+    assert!(rt; in_halves(rt.alloc()) == Some([true; 2]));
 }
 
 /// Has none of the calls.
