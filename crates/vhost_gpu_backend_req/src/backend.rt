@@ -27,6 +27,49 @@ struct Shared<L: Link> {
     budget: Snapshot<u32>,
 }
 
+/// A channel that is not shared yet, and what it was opened with.
+#[derive(Drop)]
+struct Unshared<L: Link> {
+    channel: BackendInternal<L>,
+    link: Snapshot<L>,
+    budget: Snapshot<u32>,
+}
+
+impl<L: Link> Unshared<L> {
+    ghost use Rattle.vhost_gpu_backend_req.specs.Channel.{channel, opened};
+
+    /// Opens a channel over a link, with a retry limit.
+    ///
+    /// OutOfMemory: an allocation failed.
+    fn new(alloc: Global, link: L, budget: u32) -> Result<Self>
+        ensures own { IfOk result (λ new. channel new.channel ≡ opened new.link.value new.budget.value) }
+        ensures over { IfOk result (λ new. (new.link.value ≡ link) × (new.budget.value ≡ budget)) }
+        ensures memory { IfErr result (λ e. e ≡ OutOfMemory) }
+    {
+        Ok(Unshared {
+            link: Snapshot::of(&link),
+            budget: Snapshot::of(&budget),
+            channel: BackendInternal::from_stream(alloc, link, budget)?,
+        })
+    }
+
+    /// Puts the channel behind its lock.
+    fn share(self) -> Shared<L>
+        ensures { (result.link.value ≡ self.link.value) × (result.budget.value ≡ self.budget.value) }
+    {
+        let Unshared {
+            channel,
+            link,
+            budget,
+        } = self;
+        Shared {
+            channel: Mutex::new(channel),
+            link,
+            budget,
+        }
+    }
+}
+
 /// The vhost-user-gpu channel, which a device is given by VHOST_USER_GPU_SET_SOCKET. It can be shared: clones are the same
 /// channel. Each call is that of `BackendInternal`, whole in one turn with the lock: also a failure is that of the channel
 /// which it found there.
@@ -49,11 +92,7 @@ impl<L: Link> GpuBackend<L> {
         ensures opened { IfOk result (λ channel. IsOver channel link budget) }
         ensures memory { IfErr result (λ e. e ≡ OutOfMemory) }
     {
-        let shared = Shared {
-            link: Snapshot::of(&link),
-            budget: Snapshot::of(&budget),
-            channel: Mutex::new(BackendInternal::from_stream(alloc, link, budget)?),
-        };
+        let shared = Unshared::new(alloc, link, budget)?.share();
         match Arc::new(alloc, shared) {
             Ok(inner) => Ok(GpuBackend { inner }),
             Err(_) => Err(Error::OutOfMemory),
