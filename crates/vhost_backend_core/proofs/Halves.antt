@@ -3,13 +3,14 @@ use Rattle.std.proofs.Common.{◌≡◌, ℕ, true, false, List, [], ◌∷◌, 
 use Rattle.std.specs.Prelude.{Bool, Option, Some, None}
 use Rattle.vhost_message.specs.declared.frontend_req.FrontendReq.{FrontendReq}
 use Rattle.vhost_message.specs.declared.records.memory.VhostUserMemoryRegion.{VhostUserMemoryRegion}
-use Rattle.vhost_protocol.specs.Answered.{with_bases}
+use Rattle.vhost_protocol.specs.Answered.{with_bases, with_features}
 use Rattle.vhost_protocol.specs.Error.{Error}
 use Rattle.vhost_protocol.specs.Session.{Session}
 use Rattle.vhost_protocol.specs.Split.{Message}
-use Rattle.vhost_protocol.specs.Step.{Step, Outcome, with_ack}
+use Rattle.vhost_protocol.specs.Step.{Step, Outcome, replied_or_silent, with_ack}
+use Rattle.vhost_protocol.specs.Written.{U64}
 use Rattle.vhost_backend_core.specs.Beginning.{regions_in, step_of, with_one, with_wanted}
-use Rattle.vhost_backend_core.specs.Concluding.{Beside, FollowsFrom, bases_in, concluded, regions_beside, then_of, wanting, with_counted}
+use Rattle.vhost_backend_core.specs.Concluding.{Beside, FollowsFrom, bases_in, if_offered, number_in, concluded, regions_beside, then_of, wanting, with_counted}
 use Rattle.vhost_backend_core.specs.declared.answer.DeviceAnswer.{DeviceAnswer}
 use Rattle.vhost_backend_core.specs.declared.call.DeviceCall.{DeviceCall}
 use Rattle.vhost_backend_core.specs.declared.call.DeviceCall.TheVariants as call
@@ -33,12 +34,17 @@ counted s m regions (Ok (Some bases)) = refl
 counted s m regions (Ok None) = refl
 counted s m regions (Err e) = refl
 
+-- an offer is remembered, and replied
+offered : {H : Type 0} (s : Session) (a : Result ℕ Error) → replied_or_silent {H = H} (if_offered s a) U64 a ≡ with_features s a
+offered s (Ok n) = refl
+offered s (Err e) = refl
+
 module _ {H : Type 0} (B G : Type 0) (s : Session) (m : Message FrontendReq H) (b : Beside) (d : DeviceAnswer H) where
   pub concludes : (c : DeviceCall) → b.regions ≡ regions_beside c → FollowsFrom s b d (step_of {B = B} {G = G} s m c) (concluded s m.need_reply b (then_of c) d)
   concludes call.SetOwner e = refl
   concludes call.ResetOwner e = refl
   concludes call.ResetDevice e = refl
-  concludes call.GetFeatures e = refl
+  concludes call.GetFeatures e = offered s (number_in d)
   concludes (call.SetFeatures n) e = refl
   concludes (call.SetMemTable t true) e =
       let n = sym (length_regions t.count t.bytes.now) in

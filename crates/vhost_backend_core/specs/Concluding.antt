@@ -8,7 +8,7 @@ use Rattle.vhost_message.specs.declared.records.inflight.VhostUserInflight.{Vhos
 use Rattle.vhost_message.specs.declared.records.memory.VhostUserMemoryRegion.{VhostUserMemoryRegion}
 use Rattle.vhost_message.specs.declared.records.shmem.VhostUserShMemConfig.{VhostUserShMemConfig}
 use Rattle.vhost_message.specs.declared.records.vring.VhostUserVringState.{VhostUserVringState}
-use Rattle.vhost_protocol.specs.Answered.{rebased, with_base, with_config, with_handle, with_inflight, with_state, with_check, with_features, if_agreed}
+use Rattle.vhost_protocol.specs.Answered.{rebased, with_base, with_config, with_handle, with_inflight, with_state, with_check, if_agreed}
 use Rattle.vhost_protocol.specs.DeviceCall as device
 use Rattle.vhost_protocol.specs.DeviceCall.{Call, Answer}
 use Rattle.vhost_protocol.specs.Error.{Error, BackendInternalError, seen, seen_result}
@@ -139,9 +139,9 @@ verdict_in d verdict.Fine = Ok tt
 verdict_in d verdict.Device = device_in d
 verdict_in d verdict.Internal = Err BackendInternalError
 
--- what a call became
-abbrev pub outcome_in : {H : Type 0} → Beside → DeviceAnswer H → Conclusion H → Outcome H
-outcome_in b d c = record { answer = verdict_in d c.verdict; served = served_in b c.told; session = session_of c.session }
+-- what a call became, where this is the session from then on
+abbrev pub outcome_in : {H : Type 0} → Session → Beside → DeviceAnswer H → Conclusion H → Outcome H
+outcome_in s b d c = record { answer = verdict_in d c.verdict; served = served_in b c.told; session = s }
 
 -- an acknowledgement, where acknowledgements are on and it is wanted
 abbrev pub told_if : {H : Type 0} → (on wanted agreed : Bool) → Told H
@@ -152,6 +152,11 @@ told_if _ _ agreed = told.Silent
 abbrev pub wanting : {H : Type 0} → Bool → Message FrontendReq H
 wanting need_reply = record { request = GET_FEATURES; reply = false; need_reply = need_reply; body = []; handles = [] }
 
+-- the number is remembered as offered, where there is one
+abbrev pub if_offered : Session → Result ℕ Error → Session
+if_offered s (Ok n) = record s { offered = n }
+if_offered s (Err e) = s
+
 -- the bases are the reply, one for each of so many regions
 abbrev pub with_counted : {H : Type 0} → Session → Message FrontendReq H → List VhostUserMemoryRegion → ℕ → Result (Option (List ℕ)) Error → Outcome H
 with_counted s m regions count (Ok (Some bases)) =
@@ -159,30 +164,44 @@ with_counted s m regions count (Ok (Some bases)) =
 with_counted s m regions count (Ok None) = failed_with s m BackendInternalError
 with_counted s m regions count (Err e) = failed_with s m e
 
+-- what the session remembers of an answer, however that is reported
+abbrev pub remembered : {H : Type 0} → Session → Then → DeviceAnswer H → Session
+remembered s (then_.AckFeatures n) d = record s { acked = n }
+remembered s (then_.AckProtocolFeatures n) d = record s { acked_protocol_features = n }
+remembered s then_.AckListen d = if_agreed s Listen (done_in d)
+remembered s then_.AckEnd d = record s { postcopy = End }
+remembered s then_.Offers d = if_offered s (number_in d)
+remembered s then_.HandleAdvise d = if_agreed s Advise (handle_in d)
+remembered s _ d = s
+
+-- how an answer is reported, by the session that remembers what it has to
+abbrev pub reported : {H : Type 0} → Session → Bool → Beside → Then → DeviceAnswer H → Outcome H
+reported s need b then_.Ack d = with_ack s (wanting need) (done_in d)
+reported s need b then_.AckTable d = with_ack s (wanting need) (bases_in d)
+reported s need b then_.AckRegion d = with_ack s (wanting need) (base_in d)
+reported s need b (then_.AckFeatures n) d = with_ack s (wanting need) (done_in d)
+reported s need b (then_.AckProtocolFeatures n) d = with_ack s (wanting need) (done_in d)
+reported s need b then_.AckListen d = with_ack s (wanting need) (done_in d)
+reported s need b then_.AckEnd d = with_ack s (wanting need) (done_in d)
+reported s need b then_.Offers d = replied_or_silent s payload.U64 (number_in d)
+reported s need b then_.OffersProtocol d = replied_or_silent s (λ n. payload.U64 (bit_or n (2 ^ REPLY_ACK))) (number_in d)
+reported s need b then_.Number d = replied_or_silent s payload.U64 (number_in d)
+reported s need b then_.RingState d = replied_or_silent s payload.RingState (ring_state_in d)
+reported s need b (then_.Config a) d = with_config s a.config (bytes_in d)
+reported s need b then_.Handle d = with_handle s (handle_in d)
+reported s need b then_.HandleAdvise d = with_handle s (handle_in d)
+reported s need b then_.Inflight d = with_inflight s (inflight_in d)
+reported s need b then_.StateHandle d = with_state s (state_handle_in d)
+reported s need b then_.Check d = with_check s (done_in d)
+reported s need b then_.Shmem d = replied_or_silent s payload.Shmem (shmem_in b d)
+reported s need b (then_.Log l) d = replied_or_silent s (λ u. payload.LogArea l) (done_in d)
+reported s need b (then_.Base r) d = with_base s (wanting need) r (base_in d)
+reported s need b (then_.Bases n) d = with_counted s (wanting need) b.regions n (bases_in d)
+reported s need b then_.Unwritten d = unwritten s (done_in d)
+
 -- what follows from an answer
 abbrev pub concluded : {H : Type 0} → Session → Bool → Beside → Then → DeviceAnswer H → Outcome H
-concluded s need b then_.Ack d = with_ack s (wanting need) (done_in d)
-concluded s need b then_.AckTable d = with_ack s (wanting need) (bases_in d)
-concluded s need b then_.AckRegion d = with_ack s (wanting need) (base_in d)
-concluded s need b (then_.AckFeatures n) d = with_ack (record s { acked = n }) (wanting need) (done_in d)
-concluded s need b (then_.AckProtocolFeatures n) d = with_ack (record s { acked_protocol_features = n }) (wanting need) (done_in d)
-concluded s need b then_.AckListen d = with_ack (if_agreed s Listen (done_in d)) (wanting need) (done_in d)
-concluded s need b then_.AckEnd d = with_ack (record s { postcopy = End }) (wanting need) (done_in d)
-concluded s need b then_.Offers d = with_features s (number_in d)
-concluded s need b then_.OffersProtocol d = replied_or_silent s (λ n. payload.U64 (bit_or n (2 ^ REPLY_ACK))) (number_in d)
-concluded s need b then_.Number d = replied_or_silent s payload.U64 (number_in d)
-concluded s need b then_.RingState d = replied_or_silent s payload.RingState (ring_state_in d)
-concluded s need b (then_.Config a) d = with_config s a.config (bytes_in d)
-concluded s need b then_.Handle d = with_handle s (handle_in d)
-concluded s need b then_.HandleAdvise d = with_handle (if_agreed s Advise (handle_in d)) (handle_in d)
-concluded s need b then_.Inflight d = with_inflight s (inflight_in d)
-concluded s need b then_.StateHandle d = with_state s (state_handle_in d)
-concluded s need b then_.Check d = with_check s (done_in d)
-concluded s need b then_.Shmem d = replied_or_silent s payload.Shmem (shmem_in b d)
-concluded s need b (then_.Log l) d = replied_or_silent s (λ u. payload.LogArea l) (done_in d)
-concluded s need b (then_.Base r) d = with_base s (wanting need) r (base_in d)
-concluded s need b (then_.Bases n) d = with_counted s (wanting need) b.regions n (bases_in d)
-concluded s need b then_.Unwritten d = unwritten s (done_in d)
+concluded s need b t d = reported (remembered s t d) need b t d
 
 -- ---- the same as the definitions
 

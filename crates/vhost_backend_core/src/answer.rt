@@ -3,7 +3,6 @@
 ghost use Rattle.std.specs.Prelude.{◌≡◌, length};
 
 use crate::call::Area;
-use crate::session::Session;
 use std::alloc::AllocError;
 use vhost_message::{
     Result, VhostUserConfig, VhostUserInflight, VhostUserLog, VhostUserSingleMemoryRegion,
@@ -153,10 +152,9 @@ pub enum Verdict {
     Internal,
 }
 
-/// What a call became: the session's answer, what is replied, and the session from then on.
+/// What a call became: the session's answer, and what is replied.
 #[derive(Clone, Copy)]
 pub struct Conclusion<'t, H> {
     pub verdict: Verdict,
     pub told: Told<'t, H>,
-    pub session: Session,
 }

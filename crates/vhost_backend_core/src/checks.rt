@@ -77,7 +77,7 @@ impl<H: Drop> Checks<H> {
     }
 
     /// InvalidParam: the number of a flag is neither 0 nor 1.
-    pub(crate) fn switch(num: u32) -> Result<()>
+    pub(crate) fn check_flag_number(num: u32) -> Result<()>
         ensures { test (nat_le num 1) (silently {H = H} InvalidParam) ≡ tested result }
     {
         if num > 1 {
@@ -87,7 +87,7 @@ impl<H: Drop> Checks<H> {
     }
 
     /// The number in 16 bits. InvalidParam: it needs more.
-    pub(crate) fn short(number: u64) -> Result<u16>
+    pub(crate) fn to_u16(number: u64) -> Result<u16>
         ensures fits { IfOk result (λ n. (n ≡ number) × (test (nat_le number 65535) (silently {H = H} InvalidParam) ≡ Ok tt)) }
         ensures great { IfErr result (λ e. test (nat_le number 65535) (silently {H = H} InvalidParam) ≡ tested (Err e)) }
     {
@@ -98,7 +98,7 @@ impl<H: Drop> Checks<H> {
     }
 
     /// FrontendInternalError: the number is not 0.
-    pub(crate) fn zero(number: u64) -> Result<()>
+    pub(crate) fn check_zero(number: u64) -> Result<()>
         ensures { test (number == 0) (silently {H = H} FrontendInternalError) ≡ tested result }
     {
         if number != 0 {
@@ -108,7 +108,7 @@ impl<H: Drop> Checks<H> {
     }
 
     /// InvalidMessage: the message is not valid.
-    pub(crate) fn valid(valid: bool) -> Result<()>
+    pub(crate) fn check_valid(valid: bool) -> Result<()>
         ensures { test valid (silently {H = H} InvalidMessage) ≡ tested result }
     {
         if !valid {
@@ -118,10 +118,10 @@ impl<H: Drop> Checks<H> {
     }
 
     /// This refusal: postcopy is in another state than that.
-    pub(crate) fn allowed(allowed: bool, refusal: Refusal) -> Result<()>
-        ensures { test allowed (silently {H = H} (refusal_in refusal)) ≡ tested result }
+    pub(crate) fn check_postcopy(is_there: bool, refusal: Refusal) -> Result<()>
+        ensures { test is_there (silently {H = H} (refusal_in refusal)) ≡ tested result }
     {
-        if !allowed {
+        if !is_there {
             return Err(refusal);
         }
         Ok(())

@@ -142,7 +142,7 @@ impl<H: Drop, B: Drop, G: Drop> Rows<H, B, G> {
     {
         if session.is_listening() && message.body.len() == 8 {
             let number: VhostUserU64 = Checks::<H>::extract_request_body(message)?;
-            Checks::<H>::zero(number.value)?;
+            Checks::<H>::check_zero(number.value)?;
             return Ok(Begun::Calls(DeviceCall::PostcopyAckMemRegions));
         }
         let Some(files) = handles else {
@@ -278,7 +278,7 @@ impl<H: Drop, B: Drop, G: Drop> Rows<H, B, G> {
     {
         let ring: VhostUserVringState = Checks::<H>::extract_request_body(message)?;
         Checks::<H>::check_feature(session, virtio_bit::PROTOCOL_FEATURES)?;
-        Checks::<H>::switch(ring.num)?;
+        Checks::<H>::check_flag_number(ring.num)?;
         Ok(Begun::Calls(DeviceCall::SetVringEnable(ring.index, ring.num == 1)))
     }
 
@@ -287,7 +287,7 @@ impl<H: Drop, B: Drop, G: Drop> Rows<H, B, G> {
     {
         Checks::<H>::check_proto_feature(session, protocol_bit::MTU)?;
         let number: VhostUserU64 = Checks::<H>::extract_request_body(message)?;
-        let mtu = Checks::<H>::short(number.value)?;
+        let mtu = Checks::<H>::to_u16(number.value)?;
         Ok(Begun::Calls(DeviceCall::SetMtu(mtu)))
     }
 
@@ -295,7 +295,7 @@ impl<H: Drop, B: Drop, G: Drop> Rows<H, B, G> {
         ensures { (hs : List H) → Begins B G code.GET_CONFIG session.now message.now hs result }
     {
         Checks::<H>::check_proto_feature(session, protocol_bit::CONFIG)?;
-        Checks::<H>::valid(!message.reply)?;
+        Checks::<H>::check_valid(!message.reply)?;
         let Some(area) = message.area() else {
             return Err(Refusal::InvalidMessage);
         };
@@ -306,7 +306,7 @@ impl<H: Drop, B: Drop, G: Drop> Rows<H, B, G> {
         ensures { (hs : List H) → Begins B G code.SET_CONFIG session.now message.now hs result }
     {
         Checks::<H>::check_proto_feature(session, protocol_bit::CONFIG)?;
-        Checks::<H>::valid(!message.reply)?;
+        Checks::<H>::check_valid(!message.reply)?;
         let Some(area) = message.area() else {
             return Ok(Begun::Refuses(Refusal::InvalidMessage));
         };
@@ -321,7 +321,7 @@ impl<H: Drop, B: Drop, G: Drop> Rows<H, B, G> {
         ensures { Begins B G code.SET_BACKEND_REQ_FD session.now message.now (handles_in handles.now) result }
     {
         Checks::<H>::check_proto_feature(session, protocol_bit::BACKEND_REQ)?;
-        Checks::<H>::valid(!message.reply)?;
+        Checks::<H>::check_valid(!message.reply)?;
         match Checks::<H>::one_handle(handles, Refusal::InvalidMessage) {
             Ok(()) => Ok(Begun::Calls(DeviceCall::SetBackendReqFd)),
             Err(error) => Ok(Begun::Refuses(error)),
@@ -383,7 +383,7 @@ impl<H: Drop, B: Drop, G: Drop> Rows<H, B, G> {
         Checks::<H>::check_proto_feature(session, protocol_bit::CONFIGURE_MEM_SLOTS)?;
         if session.is_listening() && message.body.len() == 8 {
             let number: VhostUserU64 = Checks::<H>::extract_request_body(message)?;
-            Checks::<H>::zero(number.value)?;
+            Checks::<H>::check_zero(number.value)?;
             return Ok(Begun::Calls(DeviceCall::PostcopyAckMemRegions));
         }
         Checks::<H>::one_handle(handles, Refusal::InvalidParam)?;
@@ -398,7 +398,7 @@ impl<H: Drop, B: Drop, G: Drop> Rows<H, B, G> {
         Checks::<H>::check_proto_feature(session, protocol_bit::CONFIGURE_MEM_SLOTS)?;
         if session.is_listening() && message.body.len() == 8 {
             let number: VhostUserU64 = Checks::<H>::extract_request_body(message)?;
-            Checks::<H>::zero(number.value)?;
+            Checks::<H>::check_zero(number.value)?;
             return Ok(Begun::Calls(DeviceCall::PostcopyAckMemRegions));
         }
         let region: VhostUserSingleMemoryRegion = Checks::<H>::extract_request_body(message)?;
@@ -437,7 +437,7 @@ impl<H: Drop, B: Drop, G: Drop> Rows<H, B, G> {
         ensures { (hs : List H) → Begins B G code.POSTCOPY_ADVISE session.now _message.now hs result }
     {
         Checks::<H>::check_proto_feature(session, protocol_bit::PAGEFAULT)?;
-        Checks::<H>::allowed(session.is_inactive(), Refusal::AlreadyAdvised)?;
+        Checks::<H>::check_postcopy(session.is_inactive(), Refusal::AlreadyAdvised)?;
         Ok(Begun::Calls(DeviceCall::PostcopyAdvice))
     }
 
@@ -445,7 +445,7 @@ impl<H: Drop, B: Drop, G: Drop> Rows<H, B, G> {
         ensures { (hs : List H) → Begins B G code.POSTCOPY_LISTEN session.now _message.now hs result }
     {
         Checks::<H>::check_proto_feature(session, protocol_bit::PAGEFAULT)?;
-        Checks::<H>::allowed(session.is_advised(), Refusal::NotAdvised)?;
+        Checks::<H>::check_postcopy(session.is_advised(), Refusal::NotAdvised)?;
         Ok(Begun::Calls(DeviceCall::PostcopyListen))
     }
 
@@ -453,7 +453,7 @@ impl<H: Drop, B: Drop, G: Drop> Rows<H, B, G> {
         ensures { (hs : List H) → Begins B G code.POSTCOPY_END session.now _message.now hs result }
     {
         Checks::<H>::check_proto_feature(session, protocol_bit::PAGEFAULT)?;
-        Checks::<H>::allowed(session.is_listening(), Refusal::NotListening)?;
+        Checks::<H>::check_postcopy(session.is_listening(), Refusal::NotListening)?;
         Ok(Begun::Calls(DeviceCall::PostcopyEnd))
     }
 }

@@ -133,12 +133,12 @@ impl Server {
     }
 
     /// The regions whose bases are the reply; other replies have none.
-    fn table(&self, next: Then) -> &[VhostUserMemoryRegion]
-        ensures table { result.now ≡ regions_for next self.now.regions }
+    fn table(&self, next: &Then) -> &[VhostUserMemoryRegion]
+        ensures table { result.now ≡ regions_for next.now self.now.regions }
         ensures few { length result.now ≤ MAX_MEM_REGIONS }
     {
         match next {
-            Then::Bases(count) if count < MAX_MEM_REGIONS => &self.regions[..count],
+            Then::Bases(count) if *count < MAX_MEM_REGIONS => &self.regions[..*count],
             Then::Bases(_) => &self.regions[..],
             _ => &self.regions[..0],
         }
@@ -149,10 +149,10 @@ impl Server {
         &self,
         endpoint: &mut Endpoint<Header, L>,
         code: FrontendReq,
-        next: Then,
+        next: &Then,
         told: &Told<L::Handle>,
     ) -> Result<()>
-        ensures { IsReady (state endpoint.old) → Tells L.event (state endpoint.old) (reply_cells code (served_in (beside_then next self.now) told.now)) (Ok tt) result (state endpoint.new) }
+        ensures { IsReady (state endpoint.old) → Tells L.event (state endpoint.old) (reply_cells code (served_in (beside_then next.now self.now) told.now)) (Ok tt) result (state endpoint.new) }
     {
         let table = self.table(next);
         match told {
@@ -175,18 +175,18 @@ impl Server {
     ) -> Result<()>
         ensures { IsReady (state endpoint.old) → Finishes L.event code (concluded (session_of self.old.session) need_reply (beside_then next self.old) next answer) (state endpoint.old) (session_of self.old.session) result (state endpoint.new) (session_of self.new.session) }
     {
-        let Conclusion {
-            verdict,
-            told,
-            session,
-        } = Conclusions::conclude(&self.session, need_reply, next, &answer);
-        match self.tell(endpoint, code, next, &told) {
-            Ok(()) => {
-                self.session = session;
-                answer.by(verdict)
-            }
+        let before = self.session;
+        Conclusions::remember(&mut self.session, &next, &answer);
+        let Conclusion { verdict, told } = Conclusions::conclude(
+            &self.session,
+            need_reply,
+            &next,
+            &answer,
+        );
+        match self.tell(endpoint, code, &next, &told) {
+            Ok(()) => answer.by(verdict),
             Err(error) => {
-                self.session = unsent(code, self.session, session);
+                self.session = unsent(code, before, self.session);
                 Err(error)
             }
         }
