@@ -173,7 +173,7 @@ pub fn take_single_file<H: Drop>(handles: Option<Vec<H>>) -> Option<H>
 }
 
 /// The direction and the phase of a transfer, where both are known.
-pub(crate) fn parts(
+pub(crate) fn direction_and_phase(
     transfer: &VhostUserTransferDeviceState,
 ) -> Option<(VhostTransferStateDirection, VhostTransferStatePhase)>
     ensures known { IfSome result (λ p. record { direction = direction_number p.0; phase = phase_number p.1 } ≡ transfer.now) }

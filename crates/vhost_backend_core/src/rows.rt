@@ -10,7 +10,7 @@ ghost use Rattle.vhost_backend_core.specs.Beginning.{Begins, handles_in, message
 ghost use Rattle.vhost_backend_core.specs.Session.{session_of};
 
 use crate::call::{Begun, DeviceCall};
-use crate::checks::{Checks, parts};
+use crate::checks::{Checks, direction_and_phase};
 use crate::incoming::Incoming;
 use crate::refusal::{Refusal, Result};
 use crate::session::Session;
@@ -414,7 +414,7 @@ impl<H: Drop, B: Drop, G: Drop> Rows<H, B, G> {
     {
         Checks::<H>::one_handle(handles, Refusal::IncorrectFds)?;
         let transfer: VhostUserTransferDeviceState = Checks::<H>::extract_request_body(message)?;
-        let Some((direction, phase)) = parts(&transfer) else {
+        let Some((direction, phase)) = direction_and_phase(&transfer) else {
             return Err(Refusal::InvalidMessage);
         };
         Ok(Begun::Calls(DeviceCall::SetDeviceStateFd(direction, phase)))
