@@ -331,8 +331,6 @@ def replaced_path(path):
     for other in "file", "socket":
         daemon = Daemon(path, "2")
         first = connect(path)
-        # (once it serves it knows which socket at the path is its own)
-        ask(first)
         os.rename(path, path + ".own")
         if other == "file":
             pathlib.Path(path).write_text("kept")
@@ -342,6 +340,7 @@ def replaced_path(path):
             listening.listen()
         # With the last client it would remove the path.
         last = connect(path + ".own")
+        ask(first)
         first.close()
         last.close()
         ends = "".join(f"session {i}: {count} requests, end Disconnected\n" for i, count in ((1, 1), (2, 0)))
@@ -354,6 +353,47 @@ def replaced_path(path):
             listening.close()
         os.remove(path)
         os.remove(path + ".own")
+
+
+def replaced_at_once(path):
+    """So does what takes the place as soon as the path is there."""
+    for _ in range(40):
+        daemon = Daemon(path, "1")
+        until = time.monotonic() + LIMIT
+        while not os.path.lexists(path):
+            assert time.monotonic() < until, "nobody listens"
+        os.rename(path, path + ".own")
+        pathlib.Path(path).write_text("kept")
+        connect(path + ".own").close()
+        same(daemon.end(), (0, "session 1: 0 requests, end Disconnected\n", ""))
+        same(pathlib.Path(path).read_text(), "kept")
+        os.remove(path)
+        os.remove(path + ".own")
+
+
+def left_over_folder(path):
+    """The folder in which a killed daemon made its socket is made anew. With anything else in it both stay, and the path is not to be had."""
+    for at in path, path + (107 - len(path)) * "x":
+        os.mkdir(at + ".new")
+        # (its name can be too long for a socket)
+        here = os.getcwd()
+        os.chdir(at + ".new")
+        left_over("s")
+        os.chdir(here)
+        os.link(at + ".new/s", at)
+        daemon = Daemon(at, "1")
+        wait_until(lambda: not os.path.exists(at + ".new"), "the folder stays")
+        same(session(at, GET_FEATURES), FEATURES)
+        same(daemon.end(), (0, "session 1: 1 requests, end Disconnected\n", ""))
+    kept = pathlib.Path(path + ".new/s")
+    kept.parent.mkdir()
+    kept.write_text("kept")
+    status, output, errors = run(path, "1")
+    same((status, output), (2, ""))
+    assert "no socket at this path" in errors and "os error 39" in errors, errors
+    same(kept.read_text(), "kept")
+    kept.unlink()
+    kept.parent.rmdir()
 
 
 def second_daemon(path):
@@ -616,6 +656,8 @@ ROWS = [
     another_process_listens,
     other_things_at_the_path,
     replaced_path,
+    replaced_at_once,
+    left_over_folder,
     more_clients_than_count,
     waiting_clients_are_refused,
     signals,

@@ -3,6 +3,8 @@
 
 mod ends;
 mod failure;
+mod fresh;
+mod identity;
 mod listening;
 mod probe;
 mod refusals;

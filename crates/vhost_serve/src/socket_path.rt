@@ -1,12 +1,14 @@
 //! A path that a daemon listens at: one daemon at a time has it, and gives it back at its end.
 
+use crate::fresh::bind_fresh;
+use crate::identity::Identity;
 use crate::listening::Listening;
 use crate::probe::is_bound;
 use std::alloc::Global;
-use std::fs::{File, Files, Metadata, OpenOptions, TryLockError};
+use std::fs::{File, Files, OpenOptions, TryLockError};
 use std::io::{ErrorKind, Write};
 use std::net::Net;
-use std::os::unix::fs::{FileTypeExt, MetadataExt, OpenOptionsExt};
+use std::os::unix::fs::{FileTypeExt, OpenOptionsExt};
 use std::os::unix::net::UnixListener;
 use std::{fmt, fs, io};
 use vhost_connection::Listener;
@@ -63,30 +65,6 @@ impl fmt::Display for ClaimError {
     }
 }
 
-/// Which file it is: the numbers of its device and of its inode.
-#[derive(Clone, Copy, PartialEq, Eq)]
-struct Identity {
-    device: u64,
-    inode: u64,
-}
-
-impl Identity {
-    fn of(found: &Metadata) -> Identity {
-        Identity {
-            device: found.dev(),
-            inode: found.ino(),
-        }
-    }
-
-    /// Whether it is the file that is at a path now.
-    fn is_at<R: Files>(self, rt: &R, path: &str) -> bool {
-        match fs::symlink_metadata(rt, path) {
-            Ok(found) => Identity::of(&found) == self,
-            Err(_) => false,
-        }
-    }
-}
-
 /// A listening socket at a path, and the lock of the path.
 ///
 /// The lock is the file with `.pid` behind the path's name: who has it locked has the path. It holds the number of the process.
@@ -126,7 +104,7 @@ impl<R: Files<File = File> + Net + Drop> SocketPath<R> {
             return Err(ClaimError::OutOfMemory);
         };
         let lock = Lock::take(&rt, lock_path, pid)?;
-        match bind(&rt, path) {
+        match bind(&rt, alloc, path) {
             Ok((listener, socket)) => Ok(SocketPath {
                 rt,
                 path: kept,
@@ -232,20 +210,15 @@ fn open_lock<R: Files<File = File>>(rt: &R, path: &str) -> Result<File, ClaimErr
 }
 
 /// Listens at a path; a socket there that no process has is removed first.
-fn bind<R: Files + Net>(rt: &R, path: &str) -> Result<(UnixListener, Identity), ClaimError> {
-    let listener = match UnixListener::bind(rt, path) {
-        Ok(listener) => listener,
-        Err(error) if error.kind() == ErrorKind::AddrInUse => {
-            make_room(rt, path)?;
-            match UnixListener::bind(rt, path) {
-                Ok(listener) => listener,
-                Err(error) => return Err(ClaimError::Socket(error)),
-            }
-        }
-        Err(error) => return Err(ClaimError::Socket(error)),
-    };
-    match fs::symlink_metadata(rt, path) {
-        Ok(found) => Ok((listener, Identity::of(&found))),
+fn bind<R: Files<File = File> + Net>(
+    rt: &R,
+    alloc: Global,
+    path: &str,
+) -> Result<(UnixListener, Identity), ClaimError> {
+    make_room(rt, path)?;
+    match bind_fresh(rt, alloc, path) {
+        Ok(bound) => Ok(bound),
+        Err(error) if error.kind() == ErrorKind::OutOfMemory => Err(ClaimError::OutOfMemory),
         Err(error) => Err(ClaimError::Socket(error)),
     }
 }
@@ -255,7 +228,7 @@ fn make_room<R: Files + Net>(rt: &R, path: &str) -> Result<(), ClaimError> {
     match fs::symlink_metadata(rt, path) {
         Ok(found) if !found.file_type().is_socket() => return Err(ClaimError::NoSocket),
         Ok(_) => {}
-        // It is gone already.
+        // Nothing is there.
         Err(_) => return Ok(()),
     }
     match is_bound(rt, path) {
