@@ -20,7 +20,7 @@ use Rattle.vhost_pair.specs.Joined.{ends}
 use Rattle.vhost_pair.specs.Text.{Text, text_of, no_text}
 use Rattle.vhost_pair.specs.Sides as sides
 use Rattle.vhost_pair.specs.Sides.{Parts, stop_of, Reached, HandedOver, HandsOver, Served, FoundNoRoom}
-use Rattle.vhost_pair.proofs.Asked.{End}
+use Rattle.vhost_pair.proofs.Spent.{End}
 
 -- what failed was in its way
 pub blocked : {A E : Type 0} (r : Result A E) (P : Type 0) → is_err r ≡ true → (P → IsOk r) → P → ⊥

@@ -9,7 +9,7 @@ use Rattle.vhost_pair.specs.OnWay.{Carries}
 use Rattle.vhost_pair.specs.Sides as sides
 use Rattle.vhost_pair.specs.Sides.{parts_of, Reached}
 use Rattle.vhost_pair.specs.Wire.{text_in}
-use Rattle.vhost_pair.proofs.Asked.{End}
+use Rattle.vhost_pair.proofs.Spent.{End}
 use Rattle.vhost_pair.proofs.Limited.{handles-some}
 use Rattle.vhost_pair.proofs.Handing.{blocked, same-but, shut-same}
 use Rattle.vhost_pair.proofs.Running.{found, refusal}

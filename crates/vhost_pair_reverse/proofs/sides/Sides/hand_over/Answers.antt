@@ -7,7 +7,7 @@ use Rattle.vhost_backend_req.specs.Channel.{Channel, channel}
 use Rattle.vhost_frontend_req_handler.specs.Core.{endpoint_of, server_in}
 use Rattle.vhost_frontend_req_handler.specs.Handling.{HandlesOne}
 use Rattle.vhost_pair.specs.OnWay.{Carries}
-use Rattle.vhost_pair.proofs.Asked.{End}
+use Rattle.vhost_pair.proofs.Spent.{End}
 use Rattle.vhost_pair.proofs.Handing.{blocked}
 use Rattle.vhost_pair.proofs.Running.{found}
 use Rattle.vhost_pair_reverse.specs.Sides as sides
