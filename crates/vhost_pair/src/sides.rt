@@ -137,14 +137,10 @@ impl<D: VhostUserBackendReqHandlerMut<Link = MemLink>> Sides<D> {
     {
         self.reply.clear();
         copy(self.frontend.endpoint_mut(), &mut self.request);
-        let answer = FrontendAnswer::Failed(error);
-        if self.frontend.faulted() {
-            return Exchanged {
-                answer,
-                stop: Some(Stop::Premise),
-            };
+        Exchanged {
+            answer: FrontendAnswer::Failed(error),
+            stop: self.frontend.faulted().then_some(Stop::Premise),
         }
-        Exchanged { answer, stop: None }
     }
 
     /// Has a request served that was sent, and receives its reply.

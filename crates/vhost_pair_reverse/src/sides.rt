@@ -110,14 +110,10 @@ impl<D: VhostUserFrontendReqHandlerMut<Handle = PlainHandle>> Sides<D> {
     {
         self.reply.clear();
         copy(self.backend.endpoint_mut(), &mut self.request);
-        let answer = Err(error);
-        if self.backend.faulted() {
-            return Exchanged {
-                answer,
-                stop: Some(Stop::Premise),
-            };
+        Exchanged {
+            answer: Err(error),
+            stop: self.backend.faulted().then_some(Stop::Premise),
         }
-        Exchanged { answer, stop: None }
     }
 
     /// Has a request served that was sent, and receives its reply.
