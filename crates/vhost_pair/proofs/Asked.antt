@@ -1,6 +1,5 @@
 -- A request that was sent, what was carried, and an answer that was taken.
-use Rattle.std.proofs.Common.{◌≡◌, ◌⊎◌, inl, inr, true, false, List, [], ◌∷◌, ◌++◌, Option, None, Ok, Err, refl, sym, ◌∙◌, ap, subst, append_assoc}
-use Rattle.std.proofs.lemmas.List.{append-nil}
+use Rattle.std.proofs.Common.{◌≡◌, ◌⊎◌, inl, inr, true, false, List, [], ◌∷◌, ◌++◌, Option, None, Ok, Err, refl, sym, ◌∙◌, ap, append_assoc}
 use Rattle.vhost_message.specs.declared.error.Error as declared
 use Rattle.vhost_message.specs.declared.error.Error.TheVariants as error
 use Rattle.vhost_message.specs.declared.frontend_req.FrontendReq.{FrontendReq}
@@ -12,13 +11,10 @@ use Rattle.vhost_protocol.specs.Ask.{Refuses, Sends, ask}
 use Rattle.vhost_protocol.specs.declared.asked.Awaited.{Awaited}
 use Rattle.vhost_protocol.specs.Error.{seen}
 use Rattle.vhost_protocol.specs.FrontendCall.{FrontendCall, Frontend}
-use Rattle.vhost_protocol.specs.Stream.{Cell, has_some, first_handles}
 use Rattle.vhost_protocol.specs.Take.{take}
 use Rattle.vhost_protocol.specs.Written.{Written, head_of, written_cells}
 use Rattle.vhost_link.specs.declared.plain.PlainHandle.{PlainHandle}
-use Rattle.vhost_link.specs.Ends.{Ends}
 use Rattle.vhost_link.specs.Mem.{event}
-use Rattle.vhost_connection.specs.Talk.{State}
 use Rattle.vhost_frontend_core.specs.Asking as asking
 use Rattle.vhost_frontend_core.specs.Asking.{AsksWithRoom, Goes}
 use Rattle.vhost_frontend_core.specs.declared.asked.Sent.{Sent}
@@ -26,11 +22,10 @@ use Rattle.vhost_frontend_core.specs.Taking.{Reads, unread, read}
 use Rattle.vhost_pair.specs.OnWay.{incoming, outgoing, Carries}
 use Rattle.vhost_pair.specs.Joined.{Passes}
 use Rattle.vhost_pair.specs.Sides.{cuts_of}
-use Rattle.vhost_pair.proofs.OnWay.{incoming-handed, incoming-heard, incoming-cut, outgoing-taken}
-use Rattle.vhost_pair.proofs.Spent.{Faults, faults, no-memory, passes, all-moved, sent-passes, still-passes}
-
-abbrev pub End : Type 0
-End = State Ends PlainHandle
+use Rattle.vhost_pair.proofs.OnWay.{incoming-handed, outgoing-taken}
+use Rattle.vhost_pair.proofs.Spent.{End, Faults, faults, no-memory, sent-passes}
+use Rattle.vhost_pair.proofs.Taken as taken
+use Rattle.vhost_pair.proofs.Taken.{nothing-read, reply-heard}
 
 pub both-empty : {A : Type 0} (xs ys : List A) → xs ++ ys ≡ [] → (xs ≡ []) × (ys ≡ [])
 both-empty [] ys e = (refl, e)
@@ -117,39 +112,9 @@ module _ (from to from' to' : End) (k : Carries from to from' to') where
 -- ---- an answer that was taken
 
 module _ (call : FrontendCall PlainHandle) (awaited : Awaited) (sent : Header) (f : Frontend) (fe : End) (x : Option (Answered PlainHandle)) where
-  -- The answer is that of all that was coming.
-  pub record IsTaken (fe' : End) : Type 0 where
-    pub cut : take call awaited sent f (incoming fe) ≡ (x, incoming fe')
-    pub outgoing : outgoing fe' ≡ outgoing fe
-    -- all that had been sent, where nothing had been heard before
-    pub passed : (cells : List (Cell PlainHandle)) → (has_some cells ≡ true → (fe.ahead ≡ []) × (incoming fe ≡ cells) × (incoming fe' ≡ [])) → Passes fe.budget cells (cuts_of fe.link) (cuts_of fe'.link)
-    pub broken : fe'.broken ≡ None
-    pub faulted : fe'.faulted ≡ false
-    pub budget : fe'.budget ≡ fe.budget
-    -- it has its list of handles, where no handle was coming
-    pub list : has_some (first_handles (incoming fe)) ≡ false → fe.list ≡ true → fe'.list ≡ true
-
-  -- what was read of cells without a handle brought none
-  first-read : (front left : List (Cell PlainHandle)) → has_some (first_handles (front ++ left)) ≡ false → has_some (first_handles front) ≡ false
-  first-read [] left none = refl
-  first-read (c ∷ front) left none = none
+  abbrev pub IsTaken : End → Type 0
+  IsTaken = taken.IsTaken (take call awaited sent f) fe x
 
   pub is-taken : {fe' : End} → fe.broken ≡ None → fe.faulted ≡ false → Reads event call awaited sent f fe x fe' → IsTaken fe'
-  is-taken whole sound (unread here) = record {
-    cut = here (incoming fe);
-    outgoing = refl;
-    passed = λ cells all. still-passes fe cells (λ some. sym (all some).1 ∙ (all some).2);
-    broken = whole;
-    faulted = sound;
-    budget = refl;
-    list = λ none listed. listed;
-  }
-  is-taken {fe' = fe'} whole sound (read came) = let h = came.hears in record {
-    cut = incoming-cut fe fe' _ h.serves.talks (take call awaited sent f) h.cells h.ended x refl h.splits;
-    outgoing = outgoing-taken fe fe' _ h.serves.talks ∙ append-nil (outgoing fe);
-    passed = λ cells all. passes cells fe fe' _ _ h.serves (λ some. let a = all some in all-moved cells fe fe' _ h.serves.talks a.0 a.1 a.2 some);
-    broken = h.serves.after;
-    faulted = h.serves.faulted;
-    budget = h.serves.talks.budget;
-    list = λ none listed. came.list (first-read h.cells (incoming fe') (subst (λ (cells : List (Cell PlainHandle)). has_some (first_handles cells) ≡ false) (incoming-heard fe fe' _ h.serves.talks h.cells h.ended refl) none));
-  }
+  is-taken whole sound (unread here) = nothing-read (take call awaited sent f) fe x whole sound (here (incoming fe))
+  is-taken {fe'} whole sound (read came) = reply-heard (take call awaited sent f) fe x fe' came

@@ -39,11 +39,11 @@ use Rattle.vhost_pair.specs.Text.{text_of, no_text}
 use Rattle.vhost_pair.specs.Joined.{View, Cuts, IsReady, Passes, PassesBoth, Keeps, Answers, ends}
 use Rattle.vhost_pair.specs.Sides as sides
 use Rattle.vhost_pair.specs.Sides.{Parts, cuts_of, as_view, IsSound, HaveLists, stop_of, Served, Serves, EndsUnsent, IsAskedBy, Exchanges}
-use Rattle.vhost_pair.proofs.Asked.{End, both-empty, IsAsked, is-asked, IsUnasked, is-unasked, arrived, emptied, kept, held, sender-cuts, receiver-cuts, IsTaken, is-taken}
+use Rattle.vhost_pair.proofs.Asked.{both-empty, IsAsked, is-asked, IsUnasked, is-unasked, arrived, emptied, kept, held, sender-cuts, receiver-cuts, IsTaken, is-taken}
 use Rattle.vhost_pair.proofs.Served.{pair-first, pair-second, ServingFaults, Handled1, split-handled, faulted-so, both-passed, IsServed, is-served, last_stop, stopped-as, fed}
 use Rattle.vhost_pair.proofs.Calls.{ends-so}
 use Rattle.vhost_pair.proofs.Outcomes.{sendable, few-written, Outcomes, outcomes}
-use Rattle.vhost_pair.proofs.Spent.{Faults, faults, passes-none}
+use Rattle.vhost_pair.proofs.Spent.{End, Faults, faults, passes-none}
 
 -- a step for which no link was called
 passed-none : (budget : ℕ) (old new : Cuts) → new ≡ old → PassesBoth budget [] [] old new

@@ -25,7 +25,8 @@ use Rattle.vhost_pair.specs.Device.{Gives}
 use Rattle.vhost_pair.specs.Text.{no_text}
 use Rattle.vhost_pair.specs.Sides as sides
 use Rattle.vhost_pair.specs.Sides.{Parts, IsAskedBy, EndsUnsent, Serves, Exchanges}
-use Rattle.vhost_pair.proofs.Asked.{End, unroomy}
+use Rattle.vhost_pair.proofs.Asked.{unroomy}
+use Rattle.vhost_pair.proofs.Spent.{End}
 use Rattle.vhost_pair.proofs.Handing.{same-asked}
 
 abbrev Core : Type 0

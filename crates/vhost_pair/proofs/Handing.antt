@@ -1,6 +1,6 @@
 -- A request that was handed over, and its answer.
-use Rattle.std.proofs.Common.{◌≡◌, ◌≤◌, inl, inr, Option, Some, None, Result, Ok, Err, length, refl, sym, ◌∙◌, ap, subst, true}
-use Rattle.std.specs.Prelude.{⊤, ◌||◌, is_err, IsOk}
+use Rattle.std.proofs.Common.{◌≡◌, ◌≤◌, inl, inr, Option, Some, None, Result, Err, length, refl, sym, ◌∙◌, ap, subst}
+use Rattle.std.specs.Prelude.{⊤, ◌||◌}
 use Rattle.vhost_message.specs.declared.error.Error as declared
 use Rattle.vhost_message.specs.MsgHeader.{fields_of}
 use Rattle.vhost_message.specs.declared.limits.TheConstants.{MAX_MSG_TEXT}
@@ -20,12 +20,7 @@ use Rattle.vhost_pair.specs.Joined.{ends}
 use Rattle.vhost_pair.specs.Text.{Text, text_of, no_text}
 use Rattle.vhost_pair.specs.Sides as sides
 use Rattle.vhost_pair.specs.Sides.{Parts, stop_of, Reached, HandedOver, HandsOver, Served, FoundNoRoom}
-use Rattle.vhost_pair.proofs.Asked.{End}
-
--- what failed was in its way
-pub blocked : {A E : Type 0} (r : Result A E) (P : Type 0) → is_err r ≡ true → (P → IsOk r) → P → ⊥
-blocked (Ok a) P e ok p = absurd (cc e)
-blocked (Err x) P e ok p = absurd (cc (ok p))
+use Rattle.vhost_pair.proofs.Spent.{End}
 
 pub same-but : {Dev : Type 0} (p : Parts Dev) (f : Frontend) (awaited : Awaited) → f ≡ p.frontend → awaited ≡ p.awaited → record p { frontend = f; awaited = awaited } ≡ p
 same-but {Dev} p f awaited session awaits =
@@ -35,13 +30,10 @@ pub same-asked : {Dev : Type 0} (p : Parts Dev) (e : End) (f : Frontend) (awaite
 same-asked {Dev} p e f awaited asking session awaits = ap {A = End} {B = Parts Dev} (λ x. record p { asking = x; frontend = f; awaited = awaited }) asking ∙ same-but p f awaited session awaits
 
 -- nothing came of a hand-over but that the last reply is forgotten
-pub shut-same : {Dev : Type 0} (p : Parts Dev) (a s : End) (f : Frontend) (awaited : Awaited) (session : Session) (t : Text) → a ≡ p.asking → s ≡ p.serving → f ≡ p.frontend → awaited ≡ p.awaited → session ≡ p.session → t ≡ no_text
-    → record p { asking = a; serving = s; frontend = f; awaited = awaited; session = session; reply = t } ≡ record p { reply = no_text }
-shut-same {Dev} p a s f awaited session t ea es ef eaw ese et =
-    ap {A = Text} {B = Parts Dev} (λ x. record p { asking = a; serving = s; frontend = f; awaited = awaited; session = session; reply = x }) et
-    ∙ ap {A = Session} {B = Parts Dev} (λ x. record p { asking = a; serving = s; frontend = f; awaited = awaited; session = x; reply = no_text }) ese
-    ∙ ap {A = End} {B = Parts Dev} (λ x. record p { asking = a; serving = x; frontend = f; awaited = awaited; reply = no_text }) es
-    ∙ same-asked (record p { reply = no_text }) a f awaited ea ef eaw
+pub shut-same : {Dev : Type 0} (p : Parts Dev) (a s : End) (t : Text) → a ≡ p.asking → s ≡ p.serving → t ≡ no_text → record p { asking = a; serving = s; reply = t } ≡ record p { reply = no_text }
+shut-same {Dev} p a s t asking serving text =
+    ap {A = Text} {B = Parts Dev} (λ x. record p { asking = a; serving = s; reply = x }) text
+    ∙ ap {A = End} {B = Parts Dev} (λ x. record p { asking = a; serving = x; reply = no_text }) serving ∙ ap {A = End} {B = Parts Dev} (λ x. record p { asking = x; reply = no_text }) asking
 
 pub handed-in : {Dev : Type 0} (gives : Gives Dev) (old : Parts Dev) (result : Result ⊤ declared.Error) (new : Parts Dev) → HandsOver gives old (Some result) new → HandedOver gives old result new
 handed-in gives old result new (sides.handed h) = h

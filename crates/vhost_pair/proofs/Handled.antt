@@ -21,9 +21,8 @@ use Rattle.vhost_connection.specs.Serving.{Handled, HandlesOne, Breaks, Interrup
 use Rattle.vhost_pair.specs.OnWay.{incoming, outgoing}
 use Rattle.vhost_pair.specs.Joined.{Passes, PassesBoth, Stops, StopsReply}
 use Rattle.vhost_pair.specs.Sides.{cuts_of}
-use Rattle.vhost_pair.proofs.Asked.{End}
 use Rattle.vhost_pair.proofs.OnWay.{cells_in, incoming-cut, incoming-handed, outgoing-taken}
-use Rattle.vhost_pair.proofs.Spent.{FaultsReading, faults-reading, passes, all-moved, sent-passes, stops}
+use Rattle.vhost_pair.proofs.Spent.{End, FaultsReading, faults-reading, passes, all-moved, sent-passes, stops}
 
 module _ {R S A Dev : Type 0} (request_of : ℕ → Option R) (allows_handles : R → ℕ → Bool) (failed : S → Option ℤ) (kept : R → S → S → S)
     (Meets : S → Dev → Message R PlainHandle → Result A Error → List (Cell PlainHandle) → S → Dev → Type 0) (he he' : End) (s s' : S) (d d' : Dev) where

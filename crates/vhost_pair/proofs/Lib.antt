@@ -1,5 +1,6 @@
 pub mod OnWay
 pub mod Spent
+pub mod Taken
 pub mod Asked
 pub mod Outcomes
 pub mod Calls
@@ -16,6 +17,7 @@ pub mod Exchanging
 pub mod HeaderFlags
 pub mod Ready
 pub mod Stepping
+pub mod Steps
 pub mod Lockstep
 pub mod Running
 pub mod Lists

@@ -23,12 +23,12 @@ use Rattle.vhost_pair.specs.OnWay.{incoming, outgoing}
 use Rattle.vhost_pair.specs.Sides as sides
 use Rattle.vhost_pair.specs.Sides.{Parts, as_view, has_lists, IsSound, HaveLists, Served, Serves, EndsUnsent, IsAskedBy, Exchanges}
 use Rattle.vhost_pair.specs.Text.{Text, text_of, no_text}
-use Rattle.vhost_pair.proofs.Asked.{End, IsAsked, is-asked, IsUnasked, is-unasked}
+use Rattle.vhost_pair.proofs.Asked.{IsAsked, is-asked, IsUnasked, is-unasked}
 use Rattle.vhost_pair.proofs.Moving.{asked-whole, few-asked, clear, own-request, few-served, came-back, asking-list}
 use Rattle.vhost_pair.proofs.Outcomes.{sendable}
 use Rattle.vhost_pair.proofs.Served.{Handled1, IsServed, is-served}
 use Rattle.vhost_pair.proofs.Sound.{handled, taken}
-use Rattle.vhost_pair.proofs.Spent.{Faults}
+use Rattle.vhost_pair.proofs.Spent.{End, Faults}
 
 both-lists : (a b : Bool) → a ≡ true → b ≡ true → (a && b) ≡ true
 both-lists a b ea eb = ap (λ x. x && b) ea ∙ eb

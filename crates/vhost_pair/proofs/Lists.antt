@@ -1,23 +1,22 @@
 -- The lists of an answer are no longer than those of its call.
-use Rattle.std.proofs.Common.{◌≡◌, ℕ, ◌+◌, ◌≤◌, ◌==◌, ◌&&◌, Bool, true, false, cond, List, [], ◌∷◌, ◌++◌, length, map, Option, Some, None, Result, Ok, Err, IfSome, refl, sym, ◌∙◌, ap, subst, inl, inr, arith}
+use Rattle.std.proofs.Common.{◌≡◌, ℕ, ◌+◌, ◌==◌, ◌&&◌, Bool, true, false, cond, List, [], ◌∷◌, ◌++◌, length, map, Option, Some, None, Result, Ok, Err, IfSome, refl, sym, subst, inl, inr, arith}
 use Rattle.std.proofs.lemmas.Bool.{eqb-true}
 use Rattle.std.specs.Prelude.{⊤, nat_le, bit_and}
 use Rattle.vhost_message.specs.Header.{Header}
 use Rattle.vhost_message.specs.Bits.{has_bit}
 use Rattle.vhost_message.specs.Records.{u64_at}
-use Rattle.vhost_message.specs.declared.error.Error as declared
 use Rattle.vhost_message.specs.declared.records.config.VhostUserConfig.{VhostUserConfig}
 use Rattle.vhost_message.specs.declared.records.memory.VhostUserMemoryRegion.{VhostUserMemoryRegion}
-use Rattle.vhost_protocol.specs.AnswerTable.{Answered, answered, answer, plain_value, alone, with_one, only_if, is_same_range, are_same_ranges, bases_in as bases_of, config_reply, changed, queues_reply, state_reply, from_reply, after_success, unanswered}
+use Rattle.vhost_protocol.specs.AnswerTable.{Answered, answered, answer, plain_value, alone, with_one, only_if, is_same_range, are_same_ranges, bases_in as bases_of, config_reply, changed, queues_reply, state_reply, from_reply}
 use Rattle.vhost_protocol.specs.Ask.{regions_in as ranges_in, config}
 use Rattle.vhost_protocol.specs.declared.asked.Awaited.{Awaited}
 use Rattle.vhost_protocol.specs.declared.asked.Awaited.TheVariants.{Nobody, Ack, Reply}
 use Rattle.vhost_protocol.specs.declared.asked.Shape.{Shape}
 use Rattle.vhost_protocol.specs.declared.asked.Shape.TheVariants as shape
 use Rattle.vhost_protocol.specs.Error.{Error, InvalidParam, InvalidMessage, IncorrectFds, BackendInternalError, seen}
-use Rattle.vhost_protocol.specs.FrontendCall.{FrontendCall, GetFeatures, GetProtocolFeatures, GetQueueNum, SetMemTable, SetLogBase, GetVringBase, GetConfig, GetSharedObject, GetInflightFd, GetMaxMemSlots, AddMemRegion, GetShmemConfig, SetDeviceStateFd, CheckDeviceState, PostcopyAdvise, Value, Nothing, Number, Bases, Base, ConfigOf, HandleOf, InflightOf, StateHandle, ShmemOf, Info, Frontend}
+use Rattle.vhost_protocol.specs.FrontendCall.{FrontendCall, GetFeatures, GetProtocolFeatures, GetQueueNum, SetMemTable, SetLogBase, GetVringBase, GetConfig, GetSharedObject, GetInflightFd, GetMaxMemSlots, AddMemRegion, GetShmemConfig, SetDeviceStateFd, CheckDeviceState, PostcopyAdvise, Value, Nothing, Number, Bases, Base, ConfigOf, HandleOf, InflightOf, StateHandle, Info, Frontend}
 use Rattle.vhost_protocol.specs.ReplySplit.{Received}
-use Rattle.vhost_protocol.specs.Served.{Acknowledged, Replied}
+use Rattle.vhost_protocol.specs.Served.{Acknowledged}
 use Rattle.vhost_protocol.specs.Split.{Splits}
 use Rattle.vhost_protocol.specs.Stream.{Cell}
 use Rattle.vhost_protocol.specs.Take.{take, take_reply, take_config, understood, understood_ack, understood_config, is_sized, room, answers, reply_cut, config_cut, payload_of}

@@ -41,10 +41,10 @@ use Rattle.vhost_pair.specs.OnWay.{incoming, outgoing}
 use Rattle.vhost_pair.specs.Sides as sides
 use Rattle.vhost_pair.specs.Sides.{Parts, cuts_of, as_view, IsSound, HaveLists, stop_of, Reached, Served, FoundNoRoom, Serves, EndsUnsent, IsAskedBy, Exchanges}
 use Rattle.vhost_pair.specs.Text.{Text, text_of, no_text}
-use Rattle.vhost_pair.proofs.Asked.{End, both-empty, IsAsked, is-asked, IsUnasked, is-unasked, arrived-behind, emptied, kept, held, sender-cuts, receiver-cuts, IsTaken, is-taken}
+use Rattle.vhost_pair.proofs.Asked.{both-empty, IsAsked, is-asked, IsUnasked, is-unasked, arrived-behind, emptied, kept, held, sender-cuts, receiver-cuts, IsTaken, is-taken}
 use Rattle.vhost_pair.proofs.Served.{Handled1, ServingFaults, split-handled, faulted-so, handled-first, handled-written, both-passed, IsServed, is-served, pair-first, pair-second}
 use Rattle.vhost_pair.proofs.Outcomes.{follows-wider, sendable, few-met, few-written}
-use Rattle.vhost_pair.proofs.Spent.{Faults, faults}
+use Rattle.vhost_pair.proofs.Spent.{End, Faults, faults}
 
 -- ---- a device that may do more
 

@@ -5,7 +5,6 @@ use Rattle.vhost_message.specs.Bits.{has_bit}
 use Rattle.vhost_message.specs.declared.frontend_req.FrontendReq.TheVariants.{GET_FEATURES}
 use Rattle.vhost_protocol.specs.Agreement.{Negotiates, AskedNegotiates, OffersBit}
 use Rattle.vhost_protocol.specs.AnswerTable.{Answered, answer}
-use Rattle.vhost_protocol.specs.declared.asked.Awaited.{Awaited}
 use Rattle.vhost_protocol.specs.declared.asked.Awaited.TheVariants.{Reply}
 use Rattle.vhost_protocol.specs.declared.asked.Shape.TheVariants as shape
 use Rattle.vhost_protocol.specs.Ask.{Asked, Refuses, Answers, Sends, ask, needs_reply}

@@ -31,7 +31,7 @@ use Rattle.vhost_pair.specs.Device.{Gives, opens_backend, opens_gpu}
 use Rattle.vhost_pair.specs.OnWay.{incoming, outgoing}
 use Rattle.vhost_pair.specs.Joined.{PassesBoth}
 use Rattle.vhost_pair.specs.Sides.{cuts_of, stop_of}
-use Rattle.vhost_pair.proofs.Asked.{End}
+use Rattle.vhost_pair.proofs.Spent.{End}
 use Rattle.vhost_pair.proofs.Handled as handling
 use Rattle.vhost_pair.proofs.Handled.{Faults}
 

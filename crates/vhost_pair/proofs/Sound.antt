@@ -24,9 +24,9 @@ use Rattle.vhost_pair.specs.Text.{no_text}
 use Rattle.vhost_pair.specs.Sides as sides
 use Rattle.vhost_pair.specs.Joined.{ends}
 use Rattle.vhost_pair.specs.Sides.{Parts, IsSound, HaveLists, stop_of, Served, Serves, EndsUnsent, IsAskedBy, Exchanges}
-use Rattle.vhost_pair.proofs.Asked.{End, IsAsked, is-asked, IsUnasked, is-unasked, emptied, held, IsTaken, is-taken}
+use Rattle.vhost_pair.proofs.Asked.{IsAsked, is-asked, IsUnasked, is-unasked, emptied, held, IsTaken, is-taken}
 use Rattle.vhost_pair.proofs.Served.{ServingFaults, Handled1, split-handled, faulted-so, handled-budget, handled-mark}
-use Rattle.vhost_pair.proofs.Spent.{Faults, faults}
+use Rattle.vhost_pair.proofs.Spent.{End, Faults, faults}
 
 module _ {Dev : Type 0} (gives : Gives Dev) (call : FrontendCall PlainHandle) (old : Parts Dev) (sound : IsSound old) (lists : HaveLists old) where
   -- ---- a call that was sent and served

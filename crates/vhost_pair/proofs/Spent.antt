@@ -25,7 +25,8 @@ use Rattle.vhost_pair.specs.OnWay.{incoming, outgoing}
 use Rattle.vhost_pair.specs.Sides.{cuts_of}
 use Rattle.vhost_pair.proofs.OnWay.{cells_in, incoming-handed, outgoing-taken}
 
-abbrev End : Type 0
+-- one end of a joined run
+abbrev pub End : Type 0
 End = State Ends PlainHandle
 
 -- ---- calls of a link in memory

@@ -12,7 +12,7 @@ use Rattle.vhost_pair.specs.Device.{Gives}
 use Rattle.vhost_pair.specs.Joined.{View, IsReady, KeepsLists, Moves, Steps, Answers}
 use Rattle.vhost_pair.specs.Sides as sides
 use Rattle.vhost_pair.specs.Sides.{Parts, as_view, has_lists, IsSound, HaveLists, Exchanges}
-use Rattle.vhost_pair.proofs.Asked.{End}
+use Rattle.vhost_pair.proofs.Spent.{End}
 use Rattle.vhost_pair.proofs.Exchange.{answers-so}
 use Rattle.vhost_pair.proofs.Listing.{keeps-lists}
 use Rattle.vhost_pair.proofs.Moving.{moves-so}

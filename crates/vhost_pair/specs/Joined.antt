@@ -30,6 +30,7 @@ use Rattle.vhost_link.specs.declared.cut.Cut.{Cut}
 use Rattle.vhost_link.specs.Cuts.{Fails, counted, retry, failure}
 use Rattle.vhost_backend_req_handler.specs.Serving.{kept_unsent}
 use Rattle.vhost_pair.specs.Device.{Gives, opens_backend, opens_gpu}
+use Rattle.vhost_pair.specs.Runs as runs
 use Rattle.vhost_pair.specs.Text.{Text, text_of, no_text}
 use Rattle.vhost_frontend_core.specs.declared.values.call.FrontendCall as code
 use Rattle.vhost_frontend_core.specs.declared.values.answer.FrontendAnswer.{FrontendAnswer}
@@ -263,9 +264,10 @@ module _ {Dev : Type 0} (gives : Gives Dev) where
   Steps old call (Err halt.Stopped) new = (is_some old.stopped ≡ true) × (new ≡ old)
   Steps old call (Err halt.OutOfMemory) new = (old.stopped ≡ None) × (new ≡ record old { lists = new.lists }) × MayWant old call
 
+  -- the same of a call as the code has it
+  abbrev pub StepsBy : View Dev → code.FrontendCall → Result FrontendAnswer Halt → View Dev → Type 0
+  StepsBy old call result new = Steps old (call_of call) result new
+
   -- steps one after another, until one is not done
   abbrev pub StepsAll : View Dev → List code.FrontendCall → List FrontendAnswer → Result ⊤ Halt → View Dev → Type 0
-  StepsAll old [] [] (Ok u) new = new ≡ old
-  StepsAll old (c ∷ cs) [] (Err h) new = Steps old (call_of c) (Err h) new
-  StepsAll old (c ∷ cs) (a ∷ as') end new = (mid : View Dev) × Steps old (call_of c) (Ok a) mid × StepsAll mid cs as' end new
-  StepsAll _ _ _ _ _ = ⊥
+  StepsAll = runs.StepsAll StepsBy

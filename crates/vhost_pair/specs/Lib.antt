@@ -3,6 +3,7 @@ pub mod Text
 pub mod Wire
 pub mod Device
 pub mod Lists
+pub mod Runs
 pub mod Joined
 pub mod Sides
 pub mod Lockstep

@@ -1,5 +1,5 @@
 -- How much room an answer needs.
-use Rattle.std.specs.Prelude.{ℕ, ◌≤◌, List, length, Some, Result, Ok}
+use Rattle.std.specs.Prelude.{ℕ, ◌≤◌, length, Some, Result, Ok}
 use Rattle.vhost_protocol.specs.Error.{Error}
 use Rattle.vhost_protocol.specs.FrontendCall.{FrontendCall, SetMemTable, GetConfig, GetShmemConfig, Value, Bases, ConfigOf, ShmemOf}
 

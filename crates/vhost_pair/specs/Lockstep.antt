@@ -1,5 +1,5 @@
 -- Frontend and handler in lockstep: what a joined run is worth.
-use Rattle.std.specs.Prelude.{◌≡◌, ◌⊎◌, List, [], ◌∷◌, ◌++◌, Bool, Some, None, true, false, Result, Ok, Err, ⊤}
+use Rattle.std.specs.Prelude.{◌≡◌, ◌⊎◌, List, [], ◌∷◌, Bool, None, true, false, Result, Ok, ⊤}
 use Rattle.vhost_message.specs.Bits.{has_bit}
 use Rattle.vhost_protocol.specs.Error.{Error}
 use Rattle.vhost_protocol.specs.Features.{PROTOCOL_FEATURES}
@@ -10,10 +10,10 @@ use Rattle.vhost_frontend_core.specs.declared.values.call.FrontendCall as code
 use Rattle.vhost_frontend_core.specs.declared.values.answer.FrontendAnswer.{FrontendAnswer}
 use Rattle.vhost_frontend_core.specs.Values.{call_of, answer_of}
 use Rattle.vhost_pair.specs.declared.halt.Halt.{Halt}
-use Rattle.vhost_pair.specs.declared.halt.Halt.TheVariants as halt
-use Rattle.vhost_pair.specs.declared.halt.Stop.TheVariants.{Premise}
 use Rattle.vhost_pair.specs.Device.{Gives, opens_backend, opens_gpu}
-use Rattle.vhost_pair.specs.Joined.{View, IsReady, Offers, Keeps, Moves, StepsAll}
+use Rattle.vhost_pair.specs.Joined.{View, IsReady, Offers, Keeps, Moves, StepsBy}
+use Rattle.vhost_pair.specs.Runs as runs
+use Rattle.vhost_pair.specs.Runs.{Runs}
 
 -- the calls that were answered, with their answers
 abbrev pub entries : List code.FrontendCall → List FrontendAnswer → List (FrontendCall PlainHandle × Result (Value PlainHandle) Error)
@@ -56,30 +56,14 @@ module _ {Dev : Type 0} (gives : Gives Dev) (bit : Bool) where
     pub no_request : new.to_handler ≡ []
     pub no_reply : new.to_frontend ≡ []
 
-  -- The last answered call broke a premise, and the run stopped for it; the calls before it are in lockstep.
-  pub record BrokeAtLast (old : View Dev) (calls : List code.FrontendCall) (answers : List FrontendAnswer) (new : View Dev) : Type 0 where
-    pub before : List code.FrontendCall
-    pub call : code.FrontendCall
-    pub later : List code.FrontendCall
-    pub asked : calls ≡ before ++ call ∷ later
-    pub kept : List FrontendAnswer
-    pub answer : FrontendAnswer
-    pub answered : answers ≡ kept ++ answer ∷ []
-    pub mid : View Dev
-    pub lockstep : InLockstep old before kept mid
-    pub going : mid.stopped ≡ None
-    pub stopped : new.stopped ≡ Some Premise
-    pub moves : Moves gives mid (call_of call) (answer_of answer) new
-
   -- Frontend and handler are in lockstep; or they were up to the last answered call, where a premise failed.
   abbrev pub Lockstep : View Dev → List code.FrontendCall → List FrontendAnswer → View Dev → Type 0
-  Lockstep old calls answers new = (InLockstep old calls answers new × (new.stopped ≡ Some Premise → ⊥)) ⊎ BrokeAtLast old calls answers new
+  Lockstep = runs.Lockstep InLockstep (λ old call answer new. Moves gives old (call_of call) (answer_of answer) new) (λ v. v.stopped)
 
--- The headline, the contract of `Joined::run`: for every device, every list of calls and every pair of scripts. Where all features that were answered agree on protocol
--- features (or all that the device could answer do), no request is sent as a reply, and both sides were in step, they are in lockstep.
--- Whatever was before: the answers are appended, each call is a step, and where there is no room for the answers, no call is done.
-pub record RunsCalls {Dev : Type 0} (gives : Gives Dev) (old : View Dev) (calls : List code.FrontendCall) (before : List FrontendAnswer) (result : Result ⊤ Halt) (after : List FrontendAnswer) (new : View Dev) : Type 0 where
-  pub answers : List FrontendAnswer
-  pub appended : after ≡ before ++ answers
-  pub steps : StepsAll gives old calls answers result new ⊎ ((result ≡ Err halt.OutOfMemory) × (answers ≡ []) × (new ≡ old))
-  pub lockstep : (bit : Bool) → AreOffered bit calls answers ⊎ Offers gives bit → IsReady bit old → old.stopped ≡ None → ArePlain calls → Lockstep gives bit old calls answers new
+-- Where all features that were answered agree on protocol features (or all that the device could answer do), no request is sent as a reply, and both sides were in step, they are in lockstep.
+abbrev pub StayInLockstep : {Dev : Type 0} → Gives Dev → View Dev → List code.FrontendCall → List FrontendAnswer → View Dev → Type 0
+StayInLockstep gives old calls answers new = (bit : Bool) → AreOffered bit calls answers ⊎ Offers gives bit → IsReady bit old → old.stopped ≡ None → ArePlain calls → Lockstep gives bit old calls answers new
+
+-- The headline, the contract of `Joined::run`: for every device, every list of calls and every pair of scripts.
+abbrev pub RunsCalls : {Dev : Type 0} → Gives Dev → View Dev → List code.FrontendCall → List FrontendAnswer → Result ⊤ Halt → List FrontendAnswer → View Dev → Type 0
+RunsCalls gives = Runs (StepsBy gives) (StayInLockstep gives)

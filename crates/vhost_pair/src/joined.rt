@@ -124,7 +124,7 @@ impl<D: VhostUserBackendReqHandlerMut<Link = MemLink>> Joined<D> {
         ensures bytes { result.0.now ≡ self.now.request.bytes }
         ensures handles { result.1.now ≡ self.now.request.handles }
     {
-        let request = self.sides.request();
+        let request = &self.sides.request;
         (request.bytes(), request.handles())
     }
 
@@ -133,7 +133,7 @@ impl<D: VhostUserBackendReqHandlerMut<Link = MemLink>> Joined<D> {
         ensures bytes { result.0.now ≡ self.now.reply.bytes }
         ensures handles { result.1.now ≡ self.now.reply.handles }
     {
-        let reply = self.sides.reply();
+        let reply = &self.sides.reply;
         (reply.bytes(), reply.handles())
     }
 }

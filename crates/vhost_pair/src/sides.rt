@@ -10,9 +10,7 @@ ghost use Rattle.vhost_pair.specs.declared.halt.Stop.TheVariants.{Premise};
 
 use crate::begin::{new_asking, new_serving};
 use crate::halt::{Halt, Stop};
-use crate::ways::{
-    carry_reply, carry_request, copy_reply, copy_request, make_reply_list, make_request_list,
-};
+use crate::ways::{carry, copy};
 use crate::wire::Wire;
 use std::alloc::Global;
 use vhost_backend_req_handler::SessionCore;
@@ -36,8 +34,8 @@ pub struct Sides<D: Drop> {
     frontend: FrontendInternal<MemLink>,
     handler: SessionCore<MemLink>,
     device: D,
-    request: Wire,
-    reply: Wire,
+    pub request: Wire,
+    pub reply: Wire,
 }
 
 impl<D: VhostUserBackendReqHandlerMut<Link = MemLink>> Sides<D> {
@@ -95,22 +93,8 @@ impl<D: VhostUserBackendReqHandlerMut<Link = MemLink>> Sides<D> {
         ensures serving { (parts_of self.new).serving ≡ record (parts_of self.old).serving { list = (parts_of self.new).serving.list } }
         ensures rest { parts_of self.new ≡ record (parts_of self.old) { asking = (parts_of self.new).asking; serving = (parts_of self.new).serving } }
     {
-        make_reply_list(&mut self.frontend)?;
-        make_request_list(&mut self.handler)
-    }
-
-    /// The last request.
-    pub fn request(&self) -> &Wire
-        ensures { result.now ≡ self.now.request }
-    {
-        &self.request
-    }
-
-    /// The last reply.
-    pub fn reply(&self) -> &Wire
-        ensures { result.now ≡ self.now.reply }
-    {
-        &self.reply
+        self.frontend.endpoint_mut().make_list()?;
+        self.handler.endpoint_mut().make_list()
     }
 
     /// Does a call whose descriptor buffers were allocated.
@@ -152,15 +136,11 @@ impl<D: VhostUserBackendReqHandlerMut<Link = MemLink>> Sides<D> {
         ensures { EndsUnsent error (parts_of self.old) result (parts_of self.new) }
     {
         self.reply.clear();
-        copy_request(&mut self.frontend, &mut self.request);
-        let answer = FrontendAnswer::Failed(error);
-        if self.frontend.faulted() {
-            return Exchanged {
-                answer,
-                stop: Some(Stop::Premise),
-            };
+        copy(self.frontend.endpoint_mut(), &mut self.request);
+        Exchanged {
+            answer: FrontendAnswer::Failed(error),
+            stop: self.frontend.faulted().then_some(Stop::Premise),
         }
-        Exchanged { answer, stop: None }
     }
 
     /// Has a request served that was sent, and receives its reply.
@@ -172,7 +152,7 @@ impl<D: VhostUserBackendReqHandlerMut<Link = MemLink>> Sides<D> {
         ensures served { Serves D.gives (call_of call.now) sent (parts_of self.old) result (parts_of self.new) }
         ensures listed { IsListedFor (call_of call.now) (answer_of result.answer) }
     {
-        copy_request(&mut self.frontend, &mut self.request);
+        copy(self.frontend.endpoint_mut(), &mut self.request);
         let Some(served) = self.hand_over() else {
             return Exchanged {
                 answer: FrontendAnswer::Failed(Error::OutOfMemory),
@@ -192,12 +172,12 @@ impl<D: VhostUserBackendReqHandlerMut<Link = MemLink>> Sides<D> {
         ensures awaited { awaits self.new.frontend ≡ awaits self.old.frontend }
     {
         self.reply.clear();
-        if carry_request(&mut self.frontend, &mut self.handler).is_err() {
+        if carry(self.frontend.endpoint_mut(), self.handler.endpoint_mut()).is_err() {
             return None;
         }
         let served = self.handler.handle_request(&mut self.device);
-        copy_reply(&mut self.handler, &mut self.reply);
-        if carry_reply(&mut self.handler, &mut self.frontend).is_err() {
+        copy(self.handler.endpoint_mut(), &mut self.reply);
+        if carry(self.handler.endpoint_mut(), self.frontend.endpoint_mut()).is_err() {
             return None;
         }
         Some(served)

@@ -33,10 +33,10 @@ use Rattle.vhost_pair.specs.Joined.{Cuts, Passes, PassesBoth, Stops, StopsReply}
 use Rattle.vhost_pair.specs.OnWay.{incoming, outgoing}
 use Rattle.vhost_pair.specs.Sides.{cuts_of}
 use Rattle.vhost_pair.specs.Text.{Text, text_of}
-use Rattle.vhost_pair.proofs.Asked.{End, both-empty, arrived, emptied, kept, held, sender-cuts, receiver-cuts}
+use Rattle.vhost_pair.proofs.Asked.{both-empty, arrived, emptied, kept, held, sender-cuts, receiver-cuts}
 use Rattle.vhost_pair.proofs.OnWay.{incoming-handed, outgoing-taken}
 use Rattle.vhost_pair.proofs.Served.{pair-first, pair-second, last_stop}
-use Rattle.vhost_pair.proofs.Spent.{Faults, faults, sent-passes}
+use Rattle.vhost_pair.proofs.Spent.{End, Faults, faults, sent-passes}
 use Rattle.vhost_pair_reverse.specs.Joined as joined
 use Rattle.vhost_pair_reverse.specs.Joined.{Gives, Keeps, Answers}
 use Rattle.vhost_pair_reverse.specs.Sides.{Parts, as_view, to_server, to_backend, IsSound, HaveLists, HandedOver, stop_of}

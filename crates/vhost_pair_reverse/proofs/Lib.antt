@@ -5,4 +5,3 @@ pub mod Exchange
 pub mod Stepping
 pub mod Handing
 pub mod Lockstep
-pub mod Running

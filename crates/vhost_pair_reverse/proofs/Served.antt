@@ -22,7 +22,7 @@ use Rattle.vhost_frontend_req_handler.specs.Handling.{HandlesOne, fitting, kept 
 use Rattle.vhost_pair.specs.OnWay.{incoming, outgoing}
 use Rattle.vhost_pair.specs.Joined.{PassesBoth, Stops, StopsReply}
 use Rattle.vhost_pair.specs.Sides.{cuts_of}
-use Rattle.vhost_pair.proofs.Asked.{End}
+use Rattle.vhost_pair.proofs.Spent.{End}
 use Rattle.vhost_pair.proofs.Handled as handling
 use Rattle.vhost_pair.proofs.Handled.{Faults}
 use Rattle.vhost_pair.proofs.Served.{pair-first, pair-second}

@@ -23,8 +23,8 @@ use Rattle.vhost_pair.specs.Joined.{Cuts, PassesBoth, Stops}
 use Rattle.vhost_pair.specs.OnWay.{incoming, outgoing, Carries}
 use Rattle.vhost_pair.specs.Sides.{cuts_of}
 use Rattle.vhost_pair.specs.Text.{text_of, no_text}
-use Rattle.vhost_pair.proofs.Asked.{End, both-empty, kept}
-use Rattle.vhost_pair.proofs.Spent.{Faults, faults, passes-none}
+use Rattle.vhost_pair.proofs.Asked.{both-empty, kept}
+use Rattle.vhost_pair.proofs.Spent.{End, Faults, faults, passes-none}
 use Rattle.vhost_pair_reverse.specs.Joined as joined
 use Rattle.vhost_pair_reverse.specs.Joined.{Gives, View, Keeps, Answers, Steps}
 use Rattle.vhost_pair_reverse.specs.Sides as sides

@@ -1,5 +1,5 @@
 -- Joined runs of the reverse channel, as contracts see them.
-use Rattle.std.specs.Prelude.{◌≡◌, ℕ, ◌<◌, List, [], ◌∷◌, length, take, Option, Some, None, Bool, true, false, ◌||◌, ◌⊎◌, if◌then◌else◌, Result, Ok, Err, ⊤, is_some}
+use Rattle.std.specs.Prelude.{◌≡◌, ℕ, ◌<◌, List, [], length, take, Option, Some, None, Bool, true, false, ◌||◌, ◌⊎◌, if◌then◌else◌, Result, Ok, Err, ⊤, is_some}
 use Rattle.vhost_message.specs.BackendReq.{backend_request_number}
 use Rattle.vhost_message.specs.Cause.{error_of}
 use Rattle.vhost_message.specs.declared.backend_req.BackendReq.{BackendReq}
@@ -21,6 +21,7 @@ use Rattle.vhost_pair.specs.declared.halt.Halt.TheVariants as halt
 use Rattle.vhost_pair.specs.declared.halt.Stop.{Stop}
 use Rattle.vhost_pair.specs.declared.halt.Stop.TheVariants as stop
 use Rattle.vhost_pair.specs.Joined.{Cuts, Passes, PassesBoth, Stops, StopsReply}
+use Rattle.vhost_pair.specs.Runs as runs
 use Rattle.vhost_pair.specs.Text.{Text, text_of}
 
 -- what the device behind the serving side may do at each call: old state, call, answer and new state
@@ -120,9 +121,10 @@ module _ {Dev : Type 0} (gives : Gives Dev) where
   Steps old input (Err halt.Stopped) new = (is_some old.stopped ≡ true) × (new ≡ old)
   Steps old input (Err halt.OutOfMemory) new = (old.stopped ≡ None) × (new ≡ old)
 
+  -- the same of a call as the code has it
+  abbrev pub StepsBy : View Dev → code.ReverseCall PlainHandle → Result (Result ℕ io.IoError) Halt → View Dev → Type 0
+  StepsBy old call result new = Steps old (input_of call) result new
+
   -- steps one after another, until one is not done
   abbrev pub StepsAll : View Dev → List (code.ReverseCall PlainHandle) → List (Result ℕ io.IoError) → Result ⊤ Halt → View Dev → Type 0
-  StepsAll old [] [] (Ok u) new = new ≡ old
-  StepsAll old (c ∷ cs) [] (Err h) new = Steps old (input_of c) (Err h) new
-  StepsAll old (c ∷ cs) (a ∷ as') end new = (mid : View Dev) × Steps old (input_of c) (Ok a) mid × StepsAll mid cs as' end new
-  StepsAll _ _ _ _ _ = ⊥
+  StepsAll = runs.StepsAll StepsBy

@@ -114,7 +114,7 @@ impl<D: VhostUserFrontendReqHandlerMut<Handle = PlainHandle>> JoinedReverse<D> {
         ensures bytes { result.0.now ≡ self.now.request.bytes }
         ensures handles { result.1.now ≡ self.now.request.handles }
     {
-        let request = self.sides.request();
+        let request = &self.sides.request;
         (request.bytes(), request.handles())
     }
 
@@ -123,7 +123,7 @@ impl<D: VhostUserFrontendReqHandlerMut<Handle = PlainHandle>> JoinedReverse<D> {
         ensures bytes { result.0.now ≡ self.now.reply.bytes }
         ensures handles { result.1.now ≡ self.now.reply.handles }
     {
-        let reply = self.sides.reply();
+        let reply = &self.sides.reply;
         (reply.bytes(), reply.handles())
     }
 }

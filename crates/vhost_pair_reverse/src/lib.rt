@@ -3,7 +3,6 @@
 
 mod joined;
 mod sides;
-mod ways;
 
 pub use joined::{JoinedReverse, ReverseCall};
 pub use vhost_pair::{Halt, Stop};

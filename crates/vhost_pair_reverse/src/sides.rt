@@ -4,15 +4,12 @@ ghost use Rattle.std.specs.Prelude.{◌≡◌, ◌||◌, Some, None, Ok, IfOk, I
 ghost use Rattle.vhost_backend_req.specs.Halves.{input_of};
 ghost use Rattle.vhost_message.specs.declared.error.Error.TheVariants.{OutOfMemory};
 
-use crate::ways::{
-    carry_reply, carry_request, copy_reply, copy_request, make_reply_list, make_request_list,
-};
 use std::alloc::Global;
 use vhost_backend_req::{Asked, BackendInternal, ReverseCall};
 use vhost_frontend_req_handler::{FrontendReqCore, VhostUserFrontendReqHandlerMut};
 use vhost_link::{Cut, MemLink, PlainHandle};
 use vhost_message::{BackendReq, Error, HandlerResult, IoError, Result, VhostUserMsgHeader};
-use vhost_pair::{Stop, Wire};
+use vhost_pair::{Stop, Wire, carry, copy};
 
 type Header = VhostUserMsgHeader<BackendReq>;
 
@@ -29,8 +26,8 @@ pub struct Sides<D: Drop> {
     backend: BackendInternal<MemLink>,
     server: FrontendReqCore<MemLink>,
     device: D,
-    request: Wire,
-    reply: Wire,
+    pub request: Wire,
+    pub reply: Wire,
 }
 
 impl<D: VhostUserFrontendReqHandlerMut<Handle = PlainHandle>> Sides<D> {
@@ -75,22 +72,8 @@ impl<D: VhostUserFrontendReqHandlerMut<Handle = PlainHandle>> Sides<D> {
         ensures serving { (parts_of self.new).serving ≡ record (parts_of self.old).serving { list = (parts_of self.new).serving.list } }
         ensures rest { parts_of self.new ≡ record (parts_of self.old) { channel = (parts_of self.new).channel; serving = (parts_of self.new).serving } }
     {
-        make_reply_list(&mut self.backend)?;
-        make_request_list(&mut self.server)
-    }
-
-    /// The last request.
-    pub fn request(&self) -> &Wire
-        ensures { result.now ≡ self.now.request }
-    {
-        &self.request
-    }
-
-    /// The last reply.
-    pub fn reply(&self) -> &Wire
-        ensures { result.now ≡ self.now.reply }
-    {
-        &self.reply
+        self.backend.endpoint_mut().make_list()?;
+        self.server.endpoint_mut().make_list()
     }
 
     /// Sets a flag, or does a call whose descriptor buffers were allocated.
@@ -126,22 +109,18 @@ impl<D: VhostUserFrontendReqHandlerMut<Handle = PlainHandle>> Sides<D> {
         ensures { EndsUnsent error (parts_of self.old) result (parts_of self.new) }
     {
         self.reply.clear();
-        copy_request(&mut self.backend, &mut self.request);
-        let answer = Err(error);
-        if self.backend.faulted() {
-            return Exchanged {
-                answer,
-                stop: Some(Stop::Premise),
-            };
+        copy(self.backend.endpoint_mut(), &mut self.request);
+        Exchanged {
+            answer: Err(error),
+            stop: self.backend.faulted().then_some(Stop::Premise),
         }
-        Exchanged { answer, stop: None }
     }
 
     /// Has a request served that was sent, and receives its reply.
     fn serve(&mut self, sent: Option<Header>) -> Exchanged
         ensures { Serves D.gives sent (parts_of self.old) result (parts_of self.new) }
     {
-        copy_request(&mut self.backend, &mut self.request);
+        copy(self.backend.endpoint_mut(), &mut self.request);
         let served = self.hand_over();
         let answer = self.backend.take_half(sent);
         let Some(served) = served else {
@@ -160,12 +139,12 @@ impl<D: VhostUserFrontendReqHandlerMut<Handle = PlainHandle>> Sides<D> {
         ensures { HandsOver D.gives (parts_of self.old) result (parts_of self.new) }
     {
         self.reply.clear();
-        if carry_request(&mut self.backend, &mut self.server).is_err() {
+        if carry(self.backend.endpoint_mut(), self.server.endpoint_mut()).is_err() {
             return None;
         }
         let served = self.server.handle_request(&mut self.device);
-        copy_reply(&mut self.server, &mut self.reply);
-        if carry_reply(&mut self.server, &mut self.backend).is_err() {
+        copy(self.server.endpoint_mut(), &mut self.reply);
+        if carry(self.server.endpoint_mut(), self.backend.endpoint_mut()).is_err() {
             return None;
         }
         Some(served)
