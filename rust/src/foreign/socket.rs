@@ -4,7 +4,7 @@ use std::io;
 use std::mem::{size_of, size_of_val, zeroed, MaybeUninit};
 use std::os::unix::io::{AsRawFd, FromRawFd, OwnedFd, RawFd};
 use std::os::unix::net::UnixStream;
-use std::ptr::copy_nonoverlapping;
+use std::ptr::{addr_of_mut, copy_nonoverlapping};
 use std::slice::from_raw_parts;
 
 use super::moving::MAX_FDS;
@@ -12,17 +12,15 @@ use super::moving::MAX_FDS;
 /// The greatest number of descriptors that the system passes on with a message.
 pub(crate) const SYSTEM_FDS: usize = 253;
 
-const ROOM: usize = room_for(SYSTEM_FDS);
-
 /// How much control data so many descriptors take.
 const fn room_for(fds: usize) -> usize {
     // SAFETY: it computes a size.
     unsafe { libc::CMSG_SPACE((size_of::<RawFd>() * fds) as u32) as usize }
 }
 
-/// Room for the control data of a message, at an address that its headers may stand at.
+/// Room for so much control data of a message, at an address that its headers may stand at.
 #[repr(C)]
-union Control {
+union Control<const ROOM: usize> {
     _align: libc::cmsghdr,
     bytes: [u8; ROOM],
 }
@@ -38,43 +36,46 @@ pub(crate) struct Received {
 /// Sends a part of these bytes, at least one, with all of the descriptors on the first of them: how many bytes. It raises no
 /// SIGPIPE. The descriptors stay the caller's; there are `SYSTEM_FDS` at most.
 pub(crate) fn send(socket: &UnixStream, bytes: &[u8], fds: &[RawFd], is_waiting: bool) -> io::Result<usize> {
-    let mut control = MaybeUninit::<Control>::uninit();
     let mut piece = libc::iovec { iov_base: bytes.as_ptr() as *mut libc::c_void, iov_len: bytes.len() };
     let flags = libc::MSG_NOSIGNAL | if is_waiting { 0 } else { libc::MSG_DONTWAIT };
     // SAFETY: a message of zeros is valid, and has no parts.
     let mut message: libc::msghdr = unsafe { zeroed() };
     message.msg_iov = &mut piece;
     message.msg_iovlen = 1;
-    if !fds.is_empty() {
-        attach(&mut message, &mut control, fds);
-    }
-    // SAFETY: the message points to `piece`, the bytes and `control`, which all outlive the call; the bytes are only read.
-    let sent = unsafe { libc::sendmsg(socket.as_raw_fd(), &message, flags) };
+    let sent = match fds {
+        // SAFETY: the message points to `piece` and the bytes, which outlive the call; the bytes are only read.
+        [] => unsafe { libc::sendmsg(socket.as_raw_fd(), &message, flags) },
+        fds => send_attached(socket, message, fds, flags),
+    };
     usize::try_from(sent).map_err(|_| io::Error::last_os_error())
 }
 
-/// Lets a message bring these descriptors, of which there are `SYSTEM_FDS` at most. It points to the control data then.
+/// Sends a message that points to its bytes, with these descriptors, of which there are `SYSTEM_FDS` at most: what `sendmsg`
+/// returns.
 #[cold]
-fn attach(message: &mut libc::msghdr, control: &mut MaybeUninit<Control>, fds: &[RawFd]) {
+fn send_attached(socket: &UnixStream, mut message: libc::msghdr, fds: &[RawFd], flags: libc::c_int) -> isize {
     assert!(fds.len() <= SYSTEM_FDS);
     let length = size_of_val(fds) as u32;
-    message.msg_control = (control.write(Control { bytes: [0; ROOM] }) as *mut Control).cast();
+    let mut control = Control { bytes: [0; room_for(SYSTEM_FDS)] };
+    message.msg_control = addr_of_mut!(control).cast();
     // SAFETY: the control data has room for a header and SYSTEM_FDS descriptors, so the header is there, and its data is behind it.
-    // The descriptors are copied as bytes, since that data need not be aligned for them.
+    // The descriptors are copied as bytes, since that data need not be aligned for them. The message points to `control` and to the
+    // caller's bytes, which outlive the call.
     unsafe {
         message.msg_controllen = libc::CMSG_SPACE(length) as _;
-        let head = libc::CMSG_FIRSTHDR(message);
+        let head = libc::CMSG_FIRSTHDR(&message);
         (*head).cmsg_level = libc::SOL_SOCKET;
         (*head).cmsg_type = libc::SCM_RIGHTS;
         (*head).cmsg_len = libc::CMSG_LEN(length) as _;
         copy_nonoverlapping(fds.as_ptr().cast::<u8>(), libc::CMSG_DATA(head), length as usize);
+        libc::sendmsg(socket.as_raw_fd(), &message, flags)
     }
 }
 
 /// Receives a part of what fits, and puts the descriptors that came along behind `fds`: they are the caller's then, and do not
 /// pass to a program that is executed.
 pub(crate) fn receive(socket: &UnixStream, room: &mut [u8], fds: &mut Vec<OwnedFd>, is_waiting: bool) -> io::Result<Received> {
-    receive_within(socket, room, fds, MAX_FDS, is_waiting)
+    receive_within::<{ room_for(MAX_FDS) }>(socket, room, fds, is_waiting)
 }
 
 /// The same, with any number of descriptors.
@@ -84,18 +85,17 @@ pub(crate) fn receive_any(
     fds: &mut Vec<OwnedFd>,
     is_waiting: bool,
 ) -> io::Result<Received> {
-    receive_within(socket, room, fds, SYSTEM_FDS, is_waiting)
+    receive_within::<{ room_for(SYSTEM_FDS) }>(socket, room, fds, is_waiting)
 }
 
-/// The same, with so many descriptors at most, which are `SYSTEM_FDS` or fewer.
-fn receive_within(
+/// The same, with as many descriptors as this control data has room for.
+fn receive_within<const ROOM: usize>(
     socket: &UnixStream,
     room: &mut [u8],
     fds: &mut Vec<OwnedFd>,
-    most: usize,
     is_waiting: bool,
 ) -> io::Result<Received> {
-    let mut control = MaybeUninit::<Control>::uninit();
+    let mut control = MaybeUninit::<Control<ROOM>>::uninit();
     let mut piece = libc::iovec { iov_base: room.as_mut_ptr().cast(), iov_len: room.len() };
     let flags = libc::MSG_CMSG_CLOEXEC | if is_waiting { 0 } else { libc::MSG_DONTWAIT };
     // SAFETY: a message of zeros is valid, and has no parts.
@@ -103,7 +103,7 @@ fn receive_within(
     message.msg_iov = &mut piece;
     message.msg_iovlen = 1;
     message.msg_control = control.as_mut_ptr().cast();
-    message.msg_controllen = room_for(most) as _;
+    message.msg_controllen = ROOM as _;
     // SAFETY: the message points to `piece`, the room and `control`, which all outlive the call; `control` is only written.
     let got = unsafe { libc::recvmsg(socket.as_raw_fd(), &mut message, flags) };
     let count = usize::try_from(got).map_err(|_| io::Error::last_os_error())?;
