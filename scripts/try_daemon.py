@@ -394,6 +394,16 @@ def left_over_folder(path):
     same(kept.read_text(), "kept")
     kept.unlink()
     kept.parent.rmdir()
+    # (a link to a folder is not followed: what is in that is another's)
+    others = pathlib.Path(path + ".others")
+    others.mkdir()
+    left_over(str(others / "s"))
+    kept.parent.symlink_to(others)
+    same(run(path, "1")[:2], (2, ""))
+    assert (others / "s").is_socket(), "another's socket is gone"
+    (others / "s").unlink()
+    others.rmdir()
+    kept.parent.unlink()
 
 
 def second_daemon(path):

@@ -3,10 +3,10 @@
 ghost use Rattle.std.specs.Prelude.{◌≡◌, ◌^◌, Ok, Some, bit_or};
 ghost use Rattle.vhost_protocol.specs.Answered.{rebased_region, with_base, with_check, with_config, with_handle, with_inflight, with_state};
 ghost use Rattle.vhost_protocol.specs.Features.{REPLY_ACK};
-ghost use Rattle.vhost_protocol.specs.Session.{Session as Remembered, ack_on};
+ghost use Rattle.vhost_protocol.specs.Session.{Session as Kept, ack_on};
 ghost use Rattle.vhost_protocol.specs.Step.{replied_or_silent, unwritten, with_ack};
 ghost use Rattle.vhost_protocol.specs.Written as payload;
-ghost use Rattle.vhost_backend_core.specs.Concluding.{Beside, base_in, bases_in, bytes_in, done_in, handle_in, inflight_in, number_in, outcome_in, remembered, reported, ring_state_in, shmem_in, state_handle_in, told_if, wanting, with_counted};
+ghost use Rattle.vhost_backend_core.specs.Concluding.{Beside, base_in, bases_in, bytes_in, concluded, done_in, handle_in, inflight_in, number_in, outcome_in, remembered, reported, ring_state_in, shmem_in, state_handle_in, told_if, wanting, with_counted};
 ghost use Rattle.vhost_backend_core.specs.Session.{session_of};
 ghost use Rattle.vhost_backend_core.specs.declared.answer.DeviceAnswer.{DeviceAnswer};
 ghost use Rattle.vhost_backend_core.specs.declared.answer.Told.TheVariants as told_;
@@ -27,8 +27,21 @@ pub struct Conclusions<H> {
 }
 
 impl<H: Drop> Conclusions<H> {
+    /// What the answer of a call becomes, and what the session remembers of it. The request wanted an acknowledgement, or did not.
+    pub fn conclude<'t>(
+        session: &mut Session,
+        need_reply: bool,
+        then: &Then,
+        answer: &'t DeviceAnswer<H>,
+    ) -> Conclusion<'t, H>
+        ensures { (b : Beside) → outcome_in (session_of session.new) b answer.now result ≡ concluded (session_of session.old) need_reply b then.now answer.now }
+    {
+        Self::remember(session, then, answer);
+        Self::report(session, need_reply, then, answer)
+    }
+
     /// What the session remembers of an answer, before that is reported.
-    pub fn remember(session: &mut Session, then: &Then, answer: &DeviceAnswer<H>)
+    fn remember(session: &mut Session, then: &Then, answer: &DeviceAnswer<H>)
         ensures { session_of session.new ≡ remembered (session_of session.old) then.now answer.now }
     {
         match then {
@@ -54,9 +67,8 @@ impl<H: Drop> Conclusions<H> {
         }
     }
 
-    /// What the answer of a call becomes, by how it is reported, where the session remembers what it has to. The request wanted an
-    /// acknowledgement, or did not.
-    pub fn conclude<'t>(
+    /// What the answer of a call becomes, by how it is reported, where the session remembers what it has to.
+    fn report<'t>(
         session: &Session,
         need_reply: bool,
         then: &Then,
@@ -186,7 +198,7 @@ impl<H: Drop> Conclusions<H> {
 
     /// The number with REPLY_ACK.
     fn offers_protocol<'t>(answer: &'t DeviceAnswer<H>) -> Conclusion<'t, H>
-        ensures { (s : Remembered) (b : Beside) → outcome_in s b answer.now result ≡ replied_or_silent s (λ n. payload.U64 (bit_or n (2 ^ REPLY_ACK))) (number_in answer.now) }
+        ensures { (s : Kept) (b : Beside) → outcome_in s b answer.now result ≡ replied_or_silent s (λ n. payload.U64 (bit_or n (2 ^ REPLY_ACK))) (number_in answer.now) }
     {
         match answer {
             DeviceAnswer::Number(Ok(number)) => {
@@ -198,7 +210,7 @@ impl<H: Drop> Conclusions<H> {
     }
 
     fn number<'t>(answer: &'t DeviceAnswer<H>) -> Conclusion<'t, H>
-        ensures { (s : Remembered) (b : Beside) → outcome_in s b answer.now result ≡ replied_or_silent s payload.U64 (number_in answer.now) }
+        ensures { (s : Kept) (b : Beside) → outcome_in s b answer.now result ≡ replied_or_silent s payload.U64 (number_in answer.now) }
     {
         match answer {
             DeviceAnswer::Number(Ok(number)) => Self::replied(Reply::U64(*number)),
@@ -208,7 +220,7 @@ impl<H: Drop> Conclusions<H> {
     }
 
     fn ring_state<'t>(answer: &'t DeviceAnswer<H>) -> Conclusion<'t, H>
-        ensures { (s : Remembered) (b : Beside) → outcome_in s b answer.now result ≡ replied_or_silent s payload.RingState (ring_state_in answer.now) }
+        ensures { (s : Kept) (b : Beside) → outcome_in s b answer.now result ≡ replied_or_silent s payload.RingState (ring_state_in answer.now) }
     {
         match answer {
             DeviceAnswer::RingState(Ok(ring)) => Self::replied(Reply::RingState(*ring)),
@@ -219,7 +231,7 @@ impl<H: Drop> Conclusions<H> {
 
     /// The bytes behind the same record, or the record with size 0 and none.
     fn config<'t>(area: Area, answer: &'t DeviceAnswer<H>) -> Conclusion<'t, H>
-        ensures { (s : Remembered) (b : Beside) → outcome_in s b answer.now result ≡ with_config s area.config (bytes_in answer.now) }
+        ensures { (s : Kept) (b : Beside) → outcome_in s b answer.now result ≡ with_config s area.config (bytes_in answer.now) }
     {
         if let DeviceAnswer::Bytes(Ok(bytes)) = answer {
             let bytes = &bytes[..];
@@ -235,7 +247,7 @@ impl<H: Drop> Conclusions<H> {
     }
 
     fn handle<'t>(answer: &'t DeviceAnswer<H>) -> Conclusion<'t, H>
-        ensures { (s : Remembered) (b : Beside) → outcome_in s b answer.now result ≡ with_handle s (handle_in answer.now) }
+        ensures { (s : Kept) (b : Beside) → outcome_in s b answer.now result ≡ with_handle s (handle_in answer.now) }
     {
         match answer {
             DeviceAnswer::Handle(Ok(handle)) => Self::replied_with(Reply::Empty, handle),
@@ -244,7 +256,7 @@ impl<H: Drop> Conclusions<H> {
     }
 
     fn inflight<'t>(answer: &'t DeviceAnswer<H>) -> Conclusion<'t, H>
-        ensures { (s : Remembered) (b : Beside) → outcome_in s b answer.now result ≡ with_inflight s (inflight_in answer.now) }
+        ensures { (s : Kept) (b : Beside) → outcome_in s b answer.now result ≡ with_inflight s (inflight_in answer.now) }
     {
         if let DeviceAnswer::Inflight(Ok(part)) = answer {
             return Self::replied_with(Reply::InflightArea(part.0), &part.1);
@@ -256,7 +268,7 @@ impl<H: Drop> Conclusions<H> {
     }
 
     fn state_handle<'t>(answer: &'t DeviceAnswer<H>) -> Conclusion<'t, H>
-        ensures { (s : Remembered) (b : Beside) → outcome_in s b answer.now result ≡ with_state s (state_handle_in answer.now) }
+        ensures { (s : Kept) (b : Beside) → outcome_in s b answer.now result ≡ with_state s (state_handle_in answer.now) }
     {
         match answer {
             DeviceAnswer::StateHandle(Ok(Some(handle))) => {
@@ -268,7 +280,7 @@ impl<H: Drop> Conclusions<H> {
     }
 
     fn check<'t>(answer: &'t DeviceAnswer<H>) -> Conclusion<'t, H>
-        ensures { (s : Remembered) (b : Beside) → outcome_in s b answer.now result ≡ with_check s (done_in answer.now) }
+        ensures { (s : Kept) (b : Beside) → outcome_in s b answer.now result ≡ with_check s (done_in answer.now) }
     {
         match answer {
             DeviceAnswer::Done(Ok(())) => Self::replied(Reply::U64(0)),
@@ -277,7 +289,7 @@ impl<H: Drop> Conclusions<H> {
     }
 
     fn shmem<'t>(answer: &'t DeviceAnswer<H>) -> Conclusion<'t, H>
-        ensures { (s : Remembered) (b : Beside) → outcome_in s b answer.now result ≡ replied_or_silent s payload.Shmem (shmem_in b answer.now) }
+        ensures { (s : Kept) (b : Beside) → outcome_in s b answer.now result ≡ replied_or_silent s payload.Shmem (shmem_in b answer.now) }
     {
         match answer {
             DeviceAnswer::Shmem(Ok(())) => Self::replied(Reply::Shmem),
@@ -287,7 +299,7 @@ impl<H: Drop> Conclusions<H> {
     }
 
     fn log<'t>(log: VhostUserLog, answer: &'t DeviceAnswer<H>) -> Conclusion<'t, H>
-        ensures { (s : Remembered) (b : Beside) → outcome_in s b answer.now result ≡ replied_or_silent s (λ u. payload.LogArea log) (done_in answer.now) }
+        ensures { (s : Kept) (b : Beside) → outcome_in s b answer.now result ≡ replied_or_silent s (λ u. payload.LogArea log) (done_in answer.now) }
     {
         match answer {
             DeviceAnswer::Done(Ok(())) => Self::replied(Reply::LogArea(log)),
@@ -348,7 +360,7 @@ impl<H: Drop> Conclusions<H> {
     }
 
     fn unwritten<'t>(answer: &'t DeviceAnswer<H>) -> Conclusion<'t, H>
-        ensures { (s : Remembered) (b : Beside) → outcome_in s b answer.now result ≡ unwritten s (done_in answer.now) }
+        ensures { (s : Kept) (b : Beside) → outcome_in s b answer.now result ≡ unwritten s (done_in answer.now) }
     {
         match answer {
             DeviceAnswer::Done(_) => Self::silent(Verdict::Device),

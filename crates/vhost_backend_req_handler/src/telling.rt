@@ -176,9 +176,8 @@ impl Server {
         ensures { IsReady (state endpoint.old) → Finishes L.event code (concluded (session_of self.old.session) need_reply (beside_then next self.old) next answer) (state endpoint.old) (session_of self.old.session) result (state endpoint.new) (session_of self.new.session) }
     {
         let before = self.session;
-        Conclusions::remember(&mut self.session, &next, &answer);
         let Conclusion { verdict, told } = Conclusions::conclude(
-            &self.session,
+            &mut self.session,
             need_reply,
             &next,
             &answer,

@@ -33,6 +33,8 @@ pub(crate) fn bind_fresh<R: Files<File = File> + Net>(
 }
 
 /// Makes the folder. One that is there already was left by a process that was killed: it is made anew, unless something else is in it.
+///
+/// A link to a folder is none, so nothing in what it names is touched.
 fn make_folder<R: Files>(rt: &R, folder: &str, socket: &str) -> io::Result<()> {
     let mut private = DirBuilder::new();
     private.mode(0o700);
@@ -40,12 +42,22 @@ fn make_folder<R: Files>(rt: &R, folder: &str, socket: &str) -> io::Result<()> {
         Err(error) if error.kind() == ErrorKind::AlreadyExists => {}
         made => return made,
     }
-    match fs::symlink_metadata(rt, socket) {
-        Ok(found) if found.file_type().is_socket() => fs::remove_file(rt, socket)?,
-        _ => {}
+    match fs::remove_dir(rt, folder) {
+        Err(error) if error.kind() == ErrorKind::DirectoryNotEmpty => {
+            remove_socket(rt, socket)?;
+            fs::remove_dir(rt, folder)?;
+        }
+        removed => removed?,
     }
-    fs::remove_dir(rt, folder)?;
     private.create(rt, folder)
+}
+
+/// Removes the socket that was left in the folder; another file stays.
+fn remove_socket<R: Files>(rt: &R, socket: &str) -> io::Result<()> {
+    match fs::symlink_metadata(rt, socket) {
+        Ok(found) if found.file_type().is_socket() => fs::remove_file(rt, socket),
+        _ => Ok(()),
+    }
 }
 
 /// Listens in the folder, and then gives the socket the path's name.

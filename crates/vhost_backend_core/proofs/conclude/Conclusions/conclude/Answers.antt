@@ -1,13 +1,7 @@
--- The arms whose answers have no value.
-use Rattle.std.proofs.Common.{◌∙◌, ap, sym}
+-- What the session remembered, and then what is reported by it.
+use Rattle.std.proofs.Common.{◌∙◌, ap}
 use Rattle.vhost_backend_core.specs.Concluding.{reported}
-use Rattle.vhost_backend_core.specs.Session.{session_of}
 use Rattle.vhost_backend_core.proofs.conclude.Conclusions.conclude.Goals as goal
 
-pub returns-in-Log : goal.returns-in-Log
-returns-in-Log g c b =
-    c.log.ensures (session_of c.args.session.now) b ∙ sym (ap (λ t. reported (session_of c.args.session.now) c.args.need_reply b t c.args.answer.now) c.in-Log.is)
-
-pub returns-in-Unwritten : goal.returns-in-Unwritten
-returns-in-Unwritten g c b =
-    c.unwritten.ensures (session_of c.args.session.now) b ∙ sym (ap (λ t. reported (session_of c.args.session.now) c.args.need_reply b t c.args.answer.now) c.in-Unwritten.is)
+pub returns : goal.returns
+returns g c b = c.report.ensures b ∙ ap (λ s. reported s c.args.need_reply b c.args.then.now c.args.answer.now) c.remember.ensures
