@@ -12,7 +12,7 @@ use Rattle.vhost_link.specs.Law.{Event, Handed, Ended, Refused, Moved, nothing}
 use Rattle.vhost_link.specs.Law.Moved.{still}
 use Rattle.vhost_link.proofs.Cells.{length-carrying, bytes-carrying, brings-plain}
 use Rattle.vhost_link.proofs.Moves.{Moved-as, Moved-once}
-use Rattle.vhost_connection.specs.Pass.{receives, GetsPiece, Arrives}
+use Rattle.vhost_connection.specs.Pass.{receives, Arrives}
 use Rattle.vhost_connection.specs.Talk.{State, Serves, Trouble, IfSound}
 use Rattle.vhost_connection.specs.Calls.{HandsOver}
 use Rattle.vhost_connection.specs.Front.{ReadsCountOnce, gives}
@@ -39,7 +39,7 @@ moved-once event old new before after (suc n) len handles pos a =
     Moved-as (rw (le-ltb (length (carrying handles a.front)) (min 1 len) (omega (arith, long))) refl) (Moved-once (Handed (carrying handles a.front)) (a.some (omega arith)))
 
 pub once-came : {L H : Type 0} (event : L → Event H → L → Type 0) (old mid new : State L H) (from to : Way L) (before after text : List ℕ) (len n : ℕ) (handles : List H) (given : Option (Vec H Global))
-    → 0 < len → length before ≡ len → At old from → mid ≡ served old to.link (plain to.ahead) false old.left → old.broken ≡ None → GetsPiece (reads_ahead event) from before 0 (Ok n) after handles to → take len text ≡ after
+    → 0 < len → length before ≡ len → At old from → mid ≡ served old to.link (plain to.ahead) false old.left → old.broken ≡ None → Arrives (reads_ahead event) from before 0 n after handles to → take len text ≡ after
     → HandsOver given handles → new ≡ gives mid handles → ReadsCountOnce event old len (Ok (n, given)) text new
 once-came event old mid new from to before after text len n handles given pos long a s broken g front over is =
     let cs = carrying handles g.front in

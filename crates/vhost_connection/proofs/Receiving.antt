@@ -1,5 +1,5 @@
 -- Cells come in piece by piece.
-use Rattle.std.proofs.Common.{◌≡◌, ℕ, ◌+◌, ◌-◌, ◌<◌, ◌≤◌, List, [], ◌∷◌, ◌++◌, length, take, drop, add-zero, zero-add, length-drop, refl, sym, ap, ◌∙◌, arith, Bool, true, false, IsTrue, Ok, Err, Result, ◌||◌, append_assoc, subst, ◌==◌}
+use Rattle.std.proofs.Common.{◌≡◌, ℕ, ◌+◌, ◌-◌, ◌<◌, ◌≤◌, List, [], ◌∷◌, ◌++◌, length, take, drop, add-zero, zero-add, length-drop, refl, sym, ap, ◌∙◌, arith, Bool, true, false, IsTrue, Ok, ◌||◌, append_assoc, subst, ◌==◌}
 use Rattle.std.proofs.Math.Bool.{or-true, or-false}
 use Rattle.std.proofs.lemmas.List.{nil_from_length, append-nil, take_rest, take_at, drop_at, drop-drop, take_all, drop_all, take-append-drop, length-take-le, map-append, length-append}
 use Rattle.std.proofs.lemmas.Bool.Decides.{nat_tests}
@@ -11,7 +11,7 @@ use Rattle.vhost_link.proofs.Cells.{length-carrying, bytes-carrying, bytes-appen
 use Rattle.vhost_link.specs.Law.{Event, Handed, Refused, Moved, ◌then◌, done, Receives}
 use Rattle.vhost_link.specs.Law.Moved.{still, more}
 use Rattle.vhost_link.proofs.Moves.{Moved-as, Moved-then}
-use Rattle.vhost_connection.specs.Pass.{receives, GetsWhole, GetsParts, FrontCame, Fills, Arrives, GetsPiece, GetsRest, GotAs}
+use Rattle.vhost_connection.specs.Pass.{receives, GetsWhole, GetsParts, FrontCame, Fills, Arrives, GetsRest, GotAs}
 use Rattle.vhost_connection.specs.declared.pass.RecvPass.{RecvPass}
 use Rattle.vhost_connection.specs.declared.pass.PassEnd.{PassEnd}
 use Rattle.vhost_connection.specs.declared.pass.PassEnd.TheVariants.{Whole, AtEnd, Fault}
@@ -33,11 +33,12 @@ piece_room count n before piece le e =
     let tail : drop n piece ≡ drop (count + n) before = rw take_rest at e ∙ drop-drop n count before in
     ap (λ xs. take count before ++ xs) (rw (post, append-nil piece) (sym (take-append-drop n piece) ∙ ap (λ xs. take n piece ++ xs) tail))
 
-pub gets-piece : {S H : Type 0} (event : S → Event H → S → Type 0) (old new : S) (before piece : List ℕ) (count : ℕ) (r : Result ℕ IoCause) (handles : List H)
+-- what comes to the rest of a room: some bytes, or a fault
+pub gets-more : {S H : Type 0} (event : S → Event H → S → Type 0) (old new : S) (before piece : List ℕ) (count n : ℕ) (handles : List H)
     → count < length before → length piece ≡ length (take (length before - count) (drop count before))
-    → Receives event old (take (length before - count) (drop count before)) r piece handles new
-    → GetsPiece event old before count r (put_mid count (length before - count) before piece) handles new
-gets-piece event old new before piece count (Ok n) handles lt len (most, same, law) =
+    → Receives event old (take (length before - count) (drop count before)) (Ok n) piece handles new
+    → Arrives event old before count n (put_mid count (length before - count) before piece) handles new
+gets-more event old new before piece count n handles lt len (most, same, law) =
     let mid : length (take (length before - count) (drop count before)) ≡ length before - count = ap length (take_rest before count) ∙ length-drop count before in
     record {
       front = take n piece;
@@ -49,9 +50,30 @@ gets-piece event old new before piece count (Ok n) handles lt len (most, same, l
       none = law.none;
       few = law.few;
     }
-gets-piece event old new before piece count (Err c) handles lt len (law, same, none) =
+
+pub room-stays : (before piece : List ℕ) (count : ℕ) → count < length before → piece ≡ take (length before - count) (drop count before)
+    → put_mid count (length before - count) before piece ≡ before
+room-stays before piece count lt same =
     let post : drop (length before - count) (drop count before) ≡ [] = drop_all (length before - count) (drop count before) (omega (arith, length-drop count before)) in
-    (law, ap (λ xs. take count before ++ xs) (rw (post, append-nil piece) (same ∙ take_rest before count)) ∙ take-append-drop count before, none)
+    ap (λ xs. take count before ++ xs) (rw (post, append-nil piece) (same ∙ take_rest before count)) ∙ take-append-drop count before
+
+-- the front of a text, once what was lent of it was written
+pub front-put : (n : ℕ) (text front : List ℕ) → length front ≡ n → take n (put_mid 0 n text front) ≡ front
+front-put n text front long = take_at front (drop n text) n long
+
+-- what comes to the start of a room
+pub gets-first : {S H : Type 0} {event : S → Event H → S → Type 0} {old new : S} {before after : List ℕ} {n : ℕ} {handles : List H}
+    → length after ≡ length before → Receives event old before (Ok n) after handles new → Arrives event old before 0 n after handles new
+gets-first {before} {after} {n} long (most, same, law) = record {
+  front = take n after;
+  long = length-take-le n after (omega (arith, long));
+  within = omega (arith, most);
+  room = sym (take-append-drop n after) ∙ ap (λ xs. take n after ++ xs) (same ∙ rw (zero-add n) refl);
+  some = law.some;
+  ended = law.ended;
+  none = law.none;
+  few = law.few;
+}
 
 -- ---- the loop
 

@@ -92,10 +92,6 @@ pub record Arrives {S H : Type 0} (event : S → Event H → S → Type 0) (old 
   pub none : n ≡ 0 → handles ≡ []
   pub few : length handles ≤ MAX_ATTACHED_FD_ENTRIES
 
-abbrev pub GetsPiece : {S H : Type 0} → (S → Event H → S → Type 0) → S → List ℕ → ℕ → Result ℕ IoCause → List ℕ → List H → S → Type 0
-GetsPiece event old before count (Ok n) after handles new = Arrives event old before count n after handles new
-GetsPiece event old before count (Err c) after handles new = event old (Refused c) new × (after ≡ before) × (handles ≡ [])
-
 -- how it ended: the room is full; or the stream is at its end; or a fault that was no retry, or one retry too many
 abbrev pub GotAs : {S H : Type 0} → (S → Event H → S → Type 0) → S → ℕ → ℕ → ℕ → PassEnd → List (Cell H) → S → Type 0
 GotAs event old room budget left Whole cs new = (length cs ≡ room) × Moved event old (receives (items cs) (budget - left)) new

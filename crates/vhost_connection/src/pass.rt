@@ -4,8 +4,8 @@ ghost use Rattle.std.specs.Prelude.{◌≡◌, ◌<◌, ◌≤◌, [], length, t
 ghost use Rattle.vhost_message.specs.declared.limits.TheConstants.{MAX_ATTACHED_FD_ENTRIES};
 ghost use Rattle.vhost_protocol.specs.Stream.{carrying};
 ghost use Rattle.vhost_connection.specs.Ahead.{way, reads_ahead};
-ghost use Rattle.vhost_link.specs.Law.{TakesAll};
-ghost use Rattle.vhost_connection.specs.Pass.{SendsPart, SendsSome, SendsWhole, AtOnce, joined, GetsPiece, GetsFirst, GetsRest, GetsWhole, GetsParts};
+ghost use Rattle.vhost_link.specs.Law.{Receives, TakesAll};
+ghost use Rattle.vhost_connection.specs.Pass.{SendsPart, SendsSome, SendsWhole, AtOnce, joined, GetsFirst, GetsRest, GetsWhole, GetsParts};
 
 use crate::ahead::recv_some;
 use crate::buffer::Source;
@@ -158,22 +158,6 @@ pub struct RecvPass {
     pub stop: PassEnd,
 }
 
-/// Receives some bytes into the room, from this count on.
-fn recv_piece<L: Link>(
-    source: &mut Source<L>,
-    room: &mut [u8],
-    count: usize,
-    list: &mut Vec<L::Handle>,
-) -> Result<usize, IoCause>
-    requires count { count < length room.old }
-    requires list { list.old.items ≡ [] }
-    requires places { MAX_ATTACHED_FD_ENTRIES ≤ vec_capacity list.old }
-    ensures got { GetsPiece (reads_ahead L.event) (way source.old) room.old count result room.new list.new.items (way source.new) }
-    ensures places { vec_capacity list.old ≤ vec_capacity list.new }
-{
-    recv_some(source, &mut room[count..], list)
-}
-
 /// What came first: how many bytes, how many retries are left, and the I/O error, if any. No bytes and no I/O error is the
 /// stream's end.
 #[derive(Drop)]
@@ -198,7 +182,7 @@ fn recv_first<L: Link>(
 {
     let mut left = budget;
     loop {
-        match recv_piece(source, room, 0, list) {
+        match recv_some(source, room, list) {
             Ok(count) => {
                 return First {
                     count,
@@ -237,7 +221,7 @@ pub fn recv_rest<L: Link>(
     let mut left = budget;
     let mut surplus = false;
     while count < room.len() {
-        match recv_piece(source, room, count, spare) {
+        match recv_some(source, &mut room[count..], spare) {
             Ok(0) => {
                 return RecvPass {
                     count,
@@ -318,29 +302,6 @@ fn recv_whole<L: Link>(
     }
 }
 
-/// Receives so many bytes to the start of the buffer, and keeps the descriptors of the first.
-fn recv_message<L: Link>(
-    source: &mut Source<L>,
-    text: &mut [u8],
-    len: usize,
-    list: &mut Vec<L::Handle>,
-    spare: &mut Vec<L::Handle>,
-    budget: u32,
-) -> RecvPass
-    requires some { 0 < len }
-    requires len { len ≤ length text.old }
-    requires list { list.old.items ≡ [] }
-    requires places { MAX_ATTACHED_FD_ENTRIES ≤ vec_capacity list.old }
-    requires spare { spare.old.items ≡ [] }
-    requires spare_places { MAX_ATTACHED_FD_ENTRIES ≤ vec_capacity spare.old }
-    ensures got { GetsWhole (reads_ahead L.event) (way source.old) (take len text.old) budget result (take len text.new) list.new.items (way source.new) }
-    ensures places { vec_capacity list.old ≤ vec_capacity list.new }
-    ensures spare { spare.new.items ≡ [] }
-    ensures spare_places { vec_capacity spare.old ≤ vec_capacity spare.new }
-{
-    recv_whole(source, &mut text[..len], list, spare, budget)
-}
-
 /// What came in two parts: how many bytes of each, how many retries are left, and why it stopped.
 #[derive(Drop)]
 pub struct Parts {
@@ -372,7 +333,7 @@ pub fn recv_parts<L: Link>(
     ensures spare { spare.new.items ≡ [] }
     ensures spare_places { vec_capacity spare.old ≤ vec_capacity spare.new }
 {
-    let front = recv_message(source, text, len, list, spare, budget);
+    let front = recv_whole(source, &mut text[..len], list, spare, budget);
     if front.count < len {
         return Parts {
             count: front.count,
@@ -401,10 +362,10 @@ pub fn recv_once<L: Link>(
     requires len { len ≤ length text.old }
     requires list { list.old.items ≡ [] }
     requires places { MAX_ATTACHED_FD_ENTRIES ≤ vec_capacity list.old }
-    ensures got { GetsPiece (reads_ahead L.event) (way source.old) (take len text.old) 0 result (take len text.new) list.new.items (way source.new) }
+    ensures got { Receives (reads_ahead L.event) (way source.old) (take len text.old) result (take len text.new) list.new.items (way source.new) }
     ensures places { vec_capacity list.old ≤ vec_capacity list.new }
 {
-    recv_piece(source, &mut text[..len], 0, list)
+    recv_some(source, &mut text[..len], list)
 }
 
 /// Receives so many bytes to the start of the buffer, and drops all descriptors.

@@ -2,7 +2,7 @@ use Rattle.std.proofs.Common.{arith, sym, ◌∙◌, refl, ◌≡◌, ◌-◌}
 use Rattle.vhost_link.specs.Law.Moved.{still}
 use Rattle.vhost_link.proofs.Moves.{Moved-as}
 use Rattle.vhost_connection.specs.Ahead.{reads_ahead}
-use Rattle.vhost_connection.proofs.Receiving.{front-came, first-again}
+use Rattle.vhost_connection.proofs.Receiving.{front-came, first-again, gets-first}
 use Rattle.vhost_connection.proofs.pass.recv_first.Goals as goal
 use Rattle.vhost_connection.proofs.pass.recv_first.Goals.{then-not-is_retry-via-then-not-is_retry, then-not-is_retry-via-else-not-is_retry+then-left-eq0}
 
@@ -13,7 +13,7 @@ loop-count-init g c =
 pub returns-in-Ok-clause-got : goal.returns-in-Ok-clause-got
 returns-in-Ok-clause-got g c =
     let i = c.loop-count.invariant in
-    (omega arith, front-came (reads_ahead g.L.Link.event) _ _ _ _ _ _ _ _ _ i.1 i.4 c.in-Ok.ensures.got)
+    (omega arith, front-came (reads_ahead g.L.Link.event) _ _ _ _ _ _ _ _ _ i.1 i.4 (gets-first c.recv_some.auto.room c.in-Ok.ensures.got))
 
 pub returns-then-not-is_retry-clause-got : goal.returns-then-not-is_retry-clause-got
 returns-then-not-is_retry-clause-got g c =

@@ -7,6 +7,7 @@ use Rattle.vhost_connection.specs.State.{ahead_of, state}
 use Rattle.vhost_connection.specs.Talk.{State, IfSound}
 use Rattle.vhost_connection.specs.Talk.Trouble.{no_memory}
 use Rattle.vhost_connection.proofs.Talking.{broken}
+use Rattle.vhost_connection.proofs.Receiving.{gets-first}
 use Rattle.vhost_connection.proofs.Once.{once-came, once-refused, unasked}
 use Rattle.vhost_connection.proofs.Errors.{passed-on}
 use Rattle.vhost_connection.proofs.endpoint.Endpoint.read_once.Goals as goal
@@ -33,7 +34,7 @@ returns-in-Ok-recv_once g c =
     once-came g.L.Link.event (state c.args.self.now) _ (state c.give.new.self) (way c.args.self.now.source) (way c.recv_once.new.source) _ _ c.give.new.self.text.value c.args.len c.in-Ok-recv_once.count _ c.give.result (omega arith)
     (length-take-le c.args.len c.deref_mut.result.now (search rules)) (refl, refl)
     (ap (λ (b : Bool). record (state c.args.self.now) { link = c.recv_once.new.source.link; ahead = plain (waiting c.recv_once.new.source.ahead); list = b; faulted = false }) c.take_list.ensures.left)
-    c.in_ok-expect_sound.ensures.sound c.in-Ok-recv_once.ensures.got (ap (take c.args.len) c.give.ensures.text) c.give.ensures.given c.give.ensures.state
+    c.in_ok-expect_sound.ensures.sound (gets-first (length-take-le c.args.len c.recv_once.new.text (search rules) ∙ sym (length-take-le c.args.len c.deref_mut.result.now (search rules))) c.in-Ok-recv_once.ensures.got) (ap (take c.args.len) c.give.ensures.text) c.give.ensures.given c.give.ensures.state
 
 pub returns-in-Err : goal.returns-in-Err
 unfolding ahead_of
