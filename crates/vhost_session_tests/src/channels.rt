@@ -2,4 +2,5 @@
 
 mod asks;
 mod display_asks;
+mod joined;
 mod serves;

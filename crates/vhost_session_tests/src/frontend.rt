@@ -7,8 +7,8 @@ use vhost_frontend_core::{FrontendAnswer, FrontendCall, FrontendInternal};
 use vhost_link::{Cut, MemLink};
 use vhost_message::{Error, IoCause};
 use vhost_promises::{
-    asks_again, asks_without_memory, finds_sound, meets_fault_calling, own_features,
-    reads_features_new,
+    asks_again, asks_broken, asks_without_memory, finds_sound, meets_fault_asking,
+    meets_fault_calling, own_features, reads_features_new,
 };
 
 /// The reply to GET_FEATURES: 0x40000001.
@@ -54,6 +54,34 @@ fn torn(alloc: Global) -> Option<[Option<(i32, bool)>; 2]> {
 #[test]
 fn meets_faults(rt: HostRuntime) {
     assert!(rt; torn(rt.alloc()) == Some([Some((5, false)), Some((5, true))]));
+}
+
+/// Whether a call that the link's error 5 stops is answered so, and two after it that the endpoint is poisoned.
+fn asked_broken(alloc: Global, cuts: Vec<Cut>) -> Option<[bool; 2]> {
+    let mut quiet = Quiet::new(alloc, MemLink::new(alloc, cuts), 1, 0).ok()?;
+    let first = meets_fault_asking(&mut quiet);
+    let later = asks_broken(alloc, &mut quiet, 2).ok()?;
+    Some([
+        matches!(first, Err(Error::SocketError(IoCause::Raw(5)))),
+        matches!(
+            later.as_slice(),
+            [
+                Err(Error::SocketBroken(IoCause::Raw(5))),
+                Err(Error::SocketBroken(IoCause::Raw(5)))
+            ]
+        ),
+    ])
+}
+
+/// The same over a link that fails after five bytes.
+fn asked_where_it_tears(alloc: Global) -> Option<[bool; 2]> {
+    let cuts = vec![in alloc; Cut::Give(5), Cut::Fault(5)].ok()?;
+    asked_broken(alloc, cuts)
+}
+
+#[test]
+fn asks_over_a_broken_endpoint(rt: HostRuntime) {
+    assert!(rt; asked_where_it_tears(rt.alloc()) == Some([true; 2]));
 }
 
 /// A link on which so many replies came.

@@ -4,7 +4,11 @@
 #[cfg(test)]
 mod channels;
 #[cfg(test)]
+mod faults;
+#[cfg(test)]
 mod frontend;
+#[cfg(test)]
+mod joined;
 #[cfg(test)]
 mod lines;
 #[cfg(test)]

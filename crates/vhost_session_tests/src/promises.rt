@@ -229,17 +229,30 @@ fn a_log_of_two_callers(rt: HostRuntime) {
     assert!(rt; two_callers_seen(&rt, rt.alloc()) == Some(seen));
 }
 
-/// The serials of two calls that are recorded for caller 7, and whether the receipt of a third is found.
+/// What caller 7 saw: the serials of two calls, what the second answered, and whether the receipt of a third is found.
+#[derive(Clone, Copy, Debug, PartialEq, Eq)]
+struct Three {
+    serials: [u64; 2],
+    base: Option<u64>,
+    found: bool,
+}
+
+/// Caller 7 sets a ring's base, and reads it.
 fn record_three<D: VhostUserBackendReqHandlerMut<Link = MemLink>>(
     recorded: &mut Recorded<D>,
-) -> Result<(u64, u64, bool), Halt> {
-    let (get, own) = (FrontendCall::GetFeatures, FrontendCall::SetOwner);
-    let (one, two) = records_two(recorded, 7, &get, &own)?;
-    Ok((one.serial(), two.serial(), finds_own(recorded, 7, &get)?))
+) -> Result<Three, Halt> {
+    let set = FrontendCall::SetVringBase(0, 9);
+    let get = FrontendCall::GetVringBase(0);
+    let (one, two) = records_two(recorded, 7, &set, &get)?;
+    Ok(Three {
+        serials: [one.serial(), two.serial()],
+        base: number_in(two.answer()),
+        found: finds_own(recorded, 7, &FrontendCall::GetFeatures)?,
+    })
 }
 
 /// The same over a new example device.
-fn three_recorded(alloc: Global) -> Result<(u64, u64, bool), Halt> {
+fn three_recorded(alloc: Global) -> Result<Three, Halt> {
     let device = Device::new(alloc, Vec::new(alloc));
     let scripts = (Vec::new(alloc), Vec::new(alloc));
     match Recorded::new(alloc, device, 2, 3, scripts) {
@@ -250,5 +263,10 @@ fn three_recorded(alloc: Global) -> Result<(u64, u64, bool), Halt> {
 
 #[test]
 fn one_caller_records(rt: HostRuntime) {
-    assert!(rt; three_recorded(rt.alloc()) == Ok((0, 1, true)));
+    let three = Three {
+        serials: [0, 1],
+        base: Some(9),
+        found: true,
+    };
+    assert!(rt; three_recorded(rt.alloc()) == Ok(three));
 }

@@ -3,9 +3,11 @@
 use std::alloc::Global;
 use uuid::Uuid;
 use vhost_backend_req::BackendInternal;
-use vhost_link::{Kind, Link, MemLink, PlainHandle};
-use vhost_message::{HandlerResult, Result, VhostUserMMap, VhostUserSharedMsg};
-use vhost_promises::{adds_again, adds_object, maps_memory};
+use vhost_link::{Cut, Kind, Link, MemLink, PlainHandle};
+use vhost_message::{
+    Error, HandlerResult, IoCause, IoError, Result, VhostUserMMap, VhostUserSharedMsg,
+};
+use vhost_promises::{adds_again, adds_broken, adds_object, maps_memory};
 
 const HANDLE: PlainHandle = PlainHandle {
     id: 7,
@@ -62,4 +64,27 @@ fn unanswered(alloc: Global) -> Option<[bool; 3]> {
 #[test]
 fn three_unanswered(rt: HostRuntime) {
     assert!(rt; unanswered(rt.alloc()) == Some([true; 3]));
+}
+
+/// Whether the first of three calls fails by the link's error 5, and the others since the endpoint is poisoned.
+fn broken(alloc: Global) -> Option<bool> {
+    let cuts = vec![in alloc; Cut::Give(5), Cut::Fault(5)].ok()?;
+    let mut channel = channel(alloc, MemLink::new(alloc, cuts), true).ok()?;
+    let torn = adds_object(&mut channel, &name());
+    let later = adds_broken(alloc, &mut channel, &name(), 2).ok()?;
+    let is_torn = matches!(torn, Err(IoError::Of(Error::SocketError(IoCause::Raw(5)))));
+    Some(is_torn && matches!(later.as_slice(), [one, two] if is_broken(one) && is_broken(two)))
+}
+
+/// Whether a call failed since the endpoint is poisoned by that error.
+fn is_broken(answer: &HandlerResult<u64>) -> bool {
+    matches!(
+        answer,
+        Err(IoError::Of(Error::SocketBroken(IoCause::Raw(5))))
+    )
+}
+
+#[test]
+fn three_over_a_broken_endpoint(rt: HostRuntime) {
+    assert!(rt; broken(rt.alloc()) == Some(true));
 }

@@ -3,8 +3,9 @@
 use std::alloc::Global;
 use vhost_gpu_backend_req::BackendInternal;
 use vhost_gpu_message::VhostUserGpuCursorPos;
-use vhost_link::MemLink;
-use vhost_promises::{asks_features, moves_cursor};
+use vhost_link::{Cut, MemLink};
+use vhost_message::{Error, HandlerResult, IoCause, IoError, VhostUserU64};
+use vhost_promises::{asks_features, displays_broken, moves_cursor};
 
 /// The reply to GET_PROTOCOL_FEATURES: 3.
 static FEATURES: [u8; 20] = [1, 0, 0, 0, 4, 0, 0, 0, 8, 0, 0, 0, 3, 0, 0, 0, 0, 0, 0, 0];
@@ -26,4 +27,30 @@ fn asked(alloc: Global) -> Option<(u64, bool)> {
 #[test]
 fn features_and_a_cursor(rt: HostRuntime) {
     assert!(rt; asked(rt.alloc()) == Some((3, true)));
+}
+
+/// Whether the first of three calls fails by the link's error 5, and the others since the endpoint is poisoned.
+fn broken(alloc: Global) -> Option<bool> {
+    let cuts = vec![in alloc; Cut::Give(5), Cut::Fault(5)].ok()?;
+    let mut channel = BackendInternal::from_stream(alloc, MemLink::new(alloc, cuts), 0).ok()?;
+    let torn = asks_features(&mut channel);
+    let later = displays_broken(alloc, &mut channel, 2).ok()?;
+    let is_torn = matches!(
+        torn,
+        Err(IoError::In(_, Error::SocketError(IoCause::Raw(5))))
+    );
+    Some(is_torn && matches!(later.as_slice(), [one, two] if is_broken(one) && is_broken(two)))
+}
+
+/// Whether a call failed since the endpoint is poisoned by that error.
+fn is_broken(answer: &HandlerResult<VhostUserU64>) -> bool {
+    matches!(
+        answer,
+        Err(IoError::In("send_header", Error::SocketBroken(IoCause::Raw(5))))
+    )
+}
+
+#[test]
+fn three_over_a_broken_endpoint(rt: HostRuntime) {
+    assert!(rt; broken(rt.alloc()) == Some(true));
 }

@@ -114,6 +114,48 @@ fn a_budget_is_that_of_the_recorder(rt: HostRuntime) {
     assert!(rt; four_over_example(&rt, rt.alloc(), 1, 3) == Ok(seen));
 }
 
+/// The serial of a caller's last receipt, whether its own log confirms it, and whether another log does.
+fn last_confirmed<D: VhostUserBackendReqHandlerMut<Link = MemLink>>(
+    own: &Crowd<D>,
+    another: &Crowd<D>,
+) -> Option<(u64, bool, bool)> {
+    let receipt = own.first.as_slice().last()?;
+    Some((
+        receipt.serial(),
+        own.log.confirms(receipt),
+        another.log.confirms(receipt),
+    ))
+}
+
+/// The same of four callers who make 101 calls each, where those of the other log make one call less.
+fn one_more<D: VhostUserBackendReqHandlerMut<Link = MemLink> + Send, R: Threads + Wait + Sync>(
+    rt: &R,
+    alloc: Global,
+    device: D,
+    other: D,
+) -> Option<(u64, bool, bool)> {
+    let calls = asking(alloc, 101).ok()?;
+    let own = four_callers(rt, alloc, device, &calls, (0, Vec::new(alloc))).ok()?;
+    let calls = asking(alloc, 100).ok()?;
+    let another = four_callers(rt, alloc, other, &calls, (0, Vec::new(alloc))).ok()?;
+    last_confirmed(&own, &another)
+}
+
+/// The same over two new example devices.
+fn one_more_over_example<R: Threads + Wait + Sync>(
+    rt: &R,
+    alloc: Global,
+) -> Option<(u64, bool, bool)> {
+    let device = DummyBackendReqHandler::new(alloc, Vec::new(alloc));
+    let other = DummyBackendReqHandler::new(alloc, Vec::new(alloc));
+    one_more(rt, alloc, device, other)
+}
+
+#[test]
+fn another_log_does_not_confirm(rt: HostRuntime) {
+    assert!(rt; one_more_over_example(&rt, rt.alloc()) == Some((100, true, false)));
+}
+
 /// How many of these calls are recorded, so that the log has their receipts.
 fn kept<D: VhostUserBackendReqHandlerMut<Link = MemLink>>(
     recorded: &mut Recorded<D>,

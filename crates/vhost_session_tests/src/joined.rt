@@ -1,0 +1,163 @@
+//! Both sides joined, for whole lists of calls.
+
+use bitflags::Flags;
+use std::alloc::Global;
+use vhost_device::VhostUserBackendReqHandlerMut;
+use vhost_link::{Cut, MemLink};
+use vhost_message::{Error, VhostUserHeaderFlag, VhostUserProtocolFeatures};
+use vhost_pair::{Halt, Joined, Stop};
+use vhost_promises::{
+    Device, claims_twice, refuses_whatever_was, runs_in_lockstep, shows_no_reply, stays_in_step,
+};
+use vhost_recorder::{FrontendAnswer, FrontendCall};
+
+/// SET_OWNER, which wants an acknowledgement.
+static OWN: [u8; 12] = [3, 0, 0, 0, 9, 0, 0, 0, 0, 0, 0, 0];
+
+/// The acknowledgement that it failed.
+static FAILED: [u8; 20] = [3, 0, 0, 0, 5, 0, 0, 0, 8, 0, 0, 0, 1, 0, 0, 0, 0, 0, 0, 0];
+
+/// Agrees on acknowledgements, and claims the device twice.
+fn twice_claimed() -> [FrontendCall; 7] {
+    [
+        FrontendCall::GetFeatures,
+        FrontendCall::SetOwner,
+        FrontendCall::SetFeatures(0x4000_0001),
+        FrontendCall::GetProtocolFeatures,
+        FrontendCall::SetProtocolFeatures(VhostUserProtocolFeatures::REPLY_ACK),
+        FrontendCall::SetHdrFlags(VhostUserHeaderFlag::NEED_REPLY),
+        FrontendCall::SetOwner,
+    ]
+}
+
+/// Whether these are the answers to that.
+fn are_told(answers: &[FrontendAnswer]) -> bool {
+    matches!(
+        answers,
+        [
+            FrontendAnswer::Number(0x4000_0003),
+            FrontendAnswer::Done,
+            FrontendAnswer::Done,
+            FrontendAnswer::Number(0x7f_ffff),
+            FrontendAnswer::Done,
+            FrontendAnswer::Done,
+            FrontendAnswer::Failed(Error::BackendInternalError)
+        ]
+    )
+}
+
+/// Whether the last claim was acknowledged as failed, and both sides are in step.
+fn are_in_step<D: VhostUserBackendReqHandlerMut<Link = MemLink>>(joined: &Joined<D>) -> [bool; 3] {
+    [
+        joined.last_request().0 == OWN.as_slice(),
+        joined.last_reply().0 == FAILED.as_slice(),
+        joined.stopped().is_none(),
+    ]
+}
+
+/// Whether a ring that is not there is refused, and nothing is written.
+fn no_ring<D: VhostUserBackendReqHandlerMut<Link = MemLink>>(
+    joined: &mut Joined<D>,
+) -> Option<[bool; 2]> {
+    let answer = refuses_whatever_was(joined, &FrontendCall::SetVringNum(2, 1)).ok()?;
+    let is_refused = matches!(answer, FrontendAnswer::Failed(Error::InvalidParam));
+    Some([is_refused, joined.last_request().0.is_empty()])
+}
+
+/// Whether a claim without an acknowledgement seems to succeed, and nothing is done after it.
+fn silent_claim<D: VhostUserBackendReqHandlerMut<Link = MemLink>>(
+    alloc: Global,
+    joined: &mut Joined<D>,
+) -> [bool; 3] {
+    let calls = [
+        FrontendCall::SetHdrFlags(VhostUserHeaderFlag::empty()),
+        FrontendCall::SetOwner,
+        FrontendCall::GetFeatures,
+    ];
+    let (answers, ended) = stays_in_step(alloc, joined, &calls);
+    [
+        matches!(
+            answers.as_slice(),
+            [FrontendAnswer::Done, FrontendAnswer::Done]
+        ),
+        matches!(ended, Err(Halt::Stopped)),
+        matches!(joined.stopped(), Some(Stop::Table)),
+    ]
+}
+
+/// What a list of calls was answered, and then more of the same sides.
+#[derive(Clone, Copy, Debug, PartialEq, Eq)]
+struct Seen {
+    told: bool,
+    in_step: [bool; 3],
+    no_ring: [bool; 2],
+    silent: [bool; 3],
+}
+
+fn seen_over<D: VhostUserBackendReqHandlerMut<Link = MemLink>>(
+    alloc: Global,
+    device: D,
+) -> Option<Seen> {
+    let scripts = (Vec::new(alloc), Vec::new(alloc));
+    let mut answers = Vec::new(alloc);
+    let ran = runs_in_lockstep(alloc, device, 2, 3, scripts, &twice_claimed(), &mut answers);
+    let (mut joined, ended) = ran.ok()?;
+    Some(Seen {
+        told: ended.is_ok() && are_told(&answers),
+        in_step: are_in_step(&joined),
+        no_ring: no_ring(&mut joined)?,
+        silent: silent_claim(alloc, &mut joined),
+    })
+}
+
+/// The same over the example device.
+fn over_example(alloc: Global) -> Option<Seen> {
+    seen_over(alloc, Device::new(alloc, Vec::new(alloc)))
+}
+
+#[test]
+fn runs_of_calls(rt: HostRuntime) {
+    let all = Seen {
+        told: true,
+        in_step: [true; 3],
+        no_ring: [true; 2],
+        silent: [true; 3],
+    };
+    assert!(rt; over_example(rt.alloc()) == Some(all));
+}
+
+/// Whether no reply is shown where the handler's link goes by this script.
+fn is_silent<D: VhostUserBackendReqHandlerMut<Link = MemLink>>(
+    alloc: Global,
+    device: D,
+    script: Vec<Cut>,
+) -> Option<bool> {
+    let scripts = (Vec::new(alloc), script);
+    let mut joined = Joined::new(alloc, device, 2, 3, scripts).ok()?;
+    let answer = shows_no_reply(&mut joined, &FrontendCall::GetFeatures).ok()?;
+    let is_failure = matches!(answer, FrontendAnswer::Failed(_));
+    Some(is_failure && joined.last_reply().0.is_empty())
+}
+
+/// The same of a link that fails at once.
+fn silent_at_once(alloc: Global) -> Option<bool> {
+    let script = vec![in alloc; Cut::Fault(5)].ok()?;
+    is_silent(alloc, Device::new(alloc, Vec::new(alloc)), script)
+}
+
+#[test]
+fn no_reply_is_shown(rt: HostRuntime) {
+    assert!(rt; silent_at_once(rt.alloc()) == Some(true));
+}
+
+/// How many calls were answered, and whether the run stopped by the table.
+fn claimed(alloc: Global) -> Option<(usize, bool)> {
+    let mut answers = Vec::new(alloc);
+    let joined = claims_twice(alloc, Vec::new(alloc), &mut answers).ok()?;
+    Some((answers.len(), matches!(joined.stopped(), Some(Stop::Table))))
+}
+
+#[test]
+fn two_claims(rt: HostRuntime) {
+    assert!(rt; claimed(rt.alloc()) == Some((3, true)));
+}
