@@ -10,9 +10,13 @@
  * A frontend, which serves, as a device does by covretin_backend_socket.h:
  *
  *     error = covretin_channel_serve_fd(&device, fd);                   the other end was given to the device
- *     while (!covretin_channel_service_ended(&device))
- *         if (covretin_channel_next_call(&device, &call, -1) == 0)
+ *     while (!covretin_channel_service_ended(&device)) {
+ *         error = covretin_channel_next_call(&device, &call, -1);
+ *         if (error == 0)
  *             answer(&device.server, call);                             covretin_channel_call_.., and one covretin_channel_reply_..
+ *         else if (error == COVRETIN_NOT_REPLIED)
+ *             break;                                                    that reply failed
+ *     }
  *     covretin_channel_hang_up(&device);
  *
  * What covretin_socket.h says of a connection, and covretin_backend_socket.h of a service, holds of these: who owns the
