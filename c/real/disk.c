@@ -8,8 +8,7 @@
  *     disk PATH IMAGE PID harm       gives it a pipe that nobody reads, and an inflight region amid requests
  *
  * PID is the backend's process. What is read is compared with the image, and what was written is looked for there. Prints a
- * line for each call; status 0 where all was so, 1 where something was not, 2 after wrong arguments, 4 where all was so but that
- * the library refused the reply to set_log_base. */
+ * line for each call; status 0 where all was so, 1 where something was not, 2 after wrong arguments. */
 #include "vmm.h"
 
 #include <fcntl.h>
@@ -292,16 +291,11 @@ static void check_dirty(const uint8_t *const *pages, size_t count)
     memset(dirty.at, 0, dirty.size);
 }
 
-static bool is_log_refused;
-
-/* Gives the log. A reply of 8 bytes, as libvhost-user sends it, is refused: then the backend logs all the same, and the
- * connection is of no more use. */
+/* Gives the log. The reply may have any size: libvhost-user sends 8 bytes. */
 static void give_log(void)
 {
     covretin_region region = {.memory_size = dirty.size, .fd = dirty.fd};
-    enum covretin_error error = outcome("set_log_base", covretin_ask_set_log_base(SESSION, 0, &region));
-    check(error == COVRETIN_OK || error == COVRETIN_INVALID_MESSAGE, "the log was given");
-    is_log_refused = error == COVRETIN_INVALID_MESSAGE;
+    done("set_log_base", covretin_ask_set_log_base(SESSION, 0, &region));
 }
 
 static void asked_with_log(const char *path)
@@ -318,10 +312,7 @@ static void asked_with_log(const char *path)
     fill(bytes, SECTOR);
     check(request(VIRTIO_BLK_T_OUT, 9, data) == VIRTIO_BLK_S_OK, "a sector was written");
     check_dirty(of_write, 2);
-    if (is_log_refused)
-        printf("the pages are marked, but this library refuses the reply to set_log_base\n");
-    else
-        stop_ring(&queue);
+    stop_ring(&queue);
     free_memory(&dirty);
 }
 
@@ -493,5 +484,5 @@ int main(int argc, char **argv)
     free_memory(&memory);
     close(image);
     check(open_fds() == before, "no descriptor was left open");
-    return is_log_refused ? 4 : 0;
+    return 0;
 }
