@@ -22,8 +22,8 @@
  * WHO OWNS WHAT
  * Services and listeners: variables of these types, {0} at first, belong to the caller; they are not copied or written by him.
  *   Calls with the same one, or with its session, must not overlap in time. Not from a signal handler.
- * Its session: opened and closed with the service. The caller passes &service.backend to covretin_call_.., covretin_reply_..
- *   and covretin_backend_inactive, and to nothing else.
+ * Its session: opened and closed with the service. The caller passes &service.backend to covretin_call_.., covretin_reply_..,
+ *   covretin_backend_set_profile and covretin_backend_inactive, and to nothing else.
  * Its socket: the service's, until covretin_hang_up closes it.
  * What the frontend sends: the service's. A descriptor that a call names is only lent while the call is to be replied to;
  *   covretin_claim_call_fd hands it over to the caller, who closes it then. All others are closed once the reply was sent,
