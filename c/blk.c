@@ -317,9 +317,12 @@ static enum covretin_error set_vring_err(void)
 
 /* -- The inflight region -- */
 
-/* Maps the region for as many rings of a size as it says. */
+/* Maps the region for as many rings of a size as it says. Not while a ring runs: it writes to its part of the one that is mapped. */
 static bool map_inflight(const covretin_inflight *told, int fd)
 {
+    for (uint32_t i = 0; i < ring_count; i++)
+        if (rings[i].is_started)
+            return false;
     if (told->num_queues == 0 || told->num_queues > ring_count || told->queue_size == 0 || told->queue_size > MOST_SIZE ||
         told->mmap_offset % 64 != 0 || told->mmap_size < told->num_queues * inflight_size(told->queue_size))
         return false;
@@ -472,14 +475,17 @@ static void serve_ring(struct ring *ring)
     }
 }
 
-/* Takes a kick. A ring whose kick is no eventfd is stopped. */
+/* Takes a kick. A ring whose kick is no eventfd is stopped: a file, say, could always be read, and would never kick. */
 static void take_kick(struct ring *ring, short events)
 {
     eventfd_t kicks;
+    errno = 0; /* which a short read leaves */
     if (events & ~POLLIN)
         ring_stop(ring);
     else if (events != 0 && eventfd_read(ring->kick, &kicks) == 0)
         ring->is_due = true;
+    else if (events != 0 && errno != EAGAIN)
+        ring_stop(ring);
 }
 
 /* How long to wait for what is polled: a ring without a kick is looked at each millisecond, and the file's size five times a
@@ -574,10 +580,11 @@ static int serve_all(covretin_listener *listener, const sigset_t *unblocked)
     return 0;
 }
 
-/* SIGTERM and SIGINT end the disk where it waits, and nowhere else. */
+/* SIGTERM and SIGINT end the disk where it waits, and nowhere else. SIGPIPE does not: in place of an eventfd a frontend may send a
+ * pipe that nobody reads. */
 static void heed_signals(sigset_t *unblocked)
 {
-    const struct sigaction on = {.sa_handler = end};
+    const struct sigaction on = {.sa_handler = end}, off = {.sa_handler = SIG_IGN};
     sigset_t blocked;
     sigemptyset(&blocked);
     sigaddset(&blocked, SIGTERM);
@@ -585,6 +592,7 @@ static void heed_signals(sigset_t *unblocked)
     sigprocmask(SIG_BLOCK, &blocked, unblocked);
     sigaction(SIGTERM, &on, NULL);
     sigaction(SIGINT, &on, NULL);
+    sigaction(SIGPIPE, &off, NULL);
 }
 
 /* Listens at a path, and serves. The program's status. */

@@ -58,4 +58,6 @@ void growth_go_on(short events)
     is_asked = false;
     if ((error && error != COVRETIN_FRONTEND_INTERNAL_ERROR) || events & (POLLHUP | POLLERR))
         growth_disconnect();
+    else if (is_due) /* it has changed since that was asked */
+        growth_go_on(0);
 }

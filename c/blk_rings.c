@@ -75,6 +75,7 @@ static void add_again(struct ring *ring, uint16_t head)
 static void look_for_inflight(struct ring *ring, uint16_t used_index)
 {
     struct inflight_queue *region = ring->inflight;
+    uint16_t last;
     ring->again_at = ring->again_count = 0;
     if (region == NULL)
         return;
@@ -83,8 +84,9 @@ static void look_for_inflight(struct ring *ring, uint16_t used_index)
         region->descriptor_count = ring->size;
         region->used_index = used_index;
     }
-    if (region->used_index != used_index && region->last_batch_head < ring->size) {
-        region->descriptors[region->last_batch_head].inflight = 0;
+    last = __atomic_load_n(&region->last_batch_head, __ATOMIC_RELAXED); /* the frontend may write there at any time */
+    if (region->used_index != used_index && last < ring->size) {
+        region->descriptors[last].inflight = 0;
         region->used_index = used_index;
     }
     for (uint16_t head = 0; head < ring->size; head++)

@@ -142,10 +142,11 @@ static enum covretin_error connect_to(int socket, const struct sockaddr_un *addr
             return COVRETIN_SOCKET_ERROR;
         if (connect(socket, (const struct sockaddr *)address, sizeof *address) == 0)
             return COVRETIN_OK;
-        if (errno == EAGAIN)
-            return COVRETIN_TIMED_OUT;
-        if (errno != EINTR)
+        if (errno != EAGAIN && errno != EINTR)
             return COVRETIN_SOCKET_CONNECT;
+        /* (the least limit is a tick of the system's clock, and signals may come more often) */
+        if (errno == EAGAIN || transport_left_until(end) == 0)
+            return COVRETIN_TIMED_OUT;
     }
 }
 

@@ -82,6 +82,8 @@ static int file_of(const char *text)
     if (file == NULL || fputs(text, file) < 0 || fflush(file) != 0)
         fail("tmpfile");
     int fd = dup(fileno(file));
+    if (fd < 0)
+        fail("dup");
     fclose(file);
     return fd;
 }
@@ -153,7 +155,7 @@ static void set_config(void)
 /* The backend gives the inflight region, and is given it again. */
 static void set_inflight(void)
 {
-    covretin_inflight asked = {.num_queues = 2, .queue_size = 128}, given;
+    covretin_inflight asked = {.num_queues = 2, .queue_size = 128}, given = {0};
     int32_t fd = -1;
     char text[32] = {0};
     if (!done("get_inflight_fd", covretin_ask_get_inflight_fd(&device.session, &asked)))
@@ -164,6 +166,8 @@ static void set_inflight(void)
     if (error == 0 && pread(fd, text, sizeof text - 1, (off_t)given.mmap_offset) < 0)
         fail("pread");
     printf("inflight: %d, %" PRIu64 " bytes, \"%s\"\n", error, given.mmap_size, text);
+    if (error != 0)
+        return;
     done("set_inflight_fd", covretin_ask_set_inflight_fd(&device.session, &given, fd));
     close(fd);
 }

@@ -100,7 +100,8 @@ enum covretin_error {
     COVRETIN_OK = 0,
 
     /* Of the protocol, in the names of the Rust crate vhost. A session returns no SOCKET_ERROR, SOCKET_CONNECT, DISCONNECTED,
-     * INVALID_SOCKET_FD, NOT_UNIX_SOCKET or NOT_STREAM_SOCKET: these are covretin_socket.h's. */
+     * INVALID_SOCKET_FD, NOT_UNIX_SOCKET or NOT_STREAM_SOCKET: these are covretin_socket.h's. No call returns those from
+     * FEATURE_MISMATCH to MEMFD_SEAL_ERROR. */
     COVRETIN_INVALID_PARAM = 1,           /* an argument is not allowed; nothing was asked */
     COVRETIN_INVALID_OPERATION = 2,
     COVRETIN_INACTIVE_FEATURE = 3,        /* a virtio feature was not negotiated; nothing was asked */
@@ -257,8 +258,8 @@ enum covretin_error covretin_answer_fd(covretin_session *session, int32_t *fd);
 /* Of get_inflight_fd. */
 enum covretin_error covretin_answer_inflight(covretin_session *session, covretin_inflight *inflight, int32_t *fd);
 
-/* Of get_shmem_config: 256 sizes, 0 where there is no region; *count is how many regions the backend has. sizes_len is 256
- * at least. */
+/* Of get_shmem_config: 256 sizes, 0 where there is no region. *count is how many regions the backend says that it has: any
+ * number of 32 bits, which is not how many of the sizes count. sizes_len is 256 at least. */
 enum covretin_error covretin_answer_shmem(covretin_session *session, uint64_t *sizes, size_t sizes_len, size_t *count);
 
 /* -- Asks -----------------------------------------------------------------------------------------------------------

@@ -6,9 +6,13 @@
  *     covretin_service frontend = {0};
  *     error = covretin_listen(&listener, "/run/disk.sock");
  *     error = covretin_accept(&listener, &frontend, -1);
- *     while (!covretin_service_ended(&frontend))
- *         if (covretin_next_call(&frontend, &call, -1) == 0)
+ *     while (!covretin_service_ended(&frontend)) {
+ *         error = covretin_next_call(&frontend, &call, -1);
+ *         if (error == 0)
  *             answer(&frontend.backend, call);              covretin_call_.., and one covretin_reply_..
+ *         else if (error == COVRETIN_NOT_REPLIED)
+ *             break;                                        that reply failed
+ *     }
  *     covretin_hang_up(&frontend);
  *     covretin_unlisten(&listener);
  *
@@ -18,8 +22,8 @@
  * WHO OWNS WHAT
  * Services and listeners: variables of these types, {0} at first, belong to the caller; they are not copied or written by him.
  *   Calls with the same one, or with its session, must not overlap in time. Not from a signal handler.
- * Its session: opened and closed with the service. The caller passes &service.backend to covretin_call_.., covretin_reply_..
- *   and covretin_backend_inactive, and to nothing else.
+ * Its session: opened and closed with the service. The caller passes &service.backend to covretin_call_.., covretin_reply_..,
+ *   covretin_backend_set_profile and covretin_backend_inactive, and to nothing else.
  * Its socket: the service's, until covretin_hang_up closes it.
  * What the frontend sends: the service's. A descriptor that a call names is only lent while the call is to be replied to;
  *   covretin_claim_call_fd hands it over to the caller, who closes it then. All others are closed once the reply was sent,
@@ -73,8 +77,8 @@ int covretin_listener_fd(const covretin_listener *listener);
 
 /* Takes the next frontend, and opens a session for it. milliseconds limits the time; 0: only one that waits already; negative:
  * none. NO_SESSION: there is no listener. SESSION_OPEN: the service is there already. TIMED_OUT. SOCKET_ERROR: the system
- * failed. OUT_OF_MEMORY: a frontend was there, and is disconnected. After an error the service is {0}, and the listener goes
- * on. */
+ * failed. OUT_OF_MEMORY: a frontend was there, and is disconnected. After an error nothing changed in the service, and the
+ * listener goes on. */
 enum covretin_error covretin_accept(covretin_listener *listener, covretin_service *service, int milliseconds);
 
 /* The same over a socket that is connected already. It is the service's from then on; after an error it stays the caller's.
@@ -97,7 +101,8 @@ bool covretin_service_ended(const covretin_service *service);
 /* Sends what is still to be sent, receives the next request, and checks it. 0: *call is what is asked of the device, which is
  * to be replied to before the next. milliseconds limits the time; 0: what can be done at once; negative: none. Returns what
  * covretin_backend_next returns, where the request was refused once its acknowledgement was sent, or:
- * NO_SESSION: there is no service. NOT_REPLIED: the call before is still to be replied to.
+ * NO_SESSION: there is no service. NOT_REPLIED: the call before is still to be replied to; until it is, each call returns this,
+ *   and at once.
  * TIMED_OUT, OUT_OF_MEMORY: the next covretin_next_call goes on. A request that had come whole where memory failed is refused.
  * DISCONNECTED, PARTIAL_MESSAGE: the frontend closed the socket, or ended: between two requests, or amid one. SOCKET_ERROR: the
  *   system failed otherwise. FDS_LOST: the system dropped descriptors of the request. After these, INVALID_MESSAGE and

@@ -10,14 +10,19 @@
  * A frontend, which serves, as a device does by covretin_backend_socket.h:
  *
  *     error = covretin_channel_serve_fd(&device, fd);                   the other end was given to the device
- *     while (!covretin_channel_service_ended(&device))
- *         if (covretin_channel_next_call(&device, &call, -1) == 0)
+ *     while (!covretin_channel_service_ended(&device)) {
+ *         error = covretin_channel_next_call(&device, &call, -1);
+ *         if (error == 0)
  *             answer(&device.server, call);                             covretin_channel_call_.., and one covretin_channel_reply_..
+ *         else if (error == COVRETIN_NOT_REPLIED)
+ *             break;                                                    that reply failed
+ *     }
  *     covretin_channel_hang_up(&device);
  *
  * What covretin_socket.h says of a connection, and covretin_backend_socket.h of a service, holds of these: who owns the
  * socket, the session and each descriptor; signals, limits of time and errors. A device is sent no descriptor: all that come are
- * closed.
+ * closed. The caller passes &connection.channel to covretin_channel_set_.. and covretin_channel_ask_.., and &service.server to
+ * covretin_channel_server_set_reply_ack, covretin_channel_call_.. and covretin_channel_reply_.., and to nothing else.
  */
 #ifndef COVRETIN_CHANNEL_SOCKET_H
 #define COVRETIN_CHANNEL_SOCKET_H

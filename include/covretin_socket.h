@@ -17,8 +17,8 @@
  * WHO OWNS WHAT
  * The connection: a variable of type covretin_connection, {0} at first, belongs to the caller; it is not copied or written by
  *   him. Calls with the same one, or with its session, must not overlap in time. Not from a signal handler.
- * Its session: opened and closed with the connection. The caller passes &connection.session to covretin_ask_.. and
- *   covretin_answer_.., and to nothing else.
+ * Its session: opened and closed with the connection. The caller passes &connection.session to covretin_ask_..,
+ *   covretin_answer_.., covretin_set_hdr_flags, covretin_set_profile and covretin_inactive, and to nothing else.
  * Its socket: the connection's, from covretin_connect or covretin_connect_fd on until covretin_disconnect, which closes it.
  * What an ask was given: the caller's, as before. It has to stay open until the exchange is over: until the call that is
  *   under way returns anything but NOT_YET, TIMED_OUT and OUT_OF_MEMORY.

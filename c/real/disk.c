@@ -5,10 +5,10 @@
  *     disk PATH IMAGE PID regions    the same through memory that is plugged in and out, in as many regions as the backend takes
  *     disk PATH IMAGE PID log        and the backend keeps the dirty log
  *     disk PATH IMAGE PID killed     kills the backend amid a call and amid requests, and goes on with the next one there
+ *     disk PATH IMAGE PID harm       gives it a pipe that nobody reads, and an inflight region amid requests
  *
  * PID is the backend's process. What is read is compared with the image, and what was written is looked for there. Prints a
- * line for each call; status 0 where all was so, 1 where something was not, 2 after wrong arguments, 4 where all was so but that
- * the library refused the reply to set_log_base. */
+ * line for each call; status 0 where all was so, 1 where something was not, 2 after wrong arguments. */
 #include "vmm.h"
 
 #include <fcntl.h>
@@ -291,16 +291,11 @@ static void check_dirty(const uint8_t *const *pages, size_t count)
     memset(dirty.at, 0, dirty.size);
 }
 
-static bool is_log_refused;
-
-/* Gives the log. A reply of 8 bytes, as libvhost-user sends it, is refused: then the backend logs all the same, and the
- * connection is of no more use. */
+/* Gives the log. The reply may have any size: libvhost-user sends 8 bytes. */
 static void give_log(void)
 {
     covretin_region region = {.memory_size = dirty.size, .fd = dirty.fd};
-    enum covretin_error error = outcome("set_log_base", covretin_ask_set_log_base(SESSION, 0, &region));
-    check(error == COVRETIN_OK || error == COVRETIN_INVALID_MESSAGE, "the log was given");
-    is_log_refused = error == COVRETIN_INVALID_MESSAGE;
+    done("set_log_base", covretin_ask_set_log_base(SESSION, 0, &region));
 }
 
 static void asked_with_log(const char *path)
@@ -317,10 +312,7 @@ static void asked_with_log(const char *path)
     fill(bytes, SECTOR);
     check(request(VIRTIO_BLK_T_OUT, 9, data) == VIRTIO_BLK_S_OK, "a sector was written");
     check_dirty(of_write, 2);
-    if (is_log_refused)
-        printf("the pages are marked, but this library refuses the reply to set_log_base\n");
-    else
-        stop_ring(&queue);
+    stop_ring(&queue);
     free_memory(&dirty);
 }
 
@@ -429,6 +421,31 @@ static void asked_when_killed(const char *path)
     close(inflight_fd);
 }
 
+/* -- A frontend that means harm -- */
+
+/* Its call is a pipe that nobody reads, so that it polls; and it gives an inflight region in the place of the one that the ring uses. */
+static void asked_with_harm(const char *path)
+{
+    const struct data sector = {&memory, slot_page(0, 1), SECTOR};
+    int ends[2];
+    set_up(path, 0, COVRETIN_PROTOCOL_INFLIGHT_SHMFD);
+    get_inflight();
+    check(pipe(ends) == 0, "a pipe can be made");
+    close(ends[0]);
+    close(queue.call);
+    queue.call = ends[1];
+    start_ring(&queue, 0);
+    close(ends[1]);
+    queue.call = -1;
+    read_sectors(5, sector);
+    enum covretin_error error = outcome("set_inflight_fd", covretin_ask_set_inflight_fd(SESSION, &inflight, inflight_fd));
+    check(error == COVRETIN_BACKEND_INTERNAL_ERROR, "a ring that runs keeps its inflight region");
+    read_sectors(6, sector);
+    check(inflight_count() == 0, "nothing is in flight");
+    stop_ring(&queue);
+    close(inflight_fd);
+}
+
 typedef void play(const char *path);
 
 /* What is to be tried, by its name. */
@@ -437,7 +454,11 @@ static play *try_of(const char *name)
     static const struct {
         const char *name;
         play *plays;
-    } tries[] = {{"work", asked_to_work}, {"regions", asked_with_regions}, {"log", asked_with_log}, {"killed", asked_when_killed}};
+    } tries[] = {{"work", asked_to_work},
+                 {"regions", asked_with_regions},
+                 {"log", asked_with_log},
+                 {"killed", asked_when_killed},
+                 {"harm", asked_with_harm}};
     for (size_t i = 0; i < sizeof tries / sizeof *tries; i++)
         if (strcmp(tries[i].name, name) == 0)
             return tries[i].plays;
@@ -448,7 +469,7 @@ int main(int argc, char **argv)
 {
     play *tried = argc == 5 ? try_of(argv[4]) : NULL;
     if (tried == NULL) {
-        fprintf(stderr, "usage: disk PATH IMAGE PID work|regions|log|killed\n");
+        fprintf(stderr, "usage: disk PATH IMAGE PID work|regions|log|killed|harm\n");
         return 2;
     }
     size_t before = open_fds();
@@ -463,5 +484,5 @@ int main(int argc, char **argv)
     free_memory(&memory);
     close(image);
     check(open_fds() == before, "no descriptor was left open");
-    return is_log_refused ? 4 : 0;
+    return 0;
 }

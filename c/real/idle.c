@@ -44,13 +44,13 @@ enum covretin_error answer_idly(uint32_t call)
     return error == COVRETIN_OTHER_CALL ? covretin_reply_refused(BACKEND) : error;
 }
 
-/* Serves the frontend until it ends. How it did. */
+/* Serves the frontend until it ends, or a call cannot be replied to. How it did. */
 static enum covretin_error serve(answer *answers)
 {
     for (;;) {
         uint32_t call = 0;
         enum covretin_error error = covretin_next_call(&frontend, &call, -1);
-        if (covretin_service_ended(&frontend))
+        if (covretin_service_ended(&frontend) || error == COVRETIN_NOT_REPLIED)
             return error;
         if (error == COVRETIN_OK)
             error = answers(call);

@@ -412,9 +412,7 @@ def check_calls(name, rings):
     with open(f"{name}.calls", encoding="utf-8") as it:
         lines = it.read().splitlines()
     check(lines[-1] == "ended: peer disconnected", f"{name} ended between two requests")
-    # (a network card enables its rings before it has accepted PROTOCOL_FEATURES, too, which is refused)
-    early = name == "net" and "refused 0: inactive feature"
-    check(not any(line.startswith("refused") and line != early for line in lines), f"each request of {name} was served")
+    check(not any(line.startswith("refused") for line in lines), f"each request of {name} was served")
     for call in (12, 11):  # SET_VRING_KICK, GET_VRING_BASE
         count = sum(line.startswith(f"call {call}:") for line in lines)
         check(count >= rings, f"{name} made call {call} for each of its rings")

@@ -354,6 +354,31 @@ static void goes_on_after_signals(void)
     close(peer);
 }
 
+/* A limit of connecting holds where signals come more often than the system's clock ticks. */
+static void limits_connecting_amid_signals(void)
+{
+    struct sigaction on = {.sa_handler = tick}, was;
+    struct itimerval often = {{0, 300}, {0, 300}}, never = {{0, 0}, {0, 0}};
+    covretin_connection waiting[8] = {{{NULL}, NULL}};
+    int listener = listen_at("ticking.socket", 0);
+    enum covretin_error error = COVRETIN_OK;
+    size_t count = 0;
+    while (count < 8 && error == COVRETIN_OK)
+        error = covretin_connect(&waiting[count++], "ticking.socket", 2, 20);
+    EXPECT(COVRETIN_TIMED_OUT, error);
+    sigaction(SIGALRM, &on, &was);
+    setitimer(ITIMER_REAL, &often, NULL);
+    int64_t began = now();
+    EXPECT(COVRETIN_TIMED_OUT, covretin_connect(&device, "ticking.socket", 2, 50));
+    EXPECT(true, now() - began >= 45 && now() - began < LIMIT);
+    setitimer(ITIMER_REAL, &never, NULL);
+    sigaction(SIGALRM, &was, NULL);
+    for (size_t i = 0; i < count; i++)
+        covretin_disconnect(&waiting[i]);
+    close(listener);
+    unlink("ticking.socket");
+}
+
 int main(void)
 {
     RUN(connects_to_a_path);
@@ -370,5 +395,6 @@ int main(void)
     RUN(limits_time);
     RUN(limits_time_of_a_trickle);
     RUN(goes_on_after_signals);
+    RUN(limits_connecting_amid_signals);
     return status();
 }

@@ -479,6 +479,24 @@ static void tells_refusals_late(void)
     close(peer);
 }
 
+/* Under VHOST a request that nobody serves ends the service, without a reply. */
+static void has_profiles(void)
+{
+    const uint8_t status[8] = {0};
+    uint8_t byte;
+    EXPECT(COVRETIN_NO_SESSION, covretin_backend_set_profile(&service.backend, COVRETIN_PROFILE_VHOST));
+    int peer = served_pair();
+    EXPECT(COVRETIN_INVALID_PARAM, covretin_backend_set_profile(&service.backend, (enum covretin_profile)2));
+    EXPECT(COVRETIN_OK, covretin_backend_set_profile(&service.backend, COVRETIN_PROFILE_VHOST));
+    accept_features(peer, COVRETIN_PROTOCOL_REPLY_ACK);
+    request(peer, SET_STATUS, NEED_REPLY, status, sizeof status, NULL, 0);
+    EXPECT(COVRETIN_INVALID_MESSAGE, covretin_next_call(&service, &call, LIMIT));
+    EXPECT(true, covretin_service_ended(&service));
+    EXPECT(-1, recv(peer, &byte, 1, MSG_DONTWAIT));
+    covretin_hang_up(&service);
+    close(peer);
+}
+
 static void limits_time(void)
 {
     int peer = served_pair();
@@ -543,6 +561,7 @@ int main(void)
     RUN(byte_by_byte);
     RUN(sends_in_parts);
     RUN(tells_refusals_late);
+    RUN(has_profiles);
     RUN(limits_time);
     RUN(reads_no_further);
     return status();

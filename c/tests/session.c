@@ -151,6 +151,34 @@ static void rings_without_descriptor(void)
     covretin_close(&session);
 }
 
+/* The log's base alone, as without LOG_SHMFD, and with it the region in its place, whose descriptor comes along. */
+static void logs(void)
+{
+    const covretin_region region = {.memory_size = 0x1000, .mmap_offset = 0x20, .fd = 7};
+    EXPECT(COVRETIN_OK, covretin_open(&session, 2));
+    EXPECT(0, covretin_ask_set_log_base_alone(&session, 0x1122));
+    expect_text("\6\0\0\0\1\0\0\0\10\0\0\0\42\21\0\0\0\0\0\0", 20, 0);
+    EXPECT(0, covretin_missing(&session));
+    EXPECT(0, covretin_take(&session));
+    EXPECT(0, covretin_ask_set_log_base(&session, 5, &region));
+    expect_text("\6\0\0\0\1\0\0\0\10\0\0\0\5\0\0\0\0\0\0\0", 20, 0);
+    EXPECT(0, covretin_take(&session));
+    EXPECT(COVRETIN_INVALID_PARAM, covretin_ask_set_log_fd(&session, -1));
+    EXPECT(0, covretin_ask_set_log_fd(&session, 9));
+    expect_text("\7\0\0\0\1\0\0\0\0\0\0\0", 12, 1);
+    EXPECT(9, fds[0]);
+    EXPECT(0, covretin_take(&session));
+    covretin_close(&session);
+    open_with(COVRETIN_PROTOCOL_LOG_SHMFD);
+    EXPECT(0, covretin_ask_set_log_base(&session, 5, &region));
+    expect_text("\6\0\0\0\1\0\0\0\20\0\0\0\0\20\0\0\0\0\0\0\40\0\0\0\0\0\0\0", 28, 1);
+    EXPECT(7, fds[0]);
+    GIVE("\6\0\0\0\5\0\0\0\10\0\0\0");
+    GIVE("\0\0\0\0\0\0\0\0");
+    EXPECT(0, covretin_take(&session));
+    covretin_close(&session);
+}
+
 /* get_config brings zeros along, or the caller's bytes; the reply's are read either way. */
 static void config_bytes(void)
 {
@@ -267,6 +295,7 @@ int main(void)
     RUN(header_flags);
     RUN(profiles);
     RUN(rings_without_descriptor);
+    RUN(logs);
     RUN(config_bytes);
     RUN(accepts_features);
     RUN(inactive);
