@@ -9,13 +9,13 @@ use vhost_dummy_backend::DummyBackendReqHandler;
 use vhost_link::{Kind, MemLink, PlainHandle};
 use vhost_message::{
     Error, FrontendReq, IoError, Result as Answer, VhostUserConfig, VhostUserConfigFlags,
-    VhostUserMsgHeader,
+    VhostUserMsgHeader, VhostUserU64,
 };
 use vhost_pair::Joined;
 use vhost_promises::{
-    Device, finds_own, first_answer, goes_on_unserved_new, opens_its_own, records_two,
-    runs_two_lines, sends_in_one, serves_by_halves, serves_three_new, shares_twice,
-    steps_without_memory, two_callers,
+    Device, back_and_there, finds_own, first_answer, goes_on_unserved_new, names_request,
+    opens_its_own, records_two, runs_two_lines, same_number, sends_in_one, serves_by_halves,
+    serves_three_new, shares_twice, steps_without_memory, two_callers,
 };
 use vhost_recorder::{FrontendAnswer, FrontendCall, Halt, Log, Receipt, Recorded};
 
@@ -269,4 +269,18 @@ fn one_caller_records(rt: HostRuntime) {
         found: true,
     };
     assert!(rt; three_recorded(rt.alloc()) == Ok(three));
+}
+
+/// A number that was written and read, one that was read and written, and what a header names that was.
+fn there_and_back() -> Option<(u64, u64, (FrontendReq, u32, bool, bool))> {
+    let mut room = [7, 1, 0, 0, 0, 0, 0, 0];
+    let number = back_and_there::<VhostUserU64>(&mut room).value;
+    let named = names_request(FrontendReq::SET_OWNER, 8, 4).ok()?;
+    Some((same_number(5), number, named))
+}
+
+#[test]
+fn records_as_bytes_and_back(rt: HostRuntime) {
+    let named = (FrontendReq::SET_OWNER, 4, false, true);
+    assert!(rt; there_and_back() == Some((5, 0x107, named)));
 }
