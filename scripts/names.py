@@ -78,10 +78,14 @@ def missing_of(page, text, names, files):
 
 
 def versions():
-    """The versions of the header and of the package for Rust, where they differ from that of the repository."""
+    """The versions of the header, of the package for Rust and of the daemon, where they differ from that of the repository."""
     with open(f"{TOP}/VERSION", encoding="ascii") as file:
         version = file.read().strip()
-    for path, pattern in ("include/covretin.h", r'COVRETIN_VERSION\s+"([^"]*)"'), ("rust/Cargo.toml", r'(?m)^version = "([^"]*)"'):
+    for path, pattern in (
+        ("include/covretin.h", r'COVRETIN_VERSION\s+"([^"]*)"'),
+        ("rust/Cargo.toml", r'(?m)^version = "([^"]*)"'),
+        ("crates/vhost_daemon/src/main.rt", r'"vhost-daemon ([0-9.]+)"'),
+    ):
         with open(f"{TOP}/{path}", encoding="utf-8") as file:
             found = re.search(pattern, file.read())
         if found and found[1] != version:

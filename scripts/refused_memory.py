@@ -1,5 +1,5 @@
 # SPDX-License-Identifier: Apache-2.0
-"""Runs a program with each growth of memory refused in turn. `refused-memory.sh` says more, and calls it."""
+"""Runs a program with each allocation failed in turn. `refused-memory.sh` says more, and calls it."""
 
 import glob
 import os
@@ -23,7 +23,7 @@ def sessions(top):
 
 
 def run(words, given, library, refused, counted=None):
-    """Runs the program with one growth refused, none where that is 0: its output and its status."""
+    """Runs the program with one allocation failed, none where that is 0: its output and its status."""
     env = {"LD_PRELOAD": library, "REFUSE": str(refused)}
     if counted:
         env["COUNT"] = counted
@@ -40,14 +40,14 @@ def is_of_the_device(whole, wrote):
 
 
 def refuse_all(words, given, library, room):
-    """Each growth of one run, refused in turn: how many ended as else, with a refusal of the device, with a front, and otherwise."""
+    """Each allocation of one run, failed in turn: how many ended as else, with a refusal of the device, with a front, and otherwise."""
     counted = f"{room}/count"
     whole, status = run(words, given, library, 0, counted)
     with open(counted, encoding="ascii") as file:
-        growths = int(file.read())
+        allocations = int(file.read())
     same = device = front = other = 0
-    for refused in range(1, growths + 1):
-        wrote, ended = run(words, given, library, refused)
+    for failed in range(1, allocations + 1):
+        wrote, ended = run(words, given, library, failed)
         if (wrote, ended) == (whole, status):
             same += 1
         elif ended == status and is_of_the_device(whole, wrote):
@@ -56,7 +56,7 @@ def refuse_all(words, given, library, room):
             front += 1
         else:
             other += 1
-            print(f"growth {refused} of {growths}: status {ended}, {len(wrote)} bytes, of input {given[:200]!r}")
+            print(f"allocation {failed} of {allocations}: status {ended}, {len(wrote)} bytes, of input {given[:200]!r}")
     return same, device, front, other
 
 
@@ -72,7 +72,7 @@ def main():
         for words, given in runs:
             sums = [a + b for a, b in zip(sums, refuse_all(words, given, library, room))]
     same, device, front, other = sums
-    print(f"vhost-run: {len(runs)} runs, {sum(sums)} growths refused: {same} ended as else, {device} with a refusal of the device, {front} with status 2, {other} otherwise")
+    print(f"vhost-run: {len(runs)} runs, {sum(sums)} failed allocations: {same} ended as else, {device} with a refusal of the device, {front} with status 2, {other} otherwise")
     return 1 if other else 0
 
 
