@@ -16,8 +16,9 @@ use covretin as vhost;
 use common::*;
 use vhost::vhost_user::message::*;
 use vhost::vhost_user::{
-    Backend, BackendListener, BackendReqHandler, Error, Frontend, GpuBackend, Listener, Result, VhostUserBackendReqHandler,
-    VhostUserBackendReqHandlerMut, VhostUserFrontend, SERVED_PROTOCOL_FEATURES,
+    Backend, BackendListener, BackendReqHandler, Error, Frontend, FrontendReqHandler, GpuBackend, Listener, Result,
+    VhostUserBackendReqHandler, VhostUserBackendReqHandlerMut, VhostUserFrontend, VhostUserFrontendReqHandlerMut,
+    SERVED_PROTOCOL_FEATURES,
 };
 use vhost::{VhostBackend, VhostUserMemoryRegionBase};
 
@@ -150,6 +151,16 @@ fn serve(handler: &mut BackendReqHandler<impl VhostUserBackendReqHandler>) -> io
 
 fn is_sent<T: Send>(it: T) -> T {
     it
+}
+
+/// The handlers of both channels can be sent to another thread, and shared with it, as those of the crate.
+#[test]
+fn handlers_of_threads() {
+    struct Machine;
+    impl VhostUserFrontendReqHandlerMut for Machine {}
+    fn is_shared<T: Send + Sync>() {}
+    is_shared::<BackendReqHandler<Mutex<Mine>>>();
+    is_shared::<FrontendReqHandler<Mutex<Machine>>>();
 }
 
 /// A listener gives its device to the first frontend that connects, and is used up then.
