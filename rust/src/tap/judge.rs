@@ -366,7 +366,8 @@ fn next_call(session: &mut BackendSession, bytes: &[u8], request: &Message) -> R
     // (none of an invalid header)
     let body = &body[..session.missing().min(body.len())];
     if !body.is_empty() {
-        session.receive(body, &stand_ins(request.body_fds))?;
+        // (any of them refuse it; without its body the session would take the next request for that)
+        session.receive(body, &stand_ins(request.body_fds.min(MAX_FDS)))?;
     }
     session.next()
 }
