@@ -442,6 +442,19 @@ fn bytes_that_are_no_message() {
     assert_eq!(wanted, found.as_slice());
 }
 
+/// A peer chooses the name of a file that it made, and so can't write a line.
+#[test]
+fn a_descriptor_with_a_name_of_two_lines() {
+    let line = "{\"t\": 1, \"session\": 1, \"way\": \"F>B\", \"bytes\": \"0c00000001000000080000000000000000000000\", \
+                \"fds\": [\"file:/memfd:a\\u000a! b\"], \"fds_at\": [0], \"body_fds\": 0, \"cuts\": [], \"short\": false}\n";
+    let file = std::env::temp_dir().join(format!("covretin-tap-{}-name", std::process::id()));
+    write(&file, line).unwrap();
+    let output = tap(&["--replay", file.to_str().unwrap()]);
+    remove_file(&file).unwrap();
+    assert_eq!(Vec::<String>::new(), complaints(&output));
+    assert!(text(&output.stdout).contains(" F>B SET_VRING_KICK ring=0 fds=memfd:a?! b\n"));
+}
+
 /// More descriptors with a body than a message may have: the request is refused, and what is behind it is judged as it is.
 #[test]
 fn many_descriptors_with_a_body() {
