@@ -503,10 +503,18 @@ fn its_socket() {
     counted(|| {
         let tap = Tap::of(Some(2));
         drop(tap.ends());
-        let words = [tap.folder.join("frontend"), tap.folder.join("backend")];
-        let second = Command::new(env!("CARGO_BIN_EXE_covretin-tap")).arg("--count=1").args(&words).output().unwrap();
-        assert_eq!(Some(2), second.status.code());
-        assert!(String::from_utf8_lossy(&second.stderr).contains("frontend: Address already in use"));
+        let second = |words: [&str; 3]| {
+            let mut second = Command::new(env!("CARGO_BIN_EXE_covretin-tap"));
+            second.current_dir(&tap.folder).args(["--count=1", "--record"]).args(words).output().unwrap()
+        };
+        // (with the recording of the first, which is whole all the same)
+        let refused = second(["record", "frontend", "backend"]);
+        assert_eq!(Some(2), refused.status.code());
+        assert!(String::from_utf8_lossy(&refused.stderr).contains("frontend: Address already in use"));
+        let refused = second(["no folder/record", "other", "backend"]);
+        assert_eq!(Some(2), refused.status.code());
+        assert!(String::from_utf8_lossy(&refused.stderr).contains("no folder/record: No such file or directory"));
+        assert!(!tap.folder.join("other").exists());
         // (that looked at the socket was a session, without a message)
         tap.accept();
         tap.end();
