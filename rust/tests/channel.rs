@@ -311,7 +311,6 @@ fn requests_that_are_none() {
             assert_eq!(before, open_fds());
             assert_eq!("SocketBroken(71)", name(&handler.handle_request().unwrap_err()));
             assert!(noting.lock().unwrap().asked.is_empty());
-            handler.set_failed(0);
         }
     });
 }
@@ -338,8 +337,12 @@ fn a_request_in_pieces() {
         assert_eq!(1, noting.lock().unwrap().asked.len());
         assert_eq!(identity(&file), noting.lock().unwrap().files[0]);
         assert_ne!(handler.as_raw_fd(), handler.get_tx_raw_fd());
+        peer.say(&message(2, ASKS, &[]), &[]);
         handler.set_failed(libc::ENODEV);
         assert_eq!("SocketBroken(19)", name(&handler.handle_request().unwrap_err()));
+        handler.set_failed(0);
+        assert_eq!(0, handler.handle_request().unwrap());
+        assert_eq!("config_change", noting.lock().unwrap().asked[1]);
     });
 }
 
