@@ -120,6 +120,18 @@ fn each_call_with_a_reply() {
     });
 }
 
+/// A descriptor is asked for its number before the channel is locked: it may be the channel's own.
+#[test]
+fn the_channel_as_a_buffer() {
+    counted(|| {
+        let (channel, peer) = asking();
+        channel.set_dmabuf_scanout(&BUFFER, Some(&channel)).unwrap();
+        assert_eq!(1, peer.hear(&message(9, 0, &hex(&format!("{RECTANGLE} {FORM}")))).len());
+        channel.set_dmabuf_scanout2(&BUFFER2, Some(&channel)).unwrap();
+        assert_eq!(1, peer.hear(&message(12, 0, &hex(&format!("{RECTANGLE} {FORM} 0200000000000001")))).len());
+    });
+}
+
 /// Each field of a reply is where it has to be.
 #[test]
 fn values_of_replies() {

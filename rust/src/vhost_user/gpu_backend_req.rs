@@ -67,12 +67,14 @@ impl GpuBackend {
 
     /// A rectangle of a screen shows a buffer of the graphics card, whose descriptor stays the caller's.
     pub fn set_dmabuf_scanout(&self, scanout: &VhostUserGpuDMABUFScanout, fd: Option<&impl AsRawFd>) -> io::Result<()> {
-        self.tell(|session| session.set_dmabuf_scanout(scanout, number_of(fd)))
+        let fd = number_of(fd);
+        self.tell(|session| session.set_dmabuf_scanout(scanout, fd))
     }
 
     /// The same, with how the buffer's pixels are laid out.
     pub fn set_dmabuf_scanout2(&self, scanout: &VhostUserGpuDMABUFScanout2, fd: Option<&impl AsRawFd>) -> io::Result<()> {
-        self.tell(|session| session.set_dmabuf_scanout2(scanout, number_of(fd)))
+        let fd = number_of(fd);
+        self.tell(|session| session.set_dmabuf_scanout2(scanout, fd))
     }
 
     /// A rectangle of that buffer has changed. The display has read it when this returns.
