@@ -272,14 +272,18 @@ fn a_display_that_ends() {
     });
 }
 
-/// A read timeout of the socket limits each call, also one whose pixels nobody reads.
+/// A read timeout of the socket limits each call, also one whose pixels nobody reads; and so does the channel's own limit.
 #[test]
 fn a_display_that_is_slow() {
     counted(|| {
-        for is_reading in [false, true] {
+        let limit = Some(Duration::from_millis(50));
+        for (is_reading, by_socket) in [(false, true), (true, true), (true, false)] {
             let (mine, other) = UnixStream::pair().unwrap();
-            mine.set_read_timeout(Some(Duration::from_millis(50))).unwrap();
+            mine.set_read_timeout(limit.filter(|_| by_socket)).unwrap();
             let channel = GpuBackend::from_stream(mine);
+            if !by_socket {
+                channel.set_timeout(limit);
+            }
             let ended = match is_reading {
                 true => text(channel.get_display_info()),
                 false => text(channel.update_scanout(&UPDATE, &counting(8 << 20))),

@@ -37,6 +37,10 @@ impl<S: Serves> ServedConnection<S> {
         ServedConnection { session, socket, send_timeout, bytes, fds: Vec::new(), has_begun: false, broken: None }
     }
 
+    pub(super) fn set_send_timeout(&mut self, timeout: Option<Duration>) {
+        self.send_timeout = timeout;
+    }
+
     pub(super) fn try_clone_socket(&self) -> io::Result<UnixStream> {
         self.socket.try_clone()
     }
