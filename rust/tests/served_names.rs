@@ -2,7 +2,7 @@
 //! The names of the crate `vhost`, as a device of it uses them, and numbers that the header has too.
 mod common;
 
-use std::fs::{read_to_string, File};
+use std::fs::File;
 use std::io;
 use std::os::unix::io::AsRawFd;
 use std::os::unix::net::UnixListener;
@@ -240,7 +240,7 @@ fn an_error_of_the_system() {
 /// The protocol features that are served are those of the header.
 #[test]
 fn features_of_the_header() {
-    let header = read_to_string(concat!(env!("CARGO_MANIFEST_DIR"), "/../include/covretin_backend.h")).unwrap();
+    let header = text_of(concat!(env!("CARGO_MANIFEST_DIR"), "/../include/covretin_backend.h"));
     let served = header.split("#define COVRETIN_SERVED_PROTOCOL_FEATURES").nth(1).unwrap().split(')').next().unwrap();
     let served: Vec<&str> = served
         .split(|it: char| !it.is_ascii_alphanumeric() && it != '_')
