@@ -128,6 +128,7 @@ struct Disk {
 }
 
 /// A region of guest memory, and where it is mapped.
+#[derive(Clone)]
 struct Region {
     about: VhostUserMemoryRegion,
     mapped: Arc<GuestRegionMmap>,
@@ -165,6 +166,15 @@ impl<E: std::error::Error> From<E> for Malformed {
 
 type Guest<T> = std::result::Result<T, Malformed>;
 
+impl Region {
+    fn map(about: VhostUserMemoryRegion, file: File) -> Result<Region> {
+        let size = usize::try_from(about.memory_size).map_err(|_| Error::InvalidParam)?;
+        let mapping = MmapRegion::from_file(FileOffset::new(file, about.mmap_offset), size).map_err(|_| Error::InvalidParam)?;
+        let mapped = GuestRegionMmap::new(mapping, GuestAddress(about.guest_phys_addr)).map_err(|_| Error::InvalidParam)?;
+        Ok(Region { about, mapped: Arc::new(mapped) })
+    }
+}
+
 impl Disk {
     fn new(image: File, rings: u16) -> Result<Disk> {
         let size = image.metadata().map_err(Error::ReqHandlerError)?.len() / SECTOR * SECTOR;
@@ -201,22 +211,15 @@ impl Disk {
         space
     }
 
-    fn map(&mut self, about: VhostUserMemoryRegion, file: File) -> Result<()> {
-        let size = usize::try_from(about.memory_size).map_err(|_| Error::InvalidParam)?;
-        let mapping = MmapRegion::from_file(FileOffset::new(file, about.mmap_offset), size).map_err(|_| Error::InvalidParam)?;
-        let mapped = GuestRegionMmap::new(mapping, GuestAddress(about.guest_phys_addr)).map_err(|_| Error::InvalidParam)?;
-        self.regions.push(Region { about, mapped: Arc::new(mapped) });
-        self.regions.sort_by_key(|region| region.about.guest_phys_addr);
-        self.gather()
-    }
-
-    /// Makes the memory of its regions.
-    fn gather(&mut self) -> Result<()> {
-        let mapped: Vec<_> = self.regions.iter().map(|region| region.mapped.clone()).collect();
+    /// Has these regions from now on. Where two of them overlap nothing changes.
+    fn set_regions(&mut self, mut regions: Vec<Region>) -> Result<()> {
+        regions.sort_by_key(|region| region.about.guest_phys_addr);
+        let mapped: Vec<_> = regions.iter().map(|region| region.mapped.clone()).collect();
         self.memory = match mapped.is_empty() {
             true => GuestMemoryMmap::default(),
             false => GuestMemoryMmap::from_arc_regions(mapped).map_err(|_| Error::InvalidParam)?,
         };
+        self.regions = regions;
         Ok(())
     }
 
@@ -425,10 +428,8 @@ impl VhostUserBackendReqHandlerMut for Disk {
         files: Vec<File>,
         _postcopy_listening: Option<bool>,
     ) -> Result<Option<Vec<VhostUserMemoryRegionBase>>> {
-        self.regions.clear();
-        for (region, file) in regions.iter().zip(files) {
-            self.map(*region, file)?;
-        }
+        let mapped: Result<Vec<Region>> = regions.iter().zip(files).map(|(region, file)| Region::map(*region, file)).collect();
+        self.set_regions(mapped?)?;
         Ok(None)
     }
 
@@ -445,7 +446,8 @@ impl VhostUserBackendReqHandlerMut for Disk {
         if self.regions.len() as u64 >= MEMORY_SLOTS {
             return Err(Error::InvalidParam);
         }
-        self.map(**region, file)?;
+        let added = Region::map(**region, file)?;
+        self.set_regions(self.regions.iter().cloned().chain([added]).collect())?;
         Ok(None)
     }
 
@@ -454,8 +456,9 @@ impl VhostUserBackendReqHandlerMut for Disk {
             (it.guest_phys_addr, it.memory_size, it.user_addr) == (region.guest_phys_addr, region.memory_size, region.user_addr)
         };
         let at = self.regions.iter().position(|it| is_it(&it.about)).ok_or(Error::InvalidParam)?;
-        self.regions.remove(at);
-        self.gather()
+        let mut regions = self.regions.clone();
+        regions.remove(at);
+        self.set_regions(regions)
     }
 
     fn set_vring_num(&mut self, index: u32, num: u32) -> Result<()> {

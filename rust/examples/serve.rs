@@ -162,6 +162,7 @@ impl VhostUserBackendReqHandlerMut for Device {
     }
 
     fn get_protocol_features(&mut self) -> Result<VhostUserProtocolFeatures> {
+        // (all, as the daemon's; a device that has a function offers of SERVED_PROTOCOL_FEATURES what it can do, and no more)
         Ok(VhostUserProtocolFeatures::all())
     }
 

@@ -217,6 +217,31 @@ fn a_channel_that_ends() {
     });
 }
 
+/// A frontend that does not acknowledge, and a device that asks on and does not read.
+#[test]
+fn limits_of_time() {
+    counted(|| {
+        let (channel, _peer) = asking();
+        allow_all(&channel);
+        channel.set_reply_ack_flag(true);
+        channel.set_timeout(Some(Duration::from_millis(50)));
+        let error = channel.handle_config_change().unwrap_err().to_string();
+        assert_eq!("socket is broken: Connection timed out (os error 110)", error);
+        let mut handler = FrontendReqHandler::new(Arc::new(Mutex::new(Noting::default()))).unwrap();
+        handler.set_reply_ack_flag(true);
+        handler.set_reply_timeout(Some(Duration::from_millis(50)));
+        let peer = device_end(&handler);
+        let last = loop {
+            peer.say(&message(2, WANTS, &[]), &[]);
+            match handler.handle_request() {
+                Ok(value) => assert_eq!(0, value),
+                Err(error) => break error,
+            }
+        };
+        assert_eq!("SocketBroken(110)", name(&last));
+    });
+}
+
 /// Clones of a channel in threads: each call takes its own reply.
 #[test]
 fn threads_that_share_a_channel() {
@@ -311,7 +336,6 @@ fn requests_that_are_none() {
             assert_eq!(before, open_fds());
             assert_eq!("SocketBroken(71)", name(&handler.handle_request().unwrap_err()));
             assert!(noting.lock().unwrap().asked.is_empty());
-            handler.set_failed(0);
         }
     });
 }
@@ -338,8 +362,12 @@ fn a_request_in_pieces() {
         assert_eq!(1, noting.lock().unwrap().asked.len());
         assert_eq!(identity(&file), noting.lock().unwrap().files[0]);
         assert_ne!(handler.as_raw_fd(), handler.get_tx_raw_fd());
+        peer.say(&message(2, ASKS, &[]), &[]);
         handler.set_failed(libc::ENODEV);
         assert_eq!("SocketBroken(19)", name(&handler.handle_request().unwrap_err()));
+        handler.set_failed(0);
+        assert_eq!(0, handler.handle_request().unwrap());
+        assert_eq!("config_change", noting.lock().unwrap().asked[1]);
     });
 }
 

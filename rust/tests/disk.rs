@@ -89,8 +89,10 @@ impl Guest {
         let features = it.get_features().unwrap();
         it.set_features(features).unwrap();
         let offered = it.get_protocol_features().unwrap();
-        let wanted =
-            VhostUserProtocolFeatures::CONFIG | VhostUserProtocolFeatures::REPLY_ACK | VhostUserProtocolFeatures::BACKEND_REQ;
+        let wanted = VhostUserProtocolFeatures::CONFIG
+            | VhostUserProtocolFeatures::REPLY_ACK
+            | VhostUserProtocolFeatures::BACKEND_REQ
+            | VhostUserProtocolFeatures::CONFIGURE_MEM_SLOTS;
         it.set_protocol_features(offered & wanted).unwrap();
         need_reply(it);
         let (_, space) = it.get_config(0, 8, VhostUserConfigFlags::empty(), &[0; 8]).unwrap();
@@ -314,6 +316,26 @@ fn a_ring_outside_of_memory() {
         guest.start(0);
         guest.still_serves();
         assert!(guest.frontend.as_raw_fd() >= 0);
+    });
+}
+
+/// Regions that lie over one another, or behind the end of their file, are refused, and leave all as it was.
+#[test]
+#[ignore = "needs COVRETIN_DISK"]
+fn regions_that_can_not_be() {
+    counted(|| {
+        let mut guest = Guest::new("regions");
+        let region = guest.memory.find_region(GuestAddress(START)).unwrap();
+        let region = VhostUserMemoryRegionInfo::from_guest_region(region).unwrap();
+        let behind = VhostUserMemoryRegionInfo { guest_phys_addr: START + MEMORY, ..region };
+        let beyond = VhostUserMemoryRegionInfo { mmap_offset: MEMORY, ..behind };
+        failed("BackendInternalError", guest.frontend.add_mem_region(&region));
+        failed("BackendInternalError", guest.frontend.set_mem_table(&[behind, beyond]));
+        failed("BackendInternalError", guest.frontend.set_mem_table(&[behind, behind]));
+        guest.still_serves();
+        guest.frontend.add_mem_region(&behind).unwrap();
+        guest.frontend.remove_mem_region(&behind).unwrap();
+        guest.still_serves();
     });
 }
 

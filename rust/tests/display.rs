@@ -120,6 +120,18 @@ fn each_call_with_a_reply() {
     });
 }
 
+/// A descriptor is asked for its number before the channel is locked: it may be the channel's own.
+#[test]
+fn the_channel_as_a_buffer() {
+    counted(|| {
+        let (channel, peer) = asking();
+        channel.set_dmabuf_scanout(&BUFFER, Some(&channel)).unwrap();
+        assert_eq!(1, peer.hear(&message(9, 0, &hex(&format!("{RECTANGLE} {FORM}")))).len());
+        channel.set_dmabuf_scanout2(&BUFFER2, Some(&channel)).unwrap();
+        assert_eq!(1, peer.hear(&message(12, 0, &hex(&format!("{RECTANGLE} {FORM} 0200000000000001")))).len());
+    });
+}
+
 /// Each field of a reply is where it has to be.
 #[test]
 fn values_of_replies() {
@@ -260,14 +272,18 @@ fn a_display_that_ends() {
     });
 }
 
-/// A read timeout of the socket limits each call, also one whose pixels nobody reads.
+/// A read timeout of the socket limits each call, also one whose pixels nobody reads; and so does the channel's own limit.
 #[test]
 fn a_display_that_is_slow() {
     counted(|| {
-        for is_reading in [false, true] {
+        let limit = Some(Duration::from_millis(50));
+        for (is_reading, by_socket) in [(false, true), (true, true), (true, false)] {
             let (mine, other) = UnixStream::pair().unwrap();
-            mine.set_read_timeout(Some(Duration::from_millis(50))).unwrap();
+            mine.set_read_timeout(limit.filter(|_| by_socket)).unwrap();
             let channel = GpuBackend::from_stream(mine);
+            if !by_socket {
+                channel.set_timeout(limit);
+            }
             let ended = match is_reading {
                 true => text(channel.get_display_info()),
                 false => text(channel.update_scanout(&UPDATE, &counting(8 << 20))),

@@ -2,7 +2,6 @@
 //! The names of the crate `vhost`, as a program of it uses them, and numbers that the header has too.
 mod common;
 
-use std::fs::read_to_string;
 use std::os::unix::io::{AsRawFd, RawFd};
 use std::os::unix::net::UnixListener;
 use std::path::PathBuf;
@@ -227,7 +226,7 @@ fn records_that_are_valid() {
 /// The numbers of the features, of limits, and the version are those of the header.
 #[test]
 fn numbers_of_the_header() {
-    let header = read_to_string(concat!(env!("CARGO_MANIFEST_DIR"), "/../include/covretin.h")).unwrap();
+    let header = text_of(concat!(env!("CARGO_MANIFEST_DIR"), "/../include/covretin.h"));
     let value = |name: &str| {
         let line = header.lines().find(|it| it.starts_with(&format!("#define {name} "))).unwrap_or_else(|| panic!("no {name}"));
         line.split_whitespace().nth(2).unwrap().trim_matches('"').to_string()
@@ -269,7 +268,7 @@ fn numbers_of_the_header() {
 /// The same of the vhost-user-gpu channel.
 #[test]
 fn numbers_of_the_display() {
-    let header = read_to_string(concat!(env!("CARGO_MANIFEST_DIR"), "/../include/covretin_display.h")).unwrap();
+    let header = text_of(concat!(env!("CARGO_MANIFEST_DIR"), "/../include/covretin_display.h"));
     for (name, size) in [
         ("CURSOR_SIZE", 4 * 64 * 64),
         ("INFO_SIZE", std::mem::size_of::<VirtioGpuRespDisplayInfo>()),

@@ -480,6 +480,30 @@ fn descriptors_behind_the_first_byte() {
     });
 }
 
+/// However many come behind the first byte, none stays open while the rest of the request is awaited, but that of the first byte.
+#[test]
+fn many_descriptors_behind_the_first_byte() {
+    counted(|| {
+        let device = Shared::default();
+        let (mut handler, peer) = handled(&device);
+        agree_by_hand(&device, &mut handler, &peer, ALL);
+        handler.try_clone_connection().unwrap().set_nonblocking(true).unwrap();
+        let (own, others) = (memory_file(), some_files(32));
+        let before = open_fds();
+        let request = message(12, ASKS, &[0; 8]);
+        peer.say(&request[..1], &[&own]);
+        for byte in &request[1..19] {
+            peer.say(&[*byte], &others.iter().collect::<Vec<_>>());
+            assert!(matches!(handler.handle_request(), Err(Error::SocketRetry(_))));
+            assert_eq!(before + 1, open_fds());
+        }
+        peer.say(&request[19..], &[]);
+        assert_eq!("InvalidMessage", name(&handler.handle_request().unwrap_err()));
+        assert_eq!([""; 0], *seen(&device).asked);
+        assert_eq!(before, open_fds());
+    });
+}
+
 /// Requests that come at once: each has its own descriptor, and nothing is read beyond the one that is served.
 #[test]
 fn what_is_behind_a_request() {

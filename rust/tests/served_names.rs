@@ -2,7 +2,7 @@
 //! The names of the crate `vhost`, as a device of it uses them, and numbers that the header has too.
 mod common;
 
-use std::fs::{read_to_string, File};
+use std::fs::File;
 use std::io;
 use std::os::unix::io::AsRawFd;
 use std::os::unix::net::UnixListener;
@@ -16,8 +16,9 @@ use covretin as vhost;
 use common::*;
 use vhost::vhost_user::message::*;
 use vhost::vhost_user::{
-    Backend, BackendListener, BackendReqHandler, Error, Frontend, GpuBackend, Listener, Result, VhostUserBackendReqHandler,
-    VhostUserBackendReqHandlerMut, VhostUserFrontend, SERVED_PROTOCOL_FEATURES,
+    Backend, BackendListener, BackendReqHandler, Error, Frontend, FrontendReqHandler, GpuBackend, Listener, Result,
+    VhostUserBackendReqHandler, VhostUserBackendReqHandlerMut, VhostUserFrontend, VhostUserFrontendReqHandlerMut,
+    SERVED_PROTOCOL_FEATURES,
 };
 use vhost::{VhostBackend, VhostUserMemoryRegionBase};
 
@@ -152,6 +153,16 @@ fn is_sent<T: Send>(it: T) -> T {
     it
 }
 
+/// The handlers of both channels can be sent to another thread, and shared with it, as those of the crate.
+#[test]
+fn handlers_of_threads() {
+    struct Machine;
+    impl VhostUserFrontendReqHandlerMut for Machine {}
+    fn is_shared<T: Send + Sync>() {}
+    is_shared::<BackendReqHandler<Mutex<Mine>>>();
+    is_shared::<FrontendReqHandler<Mutex<Machine>>>();
+}
+
 /// A listener gives its device to the first frontend that connects, and is used up then.
 #[test]
 fn a_program_of_the_crate() {
@@ -229,7 +240,7 @@ fn an_error_of_the_system() {
 /// The protocol features that are served are those of the header.
 #[test]
 fn features_of_the_header() {
-    let header = read_to_string(concat!(env!("CARGO_MANIFEST_DIR"), "/../include/covretin_backend.h")).unwrap();
+    let header = text_of(concat!(env!("CARGO_MANIFEST_DIR"), "/../include/covretin_backend.h"));
     let served = header.split("#define COVRETIN_SERVED_PROTOCOL_FEATURES").nth(1).unwrap().split(')').next().unwrap();
     let served: Vec<&str> = served
         .split(|it: char| !it.is_ascii_alphanumeric() && it != '_')

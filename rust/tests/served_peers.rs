@@ -86,16 +86,20 @@ fn a_slow_frontend() {
     });
 }
 
-/// A reply that nobody reads, to a socket that limits the time of sending.
+/// A reply that nobody reads, to a socket that limits the time of sending, or by a handler that does.
 #[test]
 fn a_frontend_that_does_not_read() {
     counted(|| {
-        for blocks in [true, false] {
+        let limit = Some(Duration::from_millis(100));
+        for (blocks, by_socket) in [(true, true), (false, true), (true, false), (false, false)] {
             let (mine, other) = UnixStream::pair().unwrap();
             shrink(&mine);
-            mine.set_write_timeout(Some(Duration::from_millis(100))).unwrap();
+            mine.set_write_timeout(limit.filter(|_| by_socket)).unwrap();
             mine.set_nonblocking(!blocks).unwrap();
             let mut handler = BackendReqHandler::from_stream(mine, Shared::default());
+            if !by_socket {
+                handler.set_reply_timeout(limit);
+            }
             let peer = Peer { socket: other };
             let began = Instant::now();
             let last = loop {

@@ -442,6 +442,38 @@ fn bytes_that_are_no_message() {
     assert_eq!(wanted, found.as_slice());
 }
 
+/// A peer chooses the name of a file that it made, and so can't write a line.
+#[test]
+fn a_descriptor_with_a_name_of_two_lines() {
+    let line = "{\"t\": 1, \"session\": 1, \"way\": \"F>B\", \"bytes\": \"0c00000001000000080000000000000000000000\", \
+                \"fds\": [\"file:/memfd:a\\u000a! b\"], \"fds_at\": [0], \"body_fds\": 0, \"cuts\": [], \"short\": false}\n";
+    let file = std::env::temp_dir().join(format!("covretin-tap-{}-name", std::process::id()));
+    write(&file, line).unwrap();
+    let output = tap(&["--replay", file.to_str().unwrap()]);
+    remove_file(&file).unwrap();
+    assert_eq!(Vec::<String>::new(), complaints(&output));
+    assert!(text(&output.stdout).contains(" F>B SET_VRING_KICK ring=0 fds=memfd:a?! b\n"));
+}
+
+/// More descriptors with a body than a message may have: the request is refused, and what is behind it is judged as it is.
+#[test]
+fn many_descriptors_with_a_body() {
+    let line = |bytes: &[u8], count: usize| {
+        let digits: String = bytes.iter().map(|it| format!("{it:02x}")).collect();
+        let fds = vec!["\"socket\""; count].join(", ");
+        format!(
+            "{{\"t\": 1, \"session\": 1, \"way\": \"F>B\", \"bytes\": \"{digits}\", \"fds\": [{fds}], \"fds_at\": [12], \
+             \"body_fds\": {count}, \"cuts\": [], \"short\": false}}\n"
+        )
+    };
+    let file = std::env::temp_dir().join(format!("covretin-tap-{}-body", std::process::id()));
+    write(&file, [line(&message(8, ASKS, &[0; 8]), 33), line(&message(8, ASKS, &[0; 8]), 0)].concat()).unwrap();
+    let found = complaints(&tap(&["--replay", file.to_str().unwrap()]));
+    remove_file(&file).unwrap();
+    assert_eq!(1, found.len(), "{found:?}");
+    assert!(found[0].contains(" and came with 8 bytes and 33 descriptors, not all of them with its first byte; "), "{found:?}");
+}
+
 #[test]
 fn what_is_no_recording() {
     let output = tap(&["--replay", "no such file"]);

@@ -468,15 +468,53 @@ fn the_backend_channel_is_tapped() {
     });
 }
 
+/// The frontend's socket of the channel need not block, and is the tap's then: more than it holds is passed on, too.
+#[test]
+fn a_backend_channel_that_does_not_block() {
+    const COUNT: usize = 200;
+    counted(|| {
+        let tap = Tap::of(Some(1));
+        let (frontend, backend) = tap.ends();
+        let (mine, given) = UnixStream::pair().unwrap();
+        mine.set_read_timeout(Some(LONG)).unwrap();
+        given.set_nonblocking(true).unwrap();
+        send(&frontend.socket, &message(21, ASKS, &[]), &[given.as_raw_fd()]);
+        drop(given);
+        let channel = backend.hear(&message(21, ASKS, &[])).pop().unwrap();
+        let channel = UnixStream::from(std::os::unix::io::OwnedFd::from(channel));
+        let request = message(6, ASKS, &[0; 4096]);
+        let asked = request.clone();
+        let asking = thread::spawn(move || (0..COUNT).for_each(|_| (&channel).write_all(&asked).unwrap()));
+        // (by then all of the sockets are full)
+        thread::sleep(Duration::from_millis(100));
+        let mine = Peer { socket: mine };
+        (0..COUNT).for_each(|_| drop(mine.hear(&request)));
+        asking.join().unwrap();
+        mine.silence();
+        drop((frontend, backend, mine));
+        let (shown, found) = tap.end();
+        assert_eq!(COUNT, shown.lines().filter(|line| line.contains(" rev:B>F SHARED_OBJECT_ADD")).count());
+        assert_eq!(1, found.len(), "{found:?}");
+    });
+}
+
 #[test]
 fn its_socket() {
     counted(|| {
         let tap = Tap::of(Some(2));
         drop(tap.ends());
-        let words = [tap.folder.join("frontend"), tap.folder.join("backend")];
-        let second = Command::new(env!("CARGO_BIN_EXE_covretin-tap")).arg("--count=1").args(&words).output().unwrap();
-        assert_eq!(Some(2), second.status.code());
-        assert!(String::from_utf8_lossy(&second.stderr).contains("frontend: Address already in use"));
+        let second = |words: [&str; 3]| {
+            let mut second = Command::new(env!("CARGO_BIN_EXE_covretin-tap"));
+            second.current_dir(&tap.folder).args(["--count=1", "--record"]).args(words).output().unwrap()
+        };
+        // (with the recording of the first, which is whole all the same)
+        let refused = second(["record", "frontend", "backend"]);
+        assert_eq!(Some(2), refused.status.code());
+        assert!(String::from_utf8_lossy(&refused.stderr).contains("frontend: Address already in use"));
+        let refused = second(["no folder/record", "other", "backend"]);
+        assert_eq!(Some(2), refused.status.code());
+        assert!(String::from_utf8_lossy(&refused.stderr).contains("no folder/record: No such file or directory"));
+        assert!(!tap.folder.join("other").exists());
         // (that looked at the socket was a session, without a message)
         tap.accept();
         tap.end();

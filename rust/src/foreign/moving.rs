@@ -80,6 +80,9 @@ macro_rules! sessions {
         // all of them take `&mut self`, but for the drop, which owns it.
         unsafe impl Send for $Name {}
 
+        // SAFETY: as above; by a shared reference no call can be made.
+        unsafe impl Sync for $Name {}
+
         // SAFETY, of each call: it is declared as in the header. The session is open, and borrowed by this call alone. Each list
         // is a slice that is borrowed for the call, given by its pointer, which is never null, and its own length; what is written
         // is borrowed mutably, so no two of them overlap.

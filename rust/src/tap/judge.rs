@@ -19,6 +19,8 @@ const DEVICE_REFUSED: Code = Code(17);
 const MOST_REFUSED: usize = 64;
 /// How many requests may come behind one whose reply is awaited.
 const MOST_WAITING: usize = 1024;
+/// There and back.
+const WAYS: usize = 2;
 
 /// What the two sides agreed on, as far as acknowledgements depend on it.
 #[derive(Default)]
@@ -71,7 +73,7 @@ pub(super) struct Judge {
     /// Requests that were refused without a reply.
     refused: Vec<u32>,
     complaints: Vec<String>,
-    /// How many of both ways have ended.
+    /// How many of its ways have ended.
     ended: usize,
     pub(super) tally: Tally,
 }
@@ -96,6 +98,7 @@ impl Judge {
     /// What is wrong with what happened.
     pub(super) fn see(&mut self, event: &Event) -> Vec<String> {
         match &event.what {
+            What::Connected(Err(_)) => self.ended = WAYS,
             What::Message(way, message) if !message.is_whole() && way.channel == TO_BACKEND.channel => {
                 self.complain(cut_short(message));
             }
@@ -123,7 +126,7 @@ impl Judge {
 
     /// Whether nothing more comes.
     pub(super) fn has_ended(&self) -> bool {
-        self.ended == 2
+        self.ended == WAYS
     }
 
     fn complain(&mut self, complaint: impl Into<String>) {
@@ -363,7 +366,8 @@ fn next_call(session: &mut BackendSession, bytes: &[u8], request: &Message) -> R
     // (none of an invalid header)
     let body = &body[..session.missing().min(body.len())];
     if !body.is_empty() {
-        session.receive(body, &stand_ins(request.body_fds))?;
+        // (any of them refuse it; without its body the session would take the next request for that)
+        session.receive(body, &stand_ins(request.body_fds.min(MAX_FDS)))?;
     }
     session.next()
 }

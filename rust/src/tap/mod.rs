@@ -98,8 +98,15 @@ fn tap_sockets(
 ) -> io::Result<Verdict> {
     // Before there is another thread, which it would end.
     let signals = EndSignals::block();
-    let record = record.map(|path| File::create(path).map_err(about(path))).transpose()?;
     let listener = sockets::listen_at(listen).map_err(about(listen))?;
+    // Behind that: who can't listen, since another tap does, does not empty that one's recording.
+    let record = match record.map(|path| File::create(path).map_err(about(path))).transpose() {
+        Ok(record) => record,
+        Err(cause) => {
+            let _ = remove_file(listen);
+            return Err(cause);
+        }
+    };
     let watcher = Watcher::new(options, io::stdout(), record);
     let (reporter, notes) = Reporter::new();
     let watching = thread::Builder::new().spawn(move || watch(watcher, &notes))?;

@@ -101,7 +101,9 @@ impl Line {
                     return Ok(Some((received.count, fds)));
                 }
                 Err(cause) if cause.kind() == io::ErrorKind::Interrupted => {}
-                Err(cause) if cause.kind() == io::ErrorKind::WouldBlock => return Ok(None),
+                Err(cause) if cause.kind() == io::ErrorKind::WouldBlock && gathering.holds() => return Ok(None),
+                // (a frontend's own socket need not block: that of the backend channel)
+                Err(cause) if cause.kind() == io::ErrorKind::WouldBlock => wait_for(&self.from, libc::POLLIN),
                 Err(cause) => return Err(cause),
             }
         }
@@ -131,6 +133,7 @@ impl Line {
                     fds.clear();
                 }
                 Err(cause) if cause.kind() == io::ErrorKind::Interrupted => {}
+                Err(cause) if cause.kind() == io::ErrorKind::WouldBlock => wait_for(&self.to, libc::POLLOUT),
                 Err(cause) => return Err(cause),
             }
         }
@@ -171,6 +174,11 @@ impl Line {
         gathering.replace_fds(given.into());
         Ok(())
     }
+}
+
+/// Waits until a socket is ready for this, or a signal comes. Where it can't be waited for, its next call says why.
+fn wait_for(socket: &UnixStream, events: libc::c_short) {
+    let _ = is_ready(socket, events, -1);
 }
 
 fn is_unix_stream(fd: &impl AsRawFd) -> io::Result<bool> {

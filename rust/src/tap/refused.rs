@@ -10,7 +10,7 @@ use crate::vhost_user::message::{
 /// Why, by the session's error and the features that it says were lacking.
 pub(super) fn why(code: Code, inactive: u64, request: &Message) -> String {
     match code.0 {
-        1 if request.own_fds() > MAX_FDS || request.body_fds > MAX_FDS => {
+        1 if request.own_fds() > MAX_FDS => {
             format!("{} came, and {MAX_FDS} are the most", count_of(request.fds.len(), "descriptor"))
         }
         1 => format!("a value is not allowed{}", wants(request)),

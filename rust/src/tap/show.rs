@@ -105,7 +105,8 @@ fn message_text(way: Way, message: &Message) -> String {
     text += &fields_text(&fields_of(way, message));
     if !message.fds.is_empty() {
         let fds: Vec<&str> = message.fds.iter().map(|fd| fd_name(fd)).collect();
-        text += &format!(" fds={}", fds.join(","));
+        // (a peer names what it made: a line's end would begin a line of its own, as of a complaint)
+        text += &format!(" fds={}", fds.join(",").replace(char::is_control, "?"));
     }
     if message.is_short {
         text += &format!(" (cut short: {} bytes)", message.bytes.len());

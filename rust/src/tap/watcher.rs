@@ -98,3 +98,26 @@ impl<W: Write> Watcher<W> {
         Verdict { complaints: self.summary.complaints, failed: self.failed.or(shown.err()) }
     }
 }
+
+#[cfg(test)]
+mod tests {
+    use super::super::event::{What, TO_BACKEND, TO_FRONTEND};
+    use super::super::options::Source;
+    use super::*;
+
+    /// A tap may run for days before a backend that is not there.
+    #[test]
+    fn a_session_that_has_ended_is_forgotten() {
+        let source = Source::Recording("none".into());
+        let options = Options { profile: Profile::Standard, format: Format::Text, shows_bytes: false, source };
+        let mut watcher = Watcher::new(&options, Vec::new(), None);
+        let mut see = |session, what| {
+            watcher.see(&Event { time: 0.0, session, what });
+            (watcher.judges.len(), watcher.summary.sessions)
+        };
+        assert_eq!((0, 1), see(1, What::Connected(Err("nobody is there".to_string()))));
+        assert_eq!((1, 2), see(2, What::Connected(Ok(()))));
+        assert_eq!((1, 2), see(2, What::Ended(TO_BACKEND, None)));
+        assert_eq!((0, 2), see(2, What::Ended(TO_FRONTEND, None)));
+    }
+}

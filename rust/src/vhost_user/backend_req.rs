@@ -4,6 +4,7 @@ use std::io;
 use std::os::unix::io::{AsRawFd, RawFd};
 use std::os::unix::net::UnixStream;
 use std::sync::{Arc, Mutex, MutexGuard, PoisonError};
+use std::time::Duration;
 
 use super::connection::Connection;
 use super::message::{VhostUserMMap, VhostUserSharedMsg};
@@ -13,16 +14,17 @@ use crate::foreign::{ChannelSession, Mmap, Outcome};
 /// The backend channel: on it a device makes requests of its frontend. A clone is the same connection: each call is whole before
 /// another thread's begins.
 ///
-/// A call waits for the frontend where it is acknowledged, as long as that likes, or as a read timeout of the socket says. Its value
-/// is 0. Its errors are an [`Error`] in an [`io::Error`], but where a feature was not negotiated, which then is the text. After an
-/// error of the socket or a malformed reply the channel is of no more use.
+/// A call waits for the frontend where it is acknowledged, as long as that likes where there is no
+/// [limit of time](Backend::set_timeout). Its value is 0. Its errors are an [`Error`] in an [`io::Error`], but where a feature was not
+/// negotiated, which then is the text. After an error of the socket or a malformed reply the channel is of no more use.
 #[derive(Clone)]
 pub struct Backend {
     node: Arc<Mutex<Connection<ChannelSession>>>,
 }
 
 impl Backend {
-    /// The channel over a connected socket, with nothing negotiated. It panics where an allocation fails.
+    /// The channel over a connected socket, with nothing negotiated. A read timeout of the socket becomes the limit of time. It
+    /// panics where an allocation fails.
     pub fn from_stream(sock: UnixStream) -> Self {
         // (the crate's name for this returns no Result)
         let session = ChannelSession::open().expect("allocation of a session failed");
@@ -48,6 +50,12 @@ impl Backend {
     /// Whether CONFIG was accepted.
     pub fn set_config_change_flag(&self, enable: bool) {
         self.node().set(|session| session.set_config_change(enable));
+    }
+
+    /// Limits the time of each call, all of it; None: no limit. A call that takes longer ends the channel: SocketBroken, with a
+    /// cause of the kind `TimedOut`.
+    pub fn set_timeout(&self, timeout: Option<Duration>) {
+        self.node().set_timeout(timeout);
     }
 
     /// Ends the channel: each later call is SocketBroken by this number of the system.

@@ -5,6 +5,7 @@ use std::io;
 use std::os::unix::io::{AsRawFd, OwnedFd, RawFd};
 use std::os::unix::net::UnixStream;
 use std::sync::Arc;
+use std::time::Duration;
 
 use super::message::*;
 use super::served_connection::ServedConnection;
@@ -50,6 +51,12 @@ impl<S: VhostUserBackendReqHandler> BackendReqHandler<S> {
     /// and a memory table may be longer than its regions. Under `Vhost` the first is InvalidMessage, and the others are refused.
     pub fn set_profile(&mut self, profile: Profile) {
         self.connection.set(|session| session.set_profile(profile as u32));
+    }
+
+    /// Limits the time of each reply; None: no limit. Where it passes, since the frontend does not read, the connection ends:
+    /// SocketBroken, with a cause of the kind `TimedOut`.
+    pub fn set_reply_timeout(&mut self, timeout: Option<Duration>) {
+        self.connection.set_send_timeout(timeout);
     }
 
     /// Ends the connection: each later call is SocketBroken by this number of the system.

@@ -5,6 +5,7 @@ use std::io;
 use std::os::unix::io::{AsRawFd, RawFd};
 use std::os::unix::net::UnixStream;
 use std::sync::{Arc, Mutex};
+use std::time::Duration;
 
 use super::message::{BackendReq, VhostUserMMap, VhostUserSharedMsg};
 use super::served_connection::ServedConnection;
@@ -88,6 +89,12 @@ impl<S: VhostUserFrontendReqHandler> FrontendReqHandler<S> {
     /// Whether REPLY_ACK was accepted: then each request is acknowledged that asks for it.
     pub fn set_reply_ack_flag(&mut self, enable: bool) {
         self.connection.set(|session| session.set_reply_ack(enable));
+    }
+
+    /// Limits the time of each reply; None: no limit. Where it passes, since the device does not read, the channel ends:
+    /// SocketBroken, with a cause of the kind `TimedOut`.
+    pub fn set_reply_timeout(&mut self, timeout: Option<Duration>) {
+        self.connection.set_send_timeout(timeout);
     }
 
     /// Ends the channel: each later call is SocketBroken by this number of the system. 0: it goes on.

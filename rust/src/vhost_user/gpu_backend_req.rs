@@ -5,6 +5,7 @@ use std::os::unix::io::{AsRawFd, RawFd};
 use std::os::unix::net::UnixStream;
 use std::result;
 use std::sync::{Arc, Mutex, MutexGuard, PoisonError};
+use std::time::Duration;
 
 use super::connection::Connection;
 use super::gpu_message::{
@@ -17,15 +18,16 @@ use crate::foreign::{Asks, Code, DisplaySession, Outcome};
 /// The vhost-user-gpu channel: on it a graphics device makes requests of the display that its frontend has. A clone is the same
 /// connection: each call is whole before another thread's begins.
 ///
-/// A call waits for the display where it has a reply, as long as that likes, or as a read timeout of the socket says. Its errors are an
-/// [`Error`](super::Error) in an [`io::Error`]. After an error of the socket or a malformed reply the channel is of no more use.
+/// A call waits for the display where it has a reply, as long as that likes where there is no
+/// [limit of time](GpuBackend::set_timeout). Its errors are an [`Error`](super::Error) in an [`io::Error`]. After an error of the socket
+/// or a malformed reply the channel is of no more use.
 #[derive(Clone)]
 pub struct GpuBackend {
     node: Arc<Mutex<Connection<DisplaySession>>>,
 }
 
 impl GpuBackend {
-    /// The channel over a connected socket. It panics where an allocation fails.
+    /// The channel over a connected socket, whose read timeout becomes the limit of time. It panics where an allocation fails.
     pub fn from_stream(sock: UnixStream) -> Self {
         // (the crate's name for this returns no Result)
         let session = DisplaySession::open().expect("allocation of a session failed");
@@ -67,12 +69,14 @@ impl GpuBackend {
 
     /// A rectangle of a screen shows a buffer of the graphics card, whose descriptor stays the caller's.
     pub fn set_dmabuf_scanout(&self, scanout: &VhostUserGpuDMABUFScanout, fd: Option<&impl AsRawFd>) -> io::Result<()> {
-        self.tell(|session| session.set_dmabuf_scanout(scanout, number_of(fd)))
+        let fd = number_of(fd);
+        self.tell(|session| session.set_dmabuf_scanout(scanout, fd))
     }
 
     /// The same, with how the buffer's pixels are laid out.
     pub fn set_dmabuf_scanout2(&self, scanout: &VhostUserGpuDMABUFScanout2, fd: Option<&impl AsRawFd>) -> io::Result<()> {
-        self.tell(|session| session.set_dmabuf_scanout2(scanout, number_of(fd)))
+        let fd = number_of(fd);
+        self.tell(|session| session.set_dmabuf_scanout2(scanout, fd))
     }
 
     /// A rectangle of that buffer has changed. The display has read it when this returns.
@@ -93,6 +97,12 @@ impl GpuBackend {
     /// The cursor has this image.
     pub fn cursor_update(&self, cursor_update: &VhostUserGpuCursorUpdate, data: &[u8; 4 * 64 * 64]) -> io::Result<()> {
         self.call(|session| session.cursor_update(cursor_update), data, Asks::take)
+    }
+
+    /// Limits the time of each call, all of it, with its pixels; None: no limit. A call that takes longer ends the channel:
+    /// SocketBroken, with a cause of the kind `TimedOut`.
+    pub fn set_timeout(&self, timeout: Option<Duration>) {
+        self.node().set_timeout(timeout);
     }
 
     /// Ends the channel: each later call is SocketBroken by this number of the system.

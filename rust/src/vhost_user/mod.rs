@@ -58,7 +58,7 @@ pub enum Error {
     InactiveFeature(VhostUserVirtioFeatures),
     /// This protocol feature was not negotiated; nothing was sent.
     InactiveOperation(VhostUserProtocolFeatures),
-    /// The reply is malformed, or of another request.
+    /// The message is malformed, or the reply to another request.
     InvalidMessage,
     /// The descriptor is no socket.
     InvalidSocketFd(io::Error),
@@ -66,13 +66,13 @@ pub enum Error {
     NotUnixSocket,
     /// The socket is not of the type SOCK_STREAM.
     NotStreamSocket,
-    /// The backend closed the socket, or ended, before its reply was whole.
+    /// The peer closed the socket, or ended, before its message was whole.
     PartialMessage,
     /// The peer closed the socket.
     Disconnected,
     /// The message is longer than one may be.
     OversizedMsg,
-    /// The reply came with a wrong number of descriptors.
+    /// The message came with a wrong number of descriptors.
     IncorrectFds,
     /// Nobody could be connected to.
     SocketConnect(io::Error),
@@ -80,7 +80,7 @@ pub enum Error {
     SocketError(io::Error),
     /// The connection is of no more use. The cause is of the kind `TimedOut` where the limit of time passed.
     SocketBroken(io::Error),
-    /// An allocation failed, and nothing was sent.
+    /// Of a call: an allocation failed, and nothing was sent. Of a handler that waits for a request: no more has come yet.
     SocketRetry(io::Error),
     /// The backend refused the request.
     BackendInternalError,

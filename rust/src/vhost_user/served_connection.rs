@@ -21,8 +21,10 @@ pub(super) struct ServedConnection<S: Serves> {
     send_timeout: Option<Duration>,
     /// Bytes that were received, and then those of the reply: a request is received whole before it is replied to.
     bytes: Box<[u8; MAX_MESSAGE]>,
-    /// What came with the request that is received or served, and was not claimed.
+    /// What came with the first byte of the request that is received or served, and was not claimed.
     fds: Vec<OwnedFd>,
+    /// Whether a part of a request has come that was neither replied to nor refused.
+    has_begun: bool,
     /// What ended it: the system's number of an error. A request that failed on its way has left a part of a message.
     broken: Option<i32>,
 }
@@ -32,7 +34,11 @@ impl<S: Serves> ServedConnection<S> {
     pub(super) fn over(session: S, socket: UnixStream) -> ServedConnection<S> {
         let send_timeout = socket.write_timeout().ok().flatten();
         let bytes = Box::new([0; MAX_MESSAGE]);
-        ServedConnection { session, socket, send_timeout, bytes, fds: Vec::new(), broken: None }
+        ServedConnection { session, socket, send_timeout, bytes, fds: Vec::new(), has_begun: false, broken: None }
+    }
+
+    pub(super) fn set_send_timeout(&mut self, timeout: Option<Duration>) {
+        self.send_timeout = timeout;
     }
 
     pub(super) fn try_clone_socket(&self) -> io::Result<UnixStream> {
@@ -70,8 +76,8 @@ impl<S: Serves> ServedConnection<S> {
     /// Replies, and sends what is to be sent. BackendInternalError: it was replied that the device refused.
     pub(super) fn reply(&mut self, say: impl FnOnce(&mut S) -> Outcome) -> Result<()> {
         let said = say(&mut self.session).map_err(|code| error_of(code, 0));
+        self.end_request();
         self.send()?;
-        self.fds.clear();
         match said {
             Ok(()) | Err(Error::BackendInternalError) => {
                 self.broken = None;
@@ -116,7 +122,7 @@ impl<S: Serves> ServedConnection<S> {
             if missing == 0 {
                 return Ok(());
             }
-            let first = self.fds.len();
+            let kept = self.fds.len();
             let count = match receive_ready(&self.socket, &mut self.bytes[..missing], &mut self.fds, true) {
                 Ok(count) => count,
                 Err(Error::SocketRetry(cause)) => return Err(Error::SocketRetry(cause)),
@@ -125,11 +131,23 @@ impl<S: Serves> ServedConnection<S> {
             if count == 0 {
                 return Err(self.end());
             }
-            let numbers = numbers_of(&self.fds[first..]);
+            let numbers = numbers_of(&self.fds[kept..]);
             if let Err(code) = self.session.receive(&self.bytes[..count], numbers) {
                 return Err(self.break_by(error_of(code, 0)));
             }
+            // The session was told of descriptors behind the first byte, and names none of them: however many a peer sends, those
+            // are closed here.
+            if self.has_begun {
+                self.fds.truncate(kept);
+            }
+            self.has_begun = true;
         }
+    }
+
+    /// The request was replied to, or refused. What came with it and was not claimed is closed.
+    fn end_request(&mut self) {
+        self.fds.clear();
+        self.has_begun = false;
     }
 
     /// What it means that the stream ended here. Between two requests it can be asked again.
@@ -147,7 +165,7 @@ impl<S: Serves> ServedConnection<S> {
     /// Why a request was refused. It may be acknowledged, and the connection goes on where the request was well-formed.
     #[cold]
     fn refuse_request(&mut self, code: Code) -> Error {
-        self.fds.clear();
+        self.end_request();
         let error = match code {
             INVALID_OPERATION => Error::InvalidOperation("the request is not served, or not in this state of postcopy"),
             code => error_of(code, self.session.inactive()),

@@ -6,7 +6,7 @@ pub mod device;
 pub mod random;
 pub mod tap;
 
-use std::fs::{read_dir, File};
+use std::fs::{read_dir, read_to_string, File};
 use std::io::{ErrorKind, Read, Write};
 use std::mem::{size_of, size_of_val, zeroed};
 use std::os::unix::fs::MetadataExt;
@@ -45,6 +45,13 @@ pub fn counted(test: impl FnOnce()) {
 
 pub fn open_fds() -> usize {
     read_dir("/proc/self/fd").unwrap().count()
+}
+
+/// The text of a file, which is read while no other test counts.
+pub fn text_of(path: &str) -> String {
+    let mut text = String::new();
+    counted(|| text = read_to_string(path).unwrap());
+    text
 }
 
 /// The bytes of a text of hexadecimal digits, in which space means nothing.
