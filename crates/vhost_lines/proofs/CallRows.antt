@@ -67,9 +67,9 @@ pub call-ring : call_in (codes "set_vring_num 2 256") ≡ Some (SetVringNum 2 25
 unfolding is_utf8 chars encode
 call-ring = refl
 
-pub call-switch : call_in (codes "set_vring_enable 1 2") ≡ None
+pub call-enabled : call_in (codes "set_vring_enable 1 2") ≡ None
 unfolding is_utf8 chars encode
-call-switch = refl
+call-enabled = refl
 
 pub call-addresses : call_in (codes "set_vring_addr 1 1 16 32 48 64") ≡ Some (SetVringAddr 1 (record { queue_max_size = 0; queue_size = 0; flags = 1; desc_table_addr = 16; used_ring_addr = 32; avail_ring_addr = 48; log_addr = Some 64 }))
 unfolding is_utf8 chars encode

@@ -7,7 +7,7 @@ use Rattle.std.proofs.lemmas.Nat.Bits.{bit_at_and}
 use Rattle.vhost_message.specs.Bits.{has_bit}
 use Rattle.vhost_protocol.specs.FrontendCall.{SetVringNum, SetVringBase, SetVringCall, SetVringKick, SetVringErr, SetVringEnable, SetLogBase, GetInflightFd, SetInflightFd, AddMemRegion, RemoveMemRegion, SetDeviceStateFd, SetMemTable, GetConfig, SetConfig, SetHdrFlags}
 use Rattle.vhost_pair.specs.Lockstep.{IsPlain}
-use Rattle.vhost_lines.specs.Arguments.{◌>>=◌, switch, header_flags, config_flags, handle, direction, phase, byte_string, within}
+use Rattle.vhost_lines.specs.Arguments.{◌>>=◌, enabled, header_flags, config_flags, handle, direction, phase, byte_string, within}
 use Rattle.vhost_lines.specs.Number.{u64, u32, u16}
 use Rattle.vhost_lines.specs.Shapes.{bare, one, two, three, optional}
 use Rattle.vhost_lines.specs.Calls.{Call, buffer, only_region, regions, set_log_base, set_vring_addr, area, get_inflight_fd, set_inflight_fd, add_mem_region, remove_mem_region, set_mem_table, calls, named, call_named, call_in}
@@ -188,7 +188,7 @@ calls-plain = (
                                                   (
                                                     two-plain u64 handle (λ i h. SetVringErr i (Some h)) (λ a b. tt),
                                                     (
-                                                      two-plain u64 switch SetVringEnable (λ a b. tt),
+                                                      two-plain u64 enabled SetVringEnable (λ a b. tt),
                                                       (
                                                         log-plain,
                                                         (

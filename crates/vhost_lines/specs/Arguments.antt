@@ -16,11 +16,11 @@ abbrev pub ◌>>=◌ : {A B : Type 0} → Option A → (A → Option B) → Opti
 o >>= f = option_and_then f o
 
 -- off, which is 0, or on, which is 1
-abbrev pub switch_of : ℕ → Option Bool
-switch_of n = if n == 0 then Some false else if n == 1 then Some true else None
+abbrev pub enabled_of : ℕ → Option Bool
+enabled_of n = if n == 0 then Some false else if n == 1 then Some true else None
 
-abbrev pub switch : List ℕ → Option Bool
-switch word = u64 word >>= switch_of
+abbrev pub enabled : List ℕ → Option Bool
+enabled word = u64 word >>= enabled_of
 
 -- a number that has no bit but those of a mask
 abbrev pub within : ℕ → ℕ → Option ℕ

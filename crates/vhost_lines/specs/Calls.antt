@@ -6,7 +6,7 @@ use Rattle.vhost_message.specs.declared.records.inflight.VhostUserInflight.{Vhos
 use Rattle.vhost_protocol.specs.FrontendCall.{FrontendCall, Info, GetFeatures, SetFeatures, SetOwner, ResetOwner, GetProtocolFeatures, SetProtocolFeatures, GetQueueNum, ResetDevice, SetMemTable, SetLogBase, SetLogFd, SetVringNum, SetVringBase, SetVringAddr, GetVringBase, SetVringCall, SetVringKick, SetVringErr, SetVringEnable, GetConfig, SetConfig, SetBackendRequestFd, GetSharedObject, GetInflightFd, SetInflightFd, GetMaxMemSlots, AddMemRegion, RemoveMemRegion, GetShmemConfig, SetDeviceStateFd, CheckDeviceState, PostcopyAdvise, PostcopyListen, PostcopyEnd, PostcopyAckMemRegions, SetMtu, SetHdrFlags}
 use Rattle.vhost_lines.specs.Words.{words}
 use Rattle.vhost_lines.specs.Number.{u64, u32, u16}
-use Rattle.vhost_lines.specs.Arguments.{◌>>=◌, switch, protocol_features, header_flags, config_flags, handle, request, direction, phase, byte_string, object_name}
+use Rattle.vhost_lines.specs.Arguments.{◌>>=◌, enabled, protocol_features, header_flags, config_flags, handle, request, direction, phase, byte_string, object_name}
 use Rattle.vhost_lines.specs.Shapes.{bare, one, two, three, optional}
 
 -- a call, over plain handles
@@ -138,7 +138,7 @@ calls =
     ∷ (codes "set_vring_call", two u64 handle (λ i h. SetVringCall i (Some h)))
     ∷ (codes "set_vring_kick", two u64 handle (λ i h. SetVringKick i (Some h)))
     ∷ (codes "set_vring_err", two u64 handle (λ i h. SetVringErr i (Some h)))
-    ∷ (codes "set_vring_enable", two u64 switch SetVringEnable)
+    ∷ (codes "set_vring_enable", two u64 enabled SetVringEnable)
     ∷ (codes "set_log_base", set_log_base)
     ∷ (codes "set_vring_addr", set_vring_addr)
     ∷ (codes "get_inflight_fd", get_inflight_fd)

@@ -37,7 +37,7 @@ impl fmt::Display for Fault {
             Fault::Input(cause) => write!(f, "input: {cause}"),
             Fault::Output(cause) => write!(f, "output: {cause}"),
             Fault::Link => f.write_str("link: a call could not be carried to its end"),
-            Fault::OutOfMemory => f.write_str("memory: a growth was refused"),
+            Fault::OutOfMemory => f.write_str("memory: an allocation failed"),
         }
     }
 }

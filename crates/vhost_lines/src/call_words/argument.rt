@@ -2,7 +2,7 @@
 
 ghost use Rattle.std.specs.Prelude.{◌≡◌, IfOk, Some, option_map};
 ghost use Rattle.vhost_message.specs.Transfer.{direction_number, phase_number};
-ghost use Rattle.vhost_lines.specs.Arguments.{switch, protocol_features, config_flags, header_flags, handle, request, direction, phase, byte_string, object_name};
+ghost use Rattle.vhost_lines.specs.Arguments.{enabled, protocol_features, config_flags, header_flags, handle, request, direction, phase, byte_string, object_name};
 ghost use Rattle.vhost_lines.specs.Calls.{area};
 ghost use Rattle.vhost_lines.specs.Read.{bytes_of};
 
@@ -21,8 +21,8 @@ use vhost_message::{
 const FIRST_SOCKET: u32 = 1000;
 
 /// A flag: disable, which is 0, or enable, which is 1.
-pub(crate) fn switch(word: &str) -> Option<bool>
-    ensures { result ≡ switch word.now }
+pub(crate) fn enabled(word: &str) -> Option<bool>
+    ensures { result ≡ enabled word.now }
 {
     match number(word) {
         Some(0) => Some(false),

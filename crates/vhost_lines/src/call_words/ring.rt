@@ -3,12 +3,12 @@
 
 ghost use Rattle.std.specs.Prelude.{◌≡◌, Some};
 ghost use Rattle.vhost_protocol.specs.FrontendCall as value;
-ghost use Rattle.vhost_lines.specs.Arguments.{handle, switch};
+ghost use Rattle.vhost_lines.specs.Arguments.{handle, enabled};
 ghost use Rattle.vhost_lines.specs.Number.{u64, u16};
 ghost use Rattle.vhost_lines.specs.Read.{called, texts};
 ghost use Rattle.vhost_lines.specs.Shapes.{two};
 
-use crate::call_words::argument::{handle, switch};
+use crate::call_words::argument::{enabled, handle};
 use crate::call_words::number::{index, number_16};
 use vhost_frontend_core::FrontendCall;
 
@@ -54,8 +54,8 @@ pub(crate) fn set_vring_err(args: &[&str]) -> Option<FrontendCall>
 
 /// A ring, and whether it is enabled.
 pub(crate) fn set_vring_enable(args: &[&str]) -> Option<FrontendCall>
-    ensures { called result ≡ two u64 switch value.SetVringEnable (texts args.now) }
+    ensures { called result ≡ two u64 enabled value.SetVringEnable (texts args.now) }
 {
     let [ring, word] = args else { return None };
-    Some(FrontendCall::SetVringEnable(index(ring)?, switch(word)?))
+    Some(FrontendCall::SetVringEnable(index(ring)?, enabled(word)?))
 }

@@ -1,8 +1,8 @@
 //! Why a line is no call, for who wants to know.
 
 use crate::call_words::argument::{
-    config_flags, direction, handle, header_flags, object_name, phase, protocol_features, request,
-    switch,
+    config_flags, direction, enabled, handle, header_flags, object_name, phase, protocol_features,
+    request,
 };
 use crate::call_words::number::{number, number_16, number_32};
 use crate::call_words::words::first_word;
@@ -171,7 +171,7 @@ fn is_small(letter: u8, word: &str) -> bool {
 /// Whether a number that fits has a meaning there.
 fn is_known(letter: u8, word: &str) -> bool {
     match letter {
-        b'o' => switch(word).is_some(),
+        b'o' => enabled(word).is_some(),
         b'p' => protocol_features(word).is_some(),
         b'c' => config_flags(word).is_some(),
         b'f' => header_flags(word).is_some(),

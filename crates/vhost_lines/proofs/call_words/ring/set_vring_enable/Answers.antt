@@ -1,10 +1,10 @@
 use Rattle.std.proofs.Common.{rules, tests}
 use Rattle.vhost_protocol.specs.FrontendCall.{SetVringEnable}
-use Rattle.vhost_lines.specs.Arguments.{switch}
+use Rattle.vhost_lines.specs.Arguments.{enabled}
 use Rattle.vhost_lines.specs.Number.{u64}
 use Rattle.vhost_lines.proofs.OtherCounts.{not_two}
 use Rattle.vhost_lines.proofs.call_words.ring.set_vring_enable.Goals as goal
 use Rattle.vhost_lines.proofs.call_words.ring.set_vring_enable.Goals.{in_default-via-then-args-lt2, in_default-via-else-args-lt2+else-args-lt3}
 
 pub returns-in_default : goal.returns-in_default
-returns-in_default c = not_two u64 switch SetVringEnable c.args.args.now (λ is. elim c.in_default.branch [ in_default-via-then-args-lt2 w ↦ search (rules, tests) | in_default-via-else-args-lt2+else-args-lt3 w ↦ search (rules, tests) ])
+returns-in_default c = not_two u64 enabled SetVringEnable c.args.args.now (λ is. elim c.in_default.branch [ in_default-via-then-args-lt2 w ↦ search (rules, tests) | in_default-via-else-args-lt2+else-args-lt3 w ↦ search (rules, tests) ])
