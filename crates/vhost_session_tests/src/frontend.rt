@@ -2,13 +2,13 @@
 
 use std::alloc::Global;
 use std::sync::Wait;
-use vhost_frontend::{Call, Frontend, Quiet};
+use vhost_frontend::{Frontend, Quiet};
 use vhost_frontend_core::{FrontendAnswer, FrontendCall, FrontendInternal};
 use vhost_link::{Cut, MemLink};
-use vhost_message::{Error, IoCause, VhostUserProtocolFeatures};
+use vhost_message::{Error, IoCause};
 use vhost_promises::{
-    asks_again, asks_broken, asks_without_memory, finds_sound, goes_on_without_config,
-    meets_fault_asking, meets_fault_calling, own_features, reads_features_new,
+    asks_again, asks_broken, asks_without_memory, finds_sound, meets_fault_asking,
+    meets_fault_calling, own_features, reads_features_new,
 };
 
 /// The reply to GET_FEATURES: 0x40000001.
@@ -156,32 +156,4 @@ fn asks_two(alloc: Global) -> Option<bool> {
 #[test]
 fn asks_one_after_another(rt: HostRuntime) {
     assert!(rt; asks_two(rt.alloc()) == Some(true));
-}
-
-/// The replies of a backend that offers protocol features, then nothing, has no configuration, and offers its features again.
-static CHANGING: [u8; 72] = [
-    1, 0, 0, 0, 5, 0, 0, 0, 8, 0, 0, 0, 1, 0, 0, 0x40, 0, 0, 0, 0, //
-    1, 0, 0, 0, 5, 0, 0, 0, 8, 0, 0, 0, 0, 0, 0, 0, 0, 0, 0, 0, //
-    24, 0, 0, 0, 5, 0, 0, 0, 0, 0, 0, 0, //
-    1, 0, 0, 0, 5, 0, 0, 0, 8, 0, 0, 0, 3, 0, 0, 0x40, 0, 0, 0, 0,
-];
-
-/// Accepts CONFIG of such a backend, and asks for configuration and for features: whether the first is refused, and the features.
-fn without_config(alloc: Global) -> Option<(bool, u64)> {
-    let mut link = MemLink::new(alloc, Vec::new(alloc));
-    link.push(&CHANGING, &[]).ok()?;
-    let mut quiet = Quiet::new(alloc, link, 1, 0).ok()?;
-    quiet.number(&Call::GetFeatures).ok()?;
-    quiet
-        .done(&Call::SetProtocolFeatures(VhostUserProtocolFeatures::CONFIG))
-        .ok()?;
-    quiet.number(&Call::GetFeatures).ok()?;
-    let (config, features) = goes_on_without_config(&mut quiet);
-    let is_refused = matches!(config, Err(Error::BackendInternalError));
-    Some((is_refused, features.ok()?))
-}
-
-#[test]
-fn goes_on_where_there_is_no_configuration(rt: HostRuntime) {
-    assert!(rt; without_config(rt.alloc()) == Some((true, 0x4000_0003)));
 }
