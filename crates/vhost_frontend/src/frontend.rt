@@ -14,7 +14,7 @@ use crate::traits::VhostUserFrontend;
 use std::alloc::{AllocError, Global};
 use std::sync::{Arc, Mutex, Wait};
 use vhost_backend::{Result, VhostBackend, VhostUserDirtyLogRegion, VhostUserMemoryRegionInfo};
-use vhost_frontend_core::{Call, Profile};
+use vhost_frontend_core::{Call, Profile, Regions};
 use vhost_link::Link;
 use vhost_message::{
     Error, FrontendReq, VhostTransferStateDirection, VhostTransferStatePhase, VhostUserConfig,
@@ -111,7 +111,7 @@ impl<L: Link> VhostBackend for Frontend<L> {
     ) -> Result<Option<Vec<VhostUserMemoryRegionBase>>>
         ensures { Turn L.event (WholeWithRoom L.event (call.SetMemTable (infos_in regions.now)) (λ bases. call.Bases (bases_seen bases))) result }
     {
-        let call = Call::SetMemTable(regions);
+        let call = Call::SetMemTable(Regions::Lent(regions));
         within(self.inner.lock(rt).quiet.bases(&call))
     }
 

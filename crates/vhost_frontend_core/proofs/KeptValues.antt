@@ -4,8 +4,6 @@ use Rattle.vhost_message.specs.declared.error.Error as declared
 use Rattle.vhost_message.specs.Header.{Header}
 use Rattle.vhost_message.specs.MsgHeader.{fields_of}
 use Rattle.vhost_message.specs.declared.flags.header.VhostUserHeaderFlag.{VhostUserHeaderFlag}
-use Rattle.std.specs.Prelude.{Vec}
-use Rattle.std.specs.Global.{Global}
 use Rattle.vhost_protocol.specs.FrontendCall.{FrontendCall, Frontend, Value}
 use Rattle.vhost_protocol.specs.Error.{seen_result}
 use Rattle.vhost_protocol.specs.declared.asked.Awaited.{Awaited}
@@ -16,25 +14,18 @@ use Rattle.vhost_connection.specs.Talk.{State}
 use Rattle.vhost_frontend_core.specs.Frontend.{endpoint_of, session_of}
 use Rattle.vhost_frontend_core.specs.Taking.{Takes, taken, stopped}
 use Rattle.vhost_frontend_core.specs.Values.{call_of, outcome_of, answer_of}
-use Rattle.vhost_frontend_core.specs.ValueHalves.{IsSent, IsLent, TakesResult, TakesValue, TakesWell}
+use Rattle.vhost_frontend_core.specs.ValueHalves.{IsSent, TakesResult, TakesValue, TakesWell}
 use Rattle.vhost_frontend_core.specs.declared.answer.Answer.{Answer}
 use Rattle.vhost_frontend_core.specs.declared.asked.Sent.{Sent}
 use Rattle.vhost_frontend_core.specs.declared.internal.FrontendInternal.{FrontendInternal}
 use Rattle.vhost_frontend_core.specs.declared.values.answer.FrontendAnswer.{FrontendAnswer}
 use Rattle.vhost_frontend_core.specs.declared.values.call.FrontendCall as code
 use Rattle.vhost_frontend_core.specs.declared.values.call.FrontendCall.TheVariants as call
-use Rattle.vhost_frontend_core.specs.declared.values.call.RegionInfo.{RegionInfo}
 
 -- every call but the one for which nothing is sent
 pub is-sent : (c : code.FrontendCall) → ((flags : VhostUserHeaderFlag) → c ≡ call.SetHdrFlags flags → ⊥) → IsSent (call_of c)
 is-sent (call.SetHdrFlags flags) not = not flags refl
 is-sent _ not = tt
-
--- and but a table
-pub is-lent : (c : code.FrontendCall) → IsSent (call_of c) → ((regions : Vec RegionInfo Global) → c ≡ call.SetMemTable regions → ⊥) → IsLent (call_of c)
-is-lent (call.SetHdrFlags flags) sent not = sent
-is-lent (call.SetMemTable regions) sent not = not regions refl
-is-lent _ sent not = tt
 
 -- ---- what was taken, as the definitions see its error
 

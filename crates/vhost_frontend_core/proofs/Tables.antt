@@ -4,7 +4,7 @@ use Rattle.std.specs.Prelude.{◌&&◌, is_some, unwrap_or}
 use Rattle.std.specs.List.{list_all, filter_map}
 use Rattle.std.proofs.lemmas.List.{length-take, map-append, take_more, take_more_set}
 use Rattle.std.proofs.lemmas.List.Elements.{filter_map-append}
-use Rattle.std.proofs.lemmas.List.Folds.{list_all-map, list_all_at}
+use Rattle.std.proofs.lemmas.List.Folds.{list_all_at}
 use Rattle.vhost_message.specs.declared.limits.TheConstants.{MEMORY_REGION_SIZE}
 use Rattle.vhost_message.specs.Records.{region_at, regions_of}
 use Rattle.vhost_message.specs.declared.records.memory.VhostUserMemoryRegion.{VhostUserMemoryRegion}
@@ -12,41 +12,9 @@ use Rattle.vhost_message.proofs.Regions.{regions_of-more, length-regions_of}
 use Rattle.vhost_protocol.specs.AnswerTable.{are_same_ranges, is_same_range, bases_in}
 use Rattle.vhost_protocol.specs.Ask.{is_usable, regions_in, handles_in}
 use Rattle.vhost_protocol.specs.FrontendCall.{Info}
-use Rattle.vhost_backend.specs.Region.{region_in}
-use Rattle.vhost_backend.specs.declared.region.VhostUserMemoryRegionInfo.{VhostUserMemoryRegionInfo}
-use Rattle.vhost_frontend_core.specs.Regions.{lent, info_in, infos_in}
+use Rattle.vhost_frontend_core.specs.Regions.{lent}
 
 -- ---- the regions that are given
-
-module _ {H : Type 0} (rs : List (VhostUserMemoryRegionInfo H)) (i : ℕ) (d : VhostUserMemoryRegionInfo H) (within : i < length rs) where
-  infos-more : infos_in (take (i + 1) rs) ≡ infos_in (take i rs) ++ info_in (slice_index_or rs i d) ∷ []
-  infos-more = ap infos_in (take_more rs i d within) ∙ map-append (λ r. info_in r) (take i rs) (slice_index_or rs i d ∷ [])
-
-  -- one region more is copied
-  pub regions-more : (table : List VhostUserMemoryRegion) (r : VhostUserMemoryRegion) → i < length table → take i table ≡ regions_in (infos_in (take i rs)) → r ≡ region_in (slice_index_or rs i d)
-      → take (i + 1) (set table i r) ≡ regions_in (infos_in (take (i + 1) rs))
-  regions-more table r room so_far is =
-      take_more_set table i r room ∙ (λ j. so_far j ++ is j ∷ [])
-      ∙ sym (ap regions_in infos-more ∙ map-append (λ (info : Info H). info.region) (infos_in (take i rs)) (info_in (slice_index_or rs i d) ∷ []))
-
-  -- one handle more is copied
-  pub handles-more : (handles : List (Bor H)) (h : Bor H) → i < length handles → map (λ (g : Bor H). g.now) (take i handles) ≡ handles_in (infos_in (take i rs)) → lent ((slice_index_or rs i d).mmap_handle) ≡ Some h.now
-      → map (λ (g : Bor H). g.now) (take (i + 1) (set handles i h)) ≡ handles_in (infos_in (take (i + 1) rs))
-  handles-more handles h room so_far is =
-      ap (map (λ (g : Bor H). g.now)) (take_more_set handles i h room) ∙ map-append (λ (g : Bor H). g.now) (take i handles) (h ∷ [])
-      ∙ (λ j. so_far j ++ filter_map (λ (o : Option H). o) (sym is j ∷ []))
-      ∙ sym (ap handles_in infos-more ∙ filter_map-append (λ (info : Info H). info.handle) (infos_in (take i rs)) (info_in (slice_index_or rs i d) ∷ []))
-
--- where all are usable, each is
-usable-at : {H : Type 0} (rs : List (VhostUserMemoryRegionInfo H)) (i : ℕ) (d : VhostUserMemoryRegionInfo H) → i < length rs → list_all is_usable (infos_in rs) ≡ true → is_usable (info_in (slice_index_or rs i d)) ≡ true
-usable-at {H} rs i d within all = go (is_usable (info_in (slice_index_or rs i d))) refl
-  where
-    go : (b : Bool) → is_usable (info_in (slice_index_or rs i d)) ≡ b → b ≡ true
-    go true e = refl
-    go false e =
-        let none : list_all (λ (r : VhostUserMemoryRegionInfo H). is_usable (info_in r)) rs ≡ false = list_all_at (λ r. is_usable (info_in r)) rs i d within e in
-        let same = list_all-map is_usable (λ (r : VhostUserMemoryRegionInfo H). info_in r) rs in
-        absurd (cc)
 
 and-right : (a b : Bool) → (a && b) ≡ true → b ≡ true
 and-right true b e = e
@@ -56,12 +24,38 @@ lent-or : {H : Type 0} (o : Option (Bor H)) (other : Bor H) → is_some (lent o)
 lent-or None other is = absurd cc
 lent-or (Some h) other is = refl
 
--- the handle of a usable region is taken
-pub handle-taken : {H : Type 0} (rs : List (VhostUserMemoryRegionInfo H)) (i : ℕ) (r : VhostUserMemoryRegionInfo H) (other h : Bor H) → i < length rs → list_all is_usable (infos_in rs) ≡ true → r ≡ slice_index_or rs i r
-    → h ≡ unwrap_or r.mmap_handle other → lent ((slice_index_or rs i r).mmap_handle) ≡ Some h.now
-handle-taken {H} rs i r other h within all is taken =
-    let usable : is_usable (info_in r) ≡ true = ap (λ (x : VhostUserMemoryRegionInfo H). is_usable (info_in x)) is ∙ usable-at rs i r within all in
-    ap (λ (x : VhostUserMemoryRegionInfo H). lent x.mmap_handle) (sym is) ∙ lent-or r.mmap_handle other (and-right _ _ usable) ∙ ap (λ (x : Bor H). Some x.now) (sym taken)
+module _ {H : Type 0} (infos : List (Info H)) (i : ℕ) (info : Info H) (within : i < length infos) (at : info ≡ slice_index_or infos i info) where
+  infos-more : take (i + 1) infos ≡ take i infos ++ info ∷ []
+  infos-more = take_more infos i info within ∙ ap (λ (x : Info H). take i infos ++ x ∷ []) (sym at)
+
+  -- one region more is copied
+  pub regions-more : (table : List VhostUserMemoryRegion) (r : VhostUserMemoryRegion) → i < length table → take i table ≡ regions_in (take i infos) → r ≡ info.region → take (i + 1) (set table i r) ≡ regions_in (take (i + 1) infos)
+  regions-more table r room so_far is =
+      take_more_set table i r room ∙ (λ j. so_far j ++ is j ∷ [])
+      ∙ sym (ap regions_in infos-more ∙ map-append (λ (x : Info H). x.region) (take i infos) (info ∷ []))
+
+  -- one handle more is copied
+  pub handles-more : (handles : List (Bor H)) (h : Bor H) → i < length handles → map (λ (g : Bor H). g.now) (take i handles) ≡ handles_in (take i infos) → info.handle ≡ Some h.now
+      → map (λ (g : Bor H). g.now) (take (i + 1) (set handles i h)) ≡ handles_in (take (i + 1) infos)
+  handles-more handles h room so_far is =
+      ap (map (λ (g : Bor H). g.now)) (take_more_set handles i h room) ∙ map-append (λ (g : Bor H). g.now) (take i handles) (h ∷ [])
+      ∙ (λ j. so_far j ++ filter_map (λ (o : Option H). o) (sym is j ∷ []))
+      ∙ sym (ap handles_in infos-more ∙ filter_map-append (λ (x : Info H). x.handle) (take i infos) (info ∷ []))
+
+  -- where all are usable, this one is
+  usable-at : list_all is_usable infos ≡ true → is_usable info ≡ true
+  usable-at all = go (is_usable info) refl
+    where
+      go : (b : Bool) → is_usable info ≡ b → b ≡ true
+      go true e = refl
+      go false e =
+          let none : list_all is_usable infos ≡ false = list_all_at is_usable infos i info within (ap is_usable (sym at) ∙ e) in
+          absurd (cc)
+
+  -- its handle is taken
+  pub handle-taken : (o : Option (Bor H)) (other h : Bor H) → list_all is_usable infos ≡ true → info.handle ≡ lent o → h ≡ unwrap_or o other → info.handle ≡ Some h.now
+  handle-taken o other h all is taken =
+      is ∙ lent-or o other (ap (λ (x : Option H). is_some x) (sym is) ∙ and-right _ _ (usable-at all)) ∙ ap (λ (x : Bor H). Some x.now) (sym taken)
 
 -- ---- comparing
 

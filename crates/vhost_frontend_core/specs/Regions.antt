@@ -6,6 +6,9 @@ use Rattle.vhost_protocol.specs.FrontendCall.{Info, LogRegion}
 use Rattle.vhost_backend.specs.Region.{region_in}
 use Rattle.vhost_backend.specs.declared.dirty_log.VhostUserDirtyLogRegion.{VhostUserDirtyLogRegion}
 use Rattle.vhost_backend.specs.declared.region.VhostUserMemoryRegionInfo.{VhostUserMemoryRegionInfo}
+use Rattle.vhost_frontend_core.specs.declared.regions.RegionInfo.{RegionInfo}
+use Rattle.vhost_frontend_core.specs.declared.regions.Regions as code
+use Rattle.vhost_frontend_core.specs.declared.regions.Regions.TheVariants as regions
 
 -- a handle that is lent
 abbrev pub lent : {H : Type 0} → Option (Bor H) → Option H
@@ -19,6 +22,15 @@ info_in info = record { region = region_in info; handle = lent info.mmap_handle 
 -- the regions of a table, and their handles
 abbrev pub infos_in : {H : Type 0} → List (VhostUserMemoryRegionInfo H) → List (Info H)
 infos_in regions = map (λ region. info_in region) regions
+
+-- a region that is kept, and its handle
+abbrev pub info_of : {H : Type 0} → RegionInfo H → Info H
+info_of info = record { region = info.region; handle = info.mmap_handle }
+
+-- the regions of a table, lent or kept
+abbrev pub table_in : {H : Type 0} → code.Regions H → List (Info H)
+table_in (regions.Lent infos) = infos_in infos.now
+table_in (regions.Kept infos) = map info_of infos.now
 
 -- where regions are mapped
 abbrev pub bases_seen : Option (Vec ℕ Global) → Option (List ℕ)

@@ -9,7 +9,7 @@ use Rattle.vhost_protocol.specs.Agreement.{Fits}
 use Rattle.vhost_protocol.specs.declared.asked.Awaited.{Awaited}
 use Rattle.vhost_protocol.specs.declared.asked.Awaited.TheVariants.{Nobody}
 use Rattle.vhost_protocol.specs.Error.{Error, seen}
-use Rattle.vhost_protocol.specs.FrontendCall.{FrontendCall, SetMemTable, SetHdrFlags, Value, Frontend}
+use Rattle.vhost_protocol.specs.FrontendCall.{FrontendCall, SetHdrFlags, Value, Frontend}
 use Rattle.vhost_protocol.specs.Heard.{CallFits, IsNamedWell}
 use Rattle.vhost_link.specs.declared.plain.PlainHandle.{PlainHandle}
 use Rattle.vhost_link.specs.Ends.{Ends}
@@ -32,12 +32,6 @@ use Rattle.vhost_frontend_core.specs.Values.{answer_of, outcome_of}
 abbrev pub IsSent : {H : Type 0} → FrontendCall H → Type 0
 IsSent (SetHdrFlags flags) = ⊥
 IsSent _ = ⊤
-
--- a call whose value lends all that it is made of: every one but a table, whose regions lie elsewhere then, and the one for which nothing is sent
-abbrev pub IsLent : {H : Type 0} → FrontendCall H → Type 0
-IsLent (SetMemTable infos) = ⊥
-IsLent (SetHdrFlags flags) = ⊥
-IsLent _ = ⊤
 
 -- what a call is made of has the sizes of its types
 pub record IsProper {H : Type 0} (call : FrontendCall H) : Type 0 where

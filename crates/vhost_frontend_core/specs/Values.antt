@@ -7,7 +7,7 @@ use Rattle.vhost_protocol.specs.Error.{Error, seen}
 use Rattle.vhost_protocol.specs.FrontendCall as calls
 use Rattle.vhost_protocol.specs.FrontendCall.{FrontendCall, Info, Value}
 use Rattle.vhost_link.specs.declared.plain.PlainHandle.{PlainHandle}
-use Rattle.vhost_frontend_core.specs.Regions.{lent, info_in, infos_in, log_region_in, bases_seen}
+use Rattle.vhost_frontend_core.specs.Regions.{lent, info_in, info_of, table_in, log_region_in, bases_seen}
 use Rattle.vhost_frontend_core.specs.declared.answer.Answer.{Answer}
 use Rattle.vhost_frontend_core.specs.declared.answer.Answer.TheVariants as any
 use Rattle.vhost_frontend_core.specs.declared.call.Call.{Call}
@@ -15,13 +15,8 @@ use Rattle.vhost_frontend_core.specs.declared.call.Call.TheVariants as lending
 use Rattle.vhost_frontend_core.specs.declared.values.call.FrontendCall as code
 use Rattle.vhost_frontend_core.specs.declared.values.call.FrontendCall.TheVariants as call
 use Rattle.vhost_frontend_core.specs.declared.values.call.LogRegion.{LogRegion}
-use Rattle.vhost_frontend_core.specs.declared.values.call.RegionInfo.{RegionInfo}
 use Rattle.vhost_frontend_core.specs.declared.values.answer.FrontendAnswer.{FrontendAnswer}
 use Rattle.vhost_frontend_core.specs.declared.values.answer.FrontendAnswer.TheVariants as answer
-
--- a region, and the handle that maps it
-abbrev pub info_of : RegionInfo → Info PlainHandle
-info_of info = record { region = info.region; handle = info.mmap_handle }
 
 -- where the dirty log is kept
 abbrev pub log_region_of : Option LogRegion → Option (calls.LogRegion PlainHandle)
@@ -78,7 +73,7 @@ call_in lending.GetProtocolFeatures = calls.GetProtocolFeatures
 call_in (lending.SetProtocolFeatures f) = calls.SetProtocolFeatures f.bits
 call_in lending.GetQueueNum = calls.GetQueueNum
 call_in lending.ResetDevice = calls.ResetDevice
-call_in (lending.SetMemTable regions) = calls.SetMemTable (infos_in regions.now)
+call_in (lending.SetMemTable regions) = calls.SetMemTable (table_in regions)
 call_in (lending.SetLogBase base region) = calls.SetLogBase base (log_region_in region)
 call_in (lending.SetLogFd h) = calls.SetLogFd h.now
 call_in (lending.SetVringNum i n) = calls.SetVringNum i n

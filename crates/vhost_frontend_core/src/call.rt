@@ -1,5 +1,6 @@
 //! What a caller asks of a frontend, over the descriptors of any link.
 
+use crate::regions::Regions;
 use vhost_backend::{VhostUserDirtyLogRegion, VhostUserMemoryRegionInfo};
 use vhost_message::{
     FrontendReq, VhostTransferStateDirection, VhostTransferStatePhase, VhostUserConfigFlags,
@@ -41,7 +42,7 @@ pub enum Call<'a, H> {
     ///
     /// InvalidParam: there is no region, there are more than a table may have, or one has the size 0 or no descriptor.
     /// InvalidMessage: the reply is of other regions.
-    SetMemTable(&'a [VhostUserMemoryRegionInfo<'a, H>]),
+    SetMemTable(Regions<'a, H>),
     /// Says where the log lies: at this base, or in this region where shared memory is agreed on.
     ///
     /// InvalidParam: the region has no descriptor. InvalidMessage: the log region in the reply is not valid; under `Standard` the

@@ -13,5 +13,6 @@ pub use answer::Answer;
 pub use asked::Sent;
 pub use call::Call;
 pub use internal::FrontendInternal;
-pub use values::{FrontendAnswer, FrontendCall, LogRegion, RegionInfo, ask, take};
+pub use regions::{RegionInfo, Regions};
+pub use values::{FrontendAnswer, FrontendCall, LogRegion, ask, take};
 pub use vhost_protocol::{Awaited, Profile, Shape};

@@ -3,8 +3,7 @@
 mod answer;
 mod asking;
 mod call;
-mod table;
 
 pub use answer::FrontendAnswer;
 pub use asking::{ask, take};
-pub use call::{FrontendCall, LogRegion, RegionInfo};
+pub use call::{FrontendCall, LogRegion};

@@ -3,8 +3,8 @@ use Rattle.std.proofs.Common.{◌≡◌, ℕ, List, [], ◌∷◌, ◌++◌, map
 use Rattle.std.proofs.lemmas.List.{map-append}
 use Rattle.vhost_link.specs.declared.plain.PlainHandle.{PlainHandle}
 use Rattle.vhost_protocol.specs.FrontendCall.{Info}
-use Rattle.vhost_frontend_core.specs.Values.{info_of}
-use Rattle.vhost_frontend_core.specs.declared.values.call.RegionInfo.{RegionInfo}
+use Rattle.vhost_frontend_core.specs.Regions.{info_of}
+use Rattle.vhost_frontend_core.specs.declared.regions.RegionInfo.{RegionInfo}
 use Rattle.vhost_lines.specs.Arguments.{◌>>=◌}
 use Rattle.vhost_lines.specs.Calls.{region, regions}
 
@@ -35,7 +35,7 @@ behind-more front x None = refl
 behind-more front x (Some xs) = ap Some (append_assoc front (x ∷ []) xs)
 
 -- the loop's step: one region more, of the next words
-pub regions-next : (found : List RegionInfo) (info : RegionInfo) (words later : List (List ℕ)) → regions words ≡ option_map (λ infos. info_of info ∷ infos) (regions later)
+pub regions-next : (found : List (RegionInfo PlainHandle)) (info : RegionInfo PlainHandle) (words later : List (List ℕ)) → regions words ≡ option_map (λ infos. info_of info ∷ infos) (regions later)
     → behind (map info_of (found ++ info ∷ [])) (regions later) ≡ behind (map info_of found) (regions words)
 regions-next found info words later is =
     ap (λ front. behind front (regions later)) (map-append info_of found (info ∷ []))

@@ -6,8 +6,9 @@ use Rattle.std.specs.Global.{Global}
 use Rattle.vhost_link.specs.declared.plain.PlainHandle.{PlainHandle}
 use Rattle.vhost_protocol.specs.FrontendCall.{Info}
 use Rattle.vhost_frontend_core.specs.declared.values.call.FrontendCall as code
-use Rattle.vhost_frontend_core.specs.declared.values.call.RegionInfo.{RegionInfo}
-use Rattle.vhost_frontend_core.specs.Values.{call_of, info_of}
+use Rattle.vhost_frontend_core.specs.declared.regions.RegionInfo.{RegionInfo}
+use Rattle.vhost_frontend_core.specs.Regions.{info_of}
+use Rattle.vhost_frontend_core.specs.Values.{call_of}
 use Rattle.vhost_lines.specs.Calls.{Call}
 use Rattle.vhost_lines.specs.Words.{words}
 
@@ -29,8 +30,8 @@ abbrev pub called : Option code.FrontendCall → Option Call
 called call = option_map call_of call
 
 -- regions of the code, where there are some
-abbrev pub infos_of : Option (Vec RegionInfo Global) → Option (List (Info PlainHandle))
-infos_of regions = option_map (λ (v : Vec RegionInfo Global). map info_of v.items) regions
+abbrev pub infos_of : Option (Vec (RegionInfo PlainHandle) Global) → Option (List (Info PlainHandle))
+infos_of regions = option_map (λ (v : Vec (RegionInfo PlainHandle) Global). map info_of v.items) regions
 
 -- bytes, where there are some
 abbrev pub bytes_of : Option (Vec ℕ Global) → Option (List ℕ)

@@ -41,7 +41,7 @@ impl<L: Link> FrontendInternal<L> {
         ensures { AsksWell L.event (call_in call.now) self.old result self.new }
     {
         match call {
-            Call::SetMemTable(regions) => self.ask_table(*regions),
+            Call::SetMemTable(regions) => self.ask_table(regions),
             Call::GetConfig(offset, size, flags, buffer) => {
                 self.ask_get_config(*offset, *size, *flags, *buffer)
             }

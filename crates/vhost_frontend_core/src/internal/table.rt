@@ -8,14 +8,13 @@ ghost use Rattle.vhost_protocol.specs.Ask as ask;
 ghost use Rattle.vhost_protocol.specs.declared.asked.Awaited.TheVariants.{Nobody, Reply};
 ghost use Rattle.vhost_protocol.specs.declared.asked.Shape.TheVariants as shape;
 ghost use Rattle.vhost_protocol.specs.FrontendCall as call;
-ghost use Rattle.vhost_protocol.specs.Written.{Regions};
+ghost use Rattle.vhost_protocol.specs.Written as payload;
 ghost use Rattle.vhost_frontend_core.specs.Kept.{KeepsTable, IsKeptFor};
-ghost use Rattle.vhost_frontend_core.specs.Regions.{infos_in, bases_seen};
+ghost use Rattle.vhost_frontend_core.specs.Regions.{table_in, bases_seen};
 
 use crate::asked::{Kept, KeptTable, Sent};
 use crate::internal::{FrontendInternal, Header};
-use crate::regions::{bases_of, first_handle, handles_of, table_of};
-use vhost_backend::VhostUserMemoryRegionInfo;
+use crate::regions::{Regions, bases_of, first_handle, handles_of, table_of};
 use vhost_link::Link;
 use vhost_message::{
     Error, FrontendReq, MAX_MEM_REGIONS, MEMORY_HEAD_SIZE, MEMORY_REGION_SIZE, Result,
@@ -31,12 +30,9 @@ impl<L: Link> FrontendInternal<L> {
     ghost use Rattle.vhost_frontend_core.specs.Halves.{AsksHalfWithRoom, TakesHalf};
 
     /// Gives the backend the guest's memory.
-    pub(crate) fn ask_table(
-        &mut self,
-        regions: &[VhostUserMemoryRegionInfo<L::Handle>],
-    ) -> Result<Sent>
-        ensures asked { AsksHalfWithRoom L.event (call.SetMemTable (infos_in regions.now)) self.old result self.new }
-        ensures kept { IfOk result (λ sent. IsKeptFor {H = L.Handle} (call.SetMemTable (infos_in regions.now)) sent.awaited sent.kept) }
+    pub(crate) fn ask_table(&mut self, regions: &Regions<'_, L::Handle>) -> Result<Sent>
+        ensures asked { AsksHalfWithRoom L.event (call.SetMemTable (table_in regions.now)) self.old result self.new }
+        ensures kept { IfOk result (λ sent. IsKeptFor {H = L.Handle} (call.SetMemTable (table_in regions.now)) sent.awaited sent.kept) }
     {
         let first = first_handle(regions)?;
         let count = regions.len();
@@ -58,7 +54,7 @@ impl<L: Link> FrontendInternal<L> {
     ) -> Result<Sent>
         requires few { count ≤ MAX_MEM_REGIONS }
         requires handles { length handles.now ≤ MAX_ATTACHED_FD_ENTRIES }
-        ensures asked { AsksWithRoom L.event (ask.asks_quietly (session_of self.old) SET_MEM_TABLE (Regions (take count table)) (map (λ h. h.now) handles.now) shape.Memory) (endpoint_of self.old) (session_of self.old) (awaits self.old) result (endpoint_of self.new) (session_of self.new) (awaits self.new) }
+        ensures asked { AsksWithRoom L.event (ask.asks_quietly (session_of self.old) SET_MEM_TABLE (payload.Regions (take count table)) (map (λ h. h.now) handles.now) shape.Memory) (endpoint_of self.old) (session_of self.old) (awaits self.old) result (endpoint_of self.new) (session_of self.new) (awaits self.new) }
         ensures kept { IfOk result (λ sent. KeepsTable (take count table) sent.kept) }
     {
         let Ok(bases) = Vec::with_capacity(self.alloc, count) else {
@@ -91,7 +87,7 @@ impl<L: Link> FrontendInternal<L> {
         requires few { length regions.now ≤ MAX_MEM_REGIONS }
         requires handles { length handles.now ≤ MAX_ATTACHED_FD_ENTRIES }
         ensures session { session_of self.new ≡ session_of self.old }
-        ensures sent { Tries L.event (request_with request.0 SET_MEM_TABLE (Regions regions.now) (map (λ h. h.now) handles.now)) request.1 (endpoint_of self.old) (awaits self.old) result (endpoint_of self.new) (awaits self.new) }
+        ensures sent { Tries L.event (request_with request.0 SET_MEM_TABLE (payload.Regions regions.now) (map (λ h. h.now) handles.now)) request.1 (endpoint_of self.old) (awaits self.old) result (endpoint_of self.new) (awaits self.new) }
     {
         let (flags, awaited) = request;
         let mut text = [0; MEMORY_REGION_SIZE * MAX_MEM_REGIONS];

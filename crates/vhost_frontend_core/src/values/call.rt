@@ -1,64 +1,20 @@
 //! What a caller asks of a frontend.
 
-ghost use Rattle.std.specs.Prelude.{◌≡◌, ◌<◌, ◌^◌, Some, IfSome, length};
+ghost use Rattle.std.specs.Prelude.{◌≡◌, ◌<◌, ◌^◌, Some, IfSome, All, length};
 ghost use Rattle.vhost_message.specs.RecordLaws.{RegionFits};
-ghost use Rattle.vhost_backend.specs.Region.{region_in};
-ghost use Rattle.vhost_frontend_core.specs.Regions.{info_in, log_region_in};
-ghost use Rattle.vhost_frontend_core.specs.Values.{info_of, log_region_of};
+ghost use Rattle.vhost_frontend_core.specs.Regions.{log_region_in};
+ghost use Rattle.vhost_frontend_core.specs.Values.{log_region_of};
 
 use crate::call::Call;
+use crate::regions::{RegionInfo, Regions};
 use bitflags::Flags;
-use vhost_backend::{VhostUserDirtyLogRegion, VhostUserMemoryRegionInfo};
+use vhost_backend::VhostUserDirtyLogRegion;
 use vhost_link::PlainHandle;
 use vhost_message::{
     ByteValued, FrontendReq, VhostTransferStateDirection, VhostTransferStatePhase,
-    VhostUserConfigFlags, VhostUserHeaderFlag, VhostUserInflight, VhostUserMemoryRegion,
-    VhostUserProtocolFeatures, VhostUserSharedMsg, VringConfigData,
+    VhostUserConfigFlags, VhostUserHeaderFlag, VhostUserInflight, VhostUserProtocolFeatures,
+    VhostUserSharedMsg, VringConfigData,
 };
-
-/// A region of guest memory, and the descriptor that maps it.
-#[derive(Clone, Copy)]
-pub struct RegionInfo {
-    pub region: VhostUserMemoryRegion,
-    pub mmap_handle: Option<PlainHandle>,
-}
-
-impl RegionInfo {
-    /// The same, with its descriptor lent.
-    pub(crate) fn lent(&self) -> VhostUserMemoryRegionInfo<'_, PlainHandle>
-        ensures same { info_in result ≡ info_of self.now }
-        ensures fits { RegionFits self.now.region }
-    {
-        let region = self.region;
-        lent_region(
-            region.guest_phys_addr,
-            region.memory_size,
-            region.user_addr,
-            region.mmap_offset,
-            self.mmap_handle.as_ref(),
-        )
-    }
-}
-
-/// The region of these numbers of bytes, which fit their places.
-fn lent_region(
-    guest_phys_addr: u64,
-    memory_size: u64,
-    userspace_addr: u64,
-    mmap_offset: u64,
-    mmap_handle: Option<&PlainHandle>,
-) -> VhostUserMemoryRegionInfo<'_, PlainHandle>
-    ensures same { result ≡ record { guest_phys_addr = guest_phys_addr; memory_size = memory_size; userspace_addr = userspace_addr; mmap_offset = mmap_offset; mmap_handle = mmap_handle.entry } }
-    ensures fits { RegionFits (region_in result) }
-{
-    VhostUserMemoryRegionInfo::new(
-        guest_phys_addr,
-        memory_size,
-        userspace_addr,
-        mmap_offset,
-        mmap_handle,
-    )
-}
 
 /// Where the dirty log is kept: a part of what a descriptor maps, in bytes.
 #[derive(Clone, Copy)]
@@ -106,7 +62,7 @@ pub enum FrontendCall {
     SetProtocolFeatures(VhostUserProtocolFeatures),
     GetQueueNum,
     ResetDevice,
-    SetMemTable(Vec<RegionInfo>),
+    SetMemTable(Vec<RegionInfo<PlainHandle>>),
     /// The log's base, and where it is kept.
     SetLogBase(u64, Option<LogRegion>),
     SetLogFd(PlainHandle),
@@ -128,8 +84,8 @@ pub enum FrontendCall {
     GetInflightFd(VhostUserInflight),
     SetInflightFd(VhostUserInflight, PlainHandle),
     GetMaxMemSlots,
-    AddMemRegion(RegionInfo),
-    RemoveMemRegion(RegionInfo),
+    AddMemRegion(RegionInfo<PlainHandle>),
+    RemoveMemRegion(RegionInfo<PlainHandle>),
     GetShmemConfig,
     SetDeviceStateFd(VhostTransferStateDirection, VhostTransferStatePhase, PlainHandle),
     CheckDeviceState,
@@ -147,13 +103,12 @@ pub enum FrontendCall {
 impl FrontendCall {
     ghost use Rattle.vhost_protocol.specs.Agreement.{Fits};
     ghost use Rattle.vhost_protocol.specs.Heard.{CallFits, IsNamedWell};
-    ghost use Rattle.vhost_frontend_core.specs.ValueHalves.{IsLent};
+    ghost use Rattle.vhost_frontend_core.specs.ValueHalves.{IsSent};
     ghost use Rattle.vhost_frontend_core.specs.Values.{call_in, call_of};
 
-    /// The same, with what it is made of lent; but a table, whose regions are lent by `table_of`, and the call for which nothing
-    /// is sent.
+    /// The same, with what it is made of lent; but the call for which nothing is sent.
     pub(crate) fn lent(&self) -> Call<'_, PlainHandle>
-        requires { IsLent (call_of self.now) }
+        requires { IsSent (call_of self.now) }
         ensures same { call_in result ≡ call_of self.now }
         ensures named { IsNamedWell (call_of self.now) }
         ensures bits { Fits (call_of self.now) }
@@ -171,6 +126,10 @@ impl FrontendCall {
             }
             FrontendCall::GetQueueNum => Call::GetQueueNum,
             FrontendCall::ResetDevice => Call::ResetDevice,
+            FrontendCall::SetMemTable(regions) => {
+                measure_regions(regions);
+                Call::SetMemTable(Regions::Kept(regions))
+            }
             FrontendCall::SetLogBase(base, region) => Call::SetLogBase(*base, lent_log_of(region)),
             FrontendCall::SetLogFd(handle) => Call::SetLogFd(handle),
             FrontendCall::SetVringNum(index, num) => Call::SetVringNum(*index, *num),
@@ -213,7 +172,6 @@ impl FrontendCall {
             FrontendCall::PostcopyEnd => Call::PostcopyEnd,
             FrontendCall::PostcopyAckMemRegions(code) => Call::PostcopyAckMemRegions(*code),
             FrontendCall::SetMtu(mtu) => Call::SetMtu(*mtu),
-            FrontendCall::SetMemTable(_) => Call::GetFeatures,
             FrontendCall::SetHdrFlags(_) => Call::GetFeatures,
         }
     }
@@ -228,6 +186,15 @@ fn lent_log_of(region: &Option<LogRegion>) -> Option<VhostUserDirtyLogRegion<'_,
         return None;
     };
     Some(region.lent())
+}
+
+/// The numbers of regions have sixty-four bits.
+fn measure_regions(regions: &[RegionInfo<PlainHandle>])
+    ensures { All (λ info. RegionFits info.region) regions.now }
+{
+    'regions: for i in 0..regions.len() {
+        let _region = regions[i].lent();
+    }
 }
 
 /// A name has sixteen bytes.

@@ -9,12 +9,16 @@ use crate::call_words::number::number_32;
 use crate::call_words::region::first_region;
 use std::alloc::{AllocError, Global};
 use vhost_frontend_core::{FrontendCall, RegionInfo};
+use vhost_link::PlainHandle;
 
 /// The greatest buffer for a part of configuration space, in bytes.
 const MAX_BUFFER: u32 = 4096;
 
 /// The regions of a text, of five words each. AllocError: an allocation failed.
-fn regions(alloc: Global, text: Option<&str>) -> Result<Option<Vec<RegionInfo>>, AllocError>
+fn regions(
+    alloc: Global,
+    text: Option<&str>,
+) -> Result<Option<Vec<RegionInfo<PlainHandle>>>, AllocError>
     ensures { IfOk result (λ found. infos_of found ≡ regions (words_of text.entry)) }
 {
     let mut found = Vec::new(alloc);

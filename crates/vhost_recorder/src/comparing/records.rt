@@ -1,8 +1,10 @@
 //! Whether two records are the same: all their fields are.
 
 ghost use Rattle.std.specs.Prelude.{◌≡◌, ◌↔◌, IsTrue, map};
-ghost use Rattle.vhost_frontend_core.specs.Values.{info_of, log_region_of};
+ghost use Rattle.vhost_frontend_core.specs.Regions.{info_of};
+ghost use Rattle.vhost_frontend_core.specs.Values.{log_region_of};
 
+use vhost_link::PlainHandle;
 use vhost_message::{
     VhostUserConfig, VhostUserInflight, VhostUserMemoryRegion, VhostUserSharedMsg, VringConfigData,
 };
@@ -19,14 +21,14 @@ fn is_same_region(a: &VhostUserMemoryRegion, b: &VhostUserMemoryRegion) -> bool
 }
 
 /// Of two regions with their file descriptors.
-pub fn is_same_info(a: &RegionInfo, b: &RegionInfo) -> bool
+pub fn is_same_info(a: &RegionInfo<PlainHandle>, b: &RegionInfo<PlainHandle>) -> bool
     ensures { IsTrue result ↔ info_of a.now ≡ info_of b.now }
 {
     is_same_region(&a.region, &b.region) && a.mmap_handle == b.mmap_handle
 }
 
 /// Of two tables of regions: they are as long, and the regions are the same one by one.
-pub fn are_same_infos(a: &[RegionInfo], b: &[RegionInfo]) -> bool
+pub fn are_same_infos(a: &[RegionInfo<PlainHandle>], b: &[RegionInfo<PlainHandle>]) -> bool
     ensures { IsTrue result ↔ map info_of a.now ≡ map info_of b.now }
 {
     if a.len() != b.len() {

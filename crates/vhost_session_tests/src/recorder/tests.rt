@@ -171,7 +171,7 @@ fn kept<D: VhostUserBackendReqHandlerMut<Link = MemLink>>(
 }
 
 /// A table of one region.
-fn table(alloc: Global) -> Result<Vec<RegionInfo>, AllocError> {
+fn table(alloc: Global) -> Result<Vec<RegionInfo<PlainHandle>>, AllocError> {
     let region = VhostUserMemoryRegion::new(0x1000, 0x1000, 0x7000, 0);
     let mmap_handle = Some(PlainHandle {
         id: 3,

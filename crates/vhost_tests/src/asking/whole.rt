@@ -12,7 +12,7 @@ use vhost_link::PlainHandle;
 use vhost_message::VhostUserShMemConfig;
 
 /// A region, with its descriptor lent.
-fn lent(info: &RegionInfo) -> VhostUserMemoryRegionInfo<'_, PlainHandle> {
+fn lent(info: &RegionInfo<PlainHandle>) -> VhostUserMemoryRegionInfo<'_, PlainHandle> {
     let region = info.region;
     VhostUserMemoryRegionInfo::new(
         region.guest_phys_addr,
@@ -37,7 +37,7 @@ fn set_table<B: VhostBackend<Handle = PlainHandle>>(
     alloc: Global,
     backend: &B,
     rt: &impl Wait,
-    regions: &[RegionInfo],
+    regions: &[RegionInfo<PlainHandle>],
 ) -> Result<FrontendAnswer> {
     let mut table = Vec::new(alloc);
     for info in regions {

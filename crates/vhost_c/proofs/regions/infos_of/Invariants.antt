@@ -1,5 +1,5 @@
 use Rattle.std.proofs.Common.{◌≡◌, take, map}
-use Rattle.vhost_frontend_core.specs.Values.{info_of}
+use Rattle.vhost_frontend_core.specs.Regions.{info_of}
 use Rattle.vhost_c.specs.Records.{info_in}
 use Rattle.vhost_c.proofs.regions.infos_of.Given as goal
 

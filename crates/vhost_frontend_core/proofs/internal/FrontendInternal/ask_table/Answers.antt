@@ -1,5 +1,5 @@
 -- SET_MEM_TABLE: what is asked.
-use Rattle.std.proofs.Common.{sym, ◌∙◌}
+use Rattle.std.proofs.Common.{sym, ◌∙◌, ap, take, map, Bor}
 use Rattle.vhost_message.specs.declared.frontend_req.FrontendReq.TheVariants.{SET_MEM_TABLE}
 use Rattle.vhost_protocol.specs.Written.{Regions}
 use Rattle.vhost_connection.specs.Asking.{request_with}
@@ -13,7 +13,9 @@ returns-in_err-first-clause-asked g c = roomy (stops _ _ c.from_residual.ensures
 
 pub returns-clause-asked : goal.returns-clause-asked
 returns-clause-asked g c =
+    let table = ap (λ n. take n c.table_of-table.result) c.len-count.ensures ∙ c.table_of-table.ensures in
+    let handles = ap (λ n. map (λ (h : Bor _). h.now) (take n c.handles_of-handles.result)) c.len-count.ensures ∙ c.handles_of-handles.ensures in
     roomy (passes c.in_ok-first.ensures.test (else_as _ (sym c.is_listening.ensures ∙ c.if-is_listening.false)
-    (tried-as ((λ j. request_with c.flags-flags.result SET_MEM_TABLE (Regions (c.table_of-table.ensures j)) (c.handles_of-handles.ensures j))
+    (tried-as ((λ j. request_with c.flags-flags.result SET_MEM_TABLE (Regions (table j)) (handles j))
     ∙ message_is _ (session_of c.args.self.now) _ _ _ c.flags-flags.ensures.reply c.flags-flags.ensures.need_reply) c.send_table.ensures.session
     (tries_as c.acknowledgement-awaited.ensures c.send_table.ensures.sent))))

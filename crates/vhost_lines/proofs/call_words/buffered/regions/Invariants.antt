@@ -1,5 +1,5 @@
 use Rattle.std.proofs.Common.{◌≡◌, length, map}
-use Rattle.vhost_frontend_core.specs.Values.{info_of}
+use Rattle.vhost_frontend_core.specs.Regions.{info_of}
 use Rattle.vhost_lines.specs.Calls.{regions}
 use Rattle.vhost_lines.specs.Read.{words_of}
 use Rattle.vhost_lines.proofs.RegionLaws.{behind}

@@ -1,5 +1,5 @@
 use Rattle.std.proofs.Common.{rules}
-use Rattle.vhost_frontend_core.specs.Values.{info_of}
+use Rattle.vhost_frontend_core.specs.Regions.{info_of}
 use Rattle.vhost_recorder.proofs.Tables.{same_here}
 use Rattle.vhost_recorder.proofs.comparing.records.are_same_infos.Goals as goal
 
