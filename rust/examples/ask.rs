@@ -1,6 +1,7 @@
 // SPDX-License-Identifier: Apache-2.0
 //! Asks a backend at a Unix socket what it offers, and prints it: `cargo run --example ask -- /run/disk.sock`
 use std::env;
+use std::ffi::OsStr;
 use std::process::ExitCode;
 use std::time::Duration;
 
@@ -8,7 +9,7 @@ use covretin::vhost_user::{Frontend, VhostUserFrontend, VhostUserProtocolFeature
 use covretin::{Result, VhostBackend};
 
 fn main() -> ExitCode {
-    let path = match env::args().nth(1) {
+    let path = match env::args_os().nth(1) {
         Some(path) => path,
         None => {
             eprintln!("usage: ask PATH");
@@ -18,13 +19,13 @@ fn main() -> ExitCode {
     match ask(&path) {
         Ok(()) => ExitCode::SUCCESS,
         Err(error) => {
-            eprintln!("{path}: {error}");
+            eprintln!("{}: {error}", path.to_string_lossy());
             ExitCode::FAILURE
         }
     }
 }
 
-fn ask(path: &str) -> Result<()> {
+fn ask(path: &OsStr) -> Result<()> {
     let mut frontend = Frontend::connect(path, 1)?;
     frontend.set_timeout(Some(Duration::from_secs(5)));
     frontend.set_owner()?;

@@ -30,8 +30,8 @@ const MAX_MESSAGE: usize = 4108;
 const ROOM: usize = 24 + 32 * size_of::<RawFd>();
 
 fn main() -> ExitCode {
-    let turns = match env::args().nth(1).map_or(Ok(TURNS), |word| word.parse()) {
-        Ok(turns) if turns > 0 => turns,
+    let turns = match env::args_os().nth(1).map_or(Some(TURNS), |word| word.to_str()?.parse().ok()) {
+        Some(turns) if turns > 0 => turns,
         _ => {
             eprintln!("usage: bench [TURNS]");
             return ExitCode::from(1);

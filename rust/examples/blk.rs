@@ -11,6 +11,7 @@
 //! ```
 use std::cmp::min;
 use std::env;
+use std::ffi::{OsStr, OsString};
 use std::fs::{symlink_metadata, File, OpenOptions};
 use std::io::{self, Read, Write};
 use std::os::unix::fs::{FileExt, FileTypeExt};
@@ -40,9 +41,10 @@ const LOOK: libc::c_int = 1000;
 const PART: usize = 1 << 16;
 
 fn main() -> ExitCode {
-    let words: Vec<String> = env::args().skip(1).collect();
-    let ended = match words.as_slice() {
-        [path, image, rings] if matches!(rings.parse::<u16>(), Ok(1..=64)) => listen(path, image, rings.parse().unwrap_or(1)),
+    let words: Vec<OsString> = env::args_os().skip(1).collect();
+    let rings = words.get(2).and_then(|it| it.to_str()?.parse().ok()).filter(|it| (1..=64).contains(it));
+    let ended = match (words.as_slice(), rings) {
+        ([path, image, _], Some(rings)) => listen(path, image, rings),
         _ => {
             eprintln!("usage: blk PATH IMAGE RINGS");
             return ExitCode::from(1);
@@ -58,7 +60,7 @@ fn main() -> ExitCode {
 }
 
 /// Serves one machine after another.
-fn listen(path: &str, image: &str, rings: u16) -> Result<()> {
+fn listen(path: &OsStr, image: &OsStr, rings: u16) -> Result<()> {
     let image = OpenOptions::new().read(true).write(true).open(image).map_err(Error::ReqHandlerError)?;
     // What another disk left behind is replaced, and nothing else.
     let is_socket = symlink_metadata(path).map_or(false, |about| about.file_type().is_socket());

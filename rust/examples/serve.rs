@@ -3,6 +3,7 @@
 //!
 //! The device has two rings and no function. For each connection there is another one, in a thread of its own.
 use std::env;
+use std::ffi::{OsStr, OsString};
 use std::fs::{remove_file, File, OpenOptions};
 use std::process::ExitCode;
 use std::sync::{Arc, Mutex};
@@ -23,9 +24,10 @@ const FEATURES: u64 = 0b11 | 1 << 30;
 const CONFIG: [u8; 4] = [0xa5; 4];
 
 fn main() -> ExitCode {
-    let words: Vec<String> = env::args().skip(1).collect();
-    let (path, count) = match words.as_slice() {
-        [path, count] if matches!(count.parse::<u32>(), Ok(1..=1024)) => (path, count.parse().unwrap_or(1)),
+    let words: Vec<OsString> = env::args_os().skip(1).collect();
+    let count = words.get(1).and_then(|it| it.to_str()?.parse().ok()).filter(|it| (1..=1024).contains(it));
+    let (path, count) = match (words.as_slice(), count) {
+        ([path, _], Some(count)) => (path, count),
         _ => {
             eprintln!("usage: serve PATH COUNT");
             return ExitCode::from(1);
@@ -34,14 +36,14 @@ fn main() -> ExitCode {
     match listen(path, count) {
         Ok(()) => ExitCode::SUCCESS,
         Err(error) => {
-            eprintln!("{path}: {error}");
+            eprintln!("{}: {error}", path.to_string_lossy());
             ExitCode::from(2)
         }
     }
 }
 
 /// Accepts so many connections. A line says how each ended, in their order.
-fn listen(path: &str, count: u32) -> Result<()> {
+fn listen(path: &OsStr, count: u32) -> Result<()> {
     let mut listener = Listener::new(path, false)?;
     let mut sessions = Vec::new();
     for _ in 0..count {

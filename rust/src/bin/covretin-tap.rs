@@ -1,8 +1,8 @@
 // SPDX-License-Identifier: Apache-2.0
 //! Shows and judges a live session of vhost-user: `covretin-tap LISTEN CONNECT`. docs/TAP.md says what it prints.
-use std::env::args;
+use std::env::args_os;
 use std::process::ExitCode;
 
 fn main() -> ExitCode {
-    covretin::tap::run(args().skip(1))
+    covretin::tap::run(args_os().skip(1))
 }

@@ -18,6 +18,7 @@ mod summary;
 mod unserved;
 mod watcher;
 
+use std::ffi::OsString;
 use std::fs::{remove_file, File};
 use std::io::{self, BufRead, BufReader};
 use std::path::{Path, PathBuf};
@@ -37,7 +38,7 @@ const WRONG: u8 = 1;
 const TROUBLE: u8 = 2;
 
 /// Runs the program, called by these words behind its name: its status.
-pub fn run(words: impl IntoIterator<Item = String>) -> ExitCode {
+pub fn run(words: impl IntoIterator<Item = OsString>) -> ExitCode {
     let options = match options::parse(words) {
         Ok(Asked::Tap(options)) => options,
         Ok(Asked::Help) => {

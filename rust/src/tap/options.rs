@@ -1,5 +1,7 @@
 // SPDX-License-Identifier: Apache-2.0
 //! How the program is called.
+use std::ffi::OsString;
+use std::os::unix::ffi::OsStrExt;
 use std::path::PathBuf;
 
 use crate::vhost_user::Profile;
@@ -53,29 +55,29 @@ pub(super) enum Asked {
     Version,
 }
 
-/// The words behind the program's name; or what is wrong with them.
-pub(super) fn parse(words: impl IntoIterator<Item = String>) -> Result<Asked, String> {
+/// The words behind the program's name; or what is wrong with them. A path may have any bytes.
+pub(super) fn parse(words: impl IntoIterator<Item = OsString>) -> Result<Asked, String> {
     let mut words = words.into_iter();
     let (mut profile, mut format, mut shows_bytes) = (Profile::Standard, Format::Text, false);
     let (mut record, mut replay, mut count, mut paths) = (None, None, None, Vec::new());
     while let Some(word) = words.next() {
         let mut file = |name: &str| words.next().map(PathBuf::from).ok_or(format!("{name} wants a file"));
-        match word.as_str() {
-            "--help" | "-h" => return Ok(Asked::Help),
-            "--version" => return Ok(Asked::Version),
-            "--json" => format = Format::Json,
-            "--hex" => shows_bytes = true,
-            "--record" => record = Some(file("--record")?),
-            "--replay" => replay = Some(file("--replay")?),
-            "--profile=standard" => profile = Profile::Standard,
-            "--profile=vhost" => profile = Profile::Vhost,
-            word => match word.strip_prefix("--count=") {
+        match word.as_bytes() {
+            b"--help" | b"-h" => return Ok(Asked::Help),
+            b"--version" => return Ok(Asked::Version),
+            b"--json" => format = Format::Json,
+            b"--hex" => shows_bytes = true,
+            b"--record" => record = Some(file("--record")?),
+            b"--replay" => replay = Some(file("--replay")?),
+            b"--profile=standard" => profile = Profile::Standard,
+            b"--profile=vhost" => profile = Profile::Vhost,
+            [b'-', ..] => match word.to_string_lossy().strip_prefix("--count=") {
                 Some(number) => {
                     count = Some(number.parse().ok().filter(|it| *it != 0).ok_or("--count wants a number from 1 on")?)
                 }
-                None if word.starts_with('-') => return Err(format!("no such option: {word}")),
-                None => paths.push(PathBuf::from(word)),
+                None => return Err(format!("no such option: {}", word.to_string_lossy())),
             },
+            _ => paths.push(PathBuf::from(word)),
         }
     }
     let source = source(paths, replay, record, count)?;
@@ -97,7 +99,19 @@ mod tests {
     use super::*;
 
     fn parsed(text: &str) -> Result<Asked, String> {
-        parse(text.split_whitespace().map(str::to_string))
+        parse(text.split_whitespace().map(OsString::from))
+    }
+
+    #[test]
+    fn paths_of_any_bytes() {
+        let bytes: OsString = std::os::unix::ffi::OsStringExt::from_vec(vec![b'a', 0xff]);
+        let parsed = parse([bytes.clone(), bytes.clone()]);
+        let Ok(Asked::Tap(options)) = parsed else { panic!("{parsed:?}") };
+        let (listen, connect) = (PathBuf::from(bytes.clone()), PathBuf::from(bytes.clone()));
+        assert_eq!(Source::Sockets { listen, connect, record: None, count: None }, options.source);
+        let mut option = OsString::from("-");
+        option.push(bytes);
+        assert!(parse([option]).is_err());
     }
 
     #[test]
