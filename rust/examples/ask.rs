@@ -1,7 +1,9 @@
 // SPDX-License-Identifier: Apache-2.0
 //! Asks a backend at a Unix socket what it offers, and prints it: `cargo run --example ask -- /run/disk.sock`
+//!
+//! Status 0 where it was asked, 1 after wrong arguments, 2 where something failed.
 use std::env;
-use std::ffi::OsStr;
+use std::ffi::{OsStr, OsString};
 use std::process::ExitCode;
 use std::time::Duration;
 
@@ -9,18 +11,19 @@ use covretin::vhost_user::{Frontend, VhostUserFrontend, VhostUserProtocolFeature
 use covretin::{Result, VhostBackend};
 
 fn main() -> ExitCode {
-    let path = match env::args_os().nth(1) {
-        Some(path) => path,
-        None => {
+    let words: Vec<OsString> = env::args_os().skip(1).collect();
+    let path = match words.as_slice() {
+        [path] => path,
+        _ => {
             eprintln!("usage: ask PATH");
-            return ExitCode::from(2);
+            return ExitCode::from(1);
         }
     };
-    match ask(&path) {
+    match ask(path) {
         Ok(()) => ExitCode::SUCCESS,
         Err(error) => {
             eprintln!("{}: {error}", path.to_string_lossy());
-            ExitCode::FAILURE
+            ExitCode::from(2)
         }
     }
 }
