@@ -9,16 +9,22 @@ use std::alloc::{AllocError, Global};
 pub fn bytes_of(alloc: Global, n: usize, text: &str) -> Result<Vec<u8>, Miss> {
     let mut bytes = Vec::new(alloc);
     for word in text.split(' ') {
-        let (digits, count) = match word.split_once("*") {
-            Some((digits, count)) => (digits, count_of(alloc, n, count)?),
-            None => (word, 1),
-        };
-        let some = decoded(alloc, digits)?;
-        for _ in 0..count {
-            bytes.extend_from_slice(&some)?;
-        }
+        push_bytes(alloc, n, word, &mut bytes)?;
     }
     Ok(bytes)
+}
+
+/// Puts the bytes of a word behind others.
+fn push_bytes(alloc: Global, n: usize, word: &str, bytes: &mut Vec<u8>) -> Result<(), Miss> {
+    let (digits, count) = match word.split_once("*") {
+        Some((digits, count)) => (digits, count_of(alloc, n, count)?),
+        None => (word, 1),
+    };
+    let some = decoded(alloc, digits)?;
+    for _ in 0..count {
+        bytes.extend_from_slice(&some)?;
+    }
+    Ok(())
 }
 
 /// The bytes of one word.

@@ -5,7 +5,7 @@ use crate::handles::handle_of;
 use crate::miss::{Miss, unreadable};
 use crate::numbers::narrow;
 use bitflags::Flags;
-use std::alloc::Global;
+use std::alloc::{AllocError, Global};
 use vhost_frontend_core::FrontendCall;
 use vhost_lines::call_of;
 use vhost_link::PlainHandle;
@@ -21,13 +21,26 @@ pub fn call_in(alloc: Global, text: &str) -> Result<FrontendCall, Miss> {
         return flags_call(alloc, flags);
     }
     let (words, buffer) = text.split_once(" buffer ").unwrap_or((text, ""));
-    let (words, handles) = replaced(alloc, words)?;
-    let mut call = plain_call(alloc, words.as_bytes())?;
-    lend_buffer(alloc, &mut call, buffer)?;
-    if put_back(&mut call, &handles) {
-        return Ok(call);
+    let mut handles = Vec::new(alloc);
+    let mut call = call_with(alloc, words, &mut handles)?;
+    if !put_back(&mut call, &handles) {
+        return Err(unreadable(alloc, "a handle", text));
     }
-    Err(unreadable(alloc, "a handle", text))
+    lend_buffer(alloc, &mut call, buffer)?;
+    Ok(call)
+}
+
+/// The call of a line with numbers in the place of descriptors, and these.
+fn call_with(
+    alloc: Global,
+    text: &str,
+    handles: &mut Vec<Option<PlainHandle>>,
+) -> Result<FrontendCall, Miss> {
+    let mut words = String::new(alloc);
+    for word in text.split(' ') {
+        replace(alloc, word, &mut words, handles)?;
+    }
+    plain_call(alloc, words.as_bytes())
 }
 
 /// The call that sets any flags.
@@ -44,28 +57,33 @@ fn plain_call(alloc: Global, words: &[u8]) -> Result<FrontendCall, Miss> {
     }
 }
 
-/// The words of a line where a number stands for each descriptor with a kind and each `none`; and what these were.
-fn replaced(alloc: Global, text: &str) -> Result<(String, Vec<Option<PlainHandle>>), Miss> {
-    let mut words = String::new(alloc);
-    let mut handles = Vec::new(alloc);
-    for word in text.split(' ') {
-        if !words.is_empty() {
-            words.push(' ')?;
-        }
-        let handle = if word == "none" {
-            None
-        } else if word.contains(":") {
-            Some(handle_of(alloc, word)?)
-        } else {
-            words.push_str(word)?;
-            continue;
-        };
-        let number = FIRST as usize;
-        let place = number.wrapping_add(handles.len());
-        words.push_str(format!(in alloc; "{place}")?.as_str())?;
-        handles.push(handle)?;
+/// Puts a word behind others, and for each descriptor with a kind and each `none` a number that stands for it.
+fn replace(
+    alloc: Global,
+    word: &str,
+    words: &mut String,
+    handles: &mut Vec<Option<PlainHandle>>,
+) -> Result<(), Miss> {
+    if !words.is_empty() {
+        words.push(' ')?;
     }
-    Ok((words, handles))
+    let handle = if word == "none" {
+        None
+    } else if word.contains(":") {
+        Some(handle_of(alloc, word)?)
+    } else {
+        words.push_str(word)?;
+        return Ok(());
+    };
+    push_place(words, handles.len())?;
+    handles.push(handle)?;
+    Ok(())
+}
+
+/// Puts the number behind a text that stands for the descriptor at this place.
+fn push_place(text: &mut String, place: usize) -> Result<(), AllocError> {
+    let number = (FIRST as usize).wrapping_add(place);
+    write!(text, "{number}")
 }
 
 /// Puts a buffer, if any, in the place of the zeros of `get_config`.

@@ -12,16 +12,22 @@ pub fn cuts_of(alloc: Global, n: usize, text: &str) -> Result<Vec<Cut>, Miss> {
         return Ok(cuts);
     }
     for word in text.split(' ') {
-        let (word, count) = match word.split_once("*") {
-            Some((word, count)) => (word, count_of(alloc, n, count)?),
-            None => (word, 1),
-        };
-        let cut = cut_of(alloc, n, word)?;
-        for _ in 0..count {
-            cuts.push(cut)?;
-        }
+        push_cuts(alloc, n, word, &mut cuts)?;
     }
     Ok(cuts)
+}
+
+/// Puts the entries of a word behind others.
+fn push_cuts(alloc: Global, n: usize, word: &str, cuts: &mut Vec<Cut>) -> Result<(), Miss> {
+    let (word, count) = match word.split_once("*") {
+        Some((word, count)) => (word, count_of(alloc, n, count)?),
+        None => (word, 1),
+    };
+    let cut = cut_of(alloc, n, word)?;
+    for _ in 0..count {
+        cuts.push(cut)?;
+    }
+    Ok(())
 }
 
 /// One entry of such a script.

@@ -55,25 +55,29 @@ pub(crate) fn handle_of(alloc: Global, word: &str) -> Result<PlainHandle, Miss> 
 
 /// A descriptor as a script writes it.
 pub fn handle_text(alloc: Global, handle: PlainHandle) -> Result<String, AllocError> {
+    let mut text = String::new(alloc);
+    push_handle(&mut text, handle)?;
+    Ok(text)
+}
+
+/// Puts a descriptor behind a text.
+fn push_handle(text: &mut String, handle: PlainHandle) -> Result<(), AllocError> {
+    let kind = match handle.kind {
+        Kind::NoSocket => "",
+        Kind::NotUnix => ":inet",
+        Kind::NotStream => ":datagram",
+        Kind::UnixStream => ":unix",
+    };
     let id = handle.id;
-    match handle.kind {
-        Kind::NoSocket => format!(in alloc; "{id}"),
-        Kind::NotUnix => format!(in alloc; "{id}:inet"),
-        Kind::NotStream => format!(in alloc; "{id}:datagram"),
-        Kind::UnixStream => format!(in alloc; "{id}:unix"),
-    }
+    write!(text, "{id}{kind}")
 }
 
 /// Puts descriptors behind a text, in brackets; nothing for none.
-pub fn push_handles(
-    alloc: Global,
-    text: &mut String,
-    handles: &[PlainHandle],
-) -> Result<(), AllocError> {
+pub fn push_handles(text: &mut String, handles: &[PlainHandle]) -> Result<(), AllocError> {
     let mut open = "[";
     for handle in handles {
         text.push_str(open)?;
-        text.push_str(handle_text(alloc, *handle)?.as_str())?;
+        push_handle(text, *handle)?;
         open = ",";
     }
     if handles.is_empty() {

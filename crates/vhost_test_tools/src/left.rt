@@ -22,21 +22,43 @@ pub fn left_of_endpoint<M: MsgHeader, L: Link<Handle: ScriptHandle>>(
 ) -> Result<String, Miss> {
     let mut text = String::new(alloc);
     for _ in 0..CALLS {
-        let mut handles = None;
-        match end.recv_into_buf(ROOM, &mut handles) {
-            Ok((0, _)) => break,
-            Ok((_, bytes)) => {
-                let handles = plain(alloc, handles.as_deref().unwrap_or(&[]))?;
-                push_some(alloc, &mut text, bytes, &handles)?;
-            }
-            Err(Error::SocketBroken(_)) => {
-                text.push_str(left_of_link(alloc, end.link())?.as_str())?;
-                break;
-            }
-            Err(_) => {}
+        if !drain_endpoint(alloc, end, &mut text)? {
+            break;
         }
     }
     Ok(text)
+}
+
+/// Drains by one call. Whether there may be more.
+fn drain_endpoint<M: MsgHeader, L: Link<Handle: ScriptHandle>>(
+    alloc: Global,
+    end: &mut Endpoint<M, L>,
+    text: &mut String,
+) -> Result<bool, Miss> {
+    let mut handles = None;
+    match end.recv_into_buf(ROOM, &mut handles) {
+        Ok((count, bytes)) => {
+            push_drained(alloc, text, bytes, handles.as_deref().unwrap_or(&[]))?;
+            Ok(count > 0)
+        }
+        Err(Error::SocketBroken(_)) => {
+            drain_link(alloc, end.link(), text)?;
+            Ok(false)
+        }
+        Err(_) => Ok(true),
+    }
+}
+
+/// Puts behind a text what one call handed out.
+fn push_drained<H: ScriptHandle>(
+    alloc: Global,
+    text: &mut String,
+    bytes: &[u8],
+    handles: &[H],
+) -> Result<(), Miss> {
+    let handles = plain(alloc, handles)?;
+    push_some(text, bytes, &handles)?;
+    Ok(())
 }
 
 /// Drains what is on a link, each byte after the descriptors that it brings.
@@ -45,19 +67,26 @@ pub fn left_of_link<L: Link<Handle: ScriptHandle>>(
     link: &mut L,
 ) -> Result<String, Miss> {
     let mut text = String::new(alloc);
+    drain_link(alloc, link, &mut text)?;
+    Ok(text)
+}
+
+/// The same, behind a text.
+fn drain_link<L: Link<Handle: ScriptHandle>>(
+    alloc: Global,
+    link: &mut L,
+    text: &mut String,
+) -> Result<(), Miss> {
     for _ in 0..CALLS {
         let mut room = [0u8; ROOM];
         let mut handles = Vec::with_capacity(alloc, MAX_ATTACHED_FD_ENTRIES)?;
         match link.recv(&mut room, &mut handles) {
             Ok(0) => break,
-            Ok(count) => {
-                let handles = plain(alloc, &handles)?;
-                push_some(alloc, &mut text, &room[..count], &handles)?;
-            }
+            Ok(count) => push_drained(alloc, text, &room[..count], &handles)?,
             Err(_) => {}
         }
     }
-    Ok(text)
+    Ok(())
 }
 
 /// The numbers and kinds of descriptors.

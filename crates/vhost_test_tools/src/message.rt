@@ -78,34 +78,28 @@ fn whole_message(alloc: Global, n: usize, text: &str) -> Result<Message, Miss> {
 
 /// Puts a byte behind a text, after the descriptors that it brings, as `[1,2:unix]00`.
 pub(crate) fn push_held(
-    alloc: Global,
     text: &mut String,
     byte: u8,
     handles: &[PlainHandle],
 ) -> Result<(), AllocError> {
-    push_handles(alloc, text, handles)?;
-    text.push_str(format!(in alloc; "{byte:02x}")?.as_str())
+    push_handles(text, handles)?;
+    write!(text, "{byte:02x}")
 }
 
 /// Puts a message behind a text.
-pub(crate) fn push_message(
-    alloc: Global,
-    text: &mut String,
-    message: &Message,
-) -> Result<(), AllocError> {
-    push_some(alloc, text, &message.bytes, &message.handles)
+pub(crate) fn push_message(text: &mut String, message: &Message) -> Result<(), AllocError> {
+    push_some(text, &message.bytes, &message.handles)
 }
 
 /// Puts bytes behind a text, the first one after its descriptors.
 pub(crate) fn push_some(
-    alloc: Global,
     text: &mut String,
     bytes: &[u8],
     handles: &[PlainHandle],
 ) -> Result<(), AllocError> {
     let mut first = handles;
     for byte in bytes {
-        push_held(alloc, text, *byte, first)?;
+        push_held(text, *byte, first)?;
         first = &[];
     }
     Ok(())

@@ -1,88 +1,121 @@
-//! Arguments of a device's calls, as words.
+//! A device's calls as lines of words. What puts words behind a line hands on why there is no line.
 
-use crate::handles::{handle_text, push_handles};
+use crate::handles::push_handles;
 use crate::link::ScriptHandle;
 use std::alloc::{AllocError, Global};
 use vhost_message::{VhostUserInflight, VhostUserMMap, VhostUserMemoryRegion, VhostUserSharedMsg};
 
-/// A descriptor, or `none`.
-pub(crate) fn file_text<H: ScriptHandle>(
-    alloc: Global,
-    file: &Option<H>,
-) -> Result<String, AllocError> {
+/// A line, or that an allocation failed.
+pub(crate) type Line = Result<String, AllocError>;
+
+/// Puts a word behind a line.
+pub(crate) fn with_word(line: Line, word: &str) -> Line {
+    let mut line = line?;
+    push_word(&mut line, word)?;
+    Ok(line)
+}
+
+/// Puts a word behind a text.
+fn push_word(text: &mut String, word: &str) -> Result<(), AllocError> {
+    text.push(' ')?;
+    text.push_str(word)
+}
+
+/// Puts a descriptor in brackets behind a line.
+pub(crate) fn with_file<H: ScriptHandle>(line: Line, file: &H) -> Line {
+    let mut line = line?;
+    line.push(' ')?;
+    push_handles(&mut line, &[file.plain()])?;
+    Ok(line)
+}
+
+/// The same, or `none`.
+pub(crate) fn with_file_or_none<H: ScriptHandle>(line: Line, file: &Option<H>) -> Line {
     match file {
-        Some(file) => only_text(alloc, file),
-        None => "none".to_string(alloc),
+        Some(file) => with_file(line, file),
+        None => with_word(line, "none"),
     }
 }
 
-/// A descriptor in brackets.
-pub(crate) fn only_text<H: ScriptHandle>(alloc: Global, file: &H) -> Result<String, AllocError> {
-    let handle = handle_text(alloc, file.plain())?;
-    format!(in alloc; "[{handle}]")
+/// Puts descriptors in brackets behind a line.
+pub(crate) fn with_files<H: ScriptHandle>(alloc: Global, line: Line, files: &[H]) -> Line {
+    let mut line = line?;
+    line.push(' ')?;
+    push_files(alloc, &mut line, files)?;
+    Ok(line)
 }
 
-/// Descriptors in brackets.
-pub(crate) fn files_text<H: ScriptHandle>(
+/// Puts descriptors in brackets behind a text.
+fn push_files<H: ScriptHandle>(
     alloc: Global,
+    text: &mut String,
     files: &[H],
-) -> Result<String, AllocError> {
+) -> Result<(), AllocError> {
     let mut plain = Vec::new(alloc);
     for file in files {
         plain.push(file.plain())?;
     }
-    let mut text = String::new(alloc);
-    push_handles(alloc, &mut text, &plain)?;
-    Ok(text)
+    push_handles(text, &plain)
 }
 
-/// Guest address, size, user address and offset.
-pub(crate) fn region_text(
-    alloc: Global,
-    region: &VhostUserMemoryRegion,
-) -> Result<String, AllocError> {
+/// Puts each region's guest address, size, user address and offset behind a line.
+pub(crate) fn with_regions(line: Line, regions: &[VhostUserMemoryRegion]) -> Line {
+    let mut line = line?;
+    for region in regions {
+        push_region(&mut line, region)?;
+    }
+    Ok(line)
+}
+
+/// Puts a region's numbers behind a text.
+fn push_region(text: &mut String, region: &VhostUserMemoryRegion) -> Result<(), AllocError> {
     let (guest, size) = (region.guest_phys_addr, region.memory_size);
     let (user, offset) = (region.user_addr, region.mmap_offset);
-    format!(in alloc; "{guest} {size} {user} {offset}")
+    write!(text, " {guest} {size} {user} {offset}")
 }
 
-/// The same of each region, each behind a space.
-pub(crate) fn regions_text(
-    alloc: Global,
-    regions: &[VhostUserMemoryRegion],
-) -> Result<String, AllocError> {
-    let mut text = String::new(alloc);
-    for region in regions {
-        text.push(' ')?;
-        text.push_str(region_text(alloc, region)?.as_str())?;
-    }
-    Ok(text)
-}
-
-/// Whether postcopy listens.
-pub(crate) fn listening_text(listening: Option<bool>) -> &'static str {
-    match listening {
+/// Puts behind a line whether postcopy listens.
+pub(crate) fn with_listening(line: Line, listening: Option<bool>) -> Line {
+    let word = match listening {
         Some(true) => "true",
         Some(false) => "false",
         None => "none",
-    }
+    };
+    with_word(line, word)
 }
 
-/// The inflight region: size, offset, number of queues, and their size.
-pub(crate) fn area_text(alloc: Global, area: &VhostUserInflight) -> Result<String, AllocError> {
+/// Puts the inflight region behind a line: its size, offset, number of queues, and their size.
+pub(crate) fn with_area(line: Line, area: &VhostUserInflight) -> Line {
+    let mut line = line?;
     let (size, offset) = (area.mmap_size, area.mmap_offset);
     let (queues, length) = (area.num_queues, area.queue_size);
-    format!(in alloc; "{size} {offset} {queues} {length}")
+    write!(line, " {size} {offset} {queues} {length}")?;
+    Ok(line)
 }
 
-/// The bytes of an object's name.
-pub(crate) fn name_text(alloc: Global, name: &VhostUserSharedMsg) -> Result<String, AllocError> {
-    hex::encode(alloc, name.uuid.as_bytes().as_slice())
-}
-
-/// A mapping: the region, where it begins in the file and in the region, its length, and flags.
-pub(crate) fn mapping_text(alloc: Global, mapping: &VhostUserMMap) -> Result<String, AllocError> {
+/// Puts a mapping behind a line: the region, where it begins in the file and in the region, its length, and flags.
+pub(crate) fn with_mapping(line: Line, mapping: &VhostUserMMap) -> Line {
+    let mut line = line?;
     let (region, file, place) = (mapping.shmid, mapping.fd_offset, mapping.shm_offset);
     let (length, flags) = (mapping.len, mapping.flags);
-    format!(in alloc; "{region} {file} {place} {length} {flags}")
+    write!(line, " {region} {file} {place} {length} {flags}")?;
+    Ok(line)
+}
+
+/// Puts the bytes of an object's name behind a line.
+pub(crate) fn with_name(alloc: Global, line: Line, name: &VhostUserSharedMsg) -> Line {
+    with_bytes(alloc, line, name.uuid.as_bytes().as_slice())
+}
+
+/// Puts bytes behind a line, two digits each.
+pub(crate) fn with_bytes(alloc: Global, line: Line, bytes: &[u8]) -> Line {
+    let digits = hex::encode(alloc, bytes)?;
+    with_word(line, digits.as_str())
+}
+
+/// Puts a number behind a line.
+pub(crate) fn with_number(line: Line, number: u32) -> Line {
+    let mut line = line?;
+    write!(line, " {number}")?;
+    Ok(line)
 }

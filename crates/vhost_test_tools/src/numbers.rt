@@ -1,7 +1,7 @@
 //! Numbers and counts.
 
 use crate::miss::{Miss, unreadable};
-use std::alloc::Global;
+use std::alloc::{AllocError, Global};
 
 /// The number of 64 bits that a word writes, in hexadecimal digits behind `0x`, or in decimal digits.
 pub(crate) fn number_in(word: &str) -> Option<u64> {
@@ -69,15 +69,25 @@ pub fn count_of(alloc: Global, n: usize, word: &str) -> Result<usize, Miss> {
 pub fn counted(alloc: Global, n: usize, text: &str) -> Result<String, Miss> {
     let mut words = String::new(alloc);
     for word in text.split(' ') {
-        if !words.is_empty() {
-            words.push(' ')?;
-        }
-        if word == "n" || word.starts_with("n-") || word.ends_with("-n") {
-            let count = count_of(alloc, n, word)?;
-            words.push_str(format!(in alloc; "{count}")?.as_str())?;
-        } else {
-            words.push_str(word)?;
-        }
+        push_counted(alloc, n, word, &mut words)?;
     }
     Ok(words)
+}
+
+/// Puts such a word behind others.
+fn push_counted(alloc: Global, n: usize, word: &str, words: &mut String) -> Result<(), Miss> {
+    if !words.is_empty() {
+        words.push(' ')?;
+    }
+    if word == "n" || word.starts_with("n-") || word.ends_with("-n") {
+        push_count(words, count_of(alloc, n, word)?)?;
+    } else {
+        words.push_str(word)?;
+    }
+    Ok(())
+}
+
+/// Puts a number's digits behind a text.
+fn push_count(text: &mut String, count: usize) -> Result<(), AllocError> {
+    write!(text, "{count}")
 }

@@ -5,20 +5,20 @@ ghost use Rattle.std.specs.Prelude.{⊤};
 use crate::link::ScriptHandle;
 use crate::miss::Miss;
 use crate::note::{
-    area_text, file_text, files_text, listening_text, name_text, only_text, region_text,
-    regions_text,
+    Line, with_area, with_bytes, with_file, with_file_or_none, with_files, with_listening,
+    with_name, with_number, with_regions,
 };
-use crate::sheet::Sheet;
+use crate::sheet::{Sheet, ask_shared};
 use crate::value::Value;
 use bitflags::Flags;
-use std::alloc::{AllocError, Global};
+use std::alloc::Global;
 use std::cell::RefCell;
 use std::marker::PhantomData;
 use std::rc::Rc;
 use vhost_backend_req::Backend;
 use vhost_device::VhostUserBackendReqHandlerMut;
 use vhost_gpu_backend_req::GpuBackend;
-use vhost_link::{Link, PlainHandle};
+use vhost_link::Link;
 use vhost_message::{
     Error, Result, VhostTransferStateDirection, VhostTransferStatePhase, VhostUserConfigFlags,
     VhostUserInflight, VhostUserLog, VhostUserMemoryRegion, VhostUserMemoryRegionBase,
@@ -48,44 +48,68 @@ impl<L> Scripted<L> {
     }
 
     /// It is asked a call.
-    fn ask(&mut self, call: std::result::Result<String, AllocError>) -> Result<Value> {
-        let Ok(call) = call else {
-            return Err(Error::OutOfMemory);
-        };
-        match self.sheet.try_borrow_mut() {
-            Ok(mut sheet) => sheet.ask(call.as_str()),
-            Err(_) => Err(Error::InvalidOperation("the sheet is in use")),
-        }
+    fn ask(&mut self, call: Line) -> Result<Value> {
+        ask_shared(&self.sheet, call)
     }
 
     /// It is asked a call that answers nothing.
-    fn done(&mut self, call: std::result::Result<String, AllocError>) -> Result<()> {
-        let _nothing = self.ask(call)?;
-        Ok(())
+    fn done(&mut self, call: Line) -> Result<()> {
+        match self.ask(call) {
+            Ok(_) => Ok(()),
+            Err(error) => Err(error),
+        }
     }
 
     /// It is asked a call that answers a number.
     fn number(&mut self, name: &str) -> Result<u64> {
-        match self.ask(name.to_string(self.alloc))? {
-            Value::Number(number) => Ok(number),
-            _ => Err(UNTOLD),
+        match self.ask(name.to_string(self.alloc)) {
+            Ok(Value::Number(number)) => Ok(number),
+            Ok(_) => Err(UNTOLD),
+            Err(error) => Err(error),
         }
     }
 
     /// It is asked a call that answers a descriptor.
-    fn handle(&mut self, call: std::result::Result<String, AllocError>) -> Result<PlainHandle> {
-        match self.ask(call)? {
-            Value::Handle(handle) => Ok(handle),
-            _ => Err(UNTOLD),
+    fn handle<H: ScriptHandle>(&mut self, call: Line) -> Result<H> {
+        match self.ask(call) {
+            Ok(Value::Handle(handle)) => Ok(H::of_plain(handle, false)),
+            Ok(_) => Err(UNTOLD),
+            Err(error) => Err(error),
+        }
+    }
+
+    /// It is asked a call that answers a descriptor or none.
+    fn handle_or_none<H: ScriptHandle>(&mut self, call: Line) -> Result<Option<H>> {
+        match self.ask(call) {
+            Ok(Value::StateHandle(Some(handle))) => Ok(Some(H::of_plain(handle, false))),
+            Ok(Value::StateHandle(None)) => Ok(None),
+            Ok(_) => Err(UNTOLD),
+            Err(error) => Err(error),
+        }
+    }
+
+    /// It is asked a call that answers where a table's regions are mapped.
+    fn bases(&mut self, call: Line) -> Result<Option<Vec<VhostUserMemoryRegionBase>>> {
+        match self.ask(call) {
+            Ok(Value::Bases(bases)) => Ok(bases),
+            Ok(_) => Err(UNTOLD),
+            Err(error) => Err(error),
+        }
+    }
+
+    /// It is asked a call that answers where a region is mapped.
+    fn base(&mut self, call: Line) -> Result<Option<VhostUserMemoryRegionBase>> {
+        match self.ask(call) {
+            Ok(Value::Base(base)) => Ok(base),
+            Ok(_) => Err(UNTOLD),
+            Err(error) => Err(error),
         }
     }
 
     /// It is asked a call about a ring and its file descriptor.
     fn ring<H: ScriptHandle>(&mut self, name: &str, index: u8, fd: &Option<H>) -> Result<()> {
-        let Ok(file) = file_text(self.alloc, fd) else {
-            return Err(Error::OutOfMemory);
-        };
-        self.done(format!(in self.alloc; "{name} {index} {file}"))
+        let call = format!(in self.alloc; "{name} {index}");
+        self.done(with_file_or_none(call, fd))
     }
 }
 
@@ -122,18 +146,9 @@ impl<L: Link<Handle: ScriptHandle>> VhostUserBackendReqHandlerMut for Scripted<L
     ) -> Result<Option<Vec<VhostUserMemoryRegionBase>>>
         ensures { ⊤ }
     {
-        let listening = listening_text(postcopy_listening);
-        let (Ok(regions), Ok(files)) = (
-            regions_text(self.alloc, ctx),
-            files_text(self.alloc, &files),
-        ) else {
-            return Err(Error::OutOfMemory);
-        };
-        let call = format!(in self.alloc; "set_mem_table{regions} {files} {listening}");
-        match self.ask(call)? {
-            Value::Bases(bases) => Ok(bases),
-            _ => Err(UNTOLD),
-        }
+        let call = with_regions("set_mem_table".to_string(self.alloc), ctx);
+        let call = with_files(self.alloc, call, &files);
+        self.bases(with_listening(call, postcopy_listening))
     }
 
     fn set_vring_num(&mut self, index: u32, num: u32) -> Result<()> {
@@ -160,9 +175,10 @@ impl<L: Link<Handle: ScriptHandle>> VhostUserBackendReqHandlerMut for Scripted<L
     }
 
     fn get_vring_base(&mut self, index: u32) -> Result<VhostUserVringState> {
-        match self.ask(format!(in self.alloc; "get_vring_base {index}"))? {
-            Value::State(state) => Ok(state),
-            _ => Err(UNTOLD),
+        match self.ask(format!(in self.alloc; "get_vring_base {index}")) {
+            Ok(Value::State(state)) => Ok(state),
+            Ok(_) => Err(UNTOLD),
+            Err(error) => Err(error),
         }
     }
 
@@ -213,18 +229,17 @@ impl<L: Link<Handle: ScriptHandle>> VhostUserBackendReqHandlerMut for Scripted<L
         flags: VhostUserConfigFlags,
     ) -> Result<Vec<u8>> {
         let flags = flags.bits();
-        match self.ask(format!(in self.alloc; "get_config {offset} {size} {flags}"))? {
-            Value::Bytes(bytes) => Ok(bytes),
-            _ => Err(UNTOLD),
+        match self.ask(format!(in self.alloc; "get_config {offset} {size} {flags}")) {
+            Ok(Value::Bytes(bytes)) => Ok(bytes),
+            Ok(_) => Err(UNTOLD),
+            Err(error) => Err(error),
         }
     }
 
     fn set_config(&mut self, offset: u32, buf: &[u8], flags: VhostUserConfigFlags) -> Result<()> {
         let flags = flags.bits();
-        let Ok(bytes) = hex::encode(self.alloc, buf) else {
-            return Err(Error::OutOfMemory);
-        };
-        self.done(format!(in self.alloc; "set_config {offset} {bytes} {flags}"))
+        let call = format!(in self.alloc; "set_config {offset}");
+        self.done(with_number(with_bytes(self.alloc, call, buf), flags))
     }
 
     fn set_backend_req_fd(&mut self, _backend: Backend<L>)
@@ -240,36 +255,27 @@ impl<L: Link<Handle: ScriptHandle>> VhostUserBackendReqHandlerMut for Scripted<L
     }
 
     fn get_shared_object(&mut self, uuid: VhostUserSharedMsg) -> Result<L::Handle> {
-        let Ok(name) = name_text(self.alloc, &uuid) else {
-            return Err(Error::OutOfMemory);
-        };
-        let handle = self.handle(format!(in self.alloc; "get_shared_object {name}"))?;
-        Ok(<L::Handle as ScriptHandle>::of_plain(handle, false))
+        let call = "get_shared_object".to_string(self.alloc);
+        self.handle(with_name(self.alloc, call, &uuid))
     }
 
     fn get_inflight_fd(
         &mut self,
         inflight: &VhostUserInflight,
     ) -> Result<(VhostUserInflight, L::Handle)> {
-        let Ok(area) = area_text(self.alloc, inflight) else {
-            return Err(Error::OutOfMemory);
-        };
-        match self.ask(format!(in self.alloc; "get_inflight_fd {area}"))? {
-            Value::Area(area, handle) => {
+        let call = "get_inflight_fd".to_string(self.alloc);
+        match self.ask(with_area(call, inflight)) {
+            Ok(Value::Area(area, handle)) => {
                 Ok((area, <L::Handle as ScriptHandle>::of_plain(handle, false)))
             }
-            _ => Err(UNTOLD),
+            Ok(_) => Err(UNTOLD),
+            Err(error) => Err(error),
         }
     }
 
     fn set_inflight_fd(&mut self, inflight: &VhostUserInflight, file: L::Handle) -> Result<()> {
-        let (Ok(area), Ok(file)) = (
-            area_text(self.alloc, inflight),
-            only_text(self.alloc, &file),
-        ) else {
-            return Err(Error::OutOfMemory);
-        };
-        self.done(format!(in self.alloc; "set_inflight_fd {area} {file}"))
+        let call = with_area("set_inflight_fd".to_string(self.alloc), inflight);
+        self.done(with_file(call, &file))
     }
 
     fn get_max_mem_slots(&mut self) -> Result<u64> {
@@ -282,24 +288,14 @@ impl<L: Link<Handle: ScriptHandle>> VhostUserBackendReqHandlerMut for Scripted<L
         fd: L::Handle,
         postcopy_listening: Option<bool>,
     ) -> Result<Option<VhostUserMemoryRegionBase>> {
-        let listening = listening_text(postcopy_listening);
-        let (Ok(region), Ok(file)) = (
-            region_text(self.alloc, &region.region()),
-            only_text(self.alloc, &fd),
-        ) else {
-            return Err(Error::OutOfMemory);
-        };
-        match self.ask(format!(in self.alloc; "add_mem_region {region} {file} {listening}"))? {
-            Value::Base(base) => Ok(base),
-            _ => Err(UNTOLD),
-        }
+        let call = with_regions("add_mem_region".to_string(self.alloc), &[*region.region()]);
+        let call = with_file(call, &fd);
+        self.base(with_listening(call, postcopy_listening))
     }
 
     fn remove_mem_region(&mut self, region: &VhostUserSingleMemoryRegion) -> Result<()> {
-        let Ok(region) = region_text(self.alloc, &region.region()) else {
-            return Err(Error::OutOfMemory);
-        };
-        self.done(format!(in self.alloc; "remove_mem_region {region}"))
+        let call = "remove_mem_region".to_string(self.alloc);
+        self.done(with_regions(call, &[*region.region()]))
     }
 
     fn set_device_state_fd(
@@ -309,16 +305,8 @@ impl<L: Link<Handle: ScriptHandle>> VhostUserBackendReqHandlerMut for Scripted<L
         fd: L::Handle,
     ) -> Result<Option<L::Handle>> {
         let (direction, phase) = (u32::from(direction), u32::from(phase));
-        let Ok(file) = only_text(self.alloc, &fd) else {
-            return Err(Error::OutOfMemory);
-        };
-        match self.ask(format!(in self.alloc; "set_device_state_fd {direction} {phase} {file}"))? {
-            Value::StateHandle(Some(handle)) => {
-                Ok(Some(<L::Handle as ScriptHandle>::of_plain(handle, false)))
-            }
-            Value::StateHandle(None) => Ok(None),
-            _ => Err(UNTOLD),
-        }
+        let call = format!(in self.alloc; "set_device_state_fd {direction} {phase}");
+        self.handle_or_none(with_file(call, &fd))
     }
 
     fn check_device_state(&mut self) -> Result<()> {
@@ -326,15 +314,15 @@ impl<L: Link<Handle: ScriptHandle>> VhostUserBackendReqHandlerMut for Scripted<L
     }
 
     fn get_shmem_config(&mut self) -> Result<VhostUserShMemConfig> {
-        match self.ask("get_shmem_config".to_string(self.alloc))? {
-            Value::Regions(regions) => Ok(regions),
-            _ => Err(UNTOLD),
+        match self.ask("get_shmem_config".to_string(self.alloc)) {
+            Ok(Value::Regions(regions)) => Ok(regions),
+            Ok(_) => Err(UNTOLD),
+            Err(error) => Err(error),
         }
     }
 
     fn postcopy_advice(&mut self) -> Result<L::Handle> {
-        let handle = self.handle("postcopy_advice".to_string(self.alloc))?;
-        Ok(<L::Handle as ScriptHandle>::of_plain(handle, false))
+        self.handle("postcopy_advice".to_string(self.alloc))
     }
 
     fn postcopy_listen(&mut self) -> Result<()> {
@@ -351,9 +339,7 @@ impl<L: Link<Handle: ScriptHandle>> VhostUserBackendReqHandlerMut for Scripted<L
 
     fn set_log_base(&mut self, log: &VhostUserLog, file: L::Handle) -> Result<()> {
         let (size, offset) = (log.mmap_size, log.mmap_offset);
-        let Ok(file) = only_text(self.alloc, &file) else {
-            return Err(Error::OutOfMemory);
-        };
-        self.done(format!(in self.alloc; "set_log_base {size} {offset} {file}"))
+        let call = format!(in self.alloc; "set_log_base {size} {offset}");
+        self.done(with_file(call, &file))
     }
 }

@@ -4,15 +4,15 @@ ghost use Rattle.std.specs.Prelude.{⊤};
 
 use crate::link::ScriptHandle;
 use crate::miss::Miss;
-use crate::note::{mapping_text, name_text, only_text};
-use crate::sheet::Sheet;
+use crate::note::{Line, with_file, with_mapping, with_name};
+use crate::sheet::{Sheet, ask_shared};
 use crate::value::Value;
-use std::alloc::{AllocError, Global};
+use std::alloc::Global;
 use std::cell::RefCell;
 use std::marker::PhantomData;
 use std::rc::Rc;
 use vhost_frontend_req_handler::VhostUserFrontendReqHandlerMut;
-use vhost_message::{Error, HandlerResult, IoError, VhostUserMMap, VhostUserSharedMsg};
+use vhost_message::{HandlerResult, IoError, VhostUserMMap, VhostUserSharedMsg};
 
 /// A frontend that is asked what its sheet says, and answers what stands there.
 #[derive(Drop)]
@@ -33,26 +33,22 @@ impl<H> ScriptedFrontend<H> {
     }
 
     /// It is asked a call.
-    fn ask(&mut self, call: Result<String, AllocError>) -> HandlerResult<u64> {
-        let Ok(call) = call else {
-            return Err(IoError::Of(Error::OutOfMemory));
-        };
-        let Ok(mut sheet) = self.sheet.try_borrow_mut() else {
-            return Err(IoError::Named("the sheet is in use"));
-        };
-        match sheet.ask(call.as_str()) {
+    fn ask(&mut self, call: Line) -> HandlerResult<u64> {
+        match ask_shared(&self.sheet, call) {
             Ok(Value::Back(answer)) => answer,
             Ok(_) => Err(IoError::Named("another answer was told")),
             Err(error) => Err(IoError::Of(error)),
         }
     }
 
-    /// It is asked a call about an object.
-    fn object(&mut self, call: &str, name: &VhostUserSharedMsg) -> HandlerResult<u64> {
-        let Ok(name) = name_text(self.alloc, name) else {
-            return Err(IoError::Of(Error::OutOfMemory));
-        };
-        self.ask(format!(in self.alloc; "{call} {name}"))
+    /// A call about an object.
+    fn object(&self, call: &str, name: &VhostUserSharedMsg) -> Line {
+        with_name(self.alloc, call.to_string(self.alloc), name)
+    }
+
+    /// A call about a mapping.
+    fn mapping(&self, call: &str, mapping: &VhostUserMMap) -> Line {
+        with_mapping(call.to_string(self.alloc), mapping)
     }
 }
 
@@ -66,32 +62,24 @@ impl<H: ScriptHandle> VhostUserFrontendReqHandlerMut for ScriptedFrontend<H> {
     }
 
     fn shared_object_add(&mut self, uuid: &VhostUserSharedMsg) -> HandlerResult<u64> {
-        self.object("shared_object_add", uuid)
+        self.ask(self.object("shared_object_add", uuid))
     }
 
     fn shared_object_remove(&mut self, uuid: &VhostUserSharedMsg) -> HandlerResult<u64> {
-        self.object("shared_object_remove", uuid)
+        self.ask(self.object("shared_object_remove", uuid))
     }
 
     fn shared_object_lookup(&mut self, uuid: &VhostUserSharedMsg, fd: &H) -> HandlerResult<u64> {
-        let (Ok(name), Ok(file)) = (name_text(self.alloc, uuid), only_text(self.alloc, fd)) else {
-            return Err(IoError::Of(Error::OutOfMemory));
-        };
-        self.ask(format!(in self.alloc; "shared_object_lookup {name} {file}"))
+        let call = self.object("shared_object_lookup", uuid);
+        self.ask(with_file(call, fd))
     }
 
     fn shmem_map(&mut self, req: &VhostUserMMap, fd: &H) -> HandlerResult<u64> {
-        let (Ok(place), Ok(file)) = (mapping_text(self.alloc, req), only_text(self.alloc, fd))
-        else {
-            return Err(IoError::Of(Error::OutOfMemory));
-        };
-        self.ask(format!(in self.alloc; "shmem_map {place} {file}"))
+        let call = self.mapping("shmem_map", req);
+        self.ask(with_file(call, fd))
     }
 
     fn shmem_unmap(&mut self, req: &VhostUserMMap) -> HandlerResult<u64> {
-        let Ok(place) = mapping_text(self.alloc, req) else {
-            return Err(IoError::Of(Error::OutOfMemory));
-        };
-        self.ask(format!(in self.alloc; "shmem_unmap {place}"))
+        self.ask(self.mapping("shmem_unmap", req))
     }
 }

@@ -100,20 +100,38 @@ impl<'a> Settings<'a> {
     }
 }
 
+/// The kinds of sessions, but for lines.
+const NOT_LINES: &str =
+    "served asking joined endpoint reverse reverse_served reverse_asking display";
+
+/// The kinds of sessions that have each setting.
+static KINDS: [(&str, &str); 11] = [
+    ("for", NOT_LINES),
+    ("budget", NOT_LINES),
+    ("cuts", NOT_LINES),
+    ("over", "served reverse_served joined"),
+    ("queues", "asking joined"),
+    ("profile", "served asking joined"),
+    ("serving_profile", "joined"),
+    ("serving_cuts", "joined reverse"),
+    ("silent", "served"),
+    ("gpu", "endpoint"),
+    ("explained", "lines"),
+];
+
 /// Whether sessions of this kind have this setting. Other words are none.
 fn belongs(kind: &str, word: &str) -> bool {
-    match word {
-        "for" | "budget" | "cuts" => kind != "lines",
-        "over" => matches!(kind, "served" | "reverse_served" | "joined"),
-        "queues" => matches!(kind, "asking" | "joined"),
-        "profile" => matches!(kind, "served" | "asking" | "joined"),
-        "serving_profile" => kind == "joined",
-        "serving_cuts" => matches!(kind, "joined" | "reverse"),
-        "silent" => kind == "served",
-        "gpu" => kind == "endpoint",
-        "explained" => kind == "lines",
-        _ => true,
+    for (setting, kinds) in &KINDS {
+        if *setting == word {
+            return is_among(kind, kinds);
+        }
     }
+    true
+}
+
+/// Whether a word is one of these, with one space between each two.
+fn is_among(word: &str, words: &str) -> bool {
+    words.split(' ').any(|it| it == word)
 }
 
 /// A range, as `n 12..32`.

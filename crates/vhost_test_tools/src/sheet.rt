@@ -1,8 +1,10 @@
 //! The calls that a device is to be asked, and what it answers.
 
 use crate::miss::{Miss, differs, expect, unreadable};
+use crate::note::Line;
 use crate::value::{Shape, Value, shape_of, value_of};
 use std::alloc::Global;
+use std::cell::RefCell;
 use std::collections::VecDeque;
 use vhost_message::{Error, Result as Outcome};
 
@@ -112,6 +114,17 @@ impl Sheet {
             Some(difference) => Err(difference),
             None => missing,
         }
+    }
+}
+
+/// The device is asked this call, where there is one, over a sheet that others have, too.
+pub(crate) fn ask_shared(sheet: &RefCell<Sheet>, call: Line) -> Outcome<Value> {
+    let Ok(call) = call else {
+        return Err(Error::OutOfMemory);
+    };
+    match sheet.try_borrow_mut() {
+        Ok(mut sheet) => sheet.ask(call.as_str()),
+        Err(_) => Err(Error::InvalidOperation("the sheet is in use")),
     }
 }
 

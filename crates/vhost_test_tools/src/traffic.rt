@@ -43,7 +43,7 @@ impl Traffic {
     /// The side is to write this message, behind what it is to write so far.
     pub fn want(&mut self, text: &str) -> Result<(), Miss> {
         let message = message_of(self.alloc, self.n, text)?;
-        Ok(push_message(self.alloc, &mut self.wanted, &message)?)
+        Ok(push_message(&mut self.wanted, &message)?)
     }
 
     /// Compares what the side has written since the last time with what was wanted, and wants nothing more.
@@ -52,7 +52,7 @@ impl Traffic {
         let taken = mem.taken();
         let bytes = taken.bytes();
         for i in self.seen..bytes.len() {
-            push_held(self.alloc, &mut met, bytes[i], taken.handles(i))?;
+            push_held(&mut met, bytes[i], taken.handles(i))?;
         }
         self.seen = taken.len();
         self.compare(met.as_str())
@@ -61,7 +61,7 @@ impl Traffic {
     /// Compares a message that the side wrote with what was wanted, and wants nothing more.
     pub fn check_message(&mut self, bytes: &[u8], handles: &[PlainHandle]) -> Result<(), Miss> {
         let mut met = String::new(self.alloc);
-        push_some(self.alloc, &mut met, bytes, handles)?;
+        push_some(&mut met, bytes, handles)?;
         self.compare(met.as_str())
     }
 
@@ -81,7 +81,7 @@ impl Traffic {
     pub fn check_left(&self, left: &str, text: &str) -> Result<(), Miss> {
         let message = message_of(self.alloc, self.n, text)?;
         let mut wanted = String::new(self.alloc);
-        push_message(self.alloc, &mut wanted, &message)?;
+        push_message(&mut wanted, &message)?;
         expect(self.alloc, wanted.as_str(), left)
     }
 

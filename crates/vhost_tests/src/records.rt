@@ -51,7 +51,7 @@ pub(crate) fn shown(
         Some(handles) if handles.is_empty() => answer.push_str(" []")?,
         Some(handles) => {
             answer.push(' ')?;
-            push_handles(alloc, &mut answer, handles)?;
+            push_handles(&mut answer, handles)?;
         }
         None => {}
     }
