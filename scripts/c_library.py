@@ -1,7 +1,10 @@
 #!/usr/bin/env python3
 # SPDX-License-Identifier: Apache-2.0
 """Builds the proved library for programs in C, crates/vhost_c/out/libvhost_c.a, where it is not there or a source is newer,
-and beside it libvhost_c.verdict, the line in which the checker says what is proved. Status 0, or 3 with why not.
+and beside it libvhost_c.verdict, the line in which the checker says what is proved, and libvhost_c.s, the same code as assembly.
+Status 0, or 3 with why not.
+
+`c_library.py --current` builds nothing: status 0 where they are there and no source is newer, else 1.
 
 `c_library.py --watched` builds it once more, as out/watched/libvhost_c.a: the same proved functions, compiled with a counter at each
 branch, by which libFuzzer sees where an input went (`./vhost-fuzz`).
@@ -18,11 +21,14 @@ import sys
 import tempfile
 import time
 
+from assembly import assembly, keeping
+
 TOP = os.path.dirname(os.path.dirname(os.path.abspath(__file__)))
 NAME = "vhost_c"
 CRATE = f"{TOP}/crates/{NAME}"
 ARCHIVE = f"{CRATE}/out/lib{NAME}.a"
 VERDICT = f"{CRATE}/out/lib{NAME}.verdict"
+ASSEMBLY = f"{CRATE}/out/lib{NAME}.s"
 WATCHED = f"{CRATE}/out/watched/lib{NAME}.a"
 # It runs on every processor of the family.
 CPU = "x86-64"
@@ -75,18 +81,6 @@ def run(folder, *words):
     return ran.stdout, ran.returncode == 0
 
 
-def watching(theirs, folder):
-    """Makes a toolchain in a folder: links to theirs, and a compiler that puts a counter at each branch."""
-    os.makedirs(f"{folder}/bin")
-    os.symlink(f"{theirs}/lib", f"{folder}/lib")
-    for it in os.listdir(f"{theirs}/bin"):
-        if it != "clang":
-            os.symlink(f"{theirs}/bin/{it}", f"{folder}/bin/{it}")
-    with open(f"{folder}/bin/clang", "w", encoding="utf-8") as it:
-        it.write(f'#!/bin/sh\nexec "{theirs}/bin/clang" -fsanitize-coverage=inline-8bit-counters,pc-table "$@"\n')
-    os.chmod(f"{folder}/bin/clang", 0o755)
-
-
 def over_libraries(kit, uses, archive, toolchain):
     """Proves and builds it over the libraries that are there."""
     words = ["--crate-name", NAME, "src/lib.rt", "--crate-type", "staticlib", "--cpu", CPU, "--links", f"{NAME}=", "--backend", "llvm"]
@@ -103,14 +97,15 @@ def over_libraries(kit, uses, archive, toolchain):
     return run(CRATE, f"{kit}/bin/rattle", "build", *words)
 
 
-def with_libraries(uses):
-    """Builds each library below it, and then itself."""
-    names = [*below(NAME, uses), NAME]
+def libraries(uses):
+    """Builds each library below it. What was said of the last one, and whether all are there."""
+    names = below(NAME, uses)
     jobs = ["--jobs", os.environ["RT_JOBS"]] if os.environ.get("RT_JOBS") else []
+    said = ""
     for count, name in enumerate(names, 1):
-        print(f"c_library: {count} of {len(names)}: {name} ..", end="", file=sys.stderr, flush=True)
+        print(f"c_library: {count} of {len(names)} libraries: {name} ..", end="", file=sys.stderr, flush=True)
         began = time.monotonic()
-        said, is_built = run(f"{TOP}/crates/{name}", "rt", "lib", *jobs, *(["--cpu", CPU] if name == NAME else []))
+        said, is_built = run(f"{TOP}/crates/{name}", "rt", "lib", *jobs)
         print(f" {'proved' if is_built else 'failed'}, {time.monotonic() - began:.0f} seconds", file=sys.stderr)
         if not is_built:
             return said, False
@@ -119,24 +114,27 @@ def with_libraries(uses):
 
 def build(kit, uses, names):
     """Proves and builds the library, with those below it where they are not there."""
-    is_built = False
-    if all(is_current(rlib(it), [*below(it, uses), it]) for it in names[:-1]):
-        said, is_built = over_libraries(kit, uses, ARCHIVE, f"{kit}/toolchain")
-    if not is_built:
-        said, is_built = with_libraries(uses)
-    lines = re.findall(r"(?m)^logic=proved .*$", said)
-    if not is_built or not lines:
-        print(said, end="", file=sys.stderr)
-        stop("not proved, or not built")
+    is_there = all(is_current(rlib(it), [*below(it, uses), it]) for it in names[:-1])
+    said, is_built = ("", True) if is_there else libraries(uses)
+    # (`rt` refuses a crate's folder that has links)
+    with tempfile.TemporaryDirectory() as room:
+        if is_built:
+            keeping(f"{kit}/toolchain", f"{room}/toolchain")
+            said, is_built = over_libraries(kit, uses, ARCHIVE, f"{room}/toolchain")
+        lines = re.findall(r"(?m)^logic=proved .*$", said)
+        if not is_built or not lines:
+            print(said, end="", file=sys.stderr)
+            stop("not proved, or not built")
+        with open(ASSEMBLY, "w", encoding="utf-8") as it:
+            it.write(assembly(f"{kit}/toolchain", f"{room}/toolchain"))
     with open(VERDICT, "w", encoding="utf-8") as it:
         it.write(f"{lines[-1]}\n")
 
 
 def watch(kit, uses):
-    """Builds it once more, with counters."""
-    # (`rt` refuses a crate's folder that has links)
+    """Builds it once more, with a counter at each branch."""
     with tempfile.TemporaryDirectory() as room:
-        watching(f"{kit}/toolchain", f"{room}/toolchain")
+        keeping(f"{kit}/toolchain", f"{room}/toolchain", "-fsanitize-coverage=inline-8bit-counters,pc-table")
         said, is_built = over_libraries(kit, uses, WATCHED, f"{room}/toolchain")
     if not is_built:
         print(said, end="", file=sys.stderr)
@@ -144,20 +142,23 @@ def watch(kit, uses):
 
 
 def main(words):
-    if words not in ([], ["--watched"]):
-        print("usage: c_library.py [--watched]", file=sys.stderr)
+    if words not in ([], ["--current"], ["--watched"]):
+        print("usage: c_library.py [--current | --watched]", file=sys.stderr)
         sys.exit(3)
-    if not shutil.which("rt"):
-        stop("the command rt of the Rattle kit is not on PATH")
     uses = used()
     names = [*below(NAME, uses), NAME]
+    are_there = all(is_current(it, names) for it in (ARCHIVE, VERDICT, ASSEMBLY))
+    if words == ["--current"]:
+        sys.exit(0 if are_there else 1)
+    if not shutil.which("rt"):
+        stop("the command rt of the Rattle kit is not on PATH")
     kit = os.path.dirname(run(TOP, "rt", "doc")[0].strip())
     began = time.time()
     made = []
-    if not (is_current(ARCHIVE, names) and is_current(VERDICT, names)):
+    if not are_there:
         build(kit, uses, names)
-        made += [ARCHIVE, VERDICT]
-    if words and not is_current(WATCHED, names):
+        made += [ARCHIVE, VERDICT, ASSEMBLY]
+    if words == ["--watched"] and not is_current(WATCHED, names):
         watch(kit, uses)
         made.append(WATCHED)
     # (what is changed while it is built is newer)
@@ -165,4 +166,5 @@ def main(words):
         os.utime(it, (began, began))
 
 
-main(sys.argv[1:])
+if __name__ == "__main__":
+    main(sys.argv[1:])

@@ -1,0 +1,179 @@
+#!/usr/bin/env python3
+# SPDX-License-Identifier: Apache-2.0
+"""Writes generated/: the proved library and programs as assembly, so that they are built without the kit.
+
+  scripts/generate.py                 writes all of it: generated/MACHINE-linux/ of x86_64 and aarch64
+  scripts/generate.py NAME..          writes these alone: x86_64/covretin, x86_64/vhost-run, x86_64/vhost-daemon, aarch64/covretin
+  scripts/generate.py --compare       writes nothing, and compares what is there with what is proved now, instruction by instruction
+  scripts/generate.py --current NAME  status 0 where that one was made of the sources as they are, else 1; it needs no kit
+
+In a machine's folder NAME.s is the code; NAME.verdict the line in which the checker says what is proved; and NAME.sources the sum of the
+sources that it was made of, and the kit that proved it. What is made depends on nothing else, and names no place.
+
+The libraries below have to be there, as ./test leaves them. For x86_64 the library is what scripts/c_library.py builds, which proves it
+where a source is newer. Each of the others is a proof of its last crate: a minute or two of one processor, and five for aarch64.
+
+Status 0; 1 where something differs or is not current; 2 after wrong arguments; 3 where something is missing, or was not proved.
+"""
+import hashlib
+import os
+import re
+import shutil
+import subprocess
+import sys
+import tempfile
+
+from assembly import assembly, keeping
+from build import TOP, crates_below, dependencies, kit
+
+# The crate of each, with the kind, target and processor of its code: it runs on every processor of the family.
+X86_64 = ("x86_64-unknown-linux-gnu", "x86-64")
+AARCH64 = ("aarch64-unknown-linux-gnu", "generic")
+MADE = {
+    "x86_64/covretin": ("vhost_c", X86_64),
+    "x86_64/vhost-run": ("vhost_run", X86_64),
+    "x86_64/vhost-daemon": ("vhost_daemon", X86_64),
+    "aarch64/covretin": ("vhost_c", AARCH64),
+}
+
+LIBRARY = f"{TOP}/crates/vhost_c/out/libvhost_c"
+
+
+def stop(why):
+    print(f"generate: {why}", file=sys.stderr)
+    sys.exit(3)
+
+
+def place(name):
+    """Where it lies, without the end of a file's name."""
+    machine, _, file = name.partition("/")
+    return f"{TOP}/generated/{machine}-linux/{file}"
+
+
+def text_of(path):
+    with open(path, encoding="utf-8") as it:
+        return it.read()
+
+
+def sum_of(crate):
+    """The sum of all sources that a crate is made of, and of which libraries each uses."""
+    found = hashlib.sha256()
+    for name in crates_below(crate):
+        found.update(f"{name}: {' '.join(dependencies()[name])}\n".encode())
+        for part in ("src", "specs", "proofs"):
+            for at, folders, files in os.walk(f"{TOP}/crates/{name}/{part}"):
+                folders.sort()
+                for file in sorted(files):
+                    with open(f"{at}/{file}", "rb") as it:
+                        inside = hashlib.sha256(it.read()).hexdigest()
+                    found.update(f"{os.path.relpath(f'{at}/{file}', TOP)} {inside}\n".encode())
+    return found.hexdigest()
+
+
+def is_current(name):
+    """Whether it was made of the sources as they are."""
+    path = f"{place(name)}.sources"
+    return os.path.isfile(path) and text_of(path).startswith(f"{sum_of(MADE[name][0])} ")
+
+
+def rlib(crate):
+    return f"{TOP}/crates/{crate}/out/rlib/{crate}.rlib"
+
+
+def words_of(crate, kit_folder, of, toolchain, made):
+    """The checker's words that prove and build the crate, over the libraries that are there."""
+    uses, (target, cpu) = dependencies(), of
+    lacking = [it for it in crates_below(crate)[:-1] if not os.path.isdir(rlib(it))]
+    if lacking:
+        stop(f"{lacking[0]} is not built: ./test builds it")
+    root = "src/main.rt" if os.path.isfile(f"{TOP}/crates/{crate}/src/main.rt") else "src/lib.rt"
+    words = ["--crate-name", crate, root, *(["--crate-type", "staticlib"] if root == "src/lib.rt" else [])]
+    words += ["--target", target, "--cpu", cpu, "--links", f"{crate}=", "--backend", "llvm"]
+    for it in ["std", *uses[crate]]:
+        words += ["--extern", f"{it}={rlib(it) if it in uses else f'{kit_folder}/rlibs/{it}.rlib'}"]
+    for it in [f"{kit_folder}/rlibs", *(os.path.dirname(rlib(it)) for it in crates_below(crate)[:-1])]:
+        words += ["-L", f"dependency={it}"]
+    words += ["--antt-project", f"{kit_folder}/rattle/logic/antt-project.json", "--logic-built", f"{kit_folder}/logic_built"]
+    return [*words, "--toolchain", toolchain, "--jobs", os.environ.get("RT_JOBS", "1"), "-o", made]
+
+
+def prove(name, room):
+    """Proves and builds one: the object or archive, the same as assembly, and the checker's line."""
+    crate, of = MADE[name]
+    kit_folder, folder, made = kit(), f"{room}/toolchain", f"{room}/made.a"
+    keeping(f"{kit_folder}/toolchain", folder)
+    words = [f"{kit_folder}/bin/rattle", "build", *words_of(crate, kit_folder, of, folder, made)]
+    how = {"stdin": subprocess.DEVNULL, "stdout": subprocess.PIPE, "stderr": subprocess.STDOUT}
+    ran = subprocess.run(words, cwd=f"{TOP}/crates/{crate}", text=True, errors="replace", check=False, **how)
+    lines = re.findall(r"(?m)^logic=proved .*$", ran.stdout)
+    if ran.returncode or not lines:
+        print(ran.stdout, end="", file=sys.stderr)
+        stop(f"{name} was not proved, or not built")
+    return made, assembly(f"{kit_folder}/toolchain", folder), f"{lines[-1]}\n"
+
+
+def proved(name, room):
+    """The same, where the library of x86_64 is what programs in C are tested over."""
+    if MADE[name] != ("vhost_c", X86_64):
+        return prove(name, room)
+    if subprocess.run([sys.executable, f"{TOP}/scripts/c_library.py"], check=False).returncode:
+        stop("the library was not built")
+    # (over what checks kept the checker's line says that this was trusted)
+    if "incremental=trusted" in text_of(f"{LIBRARY}.verdict"):
+        return prove(name, room)
+    return f"{LIBRARY}.a", text_of(f"{LIBRARY}.s"), text_of(f"{LIBRARY}.verdict")
+
+
+def write(name):
+    with tempfile.TemporaryDirectory() as room:
+        _, code, verdict = proved(name, room)
+    os.makedirs(os.path.dirname(place(name)), exist_ok=True)
+    identity = subprocess.run(["rt", "version"], check=True, stdout=subprocess.PIPE, text=True).stdout.strip()
+    for end, text in (("s", code), ("verdict", verdict), ("sources", f"{sum_of(MADE[name][0])} {identity}\n")):
+        with open(f"{place(name)}.{end}", "w", encoding="utf-8") as it:
+            it.write(text)
+
+
+def tools(name):
+    """The tools that read code of its machine, as same_code.py takes them; None where they are not there."""
+    if name.startswith("x86_64/"):
+        return {}
+    found = {"CC": "aarch64-linux-gnu-gcc", "OBJDUMP": "aarch64-linux-gnu-objdump", "AR": "ar"}
+    return found if all(map(shutil.which, found.values())) else None
+
+
+def compare(name):
+    """Whether one is the code that is proved now. It says so in a line."""
+    if not is_current(name):
+        print(f"generated_{name}: FAILED: it was made of other sources: scripts/generate.py {name}")
+        return False
+    with_tools = tools(name)
+    if with_tools is None:
+        print(f"generated_{name}: left out: aarch64-linux-gnu-gcc is not on PATH")
+        return True
+    with tempfile.TemporaryDirectory() as room:
+        made, _, verdict = proved(name, room)
+        words = [sys.executable, f"{TOP}/scripts/same_code.py", made, f"{place(name)}.s"]
+        ran = subprocess.run(words, env={**os.environ, **with_tools}, stdout=subprocess.PIPE, text=True, check=False)
+    is_same = ran.returncode == 0 and verdict == text_of(f"{place(name)}.verdict")
+    print(f"{ran.stdout}generated_{name}: {'ok' if is_same else 'FAILED'}")
+    return is_same
+
+
+def main(words):
+    if words[:1] == ["--current"] and len(words) == 2 and words[1] in MADE:
+        return 0 if is_current(words[1]) else 1
+    if words == ["--compare"]:
+        held = [compare(it) for it in MADE]
+        print(f"{held.count(True)} passed, {held.count(False)} failed")
+        return 0 if all(held) else 1
+    if any(it not in MADE for it in words):
+        print(__doc__, end="", file=sys.stderr)
+        return 2
+    for it in words or MADE:
+        write(it)
+    return 0
+
+
+if __name__ == "__main__":
+    sys.exit(main(sys.argv[1:]))
