@@ -1,5 +1,6 @@
 # SPDX-License-Identifier: Apache-2.0
-# Which fuzzers there are, and how one is compiled: what ./test-c and ./vhost-fuzz share. They set `top`, `archive` and `kit`.
+# Which fuzzers there are, and how one is compiled: what ./test-c and ./vhost-fuzz share. They set `top`, and `proved`, the parts of the proved
+# library.
 
 # The sessions that have one: both sides', both joined; both ends' of the backend channel, both joined; and the device's on the
 # vhost-user-gpu channel.
@@ -26,5 +27,5 @@ compile_fuzzer() {
     compiler=$3
     shift 3
     "$compiler" -std=gnu11 -g -O1 -Wall -Wextra -pedantic -Werror -fno-sanitize-recover=all -I"$top/include" -o "$to" "$@" \
-        -Wl,--wrap=malloc,--wrap=calloc,--wrap=realloc $(fuzzer_sources "$session") "$archive" "$kit/c/liblibc_c.a"
+        -Wl,--wrap=malloc,--wrap=calloc,--wrap=realloc $(fuzzer_sources "$session") $proved
 }
