@@ -5,6 +5,8 @@ mod backend_session;
 mod channel;
 mod display;
 mod moving;
+#[cfg(covretin_assembly)]
+mod proved;
 mod session;
 mod signals;
 mod socket;

@@ -1,0 +1,54 @@
+// SPDX-License-Identifier: Apache-2.0
+//! The proved library itself, as assembly that the compiler takes in, and the memory that it asks for. Its labels begin with the
+//! library's name, so that nothing of the same module has them.
+
+#[cfg(target_arch = "x86_64")]
+std::arch::global_asm!(include_str!("../../generated/x86_64-linux/covretin.s"), options(att_syntax, raw));
+
+#[cfg(target_arch = "aarch64")]
+std::arch::global_asm!(include_str!("../../generated/aarch64-linux/covretin.s"), options(raw));
+
+/// Whether memory was had, and where it is: never at 0, which the proved part takes for no address.
+#[repr(C)]
+struct Room {
+    is_there: u64,
+    at: *mut libc::c_void,
+}
+
+static NOWHERE: u8 = 0;
+
+fn room_at(at: *mut libc::c_void) -> Room {
+    if at.is_null() {
+        Room { is_there: 0, at: &NOWHERE as *const u8 as *mut libc::c_void }
+    } else {
+        Room { is_there: 1, at }
+    }
+}
+
+/// How many bytes to ask for: room for nothing has an address of its own, too.
+fn at_least(size: usize, alignment: usize) -> usize {
+    if size == 0 {
+        alignment
+    } else {
+        size
+    }
+}
+
+// The proved part gives back what it was given, once, and asks for no alignment that malloc does not give.
+#[no_mangle]
+extern "C" fn rattle_alloc(size: usize, alignment: usize) -> Room {
+    // Safety: malloc may be called with any size.
+    room_at(unsafe { libc::malloc(at_least(size, alignment)) })
+}
+
+#[no_mangle]
+unsafe extern "C" fn rattle_realloc(at: *mut libc::c_void, _old_size: usize, size: usize, alignment: usize) -> Room {
+    // Safety: it was had of the two above, and was not given back.
+    room_at(unsafe { libc::realloc(at, at_least(size, alignment)) })
+}
+
+#[no_mangle]
+unsafe extern "C" fn rattle_dealloc(at: *mut libc::c_void) {
+    // Safety: as above.
+    unsafe { libc::free(at) };
+}
