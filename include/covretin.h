@@ -42,7 +42,7 @@ extern "C" {
 #endif
 
 /* The version of this header. covretin_version() returns that of the library. */
-#define COVRETIN_VERSION "0.1.0"
+#define COVRETIN_VERSION "0.2.0"
 
 /* The greatest number of descriptors that come with a message. */
 #define COVRETIN_MAX_FDS 32

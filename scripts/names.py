@@ -36,7 +36,8 @@ def names_of(files):
     found = set()
     for file in files:
         found.update(re.findall(r"\w+", file))
-        if not file.endswith(".md") and os.path.isfile(f"{TOP}/{file}"):
+        # (what is generated has no names of its own)
+        if not file.endswith(".md") and not file.startswith("generated/") and os.path.isfile(f"{TOP}/{file}"):
             with open(f"{TOP}/{file}", encoding="utf-8", errors="replace") as text:
                 found.update(re.findall(r"\w+", text.read()))
     return found
@@ -78,13 +79,14 @@ def missing_of(page, text, names, files):
 
 
 def versions():
-    """The versions of the header, of the package for Rust and of the daemon, where they differ from that of the repository."""
+    """The versions of the header, of the packages for Rust and Debian and of the daemon, where they differ from that of the repository."""
     with open(f"{TOP}/VERSION", encoding="ascii") as file:
         version = file.read().strip()
     for path, pattern in (
         ("include/covretin.h", r'COVRETIN_VERSION\s+"([^"]*)"'),
         ("rust/Cargo.toml", r'(?m)^version = "([^"]*)"'),
         ("crates/vhost_daemon/src/main.rt", r'"vhost-daemon ([0-9.]+)"'),
+        ("debian/changelog", r"\Acovretin \(([0-9.]+)\)"),
     ):
         with open(f"{TOP}/{path}", encoding="utf-8") as file:
             found = re.search(pattern, file.read())

@@ -3,11 +3,12 @@
 # `package`, the crate's name, and `minutes`, what a proof takes; and may define `before_compiling` anew, which is given the arguments and
 # ends where they want no program.
 #
-# The proved program lies in out/ of its crate once --prove has made it. Where it is not there, or a source is newer, the
-# program is compiled without proof, kept beside it, and run.
+# The proved program lies in out/ of its crate once --prove has made it. Where it is not there, or a source is newer, it is assembled of
+# generated/, if that was made of these sources, which takes cc alone. Else the program is compiled without proof. What is made is kept.
 . "$top/scripts/options.sh"
 
 proved=$top/crates/$package/out/$package
+assembled=$top/crates/$package/out/assembled/$package
 unproved=$top/crates/$package/out/unproved/$package
 
 before_compiling() {
@@ -21,6 +22,15 @@ build() {
 # Whether a program is there, and none of these folders of its crates has a newer file.
 is_current() {
     build current "$package" "$@"
+}
+
+# Assembles the proved program that generated/ has, where that was made of these sources, for this machine.
+assemble() {
+    is_current "$assembled" src specs proofs && return
+    [ "$(uname -m)" = x86_64 ] && command -v cc >/dev/null && "$top/scripts/generate.py" --current "x86_64/$program" || return
+    mkdir -p "$(dirname "$assembled")" &&
+        cc -O2 -pthread -o "$assembled.$$" "$top/generated/x86_64-linux/$program.s" "$top/c/covretin_program.c" "$top/c/covretin_memory.c" &&
+        mv "$assembled.$$" "$assembled"
 }
 
 # Compiles the program without proof, where none is kept or a source is newer.
@@ -68,6 +78,7 @@ prove() {
 # Runs the proved program, or, where there is none of these sources, the one without proof.
 run() {
     is_current "$proved" src specs proofs && exec "$proved" "$@"
+    assemble && exec "$assembled" "$@"
     compile "$@"
     exec "$unproved" "$@"
 }

@@ -16,7 +16,7 @@ use vhost_backend_req_handler::Open;
 use vhost_serve::{ClaimError, Options, SocketPath, serve_path};
 
 /// What `--version` says.
-const VERSION: &str = "vhost-daemon 0.1.0";
+const VERSION: &str = "vhost-daemon 0.2.0";
 
 /// What `--print-capabilities` says: the type of device, which has no features that are named.
 const CAPABILITIES: &str = "{\n  \"type\": \"net\"\n}";
