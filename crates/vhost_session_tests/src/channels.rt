@@ -1,6 +1,6 @@
 //! The channels of a device.
 
-mod asks;
-mod display_asks;
-mod joined;
-mod serves;
+pub(crate) mod asks;
+pub(crate) mod display_asks;
+pub(crate) mod joined;
+pub(crate) mod serves;

@@ -1,11 +1,11 @@
 //! What a handler answers where its link fails, or its stream has no message.
 
+use crate::example::Example;
 use std::alloc::Global;
 use vhost_backend_req_handler::SessionCore;
-use vhost_device::VhostUserBackendReqHandlerMut;
 use vhost_link::{Cut, MemLink};
 use vhost_message::{Error, IoCause, Result as Answer};
-use vhost_promises::{Device, finds_none, meets_fault, serves_no_broken, stays_broken};
+use vhost_promises::{finds_none, meets_fault, serves_no_broken, stays_broken};
 
 /// GET_FEATURES.
 static GET: [u8; 12] = [1, 0, 0, 0, 1, 0, 0, 0, 0, 0, 0, 0];
@@ -23,7 +23,7 @@ fn is_broken(answer: &Answer<()>) -> bool {
 }
 
 /// Whether a request that the link's error 5 stops is answered so, and those behind it that the endpoint is poisoned.
-fn stopped<D: VhostUserBackendReqHandlerMut<Link = MemLink>>(
+fn stopped<D: Example>(
     alloc: Global,
     core: &mut SessionCore<MemLink>,
     device: &mut D,
@@ -38,24 +38,20 @@ fn stopped<D: VhostUserBackendReqHandlerMut<Link = MemLink>>(
 }
 
 /// Whether a stream that ends inside a header is answered so.
-fn none_found<D: VhostUserBackendReqHandlerMut<Link = MemLink>>(
-    core: &mut SessionCore<MemLink>,
-    device: &mut D,
-) -> bool {
+fn none_found<D: Example>(core: &mut SessionCore<MemLink>, device: &mut D) -> bool {
     matches!(finds_none(core, device), Err(Error::PartialMessage))
 }
 
-/// Both over the example device.
-fn torn_and_short(alloc: Global) -> Option<([bool; 3], bool)> {
+/// Whether both are so, over one device.
+fn torn_and_short<D: Example>(alloc: Global) -> Option<([bool; 3], bool)> {
     let cuts = vec![in alloc; Cut::Give(5), Cut::Fault(5)].ok()?;
     let mut torn = new_core(alloc, &GET, cuts)?;
     let mut short = new_core(alloc, &GET[..5], Vec::new(alloc))?;
-    let mut device = Device::new(alloc, Vec::new(alloc));
+    let mut device = D::fresh(alloc);
     let stopped = stopped(alloc, &mut torn, &mut device)?;
     Some((stopped, none_found(&mut short, &mut device)))
 }
 
-#[test]
-fn torn_and_ended(rt: HostRuntime) {
-    assert!(rt; torn_and_short(rt.alloc()) == Some(([true; 3], true)));
+pub(crate) fn hold<D: Example>(alloc: Global) -> bool {
+    torn_and_short::<D>(alloc) == Some(([true; 3], true))
 }

@@ -23,11 +23,6 @@ fn read_in_pieces(alloc: Global) -> Option<u64> {
     answer.ok()
 }
 
-#[test]
-fn reads_the_features(rt: HostRuntime) {
-    assert!(rt; read_in_pieces(rt.alloc()) == Some(0x4000_0003));
-}
-
 /// Which number of the system a call failed with, and whether it was the link's error or that the endpoint is poisoned.
 fn failure(answer: FrontendAnswer) -> Option<(i32, bool)> {
     match answer {
@@ -49,11 +44,6 @@ fn sizes_twice(alloc: Global, cuts: Vec<Cut>) -> Option<[Option<(i32, bool)>; 2]
 fn torn(alloc: Global) -> Option<[Option<(i32, bool)>; 2]> {
     let cuts = vec![in alloc; Cut::Give(5), Cut::Fault(5)].ok()?;
     sizes_twice(alloc, cuts)
-}
-
-#[test]
-fn meets_faults(rt: HostRuntime) {
-    assert!(rt; torn(rt.alloc()) == Some([Some((5, false)), Some((5, true))]));
 }
 
 /// Whether a call that the link's error 5 stops is answered so, and two after it that the endpoint is poisoned.
@@ -79,11 +69,6 @@ fn asked_where_it_tears(alloc: Global) -> Option<[bool; 2]> {
     asked_broken(alloc, cuts)
 }
 
-#[test]
-fn asks_over_a_broken_endpoint(rt: HostRuntime) {
-    assert!(rt; asked_where_it_tears(rt.alloc()) == Some([true; 2]));
-}
-
 /// A link on which so many replies came.
 fn replied(alloc: Global, count: usize) -> Option<MemLink> {
     let mut link = MemLink::new(alloc, Vec::new(alloc));
@@ -98,11 +83,6 @@ fn answers_one(rt: &impl Wait, alloc: Global) -> Option<[bool; 2]> {
     let frontend = Frontend::from_stream(alloc, replied(alloc, 1)?, 1, 0).ok()?;
     let first = matches!(own_features(&frontend, rt), Ok(0x4000_0001));
     Some([first, own_features(&frontend, rt).is_err()])
-}
-
-#[test]
-fn answers_its_own_caller(rt: HostRuntime) {
-    assert!(rt; answers_one(&rt, rt.alloc()) == Some([true; 2]));
 }
 
 /// What two calls of a shared frontend, one after another, are answered over this link.
@@ -126,14 +106,6 @@ fn asked_where_sound(rt: &impl Wait, alloc: Global) -> Option<[Option<u64>; 2]> 
     asked_twice(rt, alloc, replied(alloc, 2)?)
 }
 
-/// The second call finds a session that is sound, unless the link has failed.
-#[test]
-fn finds_a_sound_session(rt: HostRuntime) {
-    let features = Some(0x4000_0001);
-    assert!(rt; asked_where_sound(&rt, rt.alloc()) == Some([features, features]));
-    assert!(rt; asked_where_torn(&rt, rt.alloc()) == Some([None, None]));
-}
-
 /// Whether a new session sends a call by value that makes no room for its answer.
 fn sends_without_memory(alloc: Global) -> Option<bool> {
     let link = MemLink::new(alloc, Vec::new(alloc));
@@ -142,18 +114,23 @@ fn sends_without_memory(alloc: Global) -> Option<bool> {
     Some(matches!(sent, Ok(Some(_))))
 }
 
-#[test]
-fn asks_by_value(rt: HostRuntime) {
-    assert!(rt; sends_without_memory(rt.alloc()) == Some(true));
-}
-
 /// Whether two calls, one after another, succeed.
 fn asks_two(alloc: Global) -> Option<bool> {
     let mut quiet = Quiet::new(alloc, replied(alloc, 2)?, 1, 0).ok()?;
     Some(asks_again(&mut quiet, 2).is_ok())
 }
 
-#[test]
-fn asks_one_after_another(rt: HostRuntime) {
-    assert!(rt; asks_two(rt.alloc()) == Some(true));
+pub(crate) fn hold(rt: &impl Wait, alloc: Global) -> [bool; 8] {
+    let features = Some(0x4000_0001);
+    [
+        read_in_pieces(alloc) == Some(0x4000_0003),
+        torn(alloc) == Some([Some((5, false)), Some((5, true))]),
+        asked_where_it_tears(alloc) == Some([true; 2]),
+        answers_one(rt, alloc) == Some([true; 2]),
+        // The second call finds a session that is sound, unless the link has failed.
+        asked_where_sound(rt, alloc) == Some([features, features]),
+        asked_where_torn(rt, alloc) == Some([None, None]),
+        sends_without_memory(alloc) == Some(true),
+        asks_two(alloc) == Some(true),
+    ]
 }

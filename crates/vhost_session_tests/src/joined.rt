@@ -1,13 +1,13 @@
 //! Both sides joined, for whole lists of calls.
 
+use crate::example::Example;
 use bitflags::Flags;
 use std::alloc::Global;
-use vhost_device::VhostUserBackendReqHandlerMut;
 use vhost_link::{Cut, MemLink};
 use vhost_message::{Error, VhostUserHeaderFlag, VhostUserProtocolFeatures};
 use vhost_pair::{Halt, Joined, Stop};
 use vhost_promises::{
-    Device, claims_twice, refuses_whatever_was, runs_in_lockstep, shows_no_reply, stays_in_step,
+    claims_twice, refuses_whatever_was, runs_in_lockstep, shows_no_reply, stays_in_step,
 };
 use vhost_recorder::{FrontendAnswer, FrontendCall};
 
@@ -42,7 +42,7 @@ fn are_told(answers: &[FrontendAnswer]) -> bool {
 }
 
 /// Whether the last claim was acknowledged as failed, and both sides are in step.
-fn are_in_step<D: VhostUserBackendReqHandlerMut<Link = MemLink>>(joined: &Joined<D>) -> [bool; 3] {
+fn are_in_step<D: Example>(joined: &Joined<D>) -> [bool; 3] {
     [
         joined.last_request().0 == OWN.as_slice(),
         joined.last_reply().0 == FAILED.as_slice(),
@@ -51,19 +51,14 @@ fn are_in_step<D: VhostUserBackendReqHandlerMut<Link = MemLink>>(joined: &Joined
 }
 
 /// Whether a ring that is not there is refused, and nothing is written.
-fn no_ring<D: VhostUserBackendReqHandlerMut<Link = MemLink>>(
-    joined: &mut Joined<D>,
-) -> Option<[bool; 2]> {
+fn no_ring<D: Example>(joined: &mut Joined<D>) -> Option<[bool; 2]> {
     let answer = refuses_whatever_was(joined, &FrontendCall::SetVringNum(2, 1)).ok()?;
     let is_refused = matches!(answer, FrontendAnswer::Failed(Error::InvalidParam));
     Some([is_refused, joined.last_request().0.is_empty()])
 }
 
 /// Whether a claim without an acknowledgement seems to succeed, and nothing is done after it.
-fn silent_claim<D: VhostUserBackendReqHandlerMut<Link = MemLink>>(
-    alloc: Global,
-    joined: &mut Joined<D>,
-) -> [bool; 3] {
+fn silent_claim<D: Example>(alloc: Global, joined: &mut Joined<D>) -> [bool; 3] {
     let calls = [
         FrontendCall::SetHdrFlags(VhostUserHeaderFlag::empty()),
         FrontendCall::SetOwner,
@@ -89,13 +84,18 @@ struct Seen {
     silent: [bool; 3],
 }
 
-fn seen_over<D: VhostUserBackendReqHandlerMut<Link = MemLink>>(
-    alloc: Global,
-    device: D,
-) -> Option<Seen> {
+fn seen_over<D: Example>(alloc: Global) -> Option<Seen> {
     let scripts = (Vec::new(alloc), Vec::new(alloc));
     let mut answers = Vec::new(alloc);
-    let ran = runs_in_lockstep(alloc, device, 2, 3, scripts, &twice_claimed(), &mut answers);
+    let ran = runs_in_lockstep(
+        alloc,
+        D::fresh(alloc),
+        2,
+        3,
+        scripts,
+        &twice_claimed(),
+        &mut answers,
+    );
     let (mut joined, ended) = ran.ok()?;
     Some(Seen {
         told: ended.is_ok() && are_told(&answers),
@@ -105,44 +105,19 @@ fn seen_over<D: VhostUserBackendReqHandlerMut<Link = MemLink>>(
     })
 }
 
-/// The same over the example device.
-fn over_example(alloc: Global) -> Option<Seen> {
-    seen_over(alloc, Device::new(alloc, Vec::new(alloc)))
-}
-
-#[test]
-fn runs_of_calls(rt: HostRuntime) {
-    let all = Seen {
-        told: true,
-        in_step: [true; 3],
-        no_ring: [true; 2],
-        silent: [true; 3],
-    };
-    assert!(rt; over_example(rt.alloc()) == Some(all));
-}
-
 /// Whether no reply is shown where the handler's link goes by this script.
-fn is_silent<D: VhostUserBackendReqHandlerMut<Link = MemLink>>(
-    alloc: Global,
-    device: D,
-    script: Vec<Cut>,
-) -> Option<bool> {
+fn is_silent<D: Example>(alloc: Global, script: Vec<Cut>) -> Option<bool> {
     let scripts = (Vec::new(alloc), script);
-    let mut joined = Joined::new(alloc, device, 2, 3, scripts).ok()?;
+    let mut joined = Joined::new(alloc, D::fresh(alloc), 2, 3, scripts).ok()?;
     let answer = shows_no_reply(&mut joined, &FrontendCall::GetFeatures).ok()?;
     let is_failure = matches!(answer, FrontendAnswer::Failed(_));
     Some(is_failure && joined.last_reply().0.is_empty())
 }
 
 /// The same of a link that fails at once.
-fn silent_at_once(alloc: Global) -> Option<bool> {
+fn silent_at_once<D: Example>(alloc: Global) -> Option<bool> {
     let script = vec![in alloc; Cut::Fault(5)].ok()?;
-    is_silent(alloc, Device::new(alloc, Vec::new(alloc)), script)
-}
-
-#[test]
-fn no_reply_is_shown(rt: HostRuntime) {
-    assert!(rt; silent_at_once(rt.alloc()) == Some(true));
+    is_silent::<D>(alloc, script)
 }
 
 /// How many calls were answered, and whether the run stopped by the table.
@@ -152,7 +127,16 @@ fn claimed(alloc: Global) -> Option<(usize, bool)> {
     Some((answers.len(), matches!(joined.stopped(), Some(Stop::Table))))
 }
 
-#[test]
-fn two_claims(rt: HostRuntime) {
-    assert!(rt; claimed(rt.alloc()) == Some((3, true)));
+pub(crate) fn hold<D: Example>(alloc: Global) -> [bool; 3] {
+    let all = Seen {
+        told: true,
+        in_step: [true; 3],
+        no_ring: [true; 2],
+        silent: [true; 3],
+    };
+    [
+        seen_over::<D>(alloc) == Some(all),
+        silent_at_once::<D>(alloc) == Some(true),
+        claimed(alloc) == Some((3, true)),
+    ]
 }

@@ -1,16 +1,18 @@
-//! Tests of whole sessions that no script can say: worked consequences, each run once, lines, recorders, and sessions side by side.
+//! Tests of whole sessions that no script can say: worked consequences, each run once, recorders, and sessions that a gate ends.
 #![tactic(auto)]
 
 #[cfg(test)]
 mod channels;
+#[cfg(test)]
+mod consequences;
+#[cfg(test)]
+mod example;
 #[cfg(test)]
 mod faults;
 #[cfg(test)]
 mod frontend;
 #[cfg(test)]
 mod joined;
-#[cfg(test)]
-mod lines;
 #[cfg(test)]
 mod promises;
 #[cfg(test)]

@@ -1,11 +1,10 @@
 //! Worked consequences, each run once with ample memory.
 
+use crate::example::Example;
 use std::alloc::Global;
 use std::sync::Wait;
 use vhost_backend_req_handler::SessionCore;
 use vhost_connection::Endpoint;
-use vhost_device::VhostUserBackendReqHandlerMut;
-use vhost_dummy_backend::DummyBackendReqHandler;
 use vhost_link::{Kind, MemLink, PlainHandle};
 use vhost_message::{
     Error, FrontendReq, IoError, Result as Answer, VhostUserConfig, VhostUserConfigFlags,
@@ -40,11 +39,6 @@ fn three_served(alloc: Global) -> Option<[bool; 2]> {
     Some([is_right, wrote(&mut core, &FEATURES)])
 }
 
-#[test]
-fn three_requests(rt: HostRuntime) {
-    assert!(rt; three_served(rt.alloc()) == Some([true; 2]));
-}
-
 /// Whether a request that nobody serves is refused under Standard, the next one served, and nothing goes out.
 fn went_on(alloc: Global) -> Option<[bool; 2]> {
     let none = Vec::new(alloc);
@@ -56,24 +50,14 @@ fn went_on(alloc: Global) -> Option<[bool; 2]> {
     Some([is_right, wrote(&mut core, &[])])
 }
 
-#[test]
-fn one_unserved_under_standard(rt: HostRuntime) {
-    assert!(rt; went_on(rt.alloc()) == Some([true; 2]));
-}
-
 /// Whether GET_FEATURES, served in two halves, is answered, and the features go out.
-fn in_halves(alloc: Global) -> Option<[bool; 2]> {
+fn in_halves<D: Example>(alloc: Global) -> Option<[bool; 2]> {
     let mut link = MemLink::new(alloc, Vec::new(alloc));
     link.push(&[1, 0, 0, 0, 1, 0, 0, 0, 0, 0, 0, 0], &[]).ok()?;
     let mut core = SessionCore::new(alloc, link, 40).ok()?;
-    let mut device = DummyBackendReqHandler::new(alloc, Vec::new(alloc));
+    let mut device = D::fresh(alloc);
     let answer = serves_by_halves(&mut core, &mut device);
     Some([answer.is_ok(), wrote(&mut core, &FEATURES)])
-}
-
-#[test]
-fn one_request_in_halves(rt: HostRuntime) {
-    assert!(rt; in_halves(rt.alloc()) == Some([true; 2]));
 }
 
 /// What two lines print.
@@ -84,11 +68,6 @@ const SHOWN: &str =
 fn two_printed(alloc: Global) -> Option<bool> {
     let output = runs_two_lines(alloc).ok()?;
     Some(output.as_slice() == SHOWN.as_bytes())
-}
-
-#[test]
-fn two_lines(rt: HostRuntime) {
-    assert!(rt; two_printed(rt.alloc()) == Some(true));
 }
 
 /// The reply to SHARED_OBJECT_ADD that refuses: -38.
@@ -116,26 +95,14 @@ static AGREE: [u8; 20] = [
 static OPEN: [u8; 12] = [21, 0, 0, 0, 1, 0, 0, 0, 0, 0, 0, 0];
 
 /// What a request for the backend channel is answered, which brings a descriptor of this kind.
-fn opened(alloc: Global, kind: Kind) -> Option<Answer<()>> {
+fn opened<D: Example>(alloc: Global, kind: Kind) -> Option<Answer<()>> {
     let mut link = MemLink::new(alloc, Vec::new(alloc));
     link.push(&AGREE, &[]).ok()?;
     link.push(&OPEN, &[PlainHandle { id: 7, kind }]).ok()?;
     let mut core = SessionCore::new(alloc, link, 3).ok()?;
-    let mut device = DummyBackendReqHandler::new(alloc, Vec::new(alloc));
+    let mut device = D::fresh(alloc);
     opens_its_own(&mut core, &mut device).ok()?;
     Some(opens_its_own(&mut core, &mut device))
-}
-
-#[test]
-fn a_channel_over_its_descriptor(rt: HostRuntime) {
-    let alloc = rt.alloc();
-    assert!(rt; matches!(opened(alloc, Kind::UnixStream), Some(Ok(()))));
-    assert!(rt;
-        matches!(
-            opened(alloc, Kind::NotUnix),
-            Some(Err(Error::NotUnixSocket))
-        )
-    );
 }
 
 /// The number that an answer is.
@@ -147,10 +114,9 @@ fn number_in(answer: &FrontendAnswer) -> Option<u64> {
 }
 
 /// The features that the first call of a joined run is answered, and whether the second is done.
-fn stepped_twice(alloc: Global) -> Option<(u64, bool)> {
-    let device = Device::new(alloc, Vec::new(alloc));
+fn stepped_twice<D: Example>(alloc: Global) -> Option<(u64, bool)> {
     let scripts = (Vec::new(alloc), Vec::new(alloc));
-    let mut joined = Joined::new(alloc, device, 2, 3, scripts).ok()?;
+    let mut joined = Joined::new(alloc, D::fresh(alloc), 2, 3, scripts).ok()?;
     let (first, then) = steps_without_memory(
         &mut joined,
         &FrontendCall::GetFeatures,
@@ -162,16 +128,6 @@ fn stepped_twice(alloc: Global) -> Option<(u64, bool)> {
         number_in(&features)?,
         matches!(second, FrontendAnswer::Done),
     ))
-}
-
-#[test]
-fn two_steps_without_memory(rt: HostRuntime) {
-    assert!(rt; stepped_twice(rt.alloc()) == Some((0x4000_0003, true)));
-}
-
-#[test]
-fn one_object(rt: HostRuntime) {
-    assert!(rt; shared_twice(rt.alloc()) == Some([true; 2]));
 }
 
 /// Two bytes of the configuration space, behind their header and record.
@@ -187,11 +143,6 @@ fn config_sent(alloc: Global) -> Option<[bool; 2]> {
     let part = VhostUserConfig::new(4, 2, VhostUserConfigFlags::WRITABLE);
     let sent = sends_in_one(&mut end, &header, &part, &[7, 8]).is_ok();
     Some([sent, end.link().taken().bytes() == CONFIG.as_slice()])
-}
-
-#[test]
-fn a_message_in_one_call(rt: HostRuntime) {
-    assert!(rt; config_sent(rt.alloc()) == Some([true; 2]));
 }
 
 /// What a reader of a log saw, as plain values.
@@ -219,16 +170,6 @@ fn two_callers_seen<R: Wait>(rt: &R, alloc: Global) -> Option<Seen> {
     Some(seen_of(&log, &first, &second))
 }
 
-#[test]
-fn a_log_of_two_callers(rt: HostRuntime) {
-    let seen = Seen {
-        entries: 2,
-        confirmed: true,
-        features: Some(0x4000_0003),
-    };
-    assert!(rt; two_callers_seen(&rt, rt.alloc()) == Some(seen));
-}
-
 /// What caller 7 saw: the serials of two calls, what the second answered, and whether the receipt of a third is found.
 #[derive(Clone, Copy, Debug, PartialEq, Eq)]
 struct Three {
@@ -238,9 +179,7 @@ struct Three {
 }
 
 /// Caller 7 sets a ring's base, and reads it.
-fn record_three<D: VhostUserBackendReqHandlerMut<Link = MemLink>>(
-    recorded: &mut Recorded<D>,
-) -> Result<Three, Halt> {
+fn record_three<D: Example>(recorded: &mut Recorded<D>) -> Result<Three, Halt> {
     let set = FrontendCall::SetVringBase(0, 9);
     let get = FrontendCall::GetVringBase(0);
     let (one, two) = records_two(recorded, 7, &set, &get)?;
@@ -251,24 +190,13 @@ fn record_three<D: VhostUserBackendReqHandlerMut<Link = MemLink>>(
     })
 }
 
-/// The same over a new example device.
-fn three_recorded(alloc: Global) -> Result<Three, Halt> {
-    let device = Device::new(alloc, Vec::new(alloc));
+/// The same over a new device.
+fn three_recorded<D: Example>(alloc: Global) -> Result<Three, Halt> {
     let scripts = (Vec::new(alloc), Vec::new(alloc));
-    match Recorded::new(alloc, device, 2, 3, scripts) {
+    match Recorded::new(alloc, D::fresh(alloc), 2, 3, scripts) {
         Ok(mut recorded) => record_three(&mut recorded),
         Err(_) => Err(Halt::OutOfMemory),
     }
-}
-
-#[test]
-fn one_caller_records(rt: HostRuntime) {
-    let three = Three {
-        serials: [0, 1],
-        base: Some(9),
-        found: true,
-    };
-    assert!(rt; three_recorded(rt.alloc()) == Ok(three));
 }
 
 /// A number that was written and read, one that was read and written, and what a header names that was.
@@ -279,8 +207,40 @@ fn there_and_back() -> Option<(u64, u64, (FrontendReq, u32, bool, bool))> {
     Some((same_number(5), number, named))
 }
 
-#[test]
-fn records_as_bytes_and_back(rt: HostRuntime) {
+/// Whether those hold that are of a device.
+pub(crate) fn hold_over<D: Example>(alloc: Global) -> [bool; 5] {
+    let three = Three {
+        serials: [0, 1],
+        base: Some(9),
+        found: true,
+    };
+    [
+        in_halves::<D>(alloc) == Some([true; 2]),
+        matches!(opened::<D>(alloc, Kind::UnixStream), Some(Ok(()))),
+        matches!(
+            opened::<D>(alloc, Kind::NotUnix),
+            Some(Err(Error::NotUnixSocket))
+        ),
+        stepped_twice::<D>(alloc) == Some((0x4000_0003, true)),
+        three_recorded::<D>(alloc) == Ok(three),
+    ]
+}
+
+/// Whether the others hold.
+pub(crate) fn hold<R: Wait>(rt: &R, alloc: Global) -> [bool; 7] {
+    let seen = Seen {
+        entries: 2,
+        confirmed: true,
+        features: Some(0x4000_0003),
+    };
     let named = (FrontendReq::SET_OWNER, 4, false, true);
-    assert!(rt; there_and_back() == Some((5, 0x107, named)));
+    [
+        three_served(alloc) == Some([true; 2]),
+        went_on(alloc) == Some([true; 2]),
+        two_printed(alloc) == Some(true),
+        shared_twice(alloc) == Some([true; 2]),
+        config_sent(alloc) == Some([true; 2]),
+        two_callers_seen(rt, alloc) == Some(seen),
+        there_and_back() == Some((5, 0x107, named)),
+    ]
 }

@@ -19,7 +19,6 @@ fn carried<R: Threads + Sync>(rt: &R, alloc: Global) -> Result<(usize, bool), Al
     Ok((accepted, carried.left.is_some()))
 }
 
-#[test]
-fn carries_all(rt: HostRuntime) {
-    assert!(rt; carried(&rt, rt.alloc()) == Ok((1000, true)));
+pub(crate) fn hold<R: Threads + Sync>(rt: &R, alloc: Global) -> bool {
+    carried(rt, alloc) == Ok((1000, true))
 }

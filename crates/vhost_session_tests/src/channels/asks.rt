@@ -40,11 +40,6 @@ fn added(alloc: Global) -> Option<HandlerResult<u64>> {
     Some(adds_object(&mut channel, &name()))
 }
 
-#[test]
-fn one_acknowledged(rt: HostRuntime) {
-    assert!(rt; matches!(added(rt.alloc()), Some(Ok(0))));
-}
-
 /// Whether memory is mapped, with a descriptor, and objects are added, without an answer.
 fn unanswered(alloc: Global) -> Option<[bool; 3]> {
     let link = MemLink::new(alloc, Vec::new(alloc));
@@ -59,11 +54,6 @@ fn unanswered(alloc: Global) -> Option<[bool; 3]> {
         brought,
         adds_again(&mut channel, &name(), 2).is_ok(),
     ])
-}
-
-#[test]
-fn three_unanswered(rt: HostRuntime) {
-    assert!(rt; unanswered(rt.alloc()) == Some([true; 3]));
 }
 
 /// Whether the first of three calls fails by the link's error 5, and the others since the endpoint is poisoned.
@@ -84,7 +74,10 @@ fn is_broken(answer: &HandlerResult<u64>) -> bool {
     )
 }
 
-#[test]
-fn three_over_a_broken_endpoint(rt: HostRuntime) {
-    assert!(rt; broken(rt.alloc()) == Some(true));
+pub(crate) fn hold(alloc: Global) -> [bool; 3] {
+    [
+        matches!(added(alloc), Some(Ok(0))),
+        unanswered(alloc) == Some([true; 3]),
+        broken(alloc) == Some(true),
+    ]
 }

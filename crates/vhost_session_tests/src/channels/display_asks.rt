@@ -24,11 +24,6 @@ fn asked(alloc: Global) -> Option<(u64, bool)> {
     Some((features.value, moves_cursor(&mut channel, &cursor).is_ok()))
 }
 
-#[test]
-fn features_and_a_cursor(rt: HostRuntime) {
-    assert!(rt; asked(rt.alloc()) == Some((3, true)));
-}
-
 /// Whether the first of three calls fails by the link's error 5, and the others since the endpoint is poisoned.
 fn broken(alloc: Global) -> Option<bool> {
     let cuts = vec![in alloc; Cut::Give(5), Cut::Fault(5)].ok()?;
@@ -50,7 +45,6 @@ fn is_broken(answer: &HandlerResult<VhostUserU64>) -> bool {
     )
 }
 
-#[test]
-fn three_over_a_broken_endpoint(rt: HostRuntime) {
-    assert!(rt; broken(rt.alloc()) == Some(true));
+pub(crate) fn hold(alloc: Global) -> [bool; 2] {
+    [asked(alloc) == Some((3, true)), broken(alloc) == Some(true)]
 }

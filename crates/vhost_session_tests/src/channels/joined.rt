@@ -138,12 +138,6 @@ fn ended(last: Result<u64, &'static str>) -> Option<Seen> {
     })
 }
 
-#[test]
-fn no_name(rt: HostRuntime) {
-    assert!(rt; added(rt.alloc(), 0, false, 38) == ended(Ok(0)));
-    assert!(rt; added(rt.alloc(), 0, true, 38) == ended(Err("no reply")));
-}
-
 /// A run whose last call is acknowledged with this number.
 fn acknowledged(last: Result<u64, &'static str>, number: u64) -> Option<Seen> {
     Some(Seen {
@@ -154,12 +148,13 @@ fn acknowledged(last: Result<u64, &'static str>, number: u64) -> Option<Seen> {
     })
 }
 
-#[test]
-fn numbers_of_failures(rt: HostRuntime) {
+pub(crate) fn hold(alloc: Global) -> [bool; 5] {
     let refused = Err("refused");
-    assert!(rt; added(rt.alloc(), 1, true, 38) == acknowledged(refused, 0xffff_ffff_ffff_ffda));
-    assert!(rt;
-        added(rt.alloc(), 1, true, i32::MIN) == acknowledged(refused, 0xffff_ffff_ffff_ffea)
-    );
-    assert!(rt; added(rt.alloc(), 1, true, 0) == acknowledged(Ok(0), 0));
+    [
+        added(alloc, 0, false, 38) == ended(Ok(0)),
+        added(alloc, 0, true, 38) == ended(Err("no reply")),
+        added(alloc, 1, true, 38) == acknowledged(refused, 0xffff_ffff_ffff_ffda),
+        added(alloc, 1, true, i32::MIN) == acknowledged(refused, 0xffff_ffff_ffff_ffea),
+        added(alloc, 1, true, 0) == acknowledged(Ok(0), 0),
+    ]
 }

@@ -75,22 +75,12 @@ fn served_whole(alloc: Global) -> Option<bool> {
     Some(matches!(answers.as_slice(), [Ok(5), Err(Error::Disconnected)]))
 }
 
-#[test]
-fn whole(rt: HostRuntime) {
-    assert!(rt; served_whole(rt.alloc()) == Some(true));
-}
-
 /// Whether a request is answered that the endpoint was poisoned before.
 fn unserved(alloc: Global) -> Option<bool> {
     let mut core = new_core(alloc, &ADD, Vec::new(alloc))?;
     core.endpoint_mut().break_with(IoCause::Raw(5));
     let answer = serves_no_broken_back(&mut core, &mut Five);
     Some(matches!(answer, Err(Error::SocketBroken(IoCause::Raw(5)))))
-}
-
-#[test]
-fn broken(rt: HostRuntime) {
-    assert!(rt; unserved(rt.alloc()) == Some(true));
 }
 
 /// Whether a request that the link's error 5 stops after five bytes is answered so, and one behind it that the endpoint is poisoned.
@@ -113,21 +103,11 @@ fn torn(alloc: Global) -> Option<[bool; 2]> {
     stopped(alloc, cuts)
 }
 
-#[test]
-fn torn_and_broken(rt: HostRuntime) {
-    assert!(rt; torn(rt.alloc()) == Some([true; 2]));
-}
-
 /// Whether a stream that ends inside a header is answered so.
 fn none_found(alloc: Global) -> Option<bool> {
     let mut core = new_core(alloc, &ADD[..5], Vec::new(alloc))?;
     let answer = finds_none_back(&mut core, &mut Five);
     Some(matches!(answer, Err(Error::PartialMessage)))
-}
-
-#[test]
-fn no_message(rt: HostRuntime) {
-    assert!(rt; none_found(rt.alloc()) == Some(true));
 }
 
 /// Whether a request that is served in two halves is answered, and acknowledged. None where a new session has a call before it.
@@ -140,11 +120,6 @@ fn in_halves(alloc: Global) -> Option<[bool; 2]> {
     let answer = answers_by_halves(&mut core, &mut Five);
     let written = core.endpoint_mut().link().taken().bytes() == ADDED.as_slice();
     Some([matches!(answer, Ok(5)), written])
-}
-
-#[test]
-fn one_in_halves(rt: HostRuntime) {
-    assert!(rt; in_halves(rt.alloc()) == Some([true; 2]));
 }
 
 /// Has none of the calls.
@@ -175,7 +150,13 @@ fn shared(alloc: Global) -> std::result::Result<Arc<Nothing, Global>, AllocError
     Arc::new(alloc, Nothing).map_err(|_| AllocError)
 }
 
-#[test]
-fn calls_that_are_not_there(rt: HostRuntime) {
-    assert!(rt; shared_nothing(&rt, rt.alloc()) == Some(38));
+pub(crate) fn hold(rt: &impl Wait, alloc: Global) -> [bool; 6] {
+    [
+        served_whole(alloc) == Some(true),
+        unserved(alloc) == Some(true),
+        torn(alloc) == Some([true; 2]),
+        none_found(alloc) == Some(true),
+        in_halves(alloc) == Some([true; 2]),
+        shared_nothing(rt, alloc) == Some(38),
+    ]
 }

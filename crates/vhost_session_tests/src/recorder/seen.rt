@@ -1,10 +1,10 @@
 //! What four callers see, whatever the schedule, and one whose calls have lists.
 
+use crate::example::Example;
 use crate::recorder::drive::{Crowd, four_callers};
 use std::alloc::{AllocError, Global};
 use std::sync::Wait;
 use std::thread::Threads;
-use vhost_device::VhostUserBackendReqHandlerMut;
 use vhost_dummy_backend::DummyBackendReqHandler;
 use vhost_frontend_core::RegionInfo;
 use vhost_link::{Cut, Kind, MemLink, PlainHandle};
@@ -12,11 +12,7 @@ use vhost_message::{VhostUserMemoryRegion, VhostUserProtocolFeatures, VhostUserS
 use vhost_recorder::{FrontendAnswer, FrontendCall, Halt, Log, Receipt, Recorded, Stop};
 
 /// How many receipts in a row are confirmed, and have this caller, the serials from 0 on, and the features.
-fn confirmed<D: VhostUserBackendReqHandlerMut<Link = MemLink>>(
-    log: &Log<D>,
-    caller: u32,
-    receipts: &[Receipt],
-) -> u64 {
+fn confirmed<D: Example>(log: &Log<D>, caller: u32, receipts: &[Receipt]) -> u64 {
     let mut count = 0;
     for receipt in receipts {
         let is_next = receipt.caller() == caller && receipt.serial() == count;
@@ -39,7 +35,7 @@ struct Seen {
     stopped: Option<Stop>,
 }
 
-fn seen_of<D: VhostUserBackendReqHandlerMut<Link = MemLink>>(crowd: &Crowd<D>) -> Seen {
+fn seen_of<D: Example>(crowd: &Crowd<D>) -> Seen {
     let log = &crowd.log;
     let left = confirmed(log, 1, &crowd.first).saturating_add(confirmed(log, 2, &crowd.second));
     let right = confirmed(log, 3, &crowd.third).saturating_add(confirmed(log, 4, &crowd.fourth));
@@ -69,56 +65,21 @@ fn retries(alloc: Global, count: u32) -> Result<Vec<Cut>, AllocError> {
 }
 
 /// What four callers see who ask a device so often each, over a link with four retries, of which so many are allowed.
-fn four<D: VhostUserBackendReqHandlerMut<Link = MemLink> + Send, R: Threads + Wait + Sync>(
+fn four<D: Example, R: Threads + Wait + Sync>(
     rt: &R,
     alloc: Global,
-    device: D,
     count: u32,
     budget: u32,
 ) -> Result<Seen, Halt> {
     let (Ok(calls), Ok(script)) = (asking(alloc, count), retries(alloc, 4)) else {
         return Err(Halt::OutOfMemory);
     };
-    let crowd = four_callers(rt, alloc, device, &calls, (budget, script))?;
+    let crowd = four_callers(rt, alloc, D::fresh(alloc), &calls, (budget, script))?;
     Ok(seen_of(&crowd))
 }
 
-/// The same over a new example device.
-fn four_over_example<R: Threads + Wait + Sync>(
-    rt: &R,
-    alloc: Global,
-    count: u32,
-    budget: u32,
-) -> Result<Seen, Halt> {
-    let device = DummyBackendReqHandler::new(alloc, Vec::new(alloc));
-    four(rt, alloc, device, count, budget)
-}
-
-#[test]
-fn all_are_recorded(rt: HostRuntime) {
-    let seen = Seen {
-        confirmed: 400,
-        entries: 400,
-        stopped: None,
-    };
-    assert!(rt; four_over_example(&rt, rt.alloc(), 100, 4) == Ok(seen));
-}
-
-#[test]
-fn a_budget_is_that_of_the_recorder(rt: HostRuntime) {
-    let seen = Seen {
-        confirmed: 0,
-        entries: 1,
-        stopped: Some(Stop::Premise),
-    };
-    assert!(rt; four_over_example(&rt, rt.alloc(), 1, 3) == Ok(seen));
-}
-
 /// The serial of a caller's last receipt, whether its own log confirms it, and whether another log does.
-fn last_confirmed<D: VhostUserBackendReqHandlerMut<Link = MemLink>>(
-    own: &Crowd<D>,
-    another: &Crowd<D>,
-) -> Option<(u64, bool, bool)> {
+fn last_confirmed<D: Example>(own: &Crowd<D>, another: &Crowd<D>) -> Option<(u64, bool, bool)> {
     let receipt = own.first.as_slice().last()?;
     Some((
         receipt.serial(),
@@ -128,39 +89,19 @@ fn last_confirmed<D: VhostUserBackendReqHandlerMut<Link = MemLink>>(
 }
 
 /// The same of four callers who make 101 calls each, where those of the other log make one call less.
-fn one_more<D: VhostUserBackendReqHandlerMut<Link = MemLink> + Send, R: Threads + Wait + Sync>(
+fn one_more<D: Example, R: Threads + Wait + Sync>(
     rt: &R,
     alloc: Global,
-    device: D,
-    other: D,
 ) -> Option<(u64, bool, bool)> {
     let calls = asking(alloc, 101).ok()?;
-    let own = four_callers(rt, alloc, device, &calls, (0, Vec::new(alloc))).ok()?;
+    let own = four_callers(rt, alloc, D::fresh(alloc), &calls, (0, Vec::new(alloc))).ok()?;
     let calls = asking(alloc, 100).ok()?;
-    let another = four_callers(rt, alloc, other, &calls, (0, Vec::new(alloc))).ok()?;
+    let another = four_callers(rt, alloc, D::fresh(alloc), &calls, (0, Vec::new(alloc))).ok()?;
     last_confirmed(&own, &another)
 }
 
-/// The same over two new example devices.
-fn one_more_over_example<R: Threads + Wait + Sync>(
-    rt: &R,
-    alloc: Global,
-) -> Option<(u64, bool, bool)> {
-    let device = DummyBackendReqHandler::new(alloc, Vec::new(alloc));
-    let other = DummyBackendReqHandler::new(alloc, Vec::new(alloc));
-    one_more(rt, alloc, device, other)
-}
-
-#[test]
-fn another_log_does_not_confirm(rt: HostRuntime) {
-    assert!(rt; one_more_over_example(&rt, rt.alloc()) == Some((100, true, false)));
-}
-
 /// How many of these calls are recorded, so that the log has their receipts.
-fn kept<D: VhostUserBackendReqHandlerMut<Link = MemLink>>(
-    recorded: &mut Recorded<D>,
-    calls: &[FrontendCall],
-) -> u64 {
+fn kept<D: Example>(recorded: &mut Recorded<D>, calls: &[FrontendCall]) -> u64 {
     let mut count = 0u64;
     for call in calls {
         if let Ok(receipt) = recorded.step(7, call) {
@@ -200,7 +141,27 @@ fn lists_kept(alloc: Global) -> Option<u64> {
     Some(kept(&mut recorded, &calls))
 }
 
-#[test]
-fn calls_with_lists(rt: HostRuntime) {
-    assert!(rt; lists_kept(rt.alloc()) == Some(4));
+/// Whether those hold that are of any device.
+pub(crate) fn hold_over<D: Example, R: Threads + Wait + Sync>(rt: &R, alloc: Global) -> [bool; 3] {
+    let all = Seen {
+        confirmed: 400,
+        entries: 400,
+        stopped: None,
+    };
+    // A retry limit is that of the recorder.
+    let none = Seen {
+        confirmed: 0,
+        entries: 1,
+        stopped: Some(Stop::Premise),
+    };
+    [
+        four::<D, R>(rt, alloc, 100, 4) == Ok(all),
+        four::<D, R>(rt, alloc, 1, 3) == Ok(none),
+        one_more::<D, R>(rt, alloc) == Some((100, true, false)),
+    ]
+}
+
+/// Whether calls with lists are kept.
+pub(crate) fn hold(alloc: Global) -> bool {
+    lists_kept(alloc) == Some(4)
 }
