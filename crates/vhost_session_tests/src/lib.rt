@@ -12,9 +12,13 @@ mod joined;
 #[cfg(test)]
 mod lines;
 #[cfg(test)]
+mod locked;
+#[cfg(test)]
 mod promises;
 #[cfg(test)]
 mod recorder;
+#[cfg(test)]
+mod retries;
 #[cfg(test)]
 mod rings;
 #[cfg(test)]
