@@ -20,7 +20,7 @@ enum Ended {
     Otherwise,
 }
 
-fn ended(error: Option<&Error>) -> Ended {
+fn end_of(error: Option<&Error>) -> Ended {
     match error {
         None => Ended::Done,
         Some(Error::SocketRetry(IoCause::Raw(11))) => Ended::Retried,
@@ -47,7 +47,7 @@ const WANTED: [[Ended; 2]; 3] = [
 
 /// How a handler's answer ended.
 fn ended_serving(answer: &Answer<()>) -> Ended {
-    ended(answer.as_ref().err())
+    end_of(answer.as_ref().err())
 }
 
 /// How two requests are served, over a link with this script.
@@ -83,7 +83,7 @@ fn serves_with_retries(rt: HostRuntime) {
 /// How a frontend's answer ended.
 fn ended_asking(answer: &FrontendAnswer) -> Ended {
     match answer {
-        FrontendAnswer::Failed(error) => ended(Some(error)),
+        FrontendAnswer::Failed(error) => end_of(Some(error)),
         _ => Ended::Done,
     }
 }

@@ -31,7 +31,7 @@ enum Ended {
     Otherwise,
 }
 
-fn ended<T>(outcome: &Outcome<T>) -> Ended {
+fn end_of<T>(outcome: &Outcome<T>) -> Ended {
     match outcome {
         Ok(_) => Ended::Done,
         Err(Error::PartialMessage) => Ended::Partial,
@@ -99,9 +99,9 @@ fn receives(rt: HostRuntime) {
 fn cut_short(alloc: Global) -> Option<[Ended; 3]> {
     let mut room = [0u8; 8];
     Some([
-        ended(&whole_end(alloc, &REPLY[..5])?.recv_header()),
-        ended(&whole_end(alloc, &REPLY[..15])?.recv_body::<VhostUserU64>()),
-        ended(&whole_end(alloc, &REPLY[..15])?.recv_body_into_buf(&mut room)),
+        end_of(&whole_end(alloc, &REPLY[..5])?.recv_header()),
+        end_of(&whole_end(alloc, &REPLY[..15])?.recv_body::<VhostUserU64>()),
+        end_of(&whole_end(alloc, &REPLY[..15])?.recv_body_into_buf(&mut room)),
     ])
 }
 
@@ -113,8 +113,8 @@ fn receives_what_is_cut_short(rt: HostRuntime) {
 /// How two headers are received, one after the other, over a link with this script.
 fn two_headers(alloc: Global, cuts: Vec<Cut>) -> Option<[Ended; 2]> {
     let mut end = new_end(alloc, &REPLY, cuts)?;
-    let first = ended(&end.recv_header());
-    Some([first, ended(&end.recv_header())])
+    let first = end_of(&end.recv_header());
+    Some([first, end_of(&end.recv_header())])
 }
 
 /// As many retries as a message may take; one more, before its first byte, and amid it; and an error amid it.
@@ -149,9 +149,9 @@ fn ahead(alloc: Global) -> Option<[Ended; 3]> {
     link.push(&REPLY[..12], &[]).ok()?;
     link.push(&REPLY[..12], &[]).ok()?;
     let mut end: End = Endpoint::from_stream(alloc, link, 2).ok()?;
-    let first = ended(&end.recv_header());
-    let second = ended(&end.recv_header());
-    Some([first, second, ended(&end.recv_header())])
+    let first = end_of(&end.recv_header());
+    let second = end_of(&end.recv_header());
+    Some([first, second, end_of(&end.recv_header())])
 }
 
 #[test]
@@ -193,11 +193,11 @@ fn sends(rt: HostRuntime) {
 /// How calls that send end: with a descriptor and no byte; over a link that fails amid a header; and over one that failed.
 fn unsent(alloc: Global) -> Option<[Ended; 3]> {
     let header = Header::new(FrontendReq::GET_FEATURES, 0, 0);
-    let refused = ended(&whole_end(alloc, &REPLY)?.send_slice(&[], &[&FILE]));
+    let refused = end_of(&whole_end(alloc, &REPLY)?.send_slice(&[], &[&FILE]));
     let cuts = vec![in alloc; Cut::Give(5), Cut::Fault(5)].ok()?;
     let mut end = new_end(alloc, &REPLY, cuts)?;
-    let torn = ended(&end.send_header(&header, &[]));
-    Some([refused, torn, ended(&end.send_header(&header, &[]))])
+    let torn = end_of(&end.send_header(&header, &[]));
+    Some([refused, torn, end_of(&end.send_header(&header, &[]))])
 }
 
 #[test]
