@@ -2,7 +2,6 @@
 """Plays every script, unit test and program without proof. `./quick-test --help` says more, and `./quick-test` calls it."""
 import os
 import re
-import shutil
 import subprocess
 import sys
 import tempfile
@@ -10,6 +9,7 @@ from concurrent.futures import ThreadPoolExecutor
 from dataclasses import dataclass, field
 
 from build import TOP, compile_unproved, dependencies, is_current, kept_at
+from shared_library import Unmade, place, shared_library
 
 # How many seconds one run of a program may take: without proof it is not optimised.
 LIMIT = 300
@@ -17,17 +17,33 @@ LIMIT = 300
 # How many lines of what went wrong are shown.
 SHOWN = 12
 
+# Where the scripts are, and what their player prints of each.
+SCRIPTS, PRINTED = "tests/scripts", "tests/printed"
+
+# What tries the program of lines where no script can.
+ROWS = "scripts/try_run.py"
+
+# The program that plays lines, and the library that plays all other sessions.
+RUN, LIBRARY = "vhost_run", "the library for C"
+
 
 @dataclass
 class Play:
-    """What one line of the output is about: a script, a program, or a file of unit tests."""
+    """What one line of the output is about: a script, a program, or a file of unit tests. The crate of a script is `scripts`."""
 
     crate: str
     path: str
     words: list = field(default_factory=list)
     wanted: bytes = b""
     tests: bool = False
+    script: bool = False
+    rows: bool = False
+    needs: list = field(default_factory=list)
     broken: str = ""
+
+    def __post_init__(self):
+        """A program or unit tests need what is compiled of their crate."""
+        self.needs = self.needs or [(self.crate, self.tests)]
 
     def is_named(self, word):
         """Whether a word names it: its crate, or the end of its path, with or without what stands behind the dot."""
@@ -43,35 +59,28 @@ def read(path, otherwise=b""):
         return file.read()
 
 
-def scripts_of(crate, folder):
-    """A program that plays scripts: each argument that names one is played alone, with the words before it."""
-    left = read(f"{folder}/stdout").splitlines(True)
-    names = set(os.listdir(f"{folder}/data"))
-    played, before = set(), []
-    for word in read(f"{folder}/args").decode().split():
-        before.append(word)
-        if word in names:
-            wanted = [it for it in left if it.startswith(f"{word}:".encode())]
-            left = [it for it in left if it not in wanted]
-            yield Play(crate, f"crates/{crate}/data/{word}", before, b"".join(wanted))
-            played.add(word)
-            before = []
-    for name in sorted(names - played):
-        yield Play(crate, f"crates/{crate}/data/{name}", broken=f"crates/{crate}/args does not name it, so nobody plays it")
-    if before or not played:
-        yield Play(crate, f"crates/{crate}/args", broken=f"it names no script by '{' '.join(before)}'")
+def scripts():
+    """All scripts, each with what its player has to print."""
+    left = read(f"{TOP}/{PRINTED}").splitlines(True)
+    for name in sorted(os.listdir(f"{TOP}/{SCRIPTS}")):
+        wanted = [it for it in left if it.startswith(f"{name}:".encode())]
+        left = [it for it in left if it not in wanted]
+        kinds = set(re.findall(rb"(?m)^session (\w+)", read(f"{TOP}/{SCRIPTS}/{name}")))
+        needs = [(RUN, False)] * (b"lines" in kinds) + [(LIBRARY, False)] * (kinds != {b"lines"})
+        broken = "" if wanted else f"{PRINTED} has no line of it, so nobody sees that it is played"
+        yield Play("scripts", f"{SCRIPTS}/{name}", wanted=b"".join(wanted), script=True, needs=needs, broken=broken)
     if left:
-        yield Play(crate, f"crates/{crate}/stdout", broken=f"{left[0].decode()!r} is of no script")
+        yield Play("scripts", PRINTED, script=True, broken=f"{left[0].decode()!r} is of no script")
 
 
 def plays_of(crate):
     """All that can be played of a crate."""
     folder = f"{TOP}/crates/{crate}"
-    if os.path.isdir(f"{folder}/data"):
-        yield from scripts_of(crate, folder)
-    elif os.path.isfile(f"{folder}/src/main.rt"):
+    if os.path.isfile(f"{folder}/src/main.rt"):
         words = read(f"{folder}/args").decode().split("\n")
         yield Play(crate, f"crates/{crate}", [it for it in words if it], read(f"{folder}/stdout"))
+    if crate == RUN:
+        yield Play(crate, ROWS, rows=True)
     for at, _, names in sorted(os.walk(f"{folder}/src")):
         for name in sorted(names):
             path = f"{at}/{name}"
@@ -79,11 +88,9 @@ def plays_of(crate):
                 yield Play(crate, os.path.relpath(path, TOP), tests=True)
 
 
-def run(program, words, given=b"", data=None):
+def run(program, words, given=b""):
     """Runs a program in a folder of its own: its status, its output, and what it told beside it."""
     with tempfile.TemporaryDirectory(prefix="quick-test-") as room:
-        if data:
-            shutil.copy(data, room)
         try:
             ran = subprocess.run([program, *words], cwd=room, input=given, capture_output=True, timeout=LIMIT, check=False)
         except subprocess.TimeoutExpired:
@@ -98,16 +105,39 @@ def difference(wanted, wrote):
     return lacking + [f"+ {it}" for it in wrote if it not in wanted] or ["the same lines in another order"]
 
 
-def play_program(play):
-    """Runs a program, or plays one script: what went wrong, no line where nothing did."""
-    folder = f"{TOP}/crates/{play.crate}"
-    data = f"{TOP}/{play.path}" if os.path.isfile(f"{TOP}/{play.path}") else None
-    status, wrote, told = run(kept_at(play.crate), play.words, read(f"{folder}/stdin"), data)
-    ended = int(read(f"{folder}/status", b"0"))
+def compare(play, ran, ended):
+    """What a run printed, and its status, against what was wanted: what went wrong, no line where nothing did."""
+    status, wrote, told = ran
     wrong = difference(play.wanted, wrote) if wrote != play.wanted else []
     if status != ended:
         wrong += [f"status {status}, not {ended}", *told.decode(errors="replace").splitlines()]
     return wrong, ""
+
+
+def play_program(play):
+    """Runs a program."""
+    folder = f"{TOP}/crates/{play.crate}"
+    return compare(play, run(kept_at(play.crate), play.words, read(f"{folder}/stdin")), int(read(f"{folder}/status", b"0")))
+
+
+def program_of_lines():
+    """The program that plays lines: the proved one, where it is current."""
+    proved = f"{TOP}/crates/{RUN}/out/{RUN}"
+    return proved if is_current(RUN, proved, ["src", "specs", "proofs"]) else kept_at(RUN)
+
+
+def play_script(play):
+    """Plays a script. The player has to refuse one whose name says so."""
+    library = shared_library() if (LIBRARY, False) in play.needs else "none"
+    words = [f"{TOP}/tests/player/play.py", library, program_of_lines(), f"{TOP}/{play.path}"]
+    return compare(play, run(sys.executable, words), int(os.path.basename(play.path).startswith("refused_")))
+
+
+def play_rows(play):
+    """Runs the rows of a program: what those said that failed, and how many held."""
+    status, wrote, told = run(sys.executable, [f"{TOP}/{play.path}", program_of_lines()])
+    lines = (wrote + told).decode(errors="replace").splitlines()
+    return [it for it in lines if ": ok" not in it] if status != 0 else [], f" ({lines[-1] if lines else 'nothing'})"
 
 
 def play_tests(play):
@@ -128,19 +158,43 @@ def play_one(play):
     """Plays one, unless it is broken: what went wrong, and what its line says more."""
     if play.broken:
         return [play.broken], ""
+    if play.script:
+        return play_script(play)
+    if play.rows:
+        return play_rows(play)
     return play_tests(play) if play.tests else play_program(play)
 
 
+def is_made(which):
+    """Whether what a play needs is there, and no source is newer."""
+    if which == (LIBRARY, False):
+        return place()[1]
+    if which == (RUN, False) and program_of_lines() != kept_at(RUN):
+        return True
+    return is_current(which[0], kept_at(*which), ["src"])
+
+
+def make(which):
+    """Compiles what a play needs. None, or what was told where that failed."""
+    if which != (LIBRARY, False):
+        return compile_unproved(*which)
+    try:
+        shared_library()
+    except Unmade as why:
+        return str(why)
+    return None
+
+
 def compile_all(plays, jobs):
-    """Compiles what is not there. The plays whose program could not be compiled become broken."""
-    wanted = sorted({(it.crate, it.tests) for it in plays if not it.broken})
-    lacking = [it for it in wanted if not is_current(it[0], kept_at(*it), ["src"])]
+    """Compiles what is not there. The plays that need what could not be compiled become broken."""
+    wanted = sorted({which for it in plays if not it.broken for which in it.needs})
+    lacking = [it for it in wanted if not is_made(it)]
     if not lacking:
         return
     print(f"quick-test: compiles {len(lacking)} of {len(wanted)} programs without proof", file=sys.stderr, flush=True)
 
     def compile_one(which):
-        told = compile_unproved(*which)
+        told = make(which)
         print(f"quick-test: {which[0]} {'could not be compiled' if told else 'is compiled'}", file=sys.stderr, flush=True)
         return told
 
@@ -149,15 +203,15 @@ def compile_all(plays, jobs):
     for told in failed.values():
         sys.stderr.write(told)
     for play in plays:
-        if (play.crate, play.tests) in failed:
+        if any(it in failed for it in play.needs):
             play.broken = "its program could not be compiled"
 
 
 def main(jobs, words):
-    every = [play for crate in dependencies() for play in plays_of(crate)]
+    every = [*scripts(), *(play for crate in dependencies() for play in plays_of(crate))]
     for word in words:
         if not any(it.is_named(word) for it in every):
-            print(f"quick-test: there is nothing named {word}: a script, a file of unit tests, or a crate", file=sys.stderr)
+            print(f"quick-test: there is nothing named {word}: a script, a file of unit tests, a crate, or scripts", file=sys.stderr)
             return 2
     plays = [it for it in every if not words or any(it.is_named(word) for word in words)]
     compile_all(plays, jobs)

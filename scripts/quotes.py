@@ -4,7 +4,7 @@
 
 A block of `rust` is quoted from one file of crates/vhost_examples/src or rust/examples, one of `antt` from one file of some crate's specs/: its
 lines stand there in this order, without the space before them; a line '// ..' or '-- ..' leaves some out.
-A session '$ ./vhost-run <<END' is quoted from one session of crates/vhost_tests/data/lines_*.txt: its lines are typed there, and printed.
+A session '$ ./vhost-run <<END' is quoted from one session of tests/scripts/lines_*.txt: its lines are typed there, and printed.
 
 Status 0 where all is quoted; 1 where some is not: the block's page and line are printed.
 """
@@ -54,7 +54,7 @@ def is_session(block):
     """Whether a session of `vhost-run` is one of the scripts: what is typed, and what is printed."""
     typed, printed = re.search(r"<<END\n(.*?)\n *END\n(.*)", block, re.S).groups()
     wanted = [f"line {it}" for it in lines_of(typed)], [f"prints {it}" for it in lines_of(printed)]
-    for path in glob.glob(f"{TOP}/crates/vhost_tests/data/lines_*.txt"):
+    for path in glob.glob(f"{TOP}/tests/scripts/lines_*.txt"):
         for session in read(path).split("\nsession "):
             lines = lines_of(session)
             if wanted == ([it for it in lines if it.startswith("line ")], [it for it in lines if it.startswith("prints ")]):

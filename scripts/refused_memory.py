@@ -10,7 +10,7 @@ import tempfile
 
 def sessions(top):
     """The lines of each session of the scripts of lines, one input a session."""
-    for path in sorted(glob.glob(f"{top}/crates/vhost_tests/data/lines_*.txt")):
+    for path in sorted(glob.glob(f"{top}/tests/scripts/lines_*.txt")):
         with open(path, encoding="utf-8", errors="replace") as file:
             lines = None
             for line in [*file.read().splitlines(), "session"]:

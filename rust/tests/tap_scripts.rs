@@ -30,9 +30,8 @@ struct Script {
     is_scripted: bool,
 }
 
-/// What a tap has no part in: a descriptor that is no socket for a channel, and requests that nobody serves.
-const NOT_JUDGED: [&str; 4] =
-    ["err InvalidSocketFd", "err NotUnixSocket", "err NotStreamSocket", "err InvalidOperation request not served"];
+/// Requests that nobody serves, of which a tap has no part, by their codes: IOTLB_MSG, VRING_KICK, SET_STATUS.
+const UNSERVED: [u8; 3] = [22, 35, 39];
 
 impl Script {
     fn read(&mut self, word: &str, rest: &str) {
@@ -90,7 +89,8 @@ impl Script {
 
     fn read_answer(&mut self, rest: &str) {
         let request = self.open.pop_front();
-        let is_refused = !self.is_asked && rest.starts_with("err") && !NOT_JUDGED.iter().any(|it| rest.starts_with(it));
+        let is_unserved = request.is_some_and(|at| UNSERVED.contains(&self.messages[at].1[0])) && rest == "err InvalidOperation";
+        let is_refused = !self.is_asked && rest.starts_with("err") && !is_unserved;
         self.is_asked = false;
         match request {
             Some(at) if is_refused => drop(self.refused.insert(at)),
@@ -143,8 +143,8 @@ fn scripts_of(file: &PathBuf) -> Vec<Script> {
 fn each_served_session() {
     let folder = std::env::var("COVRETIN_SCRIPTS").expect("COVRETIN_SCRIPTS is the folder of the scripts");
     let files = read_dir(folder).unwrap().map(|it| it.unwrap().path());
-    // (of these files the streams are no messages, or the device has no memory, so that nothing is replied)
-    let others = ["served_wrong", "served_ahead", "served_cuts", "served_faults", "served_hungry", "served_handles"];
+    // (of these files the streams are no messages, or the device refuses or has no memory, so that nothing is replied)
+    let others = ["served_wrong", "served_ahead", "served_cuts", "served_hungry", "served_locked", "served_handles"];
     let name = |file: &PathBuf| file.file_stem().unwrap().to_str().unwrap().to_string();
     let served = files.filter(|file| name(file).starts_with("served_") && !others.contains(&name(file).as_str()));
     let scripts = served.flat_map(|file| scripts_of(&file));

@@ -32,7 +32,7 @@ fn others<R: Threads + Wait + Sync>(rt: &R, alloc: Global) -> [bool; 8] {
 }
 
 #[test]
-fn all_hold(rt: HostRuntime) {
+fn consequences_hold(rt: HostRuntime) {
     assert!(rt; over::<Device, HostRuntime>(&rt, rt.alloc()) == [true; 4]);
     assert!(rt; others(&rt, rt.alloc()) == [true; 8]);
 }

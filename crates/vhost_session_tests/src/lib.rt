@@ -14,9 +14,13 @@ mod frontend;
 #[cfg(test)]
 mod joined;
 #[cfg(test)]
+mod locked;
+#[cfg(test)]
 mod promises;
 #[cfg(test)]
 mod recorder;
+#[cfg(test)]
+mod retries;
 #[cfg(test)]
 mod rings;
 #[cfg(test)]

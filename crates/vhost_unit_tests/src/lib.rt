@@ -7,6 +7,8 @@ mod backend;
 #[cfg(test)]
 mod connection;
 #[cfg(test)]
+mod endpoint;
+#[cfg(test)]
 mod link;
 #[cfg(test)]
 mod message;
