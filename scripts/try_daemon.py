@@ -493,7 +493,7 @@ def left_over_folder(path):
     kept.write_text("kept")
     status, output, errors = run(path, "1")
     same((status, output), (2, ""))
-    assert "no socket at this path" in errors and "os error 39" in errors, errors
+    assert "no folder at this path with .new" in errors and "os error 39" in errors, errors
     same(kept.read_text(), "kept")
     kept.unlink()
     kept.parent.rmdir()
@@ -502,11 +502,22 @@ def left_over_folder(path):
     others.mkdir()
     left_over(str(others / "s"))
     kept.parent.symlink_to(others)
-    same(run(path, "1")[:2], (2, ""))
+    refused = f"vhost-daemon: {path}: no folder at this path with .new: "
+    same(run(path, "1"), (2, "", refused + "a symbolic link is there\n"))
     assert (others / "s").is_socket(), "another's socket is gone"
+    kept.parent.unlink()
+    noted = ""
+    if os.geteuid() == 0:
+        others.rename(kept.parent)
+        os.chown(kept.parent, 65534, 65534)
+        same(run(path, "1"), (2, "", refused + "it is another user's\n"))
+        others = kept.parent
+        assert (others / "s").is_socket(), "another user's socket is gone"
+    else:
+        noted = "another user's is left out: only root can make it"
     (others / "s").unlink()
     others.rmdir()
-    kept.parent.unlink()
+    return noted
 
 
 def second_daemon(path):
@@ -577,6 +588,38 @@ def other_things_at_the_path(path):
     status, output, errors = run(path + "/inside", "1")
     same((status, output), (2, ""))
     assert path in errors and "os error 2" in errors, errors
+
+
+def other_things_at_the_lock_file(path):
+    """They stay as they are, it is told what they are, and nothing is waited for."""
+    lock, kept = path + ".pid", pathlib.Path(path + ".kept")
+    kept.write_text("kept")
+
+    def of_another_user():
+        pathlib.Path(lock).touch()
+        os.chown(lock, 65534, 65534)
+
+    things = [
+        (lambda: os.symlink(kept, lock), "a symbolic link is there"),
+        (lambda: os.symlink(path + ".nothing", lock), "a symbolic link is there"),
+        (lambda: os.link(kept, lock), "a file with another name is there"),
+        (lambda: os.mkfifo(lock), "a FIFO is there"),
+        (lambda: os.mkdir(lock), "a folder is there"),
+        (lambda: left_over(lock), "a socket is there"),
+    ]
+    if os.geteuid() == 0:
+        things.append((of_another_user, "it is another user's"))
+    for make, words in things:
+        make()
+        before = os.lstat(lock)
+        same(run(path, "1"), (2, "", f"vhost-daemon: {path}: no lock file at this path with .pid: {words}\n"))
+        after = os.lstat(lock)
+        same((after.st_ino, after.st_mode, after.st_nlink), (before.st_ino, before.st_mode, before.st_nlink))
+        same(kept.read_text(), "kept")
+        same(len(os.listdir(kept.parent)), 2)
+        os.rmdir(lock) if stat.S_ISDIR(after.st_mode) else os.remove(lock)
+    kept.unlink()
+    return "" if os.geteuid() == 0 else "another user's is left out: only root can make it"
 
 
 def wrong_arguments(path):
@@ -762,6 +805,7 @@ ROWS = [
     two_started_together,
     another_process_listens,
     other_things_at_the_path,
+    other_things_at_the_lock_file,
     replaced_path,
     replaced_at_once,
     left_over_folder,

@@ -14,6 +14,7 @@ mod sessions;
 mod shared;
 mod socket_path;
 
+mod standing;
 pub use failure::Failure;
 pub use session::{BUDGET, Ended, Unwatched, Watch, serve_session, serve_watched};
 pub use sessions::{Options, serve, serve_path};
