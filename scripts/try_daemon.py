@@ -7,6 +7,7 @@ Words choose rows by their names. Status 0 where all passed; 1 where one failed;
 """
 
 import contextlib
+import fcntl
 import json
 import os
 import pathlib
@@ -35,6 +36,8 @@ LIMIT = 300
 # How many sessions come one after another, and what they may add to memory, in kilobytes from the half on.
 SESSIONS = 10_000
 GROWTH = 4096
+# How many sessions end while nobody reads their lines, of which a hundred fill the pipe.
+UNREAD = 500
 # Addresses that C's allocator may reserve beside: 64 MB for each thread that runs at the same time as others, at most sixteen here. A
 # stack that stayed with each session would be forty gigabytes.
 HEAPS = 16 * 65536
@@ -744,6 +747,19 @@ def output_fails(path):
     assert errors == f"vhost-daemon: {path}: the output failed: os error 28\n" or "output failed" in errors, errors
 
 
+def output_that_nobody_reads(path):
+    """Each session is served and gives back what it had; one thread at most waits to write. Each line comes once somebody reads."""
+    daemon = Daemon("--socket-path=" + path, f"--count={UNREAD + 1}")
+    fcntl.fcntl(daemon.process.stdout, fcntl.F_SETPIPE_SZ, 4096)
+    for _ in range(UNREAD):
+        same(session(path, GET_FEATURES), FEATURES)
+    wait_until(lambda: daemon.status("Threads") <= 2, "sessions that ended keep threads")
+    same(daemon.descriptors(), 5)
+    same(session(path, GET_FEATURES), FEATURES)
+    lines = "".join(f"session {n}: 1 requests, end Disconnected\n" for n in range(1, UNREAD + 2))
+    same(daemon.end(), (0, lines, ""))
+
+
 def many_at_once(path):
     """As many as COUNT allows; each line is there."""
     soft, hard = resource.getrlimit(resource.RLIMIT_NOFILE)
@@ -799,6 +815,7 @@ ROWS = [
     end_of_stream_at_once,
     verbose,
     output_fails,
+    output_that_nobody_reads,
     profiles,
     longest_path,
     second_daemon,
