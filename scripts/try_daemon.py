@@ -91,12 +91,14 @@ class Daemon:
 
     running = []
 
-    def __init__(self, *words, program=DAEMON, files=None, memory=None, output=subprocess.PIPE, **environment):
+    def __init__(self, *words, program=DAEMON, files=None, memory=None, output=subprocess.PIPE, closed=(), **environment):
         def begin():
             if files is not None:
                 resource.setrlimit(resource.RLIMIT_NOFILE, (files, files))
             if memory is not None:
                 resource.setrlimit(resource.RLIMIT_AS, (memory, memory))
+            for number in closed:
+                os.close(number)
 
         # A program that was compiled without proof keeps what is freed, to find faults; here it keeps little.
         environment = dict(os.environ, ASAN_OPTIONS="quarantine_size_mb=1:thread_local_quarantine_size_kb=16", **environment)
@@ -625,6 +627,27 @@ def other_things_at_the_lock_file(path):
     return "" if os.geteuid() == 0 else "another user's is left out: only root can make it"
 
 
+def closed_standard_streams(path):
+    """No file and no socket takes the number of one: the lock file holds that of the process alone, and clients get replies alone."""
+    refused = 'session 2: request 2, SET_OWNER: InvalidOperation("already claimed")\n'
+    failed = f"vhost-daemon: {path}: the output failed: "
+    for closed in (1,), (2,), (0, 1), (0, 1, 2):
+        daemon = Daemon("-v", "--socket-path=" + path, "--count=3", closed=closed)
+        first = connect(path)
+        ask(first)
+        same(session(path, SET_OWNER, SET_OWNER, GET_FEATURES), FEATURES)
+        wait_until(lambda: daemon.status("Threads") == 2, "a thread stays")
+        ask(first)
+        first.close()
+        wait_until(lambda: daemon.status("Threads") == 1, "a thread stays")
+        same(pathlib.Path(path + ".pid").read_text(), f"{daemon.process.pid}\n")
+        same(session(path, GET_FEATURES), FEATURES)
+        status, output, errors = daemon.end()
+        same((status, output.count("\n")), (2, 0) if 1 in closed else (0, 3))
+        same(errors.startswith(refused), 2 not in closed)
+        same(failed in errors, closed in ((1,), (0, 1)))
+
+
 def wrong_arguments(path):
     for words in [], [path], [path, "1", "2"], [path, "0"], [path, "1025"], [path, "+1"], [path, "x"], [path, ""], ["", "1"], ["-v"]:
         same(run(*words), (1, "", USAGE))
@@ -816,6 +839,7 @@ ROWS = [
     verbose,
     output_fails,
     output_that_nobody_reads,
+    closed_standard_streams,
     profiles,
     longest_path,
     second_daemon,
