@@ -167,7 +167,8 @@ def turns(pid):
     try:
         for task in pathlib.Path(f"/proc/{pid}/task").iterdir():
             is_asleep = (task / "stat").read_text().rpartition(")")[2].split()[0] == "S"
-            if not is_asleep or (task / "children").read_text():
+            children = task / "children"
+            if not is_asleep or children.exists() and children.read_text():
                 return None
             count += field_of(task / "status", "voluntary_ctxt_switches")
     except (FileNotFoundError, ProcessLookupError):
@@ -468,8 +469,7 @@ def replaced_at_once(path):
     """So does what takes the place as soon as the path is there."""
     for _ in range(40):
         daemon = Daemon(path, "1")
-        while not os.path.lexists(path) and daemon.process.poll() is None:
-            pass
+        wait_until(lambda: any(os.path.lexists(path) for _ in range(10_000)), "nobody listens")
         os.rename(path, path + ".own")
         pathlib.Path(path).write_text("kept")
         connect(path + ".own").close()
