@@ -7,10 +7,12 @@ Words choose rows by their names. Status 0 where all passed; 1 where one failed;
 """
 
 import contextlib
+import fcntl
 import json
 import os
 import pathlib
 import resource
+import select
 import signal
 import socket
 import stat
@@ -25,13 +27,17 @@ DAEMON = TOP / "vhost-daemon"
 VERSION = f"vhost-daemon {(TOP / 'VERSION').read_text().strip()}\n"
 USAGE = "usage: vhost-daemon PATH COUNT\n"
 
-# How many seconds one wait may take, and a row.
-LIMIT = 60
-ROW_LIMIT = 600
+# A wait fails once the row's daemons rest: in so many looks, each so many seconds after the one before, they all slept and had done nothing
+# since. Nothing comes then, since the row does nothing but look. It fails, too, where they use so many seconds of a processor.
+LOOKS = 500
+PAUSE = 0.01
+LIMIT = 300
 
 # How many sessions come one after another, and what they may add to memory, in kilobytes from the half on.
 SESSIONS = 10_000
 GROWTH = 4096
+# How many sessions end while nobody reads their lines, of which a hundred fill the pipe.
+UNREAD = 500
 # Addresses that C's allocator may reserve beside: 64 MB for each thread that runs at the same time as others, at most sixteen here. A
 # stack that stayed with each session would be forty gigabytes.
 HEAPS = 16 * 65536
@@ -51,82 +57,196 @@ UNKNOWN = message(200)
 OTHER_VERSION = message(1, version=2)
 
 
+class Stream:
+    """What a process writes to a pipe."""
+
+    def __init__(self, pipe):
+        self.pipe, self.text, self.is_open = pipe, b"", True
+        os.set_blocking(pipe.fileno(), False)
+
+    def take(self):
+        """Takes what is there."""
+        while self.is_open:
+            try:
+                piece = os.read(self.pipe.fileno(), 65536)
+            except BlockingIOError:
+                return
+            self.text += piece
+            self.is_open = piece != b""
+
+    def line(self):
+        """The next line, or what there is of one at the end."""
+
+        def is_whole():
+            self.take()
+            return b"\n" in self.text or not self.is_open
+
+        wait_until(is_whole, "no line comes", self.pipe)
+        line, end, self.text = self.text.partition(b"\n")
+        return (line + end).decode()
+
+
 class Daemon:
     """One that runs, with the words of its call."""
 
     running = []
 
-    def __init__(self, *words, files=None, memory=None, output=subprocess.PIPE):
-        def limits():
+    def __init__(self, *words, program=DAEMON, files=None, memory=None, output=subprocess.PIPE, closed=(), **environment):
+        def begin():
             if files is not None:
                 resource.setrlimit(resource.RLIMIT_NOFILE, (files, files))
             if memory is not None:
                 resource.setrlimit(resource.RLIMIT_AS, (memory, memory))
+            for number in closed:
+                os.close(number)
 
         # A program that was compiled without proof keeps what is freed, to find faults; here it keeps little.
-        environment = dict(os.environ, ASAN_OPTIONS="quarantine_size_mb=1:thread_local_quarantine_size_kb=16")
+        environment = dict(os.environ, ASAN_OPTIONS="quarantine_size_mb=1:thread_local_quarantine_size_kb=16", **environment)
         self.process = subprocess.Popen(
-            [DAEMON, *words], stdin=subprocess.DEVNULL, stdout=output, stderr=subprocess.PIPE, env=environment, preexec_fn=limits
+            [program, *words], stdin=subprocess.DEVNULL, stdout=output, stderr=subprocess.PIPE, env=environment, preexec_fn=begin
         )
+        self.output = Stream(self.process.stdout) if self.process.stdout else None
+        self.errors = Stream(self.process.stderr)
         Daemon.running.append(self.process)
 
     def status(self, name):
-        text = pathlib.Path(f"/proc/{self.process.pid}/status").read_text()
-        return int(next(line for line in text.splitlines() if line.startswith(name + ":")).split()[1])
-
-    def processor(self):
-        """How many seconds of a processor it has used."""
-        fields = pathlib.Path(f"/proc/{self.process.pid}/stat").read_text().rpartition(")")[2].split()
-        return (int(fields[11]) + int(fields[12])) / os.sysconf("SC_CLK_TCK")
+        return field_of(f"/proc/{self.process.pid}/status", name)
 
     def rests(self):
         """For a second it uses next to no processor."""
-        before = self.processor()
+        before = processor(self.process.pid)
         time.sleep(1)
-        used = self.processor() - before
+        used = processor(self.process.pid) - before
         assert used < 0.2, f"{used} seconds of a processor in one second"
 
     def descriptors(self):
         return len(os.listdir(f"/proc/{self.process.pid}/fd"))
 
-    def end(self, limit=LIMIT):
+    def end(self):
         """Its status, and what it wrote, without what the command says of how it was built."""
-        output, errors = self.process.communicate(timeout=limit)
-        told = [line for line in errors.decode().splitlines(True) if "without proof" not in line]
-        return self.process.returncode, (output or b"").decode(), "".join(told)
+        streams = [it for it in (self.output, self.errors) if it]
+
+        def has_ended():
+            ended = self.process.poll() is not None
+            for stream in streams:
+                stream.take()
+            return ended and not any(it.is_open for it in streams)
+
+        wait_until(has_ended, "it does not end")
+        for stream in streams:
+            stream.pipe.close()
+        output = self.output.text.decode() if self.output else ""
+        told = [line for line in self.errors.text.decode().splitlines(True) if "without proof" not in line]
+        return self.process.returncode, output, "".join(told)
 
     def line(self):
-        return self.process.stdout.readline().decode()
+        return self.output.line()
 
     def told(self):
         """The next line on standard error, without what the command says of how it was built."""
-        while "without proof" in (line := self.process.stderr.readline().decode()):
+        while "without proof" in (line := self.errors.line()):
             pass
         return line
 
 
-def run(*words, **limits):
-    return Daemon(*words, **limits).end()
+def field_of(path, name):
+    """A number in a file of /proc whose lines have names."""
+    lines = pathlib.Path(path).read_text().splitlines()
+    return int(next(line for line in lines if line.startswith(name + ":")).split()[1])
 
 
-def connect(path, limit=LIMIT):
-    """A client, once somebody listens."""
-    until = time.monotonic() + limit
-    while True:
-        client = socket.socket(socket.AF_UNIX)
-        client.settimeout(limit)
-        try:
+def processor(pid):
+    """How many seconds of a processor a process has used."""
+    fields = pathlib.Path(f"/proc/{pid}/stat").read_text().rpartition(")")[2].split()
+    return (int(fields[11]) + int(fields[12])) / os.sysconf("SC_CLK_TCK")
+
+
+def turns(pid):
+    """How often the threads of a process went to sleep so far; None where one is awake, or a child may be."""
+    count = 0
+    try:
+        for task in pathlib.Path(f"/proc/{pid}/task").iterdir():
+            is_asleep = (task / "stat").read_text().rpartition(")")[2].split()[0] == "S"
+            children = task / "children"
+            if not is_asleep or children.exists() and children.read_text():
+                return None
+            count += field_of(task / "status", "voluntary_ctxt_switches")
+    except (FileNotFoundError, ProcessLookupError):
+        return None
+    return count
+
+
+def wait_until(holds, what, stream=None):
+    """Waits until it holds, maybe by what comes from a stream. It fails once the daemons rest, or use too much of a processor."""
+    looks, last = 0, None
+    began = sum(map(processor, living()))
+    while not holds():
+        pause(stream)
+        now = list(map(turns, living()))
+        looks = looks + 1 if now == last and None not in now else 0
+        last = now
+        assert looks < LOOKS, f"{what}, and the daemon rests"
+        used = sum(map(processor, living())) - began
+        assert used < LIMIT, f"{what}, and the daemon has used {used} seconds of a processor"
+
+
+def pause(stream):
+    """Some time passes, or something comes from a stream."""
+    if stream is None:
+        time.sleep(PAUSE)
+        return
+    comes = select.poll()
+    comes.register(stream, select.POLLIN)
+    comes.poll(PAUSE * 1000)
+
+
+def living():
+    """The processes of the row's daemons that have not ended."""
+    return [each.pid for each in Daemon.running if each.poll() is None]
+
+
+def run(*words, **how):
+    return Daemon(*words, **how).end()
+
+
+def connect(path):
+    """A client, once somebody listens and has room for it."""
+    client = socket.socket(socket.AF_UNIX)
+    client.setblocking(False)
+
+    def is_connected():
+        with contextlib.suppress(FileNotFoundError, ConnectionRefusedError, BlockingIOError):
             client.connect(path)
-            return client
-        except (FileNotFoundError, ConnectionRefusedError):
-            client.close()
-            assert time.monotonic() < until, "nobody listens"
-            time.sleep(0.01)
+            return True
+
+    wait_until(is_connected, "nobody listens")
+    return client
+
+
+def receive(client, most):
+    """The bytes that come next, so many at most; none at the end of the stream."""
+    came = []
+
+    def comes():
+        with contextlib.suppress(BlockingIOError):
+            came.append(client.recv(most))
+        return came
+
+    wait_until(comes, "nothing comes", client)
+    return came[0]
+
+
+def wait_for(client, wanted):
+    """These bytes come next."""
+    came = b""
+    while len(came) < len(wanted) and (piece := receive(client, len(wanted) - len(came))):
+        came += piece
+    same(came, wanted)
 
 
 def ask(client):
     client.sendall(GET_FEATURES)
-    same(client.recv(len(FEATURES), socket.MSG_WAITALL), FEATURES)
+    wait_for(client, FEATURES)
 
 
 def session(path, *messages):
@@ -141,16 +261,9 @@ def session(path, *messages):
 def everything(client):
     came = b""
     with contextlib.suppress(ConnectionResetError):
-        while piece := client.recv(4096):
+        while piece := receive(client, 4096):
             came += piece
     return came
-
-
-def wait_until(holds, what):
-    until = time.monotonic() + LIMIT
-    while not holds():
-        assert time.monotonic() < until, what
-        time.sleep(0.01)
 
 
 def same(got, wanted):
@@ -207,10 +320,8 @@ def end_of_stream_at_once(path):
     ask(other)
     for refused in SET_VRING_KICK, UNKNOWN, OTHER_VERSION:
         with connect(path) as client:
-            began = time.monotonic()
             client.sendall(refused)
             same(everything(client), b"")
-            assert time.monotonic() - began < 5, "the end of the stream came late"
     ask(other)
     other.close()
     same(session(path), b"")
@@ -253,16 +364,15 @@ def no_descriptor_left(path):
     daemon.rests()
     last = clients[-1]
     last.sendall(GET_FEATURES)
-    last.settimeout(0.5)
-    with contextlib.suppress(TimeoutError):
+    time.sleep(0.5)
+    with contextlib.suppress(BlockingIOError):
         last.recv(1)
         raise AssertionError("the last client was served")
-    last.settimeout(LIMIT)
     for client in served:
         ask(client)
     for client in clients[:-1]:
         client.close()
-    same(last.recv(len(FEATURES), socket.MSG_WAITALL), FEATURES)
+    wait_for(last, FEATURES)
     last.close()
     status, lines, _ = daemon.end()
     same((status, lines.count("\n")), (0, 20))
@@ -303,7 +413,7 @@ def no_thread_left(path):
     clients[-1].sendall(GET_FEATURES)
     for client in clients[:-1]:
         client.close()
-    same(clients[-1].recv(len(FEATURES), socket.MSG_WAITALL), FEATURES)
+    wait_for(clients[-1], FEATURES)
     clients[-1].close()
     status, lines, _ = daemon.end()
     same((status, lines.count("\n")), (0, 20))
@@ -359,9 +469,7 @@ def replaced_at_once(path):
     """So does what takes the place as soon as the path is there."""
     for _ in range(40):
         daemon = Daemon(path, "1")
-        until = time.monotonic() + LIMIT
-        while not os.path.lexists(path):
-            assert time.monotonic() < until, "nobody listens"
+        wait_until(lambda: any(os.path.lexists(path) for _ in range(10_000)), "nobody listens")
         os.rename(path, path + ".own")
         pathlib.Path(path).write_text("kept")
         connect(path + ".own").close()
@@ -390,7 +498,7 @@ def left_over_folder(path):
     kept.write_text("kept")
     status, output, errors = run(path, "1")
     same((status, output), (2, ""))
-    assert "no socket at this path" in errors and "os error 39" in errors, errors
+    assert "no folder at this path with .new" in errors and "os error 39" in errors, errors
     same(kept.read_text(), "kept")
     kept.unlink()
     kept.parent.rmdir()
@@ -399,11 +507,22 @@ def left_over_folder(path):
     others.mkdir()
     left_over(str(others / "s"))
     kept.parent.symlink_to(others)
-    same(run(path, "1")[:2], (2, ""))
+    refused = f"vhost-daemon: {path}: no folder at this path with .new: "
+    same(run(path, "1"), (2, "", refused + "a symbolic link is there\n"))
     assert (others / "s").is_socket(), "another's socket is gone"
+    kept.parent.unlink()
+    noted = ""
+    if os.geteuid() == 0:
+        others.rename(kept.parent)
+        os.chown(kept.parent, 65534, 65534)
+        same(run(path, "1"), (2, "", refused + "it is another user's\n"))
+        others = kept.parent
+        assert (others / "s").is_socket(), "another user's socket is gone"
+    else:
+        noted = "another user's is left out: only root can make it"
     (others / "s").unlink()
     others.rmdir()
-    kept.parent.unlink()
+    return noted
 
 
 def second_daemon(path):
@@ -450,10 +569,8 @@ def another_process_listens(path):
                     client.connect(path)
                 except BlockingIOError:
                     break
-            began = time.monotonic()
             told = f"vhost-daemon: {path}: another process has a socket at this path\n"
             same(run(path, "1"), (2, "", told))
-            assert time.monotonic() - began < 20, "it waited"
             for client in waiting[:-1]:
                 listening.accept()[0].close()
             with contextlib.suppress(BlockingIOError):
@@ -476,6 +593,59 @@ def other_things_at_the_path(path):
     status, output, errors = run(path + "/inside", "1")
     same((status, output), (2, ""))
     assert path in errors and "os error 2" in errors, errors
+
+
+def other_things_at_the_lock_file(path):
+    """They stay as they are, it is told what they are, and nothing is waited for."""
+    lock, kept = path + ".pid", pathlib.Path(path + ".kept")
+    kept.write_text("kept")
+
+    def of_another_user():
+        pathlib.Path(lock).touch()
+        os.chown(lock, 65534, 65534)
+
+    things = [
+        (lambda: os.symlink(kept, lock), "a symbolic link is there"),
+        (lambda: os.symlink(path + ".nothing", lock), "a symbolic link is there"),
+        (lambda: os.link(kept, lock), "a file with another name is there"),
+        (lambda: os.mkfifo(lock), "a FIFO is there"),
+        (lambda: os.mkdir(lock), "a folder is there"),
+        (lambda: left_over(lock), "a socket is there"),
+    ]
+    if os.geteuid() == 0:
+        things.append((of_another_user, "it is another user's"))
+    for make, words in things:
+        make()
+        before = os.lstat(lock)
+        same(run(path, "1"), (2, "", f"vhost-daemon: {path}: no lock file at this path with .pid: {words}\n"))
+        after = os.lstat(lock)
+        same((after.st_ino, after.st_mode, after.st_nlink), (before.st_ino, before.st_mode, before.st_nlink))
+        same(kept.read_text(), "kept")
+        same(len(os.listdir(kept.parent)), 2)
+        os.rmdir(lock) if stat.S_ISDIR(after.st_mode) else os.remove(lock)
+    kept.unlink()
+    return "" if os.geteuid() == 0 else "another user's is left out: only root can make it"
+
+
+def closed_standard_streams(path):
+    """No file and no socket takes the number of one: the lock file holds that of the process alone, and clients get replies alone."""
+    refused = 'session 2: request 2, SET_OWNER: InvalidOperation("already claimed")\n'
+    failed = f"vhost-daemon: {path}: the output failed: "
+    for closed in (1,), (2,), (0, 1), (0, 1, 2):
+        daemon = Daemon("-v", "--socket-path=" + path, "--count=3", closed=closed)
+        first = connect(path)
+        ask(first)
+        same(session(path, SET_OWNER, SET_OWNER, GET_FEATURES), FEATURES)
+        wait_until(lambda: daemon.status("Threads") == 2, "a thread stays")
+        ask(first)
+        first.close()
+        wait_until(lambda: daemon.status("Threads") == 1, "a thread stays")
+        same(pathlib.Path(path + ".pid").read_text(), f"{daemon.process.pid}\n")
+        same(session(path, GET_FEATURES), FEATURES)
+        status, output, errors = daemon.end()
+        same((status, output.count("\n")), (2, 0) if 1 in closed else (0, 3))
+        same(errors.startswith(refused), 2 not in closed)
+        same(failed in errors, closed in ((1,), (0, 1)))
 
 
 def wrong_arguments(path):
@@ -600,6 +770,19 @@ def output_fails(path):
     assert errors == f"vhost-daemon: {path}: the output failed: os error 28\n" or "output failed" in errors, errors
 
 
+def output_that_nobody_reads(path):
+    """Each session is served and gives back what it had; one thread at most waits to write. Each line comes once somebody reads."""
+    daemon = Daemon("--socket-path=" + path, f"--count={UNREAD + 1}")
+    fcntl.fcntl(daemon.process.stdout, fcntl.F_SETPIPE_SZ, 4096)
+    for _ in range(UNREAD):
+        same(session(path, GET_FEATURES), FEATURES)
+    wait_until(lambda: daemon.status("Threads") <= 2, "sessions that ended keep threads")
+    same(daemon.descriptors(), 5)
+    same(session(path, GET_FEATURES), FEATURES)
+    lines = "".join(f"session {n}: 1 requests, end Disconnected\n" for n in range(1, UNREAD + 2))
+    same(daemon.end(), (0, lines, ""))
+
+
 def many_at_once(path):
     """As many as COUNT allows; each line is there."""
     soft, hard = resource.getrlimit(resource.RLIMIT_NOFILE)
@@ -625,13 +808,9 @@ def before_the_first_build(path):
     for name in files:
         (copy / name).write_bytes((TOP / name).read_bytes())
     (copy / "vhost-daemon").chmod(0o755)
-    environment = {"PATH": "/usr/bin:/bin"}
 
     def told(*words):
-        began = time.monotonic()
-        done = subprocess.run([copy / "vhost-daemon", *words], capture_output=True, env=environment, stdin=subprocess.DEVNULL)
-        assert time.monotonic() - began < 5, "it took long"
-        return done.returncode, done.stdout.decode(), done.stderr.decode()
+        return run(*words, program=copy / "vhost-daemon", PATH="/usr/bin:/bin")
 
     same(told("--version"), (0, VERSION, ""))
     for word in "-h", "--help":
@@ -659,12 +838,15 @@ ROWS = [
     end_of_stream_at_once,
     verbose,
     output_fails,
+    output_that_nobody_reads,
+    closed_standard_streams,
     profiles,
     longest_path,
     second_daemon,
     two_started_together,
     another_process_listens,
     other_things_at_the_path,
+    other_things_at_the_lock_file,
     replaced_path,
     replaced_at_once,
     left_over_folder,
@@ -679,15 +861,9 @@ ROWS = [
 ]
 
 
-def too_long(_number, _frame):
-    raise TimeoutError("it took too long")
-
-
 def play(row):
     """Whether a row holds; it says so in a line."""
     name = row.__name__.replace("_", " ")
-    signal.signal(signal.SIGALRM, too_long)
-    signal.alarm(ROW_LIMIT)
     with tempfile.TemporaryDirectory() as folder:
         try:
             noted = row(folder + "/d.sock")
@@ -696,7 +872,6 @@ def play(row):
             print(f"{name}: FAILED: {type(failed).__name__}: {failed}", flush=True)
             return False
         finally:
-            signal.alarm(0)
             for process in Daemon.running:
                 if process.poll() is None:
                     process.kill()

@@ -8,6 +8,7 @@ use std::alloc::Global;
 use std::fs::{File, Files};
 use std::io::{ErrorKind, Print, Write};
 use std::net::Net;
+use std::os::fd::{AsRawFd, IntoRawFd};
 use std::process::ExitCode;
 use std::sync::Wait;
 use std::thread::Threads;
@@ -36,6 +37,9 @@ Serves an example device to each client that connects to the Unix socket at PATH
   --print-capabilities  prints what the device is, in JSON
   --version             prints the version
   -h, --help            prints this";
+
+/// How many standard streams there are: their descriptors are the first numbers.
+const STREAMS: i32 = 3;
 
 /// Listens at a path, and serves who connects.
 ///
@@ -91,6 +95,10 @@ where
     R: Threads + Wait + Net + Files<File = File> + Print + Sync,
     E: io::Write + Send,
 {
+    if let Err(error) = hold_streams(rt) {
+        let _ = writeln!(errors, "vhost-daemon: the standard streams: {error}");
+        return ExitCode::from(2);
+    }
     match SocketPath::claim(rt, alloc, path, pid) {
         Ok(claimed) => {
             let mut output = io::writer(rt);
@@ -104,6 +112,20 @@ where
             }
         }
     }
+}
+
+/// Opens a folder in the place of each standard stream that is closed. Else a file or a socket would have its number next, and would get
+/// what is written to the stream. To a folder nothing can be written, and that of the root is always there.
+fn hold_streams<R: Files<File = File>>(rt: &R) -> io::Result<()> {
+    for _ in 0..STREAMS {
+        let opened = File::open(rt, "/")?;
+        if opened.as_raw_fd() >= STREAMS {
+            return Ok(());
+        }
+        // From here on nobody closes it.
+        let _ = opened.into_raw_fd();
+    }
+    Ok(())
 }
 
 /// Prints a text on standard output; the status.

@@ -1,12 +1,14 @@
 //! A socket that is made in a folder of its own, and gets the name of a path once it is known which file it has.
 
 use crate::identity::Identity;
-use crate::socket_path::MAX_PATH;
+use crate::socket_path::{ClaimError, MAX_PATH};
+use crate::standing::judge_folder;
+use os::FromRawFd;
 use std::alloc::Global;
 use std::fs::{DirBuilder, File, Files};
 use std::io::ErrorKind;
 use std::net::Net;
-use std::os::fd::AsRawFd;
+use std::os::fd::{AsRawFd, OwnedFd};
 use std::os::unix::fs::{DirBuilderExt, FileTypeExt};
 use std::os::unix::net::UnixListener;
 use std::{fs, io};
@@ -21,20 +23,32 @@ pub(crate) fn bind_fresh<R: Files<File = File> + Net>(
     rt: &R,
     alloc: Global,
     path: &str,
-) -> io::Result<(UnixListener, Identity)> {
-    let folder = format!(in alloc; "{path}.new")?;
-    let socket = format!(in alloc; "{path}.new/s")?;
+) -> Result<(UnixListener, Identity), ClaimError> {
+    let (Ok(folder), Ok(socket)) = (
+        format!(in alloc; "{path}.new"),
+        format!(in alloc; "{path}.new/s"),
+    ) else {
+        return Err(ClaimError::OutOfMemory);
+    };
     let (folder, socket) = (folder.as_str(), socket.as_str());
-    make_folder(rt, folder, socket)?;
+    match make_folder(rt, folder, socket) {
+        Ok(()) => {}
+        Err(error) => return Err(ClaimError::Folder(error)),
+    }
     let bound = listen_and_name(rt, alloc, folder, socket, path);
     let _ = fs::remove_file(rt, socket);
     let _ = fs::remove_dir(rt, folder);
-    bound
+    match bound {
+        Ok(bound) => Ok(bound),
+        Err(error) if error.kind() == ErrorKind::OutOfMemory => Err(ClaimError::OutOfMemory),
+        Err(error) => Err(ClaimError::Socket(error)),
+    }
 }
 
-/// Makes the folder. One that is there already was left by a process that was killed: it is made anew, unless something else is in it.
+/// Makes the folder. One of this user that is there already was left by a process that was killed: it is made anew, unless something else
+/// is in it.
 ///
-/// A link to a folder is none, so nothing in what it names is touched.
+/// A link to a folder is none, and another user may change his: nothing in these is touched.
 fn make_folder<R: Files>(rt: &R, folder: &str, socket: &str) -> io::Result<()> {
     let mut private = DirBuilder::new();
     private.mode(0o700);
@@ -42,6 +56,7 @@ fn make_folder<R: Files>(rt: &R, folder: &str, socket: &str) -> io::Result<()> {
         Err(error) if error.kind() == ErrorKind::AlreadyExists => {}
         made => return made,
     }
+    judge_folder(&fs::symlink_metadata(rt, folder)?)?;
     match fs::remove_dir(rt, folder) {
         Err(error) if error.kind() == ErrorKind::DirectoryNotEmpty => {
             remove_socket(rt, socket)?;
@@ -84,8 +99,17 @@ fn listen_in<R: Files<File = File> + Net>(
     if socket.len() <= MAX_PATH {
         return UnixListener::bind(rt, socket);
     }
-    let opened = File::open(rt, folder)?;
+    let opened = open_folder(rt, folder)?;
     let fd = opened.as_raw_fd();
     let short = format!(in alloc; "/proc/self/fd/{fd}/s")?;
     UnixListener::bind(rt, short.as_str())
+}
+
+/// Opens a folder. A link to one is refused, and nothing else is opened.
+fn open_folder<R: Files>(_rt: &R, folder: &str) -> io::Result<OwnedFd> {
+    let opened = os::open_dir_at(libc::AT_FDCWD, folder.as_bytes());
+    if opened < 0 {
+        return Err(io::Error::from_raw_os_error(os::errno()));
+    }
+    Ok(unsafe { OwnedFd::from_raw_fd(opened) })
 }

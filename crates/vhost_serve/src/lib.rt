@@ -5,6 +5,7 @@ mod ends;
 mod failure;
 mod fresh;
 mod identity;
+mod lines;
 mod listening;
 mod probe;
 mod refusals;
@@ -13,6 +14,7 @@ mod session;
 mod sessions;
 mod shared;
 mod socket_path;
+mod standing;
 
 pub use failure::Failure;
 pub use session::{BUDGET, Ended, Unwatched, Watch, serve_session, serve_watched};

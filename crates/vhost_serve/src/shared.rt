@@ -1,7 +1,7 @@
 //! What the sessions of one daemon share.
 
-use crate::ends::Ends;
 use crate::failure::Failure;
+use crate::lines::Lines;
 use crate::session::Ended;
 use std::alloc::Global;
 use std::io;
@@ -29,7 +29,8 @@ pub(crate) trait Sessions: Drop {
     /// A session could not begin to run: nobody goes on for that.
     fn withdraw(&self);
 
-    /// Notes how a session ended, and writes its line, unless one before it still runs.
+    /// Notes how a session ended. Its line is written once each session before it has ended: here, or by the thread that writes lines
+    /// already.
     fn end<R: Wait>(&self, rt: &R, session: u64, ended: Ended);
 
     /// Waits until a session ends, or for this long. False: none runs.
@@ -61,7 +62,7 @@ pub(crate) struct Shared<W: io::Write + Drop, E: io::Write + Drop> {
     running: AtomicU64,
     /// Wakes who waits for a session to end.
     one_ended: Parker,
-    ends: Mutex<Ends>,
+    lines: Mutex<Lines>,
     output: Mutex<BufWriter<W>>,
     /// Whether the output failed.
     is_silent: AtomicBool,
@@ -78,7 +79,7 @@ impl<W: io::Write + Drop, E: io::Write + Drop> Shared<W, E> {
         Ok(Shared {
             running: AtomicU64::new(0),
             one_ended: Parker::new(),
-            ends: Mutex::new(Ends::new(alloc)),
+            lines: Mutex::new(Lines::new(alloc)),
             output: Mutex::new(BufWriter::with_capacity(alloc, LINE, output)?),
             is_silent: AtomicBool::new(false),
             errors: Mutex::new(BufWriter::with_capacity(alloc, LINE, errors)?),
@@ -86,11 +87,11 @@ impl<W: io::Write + Drop, E: io::Write + Drop> Shared<W, E> {
         })
     }
 
-    /// Writes each line that is due, and no other thread meanwhile.
+    /// Writes each line that is due, until none is. Only who has that from `Lines` calls it.
     fn write_lines<R: Wait>(&self, rt: &R) {
         let mut output = self.output.lock(rt);
         for _ in 0..u64::MAX {
-            let due = self.ends.lock(rt).due();
+            let due = self.lines.lock(rt).due();
             let Some((session, ended)) = due else {
                 return;
             };
@@ -109,7 +110,7 @@ impl<W: io::Write + Drop, E: io::Write + Drop> Shared<W, E> {
 
 impl<W: io::Write + Drop, E: io::Write + Drop> Sessions for Shared<W, E> {
     fn expect_one<R: Wait>(&self, rt: &R) -> bool {
-        self.ends.lock(rt).begin().is_ok()
+        self.lines.lock(rt).begin().is_ok()
     }
 
     fn begin(&self) {
@@ -126,8 +127,10 @@ impl<W: io::Write + Drop, E: io::Write + Drop> Sessions for Shared<W, E> {
     }
 
     fn end<R: Wait>(&self, rt: &R, session: u64, ended: Ended) {
-        self.ends.lock(rt).end(session, ended);
-        self.write_lines(rt);
+        let is_to_write = self.lines.lock(rt).end(session, ended);
+        if is_to_write {
+            self.write_lines(rt);
+        }
     }
 
     fn wait<R: Wait>(&self, rt: &R, limit: Duration) -> bool {

@@ -4,6 +4,7 @@ use crate::fresh::bind_fresh;
 use crate::identity::Identity;
 use crate::listening::Listening;
 use crate::probe::is_bound;
+use crate::standing::judge_file;
 use std::alloc::Global;
 use std::fs::{File, Files, OpenOptions, TryLockError};
 use std::io::{ErrorKind, Write};
@@ -36,6 +37,8 @@ pub enum ClaimError {
     NoSocket,
     /// The lock file could not be made or locked.
     LockFile(io::Error),
+    /// The folder in which the socket is made could not be made.
+    Folder(io::Error),
     /// No socket could be made there.
     Socket(io::Error),
     /// An allocation failed.
@@ -59,6 +62,7 @@ impl fmt::Display for ClaimError {
                 f,
                 "no lock file at this path with .pid: {error}"
             ),
+            ClaimError::Folder(error) => { write!(f, "no folder at this path with .new: {error}") }
             ClaimError::Socket(error) => write!(f, "no socket at this path: {error}"),
             ClaimError::OutOfMemory => f.write_str("out of memory"),
         }
@@ -154,7 +158,9 @@ impl Lock {
     /// Locks the file at a path, which is made if it is not there, and writes the number of the process to it.
     fn take<R: Files<File = File>>(rt: &R, path: String, pid: u32) -> Result<Lock, ClaimError> {
         for _ in 0..MAX_TRIES {
-            let file = open_lock(rt, path.as_str())?;
+            let Some(file) = open_lock(rt, path.as_str())? else {
+                continue;
+            };
             let identity = match file.metadata() {
                 Ok(found) => Identity::of(&found),
                 Err(error) => return Err(ClaimError::LockFile(error)),
@@ -194,19 +200,46 @@ impl Lock {
     }
 }
 
-/// Opens a lock file, and locks it.
-fn open_lock<R: Files<File = File>>(rt: &R, path: &str) -> Result<File, ClaimError> {
-    let mut how = OpenOptions::new();
-    let opened = how.write(true).create(true).mode(0o600).open(rt, path);
-    let file = match opened {
-        Ok(file) => file,
+/// Opens a lock file, and locks it. None: it was removed meanwhile.
+fn open_lock<R: Files<File = File>>(rt: &R, path: &str) -> Result<Option<File>, ClaimError> {
+    let file = match make_or_open(rt, path) {
+        Ok(Some(file)) => file,
+        Ok(None) => return Ok(None),
         Err(error) => return Err(ClaimError::LockFile(error)),
     };
     match file.try_lock() {
-        Ok(()) => Ok(file),
+        Ok(()) => Ok(Some(file)),
         Err(TryLockError::WouldBlock) => Err(ClaimError::Locked),
         Err(TryLockError::Error(error)) => Err(ClaimError::LockFile(error)),
     }
+}
+
+/// Makes a lock file, or opens the one that is there. None: it was there, and is no longer.
+fn make_or_open<R: Files<File = File>>(rt: &R, path: &str) -> io::Result<Option<File>> {
+    let mut how = OpenOptions::new();
+    how.read(true).write(true).create_new(true).mode(0o600);
+    match how.open(rt, path) {
+        Ok(file) => return Ok(Some(file)),
+        Err(error) if error.kind() == ErrorKind::AlreadyExists => {}
+        Err(error) => return Err(error),
+    }
+    match open_left_over(rt, path) {
+        Ok(file) => Ok(Some(file)),
+        Err(error) if error.kind() == ErrorKind::NotFound => Ok(None),
+        Err(error) => Err(error),
+    }
+}
+
+/// Opens the lock file that a daemon left. Anything else stays as it is, and is the error.
+///
+/// It is looked at before, since a device may do something when it is opened, and a FIFO waits unless it is opened for reading and writing.
+/// It is looked at again then, since it may be another meanwhile.
+fn open_left_over<R: Files<File = File>>(rt: &R, path: &str) -> io::Result<File> {
+    judge_file(&fs::symlink_metadata(rt, path)?)?;
+    let mut how = OpenOptions::new();
+    let file = how.read(true).write(true).open(rt, path)?;
+    judge_file(&file.metadata()?)?;
+    Ok(file)
 }
 
 /// Listens at a path; a socket there that no process has is removed first.
@@ -216,11 +249,7 @@ fn bind<R: Files<File = File> + Net>(
     path: &str,
 ) -> Result<(UnixListener, Identity), ClaimError> {
     make_room(rt, path)?;
-    match bind_fresh(rt, alloc, path) {
-        Ok(bound) => Ok(bound),
-        Err(error) if error.kind() == ErrorKind::OutOfMemory => Err(ClaimError::OutOfMemory),
-        Err(error) => Err(ClaimError::Socket(error)),
-    }
+    bind_fresh(rt, alloc, path)
 }
 
 /// Removes a socket that no process has.
