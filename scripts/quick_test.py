@@ -10,8 +10,9 @@ from concurrent.futures import ThreadPoolExecutor
 from dataclasses import dataclass, field
 
 from build import TOP, compile_unproved, dependencies, is_current, kept_at
+from patience import LimitSpent, communicate
 
-# How many seconds one run of a program may take: without proof it is not optimised.
+# How many seconds one run of a program may spend (patience.py): without proof it is not optimised.
 LIMIT = 300
 
 # How many lines of what went wrong are shown.
@@ -84,11 +85,14 @@ def run(program, words, given=b"", data=None):
     with tempfile.TemporaryDirectory(prefix="quick-test-") as room:
         if data:
             shutil.copy(data, room)
-        try:
-            ran = subprocess.run([program, *words], cwd=room, input=given, capture_output=True, timeout=LIMIT, check=False)
-        except subprocess.TimeoutExpired:
-            return None, b"", f"it took more than {LIMIT} seconds\n".encode()
-        return ran.returncode, ran.stdout, ran.stderr
+        pipes = {"stdin": subprocess.PIPE, "stdout": subprocess.PIPE, "stderr": subprocess.PIPE}
+        with subprocess.Popen([program, *words], cwd=room, **pipes) as running:
+            try:
+                wrote, told = communicate(running, "it ends", LIMIT, given)
+            except LimitSpent as spent:
+                running.kill()
+                return None, b"", f"{spent}\n".encode()
+        return running.returncode, wrote, told
 
 
 def difference(wanted, wrote):
