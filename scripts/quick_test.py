@@ -9,9 +9,10 @@ from concurrent.futures import ThreadPoolExecutor
 from dataclasses import dataclass, field
 
 from build import TOP, compile_unproved, dependencies, is_current, kept_at
+from patience import LimitSpent, communicate
 from shared_library import Unmade, place, shared_library
 
-# How many seconds one run of a program may take: without proof it is not optimised.
+# How many seconds one run of a program may spend (patience.py): without proof it is not optimised.
 LIMIT = 300
 
 # How many lines of what went wrong are shown.
@@ -91,11 +92,14 @@ def plays_of(crate):
 def run(program, words, given=b""):
     """Runs a program in a folder of its own: its status, its output, and what it told beside it."""
     with tempfile.TemporaryDirectory(prefix="quick-test-") as room:
-        try:
-            ran = subprocess.run([program, *words], cwd=room, input=given, capture_output=True, timeout=LIMIT, check=False)
-        except subprocess.TimeoutExpired:
-            return None, b"", f"it took more than {LIMIT} seconds\n".encode()
-        return ran.returncode, ran.stdout, ran.stderr
+        pipes = {"stdin": subprocess.PIPE, "stdout": subprocess.PIPE, "stderr": subprocess.PIPE}
+        with subprocess.Popen([program, *words], cwd=room, **pipes) as running:
+            try:
+                wrote, told = communicate(running, "it ends", LIMIT, given)
+            except LimitSpent as spent:
+                running.kill()
+                return None, b"", f"{spent}\n".encode()
+        return running.returncode, wrote, told
 
 
 def difference(wanted, wrote):

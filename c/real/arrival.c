@@ -107,12 +107,11 @@ void start_arrival(struct arrival *arrival, const struct memory *memory)
         give_up("arrival");
 }
 
-bool waited_for(struct arrival *arrival, unsigned pages, int milliseconds)
+void await_faults(struct arrival *arrival, unsigned pages)
 {
     const struct timespec pause = {.tv_nsec = 1000000};
-    while (arrival->waited < pages && milliseconds-- > 0)
+    while (arrival->waited < pages)
         nanosleep(&pause, NULL);
-    return arrival->waited >= pages;
 }
 
 void end_arrival(struct arrival *arrival)

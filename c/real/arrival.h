@@ -8,7 +8,6 @@
 
 #include <pthread.h>
 #include <stdatomic.h>
-#include <stdbool.h>
 #include <stddef.h>
 #include <stdint.h>
 
@@ -30,8 +29,8 @@ void free_arrival(struct arrival *arrival);
  * such a page before it arrived would make it one of zeros. */
 void start_arrival(struct arrival *arrival, const struct memory *memory);
 
-/* Waits until the backend has waited for so many pages. Whether that was so in time. */
-bool waited_for(struct arrival *arrival, unsigned pages, int milliseconds);
+/* Waits until the backend has waited for so many pages. */
+void await_faults(struct arrival *arrival, unsigned pages);
 
 /* Lets the pages arrive that are still missing, ends the thread, and postcopy. */
 void end_arrival(struct arrival *arrival);

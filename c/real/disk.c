@@ -75,7 +75,7 @@ static uint8_t request(uint32_t type, uint64_t sector, struct data data)
     uint8_t status;
     post_request(0, type, sector, data);
     kick(&queue);
-    check(take_used(&queue, LIMIT, &used), "the request was used in time");
+    take(&queue, &used, "the request was used");
     check(used.head == 0, "what was used is what was posted");
     status = *slot_page(0, 2);
     if (status == VIRTIO_BLK_S_OK)
@@ -90,13 +90,14 @@ static bool is_in_image(const uint8_t *bytes, uint64_t sector, size_t length)
     return pread(image, found, length, (off_t)(sector * SECTOR)) == (ssize_t)length && memcmp(found, bytes, length) == 0;
 }
 
-/* Fills a buffer with bytes that differ from those of the time before. */
+/* Fills a buffer with bytes that differ from those of each time before: a linear congruential generator goes on. */
 static void fill(uint8_t *bytes, size_t length)
 {
-    static unsigned times;
-    times++;
-    for (size_t i = 0; i < length; i++)
-        bytes[i] = (uint8_t)(times * 31 + i * 7 + i / 256);
+    static uint32_t state;
+    for (size_t i = 0; i < length; i++) {
+        state = state * 1664525 + 1013904223;
+        bytes[i] = (uint8_t)(state >> 24);
+    }
 }
 
 static void read_sectors(uint64_t sector, struct data data)
@@ -371,7 +372,8 @@ static void post_writes(void)
         post_request(slot, VIRTIO_BLK_T_OUT, sector_of(slot), (struct data){&memory, slot_page(slot, 1), BLOCK});
     }
     kick(&queue);
-    check(take_used(&queue, LIMIT, &used) && used.head == 0, "the first write was used");
+    take(&queue, &used, "the first write was used");
+    check(used.head == 0, "what was used first is what was posted first");
 }
 
 /* Kills the backend amid a call, whose answer says so. */
@@ -384,6 +386,7 @@ static void kill_backend(void)
     check(kill(backend, SIGKILL) == 0, "the backend can be killed");
     check(covretin_exchange(&device, LIMIT) == COVRETIN_DISCONNECTED, "the call that was under way is told that it ended");
     covretin_disconnect(&device);
+    await("the end of the backend");
     while (kill(backend, 0) == 0) /* until then its listening socket may still be there */
         nanosleep(&pause, NULL);
 }
@@ -393,7 +396,7 @@ static void take_writes(void)
 {
     struct used_element used;
     for (unsigned slot = 1; slot < SLOTS; slot++)
-        check(take_used(&queue, LIMIT, &used), "a write that was in flight was used");
+        take(&queue, &used, "a write that was in flight was used");
     for (unsigned slot = 0; slot < SLOTS; slot++) {
         check(*slot_page(slot, 2) == VIRTIO_BLK_S_OK, "its status is good");
         check(is_in_image(slot_page(slot, 1), sector_of(slot), BLOCK), "it is in the image");

@@ -1,27 +1,49 @@
 # SPDX-License-Identifier: Apache-2.0
-"""QEMU as a process that is asked by its monitor, and what else the tries with it share."""
+"""QEMU as a process that is asked by its monitor, the example disk as a process over a file, and what else the tries with them share."""
 import ctypes
 import json
+import os
+import re
 import signal
 import socket
 import subprocess
-import time
+import sys
 
-LIMIT = 200  # seconds for whatever is waited for; a busy machine takes long
+sys.path.insert(0, os.path.join(os.path.dirname(os.path.realpath(__file__)), "../../scripts"))
+import patience
+
+# How many seconds may be spent on whatever is waited for, by all processes that run (scripts/patience.py).
+LIMIT = 200
 
 # What runs, to be ended at last.
 RUNNING = []
 
 
-def run(words, log):
+def run(words, log, **more):
     """A process that ends with this one, whatever ends that."""
 
     def follow():
         ctypes.CDLL(None).prctl(1, signal.SIGKILL)
 
-    it = subprocess.Popen(words, stdin=subprocess.DEVNULL, stdout=log, stderr=log, preexec_fn=follow)
+    it = subprocess.Popen(words, stdin=subprocess.DEVNULL, stdout=log, stderr=log, preexec_fn=follow, **more)
     RUNNING.append(it)
     return it
+
+
+def running():
+    return [it.pid for it in RUNNING if it.returncode is None]
+
+
+def play(tried, *words):
+    """Plays a try, which says at last what was not so. What runs is ended by then."""
+    try:
+        tried(*words)
+    except patience.LimitSpent as spent:
+        raise SystemExit(str(spent)) from None
+    finally:
+        for it in RUNNING:
+            it.kill()
+            it.wait()
 
 
 def check(holds, what):
@@ -33,11 +55,108 @@ def tell(text):
     print(text, flush=True)
 
 
-def wait_until(holds, what, seconds=LIMIT):
-    end = time.monotonic() + seconds
-    while not holds():
-        check(time.monotonic() < end, f"{what}, in {seconds} seconds")
-        time.sleep(0.005)
+def wait_until(holds, what, limit=LIMIT):
+    patience.wait_until(holds, what, running, limit)
+
+
+def wait_for_end(process, what):
+    """Waits until a process has ended, which it has to do well."""
+    wait_until(lambda: process.poll() is not None, f"{what} ends")
+    check(process.returncode == 0, f"{what} ended well, and not with status {process.returncode}")
+
+
+class Stream:
+    """What comes from a socket, and is waited for."""
+
+    def __init__(self, connected):
+        self.socket, self.waiting = connected, b""
+
+    def send(self, text):
+        self.socket.sendall(text.encode() + b"\n")
+
+    def part(self, what):
+        """The next bytes."""
+        patience.wait_for_input(self.socket, what, running, LIMIT)
+        part = self.socket.recv(65536)
+        check(part, f"{what}, before the end of the stream")
+        return part
+
+    def line(self, what):
+        while b"\n" not in self.waiting:
+            self.waiting += self.part(what)
+        line, _, self.waiting = self.waiting.partition(b"\n")
+        return line.decode()
+
+    def close(self):
+        self.socket.close()
+
+
+# -- The disk --
+
+
+class Disk:
+    """The example disk, as a process over the image."""
+
+    def __init__(self, program, name="disk"):
+        self.program, self.path = program, f"{name}-{os.getpid()}.socket"
+        self.log = open("disk.log", "ab")
+        self.start()
+
+    def start(self):
+        # (what is freed is soon given back, so that what it holds can be measured)
+        environment = dict(os.environ, ASAN_OPTIONS="quarantine_size_mb=1:thread_local_quarantine_size_kb=16")
+        self.process = run([self.program, self.path, "image", "2"], self.log, env=environment)
+        wait_until(self.is_there, "the disk listens", 10)
+
+    def is_there(self):
+        check(self.process.poll() is None, "the disk goes on")
+        with open("/proc/net/unix", encoding="utf-8") as it:
+            return any(line.split()[-1] == self.path for line in it)
+
+    def told(self, name):
+        """A line that /proc has of it."""
+        with open(f"/proc/{self.process.pid}/{name}", encoding="utf-8") as it:
+            return it.read()
+
+    def is_writing(self):
+        """Whether it pauses before it writes to its file, which is slow, by the numbers of nanosleep."""
+        return self.told("syscall").split()[0] in ("35", "230")
+
+    def is_stopped_amid_write(self):
+        """Stops it, and lets it go on where that was not amid a write."""
+        if not self.is_writing():
+            return False
+        self.process.send_signal(signal.SIGSTOP)
+        wait_until(lambda: patience.fields_of(f"/proc/{self.process.pid}")[0] == "T", "the disk is stopped")
+        if self.is_writing():
+            return True
+        self.process.send_signal(signal.SIGCONT)
+        return False
+
+    def kill(self):
+        """Kills it amid a write."""
+        wait_until(self.is_stopped_amid_write, "the disk writes")
+        self.process.kill()
+        self.process.wait()
+
+    def mapped(self):
+        """How many regions of guest memory it has mapped."""
+        return sum("/memfd:memory-backend-memfd" in line for line in self.told("maps").splitlines())
+
+    def descriptors(self):
+        return len(os.listdir(f"/proc/{self.process.pid}/fd"))
+
+    def memory(self):
+        """How many kilobytes of memory it holds beside the guest's."""
+        return int(re.search(r"RssAnon:\s+(\d+)", self.told("status"))[1])
+
+    def end(self):
+        """Ends it. Descriptors or memory that it lost would be told by its status."""
+        self.process.send_signal(signal.SIGTERM)
+        wait_for_end(self.process, "the disk")
+
+
+# -- QEMU --
 
 
 class Emulator:
@@ -54,14 +173,14 @@ class Emulator:
             self.process = run(["qemu-system-x86_64", *machine, *monitor, *words], log)
 
     def greet(self):
-        """Connects to the monitor."""
-        self.qmp = self.connect(f"{self.name}.qmp").makefile("rw", encoding="utf-8")
-        json.loads(self.qmp.readline())
+        """Connects to the monitor. What it says at first has QEMU's version."""
+        self.qmp = self.connect(f"{self.name}.qmp")
+        told = json.loads(self.qmp.line("the monitor greets"))["QMP"]["version"]["qemu"]
+        self.version = (told["major"], told["minor"])
         self.ask("qmp_capabilities")
 
     def connect(self, path):
         it = socket.socket(socket.AF_UNIX)
-        it.settimeout(LIMIT)
 
         def is_connected():
             check(self.process.poll() is None, "the machine goes on")
@@ -72,52 +191,55 @@ class Emulator:
             return True
 
         wait_until(is_connected, f"{path} is there", 20)
-        return it
+        return Stream(it)
 
     def ask(self, command, **arguments):
         """A command of QEMU's monitor."""
-        print(json.dumps({"execute": command, "arguments": arguments}), file=self.qmp, flush=True)
+        self.qmp.send(json.dumps({"execute": command, "arguments": arguments}))
         while True:
-            line = json.loads(self.qmp.readline())
-            if "event" in line:
-                self.events.append(line)
-                continue
-            check("return" in line, f"{command}: {line}")
-            return line["return"]
+            line = self.hear_monitor(f"the monitor answers {command}")
+            if "event" not in line:
+                check("return" in line, f"{command}: {line}")
+                return line["return"]
+
+    def hear_monitor(self, what):
+        line = json.loads(self.qmp.line(what))
+        if "event" in line:
+            self.events.append(line["event"])
+        return line
+
+    def reset(self):
+        """Resets the machine, and waits until that is done."""
+        self.events.clear()
+        self.ask("system_reset")
+        while "RESET" not in self.events:
+            self.hear_monitor("the machine is reset")
 
     def quit(self):
         self.ask("quit")
-        self.process.wait(LIMIT)
+        wait_for_end(self.process, f"the machine {self.name}")
 
 
-class Slot:
-    """The registers of a machine's device that no guest drives: QEMU's protocol for tests writes them."""
+# -- Migration --
 
-    def __init__(self, machine, path, slot):
-        self.stream = machine.connect(path).makefile("rw", encoding="ascii")
-        self.slot = slot
 
-    def do(self, *words):
-        print(*words, file=self.stream, flush=True)
-        words = self.stream.readline().split()
-        check(words and words[0] == "OK", "QEMU writes a register")
-        return words[1:]
+def migrate(source):
+    """Begins a migration. What says whether it is over."""
+    source.ask("migrate", uri="unix:migration")
 
-    def configure(self, at, value):
-        """Writes a word of the slot's PCI configuration."""
-        self.do("outl", 0xCF8, 1 << 31 | self.slot << 11 | at)
-        self.do("outl", 0xCFC, value)
+    def is_over():
+        state = source.ask("query-migrate")["status"]
+        check(state not in ("failed", "cancelled"), "the migration goes on")
+        return state == "completed"
 
-    def begin(self):
-        """What a driver of virtio does at first: the device is mapped, reset, known, offers features and is driven (the virtio
-        specification, 3.1.1 and 4.1.4.3). QEMU has these registers where the fifth region begins. No ring is made."""
-        at, selected, accepted, status = 0xE0000000, 0xE0000008, 0xE000000C, 0xE0000014
-        for word, value in ((0x20, at), (0x24, 0), (0x04, 6)):
-            self.configure(word, value)
-        for value in (0, 1, 3):
-            self.do("writeb", status, value)
-        self.do("writel", selected, 1)
-        self.do("writel", accepted, 1)  # version 1
-        self.do("writeb", status, 11)
-        check(int(self.do("readb", status)[0], 16) == 11, "QEMU has accepted the features")
-        self.do("writeb", status, 15)
+    return is_over
+
+
+def sent(source, what):
+    """What the monitor says of the memory that is migrated: how many bytes were transferred, or how often all was looked through."""
+    return source.ask("query-migrate").get("ram", {}).get(what, 0)
+
+
+def wait_running(machine):
+    """Waits until a machine that was migrated to runs."""
+    wait_until(lambda: machine.ask("query-status")["status"] == "running", "the machine runs")

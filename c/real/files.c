@@ -47,7 +47,7 @@ static int request(uint32_t code, uint64_t node, const void *asked, size_t asked
     queue->descriptors[1] = (struct descriptor){guest_address(&memory, out), out_length, DESCRIPTOR_WRITE, 0};
     post(queue, 0);
     kick(queue);
-    check(take_used(queue, LIMIT, &used), "the request was used in time");
+    take(queue, &used, "the request was used");
     check(out->unique == unique, "the reply is that of the request");
     check(used.length == out->len && out->len >= sizeof *out && out->len <= out_length, "the reply is as long as it says");
     *length = out->len - sizeof *out;
@@ -78,7 +78,7 @@ static void forget(uint64_t node)
     queue->descriptors[0] = (struct descriptor){guest_address(&memory, in), length, 0, 0};
     post(queue, 0);
     kick(queue);
-    check(take_used(queue, LIMIT, &used), "the node was forgotten in time");
+    take(queue, &used, "the node was forgotten");
     check(used.length == 0, "nothing was written for that");
 }
 

@@ -6,9 +6,9 @@
 covretin_service frontend;
 uint64_t rings, features = (uint64_t)1 << 32 /* version 1 */ | COVRETIN_FEATURE_PROTOCOL_FEATURES | COVRETIN_FEATURE_LOG_ALL;
 
-static const uint64_t protocol_features = COVRETIN_PROTOCOL_LOG_SHMFD | COVRETIN_PROTOCOL_REPLY_ACK |
-                                          COVRETIN_PROTOCOL_MTU | COVRETIN_PROTOCOL_BACKEND_REQ | COVRETIN_PROTOCOL_CONFIG |
-                                          COVRETIN_PROTOCOL_RESET_DEVICE | COVRETIN_PROTOCOL_CONFIGURE_MEM_SLOTS;
+uint64_t protocol_features = COVRETIN_PROTOCOL_LOG_SHMFD | COVRETIN_PROTOCOL_REPLY_ACK | COVRETIN_PROTOCOL_MTU |
+                             COVRETIN_PROTOCOL_BACKEND_REQ | COVRETIN_PROTOCOL_CONFIG | COVRETIN_PROTOCOL_RESET_DEVICE |
+                             COVRETIN_PROTOCOL_CONFIGURE_MEM_SLOTS;
 
 static enum covretin_error answer_config(void)
 {

@@ -5,9 +5,9 @@
 
 #include "covretin_backend_socket.h"
 
-/* Its frontend, how many rings it has, and the virtio features that it offers. */
+/* Its frontend, how many rings it has, and the features that it offers. */
 extern covretin_service frontend;
-extern uint64_t rings, features;
+extern uint64_t rings, features, protocol_features;
 #define BACKEND (&frontend.backend)
 
 /* Replies to a call. What has no other reply is done. */

@@ -13,13 +13,12 @@ import os
 import random
 import re
 import shutil
-import signal
 import struct
 import subprocess
 import sys
-import time
 
-from emulator import LIMIT, RUNNING, Emulator, Slot, check, run, tell, wait_until
+from driver import Slot
+from emulator import Disk, Emulator, check, migrate, play, run, sent, tell, wait_for_end, wait_running, wait_until
 
 SECTOR = 512
 KERNEL_AT = 2048  # sectors
@@ -102,49 +101,6 @@ def make_image(boot):
     subprocess.run(words, check=True, stderr=subprocess.DEVNULL)
 
 
-# -- The disk --
-
-
-class Disk:
-    """The example disk, as a process over the image."""
-
-    def __init__(self, program, name="disk"):
-        self.program, self.path = program, f"{name}-{os.getpid()}.socket"
-        self.log = open("disk.log", "ab")
-        self.start()
-
-    def start(self):
-        self.process = run([self.program, self.path, "image", "2"], self.log)
-        wait_until(self.is_there, "the disk listens", 10)
-
-    def is_there(self):
-        check(self.process.poll() is None, "the disk goes on")
-        with open("/proc/net/unix", encoding="utf-8") as it:
-            return any(line.split()[-1] == self.path for line in it)
-
-    def is_writing(self):
-        """Whether it pauses before it writes to its file, which is slow, by the numbers of nanosleep."""
-        with open(f"/proc/{self.process.pid}/syscall", encoding="utf-8") as it:
-            return it.read().split()[0] in ("35", "230")
-
-    def kill(self):
-        """Kills it amid a write."""
-        wait_until(self.is_writing, "the disk writes")
-        self.process.kill()
-        self.process.wait()
-
-    def mapped(self):
-        """How many regions of guest memory it has mapped."""
-        with open(f"/proc/{self.process.pid}/maps", encoding="utf-8") as it:
-            return sum("/memfd:memory-backend-memfd" in line for line in it)
-
-    def end(self):
-        """Ends it. Descriptors or memory that it lost would be told by its status."""
-        self.process.send_signal(signal.SIGTERM)
-        self.process.wait(LIMIT)
-        check(self.process.returncode == 0, "the disk ended well")
-
-
 # -- The machine --
 
 
@@ -162,21 +118,18 @@ class Machine(Emulator):
 
     def hear(self, pattern):
         """Waits until the console has said this."""
-        end = time.monotonic() + LIMIT
         while True:
             found = re.search(pattern, self.seen)
             if found:
                 self.seen = self.seen[found.end() :]
                 return found
-            check(time.monotonic() < end, f"the console says {pattern}")
-            part = self.console.recv(4096)
-            check(part, f"the console says {pattern} before it ends")
+            part = self.console.part(f"the console of {self.name} says {pattern}")
             self.seen += part
             with open(f"{self.name}.said", "ab") as it:
                 it.write(part)
 
     def begin(self, line):
-        self.console.sendall(line.encode() + b"\n")
+        self.console.send(line)
 
     def ended(self):
         """What the line that was begun printed; it has to have succeeded."""
@@ -191,15 +144,9 @@ class Machine(Emulator):
 
     def power_off(self):
         self.begin("poweroff -f")
-        self.process.wait(LIMIT)
-        check(self.process.returncode == 0, "the machine ended well")
+        wait_for_end(self.process, f"the machine {self.name}")
         self.console.close()
         self.qmp.close()
-
-
-def wait_running(machine):
-    """Waits until a machine that was migrated to runs."""
-    wait_until(lambda: machine.ask("query-status")["status"] == "running", "the machine runs")
 
 
 def boot(name, disk, *words, **settings):
@@ -250,6 +197,9 @@ WRITER = (
     "echo failed >/tmp/failed; echo $i >/tmp/count; done; echo ended >/tmp/ended) &"
 )
 
+# Writes to so much memory all the time that it is never all sent while the guest runs.
+DIRTIER = "(while [ ! -e /tmp/clean ]; do dd if=/dev/zero of=/tmp/dirty bs=1M count=8 conv=notrunc 2>/dev/null; done) &"
+
 
 def stop_writer(machine):
     """Ends the guest's writer. How many blocks it wrote."""
@@ -272,18 +222,6 @@ def written(machine):
     return int(machine.do("n=; while [ -z $n ]; do n=$(cat /tmp/count 2>/dev/null || echo 0); done; echo $n"))
 
 
-def migrate(source, target):
-    """Migrates, and waits until the target runs."""
-    source.ask("migrate", uri="unix:migration")
-
-    def is_over():
-        state = source.ask("query-migrate")["status"]
-        check(state not in ("failed", "cancelled"), "the migration goes on")
-        return state == "completed"
-
-    return is_over
-
-
 def two_machines(program):
     """A machine that runs, over one disk, and one that it is to be migrated to, over another of the same image."""
     disks = [Disk(program, "source"), Disk(program, "target")]
@@ -298,18 +236,21 @@ def tried_migration(program):
     half = 16 << 20
     wanted = fill_system(2 * half)
     source.do(WRITER)
+    source.do(DIRTIER)
     source.do("exec 3</dev/vda1; head -c 16777216 /dev/vda1 >/dev/null")
     target.ask("migrate-incoming", uri="unix:migration")
-    source.ask("migrate-set-parameters", **{"max-bandwidth": 16 << 20, "downtime-limit": 2000})
-    is_over = migrate(source, target)
-    wait_until(lambda: source.ask("query-migrate").get("ram", {}).get("transferred", 0) > 64 << 20, "most pages were sent")
+    # As long as the guest may pause for a millisecond alone, and writes more pages than are sent in that time, it is not over.
+    source.ask("migrate-set-parameters", **{"max-bandwidth": 16 << 20, "downtime-limit": 1})
+    is_over = migrate(source)
+    wait_until(lambda: sent(source, "dirty-sync-count") > 2, "each page was sent")
     source.ask("migrate-set-parameters", **{"max-bandwidth": 1 << 16})
     source.do("head -c 33554432 /dev/vda1 >/dev/null")
     before = written(source)
     check(not is_over(), "the migration goes on meanwhile")
-    source.ask("migrate-set-parameters", **{"max-bandwidth": 1 << 30})
+    source.ask("migrate-set-parameters", **{"max-bandwidth": 1 << 30, "downtime-limit": 2000})
     wait_until(is_over, "the migration is over")
     wait_running(target)
+    target.do("touch /tmp/clean")
     # what was read before is in the target's memory, and not read again
     target.do("sectors() { awk '{ print $3 }' /sys/block/vda/vda1/stat; }; was=$(sectors)")
     found = target.do("head -c 33554432 /dev/vda1 | sha256sum; [ $(($(sectors) - was)) -lt 1024 ]")
@@ -333,8 +274,8 @@ def tried_postcopy(program):
     source.do("head -c 67108864 /dev/urandom >/tmp/random; sha256sum /tmp/random >/tmp/sum")
     target.ask("migrate-incoming", uri="unix:migration")
     source.ask("migrate-set-parameters", **{"max-bandwidth": 4 << 20, "max-postcopy-bandwidth": 16 << 20})
-    is_over = migrate(source, target)
-    wait_until(lambda: source.ask("query-migrate").get("ram", {}).get("transferred", 0) > 1 << 20, "the migration is under way")
+    is_over = migrate(source)
+    wait_until(lambda: sent(source, "transferred") > 1 << 20, "the migration is under way")
     before = written(source)
     source.ask("migrate-start-postcopy")
     wait_running(target)
@@ -438,8 +379,7 @@ def tried_devices(program):
     machine.power_off()
     disk.end()
     for name, (_, _, rings, _) in DEVICES.items():
-        devices[name].wait(LIMIT)
-        check(devices[name].returncode == 0, f"the device behind {name} ended well")
+        wait_for_end(devices[name], f"the device behind {name}")
         check_calls(name, rings)
 
 
@@ -485,7 +425,9 @@ def tried_display(program):
     words += ["-device", "vhost-user-gpu-pci,chardev=card,id=card,addr=5,max_outputs=2,xres=800,yres=600"]
     machine = Emulator("machine", "kvm", "64M", *words)
     machine.greet()
-    Slot(machine, "machine.test", 5).begin()
+    card = Slot(machine, 5)
+    card.begin()
+    card.drive()
     machine.ask("cont")
 
     def is_shown():
@@ -501,8 +443,7 @@ def tried_display(program):
         check(it.read().count("display: screen of 800 by 600, enabled\n") == 2, "the display says what QEMU's command does")
     check(has_open(machine.process, "buffer"), "QEMU has the buffer")
     machine.quit()
-    device.wait(LIMIT)
-    check(device.returncode == 0, "the picture ended well")
+    wait_for_end(device, "the picture")
     check_calls("picture", 0)
 
 
@@ -515,11 +456,8 @@ def main():
     try:
         if sys.argv[1] != "display":  # which needs no disk
             make_image(sys.argv[3])
-        tries[sys.argv[1]](sys.argv[2])
+        play(tries[sys.argv[1]], sys.argv[2])
     finally:
-        for it in RUNNING:
-            it.kill()
-            it.wait()
         for it in ("image", "first.cpio"):
             if os.path.exists(it):
                 os.remove(it)

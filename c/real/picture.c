@@ -21,7 +21,7 @@
 #include <sys/mman.h>
 #include <unistd.h>
 
-enum { WIDTH = 64, HEIGHT = 48, LIMIT = 30000 /* milliseconds */ };
+enum { WIDTH = 64, HEIGHT = 48, LIMIT = -1 /* milliseconds: who runs it limits it */ };
 
 static covretin_display_connection screen;
 static covretin_display *const display = &screen.display;

@@ -77,7 +77,7 @@ static void take_frames(const struct memory *memory, struct virtqueue *queues, u
     struct used_element used;
     uint8_t frame[LONGEST];
     for (unsigned i = 0; i < FRAMES; i++) {
-        check(take_used(&queues[RECEIVE], LIMIT, &used), "a frame came back in time");
+        take(&queues[RECEIVE], &used, "a frame came back");
         check(used.head < FRAMES, "it is in one of the buffers");
         const uint8_t *got = buffer_at(memory->at, RECEIVE, used.head);
         make_frame(frame, i, round);
@@ -86,7 +86,7 @@ static void take_frames(const struct memory *memory, struct virtqueue *queues, u
         check(memcmp(got + HEADER, frame, length_of(i)) == 0, "it is the one that was sent");
     }
     for (unsigned i = 0; i < FRAMES; i++)
-        check(take_used(&queues[TRANSMIT], LIMIT, &used), "a frame that was sent was used");
+        take(&queues[TRANSMIT], &used, "a frame that was sent was used");
 }
 
 static void play_rounds(const struct memory *memory, struct virtqueue *queues, unsigned from, unsigned to)
@@ -159,7 +159,8 @@ static void asked_in_postcopy(struct memory *memory)
 
     start_arrival(&arrival, memory);
     start_rings(here);
-    check(waited_for(&arrival, PAGES, LIMIT), "the switch waited for the pages of each ring, frame and buffer");
+    await("the switch waits for the pages of each ring, frame and buffer");
+    await_faults(&arrival, PAGES);
     take_frames(memory, here, 0);
     end_arrival(&arrival);
 

@@ -88,7 +88,7 @@ static bool wait_for_call(const struct virtqueue *queue, int *milliseconds)
     if (queue->call >= 0)
         return poll(&called, 1, *milliseconds) == 1 && eventfd_read(queue->call, &count) == 0;
     poll(NULL, 0, 1);
-    return --*milliseconds > 0;
+    return *milliseconds < 0 || --*milliseconds > 0;
 }
 
 bool take_used(struct virtqueue *queue, int milliseconds, struct used_element *element)

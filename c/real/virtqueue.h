@@ -76,7 +76,7 @@ void make_polled(struct virtqueue *queue);
 void post(struct virtqueue *queue, uint16_t head);
 void kick(const struct virtqueue *queue);
 
-/* Waits until the device has used a chain, and takes it. False where that takes longer. */
+/* Waits until the device has used a chain, and takes it. False where that takes longer; negative: as long as it takes. */
 bool take_used(struct virtqueue *queue, int milliseconds, struct used_element *element);
 
 #endif

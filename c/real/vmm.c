@@ -4,10 +4,12 @@
 #include <dirent.h>
 #include <errno.h>
 #include <inttypes.h>
+#include <signal.h>
 #include <stdio.h>
 #include <stdlib.h>
 #include <string.h>
 #include <time.h>
+#include <unistd.h>
 
 covretin_connection device;
 
@@ -17,6 +19,22 @@ void check(bool holds, const char *what)
         return;
     printf("not so: %s\n", what);
     exit(1);
+}
+
+static const char *volatile awaited = "the backend";
+
+void await(const char *what)
+{
+    awaited = what;
+}
+
+static void say_awaited(int signal)
+{
+    static const char words[] = "not so in time: ";
+    (void)signal;
+    if (write(STDOUT_FILENO, words, sizeof words - 1) > 0 && write(STDOUT_FILENO, awaited, strlen(awaited)) > 0)
+        (void)!write(STDOUT_FILENO, "\n", 1);
+    _exit(1);
 }
 
 static void stop(const char *name, enum covretin_error error)
@@ -39,12 +57,11 @@ size_t open_fds(void)
 void connect_to(const char *path)
 {
     const struct timespec pause = {.tv_nsec = 20000000};
-    enum covretin_error error = COVRETIN_SOCKET_CONNECT;
-    for (int tries = 0; tries < LIMIT / 20 && error == COVRETIN_SOCKET_CONNECT; tries++) {
-        if (tries != 0)
-            nanosleep(&pause, NULL);
-        error = covretin_connect(&device, path, 2, LIMIT);
-    }
+    enum covretin_error error;
+    signal(SIGTERM, say_awaited);
+    await("connect");
+    while ((error = covretin_connect(&device, path, 2, LIMIT)) == COVRETIN_SOCKET_CONNECT)
+        nanosleep(&pause, NULL);
     if (error)
         stop(path, error);
 }
@@ -52,6 +69,7 @@ void connect_to(const char *path)
 enum covretin_error outcome(const char *name, enum covretin_error error)
 {
     errno = 0;
+    await(name);
     if (error == COVRETIN_OK)
         error = covretin_exchange(&device, LIMIT);
     printf("%s: %s\n", name, error == COVRETIN_OK ? "done" : covretin_error_text(error));
@@ -122,6 +140,12 @@ void start_ring(const struct virtqueue *queue, uint64_t log)
     done("set_vring_call", covretin_ask_set_vring_call(SESSION, index, queue->call));
     done("set_vring_kick", covretin_ask_set_vring_kick(SESSION, index, queue->kick));
     done("set_vring_enable", covretin_ask_set_vring_enable(SESSION, index, true));
+}
+
+void take(struct virtqueue *queue, struct used_element *used, const char *what)
+{
+    await(what);
+    check(take_used(queue, LIMIT, used), what);
 }
 
 void stop_ring(const struct virtqueue *queue)

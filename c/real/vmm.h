@@ -9,7 +9,12 @@
 
 #define FEATURE_VERSION_1 ((uint64_t)1 << 32)
 
-enum { LIMIT = 10000 }; /* milliseconds for a call, and for what a device does */
+/* Milliseconds for a call, and for what a device does: as long as it takes. Whoever runs the program limits it, by what is done
+ * meanwhile, and ends it by SIGTERM. It then says what it waited for, and its status is 1. */
+enum { LIMIT = -1 };
+
+/* What is waited for from now on. */
+void await(const char *what);
 
 /* The device's connection, and its session. */
 extern covretin_connection device;
@@ -38,6 +43,9 @@ void negotiate(uint64_t features, uint64_t unoffered);
 /* The region that a memory is for the backend, and the table of this one. */
 covretin_region region_of(const struct memory *memory);
 void give_memory(const struct memory *memory);
+
+/* Waits until the device has used a chain, and takes it. */
+void take(struct virtqueue *queue, struct used_element *used, const char *what);
 
 /* Sets a ring up, at the place where its virtqueue goes on, and starts it; its used ring lies at `log` of the log, unless that
  * is 0. */
