@@ -25,3 +25,5 @@ mod retries;
 mod rings;
 #[cfg(test)]
 mod serving;
+#[cfg(test)]
+mod shared;

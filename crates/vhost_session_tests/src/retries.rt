@@ -12,7 +12,7 @@ use vhost_promises::{Device, meets_fault, meets_fault_calling};
 static OWN: [u8; 12] = [3, 0, 0, 0, 1, 0, 0, 0, 0, 0, 0, 0];
 
 /// How a call ended: as it should, with a retry too many, or since the endpoint was poisoned by one.
-#[derive(Clone, Copy, Debug, PartialEq, Eq)]
+#[derive(Clone, Copy, PartialEq, Eq)]
 enum Ended {
     Done,
     Retried,
@@ -30,54 +30,48 @@ fn end_of(error: Option<&Error>) -> Ended {
 }
 
 /// Two retries, as many as a message may take; one more before its first byte; and one more amid it.
-fn scripts(alloc: Global) -> Option<[Vec<Cut>; 3]> {
-    Some([
-        vec![in alloc; Cut::Give(5), Cut::Retry, Cut::Retry].ok()?,
-        vec![in alloc; Cut::Retry, Cut::Retry, Cut::Retry].ok()?,
-        vec![in alloc; Cut::Give(5), Cut::Retry, Cut::Retry, Cut::Retry].ok()?,
-    ])
-}
+static ENOUGH: [Cut; 3] = [Cut::Give(5), Cut::Retry, Cut::Retry];
 
-/// What both sides answer to two calls over these scripts.
-const WANTED: [[Ended; 2]; 3] = [
-    [Ended::Done, Ended::Done],
-    [Ended::Retried, Ended::Done],
-    [Ended::Retried, Ended::Broken],
-];
+static BEFORE: [Cut; 3] = [Cut::Retry, Cut::Retry, Cut::Retry];
+
+static AMID: [Cut; 4] = [Cut::Give(5), Cut::Retry, Cut::Retry, Cut::Retry];
 
 /// How a handler's answer ended.
 fn ended_serving(answer: &Answer<()>) -> Ended {
     end_of(answer.as_ref().err())
 }
 
-/// How two requests are served, over a link with this script.
-fn served_by<D: VhostUserBackendReqHandlerMut<Link = MemLink>>(
-    alloc: Global,
-    device: &mut D,
-    cuts: Vec<Cut>,
-) -> Option<[Ended; 2]> {
-    let mut link = MemLink::new(alloc, cuts);
+/// A link with this script, on which SET_OWNER came twice.
+fn owned_twice(alloc: Global, cuts: &[Cut]) -> Option<MemLink> {
+    let mut link = MemLink::new(alloc, Vec::from_slice(alloc, cuts).ok()?);
     link.push(&OWN, &[]).ok()?;
-    link.push(&[4, 0, 0, 0, 1, 0, 0, 0, 0, 0, 0, 0], &[]).ok()?;
-    let mut core = SessionCore::new(alloc, link, 2).ok()?;
-    let first = ended_serving(&meets_fault(&mut core, device));
-    Some([first, ended_serving(&meets_fault(&mut core, device))])
+    link.push(&OWN, &[]).ok()?;
+    Some(link)
 }
 
-/// The same of each script.
-fn served(alloc: Global) -> Option<[[Ended; 2]; 3]> {
-    let [enough, before, amid] = scripts(alloc)?;
+/// How two requests are served.
+fn served_by<D: VhostUserBackendReqHandlerMut<Link = MemLink>>(
+    core: &mut SessionCore<MemLink>,
+    device: &mut D,
+) -> [Ended; 2] {
+    let first = ended_serving(&meets_fault(core, device));
+    [first, ended_serving(&meets_fault(core, device))]
+}
+
+/// The same over the example device, and a link with this script.
+fn served(alloc: Global, cuts: &[Cut]) -> Option<[Ended; 2]> {
+    let mut core = SessionCore::new(alloc, owned_twice(alloc, cuts)?, 2).ok()?;
     let mut device = Device::new(alloc, Vec::new(alloc));
-    Some([
-        served_by(alloc, &mut device, enough)?,
-        served_by(alloc, &mut device, before)?,
-        served_by(alloc, &mut device, amid)?,
-    ])
+    Some(served_by(&mut core, &mut device))
 }
 
+/// (the device is owned once, so the second request is refused otherwise)
 #[test]
 fn serves_with_retries(rt: HostRuntime) {
-    assert!(rt; served(rt.alloc()) == Some(WANTED));
+    let alloc = rt.alloc();
+    assert!(rt; served(alloc, &ENOUGH) == Some([Ended::Done, Ended::Otherwise]));
+    assert!(rt; served(alloc, &BEFORE) == Some([Ended::Retried, Ended::Done]));
+    assert!(rt; served(alloc, &AMID) == Some([Ended::Retried, Ended::Broken]));
 }
 
 /// How a frontend's answer ended.
@@ -89,8 +83,9 @@ fn ended_asking(answer: &FrontendAnswer) -> Ended {
 }
 
 /// How two calls are answered, over a link with this script.
-fn asked_by(alloc: Global, cuts: Vec<Cut>) -> Option<[Ended; 2]> {
-    let mut frontend = FrontendInternal::new(alloc, MemLink::new(alloc, cuts), 4, 2).ok()?;
+fn asked(alloc: Global, cuts: &[Cut]) -> Option<[Ended; 2]> {
+    let link = MemLink::new(alloc, Vec::from_slice(alloc, cuts).ok()?);
+    let mut frontend = FrontendInternal::new(alloc, link, 4, 2).ok()?;
     let call = FrontendCall::SetVringNum(0, 128);
     let first = ended_asking(&meets_fault_calling(&mut frontend, &call));
     Some([
@@ -99,17 +94,10 @@ fn asked_by(alloc: Global, cuts: Vec<Cut>) -> Option<[Ended; 2]> {
     ])
 }
 
-/// The same of each script.
-fn asked(alloc: Global) -> Option<[[Ended; 2]; 3]> {
-    let [enough, before, amid] = scripts(alloc)?;
-    Some([
-        asked_by(alloc, enough)?,
-        asked_by(alloc, before)?,
-        asked_by(alloc, amid)?,
-    ])
-}
-
 #[test]
 fn asks_with_retries(rt: HostRuntime) {
-    assert!(rt; asked(rt.alloc()) == Some(WANTED));
+    let alloc = rt.alloc();
+    assert!(rt; asked(alloc, &ENOUGH) == Some([Ended::Done, Ended::Done]));
+    assert!(rt; asked(alloc, &BEFORE) == Some([Ended::Retried, Ended::Done]));
+    assert!(rt; asked(alloc, &AMID) == Some([Ended::Retried, Ended::Broken]));
 }
