@@ -127,7 +127,8 @@ def play_program(play):
 def program_of_lines():
     """The program that plays lines: the proved one, where it is current."""
     proved = f"{TOP}/crates/{RUN}/out/{RUN}"
-    return proved if is_current(RUN, proved, ["src", "specs", "proofs"]) else kept_at(RUN)
+    is_proved = os.access(proved, os.X_OK) and is_current(RUN, proved, ["src", "specs", "proofs"])
+    return proved if is_proved else kept_at(RUN)
 
 
 def play_script(play):

@@ -4,6 +4,7 @@ use std::alloc::Global;
 use std::sync::Wait;
 use uuid::Uuid;
 use vhost_backend_req::Backend;
+use vhost_frontend_req_handler::VhostUserFrontendReqHandler;
 use vhost_gpu_backend_req::GpuBackend;
 use vhost_link::MemLink;
 use vhost_message::VhostUserSharedMsg;
