@@ -94,6 +94,10 @@ enum covretin_call {
     COVRETIN_CALL_POSTCOPY_ACK = 256          /* the frontend mapped the regions of the request before; reply_done */
 };
 
+/* What a request is called, by its number: a string that is never NULL, never freed and different for each of 1 to 44, also where
+ * nobody serves it, and for COVRETIN_CALL_POSTCOPY_ACK. Any other number has a string too. */
+const char *covretin_request_text(uint32_t request);
+
 /* -- Sessions ------------------------------------------------------------------------------------------------------ */
 
 /* Opens a session. SESSION_OPEN; OUT_OF_MEMORY. After an error nothing changed. */

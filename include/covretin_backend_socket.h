@@ -96,6 +96,10 @@ int covretin_service_fd(const covretin_service *service);
 /* Whether the service is of no more use: an error ended it, or there is none. */
 bool covretin_service_ended(const covretin_service *service);
 
+/* The number of the request that came last, as its header has it, also of one that was refused or came in part;
+ * covretin_request_text names it. 0 before the first, where less than that number came of the last, and without a service. */
+uint32_t covretin_service_request(const covretin_service *service);
+
 /* -- Requests ------------------------------------------------------------------------------------------------------ */
 
 /* Sends what is still to be sent, receives the next request, and checks it. 0: *call is what is asked of the device, which is

@@ -64,6 +64,12 @@ impl<S: VhostUserBackendReqHandler> BackendReqHandler<S> {
         self.connection.set_failed(Some(error));
     }
 
+    /// The number of the request that came last, as its header has it, also of one that was refused or came in part: that of a
+    /// [`FrontendReq`], or of no request. None before the first, and where less of the last came.
+    pub fn last_request(&self) -> Option<u32> {
+        self.connection.last_request()
+    }
+
     /// Serves the next request: receives it, asks the device, and replies. It waits for the request as long as the frontend likes.
     ///
     /// Disconnected: the frontend closed the socket, or ended, between two requests. SocketRetry: the socket does not block, or
