@@ -433,6 +433,13 @@ static answer *answer_of(uint32_t call)
     return call < sizeof answers / sizeof *answers ? answers[call] : NULL;
 }
 
+/* Says at which request an error came. */
+static void tell_error(enum covretin_error error)
+{
+    uint32_t request = covretin_service_request(&frontend);
+    fprintf(stderr, "request %u, %s: %s\n", (unsigned)request, covretin_request_text(request), covretin_error_text(error));
+}
+
 /* Serves the requests that are there. What the socket has to be ready for, for more. */
 static short serve_calls(void)
 {
@@ -447,7 +454,7 @@ static short serve_calls(void)
             error = answers == NULL ? covretin_reply_refused(backend) : answers();
         }
         if (error && error != COVRETIN_DISCONNECTED)
-            fprintf(stderr, "call %u: %s\n", (unsigned)call, covretin_error_text(error));
+            tell_error(error);
         if (error == COVRETIN_NOT_REPLIED) /* there was no memory for the reply */
             covretin_hang_up(&frontend);
     }

@@ -272,6 +272,11 @@ bool covretin_service_ended(const covretin_service *service)
     return serving_ended(service->opaque);
 }
 
+uint32_t covretin_service_request(const covretin_service *service)
+{
+    return serving_request(service->opaque);
+}
+
 /* -- Requests -- */
 
 enum covretin_error covretin_next_call(covretin_service *service, uint32_t *call, int milliseconds)

@@ -140,6 +140,11 @@ bool covretin_channel_service_ended(const covretin_channel_service *service)
     return serving_ended(service->opaque);
 }
 
+uint32_t covretin_channel_service_request(const covretin_channel_service *service)
+{
+    return serving_request(service->opaque);
+}
+
 enum covretin_error covretin_channel_next_call(covretin_channel_service *service, uint32_t *call, int milliseconds)
 {
     return serving_next_call(service->opaque, call, milliseconds);

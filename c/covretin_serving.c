@@ -38,6 +38,11 @@ bool serving_ended(const struct serving *serving)
     return serving == NULL || serving->transport->broken;
 }
 
+uint32_t serving_request(const struct serving *serving)
+{
+    return serving == NULL ? 0 : transport_request(serving->transport);
+}
+
 /* -- Requests -- */
 
 /* Whether the call that was handed out last is still to be replied to. */

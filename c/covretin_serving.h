@@ -31,6 +31,9 @@ void serving_free(struct serving *serving);
 int serving_fd(const struct serving *serving);
 bool serving_ended(const struct serving *serving);
 
+/* The number of the request that came last, or 0. */
+uint32_t serving_request(const struct serving *serving);
+
 /* What covretin_backend_socket.h says of covretin_next_call, covretin_send_reply and covretin_claim_call_fd. */
 enum covretin_error serving_next_call(struct serving *serving, uint32_t *call, int milliseconds);
 enum covretin_error serving_next_call_nowait(struct serving *serving, uint32_t *call, short *events);

@@ -172,6 +172,23 @@ static void gather(struct transport *transport, struct msghdr *message)
     }
 }
 
+/* Notes the first bytes of a message, of those that came. */
+static void note_code(struct transport *transport, size_t got)
+{
+    if (got != 0 && !transport->begun)
+        transport->code_len = 0;
+    for (size_t i = 0; i < got && transport->code_len < sizeof transport->code; i++)
+        transport->code[transport->code_len++] = transport->bytes[i];
+}
+
+uint32_t transport_request(const struct transport *transport)
+{
+    const uint8_t *code = transport->code;
+    if (transport->code_len < sizeof transport->code)
+        return 0;
+    return code[0] | (uint32_t)code[1] << 8 | (uint32_t)code[2] << 16 | (uint32_t)code[3] << 24;
+}
+
 /* Receives at most so many bytes into `bytes`, without waiting. */
 static enum covretin_error receive_piece(struct transport *transport, size_t most)
 {
@@ -187,6 +204,7 @@ static enum covretin_error receive_piece(struct transport *transport, size_t mos
     if (got < 0)
         return reason();
     gather(transport, &message);
+    note_code(transport, (size_t)got);
     if (message.msg_flags & MSG_CTRUNC)
         return COVRETIN_FDS_LOST;
     if (got == 0)

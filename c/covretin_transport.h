@@ -29,6 +29,8 @@ struct transport {
     const uint8_t *lent; /* the caller's: lent[0 .. lent_len) are to be sent behind all that is the session's */
     size_t lent_len;
     bool begun;                     /* the awaited message has begun to come */
+    uint8_t code[4];                /* the first bytes of the message that came last: the number of its request */
+    size_t code_len;
     int32_t came[COVRETIN_MAX_FDS]; /* with its first byte; the connection's. -1: handed over */
     size_t came_count;
     int32_t late[COVRETIN_MAX_FDS]; /* with a later one; closed once the session was told */
@@ -50,6 +52,9 @@ enum covretin_error transport_send(struct transport *transport);
 
 /* Receives what the session misses, and hands it in. An allocation that fails leaves it here. NOT_YET: the socket has no more. */
 enum covretin_error transport_receive(struct transport *transport);
+
+/* The number of the request that came last, as its header has it; 0: that much of it has not come. */
+uint32_t transport_request(const struct transport *transport);
 
 /* Sends what is to be sent, receives the reply, and has it taken once it is there whole. What `takes` returns, or why it does not come to
  * that; NOT_YET: *events is what the socket has to be ready for. NO_SESSION: there is no transport. */

@@ -96,6 +96,10 @@ int covretin_service_fd(const covretin_service *service);
 /* Whether the service is of no more use: an error ended it, or there is none. */
 bool covretin_service_ended(const covretin_service *service);
 
+/* The number of the request that came last, as its header has it, also of one that was refused or came in part;
+ * covretin_request_text names it. 0 before the first, where less than that number came of the last, and without a service. */
+uint32_t covretin_service_request(const covretin_service *service);
+
 /* -- Requests ------------------------------------------------------------------------------------------------------ */
 
 /* Sends what is still to be sent, receives the next request, and checks it. 0: *call is what is asked of the device, which is
@@ -104,9 +108,9 @@ bool covretin_service_ended(const covretin_service *service);
  * NO_SESSION: there is no service. NOT_REPLIED: the call before is still to be replied to; until it is, each call returns this,
  *   and at once.
  * TIMED_OUT, OUT_OF_MEMORY: the next covretin_next_call goes on. A request that had come whole where memory failed is refused.
- * DISCONNECTED, PARTIAL_MESSAGE: the frontend closed the socket, or ended: between two requests, or amid one. SOCKET_ERROR: the
- *   system failed otherwise. FDS_LOST: the system dropped descriptors of the request. After these, INVALID_MESSAGE and
- *   SOCKET_BROKEN the service has ended: each further call returns the same, and the caller hangs up. */
+ * DISCONNECTED, PARTIAL_MESSAGE, INVALID_MESSAGE: the frontend closed the socket, or ended: between two requests, in a header, in
+ *   a body. SOCKET_ERROR: the system failed otherwise. FDS_LOST: the system dropped descriptors of the request. After these, any
+ *   other INVALID_MESSAGE and SOCKET_BROKEN the service has ended: each further call returns the same, and the caller hangs up. */
 enum covretin_error covretin_next_call(covretin_service *service, uint32_t *call, int milliseconds);
 
 /* The same for an event loop: never waits. NOT_YET: *events says what the socket has to be ready for, POLLIN or POLLOUT (of

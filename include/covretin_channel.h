@@ -149,6 +149,9 @@ enum covretin_channel_call {
     COVRETIN_CHANNEL_CALL_SHMEM_UNMAP = 10          /* call_mmap */
 };
 
+/* As covretin_request_text, of a device's requests, which are 1 to 10. */
+const char *covretin_channel_request_text(uint32_t request);
+
 /* -- Sessions ------------------------------------------------------------------------------------------------------ */
 
 /* Opens a session, without acknowledgements. SESSION_OPEN; OUT_OF_MEMORY. After an error nothing changed. */

@@ -63,11 +63,12 @@ typedef struct covretin_channel_service {
     void *opaque;
 } covretin_channel_service;
 
-/* As covretin_serve_fd, covretin_hang_up, covretin_service_fd and covretin_service_ended. */
+/* As covretin_serve_fd, covretin_hang_up, covretin_service_fd, covretin_service_ended and covretin_service_request. */
 enum covretin_error covretin_channel_serve_fd(covretin_channel_service *service, int fd);
 void covretin_channel_hang_up(covretin_channel_service *service);
 int covretin_channel_service_fd(const covretin_channel_service *service);
 bool covretin_channel_service_ended(const covretin_channel_service *service);
+uint32_t covretin_channel_service_request(const covretin_channel_service *service);
 
 /* As covretin_next_call and covretin_send_reply; what covretin_channel_server_next returns. */
 enum covretin_error covretin_channel_next_call(covretin_channel_service *service, uint32_t *call, int milliseconds);

@@ -1,7 +1,8 @@
 #!/usr/bin/env python3
 # SPDX-License-Identifier: Apache-2.0
-"""scripts/headers.py: whether each constant of the headers for C, and of the foreign calls in Rust, is that of the code; and
-whether the feature that a frontend's call needs is the same in the header, in the package for Rust and in docs/protocol/asking.md.
+"""scripts/headers.py: whether each constant of the headers for C, and of the foreign calls in Rust, is that of the code; whether the
+library for C calls each request by its name; and whether the feature that a frontend's call needs is the same in the header, in the
+package for Rust and in docs/protocol/asking.md.
 
 Status 0 where all are; 1 where some are not: each is printed, with what stands there and what is wanted.
 """
@@ -69,7 +70,8 @@ def wanted():
         "COVRETIN_DISPLAY_EDID_SIZE": replies["VirtioGpuRespGetEdid"],
         "COVRETIN_NEED_REPLY": 1 << constants(f"{MESSAGE}/header_bit.rt")["NEED_REPLY"],
         "COVRETIN_ASKED_PROTOCOL_FEATURES": features["ASKED_PROTOCOL_FEATURES"],
-        "COVRETIN_SERVED_PROTOCOL_FEATURES": features["SERVED_PROTOCOL_FEATURES"],
+        # (the library for C makes no request of HOST_NOTIFIER)
+        "COVRETIN_SERVED_PROTOCOL_FEATURES": features["SERVED_PROTOCOL_FEATURES"] & ~(1 << bits["HOST_NOTIFIER"]),
         "COVRETIN_OK": 0,
     }
     found.update({f"COVRETIN_PROTOCOL_{name}": 1 << bit for name, bit in bits.items()})
@@ -139,6 +141,16 @@ def wrong_needs(bits):
     return wrong
 
 
+def wrong_names():
+    """Where the library for C calls a request otherwise than the code."""
+    text = read("c/covretin_text.c")
+    for table, path in (("frontend_requests", "frontend_req.rt"), ("backend_requests", "backend_req.rt")):
+        named = re.search(rf"\b{table}\[\] = {{(.*?)}};", text, re.DOTALL)[1]
+        named = {name: int(number) for number, name in re.findall(r'\[(\d+)\] = "(\w+)"', named)}
+        if named != codes(f"{MESSAGE}/{path}"):
+            yield f"c/covretin_text.c: {table} are not those of {MESSAGE}/{path}"
+
+
 def main():
     code, glue = wanted()
     by_plain = {plain(name): value for name, value in code.items()}
@@ -155,6 +167,7 @@ def main():
         for name, value in re.findall(r"const (\w+): usize = (\d+);", read(path)):
             if name in glue and int(value) != code[glue[name]]:
                 wrong.append(f"{path}: {name} is {value}, and of the code {code[glue[name]]}")
+    wrong += wrong_names()
     wrong += wrong_needs(constants(f"{MESSAGE}/protocol_bit.rt"))
     print("\n".join(wrong + [f"headers: {len(met)} constants, {len(wrong)} wrong"]))
     return bool(wrong)

@@ -48,13 +48,15 @@ enum covretin_error answer_idly(uint32_t call)
 static enum covretin_error serve(answer *answers)
 {
     for (;;) {
-        uint32_t call = 0;
+        uint32_t call = 0, request;
         enum covretin_error error = covretin_next_call(&frontend, &call, -1);
         if (covretin_service_ended(&frontend) || error == COVRETIN_NOT_REPLIED)
             return error;
         if (error == COVRETIN_OK)
             error = answers(call);
-        printf("%s %u: %s\n", error ? "refused" : "call", (unsigned)call, covretin_error_text(error));
+        request = covretin_service_request(&frontend);
+        printf("%s %u: %s: %s\n", error ? "refused" : "call", (unsigned)request, covretin_request_text(request),
+               covretin_error_text(error));
     }
 }
 

@@ -280,7 +280,7 @@ static void refuses_replies(void)
         say_header(peer, replies[i].code, replies[i].flags, replies[i].size, &file, replies[i].fds);
         say(peer, body, sizeof body, NULL, 0);
         enum covretin_error error = covretin_channel_exchange(&vmm, LIMIT);
-        EXPECT(true, error == COVRETIN_INVALID_MESSAGE || error == COVRETIN_PARTIAL_MESSAGE);
+        EXPECT(COVRETIN_INVALID_MESSAGE, error);
         EXPECT(error, covretin_channel_exchange(&vmm, LIMIT));
         EXPECT(before, open_fds());
         covretin_channel_disconnect(&vmm);
@@ -343,6 +343,7 @@ static void device_ends(void)
         close(peer);
         EXPECT(want, covretin_channel_next_call(&device, &call, LIMIT));
         EXPECT(want, covretin_channel_next_call(&device, &call, LIMIT));
+        EXPECT(length < 4 ? 0 : LOOKUP, covretin_channel_service_request(&device));
         EXPECT(true, covretin_channel_service_ended(&device));
         covretin_channel_hang_up(&device);
         close(file);
@@ -374,6 +375,18 @@ static void byte_by_byte(void)
     }
 }
 
+/* Each request of a device has a name of its own, and any other number one, too. */
+static void request_texts(void)
+{
+    EXPECT(0, strcmp("CONFIG_CHANGE_MSG", covretin_channel_request_text(COVRETIN_CHANNEL_CALL_CONFIG_CHANGE)));
+    EXPECT(0, strcmp("SHMEM_UNMAP", covretin_channel_request_text(COVRETIN_CHANNEL_CALL_SHMEM_UNMAP)));
+    for (uint32_t i = 0; i <= 10; i++)
+        for (uint32_t j = 0; j < i; j++)
+            EXPECT(true, strcmp(covretin_channel_request_text(i), covretin_channel_request_text(j)) != 0);
+    EXPECT(0, strcmp("unknown request", covretin_channel_request_text(11)));
+    EXPECT(0, strcmp("unknown request", covretin_channel_request_text(UINT32_MAX)));
+}
+
 int main(void)
 {
     RUN(each_request);
@@ -385,5 +398,6 @@ int main(void)
     RUN(refuses_requests);
     RUN(device_ends);
     RUN(byte_by_byte);
+    RUN(request_texts);
     return status();
 }

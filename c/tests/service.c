@@ -479,6 +479,110 @@ static void tells_refusals_late(void)
     close(peer);
 }
 
+/* Which request was refused is told, also where its descriptors are wrong, its header is, and it came in part. */
+static void tells_which_was_refused(void)
+{
+    const uint8_t body[8] = {0};
+    struct request reply;
+    EXPECT(0, covretin_service_request(&service));
+    int peer = served_pair();
+    EXPECT(0, covretin_service_request(&service));
+    accept_features(peer, COVRETIN_PROTOCOL_REPLY_ACK);
+    EXPECT(SET_PROTOCOL_FEATURES, covretin_service_request(&service));
+    request(peer, SET_STATUS, NEED_REPLY, body, sizeof body, NULL, 0);
+    EXPECT(COVRETIN_INVALID_OPERATION, covretin_next_call(&service, &call, LIMIT));
+    EXPECT(SET_STATUS, covretin_service_request(&service));
+    EXPECT(0, strcmp("SET_STATUS", covretin_request_text(covretin_service_request(&service))));
+    EXPECT(true, hear(peer, &reply));
+    request(peer, GET_QUEUE_NUM, REQUEST_FLAGS, NULL, 0, NULL, 0);
+    EXPECT(COVRETIN_INACTIVE_OPERATION, covretin_next_call(&service, &call, LIMIT));
+    EXPECT(GET_QUEUE_NUM, covretin_service_request(&service));
+    say(peer, "\30\0\0", 3, NULL, 0);
+    EXPECT(COVRETIN_NOT_YET, covretin_next_call_nowait(&service, &call, &events));
+    EXPECT(0, covretin_service_request(&service));
+    say(peer, "\0", 1, NULL, 0);
+    EXPECT(COVRETIN_NOT_YET, covretin_next_call_nowait(&service, &call, &events));
+    EXPECT(GET_CONFIG, covretin_service_request(&service));
+    close(peer);
+    EXPECT(COVRETIN_PARTIAL_MESSAGE, covretin_next_call(&service, &call, LIMIT));
+    EXPECT(GET_CONFIG, covretin_service_request(&service));
+    covretin_hang_up(&service);
+    EXPECT(0, covretin_service_request(&service));
+}
+
+/* A request of another number than 1 to 44 ends the service, without a reply. */
+static void ends_at_unknown_requests(void)
+{
+    static const uint32_t unknown[] = {0, 45, 256, 0x12345678, UINT32_MAX};
+    const uint8_t body[8] = {0};
+    uint8_t byte;
+    for (size_t i = 0; i < 2 * sizeof unknown / sizeof *unknown; i++) {
+        int peer = served_pair();
+        EXPECT(COVRETIN_OK, covretin_backend_set_profile(&service.backend, i % 2 ? COVRETIN_PROFILE_VHOST : COVRETIN_PROFILE_STANDARD));
+        accept_features(peer, COVRETIN_PROTOCOL_REPLY_ACK);
+        request(peer, unknown[i / 2], NEED_REPLY, body, sizeof body, NULL, 0);
+        EXPECT(COVRETIN_INVALID_MESSAGE, covretin_next_call(&service, &call, LIMIT));
+        EXPECT(unknown[i / 2], covretin_service_request(&service));
+        EXPECT(true, covretin_service_ended(&service));
+        EXPECT(-1, recv(peer, &byte, 1, MSG_DONTWAIT));
+        covretin_hang_up(&service);
+        close(peer);
+    }
+}
+
+/* Which feature a request lacked: of the request that was read last alone. */
+static void inactive(void)
+{
+    const uint8_t body[8] = {0};
+    EXPECT(0, covretin_backend_inactive(&service.backend));
+    int peer = served_pair();
+    EXPECT(0, covretin_backend_inactive(&service.backend));
+    accept_features(peer, 0);
+    for (int i = 0; i < 3; i++) {
+        request(peer, GET_QUEUE_NUM, REQUEST_FLAGS, NULL, 0, NULL, 0);
+        EXPECT(COVRETIN_INACTIVE_OPERATION, covretin_next_call(&service, &call, LIMIT));
+        EXPECT(COVRETIN_PROTOCOL_MQ, covretin_backend_inactive(&service.backend));
+        EXPECT(COVRETIN_NOT_YET, covretin_next_call_nowait(&service, &call, &events));
+        EXPECT(COVRETIN_PROTOCOL_MQ, covretin_backend_inactive(&service.backend));
+        if (i == 0) {
+            request(peer, SET_STATUS, REQUEST_FLAGS, body, sizeof body, NULL, 0);
+            EXPECT(COVRETIN_INVALID_OPERATION, covretin_next_call(&service, &call, LIMIT));
+        } else if (i == 1) {
+            request(peer, SET_OWNER, REQUEST_FLAGS, NULL, 0, NULL, 0);
+            expect_call(COVRETIN_CALL_SET_OWNER);
+            EXPECT(0, covretin_backend_inactive(&service.backend));
+            EXPECT(COVRETIN_OK, covretin_reply_done(&service.backend));
+        } else {
+            request(peer, 45, REQUEST_FLAGS, NULL, 0, NULL, 0);
+            EXPECT(COVRETIN_INVALID_MESSAGE, covretin_next_call(&service, &call, LIMIT));
+        }
+        EXPECT(0, covretin_backend_inactive(&service.backend));
+    }
+    covretin_hang_up(&service);
+    close(peer);
+}
+
+/* Each request of the specification's has a name of its own, and any other number one, too. */
+static void request_texts(void)
+{
+    static const uint32_t others[] = {0, 45, 255, 257, UINT32_MAX};
+    EXPECT(0, strcmp("GET_FEATURES", covretin_request_text(COVRETIN_CALL_GET_FEATURES)));
+    EXPECT(0, strcmp("GET_SHMEM_CONFIG", covretin_request_text(COVRETIN_CALL_GET_SHMEM_CONFIG)));
+    EXPECT(0, strcmp("POSTCOPY_ACK", covretin_request_text(COVRETIN_CALL_POSTCOPY_ACK)));
+    for (uint32_t i = 0; i <= 44; i++)
+        for (uint32_t j = 0; j < i; j++)
+            EXPECT(true, strcmp(covretin_request_text(i), covretin_request_text(j)) != 0);
+    for (size_t i = 0; i < sizeof others / sizeof *others; i++)
+        EXPECT(0, strcmp("unknown request", covretin_request_text(others[i])));
+}
+
+/* The mask has each feature once whose requests are served, or made on the backend channel, and no bit of another. */
+static void served_features(void)
+{
+    EXPECT(0x4cb73b, COVRETIN_SERVED_PROTOCOL_FEATURES);
+    EXPECT(0, COVRETIN_SERVED_PROTOCOL_FEATURES & COVRETIN_PROTOCOL_HOST_NOTIFIER);
+}
+
 /* Under VHOST a request that nobody serves ends the service, without a reply. */
 static void has_profiles(void)
 {
@@ -561,6 +665,11 @@ int main(void)
     RUN(byte_by_byte);
     RUN(sends_in_parts);
     RUN(tells_refusals_late);
+    RUN(tells_which_was_refused);
+    RUN(ends_at_unknown_requests);
+    RUN(inactive);
+    RUN(request_texts);
+    RUN(served_features);
     RUN(has_profiles);
     RUN(limits_time);
     RUN(reads_no_further);

@@ -90,7 +90,7 @@ fn serve(handler: &mut BackendReqHandler<Mutex<Disk>>, disk: &Mutex<Disk>) -> Re
             match handler.handle_request() {
                 Err(error @ (Error::Disconnected | Error::PartialMessage | Error::InvalidMessage)) => return Err(error),
                 Err(error @ (Error::SocketBroken(_) | Error::SocketError(_))) => return Err(error),
-                Err(error) => eprintln!("blk: a request was refused: {error}"),
+                Err(error) => eprintln!("blk: {} was refused: {error}", last_request(handler)),
                 Ok(()) => {}
             }
             continue;
@@ -99,6 +99,12 @@ fn serve(handler: &mut BackendReqHandler<Mutex<Disk>>, disk: &Mutex<Disk>) -> Re
             locked(disk).serve_ring(*index);
         }
     }
+}
+
+/// The number of the request that came last, and its name.
+fn last_request(handler: &BackendReqHandler<Mutex<Disk>>) -> String {
+    let Some(number) = handler.last_request() else { return "no request".to_string() };
+    FrontendReq::try_from(number).map_or(format!("request {number}"), |name| format!("request {number}, {name:?},"))
 }
 
 fn locked(disk: &Mutex<Disk>) -> MutexGuard<'_, Disk> {

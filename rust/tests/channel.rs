@@ -276,8 +276,10 @@ fn each_request_of_a_frontend() {
             let peer = device_end(&handler);
             let file = memory_file();
             let files: Vec<_> = (0..count).map(|_| &file).collect();
+            assert_eq!(None, handler.last_request());
             peer.say(&message(code, WANTS, &hex(body)), &files);
             assert_eq!(5, handler.handle_request().unwrap());
+            assert_eq!(Some(code), handler.last_request());
             handler.set_reply_ack_flag(true);
             peer.say(&message(code, ASKS, &hex(body)), &files);
             assert_eq!(5, handler.handle_request().unwrap());

@@ -10,6 +10,7 @@ use std::thread;
 
 use common::device::*;
 use common::*;
+use covretin::vhost_user::message::FrontendReq;
 use covretin::vhost_user::{Error, Profile, Result};
 
 const NOT_NOW: &str = "InvalidOperation(\"the request is not served, or not in this state of postcopy\")";
@@ -136,6 +137,35 @@ fn requests_that_nobody_serves() {
         assert_eq!([""; 0], *seen(&device).asked);
         peer.say(&message(3, ASKS, &[]), &[]);
         handler.handle_request().unwrap();
+    });
+}
+
+/// Which request was refused is told: of one that nobody serves, of one that lacks a feature, of no request's number, and of one that
+/// came in part.
+#[test]
+fn which_request_was_refused() {
+    counted(|| {
+        let device = Shared::default();
+        let (mut handler, peer) = handled(&device);
+        assert_eq!(None, handler.last_request());
+        agree_by_hand(&device, &mut handler, &peer, ALL & !1);
+        assert_eq!(Some(16), handler.last_request());
+        peer.say(&message(39, ASKS, &[0; 8]), &[]);
+        assert_eq!(NOT_NOW, name(&handler.handle_request().unwrap_err()));
+        assert_eq!(Some(Ok(FrontendReq::SET_STATUS)), handler.last_request().map(FrontendReq::try_from));
+        peer.say(&message(17, ASKS, &[]), &[]);
+        assert_eq!("InactiveOperation(0x1)", name(&handler.handle_request().unwrap_err()));
+        assert_eq!(Some(17), handler.last_request());
+        peer.say(&message(45, WANTS, &[0; 8]), &[]);
+        assert_eq!("InvalidMessage", name(&handler.handle_request().unwrap_err()));
+        assert_eq!(Some(45), handler.last_request());
+        for (size, wanted) in [(3, None), (4, Some(12)), (12, Some(12))] {
+            let (mut handler, peer) = handled(&device);
+            peer.say(&message(12, ASKS, &[0; 8])[..size], &[]);
+            drop(peer);
+            assert!(handler.handle_request().is_err());
+            assert_eq!(wanted, handler.last_request());
+        }
     });
 }
 

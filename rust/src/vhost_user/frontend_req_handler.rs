@@ -102,6 +102,12 @@ impl<S: VhostUserFrontendReqHandler> FrontendReqHandler<S> {
         self.connection.set_failed(Some(error).filter(|error| *error != 0));
     }
 
+    /// The number of the request that came last, as its header has it, also of one that was refused or came in part: that of a
+    /// [`BackendReq`](super::message::BackendReq), or of no request. None before the first, and where less of the last came.
+    pub fn last_request(&self) -> Option<u32> {
+        self.connection.last_request()
+    }
+
     /// Serves the next request: the value that was returned. It waits for the request as long as the device likes, as
     /// [`handle_request`](super::BackendReqHandler::handle_request) of a backend does, and has its errors. ReqHandlerError: the
     /// request was refused by who serves it, by this cause.

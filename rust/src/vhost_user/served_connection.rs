@@ -13,6 +13,9 @@ use crate::foreign::{numbers_of, Code, Outcome, Serves, MAX_MESSAGE};
 /// COVRETIN_INVALID_OPERATION.
 const INVALID_OPERATION: Code = Code(2);
 
+/// The size of a request's number, with which its header begins.
+const CODE_SIZE: usize = 4;
+
 /// A connection of a backend to its frontend; or on the backend channel the other way round.
 pub(super) struct ServedConnection<S: Serves> {
     session: S,
@@ -25,6 +28,8 @@ pub(super) struct ServedConnection<S: Serves> {
     fds: Vec<OwnedFd>,
     /// Whether a part of a request has come that was neither replied to nor refused.
     has_begun: bool,
+    /// The first bytes of the request that came last, of its number.
+    code: Vec<u8>,
     /// What ended it: the system's number of an error. A request that failed on its way has left a part of a message.
     broken: Option<i32>,
 }
@@ -34,7 +39,16 @@ impl<S: Serves> ServedConnection<S> {
     pub(super) fn over(session: S, socket: UnixStream) -> ServedConnection<S> {
         let send_timeout = socket.write_timeout().ok().flatten();
         let bytes = Box::new([0; MAX_MESSAGE]);
-        ServedConnection { session, socket, send_timeout, bytes, fds: Vec::new(), has_begun: false, broken: None }
+        ServedConnection {
+            session,
+            socket,
+            send_timeout,
+            bytes,
+            fds: Vec::new(),
+            has_begun: false,
+            code: Vec::new(),
+            broken: None,
+        }
     }
 
     pub(super) fn set_send_timeout(&mut self, timeout: Option<Duration>) {
@@ -48,6 +62,11 @@ impl<S: Serves> ServedConnection<S> {
     /// Ends it by this number of the system; None: it goes on.
     pub(super) fn set_failed(&mut self, errno: Option<i32>) {
         self.broken = errno;
+    }
+
+    /// The number of the request that came last, as its header has it.
+    pub(super) fn last_request(&self) -> Option<u32> {
+        self.code[..].try_into().ok().map(u32::from_le_bytes)
     }
 
     /// Sets what the session needs to know.
@@ -131,6 +150,7 @@ impl<S: Serves> ServedConnection<S> {
             if count == 0 {
                 return Err(self.end());
             }
+            self.note_code(count);
             let numbers = numbers_of(&self.fds[kept..]);
             if let Err(code) = self.session.receive(&self.bytes[..count], numbers) {
                 return Err(self.break_by(error_of(code, 0)));
@@ -142,6 +162,15 @@ impl<S: Serves> ServedConnection<S> {
             }
             self.has_begun = true;
         }
+    }
+
+    /// Notes the first bytes of a request, of those that came.
+    fn note_code(&mut self, count: usize) {
+        if !self.has_begun {
+            self.code.clear();
+        }
+        let more = count.min(CODE_SIZE - self.code.len());
+        self.code.extend_from_slice(&self.bytes[..more]);
     }
 
     /// The request was replied to, or refused. What came with it and was not claimed is closed.
