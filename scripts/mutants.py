@@ -33,6 +33,16 @@ class Broken(Exception):
     """A mutant that cannot be tried, with why."""
 
 
+@dataclass(frozen=True)
+class Function:
+    """A function: the end of the name by which the checker prints it, as much as fits no other; its file, and its first and last line."""
+
+    name: str
+    file: str
+    first: int
+    last: int
+
+
 @dataclass
 class Mutant:
     """An edit of a crate: its texts, each with its file and what takes its place, and the functions that it changes."""
@@ -105,19 +115,25 @@ def functions_in(crate):
     return [found[2] for file in files for found in map(FUNCTION.match, read(file).split("\n")) if found]
 
 
-def function_at(crate, file, text, place):
-    """The end of the name by which the checker prints the function round a place of a file, as much as fits no other function.
-
-    The code is laid out, so what is inside of a function stands further right than its head.
-    """
-    lines, number = text.split("\n"), text.count("\n", 0, place)
-    at, head = line_above(lines, number, FUNCTION, len(lines[number]) - len(lines[number].lstrip()))
-    if not head:
-        raise Broken(f"line {number + 1} of {file} is in no function")
+def function_name(crate, file, lines, at, head):
+    """The end of a function's name that fits no other: its own, or its type's or module's and its own."""
     if functions_in(crate).count(head[2]) == 1:
         return head[2]
     owner = line_above(lines, at, OWNER, len(head[1]))[1]
     return f"{owner_name(owner[2]) if owner else os.path.basename(file).removesuffix('.rt')}::{head[2]}"
+
+
+def function_at(crate, file, text, place):
+    """The function round a place of a file. The code is laid out: what is inside stands further right than its head and its end."""
+    lines, number = text.split("\n"), text.count("\n", 0, place)
+    at, head = line_above(lines, number, FUNCTION, len(lines[number]) - len(lines[number].lstrip()))
+    if not head:
+        raise Broken(f"line {number + 1} of {file} is in no function")
+    first = at
+    while lines[first - 1].lstrip().startswith(("#[", "///")):
+        first -= 1
+    last = lines.index(head[1] + "}", number)
+    return Function(function_name(crate, file, lines, at, head), file, first + 1, last + 1)
 
 
 def mutant_in(crate, path):
@@ -131,7 +147,7 @@ def mutant_in(crate, path):
         functions.append(function_at(crate, file, text, text.index(old)))
     if not edits:
         raise Broken("it has no lines 'file: ', 'old: ' and 'new: '")
-    return Mutant(crate, path, edits, sorted(set(functions)))
+    return Mutant(crate, path, edits, list(dict.fromkeys(functions)))
 
 
 def mutants_of(crate, folder, broken):
@@ -152,7 +168,7 @@ def rounds_of(mutants):
     """Mutants by the checks that they share: in one check each is of other functions than the others."""
     rounds = []
     for mutant in mutants:
-        fits = (it for it in rounds if not {*mutant.functions} & {name for other in it for name in other.functions})
+        fits = (it for it in rounds if not {*mutant.functions} & {function for other in it for function in other.functions})
         taken = next(fits, None)
         if taken is None:
             rounds.append(taken := [])
@@ -198,8 +214,8 @@ def check(kit, mutants):
         except Broken as why:
             return f"error: {why}"
         words = [f"{kit}/bin/rattle", "check", *words_for(kit, crate)]
-        for name in sorted({name for it in mutants for name in it.functions}):
-            words += ["--only", name]
+        for function in dict.fromkeys(function for it in mutants for function in it.functions):
+            words += ["--only", function.name]
         with open(f"{room}/told", "w+", encoding="utf-8", errors="replace") as told:
             running = subprocess.Popen(words, cwd=room, stdin=subprocess.DEVNULL, stdout=told, stderr=told)
             used = os.wait4(running.pid, 0)[2]
@@ -216,18 +232,25 @@ def reason(told):
     return " / ".join(it.strip() for it in lines[:3])
 
 
+def has_open_goal(function, told):
+    """Whether the checker tells of a goal of a function that is not proved."""
+    notes = re.findall(r"(?m)^note: (?:\./)?(\S+?):(\d+):\d+: it is not proved that ", told)
+    return any(file == function.file and function.first <= int(line) <= function.last for file, line in notes)
+
+
 def judged_function(crate, function, told):
     """What the checker tells of a function: that a goal is not proved, that all are, or what leaves it unknown."""
-    found = re.search(rf"(?m)^fn {crate}::((?:[\w+]+::)*{re.escape(function)}): (.*)$", told)
+    found = re.search(rf"(?m)^fn {crate}::((?:[\w+]+::)*{re.escape(function.name)}): (.*)$", told)
     if not found:
-        return f"the checker says nothing of {function}"
+        return f"the checker says nothing of {function.name}"
     name, line = found.groups()
     if line == "proved":
         return PROVED
-    if "`search` did not prove" in line:
-        return REFUSED
     own = re.escape("proofs/" + name.replace("::", "/"))
     errors = re.findall(rf"(?m)^(?:\./)?{own}/\w+\.antt:\d+:\d+: error: (.*)$", told)
+    # (what does not fit in a proof file names its goal, unless the file cannot be read)
+    if "`search` did not prove" in line or has_open_goal(function, told):
+        return REFUSED
     if any(re.match(r"`[^`]+`: ", it) and not NAMES.search(it) for it in errors):
         return REFUSED
     if errors or f"has not tried the goals of `{crate}::{name}`" in told or not line.startswith("no proof: it calls "):
