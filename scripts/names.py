@@ -22,7 +22,7 @@ ALONE = re.compile(r"[A-Za-z]\w*(?:::\w+)*")
 NAME = re.compile(r"(?<!\w)(?:[A-Za-z]\w*_\w+|[A-Za-z]*[a-z][A-Z]\w*)")
 
 # A path: it begins with a folder or a file of the repository.
-PATH = re.compile(r"(?<!\w)(?:crates|docs|scripts|tests|include|c|rust|specs|src|proofs|must-fail|\.ci)/[\w./*-]+")
+PATH = re.compile(r"(?<!\w)(?:crates|docs|scripts|tests|include|c|rust|specs|src|proofs|must-fail|mutants|\.ci)/[\w./*-]+")
 
 
 def tracked():
