@@ -2,9 +2,10 @@
 //! The bytes of a stream as messages: what is received of one, and what of that was not passed on yet.
 use std::fs::read_link;
 use std::io;
-use std::os::unix::io::{AsRawFd, OwnedFd, RawFd};
+use std::os::unix::io::{AsFd, AsRawFd, OwnedFd, RawFd};
 
 use super::event::{u32_at, Message, HEADER};
+use crate::foreign::PeerFd;
 use crate::vhost_user::message::MAX_MSG_SIZE;
 
 /// How much is received at a time of a stream that is none of messages.
@@ -17,7 +18,7 @@ pub(super) struct Gathering {
     /// How many of its bytes were passed on.
     passed: usize,
     /// Descriptors that were not passed on. They came with the first byte that was not.
-    fds: Vec<OwnedFd>,
+    fds: Vec<PeerFd>,
     /// A header announced more than a message may have: what follows is no message.
     is_lost: bool,
 }
@@ -50,7 +51,7 @@ impl Gathering {
 
     /// Takes in what was received. What was held back before is passed on first where descriptors came along, so that they stay
     /// with their bytes.
-    pub(super) fn take_in(&mut self, bytes: &[u8], fds: Vec<OwnedFd>) -> Received {
+    pub(super) fn take_in(&mut self, bytes: &[u8], fds: Vec<PeerFd>) -> Received {
         let at = self.message.bytes.len();
         if !fds.is_empty() {
             self.message.fds_at.push(at);
@@ -85,18 +86,19 @@ impl Gathering {
 
     /// Another descriptor of the file whose descriptor is held back first.
     pub(super) fn clone_fd(&self) -> io::Result<OwnedFd> {
-        self.fds.first().ok_or(io::ErrorKind::NotFound)?.try_clone()
+        self.fds.first().ok_or(io::ErrorKind::NotFound)?.as_fd().try_clone_to_owned()
     }
 
     /// Passes this one descriptor on in the place of those that are held back.
     pub(super) fn replace_fds(&mut self, fd: OwnedFd) {
-        self.fds = vec![fd];
+        self.fds = vec![fd.into()];
     }
 
-    /// What is held back was passed on. Its descriptors are closed.
+    /// What is held back was passed on. Its descriptors are closed, and stay what they are for their receiver: where that one has closed
+    /// a socket before, and it lingers, its sender waits here for what it sends next.
     pub(super) fn set_passed(&mut self) {
         self.passed = self.message.bytes.len();
-        self.fds.clear();
+        self.fds.drain(..).map(OwnedFd::from).for_each(drop);
     }
 
     /// The message as far as it was received.
@@ -112,7 +114,7 @@ impl Gathering {
 }
 
 /// What a descriptor is.
-fn kind_of(fd: &OwnedFd) -> String {
+fn kind_of(fd: &PeerFd) -> String {
     let link = match read_link(format!("/proc/self/fd/{}", fd.as_raw_fd())) {
         Ok(link) => link.to_string_lossy().into_owned(),
         Err(_) => return "unknown".to_string(),
@@ -159,8 +161,8 @@ mod tests {
     #[test]
     fn kinds_of_descriptors() {
         let (socket, _other) = std::os::unix::net::UnixStream::pair().unwrap();
-        assert_eq!("socket", kind_of(&socket.into()));
+        assert_eq!("socket", kind_of(&OwnedFd::from(socket).into()));
         let file = std::fs::File::open("/dev/null").unwrap();
-        assert_eq!("file:/dev/null", kind_of(&file.into()));
+        assert_eq!("file:/dev/null", kind_of(&OwnedFd::from(file).into()));
     }
 }

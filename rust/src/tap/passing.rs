@@ -3,7 +3,7 @@
 //! came at one time, and the rest of it when it comes. Whether anyone looks at it changes nothing.
 use std::io;
 use std::net::Shutdown;
-use std::os::unix::io::{AsRawFd, OwnedFd};
+use std::os::unix::io::AsRawFd;
 use std::os::unix::net::UnixStream;
 use std::sync::Arc;
 use std::thread;
@@ -11,20 +11,22 @@ use std::thread;
 use super::event::{Channel, Message, Side, Way, What};
 use super::gathering::{Gathering, Received, ROOM};
 use super::reporter::Reporter;
-use crate::foreign::{is_ready, option_of, receive_any, send};
+use crate::foreign::{is_ready, option_of, receive_any, send, PeerFd, PeerSocket};
 use crate::vhost_user::message::FrontendReq;
 
 /// One way between two sockets.
 struct Line {
     way: Way,
-    from: Arc<UnixStream>,
-    to: Arc<UnixStream>,
+    from: Arc<PeerSocket>,
+    to: Arc<PeerSocket>,
     reporter: Reporter,
 }
 
 /// Passes on between a frontend and a backend until both ways have ended, each way in a thread.
 pub(super) fn pass_between(channel: Channel, frontend: UnixStream, backend: UnixStream, reporter: &Reporter) {
-    let (frontend, backend) = (Arc::new(frontend), Arc::new(backend));
+    // (on the backend channel the frontend has a copy of it)
+    let frontend = if channel == Channel::Device { PeerSocket::own(frontend) } else { PeerSocket::given(frontend) };
+    let (frontend, backend) = (Arc::new(frontend), Arc::new(PeerSocket::own(backend)));
     let line = |from: Side| {
         let way = Way { channel, from };
         let (from, to) = match from {
@@ -90,12 +92,12 @@ impl Line {
     }
 
     /// Some bytes, and their descriptors. It waits where nothing is held back; None: it would have to.
-    fn receive(&self, room: &mut [u8], gathering: &Gathering) -> io::Result<Option<(usize, Vec<OwnedFd>)>> {
+    fn receive(&self, room: &mut [u8], gathering: &Gathering) -> io::Result<Option<(usize, Vec<PeerFd>)>> {
         let mut fds = Vec::new();
         loop {
             match receive_any(&self.from, room, &mut fds, !gathering.holds()) {
                 Ok(received) => {
-                    if received.is_truncated {
+                    if received.has_too_many {
                         eprintln!("covretin-tap: the system dropped descriptors of a message, since too many are open");
                     }
                     return Ok(Some((received.count, fds)));
@@ -110,7 +112,7 @@ impl Line {
     }
 
     /// Passes on what was received, if it ends a message; it is told of before, so that what follows from it is told of behind it.
-    fn pass_on(&self, gathering: &mut Gathering, bytes: &[u8], fds: Vec<OwnedFd>) -> io::Result<()> {
+    fn pass_on(&self, gathering: &mut Gathering, bytes: &[u8], fds: Vec<PeerFd>) -> io::Result<()> {
         match gathering.take_in(bytes, fds) {
             Received::Part => return Ok(()),
             Received::Bytes => self.reporter.tell(What::Bytes(self.way, bytes.to_vec())),

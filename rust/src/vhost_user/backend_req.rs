@@ -9,7 +9,7 @@ use std::time::Duration;
 use super::connection::Connection;
 use super::message::{VhostUserMMap, VhostUserSharedMsg};
 use super::{Error, HandlerResult, VhostUserFrontendReqHandler};
-use crate::foreign::{ChannelSession, Mmap, Outcome};
+use crate::foreign::{ChannelSession, Mmap, Outcome, PeerSocket};
 
 /// The backend channel: on it a device makes requests of its frontend. A clone is the same connection: each call is whole before
 /// another thread's begins.
@@ -28,7 +28,7 @@ impl Backend {
     pub fn from_stream(sock: UnixStream) -> Self {
         // (the crate's name for this returns no Result)
         let session = ChannelSession::open().expect("allocation of a session failed");
-        Backend { node: Arc::new(Mutex::new(Connection::over(session, sock))) }
+        Backend { node: Arc::new(Mutex::new(Connection::over(session, PeerSocket::given(sock)))) }
     }
 
     /// Whether REPLY_ACK was accepted: then each request is acknowledged, and a refusal of it by the frontend is

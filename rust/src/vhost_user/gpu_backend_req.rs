@@ -13,7 +13,7 @@ use super::gpu_message::{
     VhostUserGpuEdidRequest, VhostUserGpuScanout, VhostUserGpuUpdate, VirtioGpuRespDisplayInfo, VirtioGpuRespGetEdid,
 };
 use super::message::VhostUserU64;
-use crate::foreign::{Asks, Code, DisplaySession, Outcome};
+use crate::foreign::{Asks, Code, DisplaySession, Outcome, PeerSocket};
 
 /// The vhost-user-gpu channel: on it a graphics device makes requests of the display that its frontend has. A clone is the same
 /// connection: each call is whole before another thread's begins.
@@ -31,7 +31,7 @@ impl GpuBackend {
     pub fn from_stream(sock: UnixStream) -> Self {
         // (the crate's name for this returns no Result)
         let session = DisplaySession::open().expect("allocation of a session failed");
-        GpuBackend { node: Arc::new(Mutex::new(Connection::over(session, sock))) }
+        GpuBackend { node: Arc::new(Mutex::new(Connection::over(session, PeerSocket::given(sock)))) }
     }
 
     /// Which features of the channel the display has.

@@ -9,6 +9,7 @@ mod connection;
 mod device;
 mod frontend;
 mod frontend_req_handler;
+mod frontend_session;
 mod gpu_backend_req;
 pub mod gpu_message;
 mod listener;
@@ -46,7 +47,8 @@ pub const SERVED_PROTOCOL_FEATURES: VhostUserProtocolFeatures = VhostUserProtoco
 
 /// Why a call of the protocol failed. After `SocketBroken`, `SocketError`, `PartialMessage`, `InvalidMessage` and
 /// `Disconnected` a [`Frontend`] is of no more use: each later call is `SocketBroken`. After all others it goes on, but after an
-/// `IncorrectFds` for descriptors that the system dropped. What of a [`BackendReqHandler`] is,
+/// `IncorrectFds` for more descriptors than a message has. It goes on after a `SocketError` by EBADF or ETOOMANYREFS, too: a descriptor
+/// that the request has can't be sent, and nothing of it was. What of a [`BackendReqHandler`] is,
 /// [`handle_request`](BackendReqHandler::handle_request) says.
 #[derive(Debug)]
 pub enum Error {
@@ -80,7 +82,7 @@ pub enum Error {
     SocketError(io::Error),
     /// The connection is of no more use. The cause is of the kind `TimedOut` where the limit of time passed.
     SocketBroken(io::Error),
-    /// Of a call: an allocation failed, and nothing was sent. Of a handler that waits for a request: no more has come yet.
+    /// Of a call: an allocation failed, here or in the system, and nothing was sent. Of a handler that waits for a request: no more has come yet.
     SocketRetry(io::Error),
     /// The backend refused the request.
     BackendInternalError,
