@@ -49,6 +49,11 @@ impl Gathering {
         self.passed < self.message.bytes.len()
     }
 
+    /// Whether a part of a message came, and the rest is missing.
+    pub(super) fn is_part(&self) -> bool {
+        !self.is_lost && !self.message.bytes.is_empty() && self.missing() != 0
+    }
+
     /// Takes in what was received. What was held back before is passed on first where descriptors came along, so that they stay
     /// with their bytes.
     pub(super) fn take_in(&mut self, bytes: &[u8], fds: Vec<PeerFd>) -> Received {
@@ -135,12 +140,14 @@ mod tests {
     fn a_message_in_pieces_is_whole_with_its_last_byte() {
         let mut gathering = Gathering::default();
         assert_eq!(12, gathering.missing());
+        assert!(!gathering.is_part());
         assert_eq!(Received::Part, gathering.take_in(&[1, 0, 0, 0, 1], Vec::new()));
-        assert_eq!(7, gathering.missing());
+        assert_eq!((7, true), (gathering.missing(), gathering.is_part()));
         gathering.set_passed();
         assert_eq!(Received::Part, gathering.take_in(&[0, 0, 0, 2, 0, 0, 0], Vec::new()));
         assert_eq!(2, gathering.missing());
         assert_eq!(Received::Message, gathering.take_in(&[7, 8], Vec::new()));
+        assert!(!gathering.is_part());
         assert_eq!(&[0, 0, 0, 2, 0, 0, 0, 7, 8], gathering.held().0);
         assert_eq!(vec![5, 7, 2], gathering.message().cuts);
         gathering.set_passed();
@@ -156,6 +163,7 @@ mod tests {
         gathering.begin();
         assert_eq!(ROOM, gathering.missing());
         assert_eq!(Received::Bytes, gathering.take_in(&[1; 40], Vec::new()));
+        assert!(!gathering.is_part());
     }
 
     #[test]
