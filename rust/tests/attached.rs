@@ -4,15 +4,13 @@
 mod common;
 
 use std::fs::File;
-use std::io::{ErrorKind, Write};
-use std::mem::size_of;
-use std::net::{Shutdown, TcpListener, TcpStream};
-use std::os::unix::io::{AsRawFd, OwnedFd};
+use std::net::Shutdown;
+use std::os::unix::io::AsRawFd;
 use std::os::unix::net::UnixStream;
 use std::sync::{Arc, Mutex};
-use std::time::{Duration, Instant};
 
 use common::device::*;
+use common::lingering::*;
 use common::*;
 use covretin::vhost_user::gpu_message::VhostUserGpuUpdate;
 use covretin::vhost_user::message::*;
@@ -20,72 +18,6 @@ use covretin::vhost_user::{
     Backend, Error, Frontend, FrontendReqHandler, GpuBackend, VhostUserFrontendReqHandler, VhostUserFrontendReqHandlerMut,
 };
 use covretin::VhostBackend;
-
-/// How long a socket lingers, in seconds.
-const LINGER: u32 = 100;
-
-/// What is closed within this has not waited for a socket to linger.
-#[track_caller]
-fn at_once<T>(call: impl FnOnce() -> T) -> T {
-    let started = Instant::now();
-    let result = call();
-    assert!(started.elapsed() < Duration::from_secs(LINGER.into()), "it waited {:?}", started.elapsed());
-    result
-}
-
-fn linger_of(file: &impl AsRawFd) -> libc::linger {
-    let mut linger = libc::linger { l_onoff: 0, l_linger: 0 };
-    let mut length = size_of::<libc::linger>() as libc::socklen_t;
-    let place = (&mut linger as *mut libc::linger).cast();
-    // SAFETY: it is one struct, and its size, borrowed for the call.
-    let status = unsafe { libc::getsockopt(file.as_raw_fd(), libc::SOL_SOCKET, libc::SO_LINGER, place, &mut length) };
-    assert_eq!(0, status);
-    linger
-}
-
-/// Sets an option of SOL_SOCKET. The system may not know it.
-fn set_option<T>(socket: &impl AsRawFd, name: libc::c_int, value: T) -> std::io::Result<()> {
-    let place = (&value as *const T).cast();
-    // SAFETY: it is one value, and its size, borrowed for the call.
-    let status =
-        unsafe { libc::setsockopt(socket.as_raw_fd(), libc::SOL_SOCKET, name, place, size_of::<T>() as libc::socklen_t) };
-    match status {
-        0 => Ok(()),
-        _ => Err(std::io::Error::last_os_error()),
-    }
-}
-
-/// Sockets that linger, each with data that its other end never reads.
-struct Lingering {
-    files: Vec<File>,
-    others: Vec<TcpStream>,
-}
-
-impl Lingering {
-    fn new(count: usize) -> Lingering {
-        let listener = TcpListener::bind("127.0.0.1:0").unwrap();
-        set_option(&listener, libc::SO_RCVBUF, 0x1000).unwrap();
-        let pair = || {
-            let mut socket = TcpStream::connect(listener.local_addr().unwrap()).unwrap();
-            let (other, _) = listener.accept().unwrap();
-            set_option(&socket, libc::SO_SNDBUF, 0x1000).unwrap();
-            socket.set_nonblocking(true).unwrap();
-            while !matches!(socket.write(&[0; 0x10000]), Err(cause) if cause.kind() == ErrorKind::WouldBlock) {}
-            set_option(&socket, libc::SO_LINGER, libc::linger { l_onoff: 1, l_linger: LINGER as libc::c_int }).unwrap();
-            (File::from(OwnedFd::from(socket)), other)
-        };
-        let (files, others) = (0..count).map(|_| pair()).unzip();
-        Lingering { files, others }
-    }
-
-    /// Says these bytes with all of them, and leaves the receiver the last who has them.
-    fn are_said(self, peer: &Peer, bytes: &[u8]) -> Vec<TcpStream> {
-        peer.say(bytes, &self.files.iter().collect::<Vec<_>>());
-        // (a copy is closed at once, since it is not the last)
-        drop(self.files);
-        self.others
-    }
-}
 
 /// Each request with a descriptor that no call takes: refused for it, or for another reason.
 #[test]
@@ -244,10 +176,10 @@ fn what_a_device_takes_lingers_as_it_did() {
         let others = Lingering::new(1).are_said(&peer, &message(12, ASKS, &[0; 8]));
         handler.handle_request().unwrap();
         let file = seen(&device).files.pop().unwrap();
-        assert_eq!((1, LINGER as libc::c_int), (linger_of(&file).l_onoff, linger_of(&file).l_linger));
+        assert!(lingers(&file));
         drop(others);
         // (whose end it is now without waiting)
-        set_option(&file, libc::SO_LINGER, libc::linger { l_onoff: 0, l_linger: 0 }).unwrap();
+        linger_no_more(&file);
     });
 }
 
@@ -258,7 +190,7 @@ struct Mapping {
 
 impl VhostUserFrontendReqHandlerMut for Mapping {
     fn shmem_map(&mut self, _: &VhostUserMMap, fd: &dyn AsRawFd) -> std::io::Result<u64> {
-        assert_eq!(1, linger_of(&fd.as_raw_fd()).l_onoff);
+        assert!(lingers(&fd.as_raw_fd()));
         self.count += 1;
         Ok(0)
     }

@@ -13,6 +13,7 @@ use std::thread;
 use std::time::{Duration, Instant};
 
 use common::device::*;
+use common::lingering::*;
 use common::random::Numbers;
 use common::*;
 use covretin::vhost_user::message::*;
@@ -264,6 +265,23 @@ fn descriptors_where_none_belong() {
         assert!(found[0].starts_with("SET_OWNER is refused: 100 descriptors came, and 32 are the most; "), "{found:?}");
         assert!(found[1].contains("came with 8 bytes and 1 descriptor, not all of them with its first byte; "), "{found:?}");
         assert_eq!(2, found.len());
+    });
+}
+
+/// A socket that lingers goes on to its receiver as it is.
+#[test]
+fn a_descriptor_that_lingers() {
+    counted(|| {
+        let tap = Tap::of(Some(1));
+        let (frontend, backend) = tap.ends();
+        let request = message(12, ASKS, &[0; 8]);
+        let others = Lingering::new(1).are_said(&frontend, &request);
+        let came = backend.hear(&request);
+        drop((frontend, backend));
+        tap.end();
+        assert!(lingers(&came[0]));
+        linger_no_more(&came[0]);
+        drop(others);
     });
 }
 

@@ -16,7 +16,8 @@ use crate::foreign::{ChannelSession, Mmap, Outcome, PeerSocket};
 ///
 /// A call waits for the frontend where it is acknowledged, as long as that likes where there is no
 /// [limit of time](Backend::set_timeout). Its value is 0. Its errors are an [`Error`] in an [`io::Error`], but where a feature was not
-/// negotiated, which then is the text. After an error of the socket or a malformed reply the channel is of no more use.
+/// negotiated, which then is the text. After an error of the socket or a malformed reply the channel is of no more use, but for an error by
+/// which nothing of the request was sent, as [`Error`] says.
 #[derive(Clone)]
 pub struct Backend {
     node: Arc<Mutex<Connection<ChannelSession>>>,

@@ -20,7 +20,8 @@ use crate::foreign::{Asks, Code, DisplaySession, Outcome, PeerSocket};
 ///
 /// A call waits for the display where it has a reply, as long as that likes where there is no
 /// [limit of time](GpuBackend::set_timeout). Its errors are an [`Error`](super::Error) in an [`io::Error`]. After an error of the socket
-/// or a malformed reply the channel is of no more use.
+/// or a malformed reply the channel is of no more use, but for an error by which nothing of the request was sent, as [`Error`](super::Error)
+/// says.
 #[derive(Clone)]
 pub struct GpuBackend {
     node: Arc<Mutex<Connection<DisplaySession>>>,

@@ -3,6 +3,7 @@
 //! descriptors around each test. All bytes are the vhost-user specification's.
 #![allow(dead_code)]
 pub mod device;
+pub mod lingering;
 pub mod random;
 pub mod tap;
 
