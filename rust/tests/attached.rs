@@ -15,7 +15,8 @@ use common::*;
 use covretin::vhost_user::gpu_message::VhostUserGpuUpdate;
 use covretin::vhost_user::message::*;
 use covretin::vhost_user::{
-    Backend, Error, Frontend, FrontendReqHandler, GpuBackend, VhostUserFrontendReqHandler, VhostUserFrontendReqHandlerMut,
+    close_at_once, Backend, Error, Frontend, FrontendReqHandler, GpuBackend, VhostUserFrontendReqHandler,
+    VhostUserFrontendReqHandlerMut,
 };
 use covretin::VhostBackend;
 
@@ -167,7 +168,7 @@ fn a_connection_that_failed_is_hung_up() {
     });
 }
 
-/// What goes to the device is its own, and stays as it is.
+/// What goes to the device is its own, and stays as it is. It can close it as the package does.
 #[test]
 fn what_a_device_takes_lingers_as_it_did() {
     counted(|| {
@@ -177,9 +178,8 @@ fn what_a_device_takes_lingers_as_it_did() {
         handler.handle_request().unwrap();
         let file = seen(&device).files.pop().unwrap();
         assert!(lingers(&file));
+        at_once(|| close_at_once(file));
         drop(others);
-        // (whose end it is now without waiting)
-        linger_no_more(&file);
     });
 }
 

@@ -1,5 +1,6 @@
 // SPDX-License-Identifier: Apache-2.0
 //! The vhost-user protocol, as its frontend and its backend speak it.
+use std::os::unix::io::OwnedFd;
 use std::{error, fmt, io, result};
 
 mod backend;
@@ -26,6 +27,14 @@ pub use self::frontend_req_handler::{FrontendReqHandler, VhostUserFrontendReqHan
 pub use self::gpu_backend_req::GpuBackend;
 pub use self::listener::Listener;
 pub use self::message::{VhostUserProtocolFeatures, VhostUserVirtioFeatures};
+
+use crate::foreign::PeerFd;
+
+/// Closes a descriptor that a peer sent, as the package closes those that it does not hand on: a socket lingers no more, so nobody is
+/// kept waiting while it has something to send.
+pub fn close_at_once(fd: impl Into<OwnedFd>) {
+    drop(PeerFd::from(fd.into()));
+}
 
 /// Whose behaviour a [`Frontend`] or a [`BackendReqHandler`] has where the specification and the crate `vhost` differ.
 #[derive(Clone, Copy, Debug, Default, PartialEq, Eq)]
