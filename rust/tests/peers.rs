@@ -293,7 +293,7 @@ fn signals_amid_a_call() {
     });
 }
 
-/// A descriptor that is not open can't be sent: the system says so, and the connection ends, since its session awaits a reply.
+/// A descriptor that is not open can't be sent: the system says so, and the connection goes on.
 #[test]
 fn a_descriptor_that_is_not_open() {
     counted(|| {
@@ -305,7 +305,10 @@ fn a_descriptor_that_is_not_open() {
             }
             other => panic!("{other:?}"),
         }
-        failed("SocketBroken(9)", frontend.set_owner());
-        drop(other);
+        frontend.set_owner().unwrap();
+        drop(frontend);
+        let peer = Peer { socket: other };
+        peer.hear(&message(3, ASKS, &[]));
+        peer.silence();
     });
 }

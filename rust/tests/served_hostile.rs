@@ -305,7 +305,7 @@ fn rings_without_a_descriptor() {
     });
 }
 
-/// 33 are more than a message has: the system drops what is beyond 32, and the connection ends.
+/// 33 are more than a message has: the connection ends.
 #[test]
 fn more_descriptors_than_a_message_has() {
     counted(|| {

@@ -4,6 +4,7 @@ mod common;
 
 use std::fs::{read_dir, read_to_string, remove_file, write};
 use std::path::{Path, PathBuf};
+use std::process::{Command, Output};
 
 use common::tap::*;
 use common::*;
@@ -28,13 +29,20 @@ fn wrong_with(name: &str, profile: &str) -> Vec<String> {
 const LOG_REPLY: &str =
     "24.6846 1 B>F SET_LOG_BASE [REPLY] size=0x2000 ! the reply to SET_LOG_BASE has 8 bytes of body, and not 16";
 
+/// Where the recording of a destination ends, whose backend was to map a region for postcopy.
+const NO_REPLY: &str = "1.7814 1 no more was seen ! ADD_MEM_REG was not replied to: what was seen ended 0.0000 s later";
+
 #[test]
 fn real_peers_keep_to_the_table() {
     assert_eq!(15, recordings().len());
     for file in recordings() {
         let name = name_of(&file);
-        // QEMU's storage daemon replies with a half of the record.
-        let known: &[&str] = if name == "mig_native-src" { &[LOG_REPLY] } else { &[] };
+        let known: &[&str] = match name.as_str() {
+            // QEMU's storage daemon replies with a half of the record.
+            "mig_native-src" => &[LOG_REPLY],
+            "mig_post-dst" => &[NO_REPLY],
+            _ => &[],
+        };
         assert_eq!(known, wrong_with(&name, "--profile=standard"), "{name}");
     }
 }
@@ -48,6 +56,7 @@ fn each_known_difference_from_the_crate_is_told_at_its_message() {
         told += found.len();
         match name.as_str() {
             "mig_native-src" => assert_eq!([LOG_REPLY], found.as_slice()),
+            "mig_post-dst" => assert_eq!([NO_REPLY], found.as_slice()),
             "br_net4" => {
                 assert_eq!(10, found.len());
                 for it in &found {
@@ -73,7 +82,7 @@ fn each_known_difference_from_the_crate_is_told_at_its_message() {
             _ => assert_eq!(Vec::<String>::new(), found, "{name}"),
         }
     }
-    assert_eq!(13, told);
+    assert_eq!(14, told);
 }
 
 /// Each message of a recording is a line of JSON, with its bytes where they are wanted.
@@ -398,7 +407,8 @@ fn fields_by_their_names() {
     let session: Vec<Sent> = rows.iter().map(|(shown, (bytes, fds))| (side(shown), bytes.clone(), *fds)).collect();
     let output = text(&replayed(STANDARD, &session).stdout);
     let lines = output.lines().filter_map(|line| line.strip_prefix("   ")?.split_once(" 1 "));
-    let wanted: Vec<&str> = rows.iter().map(|(shown, _)| shown.as_str()).chain(["B>F end"]).collect();
+    let last = ["B>F waiting 5 s for the reply to GET_VRING_BASE", "B>F end"];
+    let wanted: Vec<&str> = rows.iter().map(|(shown, _)| shown.as_str()).chain(last).collect();
     assert_eq!(wanted, lines.map(|(_, shown)| shown).collect::<Vec<_>>());
 }
 
@@ -472,6 +482,144 @@ fn many_descriptors_with_a_body() {
     remove_file(&file).unwrap();
     assert_eq!(1, found.len(), "{found:?}");
     assert!(found[0].contains(" and came with 8 bytes and 33 descriptors, not all of them with its first byte; "), "{found:?}");
+}
+
+/// A line of a recording: of a message that came whole at this time.
+fn line_at(time: f64, session: u32, way: &str, bytes: &[u8]) -> String {
+    let digits: String = bytes.iter().map(|it| format!("{it:02x}")).collect();
+    format!(
+        "{{\"t\": {time}, \"session\": {session}, \"way\": \"{way}\", \"bytes\": \"{digits}\", \"fds\": [], \"fds_at\": [], \
+         \"body_fds\": 0, \"cuts\": [], \"short\": false}}\n"
+    )
+}
+
+/// What the tap says of a file with these bytes.
+#[track_caller]
+fn said_of(bytes: impl AsRef<[u8]>, words: &[&str]) -> Output {
+    let line = std::panic::Location::caller().line();
+    let file = std::env::temp_dir().join(format!("covretin-tap-{}-said-{line}", std::process::id()));
+    write(&file, bytes).unwrap();
+    let output = tap(&[words, &["--replay", file.to_str().unwrap()]].concat());
+    remove_file(&file).unwrap();
+    output
+}
+
+/// A recording that ends with no end of its session, as where the tap was killed: what is awaited then was not replied to.
+#[test]
+fn what_is_awaited_at_the_end_of_a_recording() {
+    let asked = line_at(1.0, 7, "F>B", &message(1, ASKS, &[]));
+    let later = line_at(2.5, 8, "F>B", &message(3, ASKS, &[]));
+    let wanted = "2.5000 7 no more was seen ! GET_FEATURES was not replied to: what was seen ended 1.5000 s later";
+    assert_eq!([wanted], complaints(&said_of([asked.clone(), later].concat(), &[])).as_slice());
+    let output = said_of(&asked, &["--json"]);
+    let wanted = "{\"t\": 1, \"session\": 7, \"left\": true}\n{\"t\": 1, \"session\": 7, \"complaint\": \
+                  \"GET_FEATURES was not replied to: what was seen ended 0.0000 s later\"}\n{\"summary\": ";
+    assert!(text(&output.stdout).contains(wanted), "{}", text(&output.stdout));
+    assert_eq!(Some(1), output.status.code());
+    // What awaits nothing, and a session that has ended, are not wrong.
+    let nothing = line_at(1.0, 7, "F>B", &message(3, ASKS, &[]));
+    let end = "{\"t\": 2, \"session\": 7, \"way\": \"B>F\", \"end\": \"eof\"}\n".to_string();
+    assert_eq!([""; 0], complaints(&said_of(nothing, &[])).as_slice());
+    assert_eq!(1, complaints(&said_of([asked, end].concat(), &[])).len());
+}
+
+/// The lines that say that a reply is awaited.
+fn waits_of(output: &Output) -> Vec<String> {
+    let shown = text(&output.stdout);
+    shown.lines().filter(|line| line.contains("waiting")).map(|line| line.trim_start().to_string()).collect()
+}
+
+/// A reply that comes late is told of once, five seconds after its request, and is not wrong.
+#[test]
+fn what_is_awaited_for_long_is_told() {
+    let asks = |time, session| line_at(time, session, "F>B", &message(1, ASKS, &[]));
+    let replies = |time, session| line_at(time, session, "B>F", &message(1, REPLIES, &[0; 8]));
+    let other = |time| line_at(time, 9, "F>B", &message(3, ASKS, &[]));
+    let output = said_of([asks(1.0, 1), other(5.9999), replies(5.9999, 1)].concat(), &[]);
+    assert_eq!([""; 0], waits_of(&output).as_slice());
+    let late = [asks(1.0, 1), asks(1.5, 2), other(6.0), other(30.0), replies(31.0, 1), replies(32.0, 2)].concat();
+    let output = said_of(&late, &[]);
+    let wait = |time: &str, session| format!("{time} {session} B>F waiting 5 s for the reply to GET_FEATURES");
+    assert_eq!([wait("6.0000", 1), wait("6.5000", 2)], waits_of(&output).as_slice());
+    assert_eq!([""; 0], complaints(&output).as_slice());
+    assert!(text(&output.stdout).contains("= longest answer: 30.5000 s, to GET_FEATURES\n"));
+    let wanted = "{\"t\": 6, \"session\": 1, \"way\": \"B>F\", \"waiting\": 5, \"name\": \"GET_FEATURES\"}";
+    assert!(waits_of(&said_of(&late, &["--json"])).iter().any(|line| line == wanted));
+    // A request behind another one has waited since that one was replied to.
+    let behind = line_at(1.0, 1, "F>B", &message(1, ASKS, &[]));
+    let output = said_of([asks(1.0, 1), behind, replies(4.0, 1), other(8.9), replies(9.5, 1)].concat(), &[]);
+    assert_eq!([wait("9.0000", 1)], waits_of(&output).as_slice());
+}
+
+/// A recording that was cut amid a line, at each of its bytes: what is before is judged, and the status says that it is not all.
+#[test]
+fn a_recording_that_is_cut() {
+    let file = recordings().into_iter().find(|file| name_of(file) == "mig_native-src").unwrap();
+    let whole = std::fs::read(file).unwrap();
+    let lines: Vec<&[u8]> = whole.split_inclusive(|byte| *byte == b'\n').take(3).collect();
+    let first = lines[..2].concat();
+    for at in 1..lines[2].len() - 1 {
+        let output = said_of([&first, &lines[2][..at]].concat(), &[]);
+        let shown = text(&output.stdout);
+        let is_whole = at == lines[2].len() - 1;
+        assert!(shown.contains("\n= sessions 1, messages F>B "), "{shown}");
+        assert_eq!(!is_whole, text(&output.stderr).ends_with(": line 3 is none of a recording: it is cut off\n"), "{at}");
+        assert_eq!(Some(2), output.status.code());
+    }
+    // One whose last line lacks its end alone is whole.
+    let output = said_of(&lines.concat()[..lines.concat().len() - 1], &[]);
+    assert_eq!("", text(&output.stderr));
+    assert!(matches!(output.status.code(), Some(0 | 1)));
+}
+
+/// Lines of another program are refused, each for its reason.
+#[test]
+fn lines_of_another_program() {
+    let end = "{\"t\": 1, \"session\": 1, \"way\": \"B>F\", \"end\": \"eof\"}\n";
+    for (line, reason) in [
+        ("\n", "it is no JSON"),
+        ("   0.1571 1 connected\n", "it is no JSON"),
+        ("{\"t\": 0.5, \"session\": 1, \"way\n", "it is no JSON"),
+        ("{\"level\": \"info\", \"msg\": \"started\"}\n", "it has no field \"t\""),
+        ("{\"t\": \"2026-01-01\", \"session\": 1}\n", "its field \"t\" is not a number"),
+        ("{\"t\": 1, \"session\": 1.5, \"way\": \"F>B\"}\n", "its field \"session\" is not a whole number"),
+        ("{\"t\": 1, \"session\": 1, \"way\": \"F>B\", \"name\": \"GET_FEATURES\"}\n", "it has no field \"bytes\""),
+        ("{\"level\"", "it is no JSON"),
+    ] {
+        let output = said_of([end, line].concat(), &[]);
+        let wanted = format!(": line 2 is none of a recording: {reason}\n");
+        assert!(text(&output.stderr).ends_with(&wanted), "{wanted} {}", text(&output.stderr));
+        assert_eq!(Some(2), output.status.code());
+    }
+    // (as --json shows them)
+    let file = recordings().into_iter().find(|file| name_of(file) == "mig_native-src").unwrap();
+    let shown = tap(&["--json", "--replay", file.to_str().unwrap()]).stdout;
+    let output = said_of(shown, &[]);
+    assert!(
+        text(&output.stderr).ends_with(": line 1 is none of a recording: it has no field \"way\"\n"),
+        "{}",
+        text(&output.stderr)
+    );
+}
+
+/// Runs the tap without a standard output.
+fn without_output(words: &[&str]) -> Output {
+    let tap = env!("CARGO_BIN_EXE_covretin-tap");
+    Command::new("sh").args(["-c", "exec \"$@\" >&-", "sh", tap]).args(words).output().unwrap()
+}
+
+/// What nobody can have seen is a failure.
+#[test]
+fn a_standard_output_that_is_closed() {
+    let file = recordings().remove(0);
+    let file = file.to_str().unwrap();
+    for words in [&["--replay", file][..], &["--json", "--replay", file], &["--help"], &["--version"]] {
+        let output = without_output(words);
+        assert_eq!(
+            (Some(2), "covretin-tap: Bad file descriptor (os error 9)\n".to_string()),
+            (output.status.code(), text(&output.stderr))
+        );
+    }
 }
 
 #[test]

@@ -3,7 +3,7 @@
 mod common;
 
 use std::fs::{create_dir, read_dir, remove_dir_all, remove_file, File};
-use std::io::{Read, Write};
+use std::io::{BufRead, BufReader, Read, Write};
 use std::net::Shutdown;
 use std::os::unix::io::AsRawFd;
 use std::os::unix::net::{UnixListener, UnixStream};
@@ -13,6 +13,7 @@ use std::thread;
 use std::time::{Duration, Instant};
 
 use common::device::*;
+use common::lingering::*;
 use common::random::Numbers;
 use common::*;
 use covretin::vhost_user::message::*;
@@ -84,6 +85,12 @@ impl Tap {
 
     fn open_fds(&self) -> usize {
         read_dir(format!("/proc/{}/fd", self.child.id())).unwrap().count()
+    }
+
+    /// Ends it by a signal.
+    fn signal(&self, signal: i32) {
+        // SAFETY: it is the number of a child that was not waited for.
+        assert_eq!(0, unsafe { libc::kill(self.child.id() as i32, signal) });
     }
 
     /// What it printed, once its sessions have ended, and the complaints among that. What it recorded is replayed to the same.
@@ -261,6 +268,23 @@ fn descriptors_where_none_belong() {
     });
 }
 
+/// A socket that lingers goes on to its receiver as it is.
+#[test]
+fn a_descriptor_that_lingers() {
+    counted(|| {
+        let tap = Tap::of(Some(1));
+        let (frontend, backend) = tap.ends();
+        let request = message(12, ASKS, &[0; 8]);
+        let others = Lingering::new(1).are_said(&frontend, &request);
+        let came = backend.hear(&request);
+        drop((frontend, backend));
+        tap.end();
+        assert!(lingers(&came[0]));
+        linger_no_more(&came[0]);
+        drop(others);
+    });
+}
+
 /// Bytes at random, both ways at once, each side as fast as it can.
 #[test]
 fn garbage() {
@@ -400,8 +424,7 @@ fn many_sessions() {
             assert!(started.elapsed() < LONG, "{} descriptors before, {} behind", before, tap.open_fds());
             thread::sleep(Duration::from_millis(5));
         }
-        // SAFETY: it is the number of a child that was not waited for.
-        assert_eq!(0, unsafe { libc::kill(tap.child.id() as i32, libc::SIGTERM) });
+        tap.signal(libc::SIGTERM);
         let mut shown = String::new();
         tap.child.stdout.take().unwrap().read_to_string(&mut shown).unwrap();
         assert!(shown.ends_with("\n= nothing is wrong\n"), "{shown}");
@@ -518,6 +541,149 @@ fn its_socket() {
         // (that looked at the socket was a session, without a message)
         tap.accept();
         tap.end();
+    });
+}
+
+/// Both ends of a session whose backend does not reply to GET_PROTOCOL_FEATURES.
+fn hanging(tap: &Tap) -> (Peer, Peer) {
+    let (frontend, backend) = tap.ends();
+    frontend.say(&message(1, ASKS, &[]), &[]);
+    backend.hear(&message(1, ASKS, &[]));
+    backend.say_number(1, PROTOCOL);
+    frontend.hear(&message(1, REPLIES, &PROTOCOL.to_le_bytes()));
+    frontend.say(&message(15, ASKS, &[]), &[]);
+    backend.hear(&message(15, ASKS, &[]));
+    (frontend, backend)
+}
+
+const UNREPLIED: &str = "GET_PROTOCOL_FEATURES was never replied to: the session ended ";
+
+/// Whoever ends the tap is told what is still awaited, and both sides are told that it has ended.
+#[test]
+fn a_signal_while_a_reply_is_awaited() {
+    counted(|| {
+        for signal in [libc::SIGINT, libc::SIGTERM] {
+            let tap = Tap::of(None);
+            let (frontend, backend) = hanging(&tap);
+            tap.signal(signal);
+            frontend.silence();
+            backend.silence();
+            let (shown, found) = tap.end();
+            assert!(found.len() == 1 && found[0].starts_with(UNREPLIED), "{found:?}");
+            for way in ["F>B", "B>F"] {
+                assert!(shown.contains(&format!(" {way} end: the tap was stopped\n")), "{shown}");
+            }
+        }
+    });
+}
+
+/// A session in which nothing is awaited is right, whenever the tap ends.
+#[test]
+fn a_signal_between_two_requests() {
+    counted(|| {
+        let tap = Tap::of(None);
+        let (frontend, backend) = hanging(&tap);
+        backend.say_number(15, 0);
+        frontend.hear(&message(15, REPLIES, &[0; 8]));
+        tap.signal(libc::SIGINT);
+        assert_eq!(Vec::<String>::new(), tap.end().1);
+    });
+}
+
+/// What came of a message by then is told, too: of a request behind the one that is awaited, and of the reply itself.
+#[test]
+fn a_signal_amid_a_message() {
+    counted(|| {
+        let tap = Tap::of(None);
+        let (frontend, backend) = hanging(&tap);
+        frontend.say(&message(1, ASKS, &[])[..4], &[]);
+        backend.hear(&message(1, ASKS, &[])[..4]);
+        tap.signal(libc::SIGINT);
+        let mut found = tap.end().1;
+        found.sort();
+        assert!(found.len() == 2 && found[0].starts_with(UNREPLIED), "{found:?}");
+        assert_eq!("the stream ended behind 4 bytes of a header", found[1]);
+        let tap = Tap::of(None);
+        let (frontend, backend) = hanging(&tap);
+        backend.say(&message(15, REPLIES, &[0; 8])[..15], &[]);
+        frontend.hear(&message(15, REPLIES, &[0; 8])[..15]);
+        tap.signal(libc::SIGINT);
+        let found = tap.end().1;
+        assert_eq!("the stream ended behind 3 bytes of a body of 8", found[0]);
+        assert!(found.len() == 2 && found[1].starts_with(UNREPLIED), "{found:?}");
+    });
+}
+
+/// A side that left with a reply awaited, and the other one that did not.
+#[test]
+fn a_side_that_leaves_while_a_reply_is_awaited() {
+    counted(|| {
+        for backend_leaves in [false, true] {
+            let tap = Tap::of(None);
+            let (frontend, backend) = hanging(&tap);
+            let (left, other) = if backend_leaves { (backend, frontend) } else { (frontend, backend) };
+            drop(left);
+            other.silence();
+            tap.signal(libc::SIGINT);
+            let found = tap.end().1;
+            assert!(found.len() == 1 && found[0].starts_with(UNREPLIED), "{found:?}");
+        }
+    });
+}
+
+/// While a reply is awaited, it is told after five seconds, whatever else happens or not.
+#[test]
+fn a_reply_that_is_awaited_is_told_of() {
+    counted(|| {
+        let mut tap = Tap::of(Some(1));
+        let (frontend, backend) = tap.ends();
+        let started = Instant::now();
+        frontend.say(&message(1, ASKS, &[]), &[]);
+        backend.hear(&message(1, ASKS, &[]));
+        let mut lines = BufReader::new(tap.child.stdout.take().unwrap()).lines().map(|line| line.unwrap());
+        let asked = lines.find(|line| line.ends_with(" 1 F>B GET_FEATURES")).unwrap();
+        let told = lines.next().unwrap();
+        assert!(told.ends_with(" 1 B>F waiting 5 s for the reply to GET_FEATURES"), "{told}");
+        assert!(started.elapsed() >= Duration::from_secs(5));
+        let time = |line: &str| line.trim_start().split(' ').next().unwrap().parse::<f64>().unwrap();
+        assert!((time(&told) - time(&asked) - 5.0).abs() < 0.001, "{asked} {told}");
+        backend.say_number(1, 7);
+        frontend.hear(&message(1, REPLIES, &7u64.to_le_bytes()));
+        drop((frontend, backend));
+        let rest: Vec<String> = lines.collect();
+        assert_eq!("= nothing is wrong", rest.last().unwrap());
+        assert!(!rest.iter().any(|line| line.contains("waiting")), "{rest:?}");
+        assert_eq!(Some(0), tap.child.wait().unwrap().code());
+        remove_dir_all(&tap.folder).unwrap();
+    });
+}
+
+/// Without a standard output the session goes on, and is recorded; that it was not shown is said at the end.
+#[test]
+fn a_session_without_an_output() {
+    counted(|| {
+        let folder = std::env::temp_dir().join(format!("covretin-tap-{}-closed", std::process::id()));
+        create_dir(&folder).unwrap();
+        let listener = UnixListener::bind(folder.join("backend")).unwrap();
+        let words = ["-c", "exec \"$@\" >&-", "sh", env!("CARGO_BIN_EXE_covretin-tap"), "--count=1", "--record", "record"];
+        let child = Command::new("sh")
+            .args(words)
+            .args(["frontend", "backend"])
+            .current_dir(&folder)
+            .stderr(Stdio::piped())
+            .spawn()
+            .unwrap();
+        let tap = Tap { child, listener, folder };
+        let (frontend, backend) = tap.ends();
+        frontend.say(&message(3, ASKS, &[]), &[]);
+        backend.hear(&message(3, ASKS, &[]));
+        drop((frontend, backend));
+        let Tap { child, folder, .. } = tap;
+        let output = child.wait_with_output().unwrap();
+        assert_eq!("covretin-tap: Bad file descriptor (os error 9)\n", String::from_utf8_lossy(&output.stderr));
+        assert_eq!(Some(2), output.status.code());
+        assert_eq!(4, std::fs::read_to_string(folder.join("record")).unwrap().lines().count());
+        remove_dir_all(&folder).unwrap();
     });
 }
 

@@ -3,6 +3,7 @@
 //! socket. What other modules see of both is safe.
 mod backend_session;
 mod channel;
+mod closing;
 mod display;
 mod moving;
 #[cfg(covretin_assembly)]
@@ -13,8 +14,9 @@ mod socket;
 
 pub(crate) use backend_session::{BackendSession, MAX_CONFIG};
 pub(crate) use channel::{ChannelServer, ChannelSession, Mmap};
+pub(crate) use closing::{numbers_of, PeerFd, PeerSocket};
 pub(crate) use display::DisplaySession;
 pub(crate) use moving::{Asks, Code, Moves, Outcome, Serves, MAX_FDS, MAX_MESSAGE};
 pub(crate) use session::{Inflight, Region, Session, Vring};
 pub(crate) use signals::EndSignals;
-pub(crate) use socket::{is_ready, numbers_of, option_of, receive, receive_any, send, Received};
+pub(crate) use socket::{is_ready, option_of, receive, receive_any, send, Received};

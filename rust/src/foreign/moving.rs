@@ -42,7 +42,13 @@ pub(crate) trait Moves {
 
 /// A session that asks: each call is taken once its reply has come.
 pub(crate) trait Asks: Moves {
+    /// Before a call is asked.
+    fn begin(&mut self) {}
     fn take(&mut self) -> Outcome;
+    /// Undoes what the call changed that was taken last, of which nothing was sent.
+    fn undo(&mut self) -> Outcome {
+        Ok(())
+    }
     /// Which feature the last call lacked, where the session tells.
     fn inactive(&mut self) -> u64;
 }

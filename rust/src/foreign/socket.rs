@@ -5,12 +5,17 @@ use std::mem::{size_of, size_of_val, zeroed, MaybeUninit};
 use std::os::unix::io::{AsRawFd, FromRawFd, OwnedFd, RawFd};
 use std::os::unix::net::UnixStream;
 use std::ptr::{addr_of_mut, copy_nonoverlapping};
-use std::slice::from_raw_parts;
 
+use super::closing::PeerFd;
 use super::moving::MAX_FDS;
 
 /// The greatest number of descriptors that the system passes on with a message.
 pub(crate) const SYSTEM_FDS: usize = 253;
+/// The greatest size of control messages that nobody here asked for. Whoever keeps a copy of a socket that he gave may set its
+/// options: then the sender's credentials, a label of its security, a timestamp or its process come along.
+const FOREIGN: usize = 512;
+/// What comes where SO_PASSPIDFD is set: a descriptor of the sender's process.
+const SCM_PIDFD: libc::c_int = 4;
 
 /// How much control data so many descriptors take.
 const fn room_for(fds: usize) -> usize {
@@ -29,8 +34,8 @@ union Control<const ROOM: usize> {
 pub(crate) struct Received {
     /// How many bytes; 0 at the end of the stream.
     pub(crate) count: usize,
-    /// Whether descriptors came that the system dropped.
-    pub(crate) is_truncated: bool,
+    /// Whether more descriptors came than there may, or some that the system dropped.
+    pub(crate) has_too_many: bool,
 }
 
 /// Sends a part of these bytes, at least one, with all of the descriptors on the first of them: how many bytes. It raises no
@@ -73,31 +78,30 @@ fn send_attached(socket: &UnixStream, mut message: libc::msghdr, fds: &[RawFd], 
 }
 
 /// Receives a part of what fits, and puts the descriptors that came along behind `fds`: they are the caller's then, and do not
-/// pass to a program that is executed.
-pub(crate) fn receive(socket: &UnixStream, room: &mut [u8], fds: &mut Vec<OwnedFd>, is_waiting: bool) -> io::Result<Received> {
-    receive_within::<{ room_for(MAX_FDS) }>(socket, room, fds, is_waiting)
+/// pass to a program that is executed. There may be `MAX_FDS`.
+pub(crate) fn receive(socket: &UnixStream, room: &mut [u8], fds: &mut Vec<PeerFd>, is_waiting: bool) -> io::Result<Received> {
+    let kept = fds.len();
+    let mut received = receive_any(socket, room, fds, is_waiting)?;
+    received.has_too_many |= fds.len() - kept > MAX_FDS;
+    Ok(received)
 }
 
-/// The same, with any number of descriptors.
-pub(crate) fn receive_any(
-    socket: &UnixStream,
-    room: &mut [u8],
-    fds: &mut Vec<OwnedFd>,
-    is_waiting: bool,
-) -> io::Result<Received> {
-    receive_within::<{ room_for(SYSTEM_FDS) }>(socket, room, fds, is_waiting)
+/// The same, with as many descriptors as the system passes on.
+pub(crate) fn receive_any(socket: &UnixStream, room: &mut [u8], fds: &mut Vec<PeerFd>, is_waiting: bool) -> io::Result<Received> {
+    receive_by(socket, room, fds, if is_waiting { 0 } else { libc::MSG_DONTWAIT })
 }
 
-/// The same, with as many descriptors as this control data has room for.
-fn receive_within<const ROOM: usize>(
-    socket: &UnixStream,
-    room: &mut [u8],
-    fds: &mut Vec<OwnedFd>,
-    is_waiting: bool,
-) -> io::Result<Received> {
+/// The same, without waiting, of what stays in the socket: from what SO_PEEK_OFF says on, which counts what was seen. The descriptors
+/// are others of the same files.
+pub(super) fn peek(socket: &UnixStream, room: &mut [u8], fds: &mut Vec<PeerFd>) -> io::Result<Received> {
+    receive_by(socket, room, fds, libc::MSG_PEEK | libc::MSG_DONTWAIT)
+}
+
+/// Receives with these flags. There is room for all descriptors of a message: those without room the system closes, and may wait for.
+fn receive_by(socket: &UnixStream, room: &mut [u8], fds: &mut Vec<PeerFd>, flags: libc::c_int) -> io::Result<Received> {
+    const ROOM: usize = room_for(SYSTEM_FDS) + FOREIGN;
     let mut control = MaybeUninit::<Control<ROOM>>::uninit();
     let mut piece = libc::iovec { iov_base: room.as_mut_ptr().cast(), iov_len: room.len() };
-    let flags = libc::MSG_CMSG_CLOEXEC | if is_waiting { 0 } else { libc::MSG_DONTWAIT };
     // SAFETY: a message of zeros is valid, and has no parts.
     let mut message: libc::msghdr = unsafe { zeroed() };
     message.msg_iov = &mut piece;
@@ -105,43 +109,44 @@ fn receive_within<const ROOM: usize>(
     message.msg_control = control.as_mut_ptr().cast();
     message.msg_controllen = ROOM as _;
     // SAFETY: the message points to `piece`, the room and `control`, which all outlive the call; `control` is only written.
-    let got = unsafe { libc::recvmsg(socket.as_raw_fd(), &mut message, flags) };
+    let got = unsafe { libc::recvmsg(socket.as_raw_fd(), &mut message, flags | libc::MSG_CMSG_CLOEXEC) };
     let count = usize::try_from(got).map_err(|_| io::Error::last_os_error())?;
     if message.msg_controllen != 0 {
         // SAFETY: the system filled in the message, and of its control data as much as the message says.
         unsafe { gather(&message, fds) };
     }
-    Ok(Received { count, is_truncated: message.msg_flags & libc::MSG_CTRUNC != 0 })
+    Ok(Received { count, has_too_many: message.msg_flags & libc::MSG_CTRUNC != 0 })
 }
 
-/// Takes over the descriptors of a message.
+/// Takes over the descriptors of a message: what was attached to it is put behind `fds`, and what the system added is closed.
+/// Control messages of other kinds bring none.
 ///
 /// # Safety
 ///
 /// `recvmsg` filled in the message, its control data is still there, and nobody took its descriptors over before.
 #[cold]
-unsafe fn gather(message: &libc::msghdr, fds: &mut Vec<OwnedFd>) {
-    // SAFETY: the headers and their lengths are the system's, and within the control data. What comes as SCM_RIGHTS was opened
-    // for this process by that call, and belongs to nobody else. The data need not be aligned.
+unsafe fn gather(message: &libc::msghdr, fds: &mut Vec<PeerFd>) {
+    // SAFETY: the headers and their lengths are the system's, and within the control data, which need not be aligned. What these two
+    // kinds name was opened for this process by that call, and belongs to nobody else.
     unsafe {
         let mut head = libc::CMSG_FIRSTHDR(message);
         while !head.is_null() {
-            if (*head).cmsg_level == libc::SOL_SOCKET && (*head).cmsg_type == libc::SCM_RIGHTS {
+            let is_attached = (*head).cmsg_type == libc::SCM_RIGHTS;
+            if (*head).cmsg_level == libc::SOL_SOCKET && (is_attached || (*head).cmsg_type == SCM_PIDFD) {
                 let length = (*head).cmsg_len as usize - libc::CMSG_LEN(0) as usize;
                 let first = libc::CMSG_DATA(head).cast::<RawFd>();
-                for at in 0..length / size_of::<RawFd>() {
-                    fds.push(OwnedFd::from_raw_fd(first.add(at).read_unaligned()));
+                let numbers = (0..length / size_of::<RawFd>()).map(|at| first.add(at).read_unaligned());
+                // (a negative one says why the system opened none)
+                let came = numbers.filter(|fd| *fd >= 0).map(|fd| PeerFd::from(OwnedFd::from_raw_fd(fd)));
+                if is_attached {
+                    fds.extend(came);
+                } else {
+                    came.for_each(drop);
                 }
             }
             head = libc::CMSG_NXTHDR(message, head);
         }
     }
-}
-
-/// The numbers of descriptors.
-pub(crate) fn numbers_of(fds: &[OwnedFd]) -> &[RawFd] {
-    // SAFETY: std says that an OwnedFd has the representation of its number.
-    unsafe { from_raw_parts(fds.as_ptr().cast(), fds.len()) }
 }
 
 /// An option of a socket: of SOL_SOCKET, by its number.
@@ -156,6 +161,16 @@ pub(crate) fn option_of(socket: &impl AsRawFd, name: libc::c_int) -> io::Result<
     }
 }
 
+/// Sets an option of a socket: of SOL_SOCKET, by its number, whose value is of this type.
+pub(super) fn set_option<T: Copy>(socket: &impl AsRawFd, name: libc::c_int, value: &T) -> io::Result<()> {
+    let place = (value as *const T).cast();
+    // SAFETY: it is one value, and its size, borrowed for the call, which only reads it.
+    match unsafe { libc::setsockopt(socket.as_raw_fd(), libc::SOL_SOCKET, name, place, size_of::<T>() as libc::socklen_t) } {
+        0 => Ok(()),
+        _ => Err(io::Error::last_os_error()),
+    }
+}
+
 /// Waits until the socket is ready for one of these events, so many milliseconds at most; negative: no limit. Whether it is.
 pub(crate) fn is_ready(socket: &UnixStream, events: libc::c_short, milliseconds: libc::c_int) -> io::Result<bool> {
     let mut polled = libc::pollfd { fd: socket.as_raw_fd(), events, revents: 0 };
@@ -163,5 +178,70 @@ pub(crate) fn is_ready(socket: &UnixStream, events: libc::c_short, milliseconds:
     match unsafe { libc::poll(&mut polled, 1, milliseconds) } {
         ready if ready < 0 => Err(io::Error::last_os_error()),
         ready => Ok(ready != 0),
+    }
+}
+
+#[cfg(test)]
+mod tests {
+    use std::io::Read;
+    use std::os::unix::io::IntoRawFd;
+
+    use super::*;
+
+    /// Appends a control message to control data of so many bytes.
+    fn append(control: &mut [u8], at: &mut usize, kind: libc::c_int, data: &[u8]) {
+        // SAFETY: a header is put where there is room for it and its data.
+        unsafe {
+            let space = libc::CMSG_SPACE(data.len() as u32) as usize;
+            assert!(*at + space <= control.len());
+            let head = control.as_mut_ptr().add(*at).cast::<libc::cmsghdr>();
+            let (length, level) = (libc::CMSG_LEN(data.len() as u32) as _, libc::SOL_SOCKET);
+            head.write_unaligned(libc::cmsghdr { cmsg_len: length, cmsg_level: level, cmsg_type: kind });
+            copy_nonoverlapping(data.as_ptr(), libc::CMSG_DATA(head), data.len());
+            *at += space;
+        }
+    }
+
+    /// The end of a pair of sockets, by its number, and the other one.
+    fn end_of_a_pair() -> (RawFd, UnixStream) {
+        let (given, kept) = UnixStream::pair().unwrap();
+        kept.set_nonblocking(true).unwrap();
+        (OwnedFd::from(given).into_raw_fd(), kept)
+    }
+
+    /// Whether nobody has the other end any more.
+    fn is_left(kept: &UnixStream) -> bool {
+        matches!((&*kept).read(&mut [0]), Ok(0))
+    }
+
+    /// What is attached is kept among control messages of any other kind; a descriptor of the sender's process is closed, and other
+    /// numbers are none.
+    #[test]
+    fn each_control_message_is_walked() {
+        let (attached, kept) = end_of_a_pair();
+        let (added, other) = end_of_a_pair();
+        let mut control = Control { bytes: [0; 256] };
+        let mut length = 0;
+        // SAFETY: all of it was written.
+        let bytes = unsafe { &mut control.bytes };
+        append(bytes, &mut length, libc::SCM_CREDENTIALS, &[0; 12]);
+        append(bytes, &mut length, SCM_PIDFD, &(-libc::EMFILE).to_ne_bytes());
+        append(bytes, &mut length, 77, &[1; 5]);
+        append(bytes, &mut length, SCM_PIDFD, &added.to_ne_bytes());
+        append(bytes, &mut length, libc::SCM_RIGHTS, &attached.to_ne_bytes());
+        append(bytes, &mut length, 78, &other.as_raw_fd().to_ne_bytes());
+        let mut fds = Vec::new();
+        // SAFETY: a message of zeros is valid; its control data is as `recvmsg` writes it, with descriptors that are given up here.
+        unsafe {
+            let mut message: libc::msghdr = zeroed();
+            message.msg_control = addr_of_mut!(control).cast();
+            message.msg_controllen = length as _;
+            gather(&message, &mut fds);
+        }
+        assert_eq!(vec![attached], fds.iter().map(AsRawFd::as_raw_fd).collect::<Vec<_>>());
+        assert!(is_left(&other));
+        assert!(!is_left(&kept));
+        drop(fds);
+        assert!(is_left(&kept));
     }
 }

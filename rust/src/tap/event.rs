@@ -136,6 +136,10 @@ pub(super) enum What {
     Bytes(Way, Vec<u8>),
     /// The stream ended, or failed so.
     Ended(Way, Option<String>),
+    /// The reply to a request has been awaited for so many seconds. It is not recorded, since it follows from the times.
+    Waits(u32, String),
+    /// Nothing more of the session was seen, before it ended.
+    Left,
 }
 
 /// What happened in a session, and when: in seconds since the tap was started.
@@ -150,7 +154,7 @@ impl Event {
     /// Whether it is of the connection to the device.
     pub(super) fn is_of_the_device(&self) -> bool {
         match &self.what {
-            What::Connected(_) => true,
+            What::Connected(_) | What::Waits(..) | What::Left => true,
             What::Message(way, _) | What::Bytes(way, _) | What::Ended(way, _) => way.channel == Channel::Device,
         }
     }

@@ -2,9 +2,10 @@
 //! The bytes of a stream as messages: what is received of one, and what of that was not passed on yet.
 use std::fs::read_link;
 use std::io;
-use std::os::unix::io::{AsRawFd, OwnedFd, RawFd};
+use std::os::unix::io::{AsFd, AsRawFd, OwnedFd, RawFd};
 
 use super::event::{u32_at, Message, HEADER};
+use crate::foreign::PeerFd;
 use crate::vhost_user::message::MAX_MSG_SIZE;
 
 /// How much is received at a time of a stream that is none of messages.
@@ -17,7 +18,7 @@ pub(super) struct Gathering {
     /// How many of its bytes were passed on.
     passed: usize,
     /// Descriptors that were not passed on. They came with the first byte that was not.
-    fds: Vec<OwnedFd>,
+    fds: Vec<PeerFd>,
     /// A header announced more than a message may have: what follows is no message.
     is_lost: bool,
 }
@@ -48,9 +49,14 @@ impl Gathering {
         self.passed < self.message.bytes.len()
     }
 
+    /// Whether a part of a message came, and the rest is missing.
+    pub(super) fn is_part(&self) -> bool {
+        !self.is_lost && !self.message.bytes.is_empty() && self.missing() != 0
+    }
+
     /// Takes in what was received. What was held back before is passed on first where descriptors came along, so that they stay
     /// with their bytes.
-    pub(super) fn take_in(&mut self, bytes: &[u8], fds: Vec<OwnedFd>) -> Received {
+    pub(super) fn take_in(&mut self, bytes: &[u8], fds: Vec<PeerFd>) -> Received {
         let at = self.message.bytes.len();
         if !fds.is_empty() {
             self.message.fds_at.push(at);
@@ -85,18 +91,19 @@ impl Gathering {
 
     /// Another descriptor of the file whose descriptor is held back first.
     pub(super) fn clone_fd(&self) -> io::Result<OwnedFd> {
-        self.fds.first().ok_or(io::ErrorKind::NotFound)?.try_clone()
+        self.fds.first().ok_or(io::ErrorKind::NotFound)?.as_fd().try_clone_to_owned()
     }
 
     /// Passes this one descriptor on in the place of those that are held back.
     pub(super) fn replace_fds(&mut self, fd: OwnedFd) {
-        self.fds = vec![fd];
+        self.fds = vec![fd.into()];
     }
 
-    /// What is held back was passed on. Its descriptors are closed.
+    /// What is held back was passed on. Its descriptors are closed, and stay what they are for their receiver: where that one has closed
+    /// a socket before, and it lingers, its sender waits here for what it sends next.
     pub(super) fn set_passed(&mut self) {
         self.passed = self.message.bytes.len();
-        self.fds.clear();
+        self.fds.drain(..).map(OwnedFd::from).for_each(drop);
     }
 
     /// The message as far as it was received.
@@ -112,7 +119,7 @@ impl Gathering {
 }
 
 /// What a descriptor is.
-fn kind_of(fd: &OwnedFd) -> String {
+fn kind_of(fd: &PeerFd) -> String {
     let link = match read_link(format!("/proc/self/fd/{}", fd.as_raw_fd())) {
         Ok(link) => link.to_string_lossy().into_owned(),
         Err(_) => return "unknown".to_string(),
@@ -133,12 +140,14 @@ mod tests {
     fn a_message_in_pieces_is_whole_with_its_last_byte() {
         let mut gathering = Gathering::default();
         assert_eq!(12, gathering.missing());
+        assert!(!gathering.is_part());
         assert_eq!(Received::Part, gathering.take_in(&[1, 0, 0, 0, 1], Vec::new()));
-        assert_eq!(7, gathering.missing());
+        assert_eq!((7, true), (gathering.missing(), gathering.is_part()));
         gathering.set_passed();
         assert_eq!(Received::Part, gathering.take_in(&[0, 0, 0, 2, 0, 0, 0], Vec::new()));
         assert_eq!(2, gathering.missing());
         assert_eq!(Received::Message, gathering.take_in(&[7, 8], Vec::new()));
+        assert!(!gathering.is_part());
         assert_eq!(&[0, 0, 0, 2, 0, 0, 0, 7, 8], gathering.held().0);
         assert_eq!(vec![5, 7, 2], gathering.message().cuts);
         gathering.set_passed();
@@ -154,13 +163,14 @@ mod tests {
         gathering.begin();
         assert_eq!(ROOM, gathering.missing());
         assert_eq!(Received::Bytes, gathering.take_in(&[1; 40], Vec::new()));
+        assert!(!gathering.is_part());
     }
 
     #[test]
     fn kinds_of_descriptors() {
         let (socket, _other) = std::os::unix::net::UnixStream::pair().unwrap();
-        assert_eq!("socket", kind_of(&socket.into()));
+        assert_eq!("socket", kind_of(&OwnedFd::from(socket).into()));
         let file = std::fs::File::open("/dev/null").unwrap();
-        assert_eq!("file:/dev/null", kind_of(&file.into()));
+        assert_eq!("file:/dev/null", kind_of(&OwnedFd::from(file).into()));
     }
 }

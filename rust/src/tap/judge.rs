@@ -49,6 +49,10 @@ pub(super) struct Tally {
 /// A request whose reply is awaited.
 struct Pending {
     time: f64,
+    /// When its reply was the next that may come.
+    since: f64,
+    /// Whether it was told that it waits.
+    is_told: bool,
     request: Message,
     owed: Owed,
 }
@@ -73,6 +77,8 @@ pub(super) struct Judge {
     /// Requests that were refused without a reply.
     refused: Vec<u32>,
     complaints: Vec<String>,
+    /// When the last event was.
+    now: f64,
     /// How many of its ways have ended.
     ended: usize,
     pub(super) tally: Tally,
@@ -90,6 +96,7 @@ impl Judge {
             pending: None,
             refused: Vec::new(),
             complaints: complaints.into_iter().collect(),
+            now: 0.0,
             ended: 0,
             tally: Tally::default(),
         }
@@ -97,6 +104,7 @@ impl Judge {
 
     /// What is wrong with what happened.
     pub(super) fn see(&mut self, event: &Event) -> Vec<String> {
+        self.now = event.time;
         match &event.what {
             What::Connected(Err(_)) => self.ended = WAYS,
             What::Message(way, message) if !message.is_whole() && way.channel == TO_BACKEND.channel => {
@@ -127,6 +135,25 @@ impl Judge {
     /// Whether nothing more comes.
     pub(super) fn has_ended(&self) -> bool {
         self.ended == WAYS
+    }
+
+    /// Since when a reply is awaited, where that was not told.
+    pub(super) fn waits_since(&self) -> Option<f64> {
+        self.pending.as_ref().filter(|pending| !pending.is_told).map(|pending| pending.since)
+    }
+
+    /// To what a reply is awaited, which is told now.
+    pub(super) fn tell_wait(&mut self) -> Option<String> {
+        let pending = self.pending.as_mut()?;
+        pending.is_told = true;
+        Some(name_of(TO_BACKEND, &pending.request))
+    }
+
+    /// What is wrong where no more is seen of the session from this time on.
+    pub(super) fn leave(&mut self, time: f64) -> Option<String> {
+        let pending = self.pending.take()?;
+        let name = name_of(TO_BACKEND, &pending.request);
+        Some(format!("{name} was not replied to: what was seen ended {:.4} s later", time - pending.time))
     }
 
     fn complain(&mut self, complaint: impl Into<String>) {
@@ -170,7 +197,7 @@ impl Judge {
             Given::Bytes(bytes) => bytes,
             Given::Nothing(owed) => {
                 self.session = Some(session);
-                self.pending = owed.map(|owed| Pending { time, request, owed });
+                self.await_reply(time, request, owed);
                 return;
             }
         };
@@ -181,10 +208,15 @@ impl Judge {
         match judged {
             Ok(owed) => {
                 self.session = Some(session);
-                self.pending = owed.map(|owed| Pending { time, request, owed });
+                self.await_reply(time, request, owed);
             }
             Err(Code(number)) => self.stop(&format!("the judge itself failed (error {number})")),
         }
+    }
+
+    /// Awaits this, if anything.
+    fn await_reply(&mut self, time: f64, request: Message, owed: Option<Owed>) {
+        self.pending = owed.map(|owed| Pending { time, since: self.now, is_told: false, request, owed });
     }
 
     /// What is given to the session in the place of a request.
@@ -306,7 +338,7 @@ impl Judge {
 
     /// Compares a reply with what is owed.
     fn settle(&mut self, time: f64, pending: Pending, reply: &Message) {
-        let Pending { time: asked, request, owed } = pending;
+        let Pending { time: asked, request, owed, .. } = pending;
         let taken = time - asked;
         if self.tally.longest.as_ref().map_or(true, |(longest, _)| taken > *longest) {
             self.tally.longest = Some((taken, name_of(TO_BACKEND, &request)));

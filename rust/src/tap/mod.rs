@@ -7,6 +7,7 @@ mod gathering;
 mod json;
 mod judge;
 mod layout;
+mod open_sockets;
 mod options;
 mod passing;
 mod recording;
@@ -20,14 +21,13 @@ mod watcher;
 
 use std::ffi::OsString;
 use std::fs::{remove_file, File};
-use std::io::{self, BufRead, BufReader};
+use std::io::{self, BufRead, BufReader, Write};
 use std::path::{Path, PathBuf};
 use std::process::ExitCode;
-use std::sync::mpsc::Receiver;
 use std::thread;
 
 use options::{Asked, Options, Source};
-use reporter::{Note, Reporter};
+use reporter::{Next, Notes, Reporter};
 use watcher::{Verdict, Watcher};
 
 use crate::foreign::EndSignals;
@@ -37,24 +37,18 @@ const WRONG: u8 = 1;
 /// Wrong arguments, or a path that can't be used.
 const TROUBLE: u8 = 2;
 
-/// Runs the program, called by these words behind its name: its status.
-pub fn run(words: impl IntoIterator<Item = OsString>) -> ExitCode {
-    let options = match options::parse(words) {
-        Ok(Asked::Tap(options)) => options,
-        Ok(Asked::Help) => {
-            println!("{}\n{}", options::USAGE, options::HELP);
-            return ExitCode::SUCCESS;
-        }
-        Ok(Asked::Version) => {
-            println!("covretin-tap {}", env!("CARGO_PKG_VERSION"));
-            return ExitCode::SUCCESS;
-        }
+/// Runs the program, called by these words behind its name, with this standard output: its status.
+pub fn run(words: impl IntoIterator<Item = OsString>, mut output: impl Write + Send + 'static) -> ExitCode {
+    let said = match options::parse(words) {
+        Ok(Asked::Tap(options)) => tap(&options, output),
+        Ok(Asked::Help) => say(&mut output, &format!("{}\n{}", options::USAGE, options::HELP)),
+        Ok(Asked::Version) => say(&mut output, &format!("covretin-tap {}", env!("CARGO_PKG_VERSION"))),
         Err(wrong) => {
             eprintln!("covretin-tap: {wrong}\n{}", options::USAGE);
             return ExitCode::from(TROUBLE);
         }
     };
-    match tap(&options) {
+    match said {
         Ok(Verdict { failed: None, complaints: 0 }) => ExitCode::SUCCESS,
         Ok(Verdict { failed: None, .. }) => ExitCode::from(WRONG),
         Ok(Verdict { failed: Some(cause), .. }) | Err(cause) => {
@@ -64,10 +58,19 @@ pub fn run(words: impl IntoIterator<Item = OsString>) -> ExitCode {
     }
 }
 
-fn tap(options: &Options) -> io::Result<Verdict> {
+/// Prints a text that says nothing of a session.
+fn say(output: &mut impl Write, text: &str) -> io::Result<Verdict> {
+    writeln!(output, "{text}").and_then(|()| output.flush())?;
+    Ok(Verdict { complaints: 0, failed: None })
+}
+
+fn tap(options: &Options, output: impl Write + Send + 'static) -> io::Result<Verdict> {
     match &options.source {
-        Source::Recording(file) => replay(options, file),
-        Source::Sockets { listen, connect, record, count } => tap_sockets(options, listen, connect, record.as_deref(), *count),
+        Source::Recording(file) => replay(Watcher::new(options, output, None), file),
+        Source::Sockets { listen, connect, record, count } => {
+            let watcher = |record| Watcher::new(options, output, record);
+            tap_sockets(watcher, listen, connect, record.as_deref(), *count)
+        }
     }
 }
 
@@ -76,22 +79,34 @@ fn about(path: &Path) -> impl Fn(io::Error) -> io::Error + '_ {
     move |cause| io::Error::new(cause.kind(), format!("{}: {cause}", path.display()))
 }
 
-fn replay(options: &Options, file: &Path) -> io::Result<Verdict> {
-    let lines = BufReader::new(File::open(file).map_err(about(file))?).lines();
-    let mut watcher = Watcher::new(options, io::stdout(), None);
-    for (line, number) in lines.zip(1..) {
-        let line = line.map_err(about(file))?;
-        let event = recording::event_of(&line).ok_or_else(|| {
-            let wrong = format!("{}: line {number} is none of a recording", file.display());
-            io::Error::new(io::ErrorKind::InvalidData, wrong)
-        })?;
-        watcher.see(&event);
+fn replay(mut watcher: Watcher<impl Write>, file: &Path) -> io::Result<Verdict> {
+    let wrong = |number: u64, reason: &str| {
+        let text = format!("{}: line {number} is none of a recording: {reason}", file.display());
+        io::Error::new(io::ErrorKind::InvalidData, text)
+    };
+    let mut lines = BufReader::new(File::open(file).map_err(about(file))?);
+    let mut line = Vec::new();
+    for number in 1.. {
+        line.clear();
+        if lines.read_until(b'\n', &mut line).map_err(about(file))? == 0 {
+            break;
+        }
+        match recording::event_of(&line) {
+            Ok(event) => watcher.see(&event),
+            // (it is the last one)
+            Err(_) if recording::is_cut(&line) => {
+                let mut verdict = watcher.finish(true);
+                verdict.failed.get_or_insert_with(|| wrong(number, "it is cut off"));
+                return Ok(verdict);
+            }
+            Err(reason) => return Err(wrong(number, &reason)),
+        }
     }
-    Ok(watcher.finish())
+    Ok(watcher.finish(true))
 }
 
-fn tap_sockets(
-    options: &Options,
+fn tap_sockets<W: Write + Send + 'static>(
+    watcher: impl FnOnce(Option<File>) -> Watcher<W>,
     listen: &Path,
     connect: &Path,
     record: Option<&Path>,
@@ -108,7 +123,7 @@ fn tap_sockets(
             return Err(cause);
         }
     };
-    let watcher = Watcher::new(options, io::stdout(), record);
+    let watcher = watcher(record);
     let (reporter, notes) = Reporter::new();
     let watching = thread::Builder::new().spawn(move || watch(watcher, &notes))?;
     sockets::pass_sessions(listener, PathBuf::from(connect), count, signals, &reporter);
@@ -123,15 +138,17 @@ fn tap_sockets(
 }
 
 /// Shows each event once there is time to: where nothing else waits.
-fn watch(mut watcher: Watcher<io::Stdout>, notes: &Receiver<Note>) -> Verdict {
+fn watch(mut watcher: Watcher<impl Write>, notes: &Notes) -> Verdict {
     loop {
-        let note = notes.try_recv().or_else(|_| {
+        let next = notes.ready().unwrap_or_else(|| {
             watcher.flush();
-            notes.recv()
+            // (what was lost may have been a reply)
+            notes.by(watcher.next_wait().filter(|_| !notes.is_lost()))
         });
-        match note {
-            Ok(Note::Event(event)) => watcher.see(&event),
-            Ok(Note::Stop) | Err(_) => return watcher.finish(),
+        match next {
+            Next::Event(event) => watcher.see(&event),
+            Next::Nothing => watcher.tell_waits(notes.now()),
+            Next::Stop => return watcher.finish(!notes.is_lost()),
         }
     }
 }

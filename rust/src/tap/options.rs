@@ -20,10 +20,11 @@ says behind '!' where one of them is none that the protocol's table has.
   --json         a line of JSON for each event
   --hex          the bytes of each message
   --record FILE  writes what is seen to FILE, a line of JSON each
-  --count=N      ends with the Nth session; without it the tap ends by SIGINT or SIGTERM
+  --count=N      ends with the Nth session; without it the tap ends by SIGINT or SIGTERM, and with it all sessions
   --replay FILE  shows and judges what was recorded, in place of a session
 
-Status: 0 where nothing is wrong; 1 where something is; 2 after wrong arguments, or where a path can't be used.";
+Status: 0 where nothing is wrong; 1 where something is; 2 after wrong arguments, where a path can't be used, or where not
+all could be shown.";
 
 /// How events are shown.
 #[derive(Clone, Copy, Debug, PartialEq, Eq)]

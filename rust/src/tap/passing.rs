@@ -3,35 +3,43 @@
 //! came at one time, and the rest of it when it comes. Whether anyone looks at it changes nothing.
 use std::io;
 use std::net::Shutdown;
-use std::os::unix::io::{AsRawFd, OwnedFd};
+use std::os::unix::io::AsRawFd;
 use std::os::unix::net::UnixStream;
 use std::sync::Arc;
 use std::thread;
 
 use super::event::{Channel, Message, Side, Way, What};
 use super::gathering::{Gathering, Received, ROOM};
+use super::open_sockets::OpenSockets;
 use super::reporter::Reporter;
-use crate::foreign::{is_ready, option_of, receive_any, send};
+use crate::foreign::{is_ready, option_of, receive_any, send, PeerFd, PeerSocket};
 use crate::vhost_user::message::FrontendReq;
+
+/// How a stream ended that went on until the tap ended.
+const STOPPED: &str = "the tap was stopped";
 
 /// One way between two sockets.
 struct Line {
     way: Way,
-    from: Arc<UnixStream>,
-    to: Arc<UnixStream>,
+    from: Arc<PeerSocket>,
+    to: Arc<PeerSocket>,
     reporter: Reporter,
+    open: OpenSockets,
 }
 
 /// Passes on between a frontend and a backend until both ways have ended, each way in a thread.
-pub(super) fn pass_between(channel: Channel, frontend: UnixStream, backend: UnixStream, reporter: &Reporter) {
-    let (frontend, backend) = (Arc::new(frontend), Arc::new(backend));
+pub(super) fn pass_between(channel: Channel, frontend: UnixStream, backend: UnixStream, reporter: &Reporter, open: &OpenSockets) {
+    // (on the backend channel the frontend has a copy of it)
+    let frontend = if channel == Channel::Device { PeerSocket::own(frontend) } else { PeerSocket::given(frontend) };
+    let (frontend, backend) = (Arc::new(frontend), Arc::new(PeerSocket::own(backend)));
+    let _open = open.add([frontend.clone(), backend.clone()]);
     let line = |from: Side| {
         let way = Way { channel, from };
         let (from, to) = match from {
             Side::Frontend => (frontend.clone(), backend.clone()),
             Side::Backend => (backend.clone(), frontend.clone()),
         };
-        Line { way, from, to, reporter: reporter.clone() }
+        Line { way, from, to, reporter: reporter.clone(), open: open.clone() }
     };
     let (there, back) = (line(Side::Frontend), line(Side::Backend));
     match thread::Builder::new().spawn(move || back.pass_all()) {
@@ -39,14 +47,16 @@ pub(super) fn pass_between(channel: Channel, frontend: UnixStream, backend: Unix
             there.pass_all();
             let _ = thread.join();
         }
-        // Both sockets are closed by their last owner, which is this call.
+        // (both sockets are closed once this call has ended)
         Err(cause) => reporter.tell(What::Ended(there.way, Some(cause.to_string()))),
     }
 }
 
 impl Line {
     fn pass_all(&self) {
-        let ended = self.pass_messages();
+        let mut gathering = Gathering::default();
+        let ended = self.pass_messages(&mut gathering);
+        self.tell_part(&gathering);
         match &ended {
             Ok(cause) => {
                 // The receiver is told in the same way: that no more comes, or that its peer is gone.
@@ -56,46 +66,48 @@ impl Line {
             // The sender is told; what the receiver sent before still goes the other way.
             Err(_) => drop(self.from.shutdown(Shutdown::Read)),
         }
-        let cause = ended.unwrap_or_else(Some);
-        self.reporter.tell(What::Ended(self.way, cause.map(|cause| cause.to_string())));
+        let cause = match ended.unwrap_or_else(Some) {
+            _ if self.open.is_stopped() => Some(STOPPED.to_string()),
+            cause => cause.map(|cause| cause.to_string()),
+        };
+        self.reporter.tell(What::Ended(self.way, cause));
     }
 
     /// Passes on until the sender's stream ends, or fails so. An error: the receiver takes no more.
-    fn pass_messages(&self) -> io::Result<Option<io::Error>> {
-        let mut gathering = Gathering::default();
+    fn pass_messages(&self, gathering: &mut Gathering) -> io::Result<Option<io::Error>> {
         let mut room = vec![0; ROOM];
         loop {
             let missing = gathering.missing();
-            let (count, fds) = match self.receive(&mut room[..missing], &gathering) {
+            let (count, fds) = match self.receive(&mut room[..missing], gathering) {
                 Ok(Some(received)) => received,
                 // (what is there goes out before one waits for more)
                 Ok(None) => {
-                    self.pass_held(&mut gathering)?;
+                    self.pass_held(gathering)?;
                     continue;
                 }
                 Err(cause) => {
-                    self.end_amid(&mut gathering);
+                    self.pass_last(gathering);
                     return Ok(Some(cause));
                 }
             };
             if count == 0 {
-                self.end_amid(&mut gathering);
+                self.pass_last(gathering);
                 return Ok(None);
             }
             if !fds.is_empty() {
-                self.pass_held(&mut gathering)?;
+                self.pass_held(gathering)?;
             }
-            self.pass_on(&mut gathering, &room[..count], fds)?;
+            self.pass_on(gathering, &room[..count], fds)?;
         }
     }
 
     /// Some bytes, and their descriptors. It waits where nothing is held back; None: it would have to.
-    fn receive(&self, room: &mut [u8], gathering: &Gathering) -> io::Result<Option<(usize, Vec<OwnedFd>)>> {
+    fn receive(&self, room: &mut [u8], gathering: &Gathering) -> io::Result<Option<(usize, Vec<PeerFd>)>> {
         let mut fds = Vec::new();
         loop {
             match receive_any(&self.from, room, &mut fds, !gathering.holds()) {
                 Ok(received) => {
-                    if received.is_truncated {
+                    if received.has_too_many {
                         eprintln!("covretin-tap: the system dropped descriptors of a message, since too many are open");
                     }
                     return Ok(Some((received.count, fds)));
@@ -110,7 +122,7 @@ impl Line {
     }
 
     /// Passes on what was received, if it ends a message; it is told of before, so that what follows from it is told of behind it.
-    fn pass_on(&self, gathering: &mut Gathering, bytes: &[u8], fds: Vec<OwnedFd>) -> io::Result<()> {
+    fn pass_on(&self, gathering: &mut Gathering, bytes: &[u8], fds: Vec<PeerFd>) -> io::Result<()> {
         match gathering.take_in(bytes, fds) {
             Received::Part => return Ok(()),
             Received::Bytes => self.reporter.tell(What::Bytes(self.way, bytes.to_vec())),
@@ -142,12 +154,15 @@ impl Line {
     }
 
     /// The stream ended amid a message, or not: what of it came is passed on.
-    fn end_amid(&self, gathering: &mut Gathering) {
+    fn pass_last(&self, gathering: &mut Gathering) {
         // (where that fails, nobody is there to receive it)
         let _ = self.pass_held(gathering);
-        let message = gathering.message();
-        if !message.bytes.is_empty() {
-            let message = Message { is_short: true, ..message.clone() };
+    }
+
+    /// Tells of a message that did not come whole.
+    fn tell_part(&self, gathering: &Gathering) {
+        if gathering.is_part() {
+            let message = Message { is_short: true, ..gathering.message().clone() };
             self.reporter.tell(What::Message(self.way, message));
         }
     }
@@ -169,8 +184,8 @@ impl Line {
         }
         let (mine, given) = UnixStream::pair()?;
         let frontend = UnixStream::from(fd);
-        let reporter = self.reporter.clone();
-        thread::Builder::new().spawn(move || pass_between(Channel::Backend, frontend, mine, &reporter))?;
+        let (reporter, open) = (self.reporter.clone(), self.open.clone());
+        thread::Builder::new().spawn(move || pass_between(Channel::Backend, frontend, mine, &reporter, &open))?;
         gathering.replace_fds(given.into());
         Ok(())
     }

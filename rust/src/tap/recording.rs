@@ -24,6 +24,8 @@ pub(super) fn line_of(event: &Event) -> String {
         What::Ended(way, cause) => {
             fields.extend([("way", Json::text(way.to_string())), ("end", Json::text(cause.as_deref().unwrap_or(END)))]);
         }
+        // (what follows from other lines has none)
+        What::Waits(..) | What::Left => {}
     }
     Json::object(fields).to_string()
 }
@@ -48,43 +50,72 @@ fn message_fields(message: &Message) -> Vec<(&'static str, Json)> {
     ]
 }
 
-/// The event of a line; None where the line has none.
-pub(super) fn event_of(line: &str) -> Option<Event> {
-    let line = Json::parse(line)?;
-    let time = line.get("t")?.as_number()?;
-    let session = line.get("session")?.as_count()? as u64;
-    let what = match line.get("way")?.as_text()? {
-        NO_WAY => connected(line.get("connect")?.as_text()?),
-        name => what_went(&line, Way::of_name(name)?)?,
+/// How each line begins.
+const HEAD: &str = "{\"t\": ";
+
+/// Whether this is a part of a line: what is behind it was not written.
+pub(super) fn is_cut(line: &[u8]) -> bool {
+    let head = HEAD.as_bytes();
+    let count = line.len().min(head.len());
+    !line.ends_with(b"\n") && line[..count] == head[..count]
+}
+
+/// The event of a line; or why it has none.
+pub(super) fn event_of(line: &[u8]) -> Result<Event, String> {
+    let text = std::str::from_utf8(line).map_err(|_| "it is no text")?;
+    let line = Json::parse(text.trim_end_matches('\n')).ok_or("it is no JSON")?;
+    let time = field(&line, "t", "a number", |it| it.as_number().filter(|it| it.is_finite()))?;
+    let session = field(&line, "session", "a whole number", Json::as_count)? as u64;
+    let what = match field(&line, "way", "a text", Json::as_text)? {
+        NO_WAY => connected(field(&line, "connect", "a text", Json::as_text)?),
+        name => what_went(&line, Way::of_name(name).ok_or_else(|| format!("no way is called {name:?}"))?)?,
     };
-    Some(Event { time, session, what })
+    Ok(Event { time, session, what })
+}
+
+/// A field of a line, which has to be of this kind.
+fn field<'a, T>(line: &'a Json, name: &str, kind: &str, read: impl FnOnce(&'a Json) -> Option<T>) -> Result<T, String> {
+    let value = line.get(name).ok_or_else(|| format!("it has no field {name:?}"))?;
+    read(value).ok_or_else(|| format!("its field {name:?} is not {kind}"))
 }
 
 fn connected(text: &str) -> What {
     What::Connected(if text == "ok" { Ok(()) } else { Err(text.to_string()) })
 }
 
-fn what_went(line: &Json, way: Way) -> Option<What> {
-    if let Some(cause) = line.get("end") {
-        let cause = cause.as_text()?;
-        return Some(What::Ended(way, Some(cause.to_string()).filter(|it| it != END)));
+fn what_went(line: &Json, way: Way) -> Result<What, String> {
+    if line.get("end").is_some() {
+        let cause = field(line, "end", "a text", Json::as_text)?;
+        return Ok(What::Ended(way, Some(cause.to_string()).filter(|it| it != END)));
     }
-    if let Some(raw) = line.get("raw") {
-        return Some(What::Bytes(way, bytes_of(raw.as_text()?)?));
+    if line.get("raw").is_some() {
+        return Ok(What::Bytes(way, field(line, "raw", HEX, bytes_in)?));
     }
-    Some(What::Message(way, message_of(line)?))
+    Ok(What::Message(way, message_of(line)?))
 }
 
-fn message_of(line: &Json) -> Option<Message> {
-    let counts = |name| line.get(name)?.as_list()?.iter().map(Json::as_count).collect::<Option<Vec<usize>>>();
-    let fds = line.get("fds")?.as_list()?.iter().map(|fd| fd.as_text().map(str::to_string)).collect::<Option<Vec<String>>>()?;
-    Some(Message {
-        bytes: bytes_of(line.get("bytes")?.as_text()?)?,
-        fds,
+/// What a field is that has bytes.
+const HEX: &str = "bytes in hexadecimal digits";
+
+fn bytes_in(value: &Json) -> Option<Vec<u8>> {
+    bytes_of(value.as_text()?)
+}
+
+fn message_of(line: &Json) -> Result<Message, String> {
+    fn all<'a, T>(list: &'a Json, read: impl FnMut(&'a Json) -> Option<T>) -> Option<Vec<T>> {
+        list.as_list()?.iter().map(read).collect()
+    }
+    let counts = |name| field(line, name, "a list of whole numbers", |it| all(it, Json::as_count));
+    Ok(Message {
+        bytes: field(line, "bytes", HEX, bytes_in)?,
+        fds: field(line, "fds", "a list of texts", |it| all(it, |fd| fd.as_text().map(str::to_string)))?,
         fds_at: counts("fds_at")?,
-        body_fds: line.get("body_fds")?.as_count()?,
+        body_fds: field(line, "body_fds", "a whole number", Json::as_count)?,
         cuts: counts("cuts")?,
-        is_short: line.get("short")? == &Json::Bool(true),
+        is_short: field(line, "short", "true or false", |it| match it {
+            Json::Bool(is_short) => Some(*is_short),
+            _ => None,
+        })?,
     })
 }
 
@@ -122,7 +153,7 @@ mod tests {
         };
         let it = event(What::Message(TO_BACKEND, message));
         assert_eq!(line, line_of(&it));
-        assert_eq!(Some(it), event_of(line));
+        assert_eq!(Ok(it), event_of(line.as_bytes()));
     }
 
     #[test]
@@ -135,21 +166,43 @@ mod tests {
             What::Ended(TO_BACKEND, Some("Connection reset by peer (os error 104)".to_string())),
         ] {
             let it = event(what);
-            assert_eq!(Some(it.clone()), event_of(&line_of(&it)));
+            assert_eq!(Ok(it.clone()), event_of(line_of(&it).as_bytes()));
         }
     }
 
     #[test]
-    fn what_is_no_line_is_none() {
-        for line in [
-            "",
-            "{}",
-            r#"{"t": 1, "session": 1, "way": "X>Y", "end": "eof"}"#,
-            r#"{"t": 1, "session": -1, "way": "-", "connect": "ok"}"#,
+    fn what_is_no_line_has_a_reason() {
+        let message = |rest: &str| format!(r#"{{"t": 1, "session": 1, "way": "F>B", {rest}}}"#);
+        for (line, reason) in [
+            ("", "it is no JSON"),
+            ("session 1", "it is no JSON"),
+            ("{}", r#"it has no field "t""#),
+            (r#"{"t": "now"}"#, r#"its field "t" is not a number"#),
+            (r#"{"t": 1e999}"#, r#"its field "t" is not a number"#),
+            (r#"{"t": 1, "session": -1, "way": "-", "connect": "ok"}"#, r#"its field "session" is not a whole number"#),
+            (r#"{"t": 1, "session": 1, "way": "X>Y", "end": "eof"}"#, r#"no way is called "X>Y""#),
+            (r#"{"t": 1, "session": 1, "way": "-"}"#, r#"it has no field "connect""#),
+            (&message(r#""end": 1"#), r#"its field "end" is not a text"#),
+            (&message(r#""raw": "1""#), r#"its field "raw" is not bytes in hexadecimal digits"#),
+            (&message(r#""name": "GET_FEATURES""#), r#"it has no field "bytes""#),
+            (&message(r#""bytes": "00", "fds": [1]"#), r#"its field "fds" is not a list of texts"#),
         ] {
-            assert_eq!(None, event_of(line), "{line}");
+            assert_eq!(Err(reason.to_string()), event_of(line.as_bytes()), "{line}");
         }
+        assert_eq!(Err("it is no text".to_string()), event_of(&[0xff]));
         assert_eq!(None, bytes_of("123"));
         assert_eq!(None, bytes_of("1g"));
+    }
+
+    /// A line is cut where it begins as one, and does not end.
+    #[test]
+    fn parts_of_a_line() {
+        let line = line_of(&event(What::Connected(Ok(()))));
+        for at in 1..line.len() {
+            assert!(event_of(&line.as_bytes()[..at]).is_err());
+            assert!(is_cut(&line.as_bytes()[..at]));
+        }
+        assert!(!is_cut(b"{\"t\": 1\n"));
+        assert!(!is_cut(b"{\"time\""));
     }
 }

@@ -1,6 +1,6 @@
 // SPDX-License-Identifier: Apache-2.0
 //! How an event is shown: a line of text, or of JSON.
-use super::event::{Event, Message, Way, What};
+use super::event::{Event, Message, Way, What, TO_FRONTEND};
 use super::json::Json;
 use super::layout::{fd_name, fields_of, flag_names, name_of, Fields, Value};
 use super::options::Format;
@@ -40,6 +40,8 @@ impl Shower {
             What::Connected(Err(cause)) => format!("{:9.4} {} not connected: {cause}", event.time, event.session),
             What::Ended(way, None) => format!("{} end", head(way)),
             What::Ended(way, Some(cause)) => format!("{} end: {cause}", head(way)),
+            What::Waits(seconds, name) => format!("{} waiting {seconds} s for the reply to {name}", head(&TO_FRONTEND)),
+            What::Left => format!("{:9.4} {} no more was seen", event.time, event.session),
             What::Bytes(way, bytes) => format!("{} {} bytes{}", head(way), bytes.len(), self.bytes_text(bytes)),
             What::Message(way, message) => {
                 format!("{} {}{}", head(way), message_text(*way, message), self.bytes_text(&message.bytes))
@@ -62,6 +64,10 @@ impl Shower {
                 fields.push(("connect", Json::text(result.as_ref().map_or_else(String::as_str, |()| "ok"))));
             }
             What::Ended(_, cause) => fields.push(("end", Json::text(cause.as_deref().unwrap_or("eof")))),
+            What::Waits(seconds, name) => {
+                fields.extend([("waiting", Json::Number(f64::from(*seconds))), ("name", Json::text(name))]);
+            }
+            What::Left => fields.push(("left", Json::Bool(true))),
             What::Bytes(_, bytes) => fields.extend([("raw", Json::text(hex_of(bytes)))]),
             What::Message(way, message) => fields.extend(self.message_json(*way, message)),
         }
@@ -87,9 +93,11 @@ impl Shower {
 /// What each line of JSON begins with.
 fn head(event: &Event) -> Vec<(&'static str, Json)> {
     let way = match &event.what {
-        What::Connected(_) => None,
-        What::Message(way, _) | What::Bytes(way, _) | What::Ended(way, _) => Some(("way", Json::text(way.to_string()))),
+        What::Connected(_) | What::Left => None,
+        What::Waits(..) => Some(TO_FRONTEND),
+        What::Message(way, _) | What::Bytes(way, _) | What::Ended(way, _) => Some(*way),
     };
+    let way = way.map(|way| ("way", Json::text(way.to_string())));
     let mut fields = vec![("t", time_of(event.time)), ("session", Json::Number(event.session as f64))];
     fields.extend(way);
     fields

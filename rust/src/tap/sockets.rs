@@ -4,11 +4,12 @@ use std::fs::remove_file;
 use std::io;
 use std::os::unix::net::{UnixListener, UnixStream};
 use std::path::{Path, PathBuf};
-use std::sync::mpsc::{channel, Sender};
+use std::sync::mpsc::channel;
 use std::thread::{self, JoinHandle};
 use std::time::Duration;
 
 use super::event::{Channel, What};
+use super::open_sockets::OpenSockets;
 use super::passing::pass_between;
 use super::reporter::Reporter;
 use crate::foreign::EndSignals;
@@ -31,7 +32,7 @@ fn is_left_over(path: &Path) -> bool {
     matches!(UnixStream::connect(path), Err(cause) if cause.kind() == io::ErrorKind::ConnectionRefused)
 }
 
-/// Passes on so many sessions, or all that come until one of these signals asks to end.
+/// Passes on so many sessions, or all that come until one of these signals asks to end, which ends those that go on.
 pub(super) fn pass_sessions(
     listener: UnixListener,
     connect: PathBuf,
@@ -46,14 +47,19 @@ pub(super) fn pass_sessions(
         signals.wait();
         let _ = by_signal.send(());
     });
-    let accepting = reporter.clone();
-    let spawned = thread::Builder::new().spawn(move || accept_all(&listener, &connect, count, &accepting, &ended));
+    let open = OpenSockets::default();
+    let (accepting, opening) = (reporter.clone(), open.clone());
+    let spawned = thread::Builder::new().spawn(move || {
+        accept_all(&listener, &connect, count, &accepting, &opening);
+        let _ = ended.send(());
+    });
     if spawned.is_ok() {
         let _ = wait.recv();
     }
+    open.stop();
 }
 
-fn accept_all(listener: &UnixListener, connect: &Path, count: Option<u64>, reporter: &Reporter, ended: &Sender<()>) {
+fn accept_all(listener: &UnixListener, connect: &Path, count: Option<u64>, reporter: &Reporter, open: &OpenSockets) {
     let mut threads: Vec<JoinHandle<()>> = Vec::new();
     let mut session = 0;
     while count != Some(session) {
@@ -61,8 +67,8 @@ fn accept_all(listener: &UnixListener, connect: &Path, count: Option<u64>, repor
         match listener.accept() {
             Ok((frontend, _)) => {
                 session += 1;
-                let (reporter, connect) = (reporter.of(session), connect.to_path_buf());
-                let spawned = thread::Builder::new().spawn(move || pass_session(frontend, &connect, &reporter));
+                let (reporter, connect, open) = (reporter.of(session), connect.to_path_buf(), open.clone());
+                let spawned = thread::Builder::new().spawn(move || pass_session(frontend, &connect, &reporter, &open));
                 threads.extend(spawned);
             }
             Err(_) => thread::sleep(PAUSE),
@@ -71,14 +77,13 @@ fn accept_all(listener: &UnixListener, connect: &Path, count: Option<u64>, repor
     for thread in threads {
         let _ = thread.join();
     }
-    let _ = ended.send(());
 }
 
-fn pass_session(frontend: UnixStream, connect: &Path, reporter: &Reporter) {
+fn pass_session(frontend: UnixStream, connect: &Path, reporter: &Reporter, open: &OpenSockets) {
     match UnixStream::connect(connect) {
         Ok(backend) => {
             reporter.tell(What::Connected(Ok(())));
-            pass_between(Channel::Device, frontend, backend, reporter);
+            pass_between(Channel::Device, frontend, backend, reporter, open);
         }
         Err(cause) => reporter.tell(What::Connected(Err(cause.to_string()))),
     }

@@ -12,7 +12,7 @@ pub(super) struct Summary {
     pub(super) sessions: usize,
     from_the_frontend: usize,
     from_the_backend: usize,
-    /// How many of each request came, of a frontend.
+    /// How many of each request came whole, of a frontend.
     requests: BTreeMap<String, usize>,
     pub(super) complaints: usize,
     tally: Tally,
@@ -21,6 +21,9 @@ pub(super) struct Summary {
 impl Summary {
     pub(super) fn see(&mut self, event: &Event) {
         if let What::Message(way, message) = &event.what {
+            if message.is_short {
+                return;
+            }
             match way.from {
                 Side::Frontend => self.from_the_frontend += 1,
                 Side::Backend => self.from_the_backend += 1,

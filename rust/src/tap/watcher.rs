@@ -4,13 +4,16 @@ use std::collections::BTreeMap;
 use std::fs::File;
 use std::io::{self, BufWriter, Write};
 
-use super::event::Event;
+use super::event::{Event, What};
 use super::judge::Judge;
 use super::options::{Format, Options};
 use super::recording::line_of;
 use super::show::Shower;
 use super::summary::Summary;
 use crate::vhost_user::Profile;
+
+/// For how many seconds a reply may be awaited before it is told.
+const PATIENCE: u32 = 5;
 
 pub(super) struct Watcher<W: Write> {
     profile: Profile,
@@ -19,6 +22,8 @@ pub(super) struct Watcher<W: Write> {
     record: Option<BufWriter<File>>,
     judges: BTreeMap<u64, Judge>,
     summary: Summary,
+    /// When the last event was.
+    last: f64,
     /// Why the output or the recording is not whole.
     failed: Option<io::Error>,
 }
@@ -30,6 +35,11 @@ pub(super) struct Verdict {
     pub(super) failed: Option<io::Error>,
 }
 
+/// When the reply that a session awaits will have been awaited for long.
+fn long_wait(judge: &Judge) -> Option<f64> {
+    judge.waits_since().map(|since| since + f64::from(PATIENCE))
+}
+
 impl<W: Write> Watcher<W> {
     pub(super) fn new(options: &Options, output: W, record: Option<File>) -> Watcher<W> {
         Watcher {
@@ -39,18 +49,35 @@ impl<W: Write> Watcher<W> {
             record: record.map(BufWriter::new),
             judges: BTreeMap::new(),
             summary: Summary::default(),
+            last: 0.0,
             failed: None,
         }
     }
 
     /// Takes an event. It is shown at the latest with the next `flush`.
     pub(super) fn see(&mut self, event: &Event) {
+        self.tell_waits(event.time);
+        self.last = event.time;
         self.summary.see(event);
         let complaints = self.judge(event);
-        let mut lines = vec![self.shower.event(event)];
-        lines.extend(complaints.iter().map(|complaint| self.shower.complaint(event, complaint)));
-        self.summary.complaints += complaints.len();
-        self.put(event, &lines);
+        self.record(event);
+        self.put(event, &complaints);
+    }
+
+    /// When the next reply will have been awaited for long.
+    pub(super) fn next_wait(&self) -> Option<f64> {
+        self.judges.values().filter_map(long_wait).min_by(f64::total_cmp)
+    }
+
+    /// Tells of each reply that has been awaited for long by this time.
+    pub(super) fn tell_waits(&mut self, time: f64) {
+        while let Some(next) = self.next_wait().filter(|next| *next <= time) {
+            let waiting = self.judges.iter_mut().find(|(_, judge)| long_wait(judge) == Some(next));
+            let told = waiting.and_then(|(session, judge)| Some((*session, judge.tell_wait()?)));
+            if let Some((session, name)) = told {
+                self.put(&Event { time: next, session, what: What::Waits(PATIENCE, name) }, &[]);
+            }
+        }
     }
 
     /// What is wrong with an event. A session that has ended is forgotten.
@@ -71,10 +98,18 @@ impl<W: Write> Watcher<W> {
         complaints
     }
 
-    fn put(&mut self, event: &Event, lines: &[String]) {
+    fn record(&mut self, event: &Event) {
         let recorded = self.record.as_mut().map_or(Ok(()), |file| writeln!(file, "{}", line_of(event)));
+        self.failed = self.failed.take().or(recorded.err());
+    }
+
+    /// Shows an event, and what is wrong with it.
+    fn put(&mut self, event: &Event, complaints: &[String]) {
+        let mut lines = vec![self.shower.event(event)];
+        lines.extend(complaints.iter().map(|complaint| self.shower.complaint(event, complaint)));
+        self.summary.complaints += complaints.len();
         let shown = writeln!(self.output, "{}", lines.join("\n"));
-        self.failed = self.failed.take().or(recorded.err()).or(shown.err());
+        self.failed = self.failed.take().or(shown.err());
     }
 
     /// All that was seen is shown and recorded from then on.
@@ -84,9 +119,12 @@ impl<W: Write> Watcher<W> {
         self.failed = self.failed.take().or(recorded.err()).or(shown.err());
     }
 
-    /// Shows what was seen in numbers, and ends.
-    pub(super) fn finish(mut self) -> Verdict {
-        for (_, judge) in std::mem::take(&mut self.judges) {
+    /// Judges what is still awaited, unless something was seen by nobody. Shows what was seen in numbers, and ends.
+    pub(super) fn finish(mut self, is_whole: bool) -> Verdict {
+        for (session, mut judge) in std::mem::take(&mut self.judges) {
+            if let Some(complaint) = judge.leave(self.last).filter(|_| is_whole) {
+                self.put(&Event { time: self.last, session, what: What::Left }, &[complaint]);
+            }
             self.summary.add(judge.tally);
         }
         let summary = match self.shower.format {

@@ -9,14 +9,15 @@ use std::time::Duration;
 use super::connection::Connection;
 use super::message::{VhostUserMMap, VhostUserSharedMsg};
 use super::{Error, HandlerResult, VhostUserFrontendReqHandler};
-use crate::foreign::{ChannelSession, Mmap, Outcome};
+use crate::foreign::{ChannelSession, Mmap, Outcome, PeerSocket};
 
 /// The backend channel: on it a device makes requests of its frontend. A clone is the same connection: each call is whole before
 /// another thread's begins.
 ///
 /// A call waits for the frontend where it is acknowledged, as long as that likes where there is no
 /// [limit of time](Backend::set_timeout). Its value is 0. Its errors are an [`Error`] in an [`io::Error`], but where a feature was not
-/// negotiated, which then is the text. After an error of the socket or a malformed reply the channel is of no more use.
+/// negotiated, which then is the text. After an error of the socket or a malformed reply the channel is of no more use, but for an error by
+/// which nothing of the request was sent, as [`Error`] says.
 #[derive(Clone)]
 pub struct Backend {
     node: Arc<Mutex<Connection<ChannelSession>>>,
@@ -28,7 +29,7 @@ impl Backend {
     pub fn from_stream(sock: UnixStream) -> Self {
         // (the crate's name for this returns no Result)
         let session = ChannelSession::open().expect("allocation of a session failed");
-        Backend { node: Arc::new(Mutex::new(Connection::over(session, sock))) }
+        Backend { node: Arc::new(Mutex::new(Connection::over(session, PeerSocket::given(sock)))) }
     }
 
     /// Whether REPLY_ACK was accepted: then each request is acknowledged, and a refusal of it by the frontend is

@@ -10,7 +10,7 @@ use std::time::Duration;
 use super::message::*;
 use super::served_connection::ServedConnection;
 use super::{Backend, Error, GpuBackend, Profile, Result, VhostUserBackendReqHandler};
-use crate::foreign::{option_of, BackendSession, Code, Inflight, Outcome, Region, MAX_CONFIG, MAX_FDS};
+use crate::foreign::{option_of, BackendSession, Code, Inflight, Outcome, PeerFd, Region, MAX_CONFIG, MAX_FDS};
 
 /// COVRETIN_CALL_POSTCOPY_ACK, which is the number of no request.
 const POSTCOPY_ACK: u32 = 256;
@@ -76,8 +76,8 @@ impl<S: VhostUserBackendReqHandler> BackendReqHandler<S> {
     /// Disconnected, PartialMessage, InvalidMessage: the frontend closed the socket, or ended, between two requests, in a header, in a
     /// body. InvalidMessage: the request is malformed, too, or its number is none. SocketRetry: the socket does not block, or
     /// its read timeout passed; what came is kept, and the next call goes on. After PartialMessage, InvalidMessage, SocketBroken
-    /// and SocketError the connection is of no more use, and each later call is SocketBroken; so it is after IncorrectFds for
-    /// descriptors that the system dropped, and once the device panicked. After any other error it goes on: the request was refused
+    /// and SocketError the connection is of no more use, and each later call is SocketBroken; so it is after IncorrectFds for more
+    /// descriptors than a message has, and once the device panicked. After any other error it goes on: the request was refused
     /// before the device was asked (InactiveFeature, InactiveOperation, InvalidParam, InvalidOperation, IncorrectFds,
     /// FrontendInternalError), or the device refused it, whose error it is, or gave another number of bases than of regions
     /// (BackendInternalError).
@@ -165,7 +165,7 @@ fn serve_files(device: &impl VhostUserBackendReqHandler, it: &mut BackendConnect
         }
         FrontendReq::SET_LOG_BASE => {
             let log = it.argument(BackendSession::log)?;
-            let file = it.claim(log.fd)?;
+            let file = it.claim(log.fd)?.into();
             it.done(device.set_log_base(&VhostUserLog::new(log.memory_size, log.mmap_offset), file))
         }
         FrontendReq::GET_SHARED_OBJECT => {
@@ -184,7 +184,8 @@ fn serve_files(device: &impl VhostUserBackendReqHandler, it: &mut BackendConnect
 fn serve_regions(device: &impl VhostUserBackendReqHandler, it: &mut BackendConnection, request: FrontendReq) -> Result<()> {
     let (regions, listening) = it.regions()?;
     if request == FrontendReq::SET_MEM_TABLE {
-        let files = regions.iter().map(|region| it.claim(region.fd)).collect::<Result<Vec<File>>>()?;
+        let files = regions.iter().map(|region| it.claim(region.fd)).collect::<Result<Vec<PeerFd>>>()?;
+        let files = files.into_iter().map(File::from).collect();
         let table: Vec<VhostUserMemoryRegion> = regions.iter().map(region_of).collect();
         return it.bases(device.set_mem_table(&table, files, Some(listening)), listening);
     }
@@ -193,7 +194,7 @@ fn serve_regions(device: &impl VhostUserBackendReqHandler, it: &mut BackendConne
     if request == FrontendReq::REM_MEM_REG {
         return it.done(device.remove_mem_region(&region));
     }
-    let file = it.claim(fd)?;
+    let file = it.claim(fd)?.into();
     let base = device.add_mem_region(&region, file, Some(listening));
     it.bases(base.map(|base| base.map(|base| vec![base])), listening)
 }
@@ -207,7 +208,7 @@ fn serve_inflight(device: &impl VhostUserBackendReqHandler, it: &mut BackendConn
     let Inflight { mmap_size, mmap_offset, num_queues, queue_size } = inflight;
     let inflight = VhostUserInflight::new(mmap_size, mmap_offset, num_queues, queue_size);
     if request == FrontendReq::SET_INFLIGHT_FD {
-        let file = it.claim(fd)?;
+        let file = it.claim(fd)?.into();
         return it.done(device.set_inflight_fd(&inflight, file));
     }
     it.value(device.get_inflight_fd(&inflight), |session, (inflight, file)| {
@@ -221,19 +222,19 @@ fn serve_transfer(device: &impl VhostUserBackendReqHandler, it: &mut BackendConn
     let file = it.claim(fd)?;
     let direction = VhostTransferStateDirection::try_from(direction).map_err(|()| Error::InvalidMessage)?;
     let phase = VhostTransferStatePhase::try_from(phase).map_err(|()| Error::InvalidMessage)?;
-    it.file(device.set_device_state_fd(direction, phase, file))
+    it.file(device.set_device_state_fd(direction, phase, file.into()))
 }
 
-/// A file as the stream socket that it has to be.
-fn unix_stream(file: File) -> Result<UnixStream> {
-    let option = |name| option_of(&file, name).map_err(Error::InvalidSocketFd);
+/// A descriptor as the stream socket that it has to be.
+fn unix_stream(fd: PeerFd) -> Result<UnixStream> {
+    let option = |name| option_of(&fd, name).map_err(Error::InvalidSocketFd);
     if option(libc::SO_DOMAIN)? != libc::AF_UNIX {
         return Err(Error::NotUnixSocket);
     }
     if option(libc::SO_TYPE)? != libc::SOCK_STREAM {
         return Err(Error::NotStreamSocket);
     }
-    Ok(UnixStream::from(OwnedFd::from(file)))
+    Ok(UnixStream::from(OwnedFd::from(fd)))
 }
 
 /// Reads the arguments of a call, asks the device, and replies by what it returned.
@@ -254,8 +255,8 @@ impl BackendConnection {
     /// The socket that came with the request, and whether it is one that a channel can have.
     fn channel(&mut self) -> Result<Result<UnixStream>> {
         let fd = self.argument(BackendSession::fd)?;
-        let file = self.claim(fd)?;
-        Ok(unix_stream(file))
+        let fd = self.claim(fd)?;
+        Ok(unix_stream(fd))
     }
 
     /// A call by its arguments, which has no value.
@@ -271,7 +272,8 @@ impl BackendConnection {
     /// The same, by a ring and its eventfd.
     fn ask_by_file(&mut self, ask: impl FnOnce(u8, Option<File>) -> Result<()>) -> Result<()> {
         let (index, fd) = self.argument(BackendSession::ring_fd)?;
-        let file = self.claim_some(fd)?;
+        // (a negative number says that there is none)
+        let file = if fd < 0 { None } else { Some(self.claim(fd)?.into()) };
         // (the session has checked that it has 8 bits)
         self.done(ask(index as u8, file))
     }

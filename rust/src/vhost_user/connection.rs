@@ -1,19 +1,22 @@
 // SPDX-License-Identifier: Apache-2.0
 //! A session of the proved library that asks, and the socket that it asks over: calls whole, one at a time.
 use std::fs::File;
-use std::os::unix::io::{AsRawFd, OwnedFd, RawFd};
+use std::os::unix::io::{AsRawFd, RawFd};
 use std::os::unix::net::UnixStream;
 use std::result;
 use std::time::Duration;
 
-use super::transport::{broken_by, end_after, error_of, last_error, receive_piece, send_all, send_piece, take_from, End};
+use super::frontend_session::FrontendSession;
+use super::transport::{
+    broken_by, end_after, error_of, last_error, receive_piece, send_all, send_piece, take_from, End, Sending, Unsent, HEADER,
+};
 use super::{Error, Result};
-use crate::foreign::{numbers_of, Asks, Code, Outcome, Session, MAX_MESSAGE};
+use crate::foreign::{numbers_of, Asks, Code, Outcome, PeerFd, PeerSocket, MAX_MESSAGE};
 
 /// A connection of a frontend to its backend; or on the backend channel the other way round.
 pub(super) struct Connection<S: Asks> {
     session: S,
-    socket: UnixStream,
+    socket: PeerSocket,
     timeout: Option<Duration>,
     /// Bytes that are sent, and then those of the reply: a request goes out whole before its reply is read.
     bytes: Box<[u8; MAX_MESSAGE]>,
@@ -21,18 +24,18 @@ pub(super) struct Connection<S: Asks> {
     broken: Option<i32>,
 }
 
-impl Connection<Session> {
+impl Connection<FrontendSession> {
     /// A read timeout of the socket becomes the limit of time of each call.
-    pub(super) fn new(socket: UnixStream, max_queue_num: u64) -> Connection<Session> {
+    pub(super) fn new(socket: UnixStream, max_queue_num: u64) -> Connection<FrontendSession> {
         // (the crate's name for this returns no Result)
-        let session = Session::open(max_queue_num).expect("allocation of a session failed");
-        Connection::over(session, socket)
+        let session = FrontendSession::open(max_queue_num).expect("allocation of a session failed");
+        Connection::over(session, PeerSocket::own(socket))
     }
 }
 
 impl<S: Asks> Connection<S> {
     /// A session over a socket, as above.
-    pub(super) fn over(session: S, socket: UnixStream) -> Connection<S> {
+    pub(super) fn over(session: S, socket: PeerSocket) -> Connection<S> {
         let timeout = socket.read_timeout().ok().flatten();
         Connection { session, socket, timeout, bytes: Box::new([0; MAX_MESSAGE]), broken: None }
     }
@@ -53,7 +56,7 @@ impl<S: Asks> Connection<S> {
     }
 
     /// Makes a call whole: asks, sends the request, receives the reply and takes it. What it returns came with that reply.
-    pub(super) fn call(&mut self, ask: impl FnOnce(&mut S) -> Outcome) -> Result<Vec<OwnedFd>> {
+    pub(super) fn call(&mut self, ask: impl FnOnce(&mut S) -> Outcome) -> Result<Vec<PeerFd>> {
         let ((), fds) = self.call_by(ask, &[], S::take)?;
         Ok(fds)
     }
@@ -64,14 +67,21 @@ impl<S: Asks> Connection<S> {
         ask: impl FnOnce(&mut S) -> Outcome,
         behind: &[u8],
         take: impl FnOnce(&mut S) -> result::Result<T, Code>,
-    ) -> Result<(T, Vec<OwnedFd>)> {
+    ) -> Result<(T, Vec<PeerFd>)> {
         if let Some(errno) = self.broken {
             return Err(broken_by(errno));
         }
+        self.session.begin();
         ask(&mut self.session).map_err(|code| self.error_of(code))?;
         // (a panic amid a call would leave it so)
         self.broken = Some(libc::EIO);
-        let fds = self.exchange(behind).map_err(|error| self.break_by(error))?;
+        let end = end_after(self.timeout);
+        match self.send(behind, end) {
+            Ok(()) => {}
+            Err(Unsent::Whole(error)) => return Err(self.take_back(error, take)),
+            Err(Unsent::Part(error)) => return Err(self.break_by(error)),
+        }
+        let fds = self.receive_all(end).map_err(|error| self.break_by(error))?;
         let value = take(&mut self.session).map_err(|code| self.refusal(code))?;
         self.broken = None;
         Ok((value, fds))
@@ -83,22 +93,46 @@ impl<S: Asks> Connection<S> {
     }
 
     /// The descriptor of this number, of those that came with the reply.
-    pub(super) fn claim(&mut self, mut fds: Vec<OwnedFd>, fd: RawFd) -> Result<File> {
-        take_from(&mut fds, fd).map_err(|error| self.break_by(error))
+    pub(super) fn claim(&mut self, mut fds: Vec<PeerFd>, fd: RawFd) -> Result<File> {
+        take_from(&mut fds, fd).map(File::from).map_err(|error| self.break_by(error))
     }
 
-    /// Sends the request, with what is behind it, and receives its reply, with the descriptors that came with its first byte.
-    fn exchange(&mut self, behind: &[u8]) -> Result<Vec<OwnedFd>> {
-        let end = end_after(self.timeout);
+    /// Sends the request, with what is behind it.
+    fn send(&mut self, behind: &[u8], end: End) -> Sending {
         send_all(&self.socket, &mut self.session, &mut self.bytes, end)?;
-        if !behind.is_empty() {
-            send_piece(&self.socket, behind, &[], end)?;
+        match behind {
+            [] => Ok(()),
+            // (the request is out)
+            behind => Ok(send_piece(&self.socket, behind, &[], end).map_err(Error::from)?),
         }
-        self.receive_all(end)
+    }
+
+    /// Takes a call back of which nothing was sent, for this reason: the session and the connection are as before it.
+    #[cold]
+    fn take_back<T>(&mut self, error: Error, take: impl FnOnce(&mut S) -> result::Result<T, Code>) -> Error {
+        match self.try_to_take_back(take) {
+            Ok(()) => {
+                self.broken = None;
+                error
+            }
+            Err(code) => {
+                let error = self.error_of(code);
+                self.break_by(error)
+            }
+        }
+    }
+
+    fn try_to_take_back<T>(&mut self, take: impl FnOnce(&mut S) -> result::Result<T, Code>) -> Outcome {
+        if self.session.missing() != 0 {
+            // A header of zeros is that of no reply: so the call fails, and nothing more is awaited.
+            self.session.receive(&[0; HEADER], &[])?;
+        }
+        let _ = take(&mut self.session);
+        self.session.undo()
     }
 
     /// Receives what is missing of the reply: the descriptors that came with its first byte.
-    fn receive_all(&mut self, end: End) -> Result<Vec<OwnedFd>> {
+    fn receive_all(&mut self, end: End) -> Result<Vec<PeerFd>> {
         let mut fds = Vec::new();
         // (how many of them came with the first byte, once that has come)
         let mut kept = None;
@@ -147,6 +181,15 @@ impl<S: Asks> Connection<S> {
     #[cold]
     fn error_of(&mut self, code: Code) -> Error {
         error_of(code, self.session.inactive())
+    }
+}
+
+impl<S: Asks> Drop for Connection<S> {
+    /// Who shares the socket can make no use of it either where a part of a message may be left in it.
+    fn drop(&mut self) {
+        if self.broken.is_some() {
+            self.socket.hang_up();
+        }
     }
 }
 

@@ -15,7 +15,8 @@ macro_rules! devices {
     ) => {
         /// A device, as a [`BackendReqHandler`](super::BackendReqHandler) asks it. Each call is a request that passed all checks
         /// of the protocol; what it means, the vhost-user specification says. A ring's index may be one that the device has not.
-        /// What a call is given is the device's. An error refuses the request; it goes to who called
+        /// What a call is given is the device's, as the frontend made it: a call of it may wait, and its close, too, where it is a socket
+        /// that lingers ([`close_at_once`](super::close_at_once) does not). An error refuses the request; it goes to who called
         /// [`handle_request`](super::BackendReqHandler::handle_request), and is not sent. Where the reply is a value that can't say
         /// so, as of `get_features`, nothing is replied, and the frontend waits.
         pub trait VhostUserBackendReqHandler {

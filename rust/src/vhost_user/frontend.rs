@@ -10,9 +10,10 @@ use std::thread::sleep;
 use std::time::Duration;
 
 use super::connection::Connection;
+use super::frontend_session::FrontendSession;
 use super::message::*;
 use super::{Error as VhostUserError, Profile};
-use crate::foreign::{Inflight, Outcome, Region, Session, Vring};
+use crate::foreign::{Inflight, Outcome, Region, Vring};
 use crate::{
     Result, VhostBackend, VhostUserDirtyLogRegion, VhostUserMemoryRegionBase, VhostUserMemoryRegionInfo, VringConfigData,
 };
@@ -110,7 +111,7 @@ pub trait VhostUserFrontend: VhostBackend {
 /// where it is not the reply's, and all of a reply that is refused.
 #[derive(Clone)]
 pub struct Frontend {
-    node: Arc<Mutex<Connection<Session>>>,
+    node: Arc<Mutex<Connection<FrontendSession>>>,
 }
 
 impl Frontend {
@@ -179,26 +180,26 @@ impl Frontend {
         self.done(|session| session.set_mtu(mtu))
     }
 
-    fn node(&self) -> MutexGuard<'_, Connection<Session>> {
+    fn node(&self) -> MutexGuard<'_, Connection<FrontendSession>> {
         // A thread that panicked amid a call left no half of a message: what ends one stands in the connection.
         self.node.lock().unwrap_or_else(PoisonError::into_inner)
     }
 
     /// A call that has no value.
-    fn done(&self, ask: impl FnOnce(&mut Session) -> Outcome) -> Result<()> {
+    fn done(&self, ask: impl FnOnce(&mut FrontendSession) -> Outcome) -> Result<()> {
         self.node().call(ask)?;
         Ok(())
     }
 
     /// A call whose value is a number.
-    fn number(&self, ask: impl FnOnce(&mut Session) -> Outcome) -> Result<u64> {
+    fn number(&self, ask: impl FnOnce(&mut FrontendSession) -> Outcome) -> Result<u64> {
         let mut node = self.node();
         node.call(ask)?;
-        Ok(node.answer(Session::answer_number)?)
+        Ok(node.answer(|session| session.answer_number())?)
     }
 
     /// A call whose value is where so many regions are mapped, or nothing.
-    fn bases(&self, count: usize, ask: impl FnOnce(&mut Session) -> Outcome) -> Result<Option<Vec<u64>>> {
+    fn bases(&self, count: usize, ask: impl FnOnce(&mut FrontendSession) -> Outcome) -> Result<Option<Vec<u64>>> {
         let mut node = self.node();
         node.call(ask)?;
         let mut bases = vec![0; count];
@@ -208,17 +209,17 @@ impl Frontend {
     }
 
     /// A call whose value is a file, or nothing.
-    fn file(&self, ask: impl FnOnce(&mut Session) -> Outcome) -> Result<Option<File>> {
+    fn file(&self, ask: impl FnOnce(&mut FrontendSession) -> Outcome) -> Result<Option<File>> {
         let mut node = self.node();
         let fds = node.call(ask)?;
-        match node.answer(Session::answer_fd)? {
+        match node.answer(|session| session.answer_fd())? {
             fd if fd < 0 => Ok(None),
             fd => Ok(Some(node.claim(fds, fd)?)),
         }
     }
 
     /// A call whose value is a file.
-    fn needed_file(&self, ask: impl FnOnce(&mut Session) -> Outcome) -> Result<File> {
+    fn needed_file(&self, ask: impl FnOnce(&mut FrontendSession) -> Outcome) -> Result<File> {
         self.file(ask)?.ok_or_else(|| VhostUserError::IncorrectFds.into())
     }
 }
@@ -267,7 +268,7 @@ fn inflight_of(inflight: &VhostUserInflight) -> Inflight {
 
 impl VhostBackend for Frontend {
     fn get_features(&self) -> Result<u64> {
-        self.number(Session::get_features)
+        self.number(FrontendSession::get_features)
     }
 
     fn set_features(&self, features: u64) -> Result<()> {
@@ -275,11 +276,11 @@ impl VhostBackend for Frontend {
     }
 
     fn set_owner(&self) -> Result<()> {
-        self.done(Session::set_owner)
+        self.done(|session| session.set_owner())
     }
 
     fn reset_owner(&self) -> Result<()> {
-        self.done(Session::reset_owner)
+        self.done(|session| session.reset_owner())
     }
 
     fn set_mem_table(&self, regions: &[VhostUserMemoryRegionInfo]) -> Result<Option<Vec<VhostUserMemoryRegionBase>>> {
@@ -333,7 +334,7 @@ impl VhostBackend for Frontend {
 
 impl VhostUserFrontend for Frontend {
     fn get_protocol_features(&mut self) -> Result<VhostUserProtocolFeatures> {
-        self.number(Session::get_protocol_features).map(VhostUserProtocolFeatures::from_bits_truncate)
+        self.number(|session| session.get_protocol_features()).map(VhostUserProtocolFeatures::from_bits_truncate)
     }
 
     fn set_protocol_features(&mut self, features: VhostUserProtocolFeatures) -> Result<()> {
@@ -341,11 +342,11 @@ impl VhostUserFrontend for Frontend {
     }
 
     fn get_queue_num(&mut self) -> Result<u64> {
-        self.number(Session::get_queue_num)
+        self.number(|session| session.get_queue_num())
     }
 
     fn reset_device(&mut self) -> Result<()> {
-        self.done(Session::reset_device)
+        self.done(|session| session.reset_device())
     }
 
     fn set_vring_enable(&mut self, queue_index: usize, enable: bool) -> Result<()> {
@@ -386,7 +387,7 @@ impl VhostUserFrontend for Frontend {
     fn get_inflight_fd(&mut self, inflight: &VhostUserInflight) -> Result<(VhostUserInflight, File)> {
         let mut node = self.node();
         let fds = node.call(|session| session.get_inflight_fd(&inflight_of(inflight)))?;
-        let (found, fd) = node.answer(Session::answer_inflight)?;
+        let (found, fd) = node.answer(|session| session.answer_inflight())?;
         let file = node.claim(fds, fd)?;
         let Inflight { mmap_size, mmap_offset, num_queues, queue_size } = found;
         Ok((VhostUserInflight::new(mmap_size, mmap_offset, num_queues, queue_size), file))
@@ -397,7 +398,7 @@ impl VhostUserFrontend for Frontend {
     }
 
     fn get_max_mem_slots(&mut self) -> Result<u64> {
-        self.number(Session::get_max_mem_slots)
+        self.number(|session| session.get_max_mem_slots())
     }
 
     fn add_mem_region(&mut self, region: &VhostUserMemoryRegionInfo) -> Result<Option<VhostUserMemoryRegionBase>> {
@@ -411,7 +412,7 @@ impl VhostUserFrontend for Frontend {
 
     fn get_shmem_config(&mut self) -> Result<VhostUserShMemConfig> {
         let mut node = self.node();
-        node.call(Session::get_shmem_config)?;
+        node.call(|session| session.get_shmem_config())?;
         let mut sizes = [0; 256];
         let count = node.answer(|session| session.answer_shmem(&mut sizes))?;
         Ok(VhostUserShMemConfig::new(u32::try_from(count).unwrap_or(u32::MAX), &sizes))
@@ -427,15 +428,15 @@ impl VhostUserFrontend for Frontend {
     }
 
     fn check_device_state(&self) -> Result<()> {
-        self.done(Session::check_device_state)
+        self.done(|session| session.check_device_state())
     }
 
     fn postcopy_advise(&mut self) -> Result<File> {
-        self.needed_file(Session::postcopy_advise)
+        self.needed_file(|session| session.postcopy_advise())
     }
 
     fn postcopy_listen(&mut self) -> Result<()> {
-        self.done(Session::postcopy_listen)
+        self.done(FrontendSession::postcopy_listen)
     }
 
     fn postcopy_ack_mem_regions(&mut self, code: FrontendReq) -> Result<()> {
@@ -443,6 +444,6 @@ impl VhostUserFrontend for Frontend {
     }
 
     fn postcopy_end(&mut self) -> Result<()> {
-        self.done(Session::postcopy_end)
+        self.done(FrontendSession::postcopy_end)
     }
 }

@@ -13,14 +13,15 @@ use super::gpu_message::{
     VhostUserGpuEdidRequest, VhostUserGpuScanout, VhostUserGpuUpdate, VirtioGpuRespDisplayInfo, VirtioGpuRespGetEdid,
 };
 use super::message::VhostUserU64;
-use crate::foreign::{Asks, Code, DisplaySession, Outcome};
+use crate::foreign::{Asks, Code, DisplaySession, Outcome, PeerSocket};
 
 /// The vhost-user-gpu channel: on it a graphics device makes requests of the display that its frontend has. A clone is the same
 /// connection: each call is whole before another thread's begins.
 ///
 /// A call waits for the display where it has a reply, as long as that likes where there is no
 /// [limit of time](GpuBackend::set_timeout). Its errors are an [`Error`](super::Error) in an [`io::Error`]. After an error of the socket
-/// or a malformed reply the channel is of no more use.
+/// or a malformed reply the channel is of no more use, but for an error by which nothing of the request was sent, as [`Error`](super::Error)
+/// says.
 #[derive(Clone)]
 pub struct GpuBackend {
     node: Arc<Mutex<Connection<DisplaySession>>>,
@@ -31,7 +32,7 @@ impl GpuBackend {
     pub fn from_stream(sock: UnixStream) -> Self {
         // (the crate's name for this returns no Result)
         let session = DisplaySession::open().expect("allocation of a session failed");
-        GpuBackend { node: Arc::new(Mutex::new(Connection::over(session, sock))) }
+        GpuBackend { node: Arc::new(Mutex::new(Connection::over(session, PeerSocket::given(sock)))) }
     }
 
     /// Which features of the channel the display has.

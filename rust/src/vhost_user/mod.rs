@@ -1,5 +1,6 @@
 // SPDX-License-Identifier: Apache-2.0
 //! The vhost-user protocol, as its frontend and its backend speak it.
+use std::os::unix::io::OwnedFd;
 use std::{error, fmt, io, result};
 
 mod backend;
@@ -9,6 +10,7 @@ mod connection;
 mod device;
 mod frontend;
 mod frontend_req_handler;
+mod frontend_session;
 mod gpu_backend_req;
 pub mod gpu_message;
 mod listener;
@@ -25,6 +27,14 @@ pub use self::frontend_req_handler::{FrontendReqHandler, VhostUserFrontendReqHan
 pub use self::gpu_backend_req::GpuBackend;
 pub use self::listener::Listener;
 pub use self::message::{VhostUserProtocolFeatures, VhostUserVirtioFeatures};
+
+use crate::foreign::PeerFd;
+
+/// Closes a descriptor that a peer sent, as the package closes those that it does not hand on: a socket lingers no more, so nobody is
+/// kept waiting while it has something to send.
+pub fn close_at_once(fd: impl Into<OwnedFd>) {
+    drop(PeerFd::from(fd.into()));
+}
 
 /// Whose behaviour a [`Frontend`] or a [`BackendReqHandler`] has where the specification and the crate `vhost` differ.
 #[derive(Clone, Copy, Debug, Default, PartialEq, Eq)]
@@ -45,7 +55,8 @@ pub const SERVED_PROTOCOL_FEATURES: VhostUserProtocolFeatures = VhostUserProtoco
 
 /// Why a call of the protocol failed. After `SocketBroken`, `SocketError`, `PartialMessage`, `InvalidMessage` and
 /// `Disconnected` a [`Frontend`] is of no more use: each later call is `SocketBroken`. After all others it goes on, but after an
-/// `IncorrectFds` for descriptors that the system dropped. What of a [`BackendReqHandler`] is,
+/// `IncorrectFds` for more descriptors than a message has. It goes on after a `SocketError` by EBADF or ETOOMANYREFS, too: a descriptor
+/// that the request has can't be sent, and nothing of it was. What of a [`BackendReqHandler`] is,
 /// [`handle_request`](BackendReqHandler::handle_request) says.
 #[derive(Debug)]
 pub enum Error {
@@ -80,7 +91,7 @@ pub enum Error {
     SocketError(io::Error),
     /// The connection is of no more use. The cause is of the kind `TimedOut` where the limit of time passed.
     SocketBroken(io::Error),
-    /// Of a call: an allocation failed, and nothing was sent. Of a handler that waits for a request: no more has come yet.
+    /// Of a call: an allocation failed, here or in the system, and nothing was sent. Of a handler that waits for a request: no more has come yet.
     SocketRetry(io::Error),
     /// The backend refused the request.
     BackendInternalError,

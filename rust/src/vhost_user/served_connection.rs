@@ -1,14 +1,13 @@
 // SPDX-License-Identifier: Apache-2.0
 //! A session of the proved library that serves, and the socket that it serves over: requests whole, one at a time.
-use std::fs::File;
-use std::os::unix::io::{AsRawFd, OwnedFd, RawFd};
+use std::os::unix::io::{AsRawFd, RawFd};
 use std::os::unix::net::UnixStream;
 use std::time::Duration;
 use std::{io, result};
 
 use super::transport::{broken_by, end_after, error_of, last_error, receive_ready, send_all, take_from};
 use super::{Error, Result};
-use crate::foreign::{numbers_of, Code, Outcome, Serves, MAX_MESSAGE};
+use crate::foreign::{numbers_of, Code, Outcome, PeerFd, PeerSocket, Serves, MAX_MESSAGE};
 
 /// COVRETIN_INVALID_OPERATION.
 const INVALID_OPERATION: Code = Code(2);
@@ -19,13 +18,13 @@ const CODE_SIZE: usize = 4;
 /// A connection of a backend to its frontend; or on the backend channel the other way round.
 pub(super) struct ServedConnection<S: Serves> {
     session: S,
-    socket: UnixStream,
+    socket: PeerSocket,
     /// How long it may take to send a reply.
     send_timeout: Option<Duration>,
     /// Bytes that were received, and then those of the reply: a request is received whole before it is replied to.
     bytes: Box<[u8; MAX_MESSAGE]>,
     /// What came with the first byte of the request that is received or served, and was not claimed.
-    fds: Vec<OwnedFd>,
+    fds: Vec<PeerFd>,
     /// Whether a part of a request has come that was neither replied to nor refused.
     has_begun: bool,
     /// The first bytes of the request that came last, of its number.
@@ -38,7 +37,7 @@ impl<S: Serves> ServedConnection<S> {
     /// A write timeout of the socket becomes the limit of time of each reply.
     pub(super) fn over(session: S, socket: UnixStream) -> ServedConnection<S> {
         let send_timeout = socket.write_timeout().ok().flatten();
-        let bytes = Box::new([0; MAX_MESSAGE]);
+        let (socket, bytes) = (PeerSocket::own(socket), Box::new([0; MAX_MESSAGE]));
         ServedConnection {
             session,
             socket,
@@ -111,16 +110,8 @@ impl<S: Serves> ServedConnection<S> {
         read(&mut self.session).map_err(|code| error_of(code, 0))
     }
 
-    /// The file of this number, of those that came with the request. None for a negative number.
-    pub(super) fn claim_some(&mut self, fd: RawFd) -> Result<Option<File>> {
-        match fd {
-            fd if fd < 0 => Ok(None),
-            fd => Ok(Some(self.claim(fd)?)),
-        }
-    }
-
-    /// The same, where there has to be one.
-    pub(super) fn claim(&mut self, fd: RawFd) -> Result<File> {
+    /// The descriptor of this number, of those that came with the request.
+    pub(super) fn claim(&mut self, fd: RawFd) -> Result<PeerFd> {
         take_from(&mut self.fds, fd).map_err(|error| self.break_by(error))
     }
 
@@ -209,7 +200,8 @@ impl<S: Serves> ServedConnection<S> {
     fn send(&mut self) -> Result<()> {
         let end = end_after(self.send_timeout);
         let sent = send_all(&self.socket, &mut self.session, &mut self.bytes, end);
-        sent.map_err(|error| self.break_by(error))
+        // Also where nothing was sent: who waits for a reply is hung up on.
+        sent.map_err(|unsent| self.break_by(unsent.into()))
     }
 
     /// Ends the connection by this error.
@@ -219,6 +211,15 @@ impl<S: Serves> ServedConnection<S> {
         self.broken = Some(errno);
         self.fds.clear();
         error
+    }
+}
+
+impl<S: Serves> Drop for ServedConnection<S> {
+    /// Who shares the socket can make no use of it either where a part of a message may be left in it.
+    fn drop(&mut self) {
+        if self.broken.is_some() {
+            self.socket.hang_up();
+        }
     }
 }
 

@@ -1,14 +1,17 @@
 // SPDX-License-Identifier: Apache-2.0
 //! What both sides do with a socket: they send and receive messages in parts, with descriptors; and they name errors as the crate
 //! does.
-use std::fs::File;
 use std::io;
-use std::os::unix::io::{AsRawFd, OwnedFd, RawFd};
+use std::os::unix::io::{AsRawFd, RawFd};
 use std::os::unix::net::UnixStream;
+use std::result;
 use std::time::{Duration, Instant};
 
 use super::{Error, Result, VhostUserProtocolFeatures, VhostUserVirtioFeatures};
-use crate::foreign::{is_ready, receive, send, Code, Moves, Received, MAX_FDS, MAX_MESSAGE};
+use crate::foreign::{is_ready, receive, send, Code, Moves, PeerFd, Received, MAX_FDS, MAX_MESSAGE};
+
+/// The bytes of a header.
+pub(super) const HEADER: usize = 12;
 
 /// Until when something may take. None: for ever.
 pub(super) type End = Option<Instant>;
@@ -18,8 +21,34 @@ pub(super) fn end_after(limit: Option<Duration>) -> End {
     limit.and_then(|limit| Instant::now().checked_add(limit))
 }
 
-/// Sends all that a session hands out, which is put into `bytes` piece by piece. It has one message to send at a time.
-pub(super) fn send_all(socket: &UnixStream, session: &mut impl Moves, bytes: &mut [u8; MAX_MESSAGE], end: End) -> Result<()> {
+/// Why a message was not sent.
+pub(super) enum Unsent {
+    /// Nothing of it was sent, and the socket is as before: memory was lacking, or a descriptor can't be sent.
+    Whole(Error),
+    /// The connection is of no more use.
+    Part(Error),
+}
+
+impl From<Error> for Unsent {
+    fn from(error: Error) -> Unsent {
+        Unsent::Part(error)
+    }
+}
+
+impl From<Unsent> for Error {
+    fn from(unsent: Unsent) -> Error {
+        match unsent {
+            Unsent::Whole(error) | Unsent::Part(error) => error,
+        }
+    }
+}
+
+/// Whether it was sent.
+pub(super) type Sending = result::Result<(), Unsent>;
+
+/// Sends all that a session hands out, which is put into `bytes` piece by piece. It has one message to send at a time, which `bytes`
+/// has room for.
+pub(super) fn send_all(socket: &UnixStream, session: &mut impl Moves, bytes: &mut [u8; MAX_MESSAGE], end: End) -> Sending {
     let mut fds = [-1; MAX_FDS];
     loop {
         let (byte_count, fd_count) = session.next_to_send(bytes, &mut fds).map_err(|code| error_of(code, 0))?;
@@ -42,7 +71,7 @@ fn is_whole(bytes: &[u8]) -> bool {
 }
 
 /// Sends all of these bytes, the descriptors with the first of them. There is at least one byte.
-pub(super) fn send_piece(socket: &UnixStream, bytes: &[u8], fds: &[RawFd], end: End) -> Result<()> {
+pub(super) fn send_piece(socket: &UnixStream, bytes: &[u8], fds: &[RawFd], end: End) -> Sending {
     match send(socket, bytes, fds, end.is_none()) {
         Ok(count) if count == bytes.len() => Ok(()),
         sent => send_rest(socket, bytes, fds, end, sent),
@@ -51,27 +80,41 @@ pub(super) fn send_piece(socket: &UnixStream, bytes: &[u8], fds: &[RawFd], end: 
 
 /// The same, of which this was sent at first.
 #[cold]
-fn send_rest(socket: &UnixStream, mut bytes: &[u8], mut fds: &[RawFd], end: End, mut sent: io::Result<usize>) -> Result<()> {
+fn send_rest(socket: &UnixStream, bytes: &[u8], mut fds: &[RawFd], end: End, mut sent: io::Result<usize>) -> Sending {
+    let mut left = bytes;
     loop {
         match sent {
             Ok(count) => {
-                bytes = &bytes[count..];
+                left = &left[count..];
                 fds = &[];
             }
+            Err(cause) if left.len() == bytes.len() && is_passing(&cause) => return Err(Unsent::Whole(passing_error(cause))),
             Err(cause) => match unready(cause)? {
                 None => {}
                 Some(_) => wait_for(socket, libc::POLLOUT, end)?,
             },
         }
-        if bytes.is_empty() {
+        if left.is_empty() {
             return Ok(());
         }
-        sent = send(socket, bytes, fds, end.is_none());
+        sent = send(socket, left, fds, end.is_none());
+    }
+}
+
+/// Whether a failed call says nothing of the socket: memory is lacking, a descriptor is not open, or too many are on their way.
+fn is_passing(cause: &io::Error) -> bool {
+    matches!(cause.raw_os_error(), Some(libc::ENOMEM | libc::ENOBUFS | libc::EBADF | libc::ETOOMANYREFS))
+}
+
+fn passing_error(cause: io::Error) -> Error {
+    match cause.raw_os_error() {
+        Some(libc::ENOMEM | libc::ENOBUFS) => Error::SocketRetry(cause),
+        _ => Error::SocketError(cause),
     }
 }
 
 /// Receives at least one byte, and waits for it: how many; 0 at the end of the stream.
-pub(super) fn receive_piece(socket: &UnixStream, room: &mut [u8], fds: &mut Vec<OwnedFd>, end: End) -> Result<usize> {
+pub(super) fn receive_piece(socket: &UnixStream, room: &mut [u8], fds: &mut Vec<PeerFd>, end: End) -> Result<usize> {
     loop {
         match receive_ready(socket, room, fds, end.is_none()) {
             Err(Error::SocketRetry(_)) => wait_for(socket, libc::POLLIN, end)?,
@@ -81,10 +124,10 @@ pub(super) fn receive_piece(socket: &UnixStream, room: &mut [u8], fds: &mut Vec<
 }
 
 /// The same; with `is_waiting` it waits as the socket does. SocketRetry: there is nothing yet.
-pub(super) fn receive_ready(socket: &UnixStream, room: &mut [u8], fds: &mut Vec<OwnedFd>, is_waiting: bool) -> Result<usize> {
+pub(super) fn receive_ready(socket: &UnixStream, room: &mut [u8], fds: &mut Vec<PeerFd>, is_waiting: bool) -> Result<usize> {
     loop {
         match receive(socket, room, fds, is_waiting) {
-            Ok(Received { count, is_truncated: false }) => return Ok(count),
+            Ok(Received { count, has_too_many: false }) => return Ok(count),
             Ok(_) => return Err(Error::IncorrectFds),
             Err(cause) => {
                 if let Some(cause) = unready(cause)? {
@@ -129,9 +172,9 @@ fn left_until(end: End) -> libc::c_int {
 }
 
 /// Takes the descriptor of this number. One that is not among these would be another file of this program.
-pub(super) fn take_from(fds: &mut Vec<OwnedFd>, fd: RawFd) -> Result<File> {
+pub(super) fn take_from(fds: &mut Vec<PeerFd>, fd: RawFd) -> Result<PeerFd> {
     match fds.iter().position(|it| it.as_raw_fd() == fd) {
-        Some(at) => Ok(File::from(fds.swap_remove(at))),
+        Some(at) => Ok(fds.swap_remove(at)),
         None => Err(Error::InvalidMessage),
     }
 }

@@ -3,6 +3,7 @@
 //! descriptors around each test. All bytes are the vhost-user specification's.
 #![allow(dead_code)]
 pub mod device;
+pub mod lingering;
 pub mod random;
 pub mod tap;
 
@@ -139,6 +140,11 @@ impl Peer {
         self.say_number(1, number);
     }
 
+    /// Whether the other side has ended the stream, with nothing before.
+    pub fn is_hung_up(&self) -> bool {
+        matches!((&self.socket).read(&mut [0]), Ok(0))
+    }
+
     /// Waits until the frontend is gone, which has to send nothing before.
     pub fn silence(&self) {
         let mut rest = Vec::new();
@@ -210,15 +216,24 @@ pub fn need_reply(frontend: &Frontend) {
     frontend.set_hdr_flags(VhostUserHeaderFlag::NEED_REPLY);
 }
 
+/// Room for as many descriptors as the system passes on with a message.
+const CONTROL: usize = 1032;
+
 #[repr(C, align(8))]
-struct Control([u8; 512]);
+struct Control([u8; CONTROL]);
 
 /// Sends some bytes at once, with these descriptors.
 pub fn send(socket: &UnixStream, bytes: &[u8], fds: &[RawFd]) {
-    let mut control = Control([0; 512]);
+    send_by(socket, bytes, fds, 0);
+}
+
+/// The same, by these flags of `sendmsg`.
+pub fn send_by(socket: &UnixStream, bytes: &[u8], fds: &[RawFd], flags: i32) {
+    let mut control = Control([0; CONTROL]);
     let mut piece = libc::iovec { iov_base: bytes.as_ptr() as *mut _, iov_len: bytes.len() };
-    // SAFETY: the message points to what outlives it; the control data has room for more than a hundred descriptors.
+    // SAFETY: the message points to what outlives it; the control data has room for all descriptors.
     unsafe {
+        assert!(libc::CMSG_SPACE(size_of_val(fds) as u32) as usize <= CONTROL);
         let mut message: libc::msghdr = zeroed();
         message.msg_iov = &mut piece;
         message.msg_iovlen = 1;
@@ -232,13 +247,13 @@ pub fn send(socket: &UnixStream, bytes: &[u8], fds: &[RawFd]) {
             (*head).cmsg_len = libc::CMSG_LEN(length) as _;
             std::ptr::copy_nonoverlapping(fds.as_ptr().cast::<u8>(), libc::CMSG_DATA(head), length as usize);
         }
-        assert_eq!(bytes.len() as isize, libc::sendmsg(socket.as_raw_fd(), &message, libc::MSG_NOSIGNAL));
+        assert_eq!(bytes.len() as isize, libc::sendmsg(socket.as_raw_fd(), &message, flags | libc::MSG_NOSIGNAL));
     }
 }
 
 /// Receives a part of what fits, at least a byte, and the descriptors that come along.
 pub fn receive(socket: &UnixStream, room: &mut [u8]) -> Vec<File> {
-    let mut control = Control([0; 512]);
+    let mut control = Control([0; CONTROL]);
     let mut piece = libc::iovec { iov_base: room.as_mut_ptr().cast(), iov_len: room.len() };
     let mut files = Vec::new();
     // SAFETY: as above. What comes was opened for this process.
@@ -247,7 +262,7 @@ pub fn receive(socket: &UnixStream, room: &mut [u8]) -> Vec<File> {
         message.msg_iov = &mut piece;
         message.msg_iovlen = 1;
         message.msg_control = control.0.as_mut_ptr().cast();
-        message.msg_controllen = 512;
+        message.msg_controllen = CONTROL;
         let count = libc::recvmsg(socket.as_raw_fd(), &mut message, libc::MSG_CMSG_CLOEXEC);
         assert!(count > 0, "no request came: {:?}", std::io::Error::last_os_error());
         let head = libc::CMSG_FIRSTHDR(&message);

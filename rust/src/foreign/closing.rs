@@ -1,0 +1,130 @@
+// SPDX-License-Identifier: Apache-2.0
+//! Closes what a peer sent without waiting for it. The system may wait all the same: where a file system does at each close of a
+//! file, as FUSE can; where the process may open no more descriptors, so that the system itself closes what comes; and where a
+//! process that shares a socket makes it linger again, and lets go of it, at just that time.
+use std::fs::File;
+use std::mem::ManuallyDrop;
+use std::net::Shutdown;
+use std::ops::Deref;
+use std::os::unix::io::{AsFd, AsRawFd, BorrowedFd, FromRawFd, OwnedFd, RawFd};
+use std::os::unix::net::UnixStream;
+use std::slice::from_raw_parts;
+
+use super::socket::{peek, set_option, Received};
+
+/// A descriptor that a peer sent. Nobody here chose what it is of, so it is closed as `drop` says, until it becomes a `File` or an
+/// `OwnedFd`.
+#[derive(Debug)]
+#[repr(transparent)]
+pub(crate) struct PeerFd(OwnedFd);
+
+impl Drop for PeerFd {
+    /// A socket with SO_LINGER keeps `close` waiting while it has something to send, for as long as its peer likes: so it lingers no
+    /// more. What is no socket stays as it is.
+    fn drop(&mut self) {
+        let _ = set_option(&self.0, libc::SO_LINGER, &libc::linger { l_onoff: 0, l_linger: 0 });
+    }
+}
+
+impl AsRawFd for PeerFd {
+    fn as_raw_fd(&self) -> RawFd {
+        self.0.as_raw_fd()
+    }
+}
+
+impl AsFd for PeerFd {
+    fn as_fd(&self) -> BorrowedFd<'_> {
+        self.0.as_fd()
+    }
+}
+
+/// A descriptor of this side's own, among those of a peer.
+impl From<OwnedFd> for PeerFd {
+    fn from(fd: OwnedFd) -> PeerFd {
+        PeerFd(fd)
+    }
+}
+
+/// From then on its owner decides how it is closed.
+impl From<PeerFd> for OwnedFd {
+    fn from(fd: PeerFd) -> OwnedFd {
+        let fd = ManuallyDrop::new(fd);
+        // SAFETY: it is open, and the one that it belonged to is not dropped.
+        unsafe { OwnedFd::from_raw_fd(fd.as_raw_fd()) }
+    }
+}
+
+/// Likewise.
+impl From<PeerFd> for File {
+    fn from(fd: PeerFd) -> File {
+        File::from(OwnedFd::from(fd))
+    }
+}
+
+/// The numbers of descriptors.
+pub(crate) fn numbers_of(fds: &[PeerFd]) -> &[RawFd] {
+    // SAFETY: std says that an OwnedFd has the representation of its number, and a PeerFd has that of its OwnedFd.
+    unsafe { from_raw_parts(fds.as_ptr().cast(), fds.len()) }
+}
+
+/// How many messages with descriptors are looked for in a socket: more than one holds, by the limits that the system begins with. A peer
+/// that has a copy of the socket might let them never end.
+const MOST_QUEUED: usize = 0x400;
+
+/// A connected socket. What came and was not received may have descriptors, and those linger, too.
+#[derive(Debug)]
+pub(crate) struct PeerSocket {
+    stream: UnixStream,
+    is_given: bool,
+}
+
+impl PeerSocket {
+    /// One of this side's own.
+    pub(crate) fn own(stream: UnixStream) -> PeerSocket {
+        PeerSocket::new(stream, false)
+    }
+
+    /// One that the peer gave, and may give to another again.
+    pub(crate) fn given(stream: UnixStream) -> PeerSocket {
+        PeerSocket::new(stream, true)
+    }
+
+    /// What is sent by MSG_OOB is received in its place: the system closes the descriptors of what is left out, and waits for them.
+    fn new(stream: UnixStream, is_given: bool) -> PeerSocket {
+        let _ = set_option(&stream, libc::SO_OOBINLINE, &1);
+        PeerSocket { stream, is_given }
+    }
+
+    /// Nothing more is sent or comes, whoever has a copy of it; but for one that the peer gave, which stays as it is.
+    pub(crate) fn hang_up(&self) {
+        if !self.is_given {
+            let _ = self.stream.shutdown(Shutdown::Both);
+        }
+    }
+}
+
+impl Drop for PeerSocket {
+    /// The system closes the descriptors that wait in the socket within `close`: so no socket among them lingers any more. What waits
+    /// stays there, for whoever has a copy of the socket.
+    fn drop(&mut self) {
+        if set_option(&self.stream, libc::SO_PEEK_OFF, &0).is_err() {
+            return;
+        }
+        let (mut room, mut fds) = ([0; 4096], Vec::new());
+        for _ in 0..MOST_QUEUED {
+            match peek(&self.stream, &mut room, &mut fds) {
+                Ok(Received { count: 1.., .. }) => fds.clear(),
+                _ => break,
+            }
+        }
+        let _ = set_option(&self.stream, libc::SO_PEEK_OFF, &-1);
+    }
+}
+
+impl Deref for PeerSocket {
+    type Target = UnixStream;
+
+    fn deref(&self) -> &UnixStream {
+        &self.stream
+    }
+}
