@@ -64,7 +64,12 @@ class Disk:
     def start(self):
         words = [self.program, self.path, self.image]
         self.process = subprocess.Popen(words, stdout=self.said, stderr=self.said)
-        self.wait_until(lambda: os.path.exists(self.path), "the disk listens")
+        self.wait_until(self.listens, "the disk listens")
+
+    def listens(self):
+        """Whether it can be connected to, which it cannot yet where its path is there."""
+        with socket.socket(socket.AF_UNIX) as it:
+            return it.connect_ex(self.path) == 0
 
     def stat(self):
         """Its state, and how long it ran."""
