@@ -33,7 +33,7 @@
 #include <sys/mman.h>
 #include <unistd.h>
 
-enum { MOST_RINGS = 8 };
+enum { MOST_RINGS = 8, MOST_CALLS = 256 };
 
 static struct disk disk;
 static struct guest_memory memory = {.userfault = -1};
@@ -452,12 +452,15 @@ static bool has_ended(void)
     return covretin_service_ended(&frontend) || guard_has_lost();
 }
 
-/* Serves the requests that are there. What the socket has to be ready for, for more. */
+/* Serves the requests that are there, but for those of one that sends without end: others are served in between. What the socket has
+ * to be ready for, for more. */
 static short serve_calls(void)
 {
     short events = 0;
-    while (!has_ended()) {
+    for (unsigned done = 0; !has_ended(); done++) {
         uint32_t call = 0;
+        if (done == MOST_CALLS)
+            return POLLIN | POLLOUT;
         enum covretin_error error = covretin_next_call_nowait(&frontend, &call, &events);
         if (error == COVRETIN_NOT_YET)
             return events;
@@ -575,11 +578,19 @@ static void end(int signal)
     is_ended = 1;
 }
 
+/* Whether SIGTERM or SIGINT came. Where something is always ready, ppoll takes no signal. */
+static bool is_to_end(void)
+{
+    sigset_t pending;
+    sigpending(&pending);
+    return is_ended || sigismember(&pending, SIGTERM) || sigismember(&pending, SIGINT);
+}
+
 /* Serves the frontend that is there until it goes. */
 static void serve_frontend(const sigset_t *unblocked)
 {
     reset();
-    while (!is_ended) {
+    while (!is_to_end()) {
         short events = serve_calls();
         if (has_ended())
             break;
@@ -599,7 +610,7 @@ static void serve_frontend(const sigset_t *unblocked)
 /* Serves one frontend after another. Status 0, or 2. */
 static int serve_all(const sigset_t *unblocked)
 {
-    while (!is_ended) {
+    while (!is_to_end()) {
         struct pollfd polled = {.fd = covretin_listener_fd(&listener), .events = POLLIN};
         enum covretin_error error;
         if (ppoll(&polled, 1, NULL, unblocked) < 0)

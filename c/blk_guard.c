@@ -28,10 +28,8 @@ static atomic_bool has_lost;
 static bool lose(uintptr_t at, size_t size)
 {
     const int flags = MAP_PRIVATE | MAP_ANONYMOUS | MAP_NORESERVE | MAP_FIXED;
-    if (mmap((void *)at, size, PROT_READ | PROT_WRITE, flags, -1, 0) == MAP_FAILED)
-        return false;
-    has_lost = true;
-    return true;
+    has_lost = true; /* before any thread may read zeros */
+    return mmap((void *)at, size, PROT_READ | PROT_WRITE, flags, -1, 0) != MAP_FAILED;
 }
 
 /* Finds whose memory it was. A fault in any other ends the process, as ever. */

@@ -348,6 +348,23 @@ def kick_that_is_taken_back(disk):
     guest.close()
 
 
+def kick_that_counts_down(disk):
+    """A semaphore, which stays ready however often it is taken: a second frontend is heard, and SIGTERM ends the disk."""
+    guest = Guest(disk)
+    os.close(guest.kick)
+    guest.kick = os.eventfd(0, os.EFD_NONBLOCK | os.EFD_SEMAPHORE)
+    check(guest.start(), "the ring starts")
+    guest.read(4)
+    os.eventfd_write(guest.kick, 2**63)
+    other = Frontend(disk, None)
+    check(other.ask(GET_FEATURES) is None, "another frontend is hung up on")
+    other.close()
+    guest.read(5)
+    disk.end()
+    guest.close()
+    disk.start()
+
+
 def no_eventfds(disk):
     """What is no eventfd is refused, and nothing of it is kept."""
     guest = working(disk)
@@ -488,7 +505,8 @@ def frontend_that_comes_again(disk):
     frontend.close()
 
 
-ATTACKS = [full_call, full_pipe_for_call, pipe_for_call_that_nobody_reads, full_error, kick_that_is_taken_back, no_eventfds]
+ATTACKS = [full_call, full_pipe_for_call, pipe_for_call_that_nobody_reads, full_error, kick_that_is_taken_back]
+ATTACKS += [kick_that_counts_down, no_eventfds]
 ATTACKS += [shortened_memory, shortened_memory_at_a_start, shortened_data, shortened_log, shortened_inflight_region]
 ATTACKS += [second_frontend, frontend_that_comes_again]
 POSTCOPY = [pages_that_cannot_come, pages_that_do_not_come]

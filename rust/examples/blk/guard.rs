@@ -66,13 +66,11 @@ impl Place {
         let flags = libc::MAP_PRIVATE | libc::MAP_ANONYMOUS | libc::MAP_NORESERVE | libc::MAP_FIXED;
         let at = self.at.load(Ordering::Acquire) as *mut libc::c_void;
         let size = self.size.load(Ordering::Relaxed);
+        // (before any thread may read zeros)
+        HAS_LOST.store(true, Ordering::SeqCst);
         // SAFETY: a mapping is there as long as its place is. It is shared with the guest, which writes what it likes: nothing rests on
         // what is there.
-        if unsafe { libc::mmap(at, size, libc::PROT_READ | libc::PROT_WRITE, flags, -1, 0) } == libc::MAP_FAILED {
-            return false;
-        }
-        HAS_LOST.store(true, Ordering::SeqCst);
-        true
+        unsafe { libc::mmap(at, size, libc::PROT_READ | libc::PROT_WRITE, flags, -1, 0) != libc::MAP_FAILED }
     }
 }
 
