@@ -3,23 +3,26 @@
  *
  *     blk PATH IMAGE [RINGS [ro]]
  *
- * Listens at PATH and serves one frontend after another until SIGTERM or SIGINT. IMAGE is a raw file. RINGS is 1 to 8, and 1 where
- * it is not told; ro: nothing is written. Prints a line for each frontend that went, and for each ring whose requests are done
- * again that a disk before took and did not give back. Status 0; 1 after wrong arguments; 2 where something failed.
+ * Listens at PATH and serves one frontend after another until SIGTERM or SIGINT; a second one at a time is hung up on. IMAGE is a raw
+ * file. RINGS is 1 to 8, and 1 where it is not told; ro: nothing is written. Prints a line for each frontend that went or was
+ * refused, and for each ring whose requests are done again that a disk before took and did not give back. Status 0; 1 after wrong
+ * arguments; 2 where something failed.
  *
  * It is an example of what is left to a device over this library, and no part of what is proved: memory, in blk_memory.c;
  * virtqueues, in blk_rings.c; requests, in blk_requests.c; and here what each call of the frontend means. It does one request
- * after another. */
+ * after another. The frontend is not trusted: blk_events.c waits for none of its descriptors, blk_guard.c bears that it takes
+ * memory away, and blk_arrival.c that it keeps pages back. */
 #ifndef _GNU_SOURCE
 #define _GNU_SOURCE /* for memfd_create and ppoll */
 #endif
 
+#include "blk_events.h"
 #include "blk_growth.h"
+#include "blk_guard.h"
 #include "blk_requests.h"
 #include "covretin_backend_socket.h"
 
 #include <errno.h>
-#include <fcntl.h>
 #include <linux/virtio_blk.h>
 #include <poll.h>
 #include <signal.h>
@@ -27,11 +30,10 @@
 #include <stdio.h>
 #include <stdlib.h>
 #include <string.h>
-#include <sys/eventfd.h>
 #include <sys/mman.h>
 #include <unistd.h>
 
-enum { MOST_RINGS = 8, MOST_POLLED = 2 + MOST_RINGS };
+enum { MOST_RINGS = 8, MOST_CALLS = 256 };
 
 static struct disk disk;
 static struct guest_memory memory = {.userfault = -1};
@@ -43,6 +45,7 @@ static bool is_negotiated; /* protocol features were accepted: then each ring ha
 static struct mapping inflight;
 static uint16_t inflight_queue_size;
 static int inflight_fd = -1; /* of the region that the disk made; open until its reply was sent */
+static covretin_listener listener;
 static covretin_service frontend;
 static covretin_backend *const backend = &frontend.backend;
 
@@ -89,12 +92,8 @@ static enum covretin_error set_protocol_features(void)
 static enum covretin_error set_backend_req_fd(void)
 {
     int32_t fd;
-    if (covretin_call_fd(backend, &fd) || covretin_claim_call_fd(&frontend, fd))
+    if (covretin_call_fd(backend, &fd) || !growth_connect(fd, protocol_features) || covretin_claim_call_fd(&frontend, fd))
         return covretin_reply_refused(backend);
-    if (!growth_connect(fd, protocol_features)) {
-        close(fd);
-        return covretin_reply_refused(backend);
-    }
     told_capacity = disk.capacity;
     return covretin_reply_done(backend);
 }
@@ -181,7 +180,7 @@ static enum covretin_error set_log_base(void)
 
 static enum covretin_error postcopy_advise(void)
 {
-    if (!memory_advise(&memory))
+    if (!memory_advise(&memory, covretin_service_fd(&frontend)))
         return covretin_reply_refused(backend);
     return covretin_reply_fd(backend, memory.userfault);
 }
@@ -258,16 +257,29 @@ static enum covretin_error set_vring_enable(void)
     return covretin_reply_done(backend);
 }
 
-/* A ring takes an eventfd over, or has none from now on. It blocks nobody: the frontend may have sent anything. */
-static bool take_eventfd(int *place, int32_t fd)
+static void replace(int *place, int fd)
 {
-    if (fd >= 0 && covretin_claim_call_fd(&frontend, fd))
-        return false;
-    if (fd >= 0)
-        fcntl(fd, F_SETFL, fcntl(fd, F_GETFL) | O_NONBLOCK);
     if (*place >= 0)
         close(*place);
     *place = fd;
+}
+
+/* A ring takes an eventfd over, or has none from now on. What is none stays the library's to close. */
+static bool take_eventfd(int *place, int32_t fd)
+{
+    if (fd >= 0 && (!is_eventfd(fd) || covretin_claim_call_fd(&frontend, fd)))
+        return false;
+    replace(place, fd);
+    return true;
+}
+
+/* The same with one that the ring signals, in whose place some frontends have a pipe. */
+static bool take_signalled(int *place, int32_t fd)
+{
+    int pipe = fd < 0 ? -1 : open_pipe(fd);
+    if (pipe < 0)
+        return take_eventfd(place, fd);
+    replace(place, pipe);
     return true;
 }
 
@@ -301,7 +313,7 @@ static enum covretin_error set_vring_call(void)
 {
     uint32_t index;
     int32_t fd;
-    if (covretin_call_ring_fd(backend, &index, &fd) || index >= ring_count || !take_eventfd(&rings[index].call, fd))
+    if (covretin_call_ring_fd(backend, &index, &fd) || index >= ring_count || !take_signalled(&rings[index].call, fd))
         return covretin_reply_refused(backend);
     return covretin_reply_done(backend);
 }
@@ -310,7 +322,7 @@ static enum covretin_error set_vring_err(void)
 {
     uint32_t index;
     int32_t fd;
-    if (covretin_call_ring_fd(backend, &index, &fd) || index >= ring_count || !take_eventfd(&rings[index].error, fd))
+    if (covretin_call_ring_fd(backend, &index, &fd) || index >= ring_count || !take_signalled(&rings[index].error, fd))
         return covretin_reply_refused(backend);
     return covretin_reply_done(backend);
 }
@@ -378,6 +390,7 @@ static void reset(void)
     unmap(&inflight);
     close_inflight_fd();
     growth_disconnect();
+    guard_forget();
     protocol_features = 0;
     memory.logs = is_negotiated = false;
 }
@@ -440,12 +453,21 @@ static void tell_error(enum covretin_error error)
     fprintf(stderr, "request %u, %s: %s\n", (unsigned)request, covretin_request_text(request), covretin_error_text(error));
 }
 
-/* Serves the requests that are there. What the socket has to be ready for, for more. */
+/* Whether there is nobody to be served any more: the frontend went, or its memory did. */
+static bool has_ended(void)
+{
+    return covretin_service_ended(&frontend) || guard_has_lost();
+}
+
+/* Serves the requests that are there, but for those of one that sends without end: others are served in between. What the socket has
+ * to be ready for, for more. */
 static short serve_calls(void)
 {
     short events = 0;
-    while (!covretin_service_ended(&frontend)) {
+    for (unsigned done = 0; !has_ended(); done++) {
         uint32_t call = 0;
+        if (done == MOST_CALLS)
+            return POLLIN | POLLOUT;
         enum covretin_error error = covretin_next_call_nowait(&frontend, &call, &events);
         if (error == COVRETIN_NOT_YET)
             return events;
@@ -473,7 +495,7 @@ static void serve_ring(struct ring *ring)
 {
     static struct chain chain;
     ring->is_due = false;
-    for (unsigned done = 0; is_running(ring) && ring_next(ring, &memory, &chain); done++) {
+    for (unsigned done = 0; !guard_has_lost() && is_running(ring) && ring_next(ring, &memory, &chain); done++) {
         ring_put(ring, &memory, chain.head, disk_do(&disk, &memory, &chain));
         if (done == ring->size) {
             ring->is_due = true;
@@ -482,14 +504,12 @@ static void serve_ring(struct ring *ring)
     }
 }
 
-/* Takes a kick. A ring whose kick is no eventfd is stopped: a file, say, could always be read, and would never kick. */
+/* Takes a kick. A ring whose kick cannot be read is stopped: it would be ready for ever. */
 static void take_kick(struct ring *ring, short events)
 {
-    eventfd_t kicks;
-    errno = 0; /* which a short read leaves */
     if (events & ~POLLIN)
         ring_stop(ring);
-    else if (events != 0 && eventfd_read(ring->kick, &kicks) == 0)
+    else if (events != 0 && event_take(ring->kick) == 0)
         ring->is_due = true;
     else if (events != 0 && errno != EAGAIN)
         ring_stop(ring);
@@ -510,12 +530,26 @@ static const struct timespec *limit(void)
     return limit;
 }
 
+/* Hangs up on another frontend, which would wait for its first reply as long as this one stays. Where this one has gone the other,
+ * who may be the same again, is left to be served next. */
+static void refuse_another(void)
+{
+    struct pollfd polled = {.fd = covretin_service_fd(&frontend)};
+    covretin_service other = {0};
+    if (poll(&polled, 1, 0) != 0 || covretin_accept(&listener, &other, 0))
+        return;
+    covretin_hang_up(&other);
+    printf("another frontend was refused\n");
+}
+
 /* Polls the sockets, and each ring that runs, until something is to be done. */
 static void wait_for_work(short events, const sigset_t *unblocked)
 {
-    struct pollfd polled[MOST_POLLED] = {{.fd = covretin_service_fd(&frontend), .events = events},
-                                         {.fd = growth_fd(), .events = growth_events()}};
-    struct pollfd *kicks = polled + 2;
+    enum { FRONTEND, GROWTH, LISTENER, KICKS, MOST_POLLED = KICKS + MOST_RINGS };
+    struct pollfd polled[MOST_POLLED] = {[FRONTEND] = {.fd = covretin_service_fd(&frontend), .events = events},
+                                         [GROWTH] = {.fd = growth_fd(), .events = growth_events()},
+                                         [LISTENER] = {.fd = covretin_listener_fd(&listener), .events = POLLIN}};
+    struct pollfd *kicks = polled + KICKS;
     for (uint32_t i = 0; i < MOST_RINGS; i++)
         kicks[i] = (struct pollfd){.fd = is_running(&rings[i]) ? rings[i].kick : -1, .events = POLLIN};
     if (ppoll(polled, MOST_POLLED, limit(), unblocked) < 0)
@@ -525,8 +559,10 @@ static void wait_for_work(short events, const sigset_t *unblocked)
         if (is_running(&rings[i]) && rings[i].kick < 0)
             rings[i].is_due = true;
     }
-    if (polled[1].revents != 0)
-        growth_go_on(polled[1].revents);
+    if (polled[GROWTH].revents != 0)
+        growth_go_on(polled[GROWTH].revents);
+    if (polled[LISTENER].revents != 0)
+        refuse_another();
 }
 
 /* Tells the frontend where the disk has another size. */
@@ -549,13 +585,21 @@ static void end(int signal)
     is_ended = 1;
 }
 
+/* Whether SIGTERM or SIGINT came. Where something is always ready, ppoll takes no signal. */
+static bool is_to_end(void)
+{
+    sigset_t pending;
+    sigpending(&pending);
+    return is_ended || sigismember(&pending, SIGTERM) || sigismember(&pending, SIGINT);
+}
+
 /* Serves the frontend that is there until it goes. */
 static void serve_frontend(const sigset_t *unblocked)
 {
     reset();
-    while (!is_ended) {
+    while (!is_to_end()) {
         short events = serve_calls();
-        if (covretin_service_ended(&frontend))
+        if (has_ended())
             break;
         wait_for_work(events, unblocked);
         watch_size();
@@ -563,20 +607,22 @@ static void serve_frontend(const sigset_t *unblocked)
             if (rings[i].is_due)
                 serve_ring(&rings[i]);
     }
+    if (guard_has_lost())
+        fprintf(stderr, "memory of a frontend is gone\n");
     reset();
     covretin_hang_up(&frontend);
     printf("a frontend went\n");
 }
 
 /* Serves one frontend after another. Status 0, or 2. */
-static int serve_all(covretin_listener *listener, const sigset_t *unblocked)
+static int serve_all(const sigset_t *unblocked)
 {
-    while (!is_ended) {
-        struct pollfd polled = {.fd = covretin_listener_fd(listener), .events = POLLIN};
+    while (!is_to_end()) {
+        struct pollfd polled = {.fd = covretin_listener_fd(&listener), .events = POLLIN};
         enum covretin_error error;
         if (ppoll(&polled, 1, NULL, unblocked) < 0)
             continue;
-        error = covretin_accept(listener, &frontend, 0);
+        error = covretin_accept(&listener, &frontend, 0);
         if (error == COVRETIN_OK)
             serve_frontend(unblocked);
         else if (error != COVRETIN_TIMED_OUT) {
@@ -605,11 +651,11 @@ static void heed_signals(sigset_t *unblocked)
 /* Listens at a path, and serves. The program's status. */
 static int serve_at(const char *path)
 {
-    covretin_listener listener = {NULL};
     enum covretin_error error;
     sigset_t unblocked;
     int status;
     heed_signals(&unblocked);
+    guard_begin();
     for (uint32_t i = 0; i < MOST_RINGS; i++)
         rings[i] = (struct ring){.kick = -1, .call = -1, .error = -1};
     error = covretin_listen(&listener, path);
@@ -617,7 +663,7 @@ static int serve_at(const char *path)
         fprintf(stderr, "%s: %s (%s)\n", path, covretin_error_text(error), strerror(errno));
         return 2;
     }
-    status = serve_all(&listener, &unblocked);
+    status = serve_all(&unblocked);
     covretin_unlisten(&listener);
     return status;
 }
@@ -636,8 +682,13 @@ int main(int argc, char **argv)
         perror(argv[2]);
         return 2;
     }
+    if (!events_begin()) {
+        perror("blk");
+        return 2;
+    }
     setvbuf(stdout, NULL, _IOLBF, 0); /* also in a file, so that who is killed has said what it did */
     status = serve_at(argv[1]);
+    events_end();
     close(disk.image);
     return status;
 }

@@ -5,6 +5,9 @@
 
 #include "blk_memory.h"
 
+#include "blk_arrival.h"
+#include "blk_guard.h"
+
 #include <fcntl.h>
 #include <linux/userfaultfd.h>
 #include <sys/ioctl.h>
@@ -31,14 +34,20 @@ bool map_part(struct mapping *mapping, int fd, uint64_t offset, uint64_t size)
     all = mmap(NULL, all_size, PROT_READ | PROT_WRITE, MAP_SHARED | MAP_NORESERVE, fd, 0);
     if (all == MAP_FAILED)
         return false;
+    if (!guard_add(all, all_size)) {
+        munmap(all, all_size);
+        return false;
+    }
     *mapping = (struct mapping){all, all_size, (uint8_t *)all + offset, size};
     return true;
 }
 
 void unmap(struct mapping *mapping)
 {
-    if (mapping->all != NULL)
+    if (mapping->all != NULL) {
+        guard_remove(mapping->all);
         munmap(mapping->all, mapping->all_size);
+    }
     *mapping = (struct mapping){NULL, 0, NULL, 0};
 }
 
@@ -117,13 +126,13 @@ void memory_wrote(struct guest_memory *memory, uint64_t guest, uint64_t length)
 
 /* -- Postcopy -- */
 
-bool memory_advise(struct guest_memory *memory)
+bool memory_advise(struct guest_memory *memory, int frontend)
 {
     struct uffdio_api api = {.api = UFFD_API};
     if (memory->userfault >= 0)
         return false;
     memory->userfault = (int)syscall(SYS_userfaultfd, O_CLOEXEC | O_NONBLOCK);
-    return memory->userfault >= 0 && ioctl(memory->userfault, UFFDIO_API, &api) == 0;
+    return memory->userfault >= 0 && ioctl(memory->userfault, UFFDIO_API, &api) == 0 && arrival_begin(frontend, memory->userfault);
 }
 
 static struct uffdio_range range_of(const struct region *region)
@@ -148,6 +157,7 @@ bool memory_watch(struct guest_memory *memory)
 bool memory_arrived(struct guest_memory *memory)
 {
     bool is_ended = memory->userfault >= 0;
+    arrival_end();
     for (size_t i = 0; i < memory->count; i++) {
         struct region *region = &memory->regions[i];
         struct uffdio_range range = range_of(region);

@@ -16,7 +16,8 @@ struct mapping {
     uint64_t size;
 };
 
-/* Maps so many bytes of a descriptor's file, which has to have them. The descriptor is needed no longer. Whether it could. */
+/* Maps so many bytes of a descriptor's file, which has to have them, and guards them, since the file may be shortened. The
+ * descriptor is needed no longer. Whether it could. */
 bool map_part(struct mapping *mapping, int fd, uint64_t offset, uint64_t size);
 void unmap(struct mapping *mapping);
 
@@ -52,8 +53,9 @@ void *memory_of_user(const struct guest_memory *memory, uint64_t user, uint64_t 
 /* Logs that these bytes of the guest were written, where that is wanted. */
 void memory_wrote(struct guest_memory *memory, uint64_t guest, uint64_t length);
 
-/* Postcopy: makes the userfaultfd; has page faults of all regions go there; ends that. */
-bool memory_advise(struct guest_memory *memory);
+/* Postcopy: makes the userfaultfd; has page faults of all regions go there; ends that. A page that the disk waits for comes from the
+ * frontend, at this socket: once that is hung up, or SIGTERM comes, no page is waited for, and all memory is lost. */
+bool memory_advise(struct guest_memory *memory, int frontend);
 bool memory_watch(struct guest_memory *memory);
 bool memory_arrived(struct guest_memory *memory);
 

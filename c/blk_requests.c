@@ -5,6 +5,8 @@
 
 #include "blk_requests.h"
 
+#include "blk_guard.h"
+
 #include <errno.h>
 #include <fcntl.h>
 #include <linux/virtio_blk.h>
@@ -149,7 +151,7 @@ uint32_t disk_do(const struct disk *disk, struct guest_memory *memory, struct ch
     int64_t written = -1;
     if (chain->status.at == NULL)
         return 0;
-    if (!chain->is_bad && take_bytes(chain, &header, sizeof header))
+    if (!chain->is_bad && take_bytes(chain, &header, sizeof header) && !guard_has_lost()) /* zeros are not to be written */
         written = do_of(disk, memory, chain, &header, &status);
     *chain->status.at = written < 0 ? status : VIRTIO_BLK_S_OK;
     memory_wrote(memory, chain->status.guest, 1);

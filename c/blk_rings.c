@@ -1,9 +1,10 @@
 /* SPDX-License-Identifier: Apache-2.0 */
 #include "blk_rings.h"
 
+#include "blk_events.h"
+
 #include <linux/virtio_ring.h>
 #include <string.h>
-#include <sys/eventfd.h>
 #include <unistd.h>
 
 /* Where the parts of a ring lie here. */
@@ -107,7 +108,7 @@ bool ring_start(struct ring *ring, const struct guest_memory *memory)
     return true;
 }
 
-static void close_eventfd(int *fd)
+static void close_event(int *fd)
 {
     if (*fd >= 0)
         close(*fd);
@@ -117,14 +118,14 @@ static void close_eventfd(int *fd)
 void ring_stop(struct ring *ring)
 {
     ring->is_started = ring->is_due = false;
-    close_eventfd(&ring->kick);
-    close_eventfd(&ring->call);
+    close_event(&ring->kick);
+    close_event(&ring->call);
 }
 
 void ring_reset(struct ring *ring)
 {
     ring_stop(ring);
-    close_eventfd(&ring->error);
+    close_event(&ring->error);
     *ring = (struct ring){.kick = -1, .call = -1, .error = -1};
 }
 
@@ -133,7 +134,7 @@ static bool fail(struct ring *ring)
 {
     ring->is_started = ring->is_due = false;
     if (ring->error >= 0)
-        eventfd_write(ring->error, 1);
+        event_signal(ring->error);
     return false;
 }
 
@@ -252,5 +253,5 @@ void ring_put(struct ring *ring, struct guest_memory *memory, uint16_t head, uin
     note_given(ring, head, index);
     used_wrote(ring, memory, offsetof(struct vring_used, idx), sizeof index);
     if (ring->call >= 0 && !(__atomic_load_n(&parts.available->flags, __ATOMIC_SEQ_CST) & VRING_AVAIL_F_NO_INTERRUPT))
-        eventfd_write(ring->call, 1);
+        event_signal(ring->call);
 }

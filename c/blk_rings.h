@@ -43,7 +43,7 @@ struct ring {
     covretin_vring place;
     bool is_enabled, is_started;
     bool is_due; /* to be looked at without a kick */
-    int kick, call, error; /* eventfds; -1: none */
+    int kick, call, error; /* of blk_events.h; -1: none */
     struct inflight_queue *inflight;   /* NULL: none */
     uint64_t counter;                  /* of what was taken */
     uint16_t again[MOST_SIZE];         /* heads that the disk before took and did not give back, */
@@ -57,7 +57,7 @@ size_t inflight_size(uint16_t size);
  * has no size, or lies outside of the memory. */
 bool ring_start(struct ring *ring, const struct guest_memory *memory);
 
-/* Stops, and closes the eventfds that belong to a start. */
+/* Stops, and closes the descriptors that belong to a start. */
 void ring_stop(struct ring *ring);
 
 /* Stops, and forgets all that was told. */

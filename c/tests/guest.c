@@ -1,19 +1,29 @@
 /* The example disk with a guest that is not to be trusted: whatever its driver writes into its rings is answered by an error, and
- * touches nothing outside of its memory. And what a disk finds that takes the place of one that was killed. */
+ * touches nothing outside of its memory; memory that is taken away; and eventfds that would block. And what a disk finds that takes
+ * the place of one that was killed. */
 #ifndef _GNU_SOURCE
 #define _GNU_SOURCE
 #endif
 
+#include "blk_events.h"
+#include "blk_guard.h"
 #include "blk_requests.h"
 #include "testing.h"
 
+#include <errno.h>
 #include <fcntl.h>
 #include <linux/virtio_blk.h>
 #include <linux/virtio_ring.h>
+#include <poll.h>
+#include <pthread.h>
+#include <signal.h>
+#include <stdio.h>
 #include <stdlib.h>
 #include <string.h>
 #include <sys/eventfd.h>
 #include <sys/mman.h>
+#include <sys/socket.h>
+#include <sys/wait.h>
 #include <unistd.h>
 
 enum {
@@ -77,6 +87,7 @@ static void fill_image(void)
 static void begin(void)
 {
     const uint64_t places[3] = {0, PART, far_away};
+    guard_forget();
     memory = (struct guest_memory){.userfault = -1};
     for (size_t i = 0; i < 3; i++) {
         backs[i] = memory_of(PART);
@@ -409,6 +420,317 @@ static void logs_what_it_writes(void)
     close(file);
 }
 
+/* -- Memory that is taken away -- */
+
+static void shorten(int fd)
+{
+    if (ftruncate(fd, 0))
+        give_up("ftruncate");
+}
+
+static bool is_image_whole(void)
+{
+    uint8_t bytes[SECTOR];
+    for (uint64_t sector = 0; sector < SECTORS; sector++)
+        if (pread(disk.image, bytes, SECTOR, (off_t)(sector * SECTOR)) != SECTOR || !is_sector(bytes, sector))
+            return false;
+    return true;
+}
+
+/* All that the device touches by itself: its ring, with what it offers, and at a start. */
+static void loses_its_ring(void)
+{
+    begin();
+    offer(0);
+    shorten(backs[0]);
+    work();
+    EXPECT(true, guard_has_lost());
+    guard_forget();
+    EXPECT(true, ring_start(&ring, &memory));
+    EXPECT(false, guard_has_lost()); /* there are zeros now */
+    end();
+    begin();
+    shorten(backs[0]);
+    EXPECT(true, ring_start(&ring, &memory));
+    EXPECT(true, guard_has_lost());
+    end();
+}
+
+/* Where the data are gone, the request fails, and the device goes on. */
+static void refuses_lost_data(void)
+{
+    begin();
+    shorten(backs[2]);
+    for (uint32_t type = VIRTIO_BLK_T_IN; type <= VIRTIO_BLK_T_OUT; type++) {
+        EXPECT(1, request(type, 3, far_away, SECTOR));
+        EXPECT(VIRTIO_BLK_S_IOERR, seen[0][STATUS]);
+    }
+    EXPECT(false, guard_has_lost());
+    EXPECT(SECTOR + 1, request(VIRTIO_BLK_T_IN, 5, DATA, SECTOR));
+    EXPECT(true, is_image_whole());
+    end();
+}
+
+/* A header of which the second half is gone, with the data behind it: no zeros come to the image. */
+static void writes_no_zeros(void)
+{
+    begin();
+    put_header(VIRTIO_BLK_T_OUT, 0);
+    describe(0, HEADER, 8, VRING_DESC_F_NEXT, 1);
+    describe(1, far_away, 8, VRING_DESC_F_NEXT, 2);
+    describe(2, far_away + SECTOR, SECTOR, VRING_DESC_F_NEXT, 3);
+    describe(3, STATUS, 1, VRING_DESC_F_WRITE, 0);
+    shorten(backs[2]);
+    EXPECT(1, offered(0));
+    EXPECT(VIRTIO_BLK_S_IOERR, seen[0][STATUS]);
+    EXPECT(true, guard_has_lost());
+    EXPECT(true, is_image_whole());
+    end();
+}
+
+static void loses_its_log(void)
+{
+    int file = memory_of(4096);
+    begin();
+    EXPECT(true, map_part(&memory.log, file, 0, 4096));
+    memory.logs = true;
+    shorten(file);
+    EXPECT(SECTOR + 1, request(VIRTIO_BLK_T_IN, 5, DATA, SECTOR));
+    EXPECT(true, guard_has_lost());
+    end();
+    close(file);
+}
+
+static void loses_its_inflight_region(void)
+{
+    int file = memory_of(inflight_size(SIZE));
+    struct mapping region = {NULL, 0, NULL, 0};
+    EXPECT(true, map_part(&region, file, 0, inflight_size(SIZE)));
+    begin();
+    ring.inflight = (struct inflight_queue *)region.at;
+    EXPECT(true, ring_start(&ring, &memory));
+    shorten(file);
+    EXPECT(1, request(VIRTIO_BLK_T_IN, 5, DATA, SECTOR)); /* nothing is done any more */
+    EXPECT(VIRTIO_BLK_S_IOERR, seen[0][STATUS]);
+    EXPECT(true, guard_has_lost());
+    end();
+    unmap(&region);
+    close(file);
+}
+
+static void *touch(void *of)
+{
+    const volatile uint8_t *bytes = of;
+    uintptr_t sum = 0;
+    for (size_t i = 0; i < PART; i++)
+        sum += bytes[i];
+    return (void *)sum;
+}
+
+static void touch_nothing(int signal_number)
+{
+    (void)signal_number;
+}
+
+/* Threads that meet the same loss. */
+static void loses_it_in_each_thread(void)
+{
+    enum { THREADS = 4 };
+    pthread_t threads[THREADS];
+    begin();
+    memset(seen[1], 1, PART);
+    shorten(backs[1]);
+    for (size_t i = 0; i < THREADS; i++)
+        if (pthread_create(&threads[i], NULL, touch, memory.regions[1].mapping.at))
+            give_up("pthread_create");
+    for (size_t i = 0; i < THREADS; i++) {
+        void *sum = &threads;
+        pthread_join(threads[i], &sum);
+        EXPECT(true, sum == NULL);
+    }
+    EXPECT(true, guard_has_lost());
+    end();
+}
+
+/* -- Pages that are waited for -- */
+
+static int ends[2]; /* the disk's and the frontend's, of a socket */
+
+/* The frontend goes, or a signal comes, once the disk waits for a page. */
+static void *go(void *of)
+{
+    struct pollfd faults = {.fd = memory.userfault, .events = POLLIN};
+    poll(&faults, 1, -1);
+    if (of == NULL)
+        shutdown(ends[1], SHUT_RDWR);
+    else
+        kill(getpid(), SIGTERM);
+    return NULL;
+}
+
+/* Offers what touches these data, while the pages of its region come from a frontend that goes amid that. */
+static void wait_for_pages(uint64_t data, bool by_signal)
+{
+    pthread_t goes;
+    begin();
+    if (socketpair(AF_UNIX, SOCK_STREAM, 0, ends) || !memory_advise(&memory, ends[0]) || !memory_watch(&memory))
+        give_up("userfaultfd");
+    if (pthread_create(&goes, NULL, go, by_signal ? &memory : NULL))
+        give_up("pthread_create");
+    put_header(VIRTIO_BLK_T_OUT, 0);
+    describe(0, data == far_away ? HEADER : far_away + 8, 16, VRING_DESC_F_NEXT, 1);
+    describe(1, far_away, SECTOR, VRING_DESC_F_NEXT, 2);
+    describe(2, STATUS, 1, VRING_DESC_F_WRITE, 0);
+    offer(0);
+    work();
+    pthread_join(goes, NULL);
+    EXPECT(true, guard_has_lost());
+    EXPECT(0, used->idx);
+    EXPECT(true, is_image_whole());
+    memory_arrived(&memory);
+    close(ends[0]);
+    close(ends[1]);
+    end();
+}
+
+/* Within the kernel, and here. */
+static void waits_for_no_page_of_who_went(void)
+{
+    wait_for_pages(far_away, false);
+    wait_for_pages(HEADER, false);
+}
+
+static void ends_while_it_waits_for_a_page(void)
+{
+    const uint64_t places[2] = {far_away, HEADER};
+    sigset_t blocked, was;
+    sigemptyset(&blocked);
+    sigaddset(&blocked, SIGTERM);
+    pthread_sigmask(SIG_BLOCK, &blocked, &was);
+    signal(SIGTERM, touch_nothing);
+    for (size_t i = 0; i < 2; i++) {
+        int came = 0;
+        wait_for_pages(places[i], true);
+        EXPECT(0, sigwait(&blocked, &came)); /* the disk's own wait takes it, too */
+        EXPECT(SIGTERM, came);
+    }
+    pthread_sigmask(SIG_SETMASK, &was, NULL);
+    signal(SIGTERM, SIG_DFL);
+}
+
+/* Whether this process may have a userfaultfd: a container often may not. */
+static bool may_wait_for_pages(void)
+{
+    struct guest_memory other = {.userfault = -1};
+    bool may = memory_advise(&other, -1);
+    memory_arrived(&other);
+    return may;
+}
+
+/* -- Other faults -- */
+
+/* How a process ends that does this. */
+static int end_of(void (*harms)(void))
+{
+    int status = 0;
+    pid_t child = fork();
+    if (child == 0) {
+        harms();
+        _exit(0);
+    }
+    if (child < 0 || waitpid(child, &status, 0) != child)
+        give_up("fork");
+    return WIFSIGNALED(status) ? WTERMSIG(status) : 0;
+}
+
+static void touch_unguarded(void)
+{
+    shorten(backs[1]);
+    touch(seen[1]);
+}
+
+static void raise_it(void)
+{
+    raise(SIGBUS);
+}
+
+/* What is no guarded memory is a fault of the program's, and ends it; so does the signal where it was sent. */
+static void hides_no_other_fault(void)
+{
+    begin();
+    EXPECT(SIGBUS, end_of(touch_unguarded));
+    EXPECT(SIGBUS, end_of(raise_it));
+    end();
+}
+
+/* -- Eventfds -- */
+
+/* Full, and with a flag by which a write would wait. */
+static int full_eventfd(void)
+{
+    int fd = eventfd(0, EFD_CLOEXEC);
+    if (fd < 0 || eventfd_write(fd, UINT64_MAX - 1))
+        give_up("eventfd");
+    return fd;
+}
+
+static void signals_what_is_full(void)
+{
+    eventfd_t count = 0;
+    begin();
+    ring.call = full_eventfd();
+    EXPECT(SECTOR + 1, request(VIRTIO_BLK_T_IN, 5, DATA, SECTOR));
+    EXPECT(SECTOR + 1, request(VIRTIO_BLK_T_IN, 6, DATA, SECTOR));
+    EXPECT(0, eventfd_read(ring.call, &count));
+    EXPECT(true, count == UINT64_MAX);
+    EXPECT(SECTOR + 1, request(VIRTIO_BLK_T_IN, 7, DATA, SECTOR));
+    EXPECT(0, eventfd_read(ring.call, &count));
+    EXPECT(1, count);
+    end();
+}
+
+/* A pipe, its ends open for ever and its flags the frontend's. */
+static void signals_pipes(void)
+{
+    int ends[2], opened;
+    uint64_t count = 0;
+    if (pipe(ends))
+        give_up("pipe");
+    opened = open_pipe(ends[1]);
+    EXPECT(true, opened >= 0);
+    event_signal(opened);
+    EXPECT(sizeof count, read(ends[0], &count, sizeof count));
+    EXPECT(1, count);
+    for (size_t i = 0; i < 70000; i++) /* more than it takes */
+        event_signal(opened);
+    EXPECT(0, fcntl(ends[1], F_GETFL) & O_NONBLOCK);
+    EXPECT(-1, open_pipe(STDERR_FILENO + 100));
+    close(opened);
+    close(ends[0]);
+    close(ends[1]);
+}
+
+static void takes_what_was_signalled(void)
+{
+    int event = eventfd(0, EFD_CLOEXEC), ends[2];
+    if (event < 0 || pipe(ends))
+        give_up("eventfd");
+    EXPECT(true, is_eventfd(event));
+    EXPECT(-1, open_pipe(event));
+    EXPECT(false, is_eventfd(ends[0]));
+    EXPECT(false, is_eventfd(disk.image));
+    errno = 0;
+    EXPECT(-1, event_take(event));
+    EXPECT(EAGAIN, errno);
+    event_signal(event);
+    event_signal(event);
+    EXPECT(0, event_take(event));
+    EXPECT(-1, event_take(event));
+    close(event);
+    close(ends[0]);
+    close(ends[1]);
+}
+
 /* -- One after another -- */
 
 /* The region of a disk that took three requests and gave one back: the next one does the other two, in their order. */
@@ -476,6 +798,9 @@ static void does_nothing_twice(void)
 
 int main(void)
 {
+    if (!events_begin())
+        give_up("events_begin");
+    guard_begin();
     RUN(reads_and_writes);
     RUN(crosses_regions);
     RUN(takes_any_layout);
@@ -488,7 +813,24 @@ int main(void)
     RUN(refuses_regions);
     RUN(bears_anything);
     RUN(logs_what_it_writes);
+    RUN(loses_its_ring);
+    RUN(refuses_lost_data);
+    RUN(writes_no_zeros);
+    RUN(loses_its_log);
+    RUN(loses_its_inflight_region);
+    RUN(loses_it_in_each_thread);
+    if (may_wait_for_pages()) {
+        RUN(waits_for_no_page_of_who_went);
+        RUN(ends_while_it_waits_for_a_page);
+    } else {
+        puts("the tests of pages that are waited for are left out: userfaultfd is not allowed here");
+    }
+    RUN(hides_no_other_fault);
+    RUN(signals_what_is_full);
+    RUN(signals_pipes);
+    RUN(takes_what_was_signalled);
     RUN(does_again_what_was_in_flight);
     RUN(does_nothing_twice);
+    events_end();
     return status();
 }

@@ -3,29 +3,36 @@
 //!
 //! It has as many virtqueues as it is told, one machine at a time, and serves reads, writes, flushes and its name. Where the guest
 //! puts an address outside of its memory, or a sector behind the disk's end, the request fails, and the disk goes on. Where the file
-//! grows the guest is told. A machine:
+//! grows the guest is told. Where another machine connects meanwhile, or one takes its memory away, it is hung up on. A machine:
 //!
 //! ```sh
 //! qemu-system-x86_64 -m 256M -machine pc,memory-backend=mem -object memory-backend-memfd,id=mem,size=256M,share=on \
 //!     -chardev socket,id=disk,path=/tmp/disk.sock -device vhost-user-blk-pci,chardev=disk,num-queues=2
 //! ```
+#[path = "blk/descriptors.rs"]
+mod descriptors;
+#[path = "blk/guard.rs"]
+mod guard;
+
 use std::cmp::min;
 use std::env;
 use std::ffi::{OsStr, OsString};
 use std::fs::{symlink_metadata, File, OpenOptions};
-use std::io::{self, Read, Write};
+use std::io;
 use std::os::unix::fs::{FileExt, FileTypeExt};
 use std::os::unix::io::{AsRawFd, RawFd};
 use std::process::ExitCode;
 use std::sync::atomic::{fence, Ordering};
 use std::sync::{Arc, Mutex, MutexGuard, PoisonError};
+use std::time::Duration;
 
 use covretin::vhost_user::message::*;
 use covretin::vhost_user::{
-    Backend, BackendListener, BackendReqHandler, Error, GpuBackend, Listener, Result, VhostUserBackendReqHandlerMut,
-    VhostUserFrontendReqHandler,
+    Backend, BackendReqHandler, Error, GpuBackend, Listener, Result, VhostUserBackendReqHandlerMut, VhostUserFrontendReqHandler,
 };
 use covretin::VhostUserMemoryRegionBase;
+use descriptors::{is_hung_up, poll, stop_lingering, Call, Kick, Signals, FOREVER};
+use guard::Guarded;
 use vm_memory::{Bytes, FileOffset, GuestAddress, GuestMemoryMmap, GuestRegionMmap, MmapRegion};
 
 const SECTOR: u64 = 512;
@@ -62,14 +69,19 @@ fn main() -> ExitCode {
 /// Serves one machine after another.
 fn listen(path: &OsStr, image: &OsStr, rings: u16) -> Result<()> {
     let image = OpenOptions::new().read(true).write(true).open(image).map_err(Error::ReqHandlerError)?;
+    let signals = Arc::new(Signals::new().map_err(Error::ReqHandlerError)?);
+    guard::begin().map_err(Error::ReqHandlerError)?;
     // What another disk left behind is replaced, and nothing else.
     let is_socket = symlink_metadata(path).map_or(false, |about| about.file_type().is_socket());
-    let mut listener = Listener::new(path, is_socket)?;
+    let listener = Listener::new(path, is_socket)?;
+    listener.set_nonblocking(true)?;
     loop {
+        poll(&[listener.as_raw_fd()], libc::POLLIN, FOREVER).map_err(Error::ReqHandlerError)?;
+        guard::forget();
         let image = image.try_clone().map_err(Error::ReqHandlerError)?;
-        let disk = Arc::new(Mutex::new(Disk::new(image, rings)?));
-        if let Some(mut handler) = BackendListener::new(&mut listener, disk.clone())?.accept()? {
-            match serve(&mut handler, &disk) {
+        let disk = Arc::new(Mutex::new(Disk::new(image, rings, signals.clone())?));
+        if let Some(mut handler) = accept(&listener, &disk)? {
+            match serve(&mut handler, &disk, &listener) {
                 Err(Error::Disconnected) => {}
                 ended => eprintln!("blk: the machine's connection ended: {ended:?}"),
             }
@@ -77,28 +89,55 @@ fn listen(path: &OsStr, image: &OsStr, rings: u16) -> Result<()> {
     }
 }
 
+/// A machine, which nothing waits for: a request that has not come whole goes on when more of it is there, and where no reply fits
+/// into the socket any more the machine is hung up on.
+fn accept(listener: &Listener, disk: &Arc<Mutex<Disk>>) -> Result<Option<BackendReqHandler<Mutex<Disk>>>> {
+    let socket = match listener.accept()? {
+        Some(socket) => socket,
+        None => return Ok(None),
+    };
+    socket.set_nonblocking(true).map_err(Error::SocketError)?;
+    let mut handler = BackendReqHandler::from_stream(socket, disk.clone());
+    handler.set_reply_timeout(Some(Duration::ZERO));
+    Ok(Some(handler))
+}
+
 /// Serves a machine's requests, and its rings as they are kicked.
-fn serve(handler: &mut BackendReqHandler<Mutex<Disk>>, disk: &Mutex<Disk>) -> Result<()> {
-    loop {
+fn serve(handler: &mut BackendReqHandler<Mutex<Disk>>, disk: &Mutex<Disk>, listener: &Listener) -> Result<()> {
+    while !guard::has_lost() {
         let rings = locked(disk).kicks();
-        let mut polled = vec![handler.as_raw_fd()];
+        let mut polled = vec![listener.as_raw_fd(), handler.as_raw_fd()];
         polled.extend(rings.iter().map(|(_, fd)| *fd));
-        let ready = readable(&polled).map_err(Error::ReqHandlerError)?;
+        let ready = poll(&polled, libc::POLLIN, LOOK).map_err(Error::ReqHandlerError)?;
         locked(disk).look();
+        if ready[0] != 0 {
+            refuse_another(listener, handler)?;
+        }
         // It may change the rings.
-        if ready[0] {
+        if ready[1] != 0 {
             match handler.handle_request() {
                 Err(error @ (Error::Disconnected | Error::PartialMessage | Error::InvalidMessage)) => return Err(error),
                 Err(error @ (Error::SocketBroken(_) | Error::SocketError(_))) => return Err(error),
+                Err(Error::SocketRetry(_)) => {}
                 Err(error) => eprintln!("blk: {} was refused: {error}", last_request(handler)),
                 Ok(()) => {}
             }
             continue;
         }
-        for ((index, _), _) in rings.iter().zip(&ready[1..]).filter(|(_, is_ready)| **is_ready) {
+        for ((index, _), _) in rings.iter().zip(&ready[2..]).filter(|(_, ready)| **ready != 0) {
             locked(disk).serve_ring(*index);
         }
     }
+    Err(Error::ReqHandlerError(io::Error::new(io::ErrorKind::UnexpectedEof, "it took its memory away")))
+}
+
+/// Hangs up on another machine, which would wait for its first reply as long as this one stays. Where this one has gone the other,
+/// which may be the same again, is left to be served next.
+fn refuse_another(listener: &Listener, handler: &BackendReqHandler<Mutex<Disk>>) -> Result<()> {
+    if !is_hung_up(handler.as_raw_fd()).map_err(Error::ReqHandlerError)? && listener.accept()?.is_some() {
+        eprintln!("blk: another machine was refused");
+    }
+    Ok(())
 }
 
 /// The number of the request that came last, and its name.
@@ -111,19 +150,6 @@ fn locked(disk: &Mutex<Disk>) -> MutexGuard<'_, Disk> {
     disk.lock().unwrap_or_else(PoisonError::into_inner)
 }
 
-/// Waits until one of these can be read, or it is time to look at the file: which can.
-fn readable(fds: &[RawFd]) -> io::Result<Vec<bool>> {
-    let mut polled: Vec<libc::pollfd> = fds.iter().map(|fd| libc::pollfd { fd: *fd, events: libc::POLLIN, revents: 0 }).collect();
-    // SAFETY: the list is borrowed for the call, and has that many elements.
-    while unsafe { libc::poll(polled.as_mut_ptr(), polled.len() as libc::nfds_t, LOOK) } < 0 {
-        let cause = io::Error::last_os_error();
-        if cause.kind() != io::ErrorKind::Interrupted {
-            return Err(cause);
-        }
-    }
-    Ok(polled.iter().map(|it| it.revents != 0).collect())
-}
-
 /// A disk, and the machine that has it.
 struct Disk {
     image: File,
@@ -132,6 +158,7 @@ struct Disk {
     regions: Vec<Region>,
     memory: GuestMemoryMmap,
     rings: Vec<Ring>,
+    signals: Arc<Signals>,
     channel: Option<Backend>,
 }
 
@@ -139,7 +166,7 @@ struct Disk {
 #[derive(Clone)]
 struct Region {
     about: VhostUserMemoryRegion,
-    mapped: Arc<GuestRegionMmap>,
+    guarded: Arc<Guarded>,
 }
 
 /// A split virtqueue; addresses are the guest's.
@@ -151,8 +178,8 @@ struct Ring {
     used: u64,
     /// The next buffer to be taken, which is the next one to be given back.
     next: u16,
-    kick: Option<File>,
-    call: Option<File>,
+    kick: Option<Kick>,
+    call: Option<Call>,
     is_enabled: bool,
 }
 
@@ -179,15 +206,17 @@ impl Region {
         let size = usize::try_from(about.memory_size).map_err(|_| Error::InvalidParam)?;
         let mapping = MmapRegion::from_file(FileOffset::new(file, about.mmap_offset), size).map_err(|_| Error::InvalidParam)?;
         let mapped = GuestRegionMmap::new(mapping, GuestAddress(about.guest_phys_addr)).map_err(|_| Error::InvalidParam)?;
-        Ok(Region { about, mapped: Arc::new(mapped) })
+        let guarded = Guarded::new(mapped).ok_or(Error::InvalidParam)?;
+        Ok(Region { about, guarded: Arc::new(guarded) })
     }
 }
 
 impl Disk {
-    fn new(image: File, rings: u16) -> Result<Disk> {
+    fn new(image: File, rings: u16, signals: Arc<Signals>) -> Result<Disk> {
         let size = image.metadata().map_err(Error::ReqHandlerError)?.len() / SECTOR * SECTOR;
         let rings = (0..rings).map(|_| Ring::default()).collect();
-        Ok(Disk { image, size, features: 0, regions: Vec::new(), memory: GuestMemoryMmap::default(), rings, channel: None })
+        let (regions, memory) = (Vec::new(), GuestMemoryMmap::default());
+        Ok(Disk { image, size, features: 0, regions, memory, rings, signals, channel: None })
     }
 
     /// Tells the machine where the size of the file has changed.
@@ -222,7 +251,7 @@ impl Disk {
     /// Has these regions from now on. Where two of them overlap nothing changes.
     fn set_regions(&mut self, mut regions: Vec<Region>) -> Result<()> {
         regions.sort_by_key(|region| region.about.guest_phys_addr);
-        let mapped: Vec<_> = regions.iter().map(|region| region.mapped.clone()).collect();
+        let mapped: Vec<_> = regions.iter().map(|region| region.guarded.mapped().clone()).collect();
         self.memory = match mapped.is_empty() {
             true => GuestMemoryMmap::default(),
             false => GuestMemoryMmap::from_arc_regions(mapped).map_err(|_| Error::InvalidParam)?,
@@ -240,9 +269,10 @@ impl Disk {
 
     /// Serves what a ring has, and tells the guest. A malformed ring is served no longer.
     fn serve_ring(&mut self, index: usize) {
-        let mut kicks = [0; 8];
         // Whatever it says: what is available stands in the ring.
-        let _ = self.rings[index].kick.as_ref().map(|mut kick| kick.read(&mut kicks));
+        if let Some(kick) = &self.rings[index].kick {
+            kick.take();
+        }
         if self.serve_available(index).is_err() {
             eprintln!("blk: ring {index} is malformed");
             self.rings[index].is_enabled = false;
@@ -270,8 +300,9 @@ impl Disk {
         // (the guest's flag is read once it can see what was given back)
         fence(Ordering::SeqCst);
         let flags: u16 = self.memory.read_obj(GuestAddress(available))?;
-        if first != self.rings[index].next && flags & 1 == 0 {
-            let _ = self.rings[index].call.as_ref().map(|mut call| call.write(&1u64.to_ne_bytes()));
+        match &self.rings[index].call {
+            Some(call) if first != self.rings[index].next && flags & 1 == 0 => call.signal(&self.signals),
+            _ => {}
         }
         Ok(())
     }
@@ -360,6 +391,10 @@ impl Disk {
                 self.memory.write_slice(part, at)?;
             } else {
                 self.memory.read_slice(part, at)?;
+                // Zeros that stand for what is gone are not written.
+                if guard::has_lost() {
+                    return Err(Malformed);
+                }
                 self.image.write_all_at(part, place + done)?;
             }
             done += part.len() as u64;
@@ -407,8 +442,9 @@ impl VhostUserBackendReqHandlerMut for Disk {
     }
 
     fn set_backend_req_fd(&mut self, backend: Backend) {
-        // It is not acknowledged: a machine that waits for this disk would not do it.
+        // It is not acknowledged: a machine that waits for this disk would not do it. Where the channel is full it ends.
         backend.set_config_change_flag(true);
+        backend.set_timeout(Some(Duration::ZERO));
         self.channel = Some(backend);
     }
 
@@ -436,6 +472,7 @@ impl VhostUserBackendReqHandlerMut for Disk {
         files: Vec<File>,
         _postcopy_listening: Option<bool>,
     ) -> Result<Option<Vec<VhostUserMemoryRegionBase>>> {
+        files.iter().for_each(stop_lingering);
         let mapped: Result<Vec<Region>> = regions.iter().zip(files).map(|(region, file)| Region::map(*region, file)).collect();
         self.set_regions(mapped?)?;
         Ok(None)
@@ -451,6 +488,7 @@ impl VhostUserBackendReqHandlerMut for Disk {
         file: File,
         _postcopy_listening: Option<bool>,
     ) -> Result<Option<VhostUserMemoryRegionBase>> {
+        stop_lingering(&file);
         if self.regions.len() as u64 >= MEMORY_SLOTS {
             return Err(Error::InvalidParam);
         }
@@ -505,18 +543,20 @@ impl VhostUserBackendReqHandlerMut for Disk {
     }
 
     fn set_vring_kick(&mut self, index: u8, fd: Option<File>) -> Result<()> {
-        self.ring(index)?.kick = fd;
+        let kick = fd.map(|file| Kick::new(file).ok_or(Error::InvalidParam)).transpose()?;
+        self.ring(index)?.kick = kick;
         Ok(())
     }
 
     fn set_vring_call(&mut self, index: u8, fd: Option<File>) -> Result<()> {
-        self.ring(index)?.call = fd;
+        let call = fd.map(|file| Call::new(file).ok_or(Error::InvalidParam)).transpose()?;
+        self.ring(index)?.call = call;
         Ok(())
     }
 
-    fn set_vring_err(&mut self, index: u8, _fd: Option<File>) -> Result<()> {
-        self.ring(index)?;
-        Ok(())
+    fn set_vring_err(&mut self, index: u8, fd: Option<File>) -> Result<()> {
+        fd.iter().for_each(stop_lingering);
+        self.ring(index).map(drop)
     }
 
     fn set_vring_enable(&mut self, index: u32, enable: bool) -> Result<()> {
@@ -536,7 +576,8 @@ impl VhostUserBackendReqHandlerMut for Disk {
         Err(NOT_OFFERED)
     }
 
-    fn set_inflight_fd(&mut self, _inflight: &VhostUserInflight, _file: File) -> Result<()> {
+    fn set_inflight_fd(&mut self, _inflight: &VhostUserInflight, file: File) -> Result<()> {
+        stop_lingering(&file);
         Err(NOT_OFFERED)
     }
 
@@ -544,8 +585,9 @@ impl VhostUserBackendReqHandlerMut for Disk {
         &mut self,
         _direction: VhostTransferStateDirection,
         _phase: VhostTransferStatePhase,
-        _fd: File,
+        fd: File,
     ) -> Result<Option<File>> {
+        stop_lingering(&fd);
         Err(NOT_OFFERED)
     }
 
@@ -557,7 +599,8 @@ impl VhostUserBackendReqHandlerMut for Disk {
         Err(NOT_OFFERED)
     }
 
-    fn set_log_base(&mut self, _log: &VhostUserLog, _file: File) -> Result<()> {
+    fn set_log_base(&mut self, _log: &VhostUserLog, file: File) -> Result<()> {
+        stop_lingering(&file);
         Err(NOT_OFFERED)
     }
 }

@@ -1,16 +1,22 @@
 // SPDX-License-Identifier: Apache-2.0
-//! The example disk, a process of its own, and a guest that asks it through a virtqueue, as it should and as it should not.
+//! The example disk, a process of its own, and a guest that asks it through a virtqueue, as it should and as it should not; and machines
+//! that mean harm.
 #![cfg(feature = "vm-memory")]
 mod common;
 
 use std::env;
-use std::fs::{read, remove_file, write, File};
-use std::io::{Read, Write};
-use std::os::unix::io::{AsRawFd, FromRawFd};
+use std::fs::{read, read_dir, read_to_string, remove_file, write, File};
+use std::io::{ErrorKind, Read, Write};
+use std::net::{TcpListener, TcpStream};
+use std::os::unix::io::{AsRawFd, FromRawFd, OwnedFd, RawFd};
+use std::os::unix::net::UnixStream;
 use std::path::PathBuf;
 use std::process::{Child, Command, Stdio};
+use std::rc::Rc;
+use std::sync::atomic::{AtomicBool, Ordering};
 use std::sync::{Arc, Mutex};
-use std::time::{Duration, Instant};
+use std::thread::{sleep, spawn};
+use std::time::Duration;
 
 use common::*;
 use covretin::vhost_user::message::*;
@@ -48,11 +54,83 @@ fn event() -> File {
     }
 }
 
+/// Whoever waits for the disk gives up once it has slept in so many looks, or has used so many seconds of a processor: a machine that
+/// has no time for it does not count.
+const LOOKS: usize = 30_000;
+const SECONDS: u64 = 60;
+
+/// The disk, a process.
+struct Disk {
+    process: Child,
+    paths: [PathBuf; 2],
+}
+
+impl Disk {
+    fn new(name: &str) -> Rc<Disk> {
+        let path = |kind: &str| env::temp_dir().join(format!("covretin-{}-{name}.{kind}", std::process::id()));
+        let paths = [path("sock"), path("img")];
+        write(&paths[1], (0..SECTORS * 512).map(|at| (at / 512) as u8).collect::<Vec<u8>>()).unwrap();
+        let mut program = Command::new(env::var_os(PROGRAM).expect(PROGRAM));
+        let disk = Disk { process: program.args(&paths).arg("1").stderr(Stdio::null()).spawn().unwrap(), paths };
+        disk.wait_until("it listens", || UnixStream::connect(&disk.paths[0]).is_ok());
+        Rc::new(disk)
+    }
+
+    /// The place of what the system tells of it.
+    fn about(&self, file: &str) -> String {
+        format!("/proc/{}/{file}", self.process.id())
+    }
+
+    fn send(&self, signal: libc::c_int) {
+        // SAFETY: it is a child that was not waited for.
+        assert_eq!(0, unsafe { libc::kill(self.process.id() as libc::pid_t, signal) });
+    }
+
+    fn fds(&self) -> usize {
+        read_dir(self.about("fd")).unwrap().count()
+    }
+
+    /// Its state, and how many seconds of a processor it used.
+    fn state(&self) -> (char, u64) {
+        let stat = read_to_string(self.about("stat")).unwrap();
+        let words: Vec<&str> = stat.rsplit(')').next().unwrap().split_whitespace().collect();
+        let ticks: u64 = words[11].parse::<u64>().unwrap() + words[12].parse::<u64>().unwrap();
+        // SAFETY: it is asked for a number.
+        (words[0].chars().next().unwrap(), ticks / unsafe { libc::sysconf(libc::_SC_CLK_TCK) } as u64)
+    }
+
+    fn wait_until(&self, what: &str, mut holds: impl FnMut() -> bool) {
+        let mut looks = 0;
+        while !holds() {
+            let (state, seconds) = self.state();
+            looks += usize::from(state == 'S');
+            assert!(state != 'Z', "the disk died: {what}");
+            assert!(looks < LOOKS, "the disk sleeps: {what}");
+            assert!(seconds < SECONDS, "the disk is busy: {what}");
+            sleep(Duration::from_micros(100));
+        }
+    }
+
+    fn is_hung_up(&self, fd: RawFd) {
+        let mut polled = libc::pollfd { fd, events: 0, revents: 0 };
+        // SAFETY: one element, borrowed for the call.
+        self.wait_until("it hangs up", || unsafe { libc::poll(&mut polled, 1, 0) } == 1);
+    }
+}
+
+impl Drop for Disk {
+    fn drop(&mut self) {
+        let _ = self.process.kill();
+        let _ = self.process.wait();
+        self.paths.iter().for_each(|path| drop(remove_file(path)));
+    }
+}
+
 /// The disk, the machine, and the guest in it.
 struct Guest {
-    disk: Child,
-    paths: [PathBuf; 2],
+    disk: Rc<Disk>,
     frontend: Frontend,
+    file: File,
     memory: GuestMemoryMmap,
     kick: File,
     call: File,
@@ -61,23 +139,17 @@ struct Guest {
 
 impl Guest {
     fn new(name: &str) -> Guest {
-        let path = |kind: &str| env::temp_dir().join(format!("covretin-{}-{name}.{kind}", std::process::id()));
-        let paths = [path("sock"), path("img")];
-        write(&paths[1], (0..SECTORS * 512).map(|at| (at / 512) as u8).collect::<Vec<u8>>()).unwrap();
-        let disk =
-            Command::new(env::var_os(PROGRAM).expect(PROGRAM)).args(&paths).arg("1").stderr(Stdio::null()).spawn().unwrap();
-        let end = Instant::now() + Duration::from_secs(20);
-        while !paths[0].exists() {
-            assert!(Instant::now() < end, "the disk does not listen");
-            std::thread::sleep(Duration::from_millis(1));
-        }
+        Guest::of(Disk::new(name))
+    }
+
+    fn of(disk: Rc<Disk>) -> Guest {
         let file = memory_file();
         file.set_len(MEMORY).unwrap();
-        let ranges = [(GuestAddress(START), MEMORY as usize, Some(FileOffset::new(file, 0)))];
+        let ranges = [(GuestAddress(START), MEMORY as usize, Some(FileOffset::new(file.try_clone().unwrap(), 0)))];
         let memory = GuestMemoryMmap::from_ranges_with_files(ranges).unwrap();
-        let frontend = Frontend::connect(&paths[0], 1).unwrap();
+        let frontend = Frontend::connect(&disk.paths[0], 1).unwrap();
         frontend.set_timeout(Some(Duration::from_secs(20)));
-        let mut guest = Guest { disk, paths, frontend, memory, kick: event(), call: event(), next: 0 };
+        let mut guest = Guest { disk, frontend, file, memory, kick: event(), call: event(), next: 0 };
         guest.begin();
         guest
     }
@@ -139,18 +211,19 @@ impl Guest {
         self.kick.write_all(&1u64.to_ne_bytes()).unwrap();
     }
 
-    /// Waits until the disk has given all back: the last one, and how many bytes were written.
+    /// Waits until the disk has given all back, and called: the last one, and how many bytes were written.
     fn given_back(&mut self) -> (u32, u32) {
-        let end = Instant::now() + Duration::from_secs(20);
-        while self.memory.read_obj::<u16>(GuestAddress(USED + 2)).unwrap() != self.next {
-            assert!(Instant::now() < end, "the disk gave nothing back");
-            std::thread::sleep(Duration::from_micros(100));
-        }
+        let used = self.used();
         let mut calls = [0; 8];
-        while self.call.read(&mut calls).is_err() {
-            assert!(Instant::now() < end, "the disk did not call");
-            std::thread::sleep(Duration::from_micros(100));
-        }
+        let mut call = &self.call;
+        self.disk.wait_until("it calls", || call.read(&mut calls).is_ok());
+        used
+    }
+
+    /// Waits until it has given all back.
+    fn used(&self) -> (u32, u32) {
+        let index = || self.memory.read_obj::<u16>(GuestAddress(USED + 2)).unwrap();
+        self.disk.wait_until("it gives all back", || index() == self.next);
         let place = USED + 4 + 8 * u64::from(self.next.wrapping_sub(1) % SIZE);
         let [id, written]: [u32; 2] = self.memory.read_obj(GuestAddress(place)).unwrap();
         (id, written)
@@ -158,6 +231,14 @@ impl Guest {
 
     /// One request with its data in these parts: its status (0xaa where none was written), and how many bytes were written.
     fn ask(&mut self, kind: u32, sector: u64, data: &[(u64, u32, u16)]) -> (u8, u32) {
+        self.post(kind, sector, data);
+        let (id, written) = self.given_back();
+        assert_eq!(0, id);
+        (self.memory.read_obj(GuestAddress(STATUS)).unwrap(), written)
+    }
+
+    /// The same, whose end is not awaited.
+    fn post(&mut self, kind: u32, sector: u64, data: &[(u64, u32, u16)]) {
         self.memory.write_obj([kind, 0], GuestAddress(HEAD)).unwrap();
         self.memory.write_obj(sector, GuestAddress(HEAD + 8)).unwrap();
         self.memory.write_obj(0xaau8, GuestAddress(STATUS)).unwrap();
@@ -166,13 +247,10 @@ impl Guest {
         chain.push((STATUS, 1, WRITABLE, 0));
         self.describe(&chain);
         self.offer(0);
-        let (id, written) = self.given_back();
-        assert_eq!(0, id);
-        (self.memory.read_obj(GuestAddress(STATUS)).unwrap(), written)
     }
 
     fn image(&self) -> Vec<u8> {
-        read(&self.paths[1]).unwrap()
+        read(&self.disk.paths[1]).unwrap()
     }
 
     /// It reads a sector still, and its machine is served.
@@ -180,14 +258,6 @@ impl Guest {
         assert_eq!((0, 513), self.ask(0, 9, &[(DATA, 512, WRITABLE)]));
         assert_eq!(9, self.memory.read_obj::<u8>(GuestAddress(DATA)).unwrap());
         self.frontend.get_features().unwrap();
-    }
-}
-
-impl Drop for Guest {
-    fn drop(&mut self) {
-        let _ = self.disk.kill();
-        let _ = self.disk.wait();
-        self.paths.iter().for_each(|path| drop(remove_file(path)));
     }
 }
 
@@ -294,7 +364,7 @@ fn a_ring_that_is_malformed() {
         guest.still_serves();
         guest.memory.write_obj(guest.next + SIZE + 1, GuestAddress(AVAILABLE + 2)).unwrap();
         guest.kick.write_all(&1u64.to_ne_bytes()).unwrap();
-        std::thread::sleep(Duration::from_millis(50));
+        sleep(Duration::from_millis(50));
         assert_eq!(guest.next, guest.memory.read_obj::<u16>(GuestAddress(USED + 2)).unwrap());
         assert_eq!(u32::from(guest.next), guest.frontend.get_vring_base(0).unwrap());
         guest.memory.write_obj(guest.next, GuestAddress(AVAILABLE + 2)).unwrap();
@@ -354,10 +424,290 @@ fn a_file_that_grows() {
         let mut handler = FrontendReqHandler::new(Arc::new(Mutex::new(Machine))).unwrap();
         guest.frontend.set_backend_request_fd(&handler.get_tx_raw_fd()).unwrap();
         assert_eq!((1, 1), guest.ask(0, SECTORS as u64, &[(DATA, 512, WRITABLE)]));
-        File::options().write(true).open(&guest.paths[1]).unwrap().set_len(100 * 512).unwrap();
+        File::options().write(true).open(&guest.disk.paths[1]).unwrap().set_len(100 * 512).unwrap();
         assert_eq!(0, handler.handle_request().unwrap());
         let (_, space) = guest.frontend.get_config(0, 8, VhostUserConfigFlags::empty(), &[0; 8]).unwrap();
         assert_eq!(100u64.to_le_bytes(), *space);
         assert_eq!((0, 513), guest.ask(0, 99, &[(DATA, 512, WRITABLE)]));
+    });
+}
+
+/// A machine that means harm. Then the disk has as many descriptors as before, and serves another.
+fn attacked(name: &str, attack: impl Fn(&Rc<Disk>)) {
+    counted(|| {
+        let disk = Disk::new(name);
+        let first = UnixStream::connect(&disk.paths[0]).unwrap();
+        assert!(has_reply(&disk, &first));
+        // Of a machine it has the socket, and the image once more.
+        let before = disk.fds() - 2;
+        drop(first);
+        attack(&disk);
+        disk.wait_until("it has as many descriptors as before", || disk.fds() == before);
+        Guest::of(disk).still_serves();
+    });
+}
+
+/// Lets writes to this file, or reads of it, wait or not: for the disk, too, whose descriptor is of the same open file.
+fn set_waiting(file: &File, is_waiting: bool) {
+    // SAFETY: it is asked for numbers.
+    unsafe {
+        let flags = libc::fcntl(file.as_raw_fd(), libc::F_GETFL) & !libc::O_NONBLOCK;
+        libc::fcntl(file.as_raw_fd(), libc::F_SETFL, flags | if is_waiting { 0 } else { libc::O_NONBLOCK });
+    }
+}
+
+/// Its counter has no room, and whoever writes to it waits.
+fn fill(mut event: &File) {
+    set_waiting(event, false);
+    let _ = event.read(&mut [0; 8]);
+    event.write_all(&(u64::MAX - 1).to_ne_bytes()).unwrap();
+    set_waiting(event, true);
+}
+
+/// The ends of a pipe whose writers wait.
+fn full_pipe() -> [File; 2] {
+    let mut ends = [0; 2];
+    // SAFETY: there is room for two; what is made belongs to nobody else.
+    let [end, mut full] = unsafe {
+        assert_eq!(0, libc::pipe2(ends.as_mut_ptr(), libc::O_CLOEXEC | libc::O_NONBLOCK));
+        ends.map(|fd| File::from_raw_fd(fd))
+    };
+    while full.write(&[0; 4096]).is_ok() {}
+    set_waiting(&full, true);
+    [end, full]
+}
+
+#[test]
+#[ignore = "needs COVRETIN_DISK"]
+fn a_call_that_is_full() {
+    attacked("full", |disk| {
+        let mut guest = Guest::of(disk.clone());
+        fill(&guest.call);
+        for sector in 0..3 {
+            guest.post(0, sector, &[(DATA, 512, WRITABLE)]);
+            assert_eq!((0, 513), guest.used());
+        }
+        set_waiting(&guest.call, false);
+        guest.given_back();
+        guest.still_serves();
+    });
+}
+
+/// Some machines have a pipe: it is written to as an eventfd is.
+#[test]
+#[ignore = "needs COVRETIN_DISK"]
+fn a_call_that_is_a_pipe() {
+    attacked("pipe", |disk| {
+        let mut guest = Guest::of(disk.clone());
+        let [mut end, call] = full_pipe();
+        guest.frontend.set_vring_call(0, &call).unwrap();
+        for sector in 0..3 {
+            guest.post(0, sector, &[(DATA, 512, WRITABLE)]);
+            assert_eq!((0, 513), guest.used());
+        }
+        let mut bytes = [0; 1 << 16];
+        while end.read(&mut bytes).is_ok() {}
+        guest.call = end;
+        guest.still_serves();
+    });
+}
+
+/// It is told that it was kicked, and finds no kick: somebody else takes it.
+#[test]
+#[ignore = "needs COVRETIN_DISK"]
+fn a_kick_that_is_taken_back() {
+    attacked("kick", |disk| {
+        let mut guest = Guest::of(disk.clone());
+        set_waiting(&guest.kick, true);
+        let (mut kick, is_over) = (guest.kick.try_clone().unwrap(), Arc::new(AtomicBool::new(false)));
+        let until = is_over.clone();
+        let taker = spawn(move || {
+            while !until.load(Ordering::SeqCst) {
+                kick.read_exact(&mut [0; 8]).unwrap();
+            }
+        });
+        for _ in 0..3000 {
+            guest.kick.write_all(&1u64.to_ne_bytes()).unwrap();
+            guest.frontend.get_features().unwrap();
+        }
+        is_over.store(true, Ordering::SeqCst);
+        while !taker.is_finished() {
+            guest.kick.write_all(&1u64.to_ne_bytes()).unwrap();
+        }
+        taker.join().unwrap();
+        guest.still_serves();
+    });
+}
+
+#[test]
+#[ignore = "needs COVRETIN_DISK"]
+fn no_eventfds() {
+    attacked("none", |disk| {
+        let mut guest = Guest::of(disk.clone());
+        let [end, full] = full_pipe();
+        let (socket, _other) = UnixStream::pair().unwrap();
+        for fd in [&guest.file as &dyn AsRawFd, &socket, &end, &full] {
+            failed("BackendInternalError", guest.frontend.set_vring_kick(0, fd));
+        }
+        for fd in [&guest.file as &dyn AsRawFd, &socket] {
+            failed("BackendInternalError", guest.frontend.set_vring_call(0, fd));
+        }
+        guest.still_serves();
+    });
+}
+
+/// A socket whose last descriptor waits for a minute to be closed, and its other end.
+fn lingering() -> (File, TcpStream) {
+    let listener = TcpListener::bind("127.0.0.1:0").unwrap();
+    let mut socket = TcpStream::connect(listener.local_addr().unwrap()).unwrap();
+    let (other, _) = listener.accept().unwrap();
+    socket.set_nonblocking(true).unwrap();
+    while socket.write(&[0; 4096]).is_ok() {}
+    let linger = libc::linger { l_onoff: 1, l_linger: 60 };
+    // SAFETY: it is one struct, and its size, borrowed for the call.
+    unsafe {
+        let size = std::mem::size_of_val(&linger) as libc::socklen_t;
+        let option = std::ptr::addr_of!(linger).cast();
+        assert_eq!(0, libc::setsockopt(socket.as_raw_fd(), libc::SOL_SOCKET, libc::SO_LINGER, option, size));
+    }
+    (File::from(OwnedFd::from(socket)), other)
+}
+
+/// It is refused, and closed without waiting.
+#[test]
+#[ignore = "needs COVRETIN_DISK"]
+fn sockets_that_linger() {
+    attacked("lingers", |disk| {
+        let mut guest = Guest::of(disk.clone());
+        let before = disk.fds();
+        let sockets = [lingering(), lingering(), lingering()];
+        disk.send(libc::SIGSTOP);
+        guest.frontend.set_hdr_flags(VhostUserHeaderFlag::empty());
+        guest.frontend.set_vring_kick(0, &sockets[0].0).unwrap();
+        guest.frontend.set_vring_call(0, &sockets[1].0).unwrap();
+        guest.frontend.set_vring_err(0, &sockets[2].0).unwrap();
+        // The disk has the last descriptors.
+        let _others = sockets.map(|(_, other)| other);
+        disk.send(libc::SIGCONT);
+        disk.wait_until("it has closed them", || disk.fds() == before);
+        guest.still_serves();
+    });
+}
+
+/// Its ring is gone.
+#[test]
+#[ignore = "needs COVRETIN_DISK"]
+fn memory_that_is_taken_away() {
+    attacked("away", |disk| {
+        let mut guest = Guest::of(disk.clone());
+        guest.still_serves();
+        guest.file.set_len(0).unwrap();
+        guest.kick.write_all(&1u64.to_ne_bytes()).unwrap();
+        disk.is_hung_up(guest.frontend.as_raw_fd());
+        assert!(guest.frontend.get_features().is_err());
+    });
+}
+
+/// What a request would write is gone: no zeros are written in its place.
+#[test]
+#[ignore = "needs COVRETIN_DISK"]
+fn data_that_are_taken_away() {
+    attacked("data", |disk| {
+        let mut guest = Guest::of(disk.clone());
+        let before = guest.image();
+        guest.file.set_len(DATA - START).unwrap();
+        guest.post(1, 3, &[(DATA, 512, 0)]);
+        disk.is_hung_up(guest.frontend.as_raw_fd());
+        assert_eq!(before, guest.image());
+    });
+}
+
+/// Asks for the features, by hand. Whether a reply came.
+fn has_reply(disk: &Disk, mut socket: &UnixStream) -> bool {
+    socket.set_nonblocking(true).unwrap();
+    // Who was hung up on before cannot ask.
+    let _ = socket.write_all(&message(1, ASKS, &[]));
+    let mut count = 0;
+    disk.wait_until("it replies, or hangs up", || match socket.read(&mut [0; 20]) {
+        Ok(read) => {
+            count = read;
+            true
+        }
+        Err(error) => error.kind() != ErrorKind::WouldBlock,
+    });
+    count == 20
+}
+
+#[test]
+#[ignore = "needs COVRETIN_DISK"]
+fn another_machine() {
+    attacked("another", |disk| {
+        let mut guest = Guest::of(disk.clone());
+        for _ in 0..5 {
+            assert!(!has_reply(disk, &UnixStream::connect(&disk.paths[0]).unwrap()));
+            guest.still_serves();
+        }
+    });
+}
+
+/// Who sent half of a request, or reads no replies, keeps nobody waiting: neither its guest nor another machine.
+#[test]
+#[ignore = "needs COVRETIN_DISK"]
+fn a_machine_that_is_slow() {
+    attacked("slow", |disk| {
+        let connect = || UnixStream::connect(&disk.paths[0]).unwrap();
+        let mut first = connect();
+        first.write_all(&message(1, ASKS, &[])[..7]).unwrap();
+        assert!(!has_reply(disk, &connect()));
+        first.write_all(&message(1, ASKS, &[])[7..]).unwrap();
+        disk.wait_until("it replies", || has_come(&first));
+        drop(first);
+        let mut silent = connect();
+        silent.set_nonblocking(true).unwrap();
+        disk.wait_until("it hangs up", || match silent.write_all(&message(1, ASKS, &[])) {
+            Err(error) => error.kind() != ErrorKind::WouldBlock,
+            Ok(()) => false,
+        });
+    });
+}
+
+/// Whether there is something to read.
+fn has_come(socket: &UnixStream) -> bool {
+    let mut polled = libc::pollfd { fd: socket.as_raw_fd(), events: libc::POLLIN, revents: 0 };
+    // SAFETY: one element, borrowed for the call.
+    unsafe { libc::poll(&mut polled, 1, 0) == 1 }
+}
+
+/// It is served, however fast it comes again.
+#[test]
+#[ignore = "needs COVRETIN_DISK"]
+fn a_machine_that_comes_again() {
+    attacked("again", |disk| {
+        for _ in 0..300 {
+            let mut socket = UnixStream::connect(&disk.paths[0]).unwrap();
+            assert!(has_reply(disk, &socket));
+            socket.set_nonblocking(false).unwrap();
+            socket.write_all(&message(1, ASKS, &[])).unwrap();
+        }
+    });
+}
+
+/// Whose backend channel is full is told nothing of a file that grows, and is served.
+#[test]
+#[ignore = "needs COVRETIN_DISK"]
+fn a_channel_that_is_full() {
+    attacked("channel", |disk| {
+        let mut guest = Guest::of(disk.clone());
+        let (_other, mut mine) = UnixStream::pair().unwrap();
+        guest.frontend.set_backend_request_fd(&mine).unwrap();
+        mine.set_nonblocking(true).unwrap();
+        while mine.write(&[0; 4096]).is_ok() {}
+        mine.set_nonblocking(false).unwrap();
+        let image = File::options().write(true).open(&disk.paths[1]).unwrap();
+        image.set_len(100 * 512).unwrap();
+        let size = |guest: &mut Guest| guest.frontend.get_config(0, 8, VhostUserConfigFlags::empty(), &[0; 8]).unwrap().1;
+        disk.wait_until("it has the new size", || *size(&mut guest) == 100u64.to_le_bytes());
+        guest.still_serves();
+        image.set_len((SECTORS * 512) as u64).unwrap();
     });
 }
