@@ -143,13 +143,21 @@ static void remove_path(const struct listening *listening)
 {
     const char *path = listening->address.sun_path;
     struct stat found;
-    int lock;
-    if (path[0] == 0)
-        return;
-    lock = lock_folder(path);
+    int lock = lock_folder(path);
     if (lstat(path, &found) == 0 && found.st_dev == listening->made.st_dev && found.st_ino == listening->made.st_ino)
         unlink(path);
     transport_close(lock);
+}
+
+/* Hangs up on those who connected and were not accepted: closing the listening socket would drop what they sent. */
+static void hang_up_on_waiting(int listener)
+{
+    int fd = 0;
+    for (int count = 0; count <= SOMAXCONN && fd >= 0; count++) {
+        fd = accept4(listener, NULL, NULL, SOCK_CLOEXEC);
+        if (fd >= 0)
+            transport_close_socket(fd, true);
+    }
 }
 
 void covretin_unlisten(covretin_listener *listener)
@@ -157,7 +165,10 @@ void covretin_unlisten(covretin_listener *listener)
     struct listening *listening = listener->opaque;
     if (listening == NULL)
         return;
-    remove_path(listening);
+    if (listening->address.sun_path[0] != 0) {
+        remove_path(listening);
+        hang_up_on_waiting(listening->socket);
+    }
     transport_close(listening->socket);
     free(listening);
     listener->opaque = NULL;
@@ -197,7 +208,7 @@ static enum covretin_error end(void *session)
     return covretin_backend_end(session);
 }
 
-static const struct serving_side backend_side = {{missing, receive, to_send, true}, next, end};
+static const struct serving_side backend_side = {{missing, receive, to_send, NULL, true, false}, next, end};
 
 /* -- Frontends -- */
 
@@ -251,7 +262,7 @@ enum covretin_error covretin_accept(covretin_listener *listener, covretin_servic
         return error;
     error = covretin_serve_fd(service, fd);
     if (error)
-        transport_close(fd);
+        transport_close_socket(fd, true);
     return error;
 }
 
