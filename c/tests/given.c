@@ -1,5 +1,5 @@
-/* What a peer gives or sets that nobody asked for: what the system tells of each message beside its descriptors, more descriptors than a
- * message has, and sockets whose close waits. Each test is also one of the count of open descriptors around it. Linked with
+/* What a peer gives or sets that nobody asked for: what the system tells of each message beside its descriptors, more descriptors than
+ * a message has, and sockets whose close waits. Each test is also one of the count of open descriptors around it. Linked with
  * --wrap=recvmsg. */
 #ifndef _GNU_SOURCE
 #define _GNU_SOURCE
