@@ -28,14 +28,15 @@ struct listening {
     struct stat made;           /* what was made at the path */
 };
 
-/* Whether nobody listens at the socket that is there. */
+/* Whether nobody has the socket that is there. The system refuses a datagram socket by another error where a stream socket is bound, and
+ * nobody there sees it. */
 static bool is_left_over(const struct sockaddr_un *address)
 {
     struct stat found;
     int fd, error;
     if (lstat(address->sun_path, &found) || !S_ISSOCK(found.st_mode))
         return false;
-    fd = socket(AF_UNIX, SOCK_STREAM | SOCK_CLOEXEC | SOCK_NONBLOCK, 0);
+    fd = socket(AF_UNIX, SOCK_DGRAM | SOCK_CLOEXEC | SOCK_NONBLOCK, 0);
     if (fd < 0)
         return false;
     error = connect(fd, (const struct sockaddr *)address, sizeof *address) ? errno : 0;
@@ -43,29 +44,8 @@ static bool is_left_over(const struct sockaddr_un *address)
     return error == ECONNREFUSED;
 }
 
-/* Makes the socket at its path, and listens. Whoever else does so holds the same lock. */
-static bool make_listening(struct listening *listening)
-{
-    const struct sockaddr_un *address = &listening->address;
-    int fd = listening->socket;
-    if (bind(fd, (const struct sockaddr *)address, sizeof *address)) {
-        if (errno != EADDRINUSE)
-            return false;
-        if (!is_left_over(address)) {
-            errno = EADDRINUSE;
-            return false;
-        }
-        if (unlink(address->sun_path) || bind(fd, (const struct sockaddr *)address, sizeof *address))
-            return false;
-    }
-    if (listen(fd, SOMAXCONN) == 0 && lstat(address->sun_path, &listening->made) == 0)
-        return true;
-    unlink(address->sun_path);
-    return false;
-}
-
-/* Locks the folder of a path against others who listen in it, for whom it waits a second at most: anybody may hold such a lock.
- * Its descriptor, or -1: it cannot be opened, and is not locked. */
+/* Locks the folder of a path against others who remove in it what is left over. Anybody may hold such a lock, so it waits for a tenth of a
+ * second at most. Its descriptor, or -1: it cannot be opened, and is not locked. */
 static int lock_folder(const char *path)
 {
     const struct timespec pause = {0, 10000000};
@@ -78,22 +58,45 @@ static int lock_folder(const char *path)
         folder[length++] = '.';
     folder[length] = 0;
     fd = open(folder, O_RDONLY | O_DIRECTORY | O_CLOEXEC);
-    for (int tries = 0; fd >= 0 && tries < 100 && flock(fd, LOCK_EX | LOCK_NB); tries++)
+    for (int tries = 0; fd >= 0 && tries < 10 && flock(fd, LOCK_EX | LOCK_NB); tries++)
         nanosleep(&pause, NULL);
     return fd;
+}
+
+/* Binds a socket in place of one that was left over. Whoever else does so holds the same lock. */
+static bool take_over_path(int fd, const struct sockaddr_un *address)
+{
+    int lock = lock_folder(address->sun_path);
+    bool is_bound = false;
+    if (!is_left_over(address))
+        errno = EADDRINUSE;
+    else if (unlink(address->sun_path) == 0)
+        is_bound = bind(fd, (const struct sockaddr *)address, sizeof *address) == 0;
+    transport_close(lock);
+    return is_bound;
+}
+
+/* Makes the socket at its path, and listens. */
+static bool make_listening(struct listening *listening)
+{
+    const struct sockaddr_un *address = &listening->address;
+    int fd = listening->socket;
+    if (bind(fd, (const struct sockaddr *)address, sizeof *address) && (errno != EADDRINUSE || !take_over_path(fd, address)))
+        return false;
+    if (listen(fd, SOMAXCONN) == 0 && lstat(address->sun_path, &listening->made) == 0)
+        return true;
+    unlink(address->sun_path);
+    return false;
 }
 
 /* Makes a socket at the address of `listening`, and listens there. */
 static enum covretin_error listen_there(struct listening *listening)
 {
-    bool is_made;
-    int lock = lock_folder(listening->address.sun_path);
     listening->socket = socket(AF_UNIX, SOCK_STREAM | SOCK_CLOEXEC | SOCK_NONBLOCK, 0);
-    is_made = listening->socket >= 0 && make_listening(listening);
-    if (!is_made)
-        transport_close(listening->socket);
-    transport_close(lock);
-    return is_made ? COVRETIN_OK : COVRETIN_SOCKET_ERROR;
+    if (listening->socket >= 0 && make_listening(listening))
+        return COVRETIN_OK;
+    transport_close(listening->socket);
+    return COVRETIN_SOCKET_ERROR;
 }
 
 enum covretin_error covretin_listen(covretin_listener *listener, const char *path)
@@ -138,18 +141,24 @@ enum covretin_error covretin_listen_fd(covretin_listener *listener, int fd)
     return COVRETIN_OK;
 }
 
-/* Removes the path, if it is still what was made there. */
+/* Removes the path, if it is still what was made there. Nobody takes it over before the socket is closed. */
 static void remove_path(const struct listening *listening)
 {
     const char *path = listening->address.sun_path;
     struct stat found;
-    int lock;
-    if (path[0] == 0)
-        return;
-    lock = lock_folder(path);
     if (lstat(path, &found) == 0 && found.st_dev == listening->made.st_dev && found.st_ino == listening->made.st_ino)
         unlink(path);
-    transport_close(lock);
+}
+
+/* Hangs up on those who connected and were not accepted: closing the listening socket would drop what they sent. */
+static void hang_up_on_waiting(int listener)
+{
+    int fd = 0;
+    for (int count = 0; count <= SOMAXCONN && fd >= 0; count++) {
+        fd = accept4(listener, NULL, NULL, SOCK_CLOEXEC);
+        if (fd >= 0)
+            transport_close_socket(fd, true);
+    }
 }
 
 void covretin_unlisten(covretin_listener *listener)
@@ -157,7 +166,10 @@ void covretin_unlisten(covretin_listener *listener)
     struct listening *listening = listener->opaque;
     if (listening == NULL)
         return;
-    remove_path(listening);
+    if (listening->address.sun_path[0] != 0) {
+        remove_path(listening);
+        hang_up_on_waiting(listening->socket);
+    }
     transport_close(listening->socket);
     free(listening);
     listener->opaque = NULL;
@@ -197,7 +209,7 @@ static enum covretin_error end(void *session)
     return covretin_backend_end(session);
 }
 
-static const struct serving_side backend_side = {{missing, receive, to_send, true}, next, end};
+static const struct serving_side backend_side = {{missing, receive, to_send, NULL, true, false}, next, end};
 
 /* -- Frontends -- */
 
@@ -251,7 +263,7 @@ enum covretin_error covretin_accept(covretin_listener *listener, covretin_servic
         return error;
     error = covretin_serve_fd(service, fd);
     if (error)
-        transport_close(fd);
+        transport_close_socket(fd, true);
     return error;
 }
 

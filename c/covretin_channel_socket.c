@@ -21,7 +21,12 @@ static enum covretin_error to_send(void *channel, uint8_t *bytes, size_t bytes_l
     return covretin_channel_to_send(channel, bytes, bytes_len, fds, fds_len, byte_count, fd_count);
 }
 
-static const struct transport_side channel_side = {missing, receive, to_send, false};
+static enum covretin_error take_reply(void *channel)
+{
+    return covretin_channel_take(channel);
+}
+
+static const struct transport_side channel_side = {missing, receive, to_send, take_reply, false, true};
 
 enum covretin_error covretin_channel_connect_fd(covretin_channel_connection *connection, int fd)
 {
@@ -103,7 +108,7 @@ static enum covretin_error end(void *server)
     return covretin_channel_server_end(server);
 }
 
-static const struct serving_side server_side = {{server_missing, server_receive, server_to_send, true}, next, end};
+static const struct serving_side server_side = {{server_missing, server_receive, server_to_send, NULL, true, false}, next, end};
 
 enum covretin_error covretin_channel_serve_fd(covretin_channel_service *service, int fd)
 {

@@ -21,7 +21,12 @@ static enum covretin_error to_send(void *display, uint8_t *bytes, size_t bytes_l
     return covretin_display_to_send(display, bytes, bytes_len, fds, fds_len, byte_count, fd_count);
 }
 
-static const struct transport_side display_side = {missing, receive, to_send, false};
+static enum covretin_error take_reply(void *display)
+{
+    return covretin_display_take(display);
+}
+
+static const struct transport_side display_side = {missing, receive, to_send, take_reply, false, true};
 
 /* -- Connections -- */
 

@@ -69,13 +69,16 @@ static enum covretin_error receive_request(struct serving *serving, uint32_t *ca
     return error;
 }
 
-/* Sends what is to be sent, unless a request is under way, and lets go of the call before. */
+/* Sends what is to be sent, unless a request is under way, and lets go of the call before. A reply whose descriptors cannot be passed on
+ * is never sent, and whoever waits for it is to be hung up on. */
 static enum covretin_error send_before(struct serving *serving)
 {
     enum covretin_error error;
     if (serving->transport->begun && !serving->calling)
         return COVRETIN_OK;
     error = transport_send(serving->transport);
+    if (error == COVRETIN_INVALID_PARAM)
+        return COVRETIN_SOCKET_ERROR;
     if (error || !serving->calling)
         return error;
     serving->calling = false;

@@ -38,7 +38,12 @@ static enum covretin_error to_send(void *session, uint8_t *bytes, size_t bytes_l
     return covretin_to_send(session, bytes, bytes_len, fds, fds_len, byte_count, fd_count);
 }
 
-static const struct transport_side frontend_side = {missing, receive, to_send, false};
+static enum covretin_error take_reply(void *session)
+{
+    return covretin_take(session);
+}
+
+static const struct transport_side frontend_side = {missing, receive, to_send, take_reply, false, false};
 
 /* -- The reply -- */
 
@@ -168,7 +173,7 @@ enum covretin_error covretin_connect(covretin_connection *connection, const char
     if (!error)
         error = covretin_connect_fd(connection, fd, max_queue_num);
     if (error)
-        transport_close(fd);
+        transport_close_socket(fd, true);
     return error;
 }
 

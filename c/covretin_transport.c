@@ -1,34 +1,110 @@
 /* SPDX-License-Identifier: Apache-2.0 */
 /* What both sides of Covretin over a Unix socket share: see covretin_transport.h. */
 #ifndef _GNU_SOURCE
-#define _GNU_SOURCE /* for MSG_CMSG_CLOEXEC and SO_DOMAIN */
+#define _GNU_SOURCE /* for MSG_CMSG_CLOEXEC, SO_DOMAIN and struct ucred */
 #endif
 
 #include "covretin_transport.h"
 
 #include <errno.h>
+#include <limits.h>
 #include <poll.h>
 #include <stdlib.h>
 #include <string.h>
+#include <sys/ioctl.h>
 #include <sys/socket.h>
 #include <sys/uio.h>
 #include <sys/un.h>
 #include <time.h>
 #include <unistd.h>
 
+#ifndef SCM_PIDFD
+#define SCM_PIDFD 0x04 /* of Linux 6.5 */
+#endif
+
+/* As many descriptors as the system passes by one message. It would drop those for which there is no room, and wait where closing one
+ * waits. */
+enum { SYSTEM_MAX_FDS = 253 };
+
+/* What comes beside bytes: descriptors, and what whoever has a copy of the socket may have the system tell: the sender's credentials,
+ * security label and process, and the time. */
 union control {
     struct cmsghdr align;
-    char bytes[CMSG_SPACE(sizeof(int) * COVRETIN_MAX_FDS)];
+    char bytes[CMSG_SPACE(sizeof(int) * SYSTEM_MAX_FDS) + CMSG_SPACE(sizeof(struct ucred)) + CMSG_SPACE(NAME_MAX) +
+               CMSG_SPACE(sizeof(int)) + CMSG_SPACE(3 * sizeof(struct timespec))];
 };
 
 /* -- Descriptors -- */
 
+/* How many descriptors a control message brings: those that were sent, or one of the sender's process, which is negative where that is
+ * gone. Any other brings none. */
+static size_t fds_in(const struct cmsghdr *head)
+{
+    if (head->cmsg_level != SOL_SOCKET || (head->cmsg_type != SCM_RIGHTS && head->cmsg_type != SCM_PIDFD))
+        return 0;
+    return (head->cmsg_len - CMSG_LEN(0)) / sizeof(int);
+}
+
+static int fd_in(struct cmsghdr *head, size_t index)
+{
+    int fd;
+    memcpy(&fd, CMSG_DATA(head) + index * sizeof fd, sizeof fd);
+    return fd;
+}
+
 void transport_close(int fd)
 {
+    const struct linger off = {0, 0};
+    struct linger linger;
+    socklen_t size = sizeof linger;
     int was = errno;
-    if (fd >= 0)
+    if (fd >= 0) {
+        if (getsockopt(fd, SOL_SOCKET, SO_LINGER, &linger, &size) == 0 && linger.l_onoff != 0)
+            setsockopt(fd, SOL_SOCKET, SO_LINGER, &off, sizeof off);
         close(fd);
+    }
     errno = was;
+}
+
+/* Looks at the next bytes that wait in a socket, and ends the linger time of the sockets among their descriptors. How many bytes. */
+static ssize_t look_ahead(int socket)
+{
+    union control control;
+    uint8_t bytes[COVRETIN_MAX_MESSAGE];
+    struct iovec piece = {bytes, sizeof bytes};
+    struct msghdr message = {
+        .msg_iov = &piece, .msg_iovlen = 1, .msg_control = control.bytes, .msg_controllen = sizeof control.bytes};
+    ssize_t got = recvmsg(socket, &message, MSG_PEEK | MSG_CMSG_CLOEXEC | MSG_DONTWAIT);
+    if (got < 0)
+        return got;
+    for (struct cmsghdr *head = CMSG_FIRSTHDR(&message); head != NULL; head = CMSG_NXTHDR(&message, head))
+        for (size_t i = 0; i < fds_in(head); i++)
+            transport_close(fd_in(head, i));
+    return got;
+}
+
+/* The system drops what waits unread in a socket that is closed: after this the sockets among it do not make it wait. */
+static void calm_unread(int socket)
+{
+    const int on = 1, start = 0, nowhere = -1;
+    int unread = 0;
+    ssize_t seen = 1;
+    if (ioctl(socket, FIONREAD, &unread) || unread == 0 || setsockopt(socket, SOL_SOCKET, SO_OOBINLINE, &on, sizeof on) ||
+        setsockopt(socket, SOL_SOCKET, SO_PEEK_OFF, &start, sizeof start))
+        return;
+    for (; unread > 0 && seen > 0; unread -= (int)seen)
+        seen = look_ahead(socket);
+    setsockopt(socket, SOL_SOCKET, SO_PEEK_OFF, &nowhere, sizeof nowhere);
+}
+
+void transport_close_socket(int socket, bool is_ended)
+{
+    int was = errno;
+    if (is_ended)
+        shutdown(socket, SHUT_RD);
+    calm_unread(socket);
+    errno = was;
+    transport_close(socket);
 }
 
 static void close_all(const int32_t *fds, size_t *count)
@@ -88,6 +164,19 @@ static enum covretin_error reason(void)
     }
 }
 
+/* Why nothing was sent, by errno. OUT_OF_MEMORY: the system has no room for it now. INVALID_PARAM: it cannot pass the descriptors on. */
+static enum covretin_error reason_of_send(const struct transport *transport)
+{
+    switch (errno) {
+    case ENOMEM:
+    case ENOBUFS:
+    case ETOOMANYREFS: return COVRETIN_OUT_OF_MEMORY;
+    case EBADF:
+    case EINVAL: return transport->fd_count != 0 ? COVRETIN_INVALID_PARAM : COVRETIN_SOCKET_ERROR;
+    default: return reason();
+    }
+}
+
 /* Sends as many of these bytes as go without waiting, the descriptors with the first of them, and counts them off. 0: all of them. */
 static enum covretin_error send_bytes(struct transport *transport, const uint8_t **bytes, size_t *left)
 {
@@ -102,7 +191,7 @@ static enum covretin_error send_bytes(struct transport *transport, const uint8_t
         if (sent < 0 && errno == EINTR)
             continue;
         if (sent < 0)
-            return reason();
+            return reason_of_send(transport);
         *bytes += sent;
         *left -= (size_t)sent;
         transport->fd_count = 0;
@@ -155,21 +244,20 @@ static void take_over(struct transport *transport, int fd)
         transport_close(fd);
 }
 
-/* Takes the descriptors over that came with a piece. */
-static void gather(struct transport *transport, struct msghdr *message)
+/* Takes the descriptors over that were sent with a piece, and closes what the system added. Whether all are there, and no more than a
+ * message has. */
+static bool gather(struct transport *transport, struct msghdr *message)
 {
     struct cmsghdr *head;
-    for (head = CMSG_FIRSTHDR(message); head != NULL; head = CMSG_NXTHDR(message, head)) {
-        size_t count;
-        if (head->cmsg_level != SOL_SOCKET || head->cmsg_type != SCM_RIGHTS)
-            continue;
-        count = (head->cmsg_len - CMSG_LEN(0)) / sizeof(int);
-        for (size_t i = 0; i < count; i++) {
-            int fd;
-            memcpy(&fd, CMSG_DATA(head) + i * sizeof fd, sizeof fd);
-            take_over(transport, fd);
-        }
-    }
+    size_t sent = 0;
+    for (head = CMSG_FIRSTHDR(message); head != NULL; head = CMSG_NXTHDR(message, head))
+        for (size_t i = 0; i < fds_in(head); i++)
+            if (head->cmsg_type == SCM_RIGHTS) {
+                take_over(transport, fd_in(head, i));
+                sent++;
+            } else
+                transport_close(fd_in(head, i));
+    return sent <= COVRETIN_MAX_FDS && !(message->msg_flags & MSG_CTRUNC);
 }
 
 /* Notes the first bytes of a message, of those that came. */
@@ -203,9 +291,9 @@ static enum covretin_error receive_piece(struct transport *transport, size_t mos
     } while (got < 0 && errno == EINTR);
     if (got < 0)
         return reason();
-    gather(transport, &message);
+    bool has_all = gather(transport, &message);
     note_code(transport, (size_t)got);
-    if (message.msg_flags & MSG_CTRUNC)
+    if (!has_all)
         return COVRETIN_FDS_LOST;
     if (got == 0)
         return COVRETIN_DISCONNECTED;
@@ -254,19 +342,22 @@ enum covretin_error transport_receive(struct transport *transport)
 
 struct transport *transport_new(const struct transport_side *side, void *session, int socket)
 {
+    const int on = 1;
     struct transport *transport = calloc(1, sizeof *transport);
     if (transport == NULL)
         return NULL;
     transport->side = side;
     transport->session = session;
     transport->socket = socket;
+    /* the system would skip a byte out of band, and close itself what came with it */
+    setsockopt(socket, SOL_SOCKET, SO_OOBINLINE, &on, sizeof on);
     return transport;
 }
 
 void transport_free(struct transport *transport)
 {
     close_came(transport);
-    transport_close(transport->socket);
+    transport_close_socket(transport->socket, transport->broken && !transport->side->is_given);
     free(transport);
 }
 
@@ -330,6 +421,21 @@ enum covretin_error transport_wait(int socket, short events, int64_t end)
 
 /* -- Exchanges -- */
 
+/* Takes a request back whose descriptors cannot be passed on, so that nothing of it was sent: the session is handed what is no reply to
+ * it, and has asked nothing then. OUT_OF_MEMORY: it is still under way. */
+static enum covretin_error take_back(struct transport *transport)
+{
+    static const uint8_t no_reply[12] = {0};
+    int was = errno;
+    size_t missing = transport->side->missing(transport->session);
+    if (missing != 0 && transport->side->receive(transport->session, no_reply, missing, transport->fds, 0))
+        return COVRETIN_OUT_OF_MEMORY;
+    transport->side->take(transport->session);
+    transport->at = transport->end = transport->fd_count = transport->lent_len = 0;
+    errno = was;
+    return COVRETIN_INVALID_PARAM;
+}
+
 enum covretin_error transport_exchange_nowait(struct transport *transport, transport_take *takes, void *of, short *events)
 {
     enum covretin_error error = COVRETIN_OK;
@@ -342,6 +448,8 @@ enum covretin_error transport_exchange_nowait(struct transport *transport, trans
     if (!transport->begun) {
         wanted = POLLOUT;
         error = transport_send(transport);
+        if (error == COVRETIN_INVALID_PARAM)
+            return take_back(transport);
     }
     if (!error) {
         wanted = POLLIN;

@@ -12,7 +12,9 @@ struct transport_side {
     enum covretin_error (*receive)(void *session, const uint8_t *bytes, size_t bytes_len, const int32_t *fds, size_t fds_len);
     enum covretin_error (*to_send)(void *session, uint8_t *bytes, size_t bytes_len, int32_t *fds, size_t fds_len, size_t *byte_count,
                                    size_t *fd_count);
-    bool hears_late; /* is told of descriptors that come amid a message, too */
+    enum covretin_error (*take)(void *session); /* the reply; NULL where it serves */
+    bool hears_late;                            /* is told of descriptors that come amid a message, too */
+    bool is_given;                              /* its socket came from the peer, who may go on with it */
 };
 
 /* A message goes out whole before the next is read, so both ways use `bytes`. */
@@ -47,7 +49,8 @@ void transport_free(struct transport *transport);
 /* Bytes to be sent behind all that the session has to send now; they stay the caller's. */
 void transport_lend(struct transport *transport, const uint8_t *bytes, size_t bytes_len);
 
-/* Sends all that the session has to send, and what was lent. NOT_YET: the socket takes no more now. */
+/* Sends all that the session has to send, and what was lent. NOT_YET: the socket takes no more now. OUT_OF_MEMORY: nor does the system.
+ * INVALID_PARAM: it cannot pass the descriptors on, and nothing was sent. */
 enum covretin_error transport_send(struct transport *transport);
 
 /* Receives what the session misses, and hands it in. An allocation that fails leaves it here. NOT_YET: the socket has no more. */
@@ -76,8 +79,12 @@ enum covretin_error transport_settle(struct transport *transport, enum covretin_
 /* Whether one was noted; errno is then what it was. */
 bool transport_is_broken(const struct transport *transport);
 
-/* Closes a descriptor unless it is negative, and keeps errno. */
+/* Closes a descriptor unless it is negative, and keeps errno. The linger time of a socket is ended first: its close does not wait. */
 void transport_close(int fd);
+
+/* Closes a connection's socket, and keeps errno. Nor does this wait for the sockets that wait unread in it. Where the connection has ended,
+ * nothing more comes meanwhile; else whoever has the socket, too, goes on with it. */
+void transport_close_socket(int socket, bool is_ended);
 
 /* Whether this is a stream socket of the family AF_UNIX. */
 enum covretin_error transport_check_socket(int fd);

@@ -143,7 +143,7 @@ enum covretin_error {
 
     /* Of covretin_socket.h. */
     COVRETIN_TIMED_OUT = 201,    /* the limit of time passed */
-    COVRETIN_FDS_LOST = 202,     /* the system dropped descriptors: more came than a message has, or than the process may open */
+    COVRETIN_FDS_LOST = 202,     /* descriptors were dropped: more came than a message has, or than the process may open */
     COVRETIN_INVALID_PATH = 203  /* a socket's path that is empty, or too long */
 };
 

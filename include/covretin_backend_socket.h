@@ -31,6 +31,8 @@
  * What a reply was given: the caller's, as before. It has to stay open until covretin_send_reply succeeded, or a
  *   covretin_next_call that began after the reply returned anything but NOT_YET, TIMED_OUT and OUT_OF_MEMORY.
  *
+ * CLOSING what a frontend sent does not wait for the frontend. What covretin_socket.h says at that word holds here.
+ *
  * ERRORS are those of covretin.h. errno says more after SOCKET_ERROR, and after no other.
  */
 #ifndef COVRETIN_BACKEND_SOCKET_H
@@ -55,10 +57,10 @@ typedef struct covretin_service {
 
 /* -- Listening ----------------------------------------------------------------------------------------------------- */
 
-/* Makes a Unix socket at a path, and listens there. A socket that was left over, where nobody listens any more, is taken over;
- * anything else at the path stays, also a socket of a program that listens. SESSION_OPEN: the listener is there already.
- * INVALID_PATH. SOCKET_ERROR: the system failed; EADDRINUSE: the path is taken. OUT_OF_MEMORY. After an error nothing
- * changed. */
+/* Makes a Unix socket at a path, and listens there. A socket that was left over, which nobody has open any more, is taken over;
+ * anything else at the path stays. Where one was left over, and somebody holds a lock on its folder (flock), this waits for a
+ * tenth of a second. SESSION_OPEN: the listener is there already. INVALID_PATH. SOCKET_ERROR: the system failed; EADDRINUSE: the
+ * path is taken. OUT_OF_MEMORY. After an error nothing changed. */
 enum covretin_error covretin_listen(covretin_listener *listener, const char *path);
 
 /* The same with a Unix socket that listens already, as a service manager gives it. It is the listener's from then on, and does
@@ -67,7 +69,7 @@ enum covretin_error covretin_listen(covretin_listener *listener, const char *pat
 enum covretin_error covretin_listen_fd(covretin_listener *listener, int fd);
 
 /* Closes the socket, and removes its path, if that is still what covretin_listen made; the listener is {0} again. Services go
- * on. What is no listener stays so. */
+ * on. Frontends that wait to be accepted are hung up on. What is no listener stays so. */
 void covretin_unlisten(covretin_listener *listener);
 
 /* The listener's socket, for poll and its like: readable where a frontend waits. -1 where there is none. */
@@ -108,21 +110,25 @@ uint32_t covretin_service_request(const covretin_service *service);
  * NO_SESSION: there is no service. NOT_REPLIED: the call before is still to be replied to; until it is, each call returns this,
  *   and at once.
  * TIMED_OUT, OUT_OF_MEMORY: the next covretin_next_call goes on. A request that had come whole where memory failed is refused.
+ *   The latter also where the system has no room for what is to be sent (ENOMEM, ENOBUFS, ETOOMANYREFS).
  * DISCONNECTED, PARTIAL_MESSAGE, INVALID_MESSAGE: the frontend closed the socket, or ended: between two requests, in a header, in
- *   a body. SOCKET_ERROR: the system failed otherwise. FDS_LOST: the system dropped descriptors of the request. After these, any
- *   other INVALID_MESSAGE and SOCKET_BROKEN the service has ended: each further call returns the same, and the caller hangs up. */
+ *   a body. SOCKET_ERROR: the system failed otherwise, or cannot pass on a descriptor that the reply was given (errno is EBADF or
+ *   EINVAL), so that the frontend would wait for it in vain. FDS_LOST: more descriptors came at once than a message has, or than
+ *   the process may open. After these, any other INVALID_MESSAGE and SOCKET_BROKEN the service has ended: each further call returns
+ *   the same, and the caller hangs up. */
 enum covretin_error covretin_next_call(covretin_service *service, uint32_t *call, int milliseconds);
 
-/* The same for an event loop: never waits. NOT_YET: *events says what the socket has to be ready for, POLLIN or POLLOUT (of
- * poll.h; EPOLLIN and EPOLLOUT are the same numbers); call it again then. After anything else *events is 0. It returns no
- * TIMED_OUT; all else as above. Where it returned 0 or refused a request, another one may be there already. */
+/* The same for an event loop: never waits, but for what CLOSING says of the system. NOT_YET: *events says what the socket has to
+ * be ready for, POLLIN or POLLOUT (of poll.h; EPOLLIN and EPOLLOUT are the same numbers); call it again then. After anything else
+ * *events is 0. It returns no TIMED_OUT; all else as above. Where it returned 0 or refused a request, another one may be there
+ * already. */
 enum covretin_error covretin_next_call_nowait(covretin_service *service, uint32_t *call, short *events);
 
 /* Sends the reply, for a device that must know that it is gone before it goes on: covretin_next_call does it otherwise.
  * NO_SESSION, NOT_REPLIED, TIMED_OUT, OUT_OF_MEMORY and the errors that end the service: as above. */
 enum covretin_error covretin_send_reply(covretin_service *service, int milliseconds);
 
-/* The same for an event loop: never waits. NOT_YET, *events: as above. */
+/* The same for an event loop: never waits, but for what CLOSING says of the system. NOT_YET, *events: as above. */
 enum covretin_error covretin_send_reply_nowait(covretin_service *service, short *events);
 
 /* Hands over a descriptor that covretin_call_.. gives of the call that is to be replied to: from then on it is the caller's to

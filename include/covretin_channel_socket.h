@@ -20,8 +20,8 @@
  *     covretin_channel_hang_up(&device);
  *
  * What covretin_socket.h says of a connection, and covretin_backend_socket.h of a service, holds of these: who owns the
- * socket, the session and each descriptor; signals, limits of time and errors. A device is sent no descriptor: all that come are
- * closed. The caller passes &connection.channel to covretin_channel_set_.. and covretin_channel_ask_.., and &service.server to
+ * socket, the session and each descriptor; signals, closing, limits of time and errors. A device is sent no descriptor: all that
+ * come are closed. The caller passes &connection.channel to covretin_channel_set_.. and covretin_channel_ask_.., and &service.server to
  * covretin_channel_server_set_reply_ack, covretin_channel_call_.. and covretin_channel_reply_.., and to nothing else.
  */
 #ifndef COVRETIN_CHANNEL_SOCKET_H

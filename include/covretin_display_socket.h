@@ -11,7 +11,7 @@
  *     covretin_display_disconnect(&screen);
  *
  * What covretin_socket.h says of a connection holds of these: who owns the socket, the session and each descriptor that an ask was
- * given; signals, limits of time and errors. A device is sent no descriptor: all that come are closed. The caller passes
+ * given; signals, closing, limits of time and errors. A device is sent no descriptor: all that come are closed. The caller passes
  * &connection.display to covretin_display_ask_.. and to the takes that give a value, and to nothing else; but the two asks whose
  * pixels the caller would send, covretin_display_ask_update_scanout and covretin_display_ask_cursor_update, are not for it.
  *

@@ -27,7 +27,14 @@
  *   hands it over to the caller, who closes it then. The number that covretin_answer_fd or covretin_answer_inflight gives is
  *   only lent before that.
  *
- * ERRORS are those of covretin.h. errno says more after SOCKET_ERROR and SOCKET_CONNECT, and after no other.
+ * CLOSING what a peer sent does not wait for the peer. A socket loses its linger time (SO_LINGER) first, for whoever else has it
+ *   open, too; so do those that wait unread in the connection's socket. The system may wait all the same: to close a file whose
+ *   file system is held up, as one that the peer serves (FUSE); to drop a descriptor where the process may open no more; and for
+ *   what waits unread in a socket that the peer sent. Who cannot have that serves each peer from a process of its own. What was
+ *   claimed the caller closes, and does likewise.
+ *
+ * ERRORS are those of covretin.h. errno says more after SOCKET_ERROR, SOCKET_CONNECT and an exchange's INVALID_PARAM, and after no
+ *   other.
  */
 #ifndef COVRETIN_SOCKET_H
 #define COVRETIN_SOCKET_H
@@ -68,16 +75,20 @@ int covretin_connection_fd(const covretin_connection *connection);
  * 0: what can be done at once; negative: none. Returns what covretin_take returns, or:
  * NO_SESSION: there is no connection.
  * NOTHING_ASKED: no ask succeeded since the last exchange.
- * TIMED_OUT, OUT_OF_MEMORY: the call is still under way, and the next exchange goes on with it. Where memory failed at its
- *   very end that one returns NOTHING_ASKED, and the call is lost.
+ * TIMED_OUT, OUT_OF_MEMORY: the call is still under way, and the next exchange goes on with it. The latter also where the
+ *   system has no room for what is to be sent (ENOMEM, ENOBUFS, ETOOMANYREFS). Where memory failed at its very end that one
+ *   returns NOTHING_ASKED, and the call is lost.
+ * INVALID_PARAM: the system cannot pass on a descriptor that the ask was given: it is not open (errno is EBADF), or not of a kind
+ *   that can be sent (EINVAL). Nothing was sent, nothing is asked any more, and the connection goes on.
  * DISCONNECTED: the backend closed the socket, or ended, also amid its reply. SOCKET_ERROR: the system failed otherwise.
- *   FDS_LOST: the system dropped descriptors of the reply. After these three, INVALID_MESSAGE and SOCKET_BROKEN the connection is
- *   of no more use: each further exchange returns the same, and the caller disconnects. No descriptor of that reply is left open. */
+ *   FDS_LOST: more descriptors came at once than a message has, or than the process may open. After these three, INVALID_MESSAGE
+ *   and SOCKET_BROKEN the connection is of no more use: each further exchange returns the same, and the caller disconnects. No
+ *   descriptor of that reply is left open. */
 enum covretin_error covretin_exchange(covretin_connection *connection, int milliseconds);
 
-/* The same for an event loop: never waits. NOT_YET: the call is under way, and *events says what the socket has to be ready
- * for, POLLIN or POLLOUT (of poll.h; EPOLLIN and EPOLLOUT are the same numbers); call it again then. After anything else
- * *events is 0. It returns no TIMED_OUT; all else as above. */
+/* The same for an event loop: never waits, but for what CLOSING says of the system. NOT_YET: the call is under way, and *events
+ * says what the socket has to be ready for, POLLIN or POLLOUT (of poll.h; EPOLLIN and EPOLLOUT are the same numbers); call it
+ * again then. After anything else *events is 0. It returns no TIMED_OUT; all else as above. */
 enum covretin_error covretin_exchange_nowait(covretin_connection *connection, short *events);
 
 /* Hands over the descriptor of the reply that was taken last, of get_shared_object, postcopy_advise, set_device_state_fd or

@@ -2,22 +2,35 @@
 # Which fuzzers there are, and how one is compiled: what ./test-c and ./vhost-fuzz share. They set `top`, and `proved`, the parts of the proved
 # library.
 
-# The sessions that have one: both sides', both joined; both ends' of the backend channel, both joined; and the device's on the
-# vhost-user-gpu channel.
-fuzzed='asking serving joined channel_asking channel_serving channel_joined display'
+# The sessions that have one: both sides', both joined; both ends' of the backend channel, both joined; the device's on the
+# vhost-user-gpu channel; and both sides' over their sockets.
+fuzzed='asking serving joined channel_asking channel_serving channel_joined display sockets'
 
 # The sources of a session's fuzzer, without what makes it a program.
 fuzzer_sources() {
     case $1 in
-    asking) names='asking asks' ;;
-    serving) names='serving serves' ;;
-    joined) names='joined asks serves' ;;
-    channel_asking) names='channel_asking channel_asks' ;;
-    channel_serving) names='channel_serving channel_serves' ;;
-    channel_joined) names='channel_joined channel_asks channel_serves' ;;
-    *) names=$1 ;;
+    asking) names='run asking asks' ;;
+    serving) names='run serving serves' ;;
+    joined) names='run joined asks serves' ;;
+    channel_asking) names='run channel_asking channel_asks' ;;
+    channel_serving) names='run channel_serving channel_serves' ;;
+    channel_joined) names='run channel_joined channel_asks channel_serves' ;;
+    sockets)
+        names='sockets asks serves'
+        for glue in socket backend_socket channel_socket display_socket serving transport text; do echo "$top/c/covretin_$glue.c"; done
+        echo "$top/c/tests/peer.c" "$top/c/tests/testing.c"
+        ;;
+    *) names="run $1" ;;
     esac
-    for name in $names run; do echo "$top/c/fuzz/$name.c"; done
+    for name in $names; do echo "$top/c/fuzz/$name.c"; done
+}
+
+# What else it is compiled with: allocations that fail, or a peer.
+fuzzer_flags() {
+    case $1 in
+    sockets) echo "-I$top/c/tests" ;;
+    *) echo -Wl,--wrap=malloc,--wrap=calloc,--wrap=realloc ;;
+    esac
 }
 
 # Compiles it to a file, by this compiler, with these flags and sources more.
@@ -27,5 +40,5 @@ compile_fuzzer() {
     compiler=$3
     shift 3
     "$compiler" -std=gnu11 -g -O1 -Wall -Wextra -pedantic -Werror -fno-sanitize-recover=all -I"$top/include" -o "$to" "$@" \
-        -Wl,--wrap=malloc,--wrap=calloc,--wrap=realloc $(fuzzer_sources "$session") $proved
+        $(fuzzer_flags "$session") $(fuzzer_sources "$session") $proved
 }

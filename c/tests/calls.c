@@ -8,6 +8,7 @@
 #include "testing.h"
 
 #include <errno.h>
+#include <fcntl.h>
 #include <poll.h>
 #include <string.h>
 #include <sys/socket.h>
@@ -180,7 +181,7 @@ static void connects_where_it_was_interrupted(void)
 /* Each system call of a call fails: the error, its errno, and the same again from then on. */
 static void each_call_fails(void)
 {
-    const int causes[] = {EIO, ENOBUFS, EBADF, ECONNRESET, EPIPE};
+    const int causes[] = {EIO, EACCES, EBADF, ECONNRESET, EPIPE};
     for (size_t i = 0; i < sizeof causes / sizeof causes[0]; i++)
         for (int before = 0; before < 4; before++) {
             int peer = pair_up(&device, 2), file = file_of("sent");
@@ -205,6 +206,110 @@ static void each_call_fails(void)
             close(file);
             close(peer);
         }
+}
+
+/* -- Sends that send nothing -- */
+
+/* Nothing of a request is sent since the system has no room for it: the call is still under way, and goes out by the next exchange. */
+static void sends_once_there_is_room(void)
+{
+    const int causes[] = {ENOMEM, ENOBUFS, ETOOMANYREFS};
+    for (size_t i = 0; i < 2 * sizeof causes / sizeof causes[0]; i++) {
+        int peer = pair_up(&device, 2), file = file_of("sent");
+        const covretin_region regions[2] = {{.memory_size = 4096, .fd = file}, {.memory_size = 4096, .fd = file}};
+        struct request request;
+        negotiate(&device, peer, COVRETIN_PROTOCOL_INFLIGHT_SHMFD);
+        EXPECT(COVRETIN_OK, covretin_ask_set_mem_table(session, regions, 2));
+        cause = causes[i / 2];
+        for (int time = 0; time < 2; time++) {
+            until_failure = 0;
+            EXPECT(COVRETIN_OUT_OF_MEMORY, covretin_exchange(&device, LIMIT));
+            EXPECT(-1, recv(peer, request.body, 1, MSG_DONTWAIT));
+            EXPECT(COVRETIN_NOT_TAKEN, covretin_ask_set_owner(session));
+        }
+        shortens = i % 2;
+        EXPECT(COVRETIN_OK, covretin_exchange(&device, LIMIT));
+        shortens = false;
+        EXPECT(true, hear(peer, &request));
+        EXPECT(true, request.code == 5 && request.size == 72 && request.fd_count == 2);
+        both_ways(peer, file);
+        covretin_disconnect(&device);
+        close(file);
+        close(peer);
+    }
+}
+
+/* Asks by each call that is given a descriptor. */
+enum { ASKS_WITH_A_DESCRIPTOR = 10 };
+
+static enum covretin_error ask_with(int which, int fd)
+{
+    const covretin_region region = {.memory_size = 4096, .fd = fd};
+    const covretin_inflight region_of_rings = {.mmap_size = 4096, .num_queues = 1, .queue_size = 64};
+    switch (which) {
+    case 0: return covretin_ask_set_mem_table(session, &region, 1);
+    case 1: return covretin_ask_add_mem_region(session, &region);
+    case 2: return covretin_ask_set_log_base(session, 0, &region);
+    case 3: return covretin_ask_set_log_fd(session, fd);
+    case 4: return covretin_ask_set_vring_call(session, 0, fd);
+    case 5: return covretin_ask_set_vring_kick(session, 0, fd);
+    case 6: return covretin_ask_set_vring_err(session, 0, fd);
+    case 7: return covretin_ask_set_backend_request_fd(session, fd);
+    case 8: return covretin_ask_set_inflight_fd(session, &region_of_rings, fd);
+    default: return covretin_ask_set_device_state_fd(session, 0, 0, fd);
+    }
+}
+
+/* A reply's descriptor, which nobody claimed yet. */
+static void keep_one(int peer, int file)
+{
+    EXPECT(COVRETIN_OK, covretin_ask_get_inflight_fd(session, &asked));
+    reply(peer, GET_INFLIGHT_FD, inflight, sizeof inflight, &file, 1);
+    EXPECT(COVRETIN_OK, covretin_exchange(&device, LIMIT));
+}
+
+/* A descriptor that is not open, or of a kind that the system does not pass on, given to each call: nothing is sent, and nothing is asked
+ * any more. */
+static void expect_taken_back(int peer, int gone, int file)
+{
+    uint8_t byte;
+    for (int which = 0; which < 2 * ASKS_WITH_A_DESCRIPTOR; which++) {
+        bool is_open = which >= ASKS_WITH_A_DESCRIPTOR;
+        EXPECT(COVRETIN_OK, ask_with(which % ASKS_WITH_A_DESCRIPTOR, is_open ? file : gone));
+        cause = EINVAL;
+        until_failure = is_open ? 0 : -1;
+        EXPECT(COVRETIN_INVALID_PARAM, covretin_exchange(&device, LIMIT));
+        EXPECT(is_open ? EINVAL : EBADF, errno);
+        EXPECT(-1, recv(peer, &byte, 1, MSG_DONTWAIT));
+        EXPECT(COVRETIN_NOTHING_ASKED, covretin_exchange(&device, LIMIT));
+    }
+}
+
+/* With and without acknowledgements, by both profiles: the connection goes on. */
+static void takes_back_what_cannot_be_sent(void)
+{
+    for (int way = 0; way < 4; way++) {
+        int peer = pair_up(&device, 2), file = file_of("sent"), gone = fcntl(file, F_DUPFD, 500);
+        struct request request;
+        int32_t fd = -1;
+        close(gone);
+        negotiate(&device, peer, COVRETIN_ASKED_PROTOCOL_FEATURES);
+        EXPECT(COVRETIN_OK, covretin_set_profile(session, way & 1 ? COVRETIN_PROFILE_VHOST : COVRETIN_PROFILE_STANDARD));
+        EXPECT(COVRETIN_OK, covretin_set_hdr_flags(session, way & 2 ? COVRETIN_NEED_REPLY : 0));
+        keep_one(peer, file);
+        EXPECT(true, hear(peer, &request));
+        size_t before = open_fds();
+        expect_taken_back(peer, gone, file);
+        EXPECT(before, open_fds());
+        EXPECT(COVRETIN_OK, covretin_claim_fd(&device, &fd));
+        EXPECT(true, holds(fd, "sent"));
+        close(fd);
+        EXPECT(COVRETIN_OK, covretin_set_hdr_flags(session, 0));
+        both_ways(peer, file);
+        covretin_disconnect(&device);
+        close(file);
+        close(peer);
+    }
 }
 
 /* A number that did not come with the reply is never handed over, nor closed, whatever the session says. */
@@ -233,6 +338,8 @@ int main(void)
     RUN(goes_on_where_it_was_stopped);
     RUN(connects_where_it_was_interrupted);
     RUN(each_call_fails);
+    RUN(sends_once_there_is_room);
+    RUN(takes_back_what_cannot_be_sent);
     RUN(believes_no_session);
     return status();
 }

@@ -212,6 +212,28 @@ static void lacks_features(void)
     disconnect_both();
 }
 
+/* A descriptor that is not open: nothing is sent, nothing is asked any more, and the channel goes on. */
+static void takes_back_what_cannot_be_sent(void)
+{
+    enum covretin_error (*const asks[])(void) = {shmem_map, object_lookup};
+    for (int acks = 0; acks < 2; acks++) {
+        connect_both(acks);
+        int sent = file;
+        file = dup(sent);
+        close(file);
+        for (size_t i = 0; i < 4; i++) {
+            EXPECT(COVRETIN_OK, asks[i % 2]());
+            EXPECT(COVRETIN_INVALID_PARAM, covretin_channel_exchange(&vmm, LIMIT));
+            EXPECT(EBADF, errno);
+            EXPECT(COVRETIN_NOTHING_ASKED, covretin_channel_exchange(&vmm, LIMIT));
+            EXPECT(COVRETIN_NOT_YET, covretin_channel_next_call_nowait(&device, &call, &events));
+        }
+        file = sent;
+        expect_all(shmem_map, COVRETIN_CHANNEL_CALL_SHMEM_MAP, sees_map, acks);
+        disconnect_both();
+    }
+}
+
 static void out_of_turn(void)
 {
     connect_both(true);
@@ -391,6 +413,7 @@ int main(void)
 {
     RUN(each_request);
     RUN(lacks_features);
+    RUN(takes_back_what_cannot_be_sent);
     RUN(out_of_turn);
     RUN(without_channel);
     RUN(refuses_replies);

@@ -126,6 +126,29 @@ static void with_buffer(void)
     disconnect(peer);
 }
 
+/* Where it is not open nothing is sent, nothing is asked any more, and the channel goes on. */
+static void without_buffer(void)
+{
+    const struct screen_call *last = NULL;
+    uint8_t byte;
+    int peer = connected();
+    for (const struct screen_call *call = NULL; (call = next_call(call, false)) != NULL;) {
+        EXPECT(COVRETIN_OK, call->ask(display));
+        if (call->fd < 0) {
+            EXPECT(COVRETIN_OK, covretin_display_exchange(&screen, LIMIT));
+            expect_heard(peer, call);
+            continue;
+        }
+        EXPECT(COVRETIN_INVALID_PARAM, covretin_display_exchange(&screen, LIMIT));
+        EXPECT(EBADF, errno);
+        EXPECT(COVRETIN_NOTHING_ASKED, covretin_display_exchange(&screen, 0));
+        EXPECT(-1, recv(peer, &byte, 1, MSG_DONTWAIT));
+        last = call;
+    }
+    EXPECT(true, last != NULL);
+    disconnect(peer);
+}
+
 static void with_reply(void)
 {
     int peer = connected();
@@ -435,6 +458,7 @@ int main(void)
 {
     RUN(without_reply);
     RUN(with_buffer);
+    RUN(without_buffer);
     RUN(with_reply);
     RUN(byte_by_byte);
     RUN(without_display);

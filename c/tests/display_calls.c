@@ -40,6 +40,7 @@ static int interruption;       /* why every other one fails: EINTR; or EAGAIN, b
 static bool shortens;          /* a few bytes at a time */
 static int until_failure = -1; /* so many succeed before one fails; negative: all do */
 static int cause;              /* with this errno */
+static bool only_sends;        /* that one is of those that send */
 static int until_no_memory = -1;
 
 static bool is_of_screen(int fd)
@@ -77,7 +78,7 @@ ssize_t __wrap_sendmsg(int fd, const struct msghdr *message, int flags)
 
 ssize_t __wrap_recvmsg(int fd, struct msghdr *message, int flags)
 {
-    if (stopped(fd))
+    if (!only_sends && stopped(fd))
         return -1;
     if (shortens && is_of_screen(fd) && message->msg_iov[0].iov_len > FEW)
         message->msg_iov[0].iov_len = FEW;
@@ -86,7 +87,7 @@ ssize_t __wrap_recvmsg(int fd, struct msghdr *message, int flags)
 
 int __wrap_poll(struct pollfd *polled, nfds_t count, int milliseconds)
 {
-    return interruption != EAGAIN && stopped(polled[0].fd) ? -1 : __real_poll(polled, count, milliseconds);
+    return interruption != EAGAIN && !only_sends && stopped(polled[0].fd) ? -1 : __real_poll(polled, count, milliseconds);
 }
 
 static bool lacks_memory(void)
@@ -219,7 +220,7 @@ static void goes_on_where_it_was_stopped(void)
 /* Each call of the system fails in turn, those that send pixels, too. */
 static void each_call_fails(void)
 {
-    const int causes[] = {EIO, ENOBUFS, ECONNRESET, EPIPE};
+    const int causes[] = {EIO, EACCES, ECONNRESET, EPIPE};
     for (size_t i = 0; i < sizeof causes / sizeof causes[0]; i++)
         for (int before = 0; before < 1000; before++) {
             bool is_end = causes[i] == ECONNRESET || causes[i] == EPIPE;
@@ -243,6 +244,26 @@ static void each_call_fails(void)
                 break;
             EXPECT(true, before < 100);
         }
+}
+
+/* Where the system has no room for bytes, amid pixels too, they go out by the next exchange. */
+static void sends_once_there_is_room(void)
+{
+    bool none_failed = false;
+    cause = ENOBUFS;
+    only_sends = shortens = true;
+    for (int before = 0; !none_failed; before++) {
+        int peer = connected();
+        reply_to_all(peer);
+        until_failure = before;
+        EXPECT(COVRETIN_OK, life());
+        none_failed = until_failure >= 0;
+        until_failure = -1;
+        expect_heard(peer);
+        covretin_display_disconnect(&screen);
+        close(peer);
+    }
+    only_sends = shortens = false;
 }
 
 /* Where a device waits for the display, and the system fails. */
@@ -289,6 +310,7 @@ int main(void)
         pixels[i] = (uint8_t)(200 - i);
     RUN(goes_on_where_it_was_stopped);
     RUN(each_call_fails);
+    RUN(sends_once_there_is_room);
     RUN(waiting_fails);
     RUN(each_allocation_fails_once);
     return status();

@@ -326,6 +326,9 @@ static void connects_again(void)
 
 /* -- Anything -- */
 
+static int far_ends[6]; /* of the sockets whose close would wait */
+static size_t far_count;
+
 static uint32_t random_state = 2026;
 
 static uint32_t any(uint32_t below)
@@ -365,8 +368,21 @@ static const struct call calls[] = {{GET_FEATURES, 8, get_features},
                                     {GET_SHARED_OBJECT, 0, get_shared_object},
                                     {POSTCOPY_ADVISE, 0, postcopy_advise}};
 
+/* Sends a header, of whose descriptors the second may be of a socket whose close would wait, and is nobody's else then. */
+static void say_slowly(int peer, uint32_t code, uint32_t flags, uint32_t size, int *fds, size_t fd_count)
+{
+    int file = fds[1];
+    bool is_slow = fd_count > 1 && any(4) == 0;
+    if (is_slow)
+        fds[1] = slow_to_close(&far_ends[far_count++]);
+    say_header(peer, code, flags, size, fds, fd_count);
+    if (is_slow)
+        close(fds[1]);
+    fds[1] = file;
+}
+
 /* Sends a reply to a call, or something like it: each part of it may be another's, or none. */
-static void say_anything(int peer, const struct call *call, const int *fds)
+static void say_anything(int peer, const struct call *call, int *fds)
 {
     static const uint32_t sizes[] = {0, 7, 8, 9, 24, 40, 4096, 4097, 0xffffffff};
     const struct call *other = &calls[any(4)];
@@ -375,14 +391,14 @@ static void say_anything(int peer, const struct call *call, const int *fds)
     for (size_t i = 20; i < sizeof bytes; i++)
         bytes[i] = (uint8_t)any(256);
     if (any(16) != 0)
-        say_header(peer, any(6) != 0 ? call->code : other->code, any(16) != 0 ? REPLY_FLAGS : any(16),
+        say_slowly(peer, any(6) != 0 ? call->code : other->code, any(16) != 0 ? REPLY_FLAGS : any(16),
                    any(4) != 0 ? call->size : sizes[any(9)], fds, any(3) == 0 ? any(34) : 1);
     if (count != 0)
         say(peer, bytes, count, fds, any(6) == 0 ? any(34) : 0);
 }
 
-/* Backends that send anything, in any pieces, with any descriptors: what is claimed is a file that was sent, and after each
- * connection as many descriptors are open as before. */
+/* Backends that send anything, in any pieces, with any descriptors: what is claimed is a file that was sent, nothing waits, and after
+ * each connection as many descriptors are open as before. Of some the system tells all that it can. */
 static void anything(void)
 {
     int fds[33], claimed = 0, refused = 0;
@@ -392,6 +408,9 @@ static void anything(void)
         size_t before = open_fds();
         int peer = pair_up(&device, 2);
         negotiate(&device, peer, COVRETIN_ASKED_PROTOCOL_FEATURES);
+        if (any(4) == 0)
+            tell_all(covretin_connection_fd(&device));
+        has_waited();
         for (int call = 0; call < 6; call++) {
             const struct call *asked_call = &calls[any(4)];
             int32_t fd = -1;
@@ -406,6 +425,9 @@ static void anything(void)
             }
         }
         covretin_disconnect(&device);
+        EXPECT(false, has_waited());
+        while (far_count != 0)
+            close(far_ends[--far_count]);
         close(peer);
         EXPECT(before, open_fds());
     }

@@ -258,6 +258,9 @@ static void more_than_may_be_open(void)
 
 /* -- Anything -- */
 
+static int far_ends[6]; /* of the sockets whose close would wait */
+static size_t far_count;
+
 static uint32_t random_state = 2026;
 
 static uint32_t any(uint32_t below)
@@ -272,8 +275,21 @@ static const uint8_t sizes[CODES] = {[2] = 8,   [5] = 40,  [6] = 16,  [8] = 8,  
                                      [32] = 24, [37] = 40, [38] = 40, [41] = 16, [42] = 8};
 static const uint8_t fd_counts[CODES] = {[5] = 1, [6] = 1, [12] = 1, [13] = 1, [14] = 1, [21] = 1, [32] = 1, [33] = 1, [37] = 1, [42] = 1};
 
+/* Sends a header, of whose descriptors the second may be of a socket whose close would wait, and is nobody's else then. */
+static void say_slowly(int peer, uint32_t code, uint32_t flags, uint32_t size, int *fds, size_t fd_count)
+{
+    int file = fds[1];
+    bool is_slow = fd_count > 1 && any(4) == 0;
+    if (is_slow)
+        fds[1] = slow_to_close(&far_ends[far_count++]);
+    say_header(peer, code, flags, size, fds, fd_count);
+    if (is_slow)
+        close(fds[1]);
+    fds[1] = file;
+}
+
 /* Sends a request, or something like it. */
-static void say_anything(int peer, const int *fds)
+static void say_anything(int peer, int *fds)
 {
     static const uint32_t others[] = {0, 7, 8, 12, 16, 20, 24, 40, 72, 4096, 4097, 0xffffffff};
     uint32_t code = 1 + any(CODES - 1), size = any(16) != 0 ? sizes[code] : others[any(12)];
@@ -282,7 +298,7 @@ static void say_anything(int peer, const int *fds)
     for (size_t i = 8; i < sizeof bytes; i++)
         bytes[i] = any(8) == 0 ? (uint8_t)any(256) : 0;
     bytes[9 + 8] = 16;
-    say_header(peer, code, any(32) != 0 ? REQUEST_FLAGS | any(2) * 8 : any(16), size, fds, any(8) == 0 ? any(33) : fd_counts[code]);
+    say_slowly(peer, code, any(32) != 0 ? REQUEST_FLAGS | any(2) * 8 : any(16), size, fds, any(8) == 0 ? any(33) : fd_counts[code]);
     if (count != 0)
         say(peer, bytes, count, fds, any(32) == 0 ? any(33) : 0);
 }
@@ -297,6 +313,7 @@ static void answer_anything(void)
     while (error == COVRETIN_OTHER_CALL || error == COVRETIN_INVALID_PARAM);
 }
 
+/* Frontends that send anything. Nothing waits, and of some the system tells all that it can. */
 static void anything(void)
 {
     int fds[33], calls = 0, refused = 0;
@@ -308,6 +325,9 @@ static void anything(void)
         short events;
         int peer = served_pair();
         accept_features(peer, any(4) != 0 ? COVRETIN_SERVED_PROTOCOL_FEATURES : any(1 << 20));
+        if (any(4) == 0)
+            tell_all(covretin_service_fd(&service));
+        has_waited();
         for (int i = 0; i < 6 && !covretin_service_ended(&service); i++) {
             enum covretin_error error;
             say_anything(peer, fds);
@@ -321,6 +341,9 @@ static void anything(void)
                 }
         }
         covretin_hang_up(&service);
+        EXPECT(false, has_waited());
+        while (far_count != 0)
+            close(far_ends[--far_count]);
         close(peer);
         EXPECT(before, open_fds());
     }

@@ -5,17 +5,21 @@
 #include "peer.h"
 #include "testing.h"
 
+#include <arpa/inet.h>
+#include <netinet/in.h>
 #include <string.h>
 #include <sys/mman.h>
 #include <sys/socket.h>
 #include <sys/uio.h>
 #include <unistd.h>
 
-enum { MOST_FDS = 253 }; /* as many as the system takes in a message */
+#ifndef SO_PASSPIDFD
+#define SO_PASSPIDFD 76
+#endif
 
 union control {
     struct cmsghdr align;
-    char bytes[CMSG_SPACE(sizeof(int) * MOST_FDS)];
+    char bytes[CMSG_SPACE(sizeof(int) * SYSTEM_MAX_FDS)];
 };
 
 int pair_up(covretin_connection *connection, uint64_t max_queue_num)
@@ -27,7 +31,7 @@ int pair_up(covretin_connection *connection, uint64_t max_queue_num)
     return ends[1];
 }
 
-void say(int peer, const void *bytes, size_t count, const int *fds, size_t fd_count)
+static void say_so(int peer, const void *bytes, size_t count, const int *fds, size_t fd_count, int flags)
 {
     static union control control;
     struct iovec piece = {(void *)(uintptr_t)bytes, count};
@@ -42,8 +46,18 @@ void say(int peer, const void *bytes, size_t count, const int *fds, size_t fd_co
         head->cmsg_len = CMSG_LEN(sizeof(int) * fd_count);
         memcpy(CMSG_DATA(head), fds, sizeof(int) * fd_count);
     }
-    if (sendmsg(peer, &message, MSG_NOSIGNAL) != (ssize_t)count)
+    if (sendmsg(peer, &message, MSG_NOSIGNAL | flags) != (ssize_t)count)
         give_up("sendmsg of the peer");
+}
+
+void say(int peer, const void *bytes, size_t count, const int *fds, size_t fd_count)
+{
+    say_so(peer, bytes, count, fds, fd_count, 0);
+}
+
+void say_urgently(int peer, int fd)
+{
+    say_so(peer, "!", 1, &fd, 1, MSG_OOB);
 }
 
 static void put(uint8_t *bytes, uint32_t number)
@@ -149,4 +163,44 @@ bool holds(int fd, const char *text)
 {
     char found[64] = {0};
     return pread(fd, found, sizeof found - 1, 0) >= 0 && strncmp(found, text, strlen(text)) == 0;
+}
+
+/* A pair of sockets over the network of this machine, with little room for bytes. */
+static void pair_by_network(int *near, int *far)
+{
+    struct sockaddr_in address = {.sin_family = AF_INET, .sin_addr.s_addr = htonl(INADDR_LOOPBACK)};
+    socklen_t size = sizeof address;
+    const int little = 1;
+    int listener = socket(AF_INET, SOCK_STREAM | SOCK_CLOEXEC, 0);
+    *near = socket(AF_INET, SOCK_STREAM | SOCK_CLOEXEC, 0);
+    setsockopt(listener, SOL_SOCKET, SO_RCVBUF, &little, sizeof little);
+    setsockopt(*near, SOL_SOCKET, SO_SNDBUF, &little, sizeof little);
+    if (bind(listener, (struct sockaddr *)&address, sizeof address) || listen(listener, 1) ||
+        getsockname(listener, (struct sockaddr *)&address, &size) || connect(*near, (struct sockaddr *)&address, size))
+        give_up("a pair of sockets over the network");
+    *far = accept4(listener, NULL, NULL, SOCK_CLOEXEC);
+    close(listener);
+}
+
+int slow_to_close(int *far)
+{
+    static const uint8_t bytes[4096];
+    const struct linger long_time = {1, 3};
+    int near;
+    pair_by_network(&near, far);
+    while (send(near, bytes, sizeof bytes, MSG_DONTWAIT | MSG_NOSIGNAL) > 0)
+        ;
+    if (setsockopt(near, SOL_SOCKET, SO_LINGER, &long_time, sizeof long_time))
+        give_up("SO_LINGER");
+    return near;
+}
+
+bool tell_all(int socket)
+{
+    const int on = 1;
+    if (setsockopt(socket, SOL_SOCKET, SO_PASSCRED, &on, sizeof on))
+        give_up("SO_PASSCRED");
+    setsockopt(socket, SOL_SOCKET, SO_PASSSEC, &on, sizeof on);
+    setsockopt(socket, SOL_SOCKET, SO_TIMESTAMP, &on, sizeof on);
+    return setsockopt(socket, SOL_SOCKET, SO_PASSPIDFD, &on, sizeof on) == 0;
 }

@@ -23,7 +23,8 @@ enum {
     SET_STATUS = 39,
     GET_SHARED_OBJECT = 41,
     SET_DEVICE_STATE_FD = 42,
-    REPLY_FLAGS = 5 /* version 1, and that it is a reply */
+    REPLY_FLAGS = 5, /* version 1, and that it is a reply */
+    SYSTEM_MAX_FDS = 253 /* as many descriptors as the system passes by one message */
 };
 
 /* A connection over a pair of sockets; the other end of it. */
@@ -31,6 +32,9 @@ int pair_up(covretin_connection *connection, uint64_t max_queue_num);
 
 /* Sends bytes, with descriptors on the first of them. */
 void say(int peer, const void *bytes, size_t count, const int *fds, size_t fd_count);
+
+/* Sends a byte out of band, with a descriptor. */
+void say_urgently(int peer, int fd);
 
 /* Sends a header. */
 void say_header(int peer, uint32_t code, uint32_t flags, uint32_t size, const int *fds, size_t fd_count);
@@ -60,5 +64,11 @@ int file_of(const char *text);
 
 /* Whether a descriptor's file begins with this text. */
 bool holds(int fd, const char *text);
+
+/* A socket whose close waits for three seconds, since its bytes cannot be sent while *far is open, the other end. */
+int slow_to_close(int *far);
+
+/* Has the system tell all that it can of whoever sends to this socket. Whether it tells his process, which some systems do not. */
+bool tell_all(int socket);
 
 #endif

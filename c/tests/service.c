@@ -12,6 +12,7 @@
 #include <poll.h>
 #include <stdlib.h>
 #include <string.h>
+#include <sys/file.h>
 #include <sys/socket.h>
 #include <sys/stat.h>
 #include <sys/un.h>
@@ -81,6 +82,48 @@ static void takes_only_what_is_left_over(void)
     EXPECT(COVRETIN_SOCKET_ERROR, covretin_listen(&listener, "nowhere/left.socket"));
     EXPECT(ENOENT, errno);
     EXPECT(-1, covretin_listener_fd(&listener));
+}
+
+/* A socket that somebody has is not left over, also before he listens. */
+static void takes_none_that_somebody_has(void)
+{
+    struct sockaddr_un address = {AF_UNIX, "bound.socket"};
+    for (int i = 0; i < 2; i++) {
+        int fd = socket(AF_UNIX, (i == 0 ? SOCK_STREAM : SOCK_DGRAM) | SOCK_CLOEXEC, 0);
+        if (fd < 0 || bind(fd, (struct sockaddr *)&address, sizeof address))
+            give_up("bind");
+        EXPECT(COVRETIN_SOCKET_ERROR, covretin_listen(&listener, "bound.socket"));
+        EXPECT(EADDRINUSE, errno);
+        if (i == 0) {
+            EXPECT(0, listen(fd, 1));
+            close(connected_to("bound.socket"));
+        }
+        close(fd);
+        unlink("bound.socket");
+    }
+}
+
+/* Whoever holds a lock on the folder keeps nobody from listening there, nor from ending it. */
+static void listens_in_a_locked_folder(void)
+{
+    struct sockaddr_un address = {AF_UNIX, "locked.socket"};
+    int folder = open(".", O_RDONLY | O_DIRECTORY | O_CLOEXEC);
+    int left = socket(AF_UNIX, SOCK_STREAM | SOCK_CLOEXEC, 0);
+    if (folder < 0 || flock(folder, LOCK_EX))
+        give_up("flock");
+    has_waited();
+    for (int i = 0; i < 2; i++) {
+        EXPECT(COVRETIN_OK, covretin_listen(&listener, "locked.socket"));
+        EXPECT(false, has_waited());
+        covretin_unlisten(&listener);
+        EXPECT(false, has_waited());
+        EXPECT(-1, access("locked.socket", F_OK));
+        if (i == 0 && bind(left, (struct sockaddr *)&address, sizeof address))
+            give_up("bind");
+        if (i == 0)
+            close(left);
+    }
+    close(folder);
 }
 
 /* A path that has become another's stays. */
@@ -647,6 +690,8 @@ int main(void)
 {
     RUN(accepts_at_a_path);
     RUN(takes_only_what_is_left_over);
+    RUN(takes_none_that_somebody_has);
+    RUN(listens_in_a_locked_folder);
     RUN(leaves_what_is_of_others);
     RUN(listens_at_paths);
     RUN(listens_at_a_socket);

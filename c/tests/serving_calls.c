@@ -222,7 +222,7 @@ static enum covretin_error ended_at(int peer, int place, int file)
 
 static void each_call_fails(void)
 {
-    const int causes[] = {EIO, ENOBUFS, EBADF, ECONNRESET, EPIPE};
+    const int causes[] = {EIO, EACCES, EBADF, ECONNRESET, EPIPE};
     for (size_t i = 0; i < sizeof causes / sizeof causes[0]; i++)
         for (int place = 0; place < 4; place++) {
             size_t before = open_fds();
@@ -244,6 +244,55 @@ static void each_call_fails(void)
             close(peer);
             EXPECT(before, open_fds());
         }
+}
+
+/* Nothing of a reply is sent since the system has no room for it: it goes out by the next call. */
+static void sends_once_there_is_room(void)
+{
+    const int causes[] = {ENOMEM, ENOBUFS, ETOOMANYREFS};
+    for (size_t i = 0; i < 2 * sizeof causes / sizeof causes[0]; i++) {
+        int peer = served_pair(), file = file_of("sent");
+        struct request reply;
+        accept_features(peer, COVRETIN_PROTOCOL_INFLIGHT_SHMFD);
+        request(peer, GET_INFLIGHT_FD, REQUEST_FLAGS, asked, sizeof asked, NULL, 0);
+        expect_call(COVRETIN_CALL_GET_INFLIGHT_FD);
+        EXPECT(COVRETIN_OK, covretin_reply_inflight(backend, &given, file));
+        cause = causes[i / 2];
+        until_failure = 0;
+        EXPECT(COVRETIN_OUT_OF_MEMORY, covretin_send_reply(&service, LIMIT));
+        until_failure = 0;
+        EXPECT(COVRETIN_OUT_OF_MEMORY, covretin_next_call(&service, &call, LIMIT));
+        EXPECT(false, covretin_service_ended(&service));
+        EXPECT(-1, recv(peer, reply.body, 1, MSG_DONTWAIT));
+        shortens = i % 2;
+        EXPECT(COVRETIN_OK, covretin_send_reply(&service, LIMIT));
+        shortens = false;
+        EXPECT(true, hear(peer, &reply));
+        EXPECT(true, reply.code == GET_INFLIGHT_FD && reply.size == sizeof asked && reply.fd_count == 1);
+        both_ways(peer, file);
+        covretin_hang_up(&service);
+        close(file);
+        close(peer);
+    }
+}
+
+/* A reply with a descriptor that is not open never goes out: its frontend is hung up on, and does not wait for it. */
+static void hangs_up_where_no_reply_can_be_sent(void)
+{
+    int peer = served_pair(), file = file_of("sent"), gone = dup(file);
+    uint8_t byte;
+    close(gone);
+    accept_features(peer, COVRETIN_PROTOCOL_INFLIGHT_SHMFD);
+    request(peer, GET_INFLIGHT_FD, REQUEST_FLAGS, asked, sizeof asked, NULL, 0);
+    expect_call(COVRETIN_CALL_GET_INFLIGHT_FD);
+    EXPECT(COVRETIN_OK, covretin_reply_inflight(backend, &given, gone));
+    EXPECT(COVRETIN_SOCKET_ERROR, covretin_next_call(&service, &call, LIMIT));
+    EXPECT(EBADF, errno);
+    EXPECT(true, covretin_service_ended(&service));
+    covretin_hang_up(&service);
+    EXPECT(0, recv(peer, &byte, 1, 0));
+    close(file);
+    close(peer);
 }
 
 /* -- Memory -- */
@@ -375,6 +424,8 @@ int main(void)
     RUN(goes_on_where_it_was_stopped);
     RUN(accepts_where_it_was_interrupted);
     RUN(each_call_fails);
+    RUN(sends_once_there_is_room);
+    RUN(hangs_up_where_no_reply_can_be_sent);
     RUN(closes_what_waits);
     RUN(each_allocation_fails_once);
     return status();

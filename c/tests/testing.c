@@ -1,8 +1,15 @@
+#ifndef _GNU_SOURCE
+#define _GNU_SOURCE /* for RUSAGE_THREAD */
+#endif
+
 #include "testing.h"
 
 #include <dirent.h>
+#include <stdint.h>
 #include <stdio.h>
 #include <stdlib.h>
+#include <sys/resource.h>
+#include <time.h>
 
 static bool wrong, any_wrong;
 
@@ -44,6 +51,21 @@ size_t open_fds(void)
         count++;
     closedir(folder);
     return count - 3; /* ".", ".." and the folder itself */
+}
+
+bool has_waited(void)
+{
+    static int64_t time_before;
+    static long slept_before;
+    struct timespec time;
+    struct rusage usage;
+    clock_gettime(CLOCK_MONOTONIC, &time);
+    getrusage(RUSAGE_THREAD, &usage);
+    int64_t now = (int64_t)time.tv_sec * 1000 + time.tv_nsec / 1000000;
+    bool waited = now - time_before >= 1000 && usage.ru_nvcsw != slept_before;
+    time_before = now;
+    slept_before = usage.ru_nvcsw;
+    return waited;
 }
 
 void give_up(const char *what)

@@ -21,6 +21,10 @@ int status(void);
 /* How many descriptors this process has open. */
 size_t open_fds(void);
 
+/* Whether what was done since this was called last waited: it took a second, and the thread slept meanwhile. On a busy machine it may take
+ * as long, but does not sleep. */
+bool has_waited(void);
+
 /* Ends the program with status 3: a call of the system failed that the tests need. */
 void give_up(const char *what);
 
