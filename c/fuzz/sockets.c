@@ -94,6 +94,15 @@ static void let_go(int fd)
     close(fd);
 }
 
+/* The peer has it no longer, whether it was sent or not. */
+static void leave(int fd, bool is_sent)
+{
+    if (is_sent)
+        close(fd);
+    else if (fd >= 0)
+        let_go(fd);
+}
+
 /* A socket whose close would wait, as long as there are not too many. */
 static int slow_socket(void)
 {
@@ -138,20 +147,18 @@ static void send_some(const uint8_t *bytes, size_t length, int flags)
     size_t count = length == 0 ? 0 : counts[kind >> 5];
     struct iovec piece = {(void *)(uintptr_t)bytes, length};
     struct msghdr message = {.msg_iov = &piece, .msg_iovlen = 1};
-    int fd = count == 0 ? -1 : file_of_a_kind(kind & 31);
+    int fd = count == 0 ? -1 : file_of_a_kind(kind & 31), last = count == 0 ? -1 : file_of_a_kind(kind & 31);
     if (count != 0) {
         message.msg_control = control.bytes;
         message.msg_controllen = CMSG_SPACE(sizeof(int) * count);
         struct cmsghdr *head = CMSG_FIRSTHDR(&message);
         *head = (struct cmsghdr){.cmsg_level = SOL_SOCKET, .cmsg_type = SCM_RIGHTS, .cmsg_len = CMSG_LEN(sizeof(int) * count)};
         for (size_t i = 0; i < count; i++)
-            memcpy(CMSG_DATA(head) + i * sizeof fd, &fd, sizeof fd);
+            memcpy(CMSG_DATA(head) + i * sizeof fd, i + 1 == count ? &last : &fd, sizeof fd);
     }
     bool is_sent = sendmsg(peer, &message, MSG_NOSIGNAL | MSG_DONTWAIT | flags) >= 0;
-    if (fd >= 0 && is_sent)
-        close(fd);
-    else if (fd >= 0)
-        let_go(fd);
+    leave(last, is_sent);
+    leave(fd, is_sent && count > 1);
     tally.bytes += is_sent ? length : 0;
 }
 

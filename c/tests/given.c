@@ -290,15 +290,41 @@ struct kind {
 static const struct kind requests = {SET_VRING_KICK, 8, GET_FEATURES, 0, REQUEST_FLAGS, 2};
 static const struct kind replies = {POSTCOPY_ADVISE, 0, GET_FEATURES, 8, REPLY_FLAGS, 1};
 
-/* Sends a message with such a socket, which then is nobody's else. */
-static void say_slowly(int peer, const struct kind *kind, enum way way, int slow)
+/* Two such sockets, and their other ends. */
+static int slow[2], far[2];
+
+static void make_slow(void)
+{
+    for (int i = 0; i < 2; i++)
+        slow[i] = slow_to_close(&far[i]);
+}
+
+/* They are nobody's else from now on. The second comes behind as many of the first as a message may have, or does not. */
+static void leave_slow(bool is_second_sent)
+{
+    const struct linger off = {0, 0};
+    if (!is_second_sent)
+        setsockopt(slow[1], SOL_SOCKET, SO_LINGER, &off, sizeof off);
+    close(slow[0]);
+    close(slow[1]);
+    has_waited();
+}
+
+static void close_far(void)
+{
+    close(far[0]);
+    close(far[1]);
+}
+
+/* Sends a message with such a socket. */
+static void say_slowly(int peer, const struct kind *kind, enum way way)
 {
     static const uint8_t body[8];
     int fds[SYSTEM_MAX_FDS];
     for (size_t i = 0; i < SYSTEM_MAX_FDS; i++)
-        fds[i] = slow;
+        fds[i] = slow[way == LOST ? i >= 32 : way == MOST && i == SYSTEM_MAX_FDS - 1];
     if (way == URGENT)
-        say_urgently(peer, slow);
+        say_urgently(peer, slow[0]);
     if (way == BEHIND)
         say_header(peer, kind->code, kind->no_flags, kind->size, NULL, 0);
     if (way == NOT_DUE)
@@ -312,7 +338,7 @@ static void say_slowly(int peer, const struct kind *kind, enum way way, int slow
         say(peer, body, 8, fds, way == LATE);
     if (way == REPLACED || way == ANOTHER)
         say_header(peer, kind->code, kind->flags, kind->size, fds, way == ANOTHER);
-    close(slow);
+    leave_slow(way == LOST || way == MOST);
 }
 
 /* Nothing of this way waited. What is printed where it did is the way. */
@@ -323,11 +349,11 @@ static void service_never_waits(void)
 {
     for (int way = 0; way < WAYS; way++)
         for (int is_hung_up = 0; is_hung_up < 2; is_hung_up++) {
-            int far, peer = served_pair(), slow = slow_to_close(&far);
+            int peer = served_pair();
+            make_slow();
             accept_features(peer, COVRETIN_PROTOCOL_REPLY_ACK);
-            size_t before = open_fds() - 1;
-            say_slowly(peer, &requests, (enum way)way, slow);
-            has_waited();
+            size_t before = open_fds() - 2;
+            say_slowly(peer, &requests, (enum way)way);
             enum covretin_error error = covretin_next_call_nowait(&service, &call, &events);
             EXPECT_NO_WAIT(way);
             EXPECT(true, way != TAKEN || error == COVRETIN_OK);
@@ -343,7 +369,7 @@ static void service_never_waits(void)
             covretin_hang_up(&service);
             EXPECT(before - 1, open_fds());
             EXPECT_NO_WAIT(way);
-            close(far);
+            close_far();
             close(peer);
         }
 }
@@ -353,13 +379,13 @@ static void connection_never_waits(void)
 {
     for (int way = 0; way < WAYS; way++)
         for (int is_asked_again = 0; is_asked_again < 2; is_asked_again++) {
-            int far, peer = pair_up(&device, 2), slow = slow_to_close(&far);
+            int peer = pair_up(&device, 2);
+            make_slow();
             negotiate(&device, peer, COVRETIN_PROTOCOL_PAGEFAULT);
-            size_t before = open_fds() - 1;
+            size_t before = open_fds() - 2;
             EXPECT(COVRETIN_OK, way == NOT_DUE ? covretin_ask_get_features(&device.session)
                                                : covretin_ask_postcopy_advise(&device.session));
-            say_slowly(peer, &replies, (enum way)way, slow);
-            has_waited();
+            say_slowly(peer, &replies, (enum way)way);
             enum covretin_error error = covretin_exchange_nowait(&device, &events);
             EXPECT_NO_WAIT(way);
             EXPECT(true, way != TAKEN || error == COVRETIN_OK);
@@ -369,58 +395,58 @@ static void connection_never_waits(void)
             covretin_disconnect(&device);
             EXPECT(before - 1, open_fds());
             EXPECT_NO_WAIT(way);
-            close(far);
+            close_far();
             close(peer);
         }
 }
 
 /* A channel's message that brings such a socket, which nobody on a channel is sent. */
-static void say_on_channel(int peer, uint32_t code, uint32_t flags, uint32_t size, int slow)
+static void say_on_channel(int peer, uint32_t code, uint32_t flags, uint32_t size)
 {
-    say_header(peer, code, flags, size, &slow, 1);
-    close(slow);
+    say_header(peer, code, flags, size, slow, 1);
+    leave_slow(false);
 }
 
-static void asking_channel(int socket, int peer, int slow)
+static void asking_channel(int socket, int peer)
 {
     EXPECT(COVRETIN_OK, covretin_channel_connect_fd(&vmm, socket));
     EXPECT(COVRETIN_OK, covretin_channel_set_reply_ack(&vmm.channel, true));
     EXPECT(COVRETIN_OK, covretin_channel_set_config_change(&vmm.channel, true));
     EXPECT(COVRETIN_OK, covretin_channel_ask_config_change(&vmm.channel));
-    say_on_channel(peer, CONFIG_CHANGE, REPLY_FLAGS, 8, slow);
+    say_on_channel(peer, CONFIG_CHANGE, REPLY_FLAGS, 8);
     EXPECT(COVRETIN_NOT_YET, covretin_channel_exchange_nowait(&vmm, &events));
     covretin_channel_disconnect(&vmm);
 }
 
-static void serving_channel(int socket, int peer, int slow)
+static void serving_channel(int socket, int peer)
 {
     uint32_t asked;
     EXPECT(COVRETIN_OK, covretin_channel_serve_fd(&asker, socket));
-    say_on_channel(peer, CONFIG_CHANGE, REQUEST_FLAGS, 0, slow);
+    say_on_channel(peer, CONFIG_CHANGE, REQUEST_FLAGS, 0);
     EXPECT(COVRETIN_INVALID_MESSAGE, covretin_channel_next_call_nowait(&asker, &asked, &events));
     covretin_channel_hang_up(&asker);
 }
 
-static void display_channel(int socket, int peer, int slow)
+static void display_channel(int socket, int peer)
 {
     EXPECT(COVRETIN_OK, covretin_display_connect_fd(&screen, socket));
     EXPECT(COVRETIN_OK, covretin_display_ask_get_protocol_features(&screen.display));
-    say_on_channel(peer, GET_DISPLAY_FEATURES, 4, 8, slow);
+    say_on_channel(peer, GET_DISPLAY_FEATURES, 4, 8);
     EXPECT(COVRETIN_NOT_YET, covretin_display_exchange_nowait(&screen, &events));
     covretin_display_disconnect(&screen);
 }
 
 static void channels_never_wait(void)
 {
-    void (*const channels[])(int socket, int peer, int slow) = {asking_channel, serving_channel, display_channel};
+    void (*const channels[])(int socket, int peer) = {asking_channel, serving_channel, display_channel};
     for (size_t i = 0; i < sizeof channels / sizeof channels[0]; i++) {
-        int far, ends[2], slow = slow_to_close(&far);
+        int ends[2];
         if (socketpair(AF_UNIX, SOCK_STREAM | SOCK_CLOEXEC, 0, ends))
             give_up("socketpair");
-        has_waited();
-        channels[i](ends[0], ends[1], slow);
+        make_slow();
+        channels[i](ends[0], ends[1]);
         EXPECT_NO_WAIT(i);
-        close(far);
+        close_far();
         close(ends[1]);
     }
 }
@@ -430,20 +456,20 @@ static void listener_never_waits(void)
 {
     struct sockaddr_un address = {AF_UNIX, "given.socket"};
     covretin_listener listener = {NULL};
-    int peers[3], far;
+    int peers[3];
     EXPECT(COVRETIN_OK, covretin_listen(&listener, address.sun_path));
     for (int i = 0; i < 3; i++) {
         peers[i] = socket(AF_UNIX, SOCK_STREAM | SOCK_CLOEXEC, 0);
         if (peers[i] < 0 || connect(peers[i], (struct sockaddr *)&address, sizeof address))
             give_up("connect");
     }
-    say_slowly(peers[1], &requests, TAKEN, slow_to_close(&far));
-    has_waited();
+    make_slow();
+    say_slowly(peers[1], &requests, TAKEN);
     covretin_unlisten(&listener);
     EXPECT_NO_WAIT(0);
     for (int i = 0; i < 3; i++)
         close(peers[i]);
-    close(far);
+    close_far();
 }
 
 /* -- Who has the socket, too -- */
