@@ -24,8 +24,8 @@ SCRIPTS, PRINTED = "tests/scripts", "tests/printed"
 # What tries the program of lines where no script can.
 ROWS = "scripts/try_run.py"
 
-# The program that plays lines, and the library that plays all other sessions.
-RUN, LIBRARY = "vhost_run", "the library for C"
+# What plays lines, and all other sessions, as the crate of a program and whether it is its tests: the library is of no program.
+RUN, LIBRARY = ("vhost_run", False), ("the library for C", False)
 
 
 @dataclass
@@ -67,7 +67,7 @@ def scripts():
         wanted = [it for it in left if it.startswith(f"{name}:".encode())]
         left = [it for it in left if it not in wanted]
         kinds = set(re.findall(rb"(?m)^session (\w+)", read(f"{TOP}/{SCRIPTS}/{name}")))
-        needs = [(RUN, False)] * (b"lines" in kinds) + [(LIBRARY, False)] * (kinds != {b"lines"})
+        needs = [RUN] * (b"lines" in kinds) + [LIBRARY] * (kinds != {b"lines"})
         broken = "" if wanted else f"{PRINTED} has no line of it, so nobody sees that it is played"
         yield Play("scripts", f"{SCRIPTS}/{name}", wanted=b"".join(wanted), script=True, needs=needs, broken=broken)
     if left:
@@ -80,7 +80,7 @@ def plays_of(crate):
     if os.path.isfile(f"{folder}/src/main.rt"):
         words = read(f"{folder}/args").decode().split("\n")
         yield Play(crate, f"crates/{crate}", [it for it in words if it], read(f"{folder}/stdout"))
-    if crate == RUN:
+    if crate == RUN[0]:
         yield Play(crate, ROWS, rows=True)
     for at, _, names in sorted(os.walk(f"{folder}/src")):
         for name in sorted(names):
@@ -126,15 +126,15 @@ def play_program(play):
 
 def program_of_lines():
     """The program that plays lines: the proved one, where it is current."""
-    proved = f"{TOP}/crates/{RUN}/out/{RUN}"
-    is_proved = os.access(proved, os.X_OK) and is_current(RUN, proved, ["src", "specs", "proofs"])
-    return proved if is_proved else kept_at(RUN)
+    crate, _ = RUN
+    proved = f"{TOP}/crates/{crate}/out/{crate}"
+    is_proved = os.access(proved, os.X_OK) and is_current(crate, proved, ["src", "specs", "proofs"])
+    return proved if is_proved else kept_at(crate)
 
 
 def play_script(play):
     """Plays a script. The player has to refuse one whose name says so."""
-    library = shared_library() if (LIBRARY, False) in play.needs else "none"
-    words = [f"{TOP}/tests/player/play.py", library, program_of_lines(), f"{TOP}/{play.path}"]
+    words = [f"{TOP}/tests/player/play.py", place()[0], program_of_lines(), f"{TOP}/{play.path}"]
     return compare(play, run(sys.executable, words), int(os.path.basename(play.path).startswith("refused_")))
 
 
@@ -172,16 +172,15 @@ def play_one(play):
 
 def is_made(which):
     """Whether what a play needs is there, and no source is newer."""
-    if which == (LIBRARY, False):
+    if which == LIBRARY:
         return place()[1]
-    if which == (RUN, False) and program_of_lines() != kept_at(RUN):
-        return True
-    return is_current(which[0], kept_at(*which), ["src"])
+    made = program_of_lines() if which == RUN else kept_at(*which)
+    return made != kept_at(*which) or is_current(which[0], made, ["src"])
 
 
 def make(which):
     """Compiles what a play needs. None, or what was told where that failed."""
-    if which != (LIBRARY, False):
+    if which != LIBRARY:
         return compile_unproved(*which)
     try:
         shared_library()

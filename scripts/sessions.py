@@ -47,7 +47,7 @@ def functions():
     contracts, tests = set(), set()
     for path in glob.glob(f"{TOP}/crates/*/src/**/*.rt", recursive=True):
         text = read(path)
-        contracts.update(re.findall(r"pub fn (\w+)[<(][^{]*?\n\s*(?:requires .*\n\s*)*ensures", text))
+        contracts.update(re.findall(r"\bfn (\w+)[<(][^{]*?\n\s*(?:requires .*\n\s*)*ensures", text))
         tests.update(re.findall(r"#\[test\]\n\s*fn (\w+)", text))
     return {"contract": contracts, "test": tests}
 
