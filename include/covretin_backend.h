@@ -44,14 +44,15 @@ typedef struct covretin_backend {
     void *opaque;
 } covretin_backend;
 
-/* The protocol features whose requests this library serves: offer of these what the device can do, and no more. A frontend
- * that accepts another will send requests that nobody serves. */
+/* The protocol features whose requests this library serves, or makes for the device on the backend channel: offer of these what
+ * the device can do, and no more. A frontend that accepts another may send requests that nobody serves, or wait for some that
+ * the device cannot make (HOST_NOTIFIER). */
 #define COVRETIN_SERVED_PROTOCOL_FEATURES \
     (COVRETIN_PROTOCOL_MQ | COVRETIN_PROTOCOL_LOG_SHMFD | COVRETIN_PROTOCOL_REPLY_ACK | COVRETIN_PROTOCOL_MTU | \
      COVRETIN_PROTOCOL_BACKEND_REQ | COVRETIN_PROTOCOL_PAGEFAULT | COVRETIN_PROTOCOL_CONFIG | \
-     COVRETIN_PROTOCOL_BACKEND_SEND_FD | COVRETIN_PROTOCOL_HOST_NOTIFIER | COVRETIN_PROTOCOL_INFLIGHT_SHMFD | \
-     COVRETIN_PROTOCOL_RESET_DEVICE | COVRETIN_PROTOCOL_CONFIGURE_MEM_SLOTS | COVRETIN_PROTOCOL_SHARED_OBJECT | \
-     COVRETIN_PROTOCOL_DEVICE_STATE | COVRETIN_PROTOCOL_SHMEM)
+     COVRETIN_PROTOCOL_BACKEND_SEND_FD | COVRETIN_PROTOCOL_INFLIGHT_SHMFD | COVRETIN_PROTOCOL_RESET_DEVICE | \
+     COVRETIN_PROTOCOL_CONFIGURE_MEM_SLOTS | COVRETIN_PROTOCOL_SHARED_OBJECT | COVRETIN_PROTOCOL_DEVICE_STATE | \
+     COVRETIN_PROTOCOL_SHMEM)
 
 /* What is asked of the device: the number of its request, or COVRETIN_CALL_POSTCOPY_ACK. Behind each the call that gives its
  * arguments, if it has some, and those by which it is replied to. Each may be replied to by covretin_reply_refused. */

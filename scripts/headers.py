@@ -70,7 +70,8 @@ def wanted():
         "COVRETIN_DISPLAY_EDID_SIZE": replies["VirtioGpuRespGetEdid"],
         "COVRETIN_NEED_REPLY": 1 << constants(f"{MESSAGE}/header_bit.rt")["NEED_REPLY"],
         "COVRETIN_ASKED_PROTOCOL_FEATURES": features["ASKED_PROTOCOL_FEATURES"],
-        "COVRETIN_SERVED_PROTOCOL_FEATURES": features["SERVED_PROTOCOL_FEATURES"],
+        # (the library for C makes no request of HOST_NOTIFIER)
+        "COVRETIN_SERVED_PROTOCOL_FEATURES": features["SERVED_PROTOCOL_FEATURES"] & ~(1 << bits["HOST_NOTIFIER"]),
         "COVRETIN_OK": 0,
     }
     found.update({f"COVRETIN_PROTOCOL_{name}": 1 << bit for name, bit in bits.items()})

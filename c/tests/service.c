@@ -576,6 +576,13 @@ static void request_texts(void)
         EXPECT(0, strcmp("unknown request", covretin_request_text(others[i])));
 }
 
+/* The mask has each feature once whose requests are served, or made on the backend channel, and no bit of another. */
+static void served_features(void)
+{
+    EXPECT(0x4cb73b, COVRETIN_SERVED_PROTOCOL_FEATURES);
+    EXPECT(0, COVRETIN_SERVED_PROTOCOL_FEATURES & COVRETIN_PROTOCOL_HOST_NOTIFIER);
+}
+
 /* Under VHOST a request that nobody serves ends the service, without a reply. */
 static void has_profiles(void)
 {
@@ -662,6 +669,7 @@ int main(void)
     RUN(ends_at_unknown_requests);
     RUN(inactive);
     RUN(request_texts);
+    RUN(served_features);
     RUN(has_profiles);
     RUN(limits_time);
     RUN(reads_no_further);

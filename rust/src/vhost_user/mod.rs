@@ -36,12 +36,11 @@ pub enum Profile {
     Vhost = 1,
 }
 
-/// The protocol features whose requests a [`BackendReqHandler`] serves: a device offers what it can do of these, and no more. A
-/// frontend that accepts another will send requests that nobody serves.
+/// The protocol features whose requests a [`BackendReqHandler`] serves, or a [`Backend`] makes: a device offers what it can do of
+/// these, and no more. A frontend that accepts another may send requests that nobody serves, or wait for some that the device cannot
+/// make (HOST_NOTIFIER).
 pub const SERVED_PROTOCOL_FEATURES: VhostUserProtocolFeatures = VhostUserProtocolFeatures::from_bits_retain(
-    Frontend::PROTOCOL_FEATURES.bits()
-        | VhostUserProtocolFeatures::BACKEND_SEND_FD.bits()
-        | VhostUserProtocolFeatures::HOST_NOTIFIER.bits(),
+    Frontend::PROTOCOL_FEATURES.bits() | VhostUserProtocolFeatures::BACKEND_SEND_FD.bits(),
 );
 
 /// Why a call of the protocol failed. After `SocketBroken`, `SocketError`, `PartialMessage`, `InvalidMessage` and
