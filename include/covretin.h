@@ -56,7 +56,9 @@ extern "C" {
 /* The flag of covretin_set_hdr_flags that asks for acknowledgements. */
 #define COVRETIN_NEED_REPLY 8
 
-/* Virtio features that vhost-user itself gives a meaning, for covretin_ask_set_features. The others are the device's. */
+/* Virtio features that vhost-user itself gives a meaning, for covretin_ask_set_features. The others are virtio's and the device's, as
+ * the guest's driver accepted them. Without VIRTIO_F_VERSION_1 (bit 32) among them rings are of the guest's byte order, which a
+ * backend need not know. */
 #define COVRETIN_FEATURE_LOG_ALL ((uint64_t)1 << 26)           /* the backend logs the pages that it writes */
 #define COVRETIN_FEATURE_PROTOCOL_FEATURES ((uint64_t)1 << 30) /* there are protocol features */
 
@@ -110,7 +112,7 @@ enum covretin_error {
     COVRETIN_INVALID_SOCKET_FD = 6,       /* the descriptor is no socket */
     COVRETIN_NOT_UNIX_SOCKET = 7,
     COVRETIN_NOT_STREAM_SOCKET = 8,
-    COVRETIN_PARTIAL_MESSAGE = 9,         /* the reply is cut short: close the session */
+    COVRETIN_PARTIAL_MESSAGE = 9,         /* only of a request: the stream ended in its header */
     COVRETIN_DISCONNECTED = 10,           /* the backend closed the socket, or ended */
     COVRETIN_OVERSIZED_MSG = 11,
     COVRETIN_INCORRECT_FDS = 12,          /* the reply came with a wrong number of descriptors */
@@ -335,7 +337,7 @@ enum covretin_error covretin_ask_set_log_fd(covretin_session *session, int32_t f
 enum covretin_error covretin_ask_set_vring_num(covretin_session *session, size_t index, uint16_t num);
 enum covretin_error covretin_ask_set_vring_addr(covretin_session *session, size_t index, const covretin_vring *ring);
 enum covretin_error covretin_ask_set_vring_base(covretin_session *session, size_t index, uint16_t base);
-/* Stops the ring, and asks at which descriptor it goes on. */
+/* Stops the ring, and asks at which descriptor it goes on. It starts again by set_vring_kick and a kick. */
 enum covretin_error covretin_ask_get_vring_base(covretin_session *session, size_t index);
 /* The eventfd by which the backend signals used buffers, that by which the guest's driver signals available ones, and that
  * by which the backend signals an error. index is 255 at most. fd negative: the ring has none, and who would wait for it polls

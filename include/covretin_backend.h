@@ -16,6 +16,16 @@
  * The device is asked only what passed every check of its request, each request once, and it replies once before anything
  * else. covretin_backend_to_send comes after a refused request, too: it may be acknowledged.
  *
+ * RINGS are the device's: the session checks their requests, and keeps no state of them. By the specification ('Ring states') a ring
+ * is processed while it is started and enabled.
+ * Started: from the first kick on, when the descriptor of SET_VRING_KICK gets readable; where it has none (-1), from that request
+ *   on. Until GET_VRING_BASE. Its size, its addresses and its base come before. Many devices start it at SET_VRING_KICK in any case.
+ * Enabled: at once where the last SET_FEATURES had no PROTOCOL_FEATURES; else from SET_VRING_ENABLE with 1 until that with 0, also
+ *   where that comes before SET_FEATURES, as from QEMU's network cards. What is started and not enabled has no side effect: a
+ *   network device gives the guest no packets, and drops those that it sends.
+ * VIRTIO_F_VERSION_1, bit 32 of the virtio features: where it was accepted, rings and the device's own records are little endian.
+ *   Else they are in the guest's byte order, and nothing tells which that is: nobody serves SET_VRING_ENDIAN. So a device offers it.
+ *
  * WHO OWNS WHAT
  * Buffers: each pointer is borrowed for the call alone. What is `const` is only read; the others are only written, from
  *   their start. Two of them must not overlap. A count says how many elements its array has, and a pointer is never NULL
@@ -104,11 +114,12 @@ const char *covretin_request_text(uint32_t request);
 /* Opens a session. SESSION_OPEN; OUT_OF_MEMORY. After an error nothing changed. */
 enum covretin_error covretin_backend_open(covretin_backend *backend);
 
-/* Whose behaviour the session has from now on. Under STANDARD, as at first, a request that nobody serves is acknowledged where it
- * asks for it, with INVALID_OPERATION, and the session goes on; a ring may be enabled once PROTOCOL_FEATURES was offered; and a
- * memory table may be longer than its regions. Real frontends want all three. Under VHOST the first is INVALID_MESSAGE without a
- * reply, and the others are refused. NO_SESSION; INVALID_PARAM: there is no such profile; NOT_REPLIED: a call is still to be
- * replied to. After an error nothing changed. */
+/* Whose behaviour the session has from now on. Under STANDARD, as at first, a request of 1 to 44 that nobody serves is
+ * acknowledged where it asks for it, with INVALID_OPERATION, and the session goes on; a ring may be enabled once PROTOCOL_FEATURES
+ * was offered; and a memory table may be longer than its regions. Real frontends want all three. Under VHOST the first is
+ * INVALID_MESSAGE without a reply, and the others are refused; a request of any other number is INVALID_MESSAGE without a reply
+ * under both. NO_SESSION; INVALID_PARAM: there is no such profile; NOT_REPLIED: a call is still to be replied to. After an error
+ * nothing changed. */
 enum covretin_error covretin_backend_set_profile(covretin_backend *backend, enum covretin_profile profile);
 
 /* Frees what the session held; it is {0} again. Descriptors are not closed. A session that is not open stays so. */
@@ -143,11 +154,11 @@ enum covretin_error covretin_backend_to_send(covretin_backend *backend, uint8_t 
 /* Checks the request that came. 0: *call says what is asked of the device, which is to be replied to before anything else.
  * NO_SESSION; NOT_YET: it has not come whole; NOT_REPLIED: the call before is still to be replied to. After these three
  * nothing changed. All others refuse the request: the device is asked nothing, nothing of the request is left, and *call was
- * not written. INVALID_MESSAGE: it is malformed, or under VHOST nobody serves it; close the session, once what is to be sent was
- * sent. INVALID_OPERATION: under STANDARD nobody serves it, or postcopy is in another state. INACTIVE_FEATURE,
- * INACTIVE_OPERATION: it wants a feature that was not accepted, which covretin_backend_inactive tells. INVALID_PARAM,
- * INCORRECT_FDS, FRONTEND_INTERNAL_ERROR: its arguments are wrong. OUT_OF_MEMORY, SOCKET_RETRY: an allocation failed. SOCKET_BROKEN: one failed amid a message before: close
- * the session. */
+ * not written. INVALID_MESSAGE: it is malformed, its number is none of 1 to 44, or under VHOST nobody serves it; close the
+ * session, once what is to be sent was sent. INVALID_OPERATION: under STANDARD nobody serves it, or postcopy is in another state.
+ * INACTIVE_FEATURE, INACTIVE_OPERATION: it wants a feature that was not accepted, which covretin_backend_inactive tells.
+ * INVALID_PARAM, INCORRECT_FDS, FRONTEND_INTERNAL_ERROR: its arguments are wrong. OUT_OF_MEMORY, SOCKET_RETRY: an allocation
+ * failed. SOCKET_BROKEN: one failed amid a message before: close the session. */
 enum covretin_error covretin_backend_next(covretin_backend *backend, uint32_t *call);
 
 /* Which feature the last request lacked that was refused for that: after INACTIVE_FEATURE one bit of COVRETIN_FEATURE_..,

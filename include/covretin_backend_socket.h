@@ -108,9 +108,9 @@ uint32_t covretin_service_request(const covretin_service *service);
  * NO_SESSION: there is no service. NOT_REPLIED: the call before is still to be replied to; until it is, each call returns this,
  *   and at once.
  * TIMED_OUT, OUT_OF_MEMORY: the next covretin_next_call goes on. A request that had come whole where memory failed is refused.
- * DISCONNECTED, PARTIAL_MESSAGE: the frontend closed the socket, or ended: between two requests, or amid one. SOCKET_ERROR: the
- *   system failed otherwise. FDS_LOST: the system dropped descriptors of the request. After these, INVALID_MESSAGE and
- *   SOCKET_BROKEN the service has ended: each further call returns the same, and the caller hangs up. */
+ * DISCONNECTED, PARTIAL_MESSAGE, INVALID_MESSAGE: the frontend closed the socket, or ended: between two requests, in a header, in
+ *   a body. SOCKET_ERROR: the system failed otherwise. FDS_LOST: the system dropped descriptors of the request. After these, any
+ *   other INVALID_MESSAGE and SOCKET_BROKEN the service has ended: each further call returns the same, and the caller hangs up. */
 enum covretin_error covretin_next_call(covretin_service *service, uint32_t *call, int milliseconds);
 
 /* The same for an event loop: never waits. NOT_YET: *events says what the socket has to be ready for, POLLIN or POLLOUT (of

@@ -70,9 +70,9 @@ int covretin_connection_fd(const covretin_connection *connection);
  * NOTHING_ASKED: no ask succeeded since the last exchange.
  * TIMED_OUT, OUT_OF_MEMORY: the call is still under way, and the next exchange goes on with it. Where memory failed at its
  *   very end that one returns NOTHING_ASKED, and the call is lost.
- * DISCONNECTED: the backend closed the socket, or ended. SOCKET_ERROR: the system failed otherwise. FDS_LOST: the system
- *   dropped descriptors of the reply. After these three, INVALID_MESSAGE, PARTIAL_MESSAGE and SOCKET_BROKEN the connection is of
- *   no more use: each further exchange returns the same, and the caller disconnects. No descriptor of that reply is left open. */
+ * DISCONNECTED: the backend closed the socket, or ended, also amid its reply. SOCKET_ERROR: the system failed otherwise.
+ *   FDS_LOST: the system dropped descriptors of the reply. After these three, INVALID_MESSAGE and SOCKET_BROKEN the connection is
+ *   of no more use: each further exchange returns the same, and the caller disconnects. No descriptor of that reply is left open. */
 enum covretin_error covretin_exchange(covretin_connection *connection, int milliseconds);
 
 /* The same for an event loop: never waits. NOT_YET: the call is under way, and *events says what the socket has to be ready

@@ -280,7 +280,7 @@ static void refuses_replies(void)
         say_header(peer, replies[i].code, replies[i].flags, replies[i].size, &file, replies[i].fds);
         say(peer, body, sizeof body, NULL, 0);
         enum covretin_error error = covretin_channel_exchange(&vmm, LIMIT);
-        EXPECT(true, error == COVRETIN_INVALID_MESSAGE || error == COVRETIN_PARTIAL_MESSAGE);
+        EXPECT(COVRETIN_INVALID_MESSAGE, error);
         EXPECT(error, covretin_channel_exchange(&vmm, LIMIT));
         EXPECT(before, open_fds());
         covretin_channel_disconnect(&vmm);

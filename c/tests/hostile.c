@@ -226,7 +226,7 @@ static void refuses_headers(void)
         if (headers[i][2] != 0)
             say(peer, body, headers[i][2] < sizeof body ? headers[i][2] : sizeof body, NULL, 0);
         enum covretin_error error = ask_features();
-        EXPECT(true, error == COVRETIN_INVALID_MESSAGE || error == COVRETIN_PARTIAL_MESSAGE);
+        EXPECT(COVRETIN_INVALID_MESSAGE, error);
         EXPECT(COVRETIN_OTHER_ANSWER, covretin_answer_number(session, &number));
         EXPECT(5, number);
         expect_broken(error);

@@ -46,9 +46,10 @@ impl<S: VhostUserBackendReqHandler> BackendReqHandler<S> {
         self.connection.try_clone_socket()
     }
 
-    /// Whose behaviour each request has from now on. Under `Standard` a request that nobody serves is InvalidOperation, is
+    /// Whose behaviour each request has from now on. Under `Standard` a [`FrontendReq`] that nobody serves is InvalidOperation, is
     /// acknowledged where it asks for that, and the connection goes on; a ring may be enabled once PROTOCOL_FEATURES was offered;
-    /// and a memory table may be longer than its regions. Under `Vhost` the first is InvalidMessage, and the others are refused.
+    /// and a memory table may be longer than its regions. Under `Vhost` the first is InvalidMessage, and the others are refused. A
+    /// request of a number that is no [`FrontendReq`] is InvalidMessage, without a reply, under both.
     pub fn set_profile(&mut self, profile: Profile) {
         self.connection.set(|session| session.set_profile(profile as u32));
     }
@@ -72,7 +73,8 @@ impl<S: VhostUserBackendReqHandler> BackendReqHandler<S> {
 
     /// Serves the next request: receives it, asks the device, and replies. It waits for the request as long as the frontend likes.
     ///
-    /// Disconnected: the frontend closed the socket, or ended, between two requests. SocketRetry: the socket does not block, or
+    /// Disconnected, PartialMessage, InvalidMessage: the frontend closed the socket, or ended, between two requests, in a header, in a
+    /// body. InvalidMessage: the request is malformed, too, or its number is none. SocketRetry: the socket does not block, or
     /// its read timeout passed; what came is kept, and the next call goes on. After PartialMessage, InvalidMessage, SocketBroken
     /// and SocketError the connection is of no more use, and each later call is SocketBroken; so it is after IncorrectFds for
     /// descriptors that the system dropped, and once the device panicked. After any other error it goes on: the request was refused

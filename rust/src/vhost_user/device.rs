@@ -52,7 +52,8 @@ devices! {
         /// Resets the device.
         fn reset_device() -> Result<()>;
 
-        /// The virtio features that the device offers.
+        /// The virtio features that the device offers. VIRTIO_F_VERSION_1 (bit 32) should be among them: without it rings are in the
+        /// guest's byte order, and no request that is served tells which that is.
         fn get_features() -> Result<u64>;
 
         /// The frontend accepted these virtio features, which may be others than were offered.
@@ -85,7 +86,8 @@ devices! {
         /// Stops a ring: at which descriptor it goes on.
         fn get_vring_base(index: u32) -> Result<VhostUserVringState>;
 
-        /// The eventfd by which the guest's driver signals available buffers, and the start of the ring. None: it is to be polled.
+        /// The eventfd by which the guest's driver signals available buffers. Once that is first readable the ring is started, until
+        /// `get_vring_base`. None: it is to be polled, and is started from now on.
         fn set_vring_kick(index: u8, fd: Option<File>) -> Result<()>;
 
         /// The eventfd by which the device signals used buffers. None: it signals none.
@@ -104,7 +106,8 @@ devices! {
         /// How many rings the device has.
         fn get_queue_num() -> Result<u64>;
 
-        /// Enables a ring, or disables it.
+        /// Enables a ring, or disables it: a ring is processed while it is started and enabled. Where `set_features` had no
+        /// PROTOCOL_FEATURES it is enabled from its start; else not before this call.
         fn set_vring_enable(index: u32, enable: bool) -> Result<()>;
 
         /// So many bytes of the configuration space. Where it returns another number of bytes, or an error, the reply says that

@@ -65,7 +65,8 @@ pub enum Error {
     NotUnixSocket,
     /// The socket is not of the type SOCK_STREAM.
     NotStreamSocket,
-    /// The peer closed the socket, or ended, before its message was whole.
+    /// The peer closed the socket, or ended, before its reply was whole; or, of a handler, in the header of a request. In the body of
+    /// one that is `InvalidMessage`.
     PartialMessage,
     /// The peer closed the socket.
     Disconnected,
