@@ -299,7 +299,8 @@ enum covretin_error covretin_set_profile(covretin_session *session, enum covreti
 enum covretin_error covretin_set_hdr_flags(covretin_session *session, uint32_t flags);
 
 /* Which feature the last ask lacked: after INACTIVE_FEATURE one bit of COVRETIN_FEATURE_.., after INACTIVE_OPERATION one of
- * COVRETIN_PROTOCOL_... 0 after one that made its request, and without a session. Read it before the next ask. */
+ * COVRETIN_PROTOCOL_... 0 after any other, and without a session. covretin_set_hdr_flags is an ask here, covretin_set_profile is
+ * none. */
 uint64_t covretin_inactive(covretin_session *session);
 
 enum covretin_error covretin_ask_get_features(covretin_session *session);

@@ -161,8 +161,9 @@ enum covretin_error covretin_backend_to_send(covretin_backend *backend, uint8_t 
  * failed. SOCKET_BROKEN: one failed amid a message before: close the session. */
 enum covretin_error covretin_backend_next(covretin_backend *backend, uint32_t *call);
 
-/* Which feature the last request lacked that was refused for that: after INACTIVE_FEATURE one bit of COVRETIN_FEATURE_..,
- * after INACTIVE_OPERATION one of COVRETIN_PROTOCOL_... Else 0. Read it before the next request. */
+/* Which feature the request lacked that covretin_backend_next read last: after INACTIVE_FEATURE one bit of COVRETIN_FEATURE_..,
+ * after INACTIVE_OPERATION one of COVRETIN_PROTOCOL_... 0 where it was served, or refused for anything else, before the first, and
+ * without a session. */
 uint64_t covretin_backend_inactive(covretin_backend *backend);
 
 /* -- The arguments of the call that is to be replied to --------------------------------------------------------------

@@ -221,6 +221,46 @@ static void accepts_features(void)
     covretin_close(&session);
 }
 
+/* An ask that lacks a feature, and behind it one of whose arguments no call can be made: that one lacks none. */
+static void lacks_none_then(enum covretin_error refusal)
+{
+    EXPECT(COVRETIN_INVALID_PARAM, refusal);
+    EXPECT(0, covretin_inactive(&session));
+    EXPECT(COVRETIN_INACTIVE_OPERATION, covretin_ask_add_mem_region(&session, &(covretin_region){.memory_size = 1, .fd = 7}));
+    EXPECT(COVRETIN_PROTOCOL_CONFIGURE_MEM_SLOTS, covretin_inactive(&session));
+}
+
+static void lacks_none_where_no_call_is_made(void)
+{
+    static const covretin_region regions[33];
+    static const covretin_inflight inflight;
+    EXPECT(COVRETIN_OK, covretin_open(&session, 2));
+    EXPECT(COVRETIN_INACTIVE_OPERATION, covretin_ask_get_queue_num(&session));
+    lacks_none_then(covretin_ask_get_config(&session, 0, 0x10000, 0));
+    lacks_none_then(covretin_ask_get_config_bytes(&session, 0, 0, bytes, sizeof bytes));
+    lacks_none_then(covretin_ask_set_config(&session, 0, 0, bytes, sizeof bytes));
+    lacks_none_then(covretin_ask_set_mem_table(&session, regions, 33));
+    lacks_none_then(covretin_ask_get_shared_object(&session, bytes, 15));
+    lacks_none_then(covretin_ask_postcopy_ack_mem_regions(&session, 45));
+    lacks_none_then(covretin_ask_set_log_fd(&session, -1));
+    lacks_none_then(covretin_ask_set_backend_request_fd(&session, -1));
+    lacks_none_then(covretin_ask_set_inflight_fd(&session, &inflight, -1));
+    lacks_none_then(covretin_ask_set_device_state_fd(&session, 2, 0, 7));
+    lacks_none_then(covretin_ask_set_device_state_fd(&session, 0, 1, 7));
+    lacks_none_then(covretin_ask_set_device_state_fd(&session, 0, 0, -1));
+    lacks_none_then(covretin_set_hdr_flags(&session, 2));
+    EXPECT(COVRETIN_INVALID_PARAM, covretin_set_profile(&session, (enum covretin_profile)2));
+    EXPECT(COVRETIN_PROTOCOL_CONFIGURE_MEM_SLOTS, covretin_inactive(&session));
+    EXPECT(0, covretin_set_hdr_flags(&session, 0));
+    EXPECT(0, covretin_inactive(&session));
+    EXPECT(0, covretin_ask_set_owner(&session));
+    EXPECT(COVRETIN_NOT_TAKEN, covretin_ask_get_queue_num(&session));
+    EXPECT(0, covretin_inactive(&session));
+    expect_text("\3\0\0\0\1\0\0\0\0\0\0\0", 12, 0);
+    covretin_close(&session);
+    EXPECT(COVRETIN_NO_SESSION, covretin_ask_get_config(&session, 0, 0x10000, 0));
+}
+
 /* Which feature an ask lacked: of the last ask alone. */
 static void inactive(void)
 {
@@ -299,6 +339,7 @@ int main(void)
     RUN(config_bytes);
     RUN(accepts_features);
     RUN(inactive);
+    RUN(lacks_none_where_no_call_is_made);
     RUN(error_texts);
     RUN(version);
     RUN(asked_features);

@@ -1,7 +1,7 @@
 -- What the calls of a session do.
 use Rattle.std.specs.Prelude.{◌≡◌, ◌<◌, ◌≤◌, ℕ, ℤ, Bool, true, false, ◌||◌, ◌==◌, List, [], ◌++◌, length, Option, Some, None, Result, Ok, Err, ⊤, is_some}
 use Rattle.vhost_message.specs.declared.error.Error as declared
-use Rattle.vhost_message.specs.declared.error.Error.TheVariants.{OutOfMemory, SocketRetry, SocketBroken, InvalidMessage}
+use Rattle.vhost_message.specs.declared.error.Error.TheVariants.{OutOfMemory, SocketRetry, SocketBroken, InvalidMessage, InvalidParam}
 use Rattle.vhost_message.specs.declared.cause.IoCause.TheVariants.{Raw}
 use Rattle.vhost_message.specs.declared.errno.TheConstants.{ENOMEM}
 use Rattle.vhost_message.specs.declared.frontend_req.FrontendReq.{FrontendReq}
@@ -136,18 +136,38 @@ abbrev pub Becomes : FrontendCall PlainHandle → Session → Result ⊤ Refusal
 Becomes call s (Ok done) s' = Asks call s s'
 Becomes call s (Err r) s' = Refused call s r × Stays s s'
 
--- What a session answers to an ask; which feature was not active is kept.
+-- Of the last ask it is kept which feature was not active, where it was refused for that; else 0.
+abbrev pub Notes : Result ⊤ Refusal → Session → Type 0
+Notes outcome s = s.inactive ≡ inactive_in outcome
+
+-- what a session answers to an ask
 abbrev pub Asking : FrontendCall PlainHandle → Session → Result ⊤ Refusal → Session → Type 0
-Asking call s outcome s' = Becomes call s outcome s' × (s'.inactive ≡ inactive_in outcome)
+Asking call s outcome s' = Becomes call s outcome s' × Notes outcome s'
 
 -- an ask of C
 abbrev pub AsksBy : FrontendCall PlainHandle → Option Session → ℕ → Option Session → Type 0
 AsksBy call = By (Asking call)
 
+-- Nothing changed but which feature was not active.
+pub record KeepsAll (old new : Session) : Type 0 where
+  pub frontend : new.frontend ≡ old.frontend
+  pub outgoing : new.outgoing ≡ old.outgoing
+  pub asked : new.asked ≡ old.asked
+  pub incoming : new.incoming ≡ old.incoming
+  pub answer : new.answer ≡ old.answer
+
+-- what it answers to an ask of whose arguments no call can be made
+abbrev pub Rejecting : declared.Error → Session → Result ⊤ Refusal → Session → Type 0
+Rejecting e s outcome s' = (outcome ≡ Err (Protocol e)) × KeepsAll s s' × Notes outcome s'
+
+-- the same of C
+abbrev pub RejectsBy : declared.Error → Option Session → ℕ → Option Session → Type 0
+RejectsBy e = By (Rejecting e)
+
 -- The same of a call that gives a descriptor: where there is none, the call is refused as one with an argument that is not allowed.
 abbrev pub AsksWith : Option PlainHandle → (PlainHandle → FrontendCall PlainHandle) → Option Session → ℕ → Option Session → Type 0
 AsksWith (Some h) call old n new = AsksBy (call h) old n new
-AsksWith None call old n new = (n ≡ 1) × (new ≡ old)
+AsksWith None call old n new = RejectsBy InvalidParam old n new
 
 -- the flags of a request that may be chosen: none, or that which asks for an acknowledgement
 abbrev pub is_header_flag : ℕ → Bool
@@ -156,12 +176,12 @@ is_header_flag n = n == 0 || n == 8
 -- An ask whose argument is allowed; else the call is refused as one with an argument that is not.
 abbrev pub AsksAllowed : Bool → FrontendCall PlainHandle → Option Session → ℕ → Option Session → Type 0
 AsksAllowed true call old n new = AsksBy call old n new
-AsksAllowed false call old n new = (n ≡ 1) × (new ≡ old)
+AsksAllowed false call old n new = RejectsBy InvalidParam old n new
 
 -- An ask with an argument that a number names: where it names none, the call is refused as one with an argument that is not allowed.
 abbrev pub AsksNamed : {A : Type 0} → Result A ⊤ → (A → Option Session → ℕ → Option Session → Type 0) → Option Session → ℕ → Option Session → Type 0
 AsksNamed (Ok a) asks old n new = asks a old n new
-AsksNamed (Err unnamed) asks old n new = (n ≡ 1) × (new ≡ old)
+AsksNamed (Err unnamed) asks old n new = RejectsBy InvalidParam old n new
 
 -- The answer of a call is taken at this end, of what its half that asks sent, and nothing is awaited any more.
 pub record TakesAt (call : FrontendCall PlainHandle) (sent : Sent) (end : State Ends PlainHandle) (f : Frontend) (answer : FrontendAnswer) (new : FrontendInternal Ends PlainHandle) : Type 0 where
@@ -211,18 +231,19 @@ abbrev pub Sending : List ℕ → List ℤ → ℕ × ℕ → Session → Result
 Sending bytes fds count s (Ok done) s' = HandsOut (queued s) (queued s') bytes fds count × Hands s s'
 Sending bytes fds count s (Err r) s' = (queued s' ≡ queued s) × Hands s s'
 
--- An ask of C whose arguments may be such that no call can be made of them: then it is refused, 1. Else it is asked; or memory was refused before, 24.
+-- An ask of C whose arguments may be such that no call can be made of them: then it is refused. Else it is asked; or memory was refused before.
 pub data AsksUnless (bad : Type 0) (call : FrontendCall PlainHandle) (old : Option Session) (n : ℕ) (new : Option Session) : Type 0 where
   asks : AsksBy call old n new → AsksUnless bad call old n new
-  refuses : bad → n ≡ 1 → new ≡ old → AsksUnless bad call old n new
-  wants : n ≡ 24 → new ≡ old → AsksUnless bad call old n new
+  refuses : bad → RejectsBy InvalidParam old n new → AsksUnless bad call old n new
+  wants : RejectsBy OutOfMemory old n new → AsksUnless bad call old n new
 
--- A new session: nothing is to be sent, nothing came, nothing is asked. It has the profile Standard, since a program in C speaks with real backends.
+-- A new session: nothing is to be sent, nothing came, nothing is asked, no ask lacked a feature. It has the profile Standard, since a program in C speaks with real backends.
 pub record IsNew (max_queue_num : ℕ) (s : Session) : Type 0 where
   pub queue : queued s ≡ []
   pub came : arrived s ≡ []
   pub memory : remembers s ≡ record (new_frontend max_queue_num) { profile = Standard }
   pub asked : s.asked ≡ None
+  pub inactive : s.inactive ≡ 0
 
 -- A session has another profile, and the rest is as before.
 pub record Changes (profile : Profile) (old new : Session) : Type 0 where
@@ -239,6 +260,11 @@ pub record Changes (profile : Profile) (old new : Session) : Type 0 where
 abbrev pub Choosing : Profile → Session → Result ⊤ Refusal → Session → Type 0
 Choosing profile s (Ok done) s' = Changes profile s s'
 Choosing profile s (Err r) s' = ⊥
+
+-- the same of C: what names no profile is refused, and nothing changed
+abbrev pub ChoosesBy : Option Profile → Option Session → ℕ → Option Session → Type 0
+ChoosesBy (Some profile) old n new = By (Choosing profile) old n new
+ChoosesBy None old n new = (n ≡ 1) × (new ≡ old)
 
 -- A session was opened; or there was one; or memory was refused.
 pub data Opens (max_queue_num : ℕ) : Option Session → ℕ → Option Session → Type 0 where

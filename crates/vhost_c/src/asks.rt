@@ -7,7 +7,7 @@ ghost use Rattle.vhost_protocol.specs.FrontendCall as calls;
 ghost use Rattle.vhost_frontend_core.specs.Values.{call_of};
 ghost use Rattle.vhost_c_common.specs.Records.{vring_in, inflight_in};
 ghost use Rattle.vhost_c.specs.Records.{info_in};
-ghost use Rattle.vhost_c.specs.Session.{AsksBy, AsksAllowed, AsksNamed, AsksUnless, is_header_flag};
+ghost use Rattle.vhost_c.specs.Session.{AsksBy, AsksAllowed, AsksNamed, AsksUnless, RejectsBy, is_header_flag};
 ghost use Rattle.vhost_message.specs.FrontendReq.{request_at};
 
 use crate::holder::Holder;
@@ -39,7 +39,21 @@ pub(crate) fn asked(alloc: Global, holder: &mut Holder, call: FrontendCall) -> u
     }
 }
 
-/// Refuses arguments of which no call can be made.
+/// Refuses an ask of whose arguments no call can be made, if there is a session.
+pub(crate) fn rejected(alloc: Global, holder: &mut Holder, error: Error) -> u32
+    ensures { RejectsBy error holder.old.session result holder.new.session }
+{
+    match holder.take(alloc) {
+        None => number_of(Err(Refusal::NoSession)),
+        Some(mut session) => {
+            let outcome = session.reject(error);
+            holder.put(session);
+            number_of(outcome)
+        }
+    }
+}
+
+/// Refuses what is asked of another session, where no call can be made of its arguments.
 pub(crate) fn refused(error: Error) -> u32
     ensures { result ≡ error_number error }
 {
@@ -53,7 +67,7 @@ pub extern "C" fn covretin_set_hdr_flags(alloc: Global, session: &mut Holder, fl
     ensures { AsksAllowed (is_header_flag flags) (calls.SetHdrFlags flags) session.old.session result session.new.session }
 {
     if flags != 0 && flags != NEED_REPLY {
-        return refused(Error::InvalidParam);
+        return rejected(alloc, session, Error::InvalidParam);
     }
     let flags = VhostUserHeaderFlag::from_bits_retain(flags);
     asked(alloc, session, FrontendCall::SetHdrFlags(flags))
@@ -311,7 +325,7 @@ pub extern "C" fn covretin_ask_get_config(
     ensures { AsksUnless (MAX_MSG_SIZE < size) (calls.GetConfig offset size flags (replicate size 0)) session.old.session result session.new.session }
 {
     if size as usize > MAX_MSG_SIZE {
-        return refused(Error::InvalidParam);
+        return rejected(alloc, session, Error::InvalidParam);
     }
     let flags = VhostUserConfigFlags::from_bits_retain(flags);
     match Vec::from_elem(alloc, 0u8, size as usize) {
@@ -320,7 +334,7 @@ pub extern "C" fn covretin_ask_get_config(
             session,
             FrontendCall::GetConfig(offset, size, flags, bytes),
         ),
-        Err(_) => refused(Error::OutOfMemory),
+        Err(_) => rejected(alloc, session, Error::OutOfMemory),
     }
 }
 
@@ -336,7 +350,7 @@ pub extern "C" fn covretin_ask_get_config_bytes(
     ensures { AsksUnless (MAX_MSG_SIZE < length bytes.now) (calls.GetConfig offset (length bytes.now) flags bytes.now) session.old.session result session.new.session }
 {
     if bytes.len() > MAX_MSG_SIZE {
-        return refused(Error::InvalidParam);
+        return rejected(alloc, session, Error::InvalidParam);
     }
     let flags = VhostUserConfigFlags::from_bits_retain(flags);
     let size = bytes.len() as u32;
@@ -346,7 +360,7 @@ pub extern "C" fn covretin_ask_get_config_bytes(
             session,
             FrontendCall::GetConfig(offset, size, flags, bytes),
         ),
-        Err(_) => refused(Error::OutOfMemory),
+        Err(_) => rejected(alloc, session, Error::OutOfMemory),
     }
 }
 
@@ -362,7 +376,7 @@ pub extern "C" fn covretin_ask_set_config(
     ensures { AsksUnless (MAX_MSG_SIZE < length bytes.now) (calls.SetConfig offset flags bytes.now) session.old.session result session.new.session }
 {
     if bytes.len() > MAX_MSG_SIZE {
-        return refused(Error::InvalidParam);
+        return rejected(alloc, session, Error::InvalidParam);
     }
     let flags = VhostUserConfigFlags::from_bits_retain(flags);
     match Vec::from_slice(alloc, bytes) {
@@ -371,7 +385,7 @@ pub extern "C" fn covretin_ask_set_config(
             session,
             FrontendCall::SetConfig(offset, flags, bytes),
         ),
-        Err(_) => refused(Error::OutOfMemory),
+        Err(_) => rejected(alloc, session, Error::OutOfMemory),
     }
 }
 
@@ -386,7 +400,7 @@ pub extern "C" fn covretin_ask_set_mem_table(
 {
     match infos_of(alloc, regions) {
         Ok(infos) => asked(alloc, session, FrontendCall::SetMemTable(infos)),
-        Err(error) => refused(error),
+        Err(error) => rejected(alloc, session, error),
     }
 }
 
@@ -400,7 +414,7 @@ pub extern "C" fn covretin_ask_get_shared_object(
     ensures { AsksUnless (length name.now ≢ 16) (calls.GetSharedObject (record { uuid = name.now })) session.old.session result session.new.session }
 {
     if name.len() != 16 {
-        return refused(Error::InvalidParam);
+        return rejected(alloc, session, Error::InvalidParam);
     }
     let mut bytes = [0; 16];
     bytes.copy_from_slice(name);
@@ -421,6 +435,6 @@ pub extern "C" fn covretin_ask_postcopy_ack_mem_regions(
 {
     match FrontendReq::try_from(request) {
         Ok(code) => asked(alloc, session, FrontendCall::PostcopyAckMemRegions(code)),
-        Err(()) => refused(Error::InvalidParam),
+        Err(()) => rejected(alloc, session, Error::InvalidParam),
     }
 }

@@ -1,6 +1,6 @@
 //! Worked consequences of the exports: what follows of their contracts alone.
 
-ghost use Rattle.std.specs.Prelude.{◌≡◌, ◌⊎◌, ◌∷◌, [], None, negsuc};
+ghost use Rattle.std.specs.Prelude.{◌≡◌, ◌≢◌, ◌⊎◌, ◌∷◌, [], None, negsuc};
 ghost use Rattle.std.specs.Option.{IsSomeAnd};
 ghost use Rattle.vhost_protocol.specs.Stream.{bytes};
 ghost use Rattle.vhost_c_common.specs.Number.{number};
@@ -8,9 +8,11 @@ ghost use Rattle.vhost_c.specs.Session.{queued};
 ghost use Rattle.vhost_c_common.specs.declared.refusal.Refusal.TheVariants.{NotYet};
 
 use crate::answers::covretin_answer_fd;
-use crate::asks::{covretin_ask_get_features, covretin_ask_postcopy_advise};
+use crate::asks::{
+    covretin_ask_get_config, covretin_ask_get_features, covretin_ask_postcopy_advise,
+};
 use crate::holder::Holder;
-use crate::moving::{covretin_receive, covretin_take};
+use crate::moving::{covretin_inactive, covretin_receive, covretin_take};
 use crate::opening::covretin_open;
 use std::alloc::Global;
 
@@ -32,6 +34,21 @@ pub fn takes_too_early(alloc: Global, session: &mut Holder) -> (u32, u32, u32)
     let asked = covretin_ask_get_features(alloc, session);
     let taken = covretin_take(alloc, session);
     (opened, asked, taken)
+}
+
+/// A part of the configuration space is asked for. Unless that is refused for a feature, none is told, whatever was refused before.
+pub fn lacks_none(
+    alloc: Global,
+    session: &mut Holder,
+    offset: u32,
+    size: u32,
+    flags: u32,
+) -> (u32, u64)
+    ensures { result.0 ≢ 3 → result.0 ≢ 4 → result.1 ≡ 0 }
+{
+    let asked = covretin_ask_get_config(alloc, session, offset, size, flags);
+    let inactive = covretin_inactive(alloc, session);
+    (asked, inactive)
 }
 
 /// A file descriptor is asked for, and an answer comes with these. Where all is answered 0, they are one, which the answer

@@ -9,7 +9,7 @@ ghost use Rattle.vhost_c.specs.Session.{AsksBy, AsksWith, AsksNamed};
 ghost use Rattle.vhost_message.specs.Transfer.{direction_at, phase_at};
 ghost use Rattle.vhost_c.specs.declared.fd_asks.FdAsk.TheVariants.{SetLogFd, SetBackendRequestFd, SetInflightFd, SetDeviceStateFd};
 
-use crate::asks::{asked, refused};
+use crate::asks::{asked, rejected};
 use crate::holder::Holder;
 use crate::regions::log_of;
 use std::alloc::Global;
@@ -51,7 +51,7 @@ fn asked_with(alloc: Global, holder: &mut Holder, ask: FdAsk, fd: i32) -> u32
 {
     match handle_of(fd) {
         Some(handle) => asked(alloc, holder, ask.with(handle)),
-        None => refused(Error::InvalidParam),
+        None => rejected(alloc, holder, Error::InvalidParam),
     }
 }
 
@@ -168,10 +168,10 @@ pub extern "C" fn covretin_ask_set_device_state_fd(
     ensures { AsksNamed (direction_at direction) (λ d. AsksNamed (phase_at phase) (λ p. AsksWith (handle_in fd) (call_with (SetDeviceStateFd d p)))) session.old.session result session.new.session }
 {
     let Ok(direction) = VhostTransferStateDirection::try_from(direction) else {
-        return refused(Error::InvalidParam);
+        return rejected(alloc, session, Error::InvalidParam);
     };
     let Ok(phase) = VhostTransferStatePhase::try_from(phase) else {
-        return refused(Error::InvalidParam);
+        return rejected(alloc, session, Error::InvalidParam);
     };
     asked_with(
         alloc,

@@ -1,9 +1,8 @@
 //! Whose behaviour a session has.
 
-ghost use Rattle.std.specs.Prelude.{ok_or};
 ghost use Rattle.vhost_c_common.specs.ByNumber.{By};
 ghost use Rattle.vhost_c_common.specs.Profile.{profile_at};
-ghost use Rattle.vhost_c.specs.Session.{AsksNamed, Choosing};
+ghost use Rattle.vhost_c.specs.Session.{Choosing, ChoosesBy};
 
 use crate::holder::Holder;
 use std::alloc::Global;
@@ -15,7 +14,7 @@ use vhost_message::Error;
 /// that of the crate `vhost`. Nothing is sent for it, and nothing is to be received.
 #[unsafe(no_mangle)]
 pub extern "C" fn covretin_set_profile(alloc: Global, session: &mut Holder, profile: u32) -> u32
-    ensures { AsksNamed (ok_or (profile_at profile) tt) (λ p. By (Choosing p)) session.old.session result session.new.session }
+    ensures { ChoosesBy (profile_at profile) session.old.session result session.new.session }
 {
     match profile_of(profile) {
         Some(profile) => chosen(alloc, session, profile),

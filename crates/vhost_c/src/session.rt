@@ -56,7 +56,7 @@ pub struct Session {
 impl Session {
     ghost use Rattle.vhost_message.specs.declared.limits.TheConstants.{MAX_MSG_TEXT};
     ghost use Rattle.vhost_c_common.specs.Moving.{HandsOut};
-    ghost use Rattle.vhost_c.specs.Session.{IsNew, Changes, Asks, Asking, Becomes, Stays, Hands, Fails, Receiving, Takes, queued, remembers, missing_of};
+    ghost use Rattle.vhost_c.specs.Session.{IsNew, Changes, Asks, Asking, Rejecting, Becomes, Stays, Hands, Fails, Receiving, Takes, queued, remembers, missing_of};
 
     /// A new session with a backend of at most so many queues, of the profile `Standard`.
     ///
@@ -103,7 +103,16 @@ impl Session {
         outcome
     }
 
-    /// The same, but for the feature that was not active.
+    /// Refuses an ask of whose arguments no call can be made.
+    pub(crate) fn reject(&mut self, error: Error) -> Outcome<()>
+        ensures { Rejecting error self.old result self.new }
+    {
+        let outcome = Err(Refusal::Protocol(error));
+        self.inactive = inactive_of(&outcome);
+        outcome
+    }
+
+    /// What becomes of an ask, but for the feature that was not active.
     fn ask_in_turn(&mut self, call: FrontendCall) -> Outcome<()>
         ensures { Becomes (call_of call) self.old result self.new }
     {

@@ -155,9 +155,9 @@ is-due s n idle is none =
     let zero : missing_of_request s.incoming ≡ 0 = omega arith in
     record { idle = idle; whole = ap (λ b. if b then 0 else missing_of_request s.incoming) idle ∙ zero }
 
-pub begins : TalksLaw → (old new : Served) (number : ℕ) (c : DeviceCall) (b : halves.Begins Channel Display event old.core new.core) → new.outgoing ≡ old.outgoing → new.incoming.count ≡ 0 → number ≡ call_number c
+pub begins : TalksLaw → (old new : Served) (number : ℕ) (c : DeviceCall) (b : halves.Begins Channel Display event old.core new.core) → new.outgoing ≡ old.outgoing → new.incoming.count ≡ 0 → new.inactive ≡ 0 → number ≡ call_number c
     → ((m : Request) → IsServed m new → (d : DeviceCall) × (Some c ≡ Some d) × IsCall (remembers new) m d) → IsDue old → serving.Begins number old new
-begins law old new number c b outgoing count is lends due =
+begins law old new number c b outgoing count inactive is lends due =
     let cut = hears-cut law (split request_of allows_handles) (endpoint_of old.core) (endpoint_of new.core) (Ok b.reads.message) b.reads.hears in
     let x = served old new b in let d = lends b.reads.message x in
     let makes : Makes (step_of {B = Channel} {G = Display} (remembers new) b.reads.message d.0) =
@@ -171,6 +171,7 @@ begins law old new number c b outgoing count is lends due =
       memory = b.session;
       queue = ap {A = Outgoing} (λ q. q.link.pending ++ (endpoint_of new.core).link.sent) outgoing ∙ ap (λ xs. old.outgoing.link.pending ++ xs) cut.1;
       nothing_came = count;
+      inactive = inactive;
     }
 
 -- ---- what follows

@@ -80,13 +80,14 @@ end_number s = if s.incoming.count == 0 || missing_of s == 0 then 10 else if nat
 abbrev pub new_session : Session
 new_session = record fresh { profile = Standard }
 
--- A new session: nothing is to be sent, nothing came, no call is to be replied to.
+-- A new session: nothing is to be sent, nothing came, no call is to be replied to, no request lacked a feature.
 pub record IsNew (s : Served) : Type 0 where
   pub queue : queued s ≡ []
   pub came : arrived s ≡ []
   pub count : s.incoming.count ≡ 0
   pub memory : remembers s ≡ new_session
   pub idle : has_call s ≡ false
+  pub inactive : s.inactive ≡ 0
 
 -- It has this profile from now on; nothing else changed.
 pub record Chose (profile : Profile) (old new : Served) : Type 0 where
@@ -95,6 +96,7 @@ pub record Chose (profile : Profile) (old new : Served) : Type 0 where
   pub came : arrived new ≡ arrived old
   pub incoming : new.incoming ≡ old.incoming
   pub idle : has_call new ≡ false
+  pub inactive : new.inactive ≡ old.inactive
 
 -- what a session answers where its profile is chosen: it is one, and no call is to be replied to
 abbrev pub Choosing : Option Profile → Served → Result ⊤ Refusal → Served → Type 0

@@ -95,7 +95,7 @@ pub record IsDue (s : Served) : Type 0 where
   pub idle : has_call s ≡ false
   pub whole : missing_of s ≡ 0
 
--- The request that came is a message, as its stream is split, and it became this call of the device. What is to be sent and what is remembered are as before.
+-- The request that came is a message, as its stream is split, and it became this call of the device. What is to be sent and what is remembered are as before. It lacks no feature.
 pub record Begins (number : ℕ) (old new : Served) : Type 0 where
   pub due : IsDue old
   pub message : Request
@@ -105,8 +105,9 @@ pub record Begins (number : ℕ) (old new : Served) : Type 0 where
   pub memory : remembers new ≡ remembers old
   pub queue : queued new ≡ queued old
   pub nothing_came : new.incoming.count ≡ 0
+  pub inactive : new.inactive ≡ 0
 
--- It was refused, or trouble came first; the device is asked nothing, and nothing of the request is left.
+-- It was refused, or trouble came first; the device is asked nothing, and nothing of the request is left. Which feature it lacks is kept, if that is why.
 pub record Denies (e : declared.Error) (old new : Served) : Type 0 where
   pub due : IsDue old
   pub mid : SessionCore Ends PlainHandle

@@ -10,7 +10,7 @@ pub returns-then-has_call : goal.returns-then-has_call
 returns-then-has_call c = (sym c.has_call.ensures ∙ c.if-has_call.true, refl)
 
 pub returns-in-Some : goal.returns-in-Some
-returns-in-Some c = λ unmarked. begins c.talks_law.ensures.talks c.args.self.now _ _ c.in-Some.call (c.in-Ok.ensures.begun unmarked) refl c.new-self.ensures c.number_of_call.ensures c.in-Some.ensures.one
+returns-in-Some c = λ unmarked. begins c.talks_law.ensures.talks c.args.self.now _ _ c.in-Some.call (c.in-Ok.ensures.begun unmarked) refl c.new-self.ensures refl c.number_of_call.ensures c.in-Some.ensures.one
     (is-due c.args.self.now _ (sym c.has_call.ensures ∙ c.if-has_call.false) c.missing_of_request.ensures.missing c.if-missing_of_request-gt0.false)
 
 pub returns-in-None : goal.returns-in-None
