@@ -285,7 +285,7 @@ fn numbers() {
             Ok((it.get_queue_num()?, it.get_max_mem_slots()?, it.get_vring_base(3)?, it.get_protocol_features()?.bits()))
         };
         // MQ, .., as the device offers them, and REPLY_ACK, which the library adds.
-        assert_eq!((RINGS, 32, 0x1234_5678, 0x4c_bf3b), replied(&device, numbers).unwrap());
+        assert_eq!((RINGS, 32, 0x1234_5678, 0x4c_b73b), replied(&device, numbers).unwrap());
         assert_eq!(["get_queue_num", "get_max_mem_slots", "get_vring_base 3", "get_protocol_features"], *seen(&device).asked);
     });
 }
