@@ -116,12 +116,13 @@ uninstall:
 	rm -f $(PAGES1:%=$(DESTDIR)$(MANDIR)/man1/%) $(PAGES7:%=$(DESTDIR)$(MANDIR)/man7/%)
 
 # Git says which files; what a tarball was unpacked to has no others. Each has the commit's time.
-FILES = $(shell git ls-files 2>/dev/null || find . '(' -type f -o -type l ')' ! -path './$(BUILD)/*' ! -name '*.tar.xz' ! -name SHA256SUMS | cut -c3-)
-SOURCE_DATE_EPOCH ?= $(shell git log -1 --format=%ct 2>/dev/null || stat -c %Y VERSION)
+SOURCE_DATE_EPOCH ?= $(shell if [ -e .git ]; then git log -1 --format=%ct; else stat -c %Y VERSION; fi)
 TARBALL := covretin-$(VERSION).tar.xz
 
 dist:
-	printf '%s\n' $(FILES) | LC_ALL=C sort | tar --create --no-recursion --files-from=- --transform='s,^,covretin-$(VERSION)/,S' \
+	if [ -e .git ]; then git ls-files; else \
+	    find . '(' -type f -o -type l ')' ! -path './$(BUILD)/*' ! -name '*.tar.xz' ! -name SHA256SUMS | cut -c3-; fi | LC_ALL=C sort | \
+	    tar --create --no-recursion --files-from=- --transform='s,^,covretin-$(VERSION)/,S' \
 	    --sort=name --mtime=@$(SOURCE_DATE_EPOCH) --owner=0 --group=0 --numeric-owner --mode=u+rw,go+r,go-w --format=ustar | \
 	    xz -9 -T1 >$(TARBALL)
 	sha256sum $(TARBALL) >SHA256SUMS
