@@ -1,6 +1,9 @@
 /* SPDX-License-Identifier: Apache-2.0 */
-/* Covretin: what the proved programs take from the system beside the C library: their arguments, and errno. Private to them. */
+/* Covretin: what the proved programs take from the system beside the C library: their arguments, errno, and a folder that is opened and
+ * is no link. Private to them. */
+#define _GNU_SOURCE
 #include <errno.h>
+#include <fcntl.h>
 #include <stdint.h>
 #include <stdlib.h>
 #include <string.h>
@@ -9,6 +12,7 @@ int32_t rattle_errno(void);
 void rattle_set_errno(int32_t number);
 size_t rattle_arg_count(void);
 size_t rattle_arg(size_t index, uint8_t *to, size_t room);
+int32_t rattle_open_dir_at(int32_t folder, const char *name);
 
 static size_t count;
 static char **words;
@@ -38,4 +42,8 @@ size_t rattle_arg(size_t index, uint8_t *to, size_t room) {
     size_t length = strlen(words[index]);
     memcpy(to, words[index], length < room ? length : room);
     return length <= room ? length : (size_t)-2;
+}
+
+int32_t rattle_open_dir_at(int32_t folder, const char *name) {
+    return openat(folder, name, O_RDONLY | O_DIRECTORY | O_NOFOLLOW | O_CLOEXEC);
 }
