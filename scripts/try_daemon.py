@@ -27,10 +27,12 @@ DAEMON = TOP / "vhost-daemon"
 VERSION = f"vhost-daemon {(TOP / 'VERSION').read_text().strip()}\n"
 USAGE = "usage: vhost-daemon PATH COUNT\n"
 
-# A wait fails once the row's daemons rest: in so many looks, each so many seconds after the one before, they all slept and had done nothing
-# since. Nothing comes then, since the row does nothing but look. It fails, too, where they use so many seconds of a processor.
-LOOKS = 500
+# A wait pauses for so many seconds, and after so many pauses it looks at the row's daemons. It fails once they rest: in so many looks in a
+# row they slept, and had done nothing since the one before. Nothing comes then, since the row does nothing but wait. It fails, too, where
+# they use so many seconds of a processor.
 PAUSE = 0.01
+PAUSES = 50
+LOOKS = 10
 LIMIT = 300
 
 # How many sessions come one after another, and what they may add to memory, in kilobytes from the half on.
@@ -176,28 +178,41 @@ def turns(pid):
     return count
 
 
-def wait_until(holds, what, stream=None):
-    """Waits until it holds, maybe by what comes from a stream. It fails once the daemons rest, or use too much of a processor."""
-    looks, last = 0, None
-    began = sum(map(processor, living()))
-    while not holds():
-        pause(stream)
+class Watch:
+    """Looks at the row's daemons while something is waited for."""
+
+    def __init__(self, what):
+        self.what, self.looks, self.last, self.began = what, 0, None, None
+
+    def look(self):
+        """Fails once they rest, or have used too much of a processor."""
         now = list(map(turns, living()))
-        looks = looks + 1 if now == last and None not in now else 0
-        last = now
-        assert looks < LOOKS, f"{what}, and the daemon rests"
-        used = sum(map(processor, living())) - began
-        assert used < LIMIT, f"{what}, and the daemon has used {used} seconds of a processor"
+        self.looks = self.looks + 1 if now == self.last and None not in now else 0
+        self.last = now
+        assert self.looks < LOOKS, f"{self.what}, and the daemon rests"
+        used = sum(map(processor, living()))
+        self.began = used if self.began is None else self.began
+        assert used - self.began < LIMIT, f"{self.what}, and the daemon has used {used - self.began} seconds of a processor"
 
 
-def pause(stream):
-    """Some time passes, or something comes from a stream."""
+def wait_until(holds, what, stream=None):
+    """Waits until it holds, maybe by what comes from a stream."""
+    watch, pauses = Watch(what), 0
+    while not holds():
+        if not comes_soon(stream):
+            pauses += 1
+            if pauses % PAUSES == 0:
+                watch.look()
+
+
+def comes_soon(stream):
+    """Whether something comes from a stream, before a pause has passed."""
     if stream is None:
         time.sleep(PAUSE)
-        return
-    comes = select.poll()
-    comes.register(stream, select.POLLIN)
-    comes.poll(PAUSE * 1000)
+        return False
+    coming = select.poll()
+    coming.register(stream, select.POLLIN)
+    return coming.poll(PAUSE * 1000) != []
 
 
 def living():
