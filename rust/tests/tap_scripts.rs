@@ -89,7 +89,8 @@ impl Script {
 
     fn read_answer(&mut self, rest: &str) {
         let request = self.open.pop_front();
-        let is_unserved = request.map_or(false, |at| UNSERVED.contains(&self.messages[at].1[0])) && rest == "err InvalidOperation";
+        let is_unserved =
+            request.map_or(false, |at| UNSERVED.contains(&self.messages[at].1[0])) && rest == "err InvalidOperation";
         let is_refused = !self.is_asked && rest.starts_with("err") && !is_unserved;
         self.is_asked = false;
         match request {
