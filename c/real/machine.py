@@ -297,6 +297,8 @@ def tried_killed(program):
     """The disk is killed amid writes, and started again: nothing is lost, and the guest goes on."""
     disk = Disk(program)
     machine = boot("machine", disk, reconnect=1)
+    # QEMU has an inflight region for rings of 128, for which Linux has 128 requests, and more for larger ones.
+    is_noted = int(machine.do("cat /sys/block/vda/queue/nr_requests")) <= 128
     machine.do(WRITER)
     for _ in range(8):
         before = written(machine)
@@ -311,8 +313,8 @@ def tried_killed(program):
     check_blocks(count)
     with open("disk.log", encoding="utf-8") as it:
         again = it.read().count("are done again")
-    tell(f"{again} disks did requests again")
-    check(again == 8, "each was killed amid a request")
+    tell(f"{again} disks did requests again that the inflight region had")
+    check(again == (8 if is_noted else 0), "each was killed amid a request")
 
 
 def tried_memory(program):
@@ -325,7 +327,8 @@ def tried_memory(program):
     machine.ask("object-add", **{"qom-type": "memory-backend-memfd", "id": "more", "size": 256 << 20, "share": True})
     machine.ask("device_add", driver="pc-dimm", id="dimm", memdev="more")
     wait_until(lambda: disk.mapped() > before, "the disk has the memory mapped")
-    machine.do("while ! grep -q offline /sys/devices/system/memory/memory*/state; do sleep 0.1; done; sleep 1")
+    # (it comes as two blocks of 128 MiB)
+    machine.do("while [ $(grep -l offline /sys/devices/system/memory/memory*/state | wc -l) -lt 2 ]; do sleep 0.1; done")
     machine.do("for it in /sys/devices/system/memory/memory*/state; do grep -q online $it || echo online_movable >$it; done")
     check(int(machine.do("awk '/MemTotal/ { print $2 }' /proc/meminfo")) > 300 << 10, "the guest has the memory")
     found = machine.do("head -c 50331648 /dev/vda1 | sha256sum")
