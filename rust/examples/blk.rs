@@ -142,8 +142,11 @@ fn refuse_another(listener: &Listener, handler: &BackendReqHandler<Mutex<Disk>>)
 
 /// The number of the request that came last, and its name.
 fn last_request(handler: &BackendReqHandler<Mutex<Disk>>) -> String {
-    let Some(number) = handler.last_request() else { return "no request".to_string() };
-    FrontendReq::try_from(number).map_or(format!("request {number}"), |name| format!("request {number}, {name:?},"))
+    match handler.last_request().map(|number| (number, FrontendReq::try_from(number))) {
+        None => "no request".to_string(),
+        Some((number, Err(_))) => format!("request {number}"),
+        Some((number, Ok(name))) => format!("request {number}, {name:?},"),
+    }
 }
 
 fn locked(disk: &Mutex<Disk>) -> MutexGuard<'_, Disk> {

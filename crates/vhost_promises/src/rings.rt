@@ -55,10 +55,11 @@ fn send_all(
     Ok((counts, link.finish()))
 }
 
-/// Receives what comes in so many calls.
+/// Receives what comes, until so many bytes came or so many calls were made.
 fn receive_all(
     link: SharedLink<()>,
     alloc: Global,
+    wanted: usize,
     calls: u32,
 ) -> Result<(SharedLink<()>, Vec<Part>), AllocError>
     requires { link.received ≡ [] }
@@ -67,12 +68,17 @@ fn receive_all(
 {
     let mut link = link;
     let mut parts = Vec::new(alloc);
+    let mut received: usize = 0;
     for _i in 0..calls {
+        if received >= wanted {
+            break;
+        }
         parts.reserve(1)?;
         let Some(part) = receive_part(&mut link, alloc)? else {
             thread::yield_now();
             continue;
         };
+        received = received.saturating_add(part.bytes.len());
         parts.push_reserved(part);
     }
     Ok((link, parts))
@@ -103,7 +109,7 @@ pub fn carries<R: Threads + Sync>(
         move || -> Result<(SharedLink<()>, Vec<Part>), AllocError>
             requires { far.received ≡ [] }
             ensures { IfOk result (λ r. (r.0.input ≡ far.input) × (r.0.received ≡ part_cells r.1.items)) }
-        { receive_all(far, alloc, calls) },
+        { receive_all(far, alloc, bytes.len(), calls) },
     );
     let (counts, token) = sent?;
     let (mut far, parts) = received?;

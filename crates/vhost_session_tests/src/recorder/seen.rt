@@ -5,10 +5,10 @@ use crate::recorder::drive::{Crowd, four_callers};
 use std::alloc::{AllocError, Global};
 use std::sync::Wait;
 use std::thread::Threads;
-use vhost_dummy_backend::DummyBackendReqHandler;
 use vhost_frontend_core::RegionInfo;
 use vhost_link::{Cut, Kind, MemLink, PlainHandle};
 use vhost_message::{VhostUserMemoryRegion, VhostUserProtocolFeatures, VhostUserShMemConfig};
+use vhost_promises::Device;
 use vhost_recorder::{FrontendAnswer, FrontendCall, Halt, Log, Receipt, Recorded, Stop};
 
 /// How many receipts in a row are confirmed, and have this caller, the serials from 0 on, and the features.
@@ -88,16 +88,27 @@ fn last_confirmed<D: Example>(own: &Crowd<D>, another: &Crowd<D>) -> Option<(u64
     ))
 }
 
+/// Four callers who ask a new device so often each.
+fn crowd<D: Example, R: Threads + Wait + Sync>(
+    rt: &R,
+    alloc: Global,
+    count: u32,
+) -> Result<Crowd<D>, Halt> {
+    match asking(alloc, count) {
+        Ok(calls) => four_callers(rt, alloc, D::fresh(alloc), &calls, (0, Vec::new(alloc))),
+        Err(_) => Err(Halt::OutOfMemory),
+    }
+}
+
 /// The same of four callers who make 101 calls each, where those of the other log make one call less.
 fn one_more<D: Example, R: Threads + Wait + Sync>(
     rt: &R,
     alloc: Global,
 ) -> Option<(u64, bool, bool)> {
-    let calls = asking(alloc, 101).ok()?;
-    let own = four_callers(rt, alloc, D::fresh(alloc), &calls, (0, Vec::new(alloc))).ok()?;
-    let calls = asking(alloc, 100).ok()?;
-    let another = four_callers(rt, alloc, D::fresh(alloc), &calls, (0, Vec::new(alloc))).ok()?;
-    last_confirmed(&own, &another)
+    match (crowd::<D, R>(rt, alloc, 101), crowd::<D, R>(rt, alloc, 100)) {
+        (Ok(own), Ok(another)) => last_confirmed(&own, &another),
+        _ => None,
+    }
 }
 
 /// How many of these calls are recorded, so that the log has their receipts.
@@ -126,19 +137,35 @@ fn table(alloc: Global) -> Result<Vec<RegionInfo<PlainHandle>>, AllocError> {
     Ok(regions)
 }
 
-/// The same of calls with lists, a table and the sizes of shared memory.
-fn lists_kept(alloc: Global) -> Option<u64> {
-    let calls = [
+/// Calls with lists: a table, and the sizes of shared memory.
+fn lists(alloc: Global) -> Result<[FrontendCall; 4], AllocError> {
+    let regions = table(alloc)?;
+    Ok([
         FrontendCall::GetFeatures,
         FrontendCall::SetProtocolFeatures(VhostUserProtocolFeatures::SHMEM),
         FrontendCall::GetShmemConfig,
-        FrontendCall::SetMemTable(table(alloc).ok()?),
-    ];
-    let mut device = DummyBackendReqHandler::new(alloc, Vec::new(alloc));
+        FrontendCall::SetMemTable(regions),
+    ])
+}
+
+/// A recorded run over a device with shared memory.
+fn with_shared_memory(alloc: Global) -> Option<Recorded<Device>> {
+    let mut device = Device::new(alloc, Vec::new(alloc));
     device.set_shmem_config(VhostUserShMemConfig::new(2, &[0x1000, 0x2000]));
     let scripts = (Vec::new(alloc), Vec::new(alloc));
-    let mut recorded = Recorded::new(alloc, device, 2, 3, scripts).ok()?;
-    Some(kept(&mut recorded, &calls))
+    Recorded::new(alloc, device, 2, 3, scripts).ok()
+}
+
+/// How many of these calls are recorded.
+fn lists_kept(alloc: Global) -> Option<u64> {
+    let calls = lists(alloc).ok()?;
+    kept_of(with_shared_memory(alloc), &calls)
+}
+
+/// The same of a run that was made.
+fn kept_of<D: Example>(recorded: Option<Recorded<D>>, calls: &[FrontendCall]) -> Option<u64> {
+    let mut recorded = recorded?;
+    Some(kept(&mut recorded, calls))
 }
 
 /// Whether those hold that are of any device.
