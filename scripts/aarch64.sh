@@ -44,7 +44,10 @@ failed=0
 for program in session replies connection hostile calls memory service both hostile_frontend serving_calls channel channel_session \
     display display_session display_calls; do
     rm -rf "$to/$program.room" && mkdir "$to/$program.room" || exit 3
-    (cd "$to/$program.room" && timeout 300 qemu-aarch64 -L /usr/aarch64-linux-gnu "$to/$program") >"$to/$program.said" 2>&1
+    (cd "$to/$program.room" && exec qemu-aarch64 -L /usr/aarch64-linux-gnu "$to/$program") >"$to/$program.said" 2>&1 &
+    ran=$!
+    "$top/scripts/patience.py" 600 "$ran" || kill -9 "$ran"
+    wait "$ran"
     ended=$?
     good=$(grep -c ': ok$' "$to/$program.said")
     bad=$(grep ': FAILED$' "$to/$program.said" | grep -c -v -E "($cannot): FAILED\$")
