@@ -7,8 +7,16 @@ top=$(cd "$1" && pwd) && mkdir -p "$2" && to=$(cd "$2" && pwd) || exit 3
 cc=${CC-aarch64-linux-gnu-gcc}
 make -s -C "$top" CC="$cc" AR=aarch64-linux-gnu-ar BUILD="$to/build" || exit 3
 
-# Its recvmsg does not say that the system dropped descriptors (MSG_CTRUNC).
+# What the emulator cannot do, test by test. Its recvmsg does not say that the system dropped descriptors (MSG_CTRUNC); and where a child
+# that it forks stands still, as by Debian's 7.2 on newer kernels, no test that waits for a child or a thread can end.
 cannot='lost_descriptors'
+printf '#include <unistd.h>\nint main(void) { if (fork() == 0) { usleep(1000); _exit(0); } usleep(3000000); return 0; }\n' >"$to/fork.c"
+"$cc" -o "$to/fork" "$to/fork.c" || exit 3
+qemu-aarch64 -L /usr/aarch64-linux-gnu "$to/fork" &
+sleep 2
+[ -z "$(ps -o state= --ppid $! | grep -v Z)" ] || COVRETIN_LEFT_OUT='limits_time_of_a_trickle goes_on_after_signals connects_again slow_display'
+export COVRETIN_LEFT_OUT
+kill -9 "$!" 2>/dev/null
 
 compile() {
     name=$1

@@ -8,6 +8,7 @@
 #include <stdint.h>
 #include <stdio.h>
 #include <stdlib.h>
+#include <string.h>
 #include <sys/resource.h>
 #include <time.h>
 
@@ -21,8 +22,21 @@ void expect(int line, const char *call, long long want, long long got)
     wrong = true;
 }
 
+/* Whether COVRETIN_LEFT_OUT names a test: what an emulator cannot do. */
+static bool is_left_out(const char *name)
+{
+    const char *names = getenv("COVRETIN_LEFT_OUT");
+    const char *found = names != NULL ? strstr(names, name) : NULL;
+    return found != NULL && strchr(" ", found[strlen(name)]) != NULL;
+}
+
 void run(const char *name, void (*test)(void))
 {
+    if (is_left_out(name)) {
+        printf("%s: left out\n", name);
+        fflush(stdout);
+        return;
+    }
     size_t before = open_fds();
     wrong = false;
     test();
