@@ -13,10 +13,14 @@ cannot='lost_descriptors'
 printf '#include <unistd.h>\nint main(void) { if (fork() == 0) { usleep(1000); _exit(0); } usleep(3000000); return 0; }\n' >"$to/fork.c"
 "$cc" -o "$to/fork" "$to/fork.c" || exit 3
 qemu-aarch64 -L /usr/aarch64-linux-gnu "$to/fork" &
+probe=$!
 sleep 2
-[ -z "$(ps -o state= --ppid $! | grep -v Z)" ] || COVRETIN_LEFT_OUT='limits_time_of_a_trickle goes_on_after_signals connects_again slow_display'
-export COVRETIN_LEFT_OUT
-kill -9 "$!" 2>/dev/null
+stands=$(ps -o pid=,state= --ppid "$probe" | awk '$2 != "Z" { print $1 }')
+if [ -n "$stands" ]; then
+    export COVRETIN_LEFT_OUT='limits_time_of_a_trickle goes_on_after_signals connects_again slow_display'
+fi
+kill -9 $stands "$probe" 2>/dev/null
+wait "$probe" 2>/dev/null
 
 compile() {
     name=$1
