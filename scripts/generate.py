@@ -6,6 +6,7 @@
   scripts/generate.py NAME..          writes these alone: x86_64/covretin, x86_64/vhost-run, x86_64/vhost-daemon, aarch64/covretin
   scripts/generate.py --compare       writes nothing, and compares what is there with what is proved now, instruction by instruction
   scripts/generate.py --current NAME  status 0 where that one was made of the sources as they are, else 1; it needs no kit
+  scripts/generate.py --program NAME  the same, and assembles the program on this machine, in out/ of its crate, and prints where it is
 
 In a machine's folder NAME.s is the code; NAME.verdict the line in which the checker says what is proved; and NAME.sources the sum of the
 sources that it was made of, and the kit that proved it. What is made depends on nothing else, and names no place.
@@ -74,6 +75,22 @@ def is_current(name):
     """Whether it was made of the sources as they are."""
     path = f"{place(name)}.sources"
     return os.path.isfile(path) and text_of(path).startswith(f"{sum_of(MADE[name][0])} ")
+
+
+def program(name):
+    """Where the program is, assembled on this machine. None where it was made of other sources, or cannot be assembled here."""
+    if os.uname().machine != name.partition("/")[0] or not shutil.which("cc") or not is_current(name):
+        return None
+    crate = MADE[name][0]
+    made = f"{TOP}/crates/{crate}/out/assembled/{crate}"
+    sources = [f"{place(name)}.s", f"{TOP}/c/covretin_program.c", f"{TOP}/c/covretin_memory.c"]
+    if not os.path.exists(made) or any(os.path.getmtime(it) > os.path.getmtime(made) for it in sources):
+        os.makedirs(os.path.dirname(made), exist_ok=True)
+        with tempfile.TemporaryDirectory(dir=os.path.dirname(made)) as room:
+            if subprocess.run(["cc", "-O2", "-pthread", "-o", f"{room}/program", *sources], check=False).returncode:
+                return None
+            os.replace(f"{room}/program", made)
+    return made
 
 
 def rlib(crate):
@@ -163,6 +180,10 @@ def compare(name):
 def main(words):
     if words[:1] == ["--current"] and len(words) == 2 and words[1] in MADE:
         return 0 if is_current(words[1]) else 1
+    if words[:1] == ["--program"] and len(words) == 2 and words[1] in MADE:
+        made = program(words[1])
+        print(made or "", end="\n" if made else "")
+        return 0 if made else 1
     if words == ["--compare"]:
         held = [compare(it) for it in MADE]
         print(f"{held.count(True)} passed, {held.count(False)} failed")

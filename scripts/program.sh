@@ -8,7 +8,6 @@
 . "$top/scripts/options.sh"
 
 proved=$top/crates/$package/out/$package
-assembled=$top/crates/$package/out/assembled/$package
 unproved=$top/crates/$package/out/unproved/$package
 
 before_compiling() {
@@ -22,15 +21,6 @@ build() {
 # Whether a program is there, and none of these folders of its crates has a newer file.
 is_current() {
     build current "$package" "$@"
-}
-
-# Assembles the proved program that generated/ has, where that was made of these sources, for this machine.
-assemble() {
-    is_current "$assembled" src specs proofs && return
-    [ "$(uname -m)" = x86_64 ] && command -v cc >/dev/null && "$top/scripts/generate.py" --current "x86_64/$program" || return
-    mkdir -p "$(dirname "$assembled")" &&
-        cc -O2 -pthread -o "$assembled.$$" "$top/generated/x86_64-linux/$program.s" "$top/c/covretin_program.c" "$top/c/covretin_memory.c" &&
-        mv "$assembled.$$" "$assembled"
 }
 
 # Compiles the program without proof, where none is kept or a source is newer.
@@ -78,7 +68,7 @@ prove() {
 # Runs the proved program, or, where there is none of these sources, the one without proof.
 run() {
     is_current "$proved" src specs proofs && exec "$proved" "$@"
-    assemble && exec "$assembled" "$@"
+    assembled=$("$top/scripts/generate.py" --program "x86_64/$program") && exec "$assembled" "$@"
     compile "$@"
     exec "$unproved" "$@"
 }

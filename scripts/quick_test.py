@@ -1,5 +1,6 @@
 # SPDX-License-Identifier: Apache-2.0
 """Plays every script, unit test and program without proof. `./quick-test --help` says more, and `./quick-test` calls it."""
+import functools
 import os
 import re
 import subprocess
@@ -8,6 +9,7 @@ import tempfile
 from concurrent.futures import ThreadPoolExecutor
 from dataclasses import dataclass, field
 
+import generate
 from build import TOP, compile_unproved, dependencies, is_current, kept_at
 from patience import LimitSpent, communicate
 from shared_library import Unmade, place, shared_library
@@ -121,15 +123,17 @@ def compare(play, ran, ended):
 def play_program(play):
     """Runs a program."""
     folder = f"{TOP}/crates/{play.crate}"
-    return compare(play, run(kept_at(play.crate), play.words, read(f"{folder}/stdin")), int(read(f"{folder}/status", b"0")))
+    program = program_of_lines() if play.needs == [RUN] else kept_at(play.crate)
+    return compare(play, run(program, play.words, read(f"{folder}/stdin")), int(read(f"{folder}/status", b"0")))
 
 
+@functools.lru_cache(maxsize=None)
 def program_of_lines():
-    """The program that plays lines: the proved one, where it is current."""
+    """The program that plays lines: the proved one, where it is current, or that of generated/."""
     crate, _ = RUN
     proved = f"{TOP}/crates/{crate}/out/{crate}"
     is_proved = os.access(proved, os.X_OK) and is_current(crate, proved, ["src", "specs", "proofs"])
-    return proved if is_proved else kept_at(crate)
+    return proved if is_proved else generate.program("x86_64/vhost-run") or kept_at(crate)
 
 
 def play_script(play):
