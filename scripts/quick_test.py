@@ -3,6 +3,7 @@
 import functools
 import os
 import re
+import shutil
 import subprocess
 import sys
 import tempfile
@@ -193,13 +194,22 @@ def make(which):
     return None
 
 
+def needs_kit(which):
+    """Whether making what a play needs takes the Rattle kit."""
+    return which != LIBRARY or place()[2] == "unproved"
+
+
+def lacking_of(plays):
+    """What these plays need and is not there."""
+    return [it for it in sorted({which for it in plays if not it.broken for which in it.needs}) if not is_made(it)]
+
+
 def compile_all(plays, jobs):
     """Compiles what is not there. The plays that need what could not be compiled become broken."""
-    wanted = sorted({which for it in plays if not it.broken for which in it.needs})
-    lacking = [it for it in wanted if not is_made(it)]
+    lacking = lacking_of(plays)
     if not lacking:
         return
-    print(f"quick-test: compiles {len(lacking)} of {len(wanted)} programs without proof", file=sys.stderr, flush=True)
+    print(f"quick-test: compiles {len(lacking)} programs without proof", file=sys.stderr, flush=True)
 
     def compile_one(which):
         told = make(which)
@@ -222,6 +232,9 @@ def main(jobs, words):
             print(f"quick-test: there is nothing named {word}: a script, a file of unit tests, a crate, or scripts", file=sys.stderr)
             return 2
     plays = [it for it in every if not words or any(it.is_named(word) for word in words)]
+    if not shutil.which("rt") and any(map(needs_kit, lacking_of(plays))):
+        print("quick-test: the command rt of the Rattle kit is not on PATH", file=sys.stderr)
+        return 3
     compile_all(plays, jobs)
     failed = 0
     with ThreadPoolExecutor(jobs) as pool:
