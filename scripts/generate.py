@@ -117,7 +117,9 @@ def words_of(crate, kit_folder, of, toolchain, made):
 def prove(name, room):
     """Proves and builds one: the object or archive, the same as assembly, and the checker's line."""
     crate, of = MADE[name]
-    kit_folder, folder, made = kit(), f"{room}/toolchain", f"{room}/made.a"
+    kit_folder, folder = kit(), f"{room}/toolchain"
+    # (of a program the checker makes an object)
+    made = f"{room}/made.{'a' if crate == 'vhost_c' else 'o'}"
     keeping(f"{kit_folder}/toolchain", folder)
     words = [f"{kit_folder}/bin/rattle", "build", *words_of(crate, kit_folder, of, folder, made)]
     how = {"stdin": subprocess.DEVNULL, "stdout": subprocess.PIPE, "stderr": subprocess.STDOUT}
