@@ -111,7 +111,7 @@ def words_of(crate, kit_folder, of, toolchain, made):
     for it in [f"{kit_folder}/rlibs", *(os.path.dirname(rlib(it)) for it in crates_below(crate)[:-1])]:
         words += ["-L", f"dependency={it}"]
     words += ["--antt-project", f"{kit_folder}/rattle/logic/antt-project.json", "--logic-built", f"{kit_folder}/logic_built"]
-    return [*words, "--toolchain", toolchain, "--jobs", os.environ.get("RT_JOBS", "1"), "-o", made]
+    return [*words, "--toolchain", toolchain, "--jobs", os.environ.get("RT_JOBS") or str(min(len(os.sched_getaffinity(0)), 4)), "-o", made]
 
 
 def prove(name, room):
