@@ -161,8 +161,15 @@ def tools(name):
     return found if all(map(shutil.which, found.values())) else None
 
 
+def is_same(made, code, with_tools):
+    """Whether assembly is the code that the checker made, and what same_code.py printed of it."""
+    words = [sys.executable, f"{TOP}/scripts/same_code.py", made, code]
+    ran = subprocess.run(words, env={**os.environ, **with_tools}, stdout=subprocess.PIPE, text=True, check=False)
+    return ran.returncode == 0, ran.stdout
+
+
 def compare(name):
-    """Whether one is the code that is proved now. It says so in a line."""
+    """Whether one is the code that is proved now, and one changed branch would be found. It says so in a line."""
     if not is_current(name):
         print(f"generated_{name}: FAILED: it was made of other sources: scripts/generate.py {name}")
         return False
@@ -170,13 +177,16 @@ def compare(name):
     if with_tools is None:
         print(f"generated_{name}: left out: aarch64-linux-gnu-gcc is not on PATH")
         return True
+    code, branches = f"{place(name)}.s", {"x86_64": ("\tjne\t", "\tje\t"), "aarch64": ("\tb.ne\t", "\tb.eq\t")}
     with tempfile.TemporaryDirectory() as room:
         made, _, verdict = proved(name, room)
-        words = [sys.executable, f"{TOP}/scripts/same_code.py", made, f"{place(name)}.s"]
-        ran = subprocess.run(words, env={**os.environ, **with_tools}, stdout=subprocess.PIPE, text=True, check=False)
-    is_same = ran.returncode == 0 and verdict == text_of(f"{place(name)}.verdict")
-    print(f"{ran.stdout}generated_{name}: {'ok' if is_same else 'FAILED'}")
-    return is_same
+        same, said = is_same(made, code, with_tools)
+        with open(f"{room}/planted.s", "w", encoding="utf-8") as it:
+            it.write(text_of(code).replace(*branches[name.partition("/")[0]], 1))
+        planted, _ = is_same(made, f"{room}/planted.s", with_tools)
+    held = same and not planted and verdict == text_of(f"{place(name)}.verdict")
+    print(f"{said}generated_{name}: {'ok' if held else 'FAILED'}", flush=True)
+    return held
 
 
 def main(words):
