@@ -7,6 +7,7 @@
 #   make install          to PREFIX, or LIBDIR, INCLUDEDIR, DATADIR, MANDIR; below DESTDIR
 #   make uninstall        removes what that put there
 #   make dist             covretin-VERSION.tar.xz, the same bytes wherever it is made, and SHA256SUMS
+#   make crate            the package for Rust as cargo packs it, in rust/target/package; CARGO names another cargo, with its options
 #   make clean
 #
 # CC, CFLAGS, CPPFLAGS, LDFLAGS, AR, OBJCOPY and INSTALL are used as they are given.
@@ -127,9 +128,15 @@ dist:
 	    xz -9 -T1 >$(TARBALL)
 	sha256sum $(TARBALL) >SHA256SUMS
 
+# Cargo packs what lies in the package alone, and the gate takes no links.
+CARGO ?= cargo
+crate:
+	rm -rf rust/generated && cp -r generated rust/generated
+	cd rust && $(CARGO) package --allow-dirty --no-verify; ended=$$?; rm -rf generated; exit $$ended
+
 clean:
 	rm -rf $(BUILD)
 
 FORCE:
 
-.PHONY: all programs check install uninstall dist clean FORCE
+.PHONY: all programs check install uninstall dist crate clean FORCE

@@ -1,9 +1,10 @@
 // SPDX-License-Identifier: Apache-2.0
-//! Chooses the proved library: the assembly of generated/, which the compiler itself takes in (src/foreign/proved.rs); or with
+//! Chooses the proved library: the assembly of generated/, here or beside this package in a checkout, which the compiler itself takes in
+//! (src/foreign/proved.rs); or with
 //! COVRETIN_LIB_DIR the libcovretin.a in that folder, of `make`. With COVRETIN_LIB_DIR=none, and on docs.rs, there is none, which is
 //! enough for `cargo check` and `cargo doc`.
 use std::env;
-use std::path::Path;
+use std::path::{Path, PathBuf};
 use std::process::exit;
 
 fn main() {
@@ -43,11 +44,22 @@ fn take_in() -> Result<(), String> {
     match (machine.as_str(), system.as_str(), pointer.as_str(), endian.as_str()) {
         ("x86_64" | "aarch64", "linux", "64", "little") => {
             println!("cargo:rustc-cfg=covretin_assembly");
-            Ok(())
+            name_folder(&format!("{machine}-linux/covretin.s"))
         }
         _ => Err(format!(
             "there is no proved code for {}, only for x86_64 and aarch64 on Linux. With COVRETIN_LIB_DIR=none 'cargo check' and 'cargo doc' go through",
             env::var("TARGET").unwrap_or_default()
         )),
     }
+}
+
+/// Tells the compiler in which folder generated/ is.
+fn name_folder(file: &str) -> Result<(), String> {
+    let package = PathBuf::from(env::var("CARGO_MANIFEST_DIR").unwrap_or_default());
+    let places = [package.join("generated"), package.join("../generated")];
+    let found = places.iter().find(|folder| folder.join(file).is_file());
+    let folder = found.ok_or_else(|| format!("no generated/{file}, neither in {} nor beside it", package.display()))?;
+    println!("cargo:rerun-if-changed={}", folder.join(file).display());
+    println!("cargo:rustc-env=COVRETIN_GENERATED={}", folder.display());
+    Ok(())
 }

@@ -3,10 +3,10 @@
 //! library's name, so that nothing of the same module has them.
 
 #[cfg(target_arch = "x86_64")]
-std::arch::global_asm!(include_str!("../../generated/x86_64-linux/covretin.s"), options(att_syntax, raw));
+std::arch::global_asm!(include_str!(concat!(env!("COVRETIN_GENERATED"), "/x86_64-linux/covretin.s")), options(att_syntax, raw));
 
 #[cfg(target_arch = "aarch64")]
-std::arch::global_asm!(include_str!("../../generated/aarch64-linux/covretin.s"), options(raw));
+std::arch::global_asm!(include_str!(concat!(env!("COVRETIN_GENERATED"), "/aarch64-linux/covretin.s")), options(raw));
 
 /// Whether memory was had, and where it is: never at 0, which the proved part takes for no address.
 #[repr(C)]
