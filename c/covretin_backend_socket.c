@@ -209,7 +209,12 @@ static enum covretin_error end(void *session)
     return covretin_backend_end(session);
 }
 
-static const struct serving_side backend_side = {{missing, receive, to_send, NULL, true, false}, next, end};
+static bool ended(void *session)
+{
+    return covretin_backend_ended(session) != 0;
+}
+
+static const struct serving_side backend_side = {{missing, receive, to_send, NULL, true, false}, next, end, ended};
 
 /* -- Frontends -- */
 

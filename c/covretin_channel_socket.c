@@ -108,7 +108,7 @@ static enum covretin_error end(void *server)
     return covretin_channel_server_end(server);
 }
 
-static const struct serving_side server_side = {{server_missing, server_receive, server_to_send, NULL, true, false}, next, end};
+static const struct serving_side server_side = {{server_missing, server_receive, server_to_send, NULL, true, false}, next, end, NULL};
 
 enum covretin_error covretin_channel_serve_fd(covretin_channel_service *service, int fd)
 {

@@ -51,6 +51,12 @@ static bool is_pending(const struct serving *serving)
     return serving->calling && serving->side->bytes.missing(serving->transport->session) == 0;
 }
 
+/* Whether the session could not answer whoever waits, or broke off amid a message. */
+static bool has_ended(const struct serving *serving)
+{
+    return serving->side->ended != NULL && serving->side->ended(serving->transport->session);
+}
+
 /* Receives a request, and checks it. The end of the stream is what it means where it came. */
 static enum covretin_error receive_request(struct serving *serving, uint32_t *call)
 {
@@ -70,7 +76,7 @@ static enum covretin_error receive_request(struct serving *serving, uint32_t *ca
 }
 
 /* Sends what is to be sent, unless a request is under way, and lets go of the call before. A reply whose descriptors cannot be passed on
- * is never sent, and whoever waits for it is to be hung up on. */
+ * is never sent, and whoever waits for it is to be hung up on. SOCKET_BROKEN: so is he where that call ended the session. */
 static enum covretin_error send_before(struct serving *serving)
 {
     enum covretin_error error;
@@ -79,11 +85,13 @@ static enum covretin_error send_before(struct serving *serving)
     error = transport_send(serving->transport);
     if (error == COVRETIN_INVALID_PARAM)
         return COVRETIN_SOCKET_ERROR;
-    if (error || !serving->calling)
+    if (error)
         return error;
-    serving->calling = false;
-    transport_next(serving->transport);
-    return COVRETIN_OK;
+    if (serving->calling) {
+        serving->calling = false;
+        transport_next(serving->transport);
+    }
+    return has_ended(serving) ? COVRETIN_SOCKET_BROKEN : COVRETIN_OK;
 }
 
 /* Tells why a request was refused, once what is to be sent was sent. */
@@ -138,10 +146,12 @@ static enum covretin_error work_nowait(struct serving *serving, work *does, uint
         return COVRETIN_NO_SESSION;
     if (transport_is_broken(serving->transport))
         return serving->transport->broken;
-    error = does(serving, call, events);
+    error = transport_settle(serving->transport, does(serving, call, events));
     if (error != COVRETIN_NOT_YET)
         *events = 0;
-    return transport_settle(serving->transport, error);
+    if (!serving->calling && !serving->refusal && has_ended(serving))
+        transport_hang_up(serving->transport);
+    return error;
 }
 
 static enum covretin_error work_until(struct serving *serving, work *does, uint32_t *call, int milliseconds)

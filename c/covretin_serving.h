@@ -11,6 +11,7 @@ struct serving_side {
     struct transport_side bytes;
     enum covretin_error (*next)(void *session, uint32_t *call);
     enum covretin_error (*end)(void *session);
+    bool (*ended)(void *session); /* whether it reads nothing more; NULL: it always does */
 };
 
 /* What stands behind a service; NULL: none. */

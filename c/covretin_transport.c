@@ -378,6 +378,14 @@ enum covretin_error transport_settle(struct transport *transport, enum covretin_
     }
 }
 
+void transport_hang_up(struct transport *transport)
+{
+    int was = errno;
+    shutdown(transport->socket, SHUT_RDWR);
+    errno = was;
+    transport_settle(transport, COVRETIN_SOCKET_BROKEN);
+}
+
 bool transport_is_broken(const struct transport *transport)
 {
     if (!transport->broken)

@@ -76,6 +76,9 @@ void transport_next(struct transport *transport);
 /* Notes an error after which the connection is of no more use; returns it. */
 enum covretin_error transport_settle(struct transport *transport, enum covretin_error error);
 
+/* Hangs up on the peer at once, and closes what came: the connection is of no more use, and each call is SOCKET_BROKEN. */
+void transport_hang_up(struct transport *transport);
+
 /* Whether one was noted; errno is then what it was. */
 bool transport_is_broken(const struct transport *transport);
 

@@ -144,7 +144,11 @@ enum covretin_error {
     /* Of covretin_socket.h. */
     COVRETIN_TIMED_OUT = 201,    /* the limit of time passed */
     COVRETIN_FDS_LOST = 202,     /* descriptors were dropped: more came than a message has, or than the process may open */
-    COVRETIN_INVALID_PATH = 203  /* a socket's path that is empty, or too long */
+    COVRETIN_INVALID_PATH = 203, /* a socket's path that is empty, or too long */
+
+    /* Of covretin_device.h. */
+    COVRETIN_MEMORY_LOST = 301, /* the frontend took memory away that was in use */
+    COVRETIN_STOPPED = 302      /* covretin_device_stop */
 };
 
 /* What an error means, in a few words of English: a string that is never NULL, never freed and different for each of the
@@ -233,10 +237,11 @@ enum covretin_error covretin_receive(covretin_session *session, const uint8_t *b
 
 /* Takes the reply of the call that was asked: whether it succeeded. NO_SESSION, NOTHING_ASKED, NOT_YET: nothing changed.
  * After all others nothing is asked any more, there is no reply to be read, and nothing of it is left in the session:
- * BACKEND_INTERNAL_ERROR: the backend refused, and the session goes on. INCORRECT_FDS: several descriptors came where one is
- * due. INVALID_MESSAGE: the reply is malformed or of another request, its header announces another size than such a reply has,
- * or it has descriptors where none may be. After this and the like close the session: a part of that reply may still be in
- * the socket. */
+ * BACKEND_INTERNAL_ERROR: the backend refused, or has no such object, inflight region or userfaultfd, and the session goes on;
+ * with COVRETIN_PROFILE_VHOST a reply that says the latter is INVALID_MESSAGE. INCORRECT_FDS: several descriptors came where
+ * one is due. INVALID_MESSAGE: the reply is malformed or of another request, its header announces another size than such a
+ * reply has, or it has descriptors where none may be. After this and the like close the session: a part of that reply may
+ * still be in the socket. */
 enum covretin_error covretin_take(covretin_session *session);
 
 /* -- The reply that was taken last ----------------------------------------------------------------------------------
@@ -267,8 +272,8 @@ enum covretin_error covretin_answer_shmem(covretin_session *session, uint64_t *s
 /* -- Asks -----------------------------------------------------------------------------------------------------------
  * Each makes its request, which covretin_to_send then hands out. After an error nothing more is to be sent than before.
  * All may return NO_SESSION, NOT_TAKEN, OUT_OF_MEMORY, SOCKET_RETRY, SOCKET_BROKEN, and INVALID_PARAM for an argument. A
- * request with no reply of its own is acknowledged where REPLY_ACK was accepted and COVRETIN_NEED_REPLY is set; else nothing is
- * awaited, and a refusal by the backend is not seen.
+ * request with no reply of its own is acknowledged where REPLY_ACK was accepted and COVRETIN_NEED_REPLY is set (postcopy_listen
+ * also without that flag); else nothing is awaited, and a refusal by the backend is not seen.
  *
  * INACTIVE_FEATURE, PROTOCOL_FEATURES was not offered by the backend (it need not be accepted): get_protocol_features,
  *   set_protocol_features.
@@ -374,8 +379,9 @@ enum covretin_error covretin_ask_check_device_state(covretin_session *session);
 
 enum covretin_error covretin_ask_postcopy_advise(covretin_session *session);
 enum covretin_error covretin_ask_postcopy_listen(covretin_session *session);
-/* A storage daemon and a packet switch reply to it also without COVRETIN_NEED_REPLY, and that reply is then taken for the
- * next call's: set the flag before. */
+/* Its reply is awaited whatever the flags. BACKEND_INTERNAL_ERROR at take: the backend refused, and postcopy has ended all the
+ * same. With COVRETIN_PROFILE_VHOST it is acknowledged as other requests are, and a reply without COVRETIN_NEED_REPLY, as a
+ * storage daemon and a packet switch send it, is taken for the next call's. */
 enum covretin_error covretin_ask_postcopy_end(covretin_session *session);
 /* The request that brought the regions: 5, SET_MEM_TABLE, or 37, ADD_MEM_REG. */
 enum covretin_error covretin_ask_postcopy_ack_mem_regions(covretin_session *session, uint32_t request);

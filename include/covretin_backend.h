@@ -16,6 +16,13 @@
  * The device is asked only what passed every check of its request, each request once, and it replies once before anything
  * else. covretin_backend_to_send comes after a refused request, too: it may be acknowledged.
  *
+ * WHOEVER WAITS IS ANSWERED, under STANDARD. A request with a reply of its own is refused by that reply, where it has a form for it
+ * (GET_CONFIG of size 0; GET_INFLIGHT_FD of mmap_size 0, without a descriptor; GET_SHARED_OBJECT and POSTCOPY_ADVISE without a body;
+ * SET_DEVICE_STATE_FD 0x101; CHECK_DEVICE_STATE 1; POSTCOPY_END 1, and 0 where it succeeded). Any other is acknowledged with 1 where
+ * it asks for that and REPLY_ACK was accepted. Where a frontend waits and neither says it (GET_FEATURES, GET_VRING_BASE,
+ * GET_QUEUE_NUM, SET_LOG_BASE and their like) the session ends: covretin_backend_ended, and its socket is to be closed, since a frontend
+ * that is hung up on recovers, and one that waits does not.
+ *
  * RINGS are the device's: the session checks their requests, and keeps no state of them. By the specification ('Ring states') a ring
  * is processed while it is started and enabled.
  * Started: from the first kick on, when the descriptor of SET_VRING_KICK gets readable; where it has none (-1), from that request
@@ -114,11 +121,11 @@ const char *covretin_request_text(uint32_t request);
 /* Opens a session. SESSION_OPEN; OUT_OF_MEMORY. After an error nothing changed. */
 enum covretin_error covretin_backend_open(covretin_backend *backend);
 
-/* Whose behaviour the session has from now on. Under STANDARD, as at first, a request of 1 to 44 that nobody serves is
- * acknowledged where it asks for it, with INVALID_OPERATION, and the session goes on; a ring may be enabled once PROTOCOL_FEATURES
- * was offered; and a memory table may be longer than its regions. Real frontends want all three. Under VHOST the first is
- * INVALID_MESSAGE without a reply, and the others are refused; a request of any other number is INVALID_MESSAGE without a reply
- * under both. NO_SESSION; INVALID_PARAM: there is no such profile; NOT_REPLIED: a call is still to be replied to. After an error
+/* Whose behaviour the session has from now on. Under STANDARD, as at first, whoever waits is answered, as above; a request of 1 to 44
+ * that nobody serves is INVALID_OPERATION, and the session goes on; a ring may be enabled once PROTOCOL_FEATURES was offered or
+ * accepted; and a memory table may be longer than its regions. Real frontends want all four. Under VHOST some refusals are silent,
+ * also where a frontend waits, the second is INVALID_MESSAGE without a reply, and the others are refused; a request of any other
+ * number is INVALID_MESSAGE without a reply under both. NO_SESSION; INVALID_PARAM: there is no such profile; NOT_REPLIED: a call is still to be replied to. After an error
  * nothing changed. */
 enum covretin_error covretin_backend_set_profile(covretin_backend *backend, enum covretin_profile profile);
 
@@ -158,8 +165,13 @@ enum covretin_error covretin_backend_to_send(covretin_backend *backend, uint8_t 
  * session, once what is to be sent was sent. INVALID_OPERATION: under STANDARD nobody serves it, or postcopy is in another state.
  * INACTIVE_FEATURE, INACTIVE_OPERATION: it wants a feature that was not accepted, which covretin_backend_inactive tells.
  * INVALID_PARAM, INCORRECT_FDS, FRONTEND_INTERNAL_ERROR: its arguments are wrong. OUT_OF_MEMORY, SOCKET_RETRY: an allocation
- * failed. SOCKET_BROKEN: one failed amid a message before: close the session. */
+ * failed. SOCKET_BROKEN: the session had ended before: close it. */
 enum covretin_error covretin_backend_next(covretin_backend *backend, uint32_t *call);
+
+/* Whether the session has ended: 1 once a request was refused, or replied to as refused, for which a frontend waits and which no reply
+ * refuses, and once an allocation failed amid a message; else 0, and without a session. From then on covretin_backend_next is
+ * SOCKET_BROKEN. Send what is to be sent, and close the socket at once: the frontend waits. */
+uint32_t covretin_backend_ended(covretin_backend *backend);
 
 /* Which feature the request lacked that covretin_backend_next read last: after INACTIVE_FEATURE one bit of COVRETIN_FEATURE_..,
  * after INACTIVE_OPERATION one of COVRETIN_PROTOCOL_... 0 where it was served, or refused for anything else, before the first, and
@@ -220,8 +232,9 @@ enum covretin_error covretin_call_log(covretin_backend *backend, covretin_region
 enum covretin_error covretin_reply_done(covretin_backend *backend);
 
 /* The device refused the call. Why is not sent: as the request has it the reply is an acknowledgement of 1, one without a
- * value, or none. This call then returns BACKEND_INTERNAL_ERROR; but 0 where the reply itself says that it was refused
- * (GET_CONFIG, GET_SHARED_OBJECT, POSTCOPY_ADVISE, SET_DEVICE_STATE_FD, CHECK_DEVICE_STATE). */
+ * value, or none; under STANDARD the session may end (covretin_backend_ended). This call then returns BACKEND_INTERNAL_ERROR; but 0
+ * where the reply itself says that it was refused (GET_CONFIG, GET_SHARED_OBJECT, POSTCOPY_ADVISE, SET_DEVICE_STATE_FD,
+ * CHECK_DEVICE_STATE). */
 enum covretin_error covretin_reply_refused(covretin_backend *backend);
 
 /* To GET_FEATURES, GET_PROTOCOL_FEATURES, GET_QUEUE_NUM, GET_MAX_MEM_SLOTS. */

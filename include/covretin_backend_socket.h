@@ -23,8 +23,9 @@
  * Services and listeners: variables of these types, {0} at first, belong to the caller; they are not copied or written by him.
  *   Calls with the same one, or with its session, must not overlap in time. Not from a signal handler.
  * Its session: opened and closed with the service. The caller passes &service.backend to covretin_call_.., covretin_reply_..,
- *   covretin_backend_set_profile and covretin_backend_inactive, and to nothing else.
- * Its socket: the service's, until covretin_hang_up closes it.
+ *   covretin_backend_set_profile, covretin_backend_inactive and covretin_backend_ended, and to nothing else.
+ * Its socket: the service's, until covretin_hang_up closes it. Once its session has ended (covretin_backend_ended) the next call below
+ *   shuts it down, so that the frontend is hung up on without waiting for the caller.
  * What the frontend sends: the service's. A descriptor that a call names is only lent while the call is to be replied to;
  *   covretin_claim_call_fd hands it over to the caller, who closes it then. All others are closed once the reply was sent,
  *   those of a refused request at once.
@@ -115,7 +116,8 @@ uint32_t covretin_service_request(const covretin_service *service);
  *   a body. SOCKET_ERROR: the system failed otherwise, or cannot pass on a descriptor that the reply was given (errno is EBADF or
  *   EINVAL), so that the frontend would wait for it in vain. FDS_LOST: more descriptors came at once than a message has, or than
  *   the process may open. After these, any other INVALID_MESSAGE and SOCKET_BROKEN the service has ended: each further call returns
- *   the same, and the caller hangs up. */
+ *   the same, and the caller hangs up. So it has where its session ended (covretin_backend_ended): this call returns why it refused
+ *   the request, or SOCKET_BROKEN where the device did, and each further call SOCKET_BROKEN. */
 enum covretin_error covretin_next_call(covretin_service *service, uint32_t *call, int milliseconds);
 
 /* The same for an event loop: never waits, but for what CLOSING says of the system. NOT_YET: *events says what the socket has to

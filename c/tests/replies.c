@@ -181,7 +181,7 @@ static void hides_a_reply(void)
     send_all();
     EXPECT(12, covretin_missing(&session));
     GIVE("\34\0\0\0\5\0\0\0\0\0\0\0");
-    EXPECT(COVRETIN_INVALID_MESSAGE, covretin_take(&session));
+    EXPECT(COVRETIN_BACKEND_INTERNAL_ERROR, covretin_take(&session));
     EXPECT(COVRETIN_OTHER_ANSWER, covretin_answer_fd(&session, &fd));
     EXPECT(-9, fd);
     covretin_close(&session);

@@ -537,9 +537,9 @@ static void tells_which_was_refused(void)
     EXPECT(SET_STATUS, covretin_service_request(&service));
     EXPECT(0, strcmp("SET_STATUS", covretin_request_text(covretin_service_request(&service))));
     EXPECT(true, hear(peer, &reply));
-    request(peer, GET_QUEUE_NUM, REQUEST_FLAGS, NULL, 0, NULL, 0);
+    request(peer, SET_CONFIG, REQUEST_FLAGS, NULL, 0, NULL, 0);
     EXPECT(COVRETIN_INACTIVE_OPERATION, covretin_next_call(&service, &call, LIMIT));
-    EXPECT(GET_QUEUE_NUM, covretin_service_request(&service));
+    EXPECT(SET_CONFIG, covretin_service_request(&service));
     say(peer, "\30\0\0", 3, NULL, 0);
     EXPECT(COVRETIN_NOT_YET, covretin_next_call_nowait(&service, &call, &events));
     EXPECT(0, covretin_service_request(&service));
@@ -582,11 +582,11 @@ static void inactive(void)
     EXPECT(0, covretin_backend_inactive(&service.backend));
     accept_features(peer, 0);
     for (int i = 0; i < 3; i++) {
-        request(peer, GET_QUEUE_NUM, REQUEST_FLAGS, NULL, 0, NULL, 0);
+        request(peer, SET_CONFIG, REQUEST_FLAGS, NULL, 0, NULL, 0);
         EXPECT(COVRETIN_INACTIVE_OPERATION, covretin_next_call(&service, &call, LIMIT));
-        EXPECT(COVRETIN_PROTOCOL_MQ, covretin_backend_inactive(&service.backend));
+        EXPECT(COVRETIN_PROTOCOL_CONFIG, covretin_backend_inactive(&service.backend));
         EXPECT(COVRETIN_NOT_YET, covretin_next_call_nowait(&service, &call, &events));
-        EXPECT(COVRETIN_PROTOCOL_MQ, covretin_backend_inactive(&service.backend));
+        EXPECT(COVRETIN_PROTOCOL_CONFIG, covretin_backend_inactive(&service.backend));
         if (i == 0) {
             request(peer, SET_STATUS, REQUEST_FLAGS, body, sizeof body, NULL, 0);
             EXPECT(COVRETIN_INVALID_OPERATION, covretin_next_call(&service, &call, LIMIT));

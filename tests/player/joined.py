@@ -11,9 +11,12 @@ from words import Unreadable, expect, message_of
 
 
 class Lockstep(Player):
-    """One side asks, the other serves, until a request is refused without a reply."""
+    """One side asks, the other serves, until the run stops."""
 
     steps = ("call", "request", "device", "gives", "reply", "answer", "stopped")
+
+    # How a run stops.
+    stop = "table"
 
     def __init__(self, n, device, is_scripted):
         super().__init__(n)
@@ -51,11 +54,15 @@ class Lockstep(Player):
             return
         written, served, replied, met = self.exchange(call)
         replies, self.replies = self.replies, ""
-        if served.startswith("err ") and (not replied or call[0][0] == "ask_postcopy_end"):
-            self.stopped = "table"
+        if self.has_stopped(call, served, replied):
+            self.stopped = self.stop
         # (what the other side wrote is compared last, since it follows from the rest)
         self.settle(written, wanted, met, self.device)
         expect(replies, replied)
+
+    def has_stopped(self, call, served, replied):
+        """Whether the run stops here: a request was refused without a reply, or the end of postcopy was."""
+        return served.startswith("err ") and (not replied or call[0][0] == "ask_postcopy_end")
 
     def end(self):
         super().end()
@@ -82,12 +89,20 @@ def pass_on(asking, serving):
 
 
 class Joined(Lockstep):
-    """A frontend asks a backend with its device."""
+    """A frontend asks a backend with its device. Both have one profile, since what one awaits the other has to write."""
 
     def __init__(self, library, settings, n, piece):
         super().__init__(n, device_of(settings), settings.over == "scripted")
         self.frontend = Frontend(library, settings, piece, cuts_of(n, settings.cuts))
-        self.backend = Backend(library, settings.serving_profile, self.device, piece, cuts_of(n, settings.serving_cuts))
+        self.backend = Backend(library, settings.profile, self.device, piece, cuts_of(n, settings.serving_cuts))
+        if settings.profile == "standard":
+            self.stop = "ended"
+
+    def has_stopped(self, call, served, replied):
+        """Under Standard whoever waits is answered, until the session has ended."""
+        if self.stop == "ended":
+            return self.backend.session.result("ended") == 1
+        return super().has_stopped(call, served, replied)
 
     def take_call(self, text):
         self.pend(call_in(text))

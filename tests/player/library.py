@@ -25,7 +25,7 @@ PROFILES = {"standard": 0, "vhost": 1}
 SHORTER = {"backend_": "", "channel_server_": "channel_"}
 
 # What a call returns that returns no error.
-RETURNS = {"missing": c_size_t, "inactive": c_uint64, "close": None}
+RETURNS = {"missing": c_size_t, "inactive": c_uint64, "ended": c_uint32, "close": None}
 
 
 def record(name, **fields):

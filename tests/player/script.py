@@ -15,7 +15,6 @@ SETTINGS = {
     "over": ("served", "joined"),
     "queues": ("asking", "joined"),
     "profile": ("served", "asking", "joined"),
-    "serving_profile": ("joined",),
     "cuts": PEERS,
     "serving_cuts": ("joined", "reverse"),
     "explained": ("lines",),
@@ -34,7 +33,6 @@ class Session:
     spare: list = field(default_factory=list)
     queues: int = 2
     profile: str = "vhost"
-    serving_profile: str = "vhost"
     cuts: str = ""
     serving_cuts: str = ""
     explained: bool = False
@@ -74,7 +72,7 @@ class Session:
 
     def set_text(self, word, text):
         """A profile, or cuts, which are counted anew for each number."""
-        if word.endswith("profile") and text not in PROFILES:
+        if word == "profile" and text not in PROFILES:
             raise Unreadable("a profile", text)
         if word.endswith("cuts"):
             cuts_of(0, text)

@@ -44,13 +44,14 @@ class Backend:
 class Served(Player):
     """A backend is served to: `request` is what comes to it."""
 
-    steps = ("request", "device", "gives", "reply", "answer", "agreed", "left", "state", "shares")
+    steps = ("request", "device", "gives", "reply", "answer", "ended", "agreed", "left", "state", "shares")
 
     def __init__(self, library, settings, n, piece):
         super().__init__(n)
         self.backend = Backend(library, settings.profile, device_of(settings), piece, cuts_of(n, settings.cuts))
         self.device = self.backend.device
         self.is_scripted = settings.over == "scripted"
+        self.ended = False
 
     def step(self, word, rest):
         """A scripted device has its calls given, and the example device has a state."""
@@ -75,6 +76,15 @@ class Served(Player):
         self.device.expect_told()
         met = self.backend.serve()
         self.settle(self.backend.session.send(), wanted, met, self.device)
+
+    def take_ended(self, _):
+        """The session has ended, so whoever waits is hung up on."""
+        self.expect_ended(True)
+        self.ended = True
+
+    def expect_ended(self, wanted):
+        """Whether it has ended."""
+        expect("ended" if wanted else "not ended", "ended" if self.backend.session.result("ended") else "not ended")
 
     def take_agreed(self, word):
         """Has the device offer its virtio features, and then chooses these features of the protocol."""
@@ -103,5 +113,6 @@ class Served(Player):
     def end(self):
         super().end()
         self.device.check()
+        self.expect_ended(self.ended)
         expect_read(self.backend.transport)
         self.backend.session.close()

@@ -11,6 +11,7 @@ mod laws;
 mod refusal;
 mod rows;
 mod session;
+mod settle;
 mod telling;
 
 pub use answer::{Conclusion, ConfigReply, DeviceAnswer, Reply, Then, Told, Verdict};
@@ -22,3 +23,4 @@ pub use laws::{Laws, laws_of_halves};
 pub use refusal::Refusal;
 pub use rows::Rows;
 pub use session::Session;
+pub use settle::{Acks, EPROTO, Form, Unanswered};

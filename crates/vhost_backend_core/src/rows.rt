@@ -87,10 +87,10 @@ impl<H: Drop, B: Drop, G: Drop> Rows<H, B, G> {
 
     /// A request that nobody serves.
     fn unserved<'a>(session: &Session) -> Result<Begun<'a>>
-        ensures { (m : Message FrontendReq H) → step_in {B = B} {G = G} (session_of session.now) m result ≡ Refused (row.unserved (session_of session.now) m) }
+        ensures { (m : Message FrontendReq H) → step_in {B = B} {G = G} (session_of session.now) m result ≡ Refused (row.unserved (session_of session.now)) }
     {
         if session.is_standard() {
-            Ok(Begun::Refuses(Refusal::Unserved))
+            Err(Refusal::Unserved)
         } else {
             Err(Refusal::InvalidMessage)
         }

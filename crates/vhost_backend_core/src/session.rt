@@ -59,12 +59,12 @@ impl Session {
         self.profile.is_standard()
     }
 
-    /// The features by which a ring may be enabled: those that were accepted, or under Standard those that were offered.
+    /// The features by which a ring may be enabled: those that were accepted, and under Standard those that were offered, too.
     pub fn enabling(&self) -> u64
         ensures { result ≡ features_to_enable (session_of self.now) }
     {
         if self.is_standard() {
-            self.offered
+            self.offered | self.acked
         } else {
             self.acked
         }

@@ -1,6 +1,6 @@
 //! How the answer of a call is reported, and what the session answers.
 
-ghost use Rattle.std.specs.Prelude.{◌≡◌};
+ghost use Rattle.std.specs.Prelude.{◌≡◌, is_ok};
 ghost use Rattle.vhost_protocol.specs.Error.{seen_result};
 ghost use Rattle.vhost_backend_core.specs.Concluding.{device_in, then_of, verdict_in};
 
@@ -50,6 +50,36 @@ impl<H: Drop> DeviceAnswer<H> {
             Verdict::Fine => Ok(()),
             Verdict::Internal => Err(Error::BackendInternalError),
             Verdict::Device => self.done(),
+        }
+    }
+
+    /// Whether that is success.
+    pub(crate) fn agrees(&self, verdict: Verdict) -> bool
+        ensures { result ≡ is_ok (verdict_in self.now verdict) }
+    {
+        match verdict {
+            Verdict::Fine => true,
+            Verdict::Internal => false,
+            Verdict::Device => self.is_done(),
+        }
+    }
+
+    /// Whether the device refused nothing.
+    fn is_done(&self) -> bool
+        ensures { result ≡ is_ok (device_in self.now) }
+    {
+        match self {
+            DeviceAnswer::Done(Err(_)) => false,
+            DeviceAnswer::Shmem(Err(_)) => false,
+            DeviceAnswer::Number(Err(_)) => false,
+            DeviceAnswer::Bases(Err(_)) => false,
+            DeviceAnswer::Base(Err(_)) => false,
+            DeviceAnswer::RingState(Err(_)) => false,
+            DeviceAnswer::Bytes(Err(_)) => false,
+            DeviceAnswer::Handle(Err(_)) => false,
+            DeviceAnswer::Inflight(Err(_)) => false,
+            DeviceAnswer::StateHandle(Err(_)) => false,
+            _ => true,
         }
     }
 

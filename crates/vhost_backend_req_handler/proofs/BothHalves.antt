@@ -19,6 +19,7 @@ use Rattle.vhost_connection.proofs.Running.{wider-once}
 use Rattle.vhost_connection.proofs.Serving.{handles-request, same_message}
 use Rattle.vhost_backend_core.specs.Beginning.{step_of}
 use Rattle.vhost_backend_core.specs.Concluding.{concluded, regions_for}
+use Rattle.vhost_backend_core.specs.Settling.{settled_by}
 use Rattle.vhost_backend_req_handler.specs.Calling.{Called}
 use Rattle.vhost_backend_req_handler.specs.Core.{endpoint_of, session_in}
 use Rattle.vhost_backend_req_handler.specs.Halves.{HalvesRefuse, HalvesServe, beside_then, uncalled, unopened}
@@ -36,9 +37,9 @@ module _ {L H B G Dev : Type 0} (event : L → Event H → L → Type 0) (gives 
       let b = beside_then begun.pending.then last.server in
       let kept = ap (λ (rs : List VhostUserMemoryRegion). regions_for begun.pending.then rs) regions ∙ p.regions in
       let call = subst (λ (step : Step H B G). Called gives opens_backend opens_gpu d b step (Some a) d') p.row called in
-      let finished = subst (λ (r : FrontendReq). Finishes event r (concluded (session_in last) m.need_reply b begun.pending.then a) (endpoint_of last) (session_in last) result (endpoint_of new) (session_in new)) begun.reads.reads.code
-      (subst (λ need. Finishes event begun.pending.request.code (concluded (session_in last) need b begun.pending.then a) (endpoint_of last) (session_in last) result (endpoint_of new) (session_in new)) begun.reads.reads.need_reply done) in
-      let answered = by_row (sym p.row) (made s (session_in last) (endpoint_of mid) (endpoint_of last) (endpoint_of new) m p.call begun.pending.then b a d d' (session_in new) result (session ∙ begun.session) endpoint p.next kept sized call finished) in
+      let finished = subst (λ (r : FrontendReq). Finishes event r (settled_by begun.pending.unanswered (concluded (session_in last) m.need_reply b begun.pending.then a)) (endpoint_of last) (session_in last) result (endpoint_of new) (session_in new)) begun.reads.reads.code
+      (subst (λ need. Finishes event begun.pending.request.code (settled_by begun.pending.unanswered (concluded (session_in last) need b begun.pending.then a)) (endpoint_of last) (session_in last) result (endpoint_of new) (session_in new)) begun.reads.reads.need_reply done) in
+      let answered = by_row (sym p.row) (made s (session_in last) (endpoint_of mid) (endpoint_of last) (endpoint_of new) m p.call begun.pending.then begun.pending.unanswered b a d d' (session_in new) result (session ∙ begun.session) endpoint p.next kept sized begun.settles call finished) in
       handles-request event request_of allows_handles (λ (t : Session). t.failed) kept_unsent (MeetsRow (fitting gives) opens_backend opens_gpu)
       (endpoint_of old) (endpoint_of mid) (endpoint_of new) s (session_in new) d d' mid.body.value begun.pending.request begun.pending.handles result begun.reads
       (λ n reads over ready. subst (λ (x : Message FrontendReq H). serving.Answers event (MeetsRow (fitting gives) opens_backend opens_gpu s d x) (kept_unsent x.request s) (endpoint_of mid) result (endpoint_of new) (session_in new) d')
@@ -53,7 +54,7 @@ module _ {L H B G Dev : Type 0} (event : L → Event H → L → Type 0) (gives 
 
   meets-none : (d : Dev) (s s' : Session) (u u' : ⊤) (m : Message FrontendReq H) (answer : Result ⊤ Error) (written : List (Cell H)) → MeetsRow (fitting (uncalled B G)) (unopened B G) (unopened B G) s u m answer written s' u'
       → MeetsRow (fitting gives) opens_backend opens_gpu s d m answer written s' d
-  meets-none d s s' u u' m answer written p = (p.0, follows-none s d p.0 _ p.1, p.2, p.3, p.4)
+  meets-none d s s' u u' m answer written p = (p.0, (p.1.0, follows-none s d p.1.0 _ p.1.1, p.1.2), p.2, p.3, p.4)
 
   pub halves_refuse : HalvesRefuse event gives opens_backend opens_gpu
   halves_refuse old new d e alive refused =

@@ -1,5 +1,5 @@
 -- A request that was answered step by step met the row of the message that it is.
-use Rattle.std.proofs.Common.{◌≡◌, Result, subst}
+use Rattle.std.proofs.Common.{◌≡◌, Result, refl, subst}
 use Rattle.std.specs.Prelude.{⊤}
 use Rattle.vhost_message.specs.declared.error.Error as declared
 use Rattle.vhost_message.specs.declared.frontend_req.FrontendReq.{FrontendReq}
@@ -8,6 +8,7 @@ use Rattle.vhost_protocol.specs.Error.{Error}
 use Rattle.vhost_protocol.specs.Handler.{MeetsRow}
 use Rattle.vhost_protocol.specs.Row.{row_of}
 use Rattle.vhost_protocol.specs.Session.{Session}
+use Rattle.vhost_protocol.specs.Settled.{settled}
 use Rattle.vhost_protocol.specs.Split.{Message}
 use Rattle.vhost_link.specs.Law.{Event}
 use Rattle.vhost_connection.specs.Serving as serving
@@ -18,9 +19,9 @@ use Rattle.vhost_backend_req_handler.specs.Serving.{Met, Answers, fitting, kept_
 module _ {L H B G Dev : Type 0} (event : L → Event H → L → Type 0) (gives : Dev → (c : Call H B G) → Answer c → Dev → Type 0)
     (opens_backend : H → Result B Error → Type 0) (opens_gpu : H → Result G Error → Type 0) where
   pub meets-row : (code : FrontendReq) (old new : State L H) (s s' : Session) (d d' : Dev) (m : Message FrontendReq H) (result : Result ⊤ declared.Error) → code ≡ m.request
-      → Answers event gives opens_backend opens_gpu code (row_of code s m) old s d result new s' d'
+      → Answers event gives opens_backend opens_gpu m (row_of code s m) old s d result new s' d'
       → serving.Answers event (MeetsRow (fitting gives) opens_backend opens_gpu s d m) (kept_unsent m.request s) old result new s' d'
   meets-row code old new s s' d d' m result is p =
-      answers-as event (Met gives opens_backend opens_gpu m.request (row_of m.request s m) s d) (MeetsRow (fitting gives) opens_backend opens_gpu s d m) (kept_unsent m.request s)
-      (λ answer written t e met. (met.outcome, met.follows, met.is_answer, met.is_written, met.session)) old new s' d' result
-      (subst (λ (r : FrontendReq). Answers event gives opens_backend opens_gpu r (row_of r s m) old s d result new s' d') is p)
+      answers-as event (Met gives opens_backend opens_gpu m (row_of m.request s m) s d) (MeetsRow (fitting gives) opens_backend opens_gpu s d m) (kept_unsent m.request s)
+      (λ answer written t e met. (settled s m met.told, (met.told, met.follows, refl), met.is_answer, met.is_written, met.session)) old new s' d' result
+      (subst (λ (r : FrontendReq). Answers event gives opens_backend opens_gpu m (row_of r s m) old s d result new s' d') is p)

@@ -26,4 +26,4 @@ module _ {H B G Dev : Type 0} (gives : Dev → (c : Call H B G) → Answer c →
 
   pub meets-any : (s s' : Session) (d d' : Dev) (m : Message FrontendReq H) (answer : Result ⊤ Error) (written : List (Cell H)) → MeetsRow (fitting gives) opens_backend opens_gpu s d m answer written s' d'
       → MeetsRow (fitting any_answer) opens_backend opens_gpu s (unseen d) m answer written s' (unseen d')
-  meets-any s s' d d' m answer written p = (p.0, follows-any s d d' p.0 _ p.1, p.2, p.3, p.4)
+  meets-any s s' d d' m answer written p = (p.0, (p.1.0, follows-any s d d' p.1.0 _ p.1.1, p.1.2), p.2, p.3, p.4)

@@ -41,4 +41,4 @@ abbrev pub MeetsRowWith : {L H Dev : Type 0} → (event : L → Event H → L �
     (gives : Dev → (c : Call H (Backend L H) (GpuBackend L H)) → Answer c → Dev → Type 0)
     → FrontendReq → SessionCore L H → Dev → Request FrontendReq → Option (Vec H Global) → Result ⊤ declared.Error → SessionCore L H → Dev → Type 0
 MeetsRowWith {H = H} event opens kinds gives r old d request handles result new d' = (m : Message FrontendReq H) → Reads old.body.value request m → HandsOver handles m.handles → request.code ≡ r → IsReady (endpoint_of old)
-    → Answers event gives (λ h o. OpensAsBackend opens kinds (endpoint_of old).budget h o) (λ h o. OpensAsGpu opens kinds (endpoint_of old).budget h o) r (row_of r (session_in old) m) (endpoint_of old) (session_in old) d result (endpoint_of new) (session_in new) d'
+    → Answers event gives (λ h o. OpensAsBackend opens kinds (endpoint_of old).budget h o) (λ h o. OpensAsGpu opens kinds (endpoint_of old).budget h o) m (row_of r (session_in old) m) (endpoint_of old) (session_in old) d result (endpoint_of new) (session_in new) d'

@@ -17,6 +17,7 @@ use Rattle.vhost_connection.specs.Talk.{State}
 use Rattle.vhost_backend_core.specs.Beginning.{step_of}
 use Rattle.vhost_backend_core.specs.Concluding.{Beside, concluded, regions_beside, regions_for, then_of}
 use Rattle.vhost_backend_core.specs.Fits.{Makes}
+use Rattle.vhost_backend_core.specs.Settling.{Settles, settled_by}
 use Rattle.vhost_backend_core.specs.declared.answer.DeviceAnswer.{DeviceAnswer}
 use Rattle.vhost_backend_core.specs.declared.answer.Then.{Then}
 use Rattle.vhost_backend_core.specs.declared.call.DeviceCall.{DeviceCall}
@@ -50,8 +51,8 @@ module _ {H : Type 0} (B G : Type 0) where
 
   module _ {L : Type 0} (event : L → Event H → L → Type 0) where
     -- a request was refused, and no device was called
-    abbrev pub Denies : FrontendReq → Step H B G → State L H → Session → declared.Error → State L H → Session → Type 0
-    Denies r step old s e new s' = Answers event uncalled unopened unopened r step old s tt (Err e) new s' tt
+    abbrev pub Denies : Message FrontendReq H → Step H B G → State L H → Session → declared.Error → State L H → Session → Type 0
+    Denies m step old s e new s' = Answers event uncalled unopened unopened m step old s tt (Err e) new s' tt
 
     -- a message was read, and became a call that is to be answered
     pub record Begins (old new : SessionCore L H) : Type 0 where
@@ -59,6 +60,7 @@ module _ {H : Type 0} (B G : Type 0) where
       pub is : new.pending ≡ Some pending
       pub reads : ReadsMessage event request_of allows_handles (endpoint_of old) pending.request pending.handles new.body.value (endpoint_of new)
       pub prepares : Prepares (session_in old) reads.message pending.then new.server.regions
+      pub settles : Settles (session_in old) reads.message pending.unanswered
       pub session : session_in new ≡ session_in old
 
     -- none was read, or it was refused, and no device was called
@@ -73,7 +75,7 @@ module _ {L H B G Dev : Type 0} (event : L → Event H → L → Type 0) (gives 
       → endpoint_of last ≡ endpoint_of mid → session_in last ≡ session_in mid → last.server.regions ≡ mid.server.regions
       → Called gives opens_backend opens_gpu d (beside_then begun.pending.then last.server) (row_of begun.reads.message.request (session_in old) begun.reads.message) (Some a) d'
       → AnswerSized last.server.shmem a
-      → Finishes event begun.pending.request.code (concluded (session_in last) begun.pending.request.need_reply (beside_then begun.pending.then last.server) begun.pending.then a)
+      → Finishes event begun.pending.request.code (settled_by begun.pending.unanswered (concluded (session_in last) begun.pending.request.need_reply (beside_then begun.pending.then last.server) begun.pending.then a))
       (endpoint_of last) (session_in last) result (endpoint_of new) (session_in new)
       → HandlesOne event gives opens_backend opens_gpu (endpoint_of old) (session_in old) d result (endpoint_of new) (session_in new) d'
 

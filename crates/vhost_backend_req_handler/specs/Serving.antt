@@ -11,7 +11,9 @@ use Rattle.vhost_protocol.specs.Session.{Session}
 use Rattle.vhost_protocol.specs.DeviceCall.{Call, Answer}
 use Rattle.vhost_protocol.specs.Handler.{Follows, MeetsRow}
 use Rattle.vhost_protocol.specs.Heard.{AnswerFits}
-use Rattle.vhost_protocol.specs.Served.{Served, reply, cells_of}
+use Rattle.vhost_protocol.specs.Served.{Served, Silent, reply, cells_of}
+use Rattle.vhost_protocol.specs.Settled.{settled}
+use Rattle.vhost_protocol.specs.Split.{Message}
 use Rattle.vhost_protocol.specs.Step.{Outcome, Step}
 use Rattle.vhost_link.specs.Law.{Event}
 use Rattle.vhost_connection.specs.Talk.{State}
@@ -38,19 +40,19 @@ kept_unsent GET_FEATURES before after = before
 kept_unsent _ before after = after
 
 module _ {H B G Dev : Type 0} (gives : Dev → (c : Call H B G) → Answer c → Dev → Type 0) (opens_backend : H → Result B Error → Type 0) (opens_gpu : H → Result G Error → Type 0) where
-  -- The rest of a request's row was followed: this is the answer, what is written, and session and device.
-  pub record Met (r : FrontendReq) (step : Step H B G) (s : Session) (d : Dev) (answer : Result ⊤ Error) (written : List (Cell H)) (s' : Session) (d' : Dev) : Type 0 where
-    pub outcome : Outcome H
-    pub follows : Follows (fitting gives) opens_backend opens_gpu s d step outcome d'
-    pub is_answer : answer ≡ outcome.answer
-    pub is_written : written ≡ reply_cells r outcome.served
-    pub session : s' ≡ outcome.session
+  -- The rest of a message's row was followed, and what it became is settled: this is the answer, what is written, and session and device.
+  pub record Met (m : Message FrontendReq H) (step : Step H B G) (s : Session) (d : Dev) (answer : Result ⊤ Error) (written : List (Cell H)) (s' : Session) (d' : Dev) : Type 0 where
+    pub told : Outcome H
+    pub follows : Follows (fitting gives) opens_backend opens_gpu s d step told d'
+    pub is_answer : answer ≡ (settled s m told).answer
+    pub is_written : written ≡ reply_cells m.request (settled s m told).served
+    pub session : s' ≡ (settled s m told).session
 
 module _ {L H B G Dev : Type 0} (event : L → Event H → L → Type 0) (gives : Dev → (c : Call H B G) → Answer c → Dev → Type 0)
     (opens_backend : H → Result B Error → Type 0) (opens_gpu : H → Result G Error → Type 0) where
-  -- the arm of a request: its row, or a fault
-  abbrev pub Answers : FrontendReq → Step H B G → State L H → Session → Dev → Result ⊤ declared.Error → State L H → Session → Dev → Type 0
-  Answers r step old s d result new s' d' = serving.Answers event (Met gives opens_backend opens_gpu r step s d) (kept_unsent r s) old result new s' d'
+  -- a message is served by its row, or a fault stops it
+  abbrev pub Answers : Message FrontendReq H → Step H B G → State L H → Session → Dev → Result ⊤ declared.Error → State L H → Session → Dev → Type 0
+  Answers m step old s d result new s' d' = serving.Answers event (Met gives opens_backend opens_gpu m step s d) (kept_unsent m.request s) old result new s' d'
 
   -- ---- a whole call, by the form of a handler
 
@@ -75,6 +77,10 @@ module _ {L H B G Dev : Type 0} (event : L → Event H → L → Type 0) (gives 
   Runs = serving.Runs event request_of allows_handles (λ (t : Session). t.failed) kept_unsent (MeetsRow (fitting gives) opens_backend opens_gpu)
 
 -- ---- what a call became goes out
+
+-- a refusal in silence
+abbrev pub refused_silently : {H : Type 0} → Session → Error → Outcome H
+refused_silently s e = record { answer = Err e; served = Silent; session = s }
 
 -- The peer knows, and the session is the new one; or a fault stopped it.
 pub data Finishes {L H : Type 0} (event : L → Event H → L → Type 0) (r : FrontendReq) (o : Outcome H) (old : State L H) (s : Session) : Result ⊤ declared.Error → State L H → Session → Type 0 where

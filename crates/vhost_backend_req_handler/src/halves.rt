@@ -4,12 +4,15 @@ ghost use Rattle.std.specs.Prelude.{◌≡◌, ℕ, ℤ, List, [], IfOk, IfErr, 
 ghost use Rattle.vhost_message.specs.declared.cause.IoCause.TheVariants.{Raw};
 ghost use Rattle.vhost_message.specs.declared.error.Error.TheVariants.{SocketBroken};
 ghost use Rattle.vhost_backend_core.specs.Concluding.{concluded};
+ghost use Rattle.vhost_backend_core.specs.Settling.{settled_by};
 ghost use Rattle.vhost_backend_req_handler.specs.Halves.{HalvesRefuse, HalvesServe};
 ghost use Rattle.vhost_backend_req_handler.specs.Opening.{OpensAsBackend, OpensAsGpu};
 
 use crate::session_core::SessionCore;
 use crate::sizes::look;
-use vhost_backend_core::{Begun, DeviceAnswer, DeviceCall, Incoming, Rows, Then};
+use vhost_backend_core::{
+    Begun, Conclusions, DeviceAnswer, DeviceCall, Incoming, Rows, Then, Unanswered,
+};
 use vhost_backend_req::Backend;
 use vhost_connection::Request;
 use vhost_device::VhostUserBackendReqHandlerMut;
@@ -25,6 +28,8 @@ pub(crate) struct Pending<H> {
     pub(crate) handles: Option<Vec<H>>,
     /// How the answer is reported.
     pub(crate) then: Then,
+    /// What becomes of it where nothing is written that it waits for.
+    pub(crate) unanswered: Unanswered,
 }
 
 impl<L: Link> SessionCore<L> {
@@ -76,12 +81,17 @@ impl<L: Link> SessionCore<L> {
             request.need_reply,
             &self.body[..request.len],
         );
-        match self.server.begin(&mut self.endpoint, &message, &handles) {
+        let unanswered = Conclusions::<L::Handle>::unanswered(&self.server.session, &message);
+        match self
+            .server
+            .begin(&mut self.endpoint, &message, &unanswered, &handles)
+        {
             Ok(then) => {
                 let pending = Pending {
                     request,
                     handles,
                     then,
+                    unanswered,
                 };
                 self.pending = Some(pending);
                 Ok(())
@@ -141,7 +151,7 @@ impl<L: Link> SessionCore<L> {
         ensures endpoint { endpoint_of self.new ≡ endpoint_of self.old }
         ensures session { session_in self.new ≡ session_in self.old }
         ensures regions { self.new.server.regions ≡ self.old.server.regions }
-        ensures pending { (p : Pending L.Handle) → self.old.pending ≡ Some p → (q : Pending L.Handle) × (self.new.pending ≡ Some q) × (q.request ≡ p.request) × (q.then ≡ p.then) }
+        ensures pending { (p : Pending L.Handle) → self.old.pending ≡ Some p → (q : Pending L.Handle) × (self.new.pending ≡ Some q) × (q.request ≡ p.request) × (q.then ≡ p.then) × (q.unanswered ≡ p.unanswered) }
     {
         match self.pending.take() {
             Some(mut pending) => {
@@ -168,6 +178,7 @@ impl<L: Link> SessionCore<L> {
         ensures regions { self.new.server.regions ≡ self.old.server.regions }
         ensures request { pending.new.request ≡ pending.old.request }
         ensures then { pending.new.then ≡ pending.old.then }
+        ensures unanswered { pending.new.unanswered ≡ pending.old.unanswered }
     {
         let request = pending.request;
         let message = Incoming::new(
@@ -228,7 +239,7 @@ impl<L: Link> SessionCore<L> {
     /// answered, and those of the link.
     pub fn conclude(&mut self, answer: DeviceAnswer<L::Handle>) -> Result<()>
         ensures concluded { (p : Pending L.Handle) → self.old.pending ≡ Some p → IsReady (endpoint_of self.old)
-            → Finishes L.event p.request.code (concluded (session_in self.old) p.request.need_reply (beside_then p.then self.old.server) p.then answer) (endpoint_of self.old) (session_in self.old) result (endpoint_of self.new) (session_in self.new) }
+            → Finishes L.event p.request.code (settled_by p.unanswered (concluded (session_in self.old) p.request.need_reply (beside_then p.then self.old.server) p.then answer)) (endpoint_of self.old) (session_in self.old) result (endpoint_of self.new) (session_in self.new) }
         ensures idle { self.old.pending ≡ None → (self.new ≡ self.old) × IfOk result (λ _. ⊥) }
         ensures sized { AnswerSized self.old.server.shmem answer }
         ensures none { is_some self.new.pending ≡ false }
@@ -240,12 +251,14 @@ impl<L: Link> SessionCore<L> {
                     request,
                     handles: _handles,
                     then,
+                    unanswered,
                 } = pending;
                 self.server.finish(
                     &mut self.endpoint,
                     request.code,
                     request.need_reply,
                     then,
+                    &unanswered,
                     answer,
                 )
             }

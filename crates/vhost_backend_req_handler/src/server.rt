@@ -1,6 +1,6 @@
 //! One request is served: it becomes a call, the device is called, and what its answer becomes goes out.
 
-ghost use Rattle.std.specs.Prelude.{◌≡◌, IfOk, IfErr, length, take};
+ghost use Rattle.std.specs.Prelude.{◌≡◌, Err, IfOk, IfErr, length, take};
 ghost use Rattle.vhost_message.specs.declared.limits.TheConstants.{MAX_MEM_REGIONS};
 ghost use Rattle.vhost_protocol.specs.Error.{seen};
 ghost use Rattle.vhost_protocol.specs.Row.{row_of};
@@ -11,15 +11,18 @@ ghost use Rattle.vhost_backend_core.specs.Beginning.{handles_in, message_in, reg
 ghost use Rattle.vhost_backend_req.specs.declared.backend.Backend.{Backend};
 ghost use Rattle.vhost_gpu_backend_req.specs.declared.backend.GpuBackend.{GpuBackend};
 ghost use Rattle.vhost_backend_core.specs.Concluding.{regions_beside, regions_for, then_of, wanting};
+ghost use Rattle.vhost_backend_core.specs.Refusing.{refusal_in};
 ghost use Rattle.vhost_backend_core.specs.Session.{session_of};
+ghost use Rattle.vhost_backend_core.specs.Settling.{Settles, settled_by};
 ghost use Rattle.vhost_backend_req_handler.specs.Halves.{Denies, Prepares};
 ghost use Rattle.vhost_backend_req_handler.specs.Opening.{OpensAsBackend, OpensAsGpu};
-ghost use Rattle.vhost_backend_req_handler.specs.Serving.{Answers, Finishes};
+ghost use Rattle.vhost_backend_req_handler.specs.Serving.{Answers, Finishes, refused_silently};
 
 use crate::sizes::look;
 use std::alloc::Global;
 use vhost_backend_core::{
-    Begun, DeviceAnswer, DeviceCall, Incoming, RegionTable, Rows, Session, Then,
+    Begun, Conclusions, DeviceAnswer, DeviceCall, Incoming, Refusal, RegionTable, Rows, Session,
+    Then, Unanswered,
 };
 use vhost_backend_req::Backend;
 use vhost_connection::Endpoint;
@@ -54,12 +57,17 @@ impl Server {
         handles: &mut Option<Vec<L::Handle>>,
     ) -> Result<()>
         ensures { IsReady (state endpoint.old)
-            → Answers L.event D.gives (λ h o. OpensAsBackend L.opens L.Handle.kinds (state endpoint.old).budget h o) (λ h o. OpensAsGpu L.opens L.Handle.kinds (state endpoint.old).budget h o) message.now.code (row_of message.now.code (session_of self.old.session) (message_in message.now (handles_in handles.old))) (state endpoint.old) (session_of self.old.session) device.old result (state endpoint.new) (session_of self.new.session) device.new }
+            → Answers L.event D.gives (λ h o. OpensAsBackend L.opens L.Handle.kinds (state endpoint.old).budget h o) (λ h o. OpensAsGpu L.opens L.Handle.kinds (state endpoint.old).budget h o) (message_in message.now (handles_in handles.old)) (row_of message.now.code (session_of self.old.session) (message_in message.now (handles_in handles.old))) (state endpoint.old) (session_of self.old.session) device.old result (state endpoint.new) (session_of self.new.session) device.new }
     {
+        let unanswered = Conclusions::<L::Handle>::unanswered(&self.session, message);
         match Rows::<L::Handle, Backend<L>, GpuBackend<L>>::begin(&self.session, message, handles) {
-            Ok(Begun::Calls(call)) => self.make(endpoint, device, message, &call, handles),
-            Ok(Begun::Refuses(refusal)) => self.refuse(endpoint, message, refusal.error()),
-            Err(refusal) => Err(refusal.error()),
+            Ok(Begun::Calls(call)) => {
+                self.make(endpoint, device, message, &unanswered, &call, handles)
+            }
+            Ok(Begun::Refuses(refusal)) => {
+                self.refuse(endpoint, message, &unanswered, refusal.error())
+            }
+            Err(refusal) => self.refuse_silently(endpoint, message, &unanswered, refusal.error()),
         }
     }
 
@@ -69,11 +77,12 @@ impl Server {
         endpoint: &mut Endpoint<Header, L>,
         device: &mut D,
         message: &Incoming<'m>,
+        unanswered: &Unanswered,
         call: &DeviceCall<'m>,
         handles: &mut Option<Vec<L::Handle>>,
     ) -> Result<()>
-        ensures { IsReady (state endpoint.old)
-            → Answers L.event D.gives (λ h o. OpensAsBackend L.opens L.Handle.kinds (state endpoint.old).budget h o) (λ h o. OpensAsGpu L.opens L.Handle.kinds (state endpoint.old).budget h o) message.now.code (step_of (session_of self.old.session) (message_in message.now (handles_in handles.old)) call.now) (state endpoint.old) (session_of self.old.session) device.old result (state endpoint.new) (session_of self.new.session) device.new }
+        ensures { IsReady (state endpoint.old) → Settles (session_of self.old.session) (message_in message.now (handles_in handles.old)) unanswered.now
+            → Answers L.event D.gives (λ h o. OpensAsBackend L.opens L.Handle.kinds (state endpoint.old).budget h o) (λ h o. OpensAsGpu L.opens L.Handle.kinds (state endpoint.old).budget h o) (message_in message.now (handles_in handles.old)) (step_of (session_of self.old.session) (message_in message.now (handles_in handles.old)) call.now) (state endpoint.old) (session_of self.old.session) device.old result (state endpoint.new) (session_of self.new.session) device.new }
     {
         self.keep_table(call);
         match self.call_device(endpoint, device, call, handles) {
@@ -84,10 +93,11 @@ impl Server {
                     message.code,
                     message.need_reply,
                     call.then(),
+                    unanswered,
                     answer,
                 )
             }
-            None => Err(Error::InvalidMessage),
+            None => self.refuse_silently(endpoint, message, unanswered, Error::InvalidMessage),
         }
     }
 
@@ -98,26 +108,56 @@ impl Server {
         &mut self,
         endpoint: &mut Endpoint<Header, L>,
         message: &Incoming<'m>,
+        unanswered: &Unanswered,
         handles: &Option<Vec<L::Handle>>,
     ) -> Result<Then>
         ensures begun { IfOk result (λ next. IsReady (state endpoint.old) → Prepares (Backend L L.Handle) (GpuBackend L L.Handle) (session_of self.old.session) (message_in message.now (handles_in handles.now)) next self.new.regions × (state endpoint.new ≡ state endpoint.old) × (self.new.session ≡ self.old.session)) }
-        ensures refused { IfErr result (λ e. IsReady (state endpoint.old) → Denies (Backend L L.Handle) (GpuBackend L L.Handle) L.event message.now.code (row_of message.now.code (session_of self.old.session) (message_in message.now (handles_in handles.now))) (state endpoint.old) (session_of self.old.session) e (state endpoint.new) (session_of self.new.session)) }
+        ensures refused { IfErr result (λ e. IsReady (state endpoint.old) → Settles (session_of self.old.session) (message_in message.now (handles_in handles.now)) unanswered.now
+            → Denies (Backend L L.Handle) (GpuBackend L L.Handle) L.event (message_in message.now (handles_in handles.now)) (row_of message.now.code (session_of self.old.session) (message_in message.now (handles_in handles.now))) (state endpoint.old) (session_of self.old.session) e (state endpoint.new) (session_of self.new.session)) }
     {
         match Rows::<L::Handle, Backend<L>, GpuBackend<L>>::begin(&self.session, message, handles) {
             Ok(Begun::Calls(call)) => {
                 if !call.fits(handles) {
-                    return Err(Error::InvalidMessage);
+                    let refusal = Refusal::InvalidMessage;
+                    return Err(self.deny_silently(endpoint, message, unanswered, refusal));
                 }
                 self.keep_table(&call);
                 Ok(call.then())
             }
-            Ok(Begun::Refuses(refusal)) => {
-                match self.refuse(endpoint, message, refusal.error()) {
-                    Ok(()) => Err(refusal.error()),
-                    Err(error) => Err(error),
-                }
-            }
-            Err(refusal) => Err(refusal.error()),
+            Ok(Begun::Refuses(refusal)) => Err(self.deny(endpoint, message, unanswered, refusal)),
+            Err(refusal) => Err(self.deny_silently(endpoint, message, unanswered, refusal)),
+        }
+    }
+
+    /// Refuses a request, and says by which error.
+    fn deny<L: Link>(
+        &mut self,
+        endpoint: &mut Endpoint<Header, L>,
+        message: &Incoming,
+        unanswered: &Unanswered,
+        refusal: Refusal,
+    ) -> Error
+        ensures { IsReady (state endpoint.old) → Finishes L.event message.now.code (settled_by unanswered.now (failed_with (session_of self.old.session) (wanting {H = L.Handle} message.now.need_reply) (refusal_in refusal))) (state endpoint.old) (session_of self.old.session) (Err result) (state endpoint.new) (session_of self.new.session) }
+    {
+        match self.refuse(endpoint, message, unanswered, refusal.error()) {
+            Ok(()) => refusal.error(),
+            Err(error) => error,
+        }
+    }
+
+    /// The same in silence.
+    fn deny_silently<L: Link>(
+        &mut self,
+        endpoint: &mut Endpoint<Header, L>,
+        message: &Incoming,
+        unanswered: &Unanswered,
+        refusal: Refusal,
+    ) -> Error
+        ensures { IsReady (state endpoint.old) → Finishes L.event message.now.code (settled_by unanswered.now (refused_silently {H = L.Handle} (session_of self.old.session) (refusal_in refusal))) (state endpoint.old) (session_of self.old.session) (Err result) (state endpoint.new) (session_of self.new.session) }
+    {
+        match self.refuse_silently(endpoint, message, unanswered, refusal.error()) {
+            Ok(()) => refusal.error(),
+            Err(error) => error,
         }
     }
 
@@ -140,9 +180,10 @@ impl Server {
         &mut self,
         endpoint: &mut Endpoint<Header, L>,
         message: &Incoming,
+        unanswered: &Unanswered,
         error: Error,
     ) -> Result<()>
-        ensures { IsReady (state endpoint.old) → Finishes L.event message.now.code (failed_with (session_of self.old.session) (wanting {H = L.Handle} message.now.need_reply) (seen error)) (state endpoint.old) (session_of self.old.session) result (state endpoint.new) (session_of self.new.session) }
+        ensures { IsReady (state endpoint.old) → Finishes L.event message.now.code (settled_by unanswered.now (failed_with (session_of self.old.session) (wanting {H = L.Handle} message.now.need_reply) (seen error))) (state endpoint.old) (session_of self.old.session) result (state endpoint.new) (session_of self.new.session) }
     {
         let answer = DeviceAnswer::<L::Handle>::Done(Err(error));
         self.finish(
@@ -150,6 +191,29 @@ impl Server {
             message.code,
             message.need_reply,
             Then::Ack,
+            unanswered,
+            answer,
+        )
+    }
+
+    /// Refuses a request in silence, which is answered where somebody waits.
+    #[cold]
+    fn refuse_silently<L: Link>(
+        &mut self,
+        endpoint: &mut Endpoint<Header, L>,
+        message: &Incoming,
+        unanswered: &Unanswered,
+        error: Error,
+    ) -> Result<()>
+        ensures { IsReady (state endpoint.old) → Finishes L.event message.now.code (settled_by unanswered.now (refused_silently {H = L.Handle} (session_of self.old.session) (seen error))) (state endpoint.old) (session_of self.old.session) result (state endpoint.new) (session_of self.new.session) }
+    {
+        let answer = DeviceAnswer::<L::Handle>::Done(Err(error));
+        self.finish(
+            endpoint,
+            message.code,
+            message.need_reply,
+            Then::Unwritten,
+            unanswered,
             answer,
         )
     }

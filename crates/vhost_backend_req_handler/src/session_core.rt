@@ -102,6 +102,14 @@ impl<L: Link> SessionCore<L> {
         session.failed = Some(number);
     }
 
+    /// The number that marks the session as failed, which each later call answers: that of `set_failed`, or `EPROTO` where it
+    /// has ended, since it could not answer whoever waits.
+    pub fn failed(&self) -> Option<i32>
+        ensures { result ≡ (session_in self.now).failed }
+    {
+        self.server.session.failed
+    }
+
     /// Whose behaviour the session has from now on: that of the crate `vhost`, as at first, or that of the specification and of
     /// real frontends.
     pub fn set_profile(&mut self, profile: Profile)

@@ -9,11 +9,14 @@ ghost use Rattle.vhost_connection.specs.Requests.{IsReady, Tells};
 ghost use Rattle.vhost_connection.specs.State.{state};
 ghost use Rattle.vhost_backend_core.specs.Concluding.{concluded, payload_in, served_in};
 ghost use Rattle.vhost_backend_core.specs.Session.{session_of};
+ghost use Rattle.vhost_backend_core.specs.Settling.{settled_by};
 ghost use Rattle.vhost_backend_req_handler.specs.Serving.{Finishes, kept_unsent, reply_cells};
 
 use crate::bases::rebase;
 use crate::server::{Header, Server};
-use vhost_backend_core::{Conclusion, Conclusions, DeviceAnswer, Reply, Session, Then, Told};
+use vhost_backend_core::{
+    Conclusion, Conclusions, DeviceAnswer, Reply, Session, Then, Told, Unanswered,
+};
 use vhost_connection::Endpoint;
 use vhost_link::Link;
 use vhost_message::{
@@ -163,25 +166,23 @@ impl Server {
         }
     }
 
-    /// Replies by what the answer of a call became, and keeps the session. The offered features are remembered once they
-    /// are sent.
+    /// Replies by what the answer of a call became, or answers whoever waits else, and keeps the session. The offered features
+    /// are remembered once they are sent.
     pub(crate) fn finish<L: Link>(
         &mut self,
         endpoint: &mut Endpoint<Header, L>,
         code: FrontendReq,
         need_reply: bool,
         next: Then,
+        unanswered: &Unanswered,
         answer: DeviceAnswer<L::Handle>,
     ) -> Result<()>
-        ensures { IsReady (state endpoint.old) → Finishes L.event code (concluded (session_of self.old.session) need_reply (beside_then next self.old) next answer) (state endpoint.old) (session_of self.old.session) result (state endpoint.new) (session_of self.new.session) }
+        ensures { IsReady (state endpoint.old) → Finishes L.event code (settled_by unanswered.now (concluded (session_of self.old.session) need_reply (beside_then next self.old) next answer)) (state endpoint.old) (session_of self.old.session) result (state endpoint.new) (session_of self.new.session) }
     {
         let before = self.session;
-        let Conclusion { verdict, told } = Conclusions::conclude(
-            &mut self.session,
-            need_reply,
-            &next,
-            &answer,
-        );
+        let mut conclusion = Conclusions::conclude(&mut self.session, need_reply, &next, &answer);
+        Conclusions::settle(&mut self.session, unanswered, &answer, &mut conclusion);
+        let Conclusion { verdict, told } = conclusion;
         match self.tell(endpoint, code, &next, &told) {
             Ok(()) => answer.by(verdict),
             Err(error) => {

@@ -12,7 +12,7 @@ use Rattle.vhost_protocol.specs.contracts.asked.Awaited as awaited
 use Rattle.vhost_protocol.specs.declared.asked.Awaited.{Awaited}
 use Rattle.vhost_protocol.specs.declared.asked.Awaited.TheVariants.{Nobody, Ack, Reply}
 use Rattle.vhost_protocol.specs.declared.asked.Shape.{Shape}
-use Rattle.vhost_protocol.specs.FrontendCall.{FrontendCall, GetFeatures, GetProtocolFeatures, GetQueueNum, SetMemTable, SetLogBase, GetVringBase, GetConfig, GetSharedObject, GetInflightFd, GetMaxMemSlots, AddMemRegion, GetShmemConfig, SetDeviceStateFd, CheckDeviceState, PostcopyAdvise, PostcopyAckMemRegions}
+use Rattle.vhost_protocol.specs.FrontendCall.{FrontendCall, GetFeatures, GetProtocolFeatures, GetQueueNum, SetMemTable, SetLogBase, GetVringBase, GetConfig, GetSharedObject, GetInflightFd, GetMaxMemSlots, AddMemRegion, GetShmemConfig, SetDeviceStateFd, CheckDeviceState, PostcopyAdvise, PostcopyEnd, PostcopyAckMemRegions}
 use Rattle.vhost_link.specs.declared.plain.PlainHandle.{PlainHandle}
 use Rattle.vhost_frontend_core.specs.Awaiting.{MayAwait}
 use Rattle.vhost_frontend_core.specs.Kept.{IsKeptFor, KeepsTable, KeepsConfig, KeepsPlace}
@@ -58,6 +58,7 @@ MayAwait-prop GetShmemConfig a = awaited-set a _
 MayAwait-prop (SetDeviceStateFd t h) a = awaited-set a _
 MayAwait-prop CheckDeviceState a = awaited-set a _
 MayAwait-prop PostcopyAdvise a = awaited-set a _
+MayAwait-prop PostcopyEnd a = ack_or-prop a _
 MayAwait-prop (PostcopyAckMemRegions r) a = awaited-set a _
 MayAwait-prop _ a = IsAck-prop a
 

@@ -3,17 +3,20 @@ use Rattle.std.proofs.Common.{◌≡◌, ℕ, zero, suc, ◌+◌, Bool, true, fa
 use Rattle.std.specs.Prelude.{⊤, ◌==◌, nat_le, not, if◌then◌else◌}
 use Rattle.std.proofs.lemmas.List.{append-nil}
 use Rattle.vhost_message.specs.declared.limits.TheConstants.{MSG_HEADER_SIZE, VHOST_USER_MAX_VRINGS}
+use Rattle.vhost_message.specs.declared.postcopy.PostcopyState.TheVariants.{End as Over}
 use Rattle.vhost_message.specs.declared.records.config.VhostUserConfig.{VhostUserConfig}
+use Rattle.vhost_message.specs.declared.records.inflight.VhostUserInflight.{VhostUserInflight}
 use Rattle.vhost_message.specs.Bits.{has_bit}
 use Rattle.vhost_message.specs.Header.{Header, header_of}
 use Rattle.vhost_message.specs.Valid.{is_valid_inflight}
 use Rattle.vhost_message.specs.Records.{u64_at}
-use Rattle.vhost_protocol.specs.AnswerTable.{Answered, answered, plain_value, alone, with_one, only_if, config_reply, state_reply, changed, from_reply, answer}
+use Rattle.vhost_protocol.specs.AnswerTable.{Answered, answered, plain_value, alone, with_one, one_or_none, only_if, config_reply, state_reply, inflight_reply, end_reply, changed, from_reply, answer}
 use Rattle.vhost_protocol.specs.Ask.{config}
 use Rattle.vhost_protocol.specs.Error.{Error, InvalidParam, InvalidMessage, PartialMessage, BackendInternalError}
-use Rattle.vhost_protocol.specs.FrontendCall.{FrontendCall, GetFeatures, GetProtocolFeatures, GetQueueNum, SetMemTable, SetLogBase, GetVringBase, GetConfig, GetSharedObject, GetInflightFd, GetMaxMemSlots, AddMemRegion, GetShmemConfig, SetDeviceStateFd, CheckDeviceState, PostcopyAdvise, Value, Number, ConfigOf, HandleOf, InflightOf, StateHandle, Frontend}
+use Rattle.vhost_protocol.specs.FrontendCall.{FrontendCall, GetFeatures, GetProtocolFeatures, GetQueueNum, SetMemTable, SetLogBase, GetVringBase, GetConfig, GetSharedObject, GetInflightFd, GetMaxMemSlots, AddMemRegion, GetShmemConfig, SetDeviceStateFd, CheckDeviceState, PostcopyAdvise, PostcopyEnd, Value, Nothing, Number, ConfigOf, HandleOf, InflightOf, StateHandle, Frontend}
 use Rattle.vhost_protocol.specs.ReplySplit.{Received, received, reply_split, bare_or_reply, not_bare, is_bare_reply, whole_split, is_right, apart, parted, then_made, is_empty_reply, parted_or_none}
 use Rattle.vhost_protocol.specs.Served.{Acknowledged}
+use Rattle.vhost_protocol.specs.Session.{is_listen}
 use Rattle.vhost_protocol.specs.Split.{Splits}
 use Rattle.vhost_protocol.specs.Stream.{Cell, Item, End, items, heard, first_handles, bytes, is_shorter}
 use Rattle.vhost_protocol.specs.Take.{is_known, answers, is_sized, is_valid_record, record_size, payload_of, room, reply_cut, config_cut, understood, understood_ack, understood_config, take, take_reply, take_config}
@@ -53,6 +56,14 @@ module _ {H : Type 0} where
   one-named (h ∷ []) value is = inr (is h)
   one-named (h ∷ g ∷ hs) value is = tt
 
+  perhaps-named : (f : Frontend) (hs : List H) (value : H → Value H) → ((h : H) → handles_of (value h) ≡ h ∷ []) → Names hs (one_or_none f hs value)
+  perhaps-named f [] value is = tt
+  perhaps-named f (h ∷ hs) value is = one-named (h ∷ hs) value is
+
+  inflight-named : (f : Frontend) (i : VhostUserInflight) (hs : List H) → Names hs (inflight_reply f i hs)
+  inflight-named f i [] = tt
+  inflight-named f i (h ∷ hs) = one-named (h ∷ hs) (InflightOf i) (λ h. refl)
+
   changed-named : (came : List H) (f g : Frontend) (r : Result (Value H) Error) → Names came r → Names came (changed f g r).result
   changed-named came f g (Ok v) n = n
   changed-named came f g (Err e) n = tt
@@ -61,6 +72,14 @@ module _ {H : Type 0} where
   state-named n [] = only-named [] (n == 0x100) BackendInternalError (StateHandle None) (inl refl)
   state-named n (h ∷ []) = only-named (h ∷ []) (n == 0) BackendInternalError (StateHandle (Some h)) (inr refl)
   state-named n (h ∷ g ∷ hs) = tt
+
+  ended-named : (f g : Frontend) (came : List H) (b : Bool) → Names came (if b then answered f (Ok Nothing) else answered g (Err BackendInternalError)).result
+  ended-named f g came true = inl refl
+  ended-named f g came false = tt
+
+  end-named : (f : Frontend) (n : ℕ) (hs : List H) → Names hs (end_reply f n hs).result
+  end-named f n [] = ended-named (record f { postcopy = Over }) (if is_listen f.postcopy then record f { postcopy = Over } else f) [] (n == 0)
+  end-named f n (h ∷ hs) = tt
 
   config-named : (asked : VhostUserConfig) (buffer : List ℕ) (hs : List H) (c : VhostUserConfig) (bs : List ℕ) → Names hs (config_reply asked buffer hs c bs)
   config-named asked [] hs c bs = tt
@@ -90,14 +109,15 @@ module _ {H : Type 0} where
   reply-named (SetLogBase base region) f (LogArea l) hs = alone-named hs hs _ (only-named hs _ _ _ (inl refl))
   reply-named (GetVringBase i) f (RingState v) hs = alone-named hs hs _ (inl refl)
   reply-named (GetConfig offset size flags buffer) f (ConfigBytes c bs) hs = config-named (config offset size flags) buffer hs c bs
-  reply-named (GetSharedObject name) f Empty hs = one-named hs HandleOf (λ h. refl)
-  reply-named (GetInflightFd asked) f (InflightArea i) hs = area-named hs (is_valid_inflight i) _ (one-named hs (InflightOf i) (λ h. refl))
+  reply-named (GetSharedObject name) f Empty hs = perhaps-named f hs HandleOf (λ h. refl)
+  reply-named (GetInflightFd asked) f (InflightArea i) hs = area-named hs (is_valid_inflight i) _ (inflight-named f i hs)
   reply-named GetMaxMemSlots f (U64 n) hs = alone-named hs hs _ (inl refl)
   reply-named (AddMemRegion info) f (OneRegion r) hs = alone-named hs hs _ (only-named hs _ _ _ (inl refl))
   reply-named GetShmemConfig f (Shmem c) hs = alone-named hs hs _ (inl refl)
   reply-named (SetDeviceStateFd t h) f (U64 n) hs = state-named n hs
   reply-named CheckDeviceState f (U64 n) hs = alone-named hs hs _ (only-named hs _ _ _ (inl refl))
-  reply-named PostcopyAdvise f Empty hs = changed-named hs f _ _ (one-named hs HandleOf (λ h. refl))
+  reply-named PostcopyAdvise f Empty hs = changed-named hs f _ _ (perhaps-named f hs HandleOf (λ h. refl))
+  reply-named PostcopyEnd f (U64 n) hs = end-named f n hs
   reply-named _ f payload hs = tt
 
   -- ---- what was received

@@ -289,7 +289,7 @@ pub extern "C" fn covretin_ask_postcopy_advise(alloc: Global, session: &mut Hold
     asked(alloc, session, FrontendCall::PostcopyAdvise)
 }
 
-/// Asks the backend to listen for page faults.
+/// Asks the backend to listen for page faults. Under `Standard` its acknowledgement is awaited wherever both sides agreed on them.
 #[unsafe(no_mangle)]
 pub extern "C" fn covretin_ask_postcopy_listen(alloc: Global, session: &mut Holder) -> u32
     ensures { AsksBy calls.PostcopyListen session.old.session result session.new.session }
@@ -297,7 +297,7 @@ pub extern "C" fn covretin_ask_postcopy_listen(alloc: Global, session: &mut Hold
     asked(alloc, session, FrontendCall::PostcopyListen)
 }
 
-/// Announces that postcopy has ended.
+/// Announces that postcopy has ended. Under `Standard` its reply is awaited, whatever the flags of requests.
 #[unsafe(no_mangle)]
 pub extern "C" fn covretin_ask_postcopy_end(alloc: Global, session: &mut Holder) -> u32
     ensures { AsksBy calls.PostcopyEnd session.old.session result session.new.session }

@@ -4,7 +4,7 @@ ghost use Rattle.std.specs.Prelude.{◌≡◌};
 ghost use Rattle.vhost_c_common.specs.ByNumber.{By};
 ghost use Rattle.vhost_c_backend.specs.Served.{Sending, Receiving, Ending};
 ghost use Rattle.vhost_c_backend.specs.Serving.{Beginning};
-ghost use Rattle.vhost_c.specs.Backend.{missing_at, inactive_at};
+ghost use Rattle.vhost_c.specs.Backend.{missing_at, inactive_at, ended_at};
 
 use crate::backend_holder::BackendHolder;
 use std::alloc::Global;
@@ -125,4 +125,19 @@ pub extern "C" fn covretin_backend_inactive(alloc: Global, backend: &mut Backend
     let inactive = held.inactive();
     backend.put(held);
     inactive
+}
+
+/// 1 where the session has ended, since it could not answer whoever waits: it reads nothing more, and its socket is to be
+/// closed. Else 0.
+#[unsafe(no_mangle)]
+pub extern "C" fn covretin_backend_ended(alloc: Global, backend: &mut BackendHolder) -> u32
+    ensures ended { result ≡ ended_at backend.old.session }
+    ensures same { backend.new.session ≡ backend.old.session }
+{
+    let Some(held) = backend.take(alloc) else {
+        return 0;
+    };
+    let ended = held.ended();
+    backend.put(held);
+    if ended { 1 } else { 0 }
 }

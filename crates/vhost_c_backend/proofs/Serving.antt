@@ -7,6 +7,7 @@ use Rattle.vhost_message.specs.declared.records.shmem.VhostUserShMemConfig.{Vhos
 use Rattle.vhost_message.specs.FrontendReq.{request_of}
 use Rattle.vhost_protocol.specs.Codes.{allows_handles}
 use Rattle.vhost_protocol.specs.Session.{Session}
+use Rattle.vhost_protocol.specs.Settled.{settled}
 use Rattle.vhost_protocol.specs.Split.{split}
 use Rattle.vhost_protocol.specs.Step.{Outcome, Step}
 use Rattle.vhost_protocol.specs.Stream.{Cell}
@@ -19,6 +20,7 @@ use Rattle.vhost_connection.specs.Requests.{Reads, Stops}
 use Rattle.vhost_backend_core.specs.Beginning.{handles_in, step_of, with_one, with_wanted}
 use Rattle.vhost_backend_core.specs.Concluding.{ConcludesRow, FollowsFrom, concluded, regions_for, then_of}
 use Rattle.vhost_backend_core.specs.Fits.{Makes}
+use Rattle.vhost_backend_core.specs.Settling.{Settles, settled_by}
 use Rattle.vhost_backend_core.specs.declared.answer.DeviceAnswer.{DeviceAnswer}
 use Rattle.vhost_backend_core.specs.declared.call.DeviceCall.{DeviceCall}
 use Rattle.vhost_backend_core.specs.declared.call.DeviceCall.TheVariants as call
@@ -119,6 +121,7 @@ served old new b = record {
   is = b.is;
   reads = b.reads.reads;
   hands = b.reads.hands;
+  settles = subst {A = Session} (λ t. Settles t b.reads.message b.pending.unanswered) (sym b.session) b.settles;
   prepares = subst {A = Session} (λ t. Prepares Channel Display t b.reads.message b.pending.then new.core.server.regions) (sym b.session) b.prepares;
   ready = record { broken = b.reads.hears.serves.after; faulted = b.reads.hears.serves.faulted };
 }
@@ -178,10 +181,10 @@ begins law old new number c b outgoing count inactive is lends due =
 
 -- what follows from an answer goes out
 pub concludes : TalksLaw → ConcludesRow PlainHandle Channel Display → (m : Request) (a : DeviceAnswer PlainHandle) (old new : Served) (result : Result ⊤ declared.Error)
-    → ((p : Pending PlainHandle) → old.core.pending ≡ Some p → Finishes event p.request.code (concluded (remembers old) p.request.need_reply (beside_then p.then old.core.server) p.then a) (endpoint_of old.core) (remembers old) result (endpoint_of new.core) (remembers new))
+    → ((p : Pending PlainHandle) → old.core.pending ≡ Some p → Finishes event p.request.code (settled_by p.unanswered (concluded (remembers old) p.request.need_reply (beside_then p.then old.core.server) p.then a)) (endpoint_of old.core) (remembers old) result (endpoint_of new.core) (remembers new))
     → new.outgoing ≡ old.outgoing → IsServed m old → Concludes m old.core.server.shmem a old new result
 concludes talks law m a old new result finishes outgoing x =
-    by result (finishes x.pending x.is)
+    by result (subst (λ (q : Outcome PlainHandle). Finishes event x.pending.request.code q (endpoint_of old.core) s result (endpoint_of new.core) (remembers new)) (x.settles o) (finishes x.pending x.is))
   where
     s : Session
     s = remembers old
@@ -199,18 +202,18 @@ concludes talks law m a old new result finishes outgoing x =
         (law s m x.prepares.call (beside_then x.pending.then old.core.server) a x.prepares.regions))
 
     cells : List (Cell PlainHandle)
-    cells = reply_cells x.pending.request.code o.served
+    cells = reply_cells x.pending.request.code (settled s m o).served
 
-    coded : cells ≡ reply_cells m.request o.served
-    coded = ap (λ r. reply_cells r o.served) x.reads.code
+    coded : cells ≡ reply_cells m.request (settled s m o).served
+    coded = ap (λ r. reply_cells r (settled s m o).served) x.reads.code
 
-    by : (r : Result ⊤ declared.Error) → Finishes event x.pending.request.code o (endpoint_of old.core) s r (endpoint_of new.core) (remembers new) → Concludes m old.core.server.shmem a old new r
+    by : (r : Result ⊤ declared.Error) → Finishes event x.pending.request.code (settled s m o) (endpoint_of old.core) s r (endpoint_of new.core) (remembers new) → Concludes m old.core.server.shmem a old new r
     by r (finished is replies session) = told (regions_for x.pending.then old.core.server.regions) o follows is
         (ap {A = Outgoing} (λ q. q.link.pending ++ (endpoint_of new.core).link.sent) outgoing ∙ ap (λ xs. old.outgoing.link.pending ++ xs) ((replies-told talks (endpoint_of old.core) (endpoint_of new.core) cells replies).1 ∙ ap (λ xs. (endpoint_of old.core).link.sent ++ xs) coded)
-        ∙ sym (append_assoc old.outgoing.link.pending (endpoint_of old.core).link.sent (reply_cells m.request o.served)))
+        ∙ sym (append_assoc old.outgoing.link.pending (endpoint_of old.core).link.sent (reply_cells m.request (settled s m o).served)))
         (replies-told talks (endpoint_of old.core) (endpoint_of new.core) cells replies).0
         session
-    by (Err e) (stopped stops session) = serving.stopped (regions_for x.pending.then old.core.server.regions) o follows (subst (λ cs. Stops event (endpoint_of old.core) cs e (endpoint_of new.core)) coded stops) (session ∙ ap (λ r. kept_unsent r s o.session) x.reads.code)
+    by (Err e) (stopped stops session) = serving.stopped (regions_for x.pending.then old.core.server.regions) o follows (subst (λ cs. Stops event (endpoint_of old.core) cs e (endpoint_of new.core)) coded stops) (session ∙ ap (λ r. kept_unsent r s (settled s m o).session) x.reads.code)
 
 -- ---- replies
 
@@ -246,7 +249,7 @@ pub concludes-placed : (old new : Served) (config : VhostUserShMemConfig) (core 
     → ((m : Request) → IsServed m (record old { core = core }) → Concludes m core.server.shmem a (record old { core = core }) new result) → (m : Request) → IsServed m old → Concludes m config a old new result
 concludes-placed old new config core a result is concluded m x =
     again (subst {A = SessionCore Ends PlainHandle} (λ k. (n : Request) → IsServed n (record old { core = k }) → Concludes n k.server.shmem a (record old { core = k }) new result) is concluded m
-    (record { pending = x.pending; is = x.is; reads = x.reads; hands = x.hands; prepares = x.prepares; ready = x.ready }))
+    (record { pending = x.pending; is = x.is; reads = x.reads; hands = x.hands; prepares = x.prepares; settles = x.settles; ready = x.ready }))
   where
     again : {r : Result ⊤ declared.Error} → Concludes m config a (placed old config) new r → Concludes m config a old new r
     again (told rs o follows is queue came memory) = told rs o follows is queue came memory

@@ -1,6 +1,6 @@
 -- Three requests are served, one after another.
-use Rattle.std.proofs.Common.{◌≡◌, ℕ, Bool, true, false, ◌&&◌, List, [], ◌∷◌, ◌++◌, map, Option, Some, None, Result, Ok, Err, ◌⊎◌, inl, inr, refl, sym, ap, subst, ◌∙◌, arith}
-use Rattle.std.specs.Prelude.{⊤, if◌then◌else◌}
+use Rattle.std.proofs.Common.{◌≡◌, ℕ, Bool, true, false, cond, ◌&&◌, List, [], ◌∷◌, ◌++◌, map, Option, Some, None, Result, Ok, Err, ◌⊎◌, inl, inr, refl, sym, ap, subst, ◌∙◌, arith}
+use Rattle.std.specs.Prelude.{⊤, ◌||◌, not, if◌then◌else◌}
 use Rattle.std.specs.Option.{IsSomeAnd}
 use Rattle.std.proofs.lemmas.List.{append-nil}
 use Rattle.vhost_message.specs.declared.frontend_req.FrontendReq.{FrontendReq}
@@ -11,6 +11,9 @@ use Rattle.vhost_message.specs.FrontendReq.{request_of}
 use Rattle.vhost_protocol.specs.Codes.{allows_handles}
 use Rattle.vhost_protocol.specs.Error.{Error, BackendInternalError}
 use Rattle.vhost_protocol.specs.Served.{Served as Told, Silent, Acknowledged, Replied}
+use Rattle.vhost_protocol.specs.Profile.{is_standard}
+use Rattle.vhost_protocol.proofs.SettleLaws.{settled-answer}
+use Rattle.vhost_protocol.specs.Settled.{awaits_reply, ended, refused_reply, saying, settled}
 use Rattle.vhost_protocol.specs.Session.{Session, ack_on}
 use Rattle.vhost_protocol.specs.Split.{split, split_after, split_body, body_outcome}
 use Rattle.vhost_protocol.specs.Step.{Outcome, with_ack}
@@ -57,7 +60,7 @@ plain-text (b ∷ bs) = refl
 module _ (text : List ℕ) (m : Request) (memory : Session) (queue : List (Cell PlainHandle)) (number : ℕ) (is : split request_of allows_handles (plain text) ≡ (Ok m, [])) (unmarked : memory.failed ≡ None) where
   read : (s : Served) {n : ℕ} {new : Option Served} → arrived s ≡ plain text → remembers s ≡ memory → queued s ≡ queue → By (Beginning number) (Some s) n new → n ≡ 0 → IsSomeAnd new (HasRead m memory queue number)
   read s came memory-is queue-is (some {s' = t} {outcome = Ok u} begins) zero =
-      let b : Begins number s t = begins (ap {A = Session} (λ k. k.failed) memory-is ∙ unmarked) in
+      let b : Begins number s t = begins.0 (ap {A = Session} (λ k. k.failed) memory-is ∙ unmarked) in
       let both : (Ok b.message, arrived t) ≡ (Ok m, []) = sym b.came ∙ ap (split request_of allows_handles) came ∙ is in
       let same : b.message ≡ m = cc (ap (λ x. x.0) both) in
       record {
@@ -86,22 +89,28 @@ record Went (m : Request) (r : Reply) (memory : Session) (queue : List (Cell Pla
   place : VhostUserShMemConfig
   outcome : Outcome PlainHandle
   follows : FollowsFrom {B = Channel} {G = Display} memory (beside regions place) answer (row memory m) outcome
-  fine : outcome.answer ≡ Ok tt
-  waits : IsWaiting outcome.session (queue ++ reply_cells m.request outcome.served) s
+  fine : (settled memory m outcome).answer ≡ Ok tt
+  waits : IsWaiting (settled memory m outcome).session (queue ++ reply_cells m.request (settled memory m outcome).served) s
 
 module _ (m : Request) (r : Reply) (memory : Session) (queue : List (Cell PlainHandle)) where
   concluded : (place : VhostUserShMemConfig) (a : DeviceAnswer PlainHandle) (f : Form) (s t : Served) → IsWaiting memory queue s → Gives f r a → Concludes m place a s t (Ok tt) → Went m r memory queue t
-  concluded place a f s t waits gives (told rs o follows is queued-is came-is memory-is) = record {
-    form = f;
-    answer = a;
-    gives = gives;
-    regions = rs;
-    place = place;
-    outcome = o;
-    follows = subst {A = Session} (λ k. FollowsFrom {B = Channel} {G = Display} k (beside rs place) a (row k m) o) waits.memory follows;
-    fine = is;
-    waits = record { came = came-is ∙ waits.came; memory = memory-is; queue = queued-is ∙ ap (λ cs. cs ++ reply_cells m.request o.served) waits.queue };
-  }
+  concluded place a f s t waits gives (told rs o follows is queued-is came-is memory-is) =
+      let same : settled (remembers s) m o ≡ settled memory m o = ap {A = Session} (λ k. settled k m o) waits.memory in
+      record {
+        form = f;
+        answer = a;
+        gives = gives;
+        regions = rs;
+        place = place;
+        outcome = o;
+        follows = subst {A = Session} (λ k. FollowsFrom {B = Channel} {G = Display} k (beside rs place) a (row k m) o) waits.memory follows;
+        fine = sym (ap {A = Outcome PlainHandle} (λ q. q.answer) same) ∙ is;
+        waits = record {
+          came = came-is ∙ waits.came;
+          memory = memory-is ∙ ap {A = Outcome PlainHandle} (λ q. q.session) same;
+          queue = queued-is ∙ ap (λ cs. cs ++ reply_cells m.request (settled (remembers s) m o).served) waits.queue ∙ ap {A = Outcome PlainHandle} (λ q. queue ++ reply_cells m.request q.served) same;
+        };
+      }
 
   replied : (number : ℕ) {n : ℕ} {old new : Option Served} → IsSomeAnd old (HasRead m memory queue number) → By (Answering r) old n new → n ≡ 0 → IsSomeAnd new (Went m r memory queue)
   replied number has none zero = absurd (cc zero)
@@ -157,31 +166,51 @@ features-bytes n = refl
 features-went : (n : ℕ) (s : Served) → Went (asks GET_FEATURES) (reply.Number n) new_session [] s → IsWaiting (offering n) (features_cells n) s
 features-went n s w =
     let is : w.outcome ≡ with_features new_session (Ok n) = w.follows ∙ ap {A = DeviceAnswer PlainHandle} (λ a. with_features new_session (number_in a)) (number-given w.form n w.answer w.gives) in
-    subst {A = Outcome PlainHandle} (λ o. IsWaiting o.session (reply_cells GET_FEATURES o.served) s) is w.waits
+    subst {A = Outcome PlainHandle} (λ o. IsWaiting (settled new_session (asks GET_FEATURES) o).session (reply_cells GET_FEATURES (settled new_session (asks GET_FEATURES) o).served) s) is w.waits
 
-both-false : (b : Bool) (x y : Told PlainHandle) → (if b && false then x else y) ≡ y
+both-false : {A : Type 0} (b : Bool) (x y : A) → (if b && false then x else y) ≡ y
 both-false true x y = refl
 both-false false x y = refl
 
 abbrev agreed : Result ⊤ Error
 agreed = Ok tt
 
--- a request that the device did, and that no acknowledgement was asked for
-quiet : (m : Request) (memory : Session) (queue : List (Cell PlainHandle)) (s : Served) (o : Outcome PlainHandle) (d : Result ⊤ Error) → m.need_reply ≡ false → o ≡ with_ack memory m d → o.answer ≡ Ok tt
-    → (d ≡ Ok tt) ⊎ (d ≡ Err BackendInternalError) → IsWaiting o.session (queue ++ reply_cells m.request o.served) s → IsWaiting memory queue s
-quiet m memory queue s o d unasked is fine (inl went) waits =
-    let same : o ≡ with_ack memory m agreed = is ∙ ap (with_ack memory m) went in
-    let at : IsWaiting memory (queue ++ reply_cells m.request (with_ack memory m agreed).served) s = subst {A = Outcome PlainHandle} (λ q. IsWaiting q.session (queue ++ reply_cells m.request q.served) s) same waits in
+-- what a request becomes that the device did, and that no acknowledgement was asked for
+done_quietly : Session → Outcome PlainHandle
+done_quietly memory = record { answer = agreed; served = Silent; session = memory }
+
+-- it stays so, where it has no reply of its own
+settled-quietly : (m : Request) (memory : Session) → m.need_reply ≡ false → awaits_reply memory m ≡ false → settled memory m (done_quietly memory) ≡ done_quietly memory
+unfolding done_quietly
+settled-quietly m memory unasked plain =
+    ap (λ b. cond (is_standard memory.profile && true) (cond (b && not m.reply) (refused_reply m.request m.body o) (cond (false || b) (ended o) (cond (ack_on memory && m.need_reply) (saying o (Acknowledged true)) o))) o) plain
+    ∙ ap (λ b. cond (is_standard memory.profile && true) (cond (ack_on memory && b) (saying o (Acknowledged true)) o) o) unasked
+    ∙ ap (λ q. cond (is_standard memory.profile && true) q o) (both-false (ack_on memory) (saying o (Acknowledged true)) o)
+    ∙ same (is_standard memory.profile && true)
+  where
+    o : Outcome PlainHandle
+    o = record { answer = agreed; served = Silent; session = memory }
+
+    same : (b : Bool) → cond b o o ≡ o
+    same true = refl
+    same false = refl
+
+quiet : (m : Request) (memory : Session) (queue : List (Cell PlainHandle)) (s : Served) (o : Outcome PlainHandle) (d : Result ⊤ Error) → m.need_reply ≡ false → awaits_reply memory m ≡ false → o ≡ with_ack memory m d → (settled memory m o).answer ≡ Ok tt
+    → (d ≡ Ok tt) ⊎ (d ≡ Err BackendInternalError) → IsWaiting (settled memory m o).session (queue ++ reply_cells m.request (settled memory m o).served) s → IsWaiting memory queue s
+unfolding done_quietly
+quiet m memory queue s o d unasked plain is fine (inl went) waits =
     let silent : (with_ack memory m agreed).served ≡ Silent = ap (λ b. if ack_on memory && b then Acknowledged true else Silent) unasked ∙ both-false (ack_on memory) (Acknowledged true) Silent in
-    record { came = at.came; memory = at.memory; queue = at.queue ∙ ap (λ t. queue ++ reply_cells m.request t) silent ∙ append-nil queue }
-quiet m memory queue s o d unasked is fine (inr went) waits =
-    let wrong : o.answer ≡ Err BackendInternalError = ap {A = Outcome PlainHandle} (λ q. q.answer) (is ∙ ap (with_ack memory m) went) in absurd (cc (sym fine ∙ wrong))
+    let same : settled memory m o ≡ done_quietly memory = ap (settled memory m) (is ∙ ap (with_ack memory m) went ∙ ap (λ v. record { answer = agreed; served = v; session = memory }) silent) ∙ settled-quietly m memory unasked plain in
+    let at : IsWaiting memory (queue ++ []) s = subst {A = Outcome PlainHandle} (λ q. IsWaiting q.session (queue ++ reply_cells m.request q.served) s) same waits in
+    record { came = at.came; memory = at.memory; queue = at.queue ∙ append-nil queue }
+quiet m memory queue s o d unasked plain is fine (inr went) waits =
+    let wrong : (settled memory m o).answer ≡ Err BackendInternalError = settled-answer PlainHandle memory m o ∙ ap {A = Outcome PlainHandle} (λ q. q.answer) (is ∙ ap (with_ack memory m) went) in absurd (cc (sym fine ∙ wrong))
 
 owner-went : (n : ℕ) (s : Served) → Went (asks SET_OWNER) reply.Done (offering n) (features_cells n) s → IsWaiting (offering n) (features_cells n) s
-owner-went n s w = quiet (asks SET_OWNER) (offering n) (features_cells n) s w.outcome (done_in w.answer) refl w.follows w.fine (done-given w.form w.answer w.gives) w.waits
+owner-went n s w = quiet (asks SET_OWNER) (offering n) (features_cells n) s w.outcome (done_in w.answer) refl refl w.follows w.fine (done-given w.form w.answer w.gives) w.waits
 
 reset-went : (n : ℕ) (s : Served) → Went (asks RESET_OWNER) reply.Done (offering n) (features_cells n) s → IsWaiting (offering n) (features_cells n) s
-reset-went n s w = quiet (asks RESET_OWNER) (offering n) (features_cells n) s w.outcome (done_in w.answer) refl w.follows w.fine (done-given w.form w.answer w.gives) w.waits
+reset-went n s w = quiet (asks RESET_OWNER) (offering n) (features_cells n) s w.outcome (done_in w.answer) refl refl w.follows w.fine (done-given w.form w.answer w.gives) w.waits
 
 pub some-and : {A : Type 0} {P Q : A → Type 0} (o : Option A) → ((a : A) → P a → Q a) → IsSomeAnd o P → IsSomeAnd o Q
 some-and (Some a) so p = so a p

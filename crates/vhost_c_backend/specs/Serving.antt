@@ -1,6 +1,8 @@
 -- Requests that a session reads, the calls of the device that they become, and what is replied.
-use Rattle.std.specs.Prelude.{◌≡◌, ◌<◌, ℕ, true, false, List, ◌++◌, Option, Some, None, Result, Ok, Err, ⊤, ok_or}
+use Rattle.std.specs.Prelude.{◌≡◌, ◌<◌, ℕ, ℤ, true, false, List, ◌++◌, Option, Some, None, Result, Ok, Err, ⊤, ok_or}
+use Rattle.vhost_message.specs.declared.cause.IoCause.TheVariants.{Raw}
 use Rattle.vhost_message.specs.declared.error.Error as declared
+use Rattle.vhost_message.specs.declared.error.Error.TheVariants.{SocketBroken}
 use Rattle.vhost_message.specs.declared.frontend_req.FrontendReq.{FrontendReq}
 use Rattle.vhost_message.specs.declared.records.memory.VhostUserMemoryRegion.{VhostUserMemoryRegion}
 use Rattle.vhost_message.specs.declared.records.shmem.VhostUserShMemConfig.{VhostUserShMemConfig}
@@ -10,6 +12,7 @@ use Rattle.vhost_protocol.specs.Codes.{allows_handles}
 use Rattle.vhost_protocol.specs.Error.{seen_result}
 use Rattle.vhost_protocol.specs.Row.{row_of}
 use Rattle.vhost_protocol.specs.Session.{Session}
+use Rattle.vhost_protocol.specs.Settled.{settled}
 use Rattle.vhost_protocol.specs.Split.{Message, split}
 use Rattle.vhost_protocol.specs.Step.{Step, Outcome}
 use Rattle.vhost_link.specs.Ends.{Ends}
@@ -19,6 +22,7 @@ use Rattle.vhost_connection.specs.Calls.{HandsOver}
 use Rattle.vhost_connection.specs.Requests.{IsReady, Reads, Stops}
 use Rattle.vhost_backend_core.specs.Beginning.{step_of}
 use Rattle.vhost_backend_core.specs.Concluding.{FollowsFrom}
+use Rattle.vhost_backend_core.specs.Settling.{Settles}
 use Rattle.vhost_backend_core.specs.declared.answer.DeviceAnswer.{DeviceAnswer}
 use Rattle.vhost_backend_core.specs.declared.call.DeviceCall.{DeviceCall}
 use Rattle.vhost_backend_req.specs.declared.backend.Backend.{Backend}
@@ -67,6 +71,7 @@ pub record IsServed (m : Request) (s : Served) : Type 0 where
   pub reads : Reads s.core.body.value pending.request m
   pub hands : HandsOver pending.handles m.handles
   pub prepares : Prepares Channel Display (remembers s) m pending.then s.core.server.regions
+  pub settles : Settles (remembers s) m pending.unanswered
   pub ready : IsReady (endpoint_of s.core)
 
 -- What is read of the call that is to be replied to: this, of its descriptors and of it, where it has that.
@@ -119,13 +124,20 @@ pub record Denies (e : declared.Error) (old new : Served) : Type 0 where
   pub nothing_came : new.incoming.count ≡ 0
   pub inactive : new.inactive ≡ feature_in e
 
--- What a session answers where it is to read the next request: the number of a call, or why not. Of one that is marked as failed, as no call here marks it, nothing is said.
+-- The session has ended, which it says; it reads nothing more.
+pub record Ended (n : ℤ) (e : declared.Error) (old new : Served) : Type 0 where
+  pub is : e ≡ SocketBroken (Raw n)
+  pub memory : remembers new ≡ remembers old
+  pub outgoing : new.outgoing ≡ old.outgoing
+  pub idle : has_call new ≡ false
+
+-- What a session answers where it is to read the next request: the number of a call, or why not. One that has ended says so.
 abbrev pub Nexts : Served → Result ℕ Refusal → Served → Type 0
-Nexts s (Ok number) s' = (remembers s).failed ≡ None → Begins number s s'
-Nexts s (Err (Protocol e)) s' = (remembers s).failed ≡ None → Denies e s s'
+Nexts s (Ok number) s' = ((remembers s).failed ≡ None → Begins number s s') × ((n : ℤ) → (remembers s).failed ≡ Some n → ⊥)
+Nexts s (Err (Protocol e)) s' = ((remembers s).failed ≡ None → Denies e s s') × ((n : ℤ) → (remembers s).failed ≡ Some n → Ended n e s s')
 Nexts s (Err NotReplied) s' = (has_call s ≡ true) × (s' ≡ s)
 Nexts s (Err NotYet) s' = (0 < missing_of s) × (s' ≡ s)
-Nexts s (Err r) s' = ¬ ((remembers s).failed ≡ None)
+Nexts s (Err r) s' = ⊥
 
 -- the same of a call of C that puts the number at a place
 abbrev pub Beginning : ℕ → Served → Result ⊤ Refusal → Served → Type 0
@@ -134,12 +146,14 @@ Beginning number s (Err r) s' = Nexts s (Err r) s'
 
 -- ---- replies
 
--- What follows in the table from a device's answer to the call of a message was replied, with these regions of shared memory in their place; or a fault stopped the reply.
+-- What follows in the table from a device's answer to the call of a message was replied, settled, with these regions of shared memory in their place; or a fault stopped the reply.
 pub data Concludes (m : Request) (place : VhostUserShMemConfig) (a : DeviceAnswer PlainHandle) (old new : Served) : Result ⊤ declared.Error → Type 0 where
   told : {result : Result ⊤ declared.Error} (rs : List VhostUserMemoryRegion) (o : Outcome PlainHandle) → FollowsFrom (remembers old) (beside rs place) a (row (remembers old) m) o
-      → o.answer ≡ seen_result result → queued new ≡ queued old ++ reply_cells m.request o.served → arrived new ≡ arrived old → remembers new ≡ o.session → Concludes m place a old new result
+      → (settled (remembers old) m o).answer ≡ seen_result result → queued new ≡ queued old ++ reply_cells m.request (settled (remembers old) m o).served → arrived new ≡ arrived old
+      → remembers new ≡ (settled (remembers old) m o).session → Concludes m place a old new result
   stopped : {e : declared.Error} (rs : List VhostUserMemoryRegion) (o : Outcome PlainHandle) → FollowsFrom (remembers old) (beside rs place) a (row (remembers old) m) o
-      → Stops event (endpoint_of old.core) (reply_cells m.request o.served) e (endpoint_of new.core) → remembers new ≡ kept_unsent m.request (remembers old) o.session → Concludes m place a old new (Err e)
+      → Stops event (endpoint_of old.core) (reply_cells m.request (settled (remembers old) m o).served) e (endpoint_of new.core)
+      → remembers new ≡ kept_unsent m.request (remembers old) (settled (remembers old) m o).session → Concludes m place a old new (Err e)
 
 -- No call is to be replied to any more, and what came of the next request is as before.
 pub record Rests (old new : Served) : Type 0 where

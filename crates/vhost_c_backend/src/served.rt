@@ -1,6 +1,6 @@
 //! A backend's session whose link is its caller's, and whose device is its caller's.
 
-ghost use Rattle.std.specs.Prelude.{◌≡◌, ◌≤◌, IfOk, IfErr};
+ghost use Rattle.std.specs.Prelude.{◌≡◌, ◌≤◌, IfOk, IfErr, is_some};
 ghost use Rattle.vhost_c_common.specs.Number.{error_number};
 
 use crate::arguments::{
@@ -165,7 +165,7 @@ impl Served {
     /// Reads the request that came: the number of the call of the device that it became.
     ///
     /// NotReplied: the call before is still to be replied to. NotYet: bytes are missing. After both, nothing changed. The
-    /// errors of a request that is refused; nothing of it is left.
+    /// errors of a request that is refused; nothing of it is left. SocketBroken with EPROTO: the session has ended.
     pub fn next(&mut self) -> Outcome<u32>
         ensures { Nexts self.old result self.new }
     {
@@ -209,6 +209,14 @@ impl Served {
         ensures { (m : Request) → IsServed m self.now → result.now ≡ m.handles }
     {
         self.core.handles()
+    }
+
+    /// Whether the session has ended, since it could not answer whoever waits: it reads nothing more, each later call says so,
+    /// and its socket is to be closed.
+    pub fn ended(&self) -> bool
+        ensures { result ≡ is_some (remembers self.now).failed }
+    {
+        self.core.failed().is_some()
     }
 
     /// The feature that was not active, where the last request was refused for that; else 0.

@@ -25,8 +25,9 @@ use vhost_message::{
 ///
 /// Beside the errors that a call names, each answers those of its link, and those of its answer: PartialMessage where the
 /// stream ended, InvalidMessage where what came is not the answer. A call that is only acknowledged answers Ok once its
-/// request went out, if both sides did not agree on acknowledgements or its header asks for none; else BackendInternalError
-/// says that the backend refused it. OutOfMemory: an allocation failed before the first byte, and nothing changed.
+/// request went out, if both sides did not agree on acknowledgements or its header asks for none (under `Standard` that of
+/// `PostcopyListen` always asks); else BackendInternalError says that the backend refused it. OutOfMemory: an allocation
+/// failed before the first byte, and nothing changed.
 #[derive(Drop)]
 pub struct Quiet<L: Link> {
     /// The session.

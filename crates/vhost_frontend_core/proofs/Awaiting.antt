@@ -32,6 +32,14 @@ or-base : (standard b : Bool) → IsAck (cond standard (cond b Ack Nobody) Nobod
 or-base true b = inl (is-ack b)
 or-base false b = inl tt
 
+either-ack : (standard a b : Bool) → IsAck (cond standard (cond a Ack Nobody) (cond b Ack Nobody))
+either-ack true a b = is-ack a
+either-ack false a b = is-ack b
+
+or-end : (standard b : Bool) → IsAck (cond standard (Reply shape.U64) (cond b Ack Nobody)) ⊎ (cond standard (Reply shape.U64) (cond b Ack Nobody) ≡ Reply shape.U64)
+or-end true b = inr refl
+or-end false b = inl (is-ack b)
+
 module _ (H : Type 0) (call : FrontendCall H) where
   allowed-then : (x : Result (Unit {0}) Error) (next : Asked H) → AwaitsAllowed call next → AwaitsAllowed call (x >> next)
   allowed-then (Ok u) next h = h
@@ -45,7 +53,7 @@ module _ (H : Type 0) (call : FrontendCall H) where
   allowed-cond true x y h k = h
   allowed-cond false x y h k = k
 
-ruleset allowing = (allowed-then, allowed-given, allowed-cond, is-ack, or-ack, or-reply, or-base)
+ruleset allowing = (allowed-then, allowed-given, allowed-cond, is-ack, or-ack, or-reply, or-base, either-ack, or-end)
 
 allowed : {H : Type 0} (f : Frontend) (call : FrontendCall H) → AwaitsAllowed call (ask f call)
 allowed f (SetLogBase base None) = search allowing

@@ -1,20 +1,22 @@
 -- The half that takes, from what was received.
 use Rattle.std.proofs.Common.{◌≡◌, ℕ, List, [], ◌∷◌, Bool, true, false, Option, Some, Result, Ok, Err, Vec, refl, sym, ap, subst, ◌∙◌}
-use Rattle.std.specs.Prelude.{is_some, if◌then◌else◌, ◌==◌, length, ⊤}
+use Rattle.std.specs.Prelude.{is_some, if◌then◌else◌, ◌&&◌, ◌==◌, length, ⊤}
 use Rattle.std.specs.Global.{Global}
 use Rattle.vhost_message.specs.declared.error.Error as declared
 use Rattle.vhost_message.specs.declared.error.Error.TheVariants as code
 use Rattle.vhost_message.specs.Bits.{has_bit}
 use Rattle.vhost_message.specs.Header.{Header}
 use Rattle.vhost_message.specs.Records.{u64_at}
+use Rattle.vhost_message.specs.declared.records.inflight.VhostUserInflight.{VhostUserInflight}
 use Rattle.vhost_protocol.specs.Stream.{Cell, has_some}
-use Rattle.vhost_protocol.specs.Error.{Error, InvalidParam, InvalidMessage, seen}
-use Rattle.vhost_protocol.specs.FrontendCall.{FrontendCall, Frontend, Value}
+use Rattle.vhost_protocol.specs.Error.{Error, InvalidParam, InvalidMessage, seen, seen_result}
+use Rattle.vhost_protocol.specs.FrontendCall.{FrontendCall, Frontend, Value, HandleOf, InflightOf}
+use Rattle.vhost_protocol.specs.Profile.{is_standard}
 use Rattle.vhost_protocol.specs.declared.asked.Shape.{Shape}
 use Rattle.vhost_protocol.specs.declared.profile.Profile.{Profile}
 use Rattle.vhost_protocol.specs.declared.asked.Awaited.{Awaited}
 use Rattle.vhost_protocol.specs.declared.asked.Awaited.TheVariants.{Nobody, Ack, Reply}
-use Rattle.vhost_protocol.specs.AnswerTable.{Answered, answered, answer, after_success, plain_value, with_one}
+use Rattle.vhost_protocol.specs.AnswerTable.{Answered, answered, answer, after_success, plain_value, one_or_none, inflight_reply}
 use Rattle.vhost_protocol.specs.Served.{Acknowledged, Replied}
 use Rattle.vhost_protocol.specs.ReplySplit.{Received}
 use Rattle.vhost_protocol.specs.Take.{is_sized, understood, payload_of, take, take_reply}
@@ -22,11 +24,10 @@ use Rattle.vhost_link.specs.Law.{Event}
 use Rattle.vhost_connection.specs.Talk.{State}
 use Rattle.vhost_connection.specs.Calls.{HandsOver}
 use Rattle.vhost_connection.specs.Hearing.{HearsReply}
-use Rattle.vhost_frontend_core.specs.Taking.{reply_cut, valued, Comes, Missing, Awaits, AwaitsAlone, AwaitsOne, Acks, IsAck, Reads, Takes}
+use Rattle.vhost_frontend_core.specs.Taking.{reply_cut, valued, one_unless, Comes, Missing, Awaits, AwaitsAlone, Acks, IsAck, Reads, Takes}
 use Rattle.vhost_connection.specs.Asking.Missing.{unfit, none, failed}
 use Rattle.vhost_frontend_core.specs.Taking.Awaits.{is_reply, is_request}
 use Rattle.vhost_frontend_core.specs.Taking.AwaitsAlone.{alone, crowded, absent}
-use Rattle.vhost_frontend_core.specs.Taking.AwaitsOne.{one, not_one, no_reply}
 use Rattle.vhost_frontend_core.specs.Taking.RecvsAck.{agreed, refused, crowded_ack, unacked}
 use Rattle.vhost_frontend_core.specs.Taking.Acks.{unasked, asked_for}
 use Rattle.vhost_frontend_core.specs.Taking.Reads.{unread, read}
@@ -51,20 +52,6 @@ module _ {T L H : Type 0} {event : L → Event H → L → Type 0} {profile : Pr
   pub alone-crowded : {old new : State L H} {sent : Header} {t : T} (hs : Option (Vec H Global)) → Awaits event profile size decode valid old sent (Ok (t, hs)) new → is_some hs ≡ true
       → AwaitsAlone event profile size decode valid old sent (Err code.InvalidMessage) new
   alone-crowded hs (is_request plain x) e = crowded x.0 plain x.1 (hands-some hs x.0.handles x.4 e)
-
-  -- it has one, or not
-  pub one-comes : {old new : State L H} {sent : Header} {t : T} {h : H} (hs : Option (Vec H Global)) → Awaits event profile size decode valid old sent (Ok (t, hs)) new
-      → ((handles : List H) → HandsOver hs handles → with_one handles (λ g. g) ≡ Ok h) → AwaitsOne event profile size decode valid old sent (Ok (t, h)) new
-  one-comes {h = h} hs (is_request plain x) e = one x.0 plain x.1 x.2 x.3 (only x.0.handles (e x.0.handles x.4))
-    where
-      only : (handles : List H) → with_one handles (λ g. g) ≡ Ok h → handles ≡ h ∷ []
-      only [] e = absurd cc
-      only (g ∷ []) e = cc
-      only (g ∷ k ∷ gs) e = absurd cc
-
-  pub one-missing : {old new : State L H} {sent : Header} {t : T} {e : declared.Error} (hs : Option (Vec H Global)) → Awaits event profile size decode valid old sent (Ok (t, hs)) new
-      → ((handles : List H) → HandsOver hs handles → with_one handles (λ g. g) ≡ Err (seen e)) → AwaitsOne event profile size decode valid old sent (Err e) new
-  one-missing hs (is_request plain x) e = not_one x.0 plain x.1 x.2 x.3 (e x.0.handles x.4)
 
 module _ {L H : Type 0} {event : L → Event H → L → Type 0} where
   -- ---- acknowledgements
@@ -184,20 +171,26 @@ module _ {T L H : Type 0} {event : L → Event H → L → Type 0} {call : Front
       many (h ∷ hs) e = crowd r h hs
   alone-fails (absent x) by sized crowd same = unreplied x by same
 
-  -- the answer from a reply that came with one handle
-  pub one-replied : {new : State L H} {f' : Frontend} {A : Type 0} {value : A → Value H} {result : Result A declared.Error} {t : T} {h : H} → AwaitsOne event f.profile size decode valid old sent (Ok (t, h)) new → IsRead call shape size (λ bs. valid (decode bs)) sent f → IsSized call
-      → ((r : Received H) → t ≡ decode r.body → valid t ≡ true → answer_to call shape f r (h ∷ []) ≡ Some (answered f' (valued value result))) → Takes event call value (Reply shape) sent old f result new f'
-  one-replied (one r plain x is ok came) by sized e = taken (replied call shape size 0 (λ bs. valid (decode bs)) by r plain x (sized r) (ap (λ hs. answer_to call shape f r hs) came ∙ e r is ok))
+-- ---- one handle
 
-  -- no reply came with one
-  pub one-fails : {new : State L H} {f' : Frontend} {A : Type 0} {value : A → Value H} {e : declared.Error} → AwaitsOne event f.profile size decode valid old sent (Err e) new → IsRead call shape size (λ bs. valid (decode bs)) sent f → IsSized call
-      → ((r : Received H) (t : T) → t ≡ decode r.body → valid t ≡ true → with_one r.handles (λ h. h) ≡ Err (seen e) → answer_to call shape f r r.handles ≡ Some (answered f (Err (seen e)))) → f' ≡ f → Takes event call value (Reply shape) sent old f (Err e) new f'
-  one-fails {new} {value = value} {e} (not_one r {t = t} plain x is ok several) by sized wrong same =
-      subst (λ (g : Frontend). Takes event call value (Reply shape) sent old f (Err e) new g) (sym same) (taken (replied call shape size 0 (λ bs. valid (decode bs)) by r plain x (sized r) (wrong r t is ok several)))
-  one-fails (no_reply x) by sized wrong same = unreplied x by same
+-- it came, as a value of the definitions
+pub one-valued : {H A : Type 0} (value : H → Value A) (says_none : Bool) (hs : List H) (r : Result H declared.Error) → one_unless says_none hs (λ h. h) ≡ seen_result r → one_unless says_none hs value ≡ valued value r
+one-valued value says_none [] (Ok h) e = absurd cc
+one-valued value says_none [] (Err x) e = cc
+one-valued value says_none (h ∷ []) (Ok g) e = cc
+one-valued value says_none (h ∷ []) (Err x) e = absurd cc
+one-valued value says_none (h ∷ g ∷ hs) (Ok k) e = absurd cc
+one-valued value says_none (h ∷ g ∷ hs) (Err x) e = cc
 
--- where one handle is needed, and another number came
-pub with-one-err : {H A : Type 0} (value : H → A) (hs : List H) (e : Error) → with_one hs (λ h. h) ≡ Err e → with_one hs value ≡ Err e
-with-one-err value [] e p = cc
-with-one-err value (h ∷ []) e p = absurd cc
-with-one-err value (h ∷ g ∷ hs) e p = cc
+pub one-or-none : {H A : Type 0} (f : Frontend) (hs : List H) (value : H → A) → one_or_none f hs value ≡ one_unless (is_standard f.profile) hs value
+one-or-none f [] value = refl
+one-or-none f (h ∷ hs) value = refl
+
+-- a reply that is one handle, where a frontend has that profile
+pub one-handle : {H : Type 0} {f f' : Frontend} {standard : Bool} (hs : List H) (r : Result H declared.Error) → standard ≡ is_standard f'.profile → f' ≡ f → one_unless standard hs (λ h. h) ≡ seen_result r → one_or_none f hs HandleOf ≡ valued HandleOf r
+one-handle {f = f} hs r by same told =
+    one-or-none f hs HandleOf ∙ ap (λ b. one_unless b hs HandleOf) (sym (by ∙ ap (λ (g : Frontend). is_standard g.profile) same)) ∙ one-valued HandleOf _ hs r told
+
+pub one-area : {H : Type 0} (f : Frontend) (i : VhostUserInflight) (hs : List H) → inflight_reply f i hs ≡ one_unless (is_standard f.profile && i.mmap_size == 0) hs (InflightOf i)
+one-area f i [] = refl
+one-area f i (h ∷ hs) = refl

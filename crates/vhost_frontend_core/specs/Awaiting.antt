@@ -1,6 +1,6 @@
 -- What a call may await once its request went out.
 use Rattle.std.specs.Prelude.{◌≡◌, ◌⊎◌, ⊤}
-use Rattle.vhost_protocol.specs.FrontendCall.{FrontendCall, GetFeatures, GetProtocolFeatures, GetQueueNum, SetMemTable, SetLogBase, GetVringBase, GetConfig, GetSharedObject, GetInflightFd, GetMaxMemSlots, AddMemRegion, GetShmemConfig, SetDeviceStateFd, CheckDeviceState, PostcopyAdvise, PostcopyAckMemRegions, Frontend, Nothing}
+use Rattle.vhost_protocol.specs.FrontendCall.{FrontendCall, GetFeatures, GetProtocolFeatures, GetQueueNum, SetMemTable, SetLogBase, GetVringBase, GetConfig, GetSharedObject, GetInflightFd, GetMaxMemSlots, AddMemRegion, GetShmemConfig, SetDeviceStateFd, CheckDeviceState, PostcopyAdvise, PostcopyEnd, PostcopyAckMemRegions, Frontend, Nothing}
 use Rattle.vhost_protocol.specs.AnswerTable.{after_success, plain_value}
 use Rattle.vhost_protocol.specs.Ask.{Asked, Sends}
 use Rattle.vhost_protocol.specs.declared.asked.Awaited.{Awaited}
@@ -25,6 +25,7 @@ MayAwait GetShmemConfig a = a ≡ Reply shape.ShMemConfig
 MayAwait (SetDeviceStateFd t h) a = a ≡ Reply shape.U64
 MayAwait CheckDeviceState a = a ≡ Reply shape.U64
 MayAwait PostcopyAdvise a = a ≡ Reply shape.Empty
+MayAwait PostcopyEnd a = IsAck a ⊎ (a ≡ Reply shape.U64)
 MayAwait (PostcopyAckMemRegions r) a = a ≡ Nobody
 MayAwait _ a = IsAck a
 

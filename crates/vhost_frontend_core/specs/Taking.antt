@@ -1,5 +1,5 @@
 -- What the half of a frontend's call does that takes the answer.
-use Rattle.std.specs.Prelude.{◌≡◌, ℕ, ◌+◌, ◌*◌, List, [], ◌∷◌, length, Option, Some, Bool, true, false, ◌&&◌, ◌==◌, ⊤, Result, Ok, Err, Vec}
+use Rattle.std.specs.Prelude.{◌≡◌, ℕ, ◌+◌, ◌*◌, List, [], ◌∷◌, length, Option, Some, Bool, true, false, ◌&&◌, ◌==◌, ⊤, Result, Ok, Err, Vec, if◌then◌else◌}
 use Rattle.std.specs.Global.{Global}
 use Rattle.vhost_message.specs.declared.error.Error as declared
 use Rattle.vhost_message.specs.declared.error.Error.TheVariants as code
@@ -10,7 +10,7 @@ use Rattle.vhost_message.specs.Header.{Header}
 use Rattle.vhost_message.specs.Records.{u64_at, memory_of}
 use Rattle.vhost_message.specs.Valid.{is_valid_memory}
 use Rattle.vhost_protocol.specs.Stream.{Cell, has_some}
-use Rattle.vhost_protocol.specs.Error.{Error, seen}
+use Rattle.vhost_protocol.specs.Error.{Error, InvalidMessage, BackendInternalError, seen}
 use Rattle.vhost_protocol.specs.FrontendCall.{FrontendCall, Frontend, Value}
 use Rattle.vhost_protocol.specs.declared.asked.Awaited.{Awaited}
 use Rattle.vhost_protocol.specs.declared.asked.Awaited.TheVariants.{Nobody, Ack}
@@ -32,6 +32,11 @@ reply_cut profile size valid room cells = split_by is_known profile size valid r
 abbrev pub valued : {A H : Type 0} → (A → Value H) → Result A declared.Error → Result (Value H) Error
 valued value (Ok a) = Ok (value a)
 valued value (Err e) = Err (seen e)
+
+-- the one handle that came; where none says that there is no such thing, the backend failed
+abbrev pub one_unless : {H A : Type 0} → (says_none : Bool) → List H → (H → A) → Result A Error
+one_unless says_none [] value = Err (if says_none then BackendInternalError else InvalidMessage)
+one_unless says_none (h ∷ hs) value = with_one (h ∷ hs) value
 
 -- a reply of a table has so many regions, as its header, its head and its bytes say
 abbrev pub is_table : {H : Type 0} → (count : ℕ) → Received H → Bool
@@ -63,14 +68,6 @@ module _ {L H : Type 0} (event : L → Event H → L → Type 0) (profile : Prof
     crowded : (reply : Received H) {new : State L H} → has_bit sent.flags 2 ≡ false → Comes size (λ bs. valid (read bs)) 0 old sent reply new → has_some reply.handles ≡ true
         → AwaitsAlone size read valid old sent (Err code.InvalidMessage) new
     absent : {e : declared.Error} {new : State L H} → Awaits size read valid old sent (Err e) new → AwaitsAlone size read valid old sent (Err e) new
-
-  -- The same of a reply that has one handle.
-  pub data AwaitsOne {T : Type 0} (size : ℕ) (read : List ℕ → T) (valid : T → Bool) (old : State L H) (sent : Header) : Result (T × H) declared.Error → State L H → Type 0 where
-    one : (reply : Received H) {t : T} {h : H} {new : State L H} → has_bit sent.flags 2 ≡ false → Comes size (λ bs. valid (read bs)) 0 old sent reply new → t ≡ read reply.body → valid t ≡ true
-        → reply.handles ≡ h ∷ [] → AwaitsOne size read valid old sent (Ok (t, h)) new
-    not_one : (reply : Received H) {t : T} {e : declared.Error} {new : State L H} → has_bit sent.flags 2 ≡ false → Comes size (λ bs. valid (read bs)) 0 old sent reply new → t ≡ read reply.body → valid t ≡ true
-        → with_one reply.handles (λ h. h) ≡ Err (seen e) → AwaitsOne size read valid old sent (Err e) new
-    no_reply : {e : declared.Error} {new : State L H} → Awaits size read valid old sent (Err e) new → AwaitsOne size read valid old sent (Err e) new
 
   -- An acknowledgement is received: 0 is success.
   pub data RecvsAck (old : State L H) (sent : Header) : Result ⊤ declared.Error → State L H → Type 0 where

@@ -75,10 +75,10 @@ pub enum Call<'a, H> {
     /// So many bytes of the configuration space from this byte on; as many as the buffer has, which is sent along: where they
     /// lie, and the bytes: `Config`.
     ///
-    /// InvalidParam: there is no byte, the part lies beyond the space, the buffer has more bytes than fit, or none, so that
-    /// nothing was received. InactiveOperation: CONFIG is not accepted. BackendInternalError: the reply is bare, or under
-    /// `Standard` has no body, since the backend has no such bytes. InvalidMessage: the reply is of another part, or has a
-    /// descriptor.
+    /// InvalidParam: there is no byte, the part lies beyond the space, or the buffer has more bytes than fit. The same where it
+    /// has none: under `Standard` nothing is sent then, by the other profile nothing is received. InactiveOperation: CONFIG is
+    /// not accepted. BackendInternalError: the reply is bare, or under `Standard` has no body, since the backend has no such
+    /// bytes. InvalidMessage: the reply is of another part, or has a descriptor.
     GetConfig(u32, u32, VhostUserConfigFlags, &'a [u8]),
     /// Changes the configuration space from this byte on.
     ///
@@ -92,11 +92,13 @@ pub enum Call<'a, H> {
     /// The descriptor of a shared object: `Handle`.
     ///
     /// InactiveOperation: SHARED_OBJECT is not accepted. InvalidParam: the name is not valid. InvalidMessage: no descriptor
-    /// came. IncorrectFds: several did.
+    /// came. BackendInternalError: none came under `Standard`, where that says that there is no such object. IncorrectFds:
+    /// several did.
     GetSharedObject(VhostUserSharedMsg),
     /// The inflight region: where it lies, and its descriptor: `Inflight`.
     ///
-    /// InactiveOperation: INFLIGHT_SHMFD is not accepted. InvalidMessage: no descriptor came. IncorrectFds: several did.
+    /// InactiveOperation: INFLIGHT_SHMFD is not accepted. InvalidMessage: no descriptor came. BackendInternalError: none came
+    /// with a region of the size 0 under `Standard`, where that says that there is none. IncorrectFds: several did.
     GetInflightFd(VhostUserInflight),
     /// Gives the inflight region.
     ///
@@ -132,15 +134,19 @@ pub enum Call<'a, H> {
     CheckDeviceState,
     /// Announces that postcopy is going to begin; it is advised from then on. The userfaultfd: `Handle`.
     ///
-    /// InactiveOperation: PAGEFAULT is not accepted. InvalidMessage: no descriptor came. IncorrectFds: several did.
+    /// InactiveOperation: PAGEFAULT is not accepted. InvalidMessage: no descriptor came. BackendInternalError: none came under
+    /// `Standard`, where that says that there is no userfaultfd. IncorrectFds: several did.
     PostcopyAdvise,
-    /// Asks the backend to listen for page faults, as it does once this succeeded.
+    /// Asks the backend to listen for page faults, as it does once this succeeded. Under `Standard` an acknowledgement is asked
+    /// for wherever both sides agreed on them, whatever the flags of requests.
     ///
     /// InactiveOperation: PAGEFAULT is not accepted.
     PostcopyListen,
-    /// Announces that postcopy has ended, as it has once this succeeded.
+    /// Announces that postcopy has ended, as it has once this succeeded. Under `Standard` it asks for what `PostcopyListen` asks
+    /// for, and a reply is awaited in any case.
     ///
-    /// InactiveOperation: PAGEFAULT is not accepted.
+    /// InactiveOperation: PAGEFAULT is not accepted. BackendInternalError: the backend failed; under `Standard` whoever listened
+    /// has ended all the same.
     PostcopyEnd,
     /// Acknowledges that the regions are mapped which this request brought: SET_MEM_TABLE or ADD_MEM_REG. Nothing is
     /// awaited.

@@ -1,14 +1,16 @@
 //! What a frontend remembers of its backend, and the tests of its calls.
 
-ghost use Rattle.std.specs.Prelude.{◌≡◌, ◌<◌, ◌≤◌, IfOk, false, if◌then◌else◌};
+ghost use Rattle.std.specs.Prelude.{◌≡◌, ◌<◌, ◌≤◌, IfOk, false, true, if◌then◌else◌};
 ghost use Rattle.vhost_message.specs.Bits.{has_bit as is_set};
+ghost use Rattle.vhost_message.specs.declared.postcopy.PostcopyState.TheVariants.{End};
 ghost use Rattle.vhost_message.specs.declared.header_bit.TheConstants.{NEED_REPLY, REPLY};
 ghost use Rattle.vhost_protocol.specs.Ask as ask;
 ghost use Rattle.vhost_protocol.specs.FrontendCall.{new_frontend};
 ghost use Rattle.vhost_protocol.specs.Profile.{is_standard as standard};
 ghost use Rattle.vhost_protocol.specs.Session.{is_listen};
-ghost use Rattle.vhost_protocol.specs.declared.asked.Awaited.TheVariants.{Nobody};
-ghost use Rattle.vhost_frontend_core.specs.Session.{frontend_of};
+ghost use Rattle.vhost_protocol.specs.declared.asked.Awaited.TheVariants.{Nobody, Reply};
+ghost use Rattle.vhost_protocol.specs.declared.asked.Shape.TheVariants.{U64};
+ghost use Rattle.vhost_frontend_core.specs.Session.{frontend_of, turn_needs_reply};
 ghost use Rattle.vhost_frontend_core.specs.Asking.{tested};
 
 use bitflags::Flags;
@@ -16,7 +18,7 @@ use vhost_message::{
     Error, PostcopyState, Result, VhostUserMsgValidator, VhostUserProtocolFeatures,
     VhostUserVirtioFeatures, has_bit, header_bit, protocol_bit, virtio_bit,
 };
-use vhost_protocol::{Awaited, Profile};
+use vhost_protocol::{Awaited, Profile, Shape};
 
 /// The features offered and accepted, the number of queues, the flags of each request, how far postcopy has come, and whose
 /// behaviour the frontend has.
@@ -76,6 +78,32 @@ impl FrontendSession {
         }
     }
 
+    /// What a request awaits that turns the state of both sides: under `Standard` an acknowledgement wherever both sides
+    /// agreed on them, whatever the header asks for.
+    pub fn turn_acknowledgement(&self) -> Awaited
+        ensures { result ≡ ask.awaited_turn (frontend_of self.now) }
+    {
+        if !self.profile.is_standard() {
+            return self.acknowledgement();
+        }
+        if has_bit(self.acked_protocol_features, protocol_bit::REPLY_ACK) {
+            Awaited::Ack
+        } else {
+            Awaited::Nobody
+        }
+    }
+
+    /// What the end of postcopy awaits: under `Standard` the reply that the specification gives it.
+    pub fn end_acknowledgement(&self) -> Awaited
+        ensures { result ≡ (if standard (frontend_of self.now).profile then Reply U64 else ask.awaited_ack (frontend_of self.now)) }
+    {
+        if self.profile.is_standard() {
+            Awaited::Reply(Shape::U64)
+        } else {
+            self.acknowledgement()
+        }
+    }
+
     /// The flags of a request: under `Standard` NEED_REPLY goes out only where both sides agreed on acknowledgements.
     pub fn flags(&self) -> u32
         ensures reply { is_set result REPLY ≡ is_set (frontend_of self.now).header_flags REPLY }
@@ -94,6 +122,22 @@ impl FrontendSession {
         }
     }
 
+    /// The flags of a request that turns the state of both sides: under `Standard` NEED_REPLY goes out wherever both sides
+    /// agreed on acknowledgements, whatever the session's flags say.
+    pub fn turn_flags(&self) -> u32
+        ensures reply { is_set result REPLY ≡ is_set (frontend_of self.now).header_flags REPLY }
+        ensures need_reply { is_set result NEED_REPLY ≡ turn_needs_reply (frontend_of self.now) }
+    {
+        if !self.profile.is_standard() {
+            return self.flags();
+        }
+        if has_bit(self.acked_protocol_features, protocol_bit::REPLY_ACK) {
+            self.asking_flags()
+        } else {
+            self.quiet_flags()
+        }
+    }
+
     /// The flags of a request that asks for no acknowledgement.
     pub fn quiet_flags(&self) -> u32
         ensures reply { is_set result REPLY ≡ is_set (frontend_of self.now).header_flags REPLY }
@@ -107,11 +151,47 @@ impl FrontendSession {
         }
     }
 
+    /// The flags of a request that asks for its acknowledgement.
+    fn asking_flags(&self) -> u32
+        ensures reply { is_set result REPLY ≡ is_set (frontend_of self.now).header_flags REPLY }
+        ensures need_reply { is_set result NEED_REPLY ≡ true }
+    {
+        let flags = self.header_flags;
+        if has_bit(flags.into(), header_bit::REPLY) {
+            (1 << header_bit::REPLY) | (1 << header_bit::NEED_REPLY)
+        } else {
+            1 << header_bit::NEED_REPLY
+        }
+    }
+
+    /// Whether a buffer has room for what is asked for: under `Standard` for one byte at least, since an answer comes whatever
+    /// there is.
+    pub fn has_room(&self, buffer: &[u8]) -> bool
+        ensures { result ≡ ask.has_room (frontend_of self.now) buffer.now }
+    {
+        if self.profile.is_standard() {
+            1 <= buffer.len()
+        } else {
+            true
+        }
+    }
+
     /// Whether the backend listens for page faults.
     pub fn is_listening(&self) -> bool
         ensures { result ≡ is_listen (frontend_of self.now).postcopy }
     {
         matches!(self.postcopy, PostcopyState::Listen)
+    }
+
+    /// The session after an end of postcopy that was refused: whoever listened has ended all the same.
+    pub fn after_refused_end(self) -> FrontendSession
+        ensures { frontend_of result ≡ (if is_listen (frontend_of self).postcopy then record (frontend_of self) { postcopy = End } else frontend_of self) }
+    {
+        let mut next = self;
+        if self.is_listening() {
+            next.postcopy = PostcopyState::End;
+        }
+        next
     }
 
     /// InactiveOperation: the protocol feature of this bit is not accepted.

@@ -9,7 +9,7 @@ use Rattle.vhost_dummy_backend.specs.Dummy.{DummyGives, fresh}
 use Rattle.vhost_frontend_core.specs.Values.{answer_of}
 use Rattle.vhost_protocol.specs.declared.profile.Profile.{Profile}
 use Rattle.vhost_pair.proofs.Lockstep.{begins, next-ready}
-use Rattle.vhost_pair.proofs.Ready.{ready-profiles}
+use Rattle.vhost_pair.proofs.Ready.{ready-profile}
 use Rattle.vhost_pair.specs.Joined.{IsReady, Offers, Keeps}
 use Rattle.vhost_pair.specs.Device.{Gives}
 use Rattle.vhost_pair.specs.Joined as joined
@@ -80,7 +80,7 @@ fresh-shows : (profile : Profile) (start new : View) (ls : List (List ℕ)) (tex
 fresh-shows profile start new ls text (alloc, is) all = (
   alloc,
   subst (λ v. RunShows v.frontend v.session v.device ls text) is
-      (run-shows start new ls text (subst (λ v. IsReady true v) (sym is) (ready-profiles true _ profile profile (begins (fresh alloc spares) 2 3 [] [] true))) (ap (λ v. v.stopped) is) all),
+      (run-shows start new ls text (subst (λ v. IsReady true v) (sym is) (ready-profile true _ profile (begins (fresh alloc spares) 2 3 [] [] true))) (ap (λ v. v.stopped) is) all),
 )
 
 -- what lines show that were answered

@@ -170,7 +170,7 @@ fn new_session(alloc: Global, profile: Profile) -> Result<Box<Session>, Fault>
     let device = new_device(alloc)?;
     let scripts = (Vec::new(alloc), Vec::new(alloc));
     let mut joined = Joined::new(alloc, device, 2, 3, scripts)?;
-    joined.set_profiles(profile, profile);
+    joined.set_profile(profile);
     match Box::new(alloc, joined) {
         Ok(session) => Ok(session),
         Err(_) => Err(Fault::OutOfMemory),

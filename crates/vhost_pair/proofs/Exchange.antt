@@ -16,7 +16,7 @@ use Rattle.vhost_protocol.specs.declared.asked.Awaited.{Awaited}
 use Rattle.vhost_protocol.specs.Error.{Error, OutOfMemory, seen, seen_result}
 use Rattle.vhost_protocol.specs.FrontendCall.{FrontendCall, SetHdrFlags, Value, Nothing, Frontend}
 use Rattle.vhost_protocol.specs.Handler.{Meets}
-use Rattle.vhost_protocol.specs.Joined.{AgreeOn, InStep, Shown, is_last, read_as, unsent}
+use Rattle.vhost_protocol.specs.Joined.{AgreeOn, InStep, Shown, stops, read_as, unsent}
 use Rattle.vhost_protocol.specs.Joined as protocol
 use Rattle.vhost_protocol.specs.Served.{reply, cells_of}
 use Rattle.vhost_protocol.specs.Step.{Outcome}
@@ -36,11 +36,11 @@ use Rattle.vhost_pair.specs.Device.{Gives, opens_backend, opens_gpu}
 use Rattle.vhost_frontend_core.specs.ValueHalves.{IsProper, TakesResult}
 use Rattle.vhost_pair.specs.OnWay.{incoming, outgoing}
 use Rattle.vhost_pair.specs.Text.{text_of, no_text}
-use Rattle.vhost_pair.specs.Joined.{View, Cuts, IsReady, Passes, PassesBoth, Keeps, Answers, ends}
+use Rattle.vhost_pair.specs.Joined.{View, Cuts, IsReady, Passes, PassesBoth, Keeps, Answers, ends, is_over}
 use Rattle.vhost_pair.specs.Sides as sides
 use Rattle.vhost_pair.specs.Sides.{Parts, cuts_of, as_view, IsSound, HaveLists, stop_of, Served, Serves, EndsUnsent, IsAskedBy, Exchanges}
 use Rattle.vhost_pair.proofs.Asked.{both-empty, IsAsked, is-asked, IsUnasked, is-unasked, arrived, emptied, kept, held, sender-cuts, receiver-cuts, IsTaken, is-taken}
-use Rattle.vhost_pair.proofs.Served.{pair-first, pair-second, ServingFaults, Handled1, split-handled, faulted-so, both-passed, IsServed, is-served, last_stop, stopped-as, fed}
+use Rattle.vhost_pair.proofs.Served.{pair-first, pair-second, ServingFaults, Handled1, split-handled, faulted-so, both-passed, IsServed, is-served, last_stop, stopped-as, over-as, fed}
 use Rattle.vhost_pair.proofs.Calls.{ends-so}
 use Rattle.vhost_pair.proofs.Outcomes.{sendable, few-written, Outcomes, outcomes}
 use Rattle.vhost_pair.proofs.Spent.{End, Faults, faults, passes-none}
@@ -123,7 +123,7 @@ module _ {Dev : Type 0} (gives : Gives Dev) (call : FrontendCall PlainHandle) (b
 
       -- a fault on one side stops the run
       premise : (new.asking.faulted || new.serving.faulted) ≡ true → Goal
-      premise faulted = inr (v.stops ∙ ap (λ b. stop_of (ends call) b v.result new.reply.bytes) faulted)
+      premise faulted = inr (v.stops ∙ ap (λ b. stop_of b new.frontend new.session (ends call) v.result new.reply.bytes) faulted)
 
       asking-whole : fe3.broken ≡ None
       asking-whole = ap {A = End} (λ e. e.broken) v.back.receiver ∙ ap {A = End} (λ e. e.broken) v.reached.there.sender ∙ ask1.broken
@@ -169,7 +169,7 @@ module _ {Dev : Type 0} (gives : Gives Dev) (call : FrontendCall PlainHandle) (b
 
       both-served : IsServed1 → IsTaken call aw1 (fields_of sent.request) f1 fe3 (Some (answered new.frontend ans)) new.asking → Goal
       unfolding from_some
-      both-served h t = by-cases (stopped-as w.request (ends call) v.result h.outcome (ends-so old.frontend call w aw1 f1 ask1.asked) h.answer)
+      both-served h t = by-cases (stopped-as new.frontend new.session (ends call) v.result (bytes replied))
         where
           k : Done1 h.outcome
           k = done1 h.outcome h.meets
@@ -196,11 +196,15 @@ module _ {Dev : Type 0} (gives : Gives Dev) (call : FrontendCall PlainHandle) (b
           faultless : (new.asking.faulted || new.serving.faulted) ≡ false
           faultless = ap (λ b. b || new.serving.faulted) t.faulted ∙ ap {A = End} (λ e. e.faulted) v.back.sender ∙ h.handled.replies.serves.faulted
 
-          stops : stop ≡ stop_of (ends call) false v.result (bytes replied)
-          stops = v.stops ∙ ap (λ b. stop_of (ends call) b v.result new.reply.bytes) faultless ∙ ap (λ x. stop_of (ends call) false v.result x.bytes) is_reply
+          stopped : stop ≡ stop_of false new.frontend new.session (ends call) v.result (bytes replied)
+          stopped = v.stops ∙ ap (λ b. stop_of b new.frontend new.session (ends call) v.result new.reply.bytes) faultless ∙ ap (λ x. stop_of false new.frontend new.session (ends call) v.result x.bytes) is_reply
 
           last : Bool
-          last = is_last w.request h.outcome
+          last = stops old.session.profile w.request h.outcome
+
+          over : is_over new.frontend new.session (ends call) (seen_result v.result) (bytes replied) ≡ last
+          over = ap (λ a. is_over new.frontend new.session (ends call) a (bytes replied)) h.answer
+              ∙ over-as old.session.profile new.frontend new.session w.request (ends call) h.outcome (ap {A = Frontend} (λ g. g.profile) session ∙ k.profile) h.session (ends-so old.frontend call w aw1 f1 ask1.asked) (k.alive sound.failed)
 
           no_request : incoming new.serving ++ outgoing new.asking ≡ []
           no_request = ap (λ xs. incoming new.serving ++ xs) (t.outgoing ∙ held he2 fe2 new.serving fe3 v.back ∙ emptied fe1 old.serving fe2 he1 v.reached.there) ∙ append-nil (incoming new.serving) ∙ kept he2 fe2 new.serving fe3 v.back ∙ h.nothing
@@ -243,9 +247,10 @@ module _ {Dev : Type 0} (gives : Gives Dev) (call : FrontendCall PlainHandle) (b
             budget = t.budget ∙ asking-budget;
           }
 
-          by-cases : ((stop_of (ends call) false v.result (bytes replied) ≡ Some Premise) × (h.outcome.answer ≡ Err OutOfMemory)) ⊎ (stop_of (ends call) false v.result (bytes replied) ≡ last_stop last) → Goal
-          by-cases (inl (e, memory)) = inr (stops ∙ e)
-          by-cases (inr e) = inl (keeps (stops ∙ e) (λ is. fed (ends call) v.result (bytes replied) last e (h.answer ∙ cc is)))
+          by-cases : ((stop_of false new.frontend new.session (ends call) v.result (bytes replied) ≡ Some Premise) × (seen_result v.result ≡ Err OutOfMemory))
+              ⊎ (stop_of false new.frontend new.session (ends call) v.result (bytes replied) ≡ last_stop (is_over new.frontend new.session (ends call) (seen_result v.result) (bytes replied))) → Goal
+          by-cases (inl (e, memory)) = inr (stopped ∙ e)
+          by-cases (inr e) = let at_last = e ∙ ap last_stop over in inl (keeps (stopped ∙ at_last) (λ is. fed new.frontend new.session (ends call) v.result (bytes replied) last at_last (h.answer ∙ cc is)))
 
       exchanged : Goal
       exchanged = by-cases served-or-not (subst (λ a. TakesResult call a (fields_of sent.request) fe3 f1 ans new.asking new.frontend) ask1.awaits v.takes)
@@ -319,7 +324,7 @@ module _ {Dev : Type 0} (gives : Gives Dev) (call : FrontendCall PlainHandle) (b
         reply = refl;
         stopped = refl;
         in_step = λ last. record {
-          agree = record { offered = ready.in_step.agree.offered; acked_protocol_features = ready.in_step.agree.acked_protocol_features; postcopy = ready.in_step.agree.postcopy; acked = ready.in_step.agree.acked };
+          agree = record { offered = ready.in_step.agree.offered; acked_protocol_features = ready.in_step.agree.acked_protocol_features; postcopy = ready.in_step.agree.postcopy; acked = ready.in_step.agree.acked; profile = ready.in_step.agree.profile };
           nobody = ready.in_step.nobody;
           no_request = ready.in_step.no_request;
           no_reply = ready.in_step.no_reply;

@@ -51,7 +51,7 @@ module _ {Dev : Type 0} (gives : Gives Dev) (call : FrontendCall PlainHandle) (s
     served-so : (result : Result ⊤ declared.Error) (answer : Result (Value PlainHandle) Error) (stop : Option Stop) → HandedOver gives copied_parts result mid
         → TakesResult call sent.awaited (fields_of sent.request) mid.asking mid.frontend answer new.asking new.frontend
         → new ≡ record mid { asking = new.asking; frontend = new.frontend; awaited = new.awaited } → new.awaited ≡ Nobody
-        → stop ≡ stop_of (ends call) (new.asking.faulted || new.serving.faulted) result new.reply.bytes → Served gives call sent old answer stop new
+        → stop ≡ stop_of (new.asking.faulted || new.serving.faulted) new.frontend new.session (ends call) result new.reply.bytes → Served gives call sent old answer stop new
     served-so result answer stop h takes same quiet stops =
         let serving : mid.serving ≡ new.serving = ap {A = Parts Dev} (λ p. p.serving) (sym same) in
         record {
@@ -73,7 +73,7 @@ module _ {Dev : Type 0} (gives : Gives Dev) (call : FrontendCall PlainHandle) (s
     pub served-copied : (from : Parts Dev) (result : Result ⊤ declared.Error) (answer : Result (Value PlainHandle) Error) (stop : Option Stop) → from ≡ copied_parts → HandsOver gives from (Some result) mid
         → TakesResult call sent.awaited (fields_of sent.request) mid.asking mid.frontend answer new.asking new.frontend
         → new ≡ record mid { asking = new.asking; frontend = new.frontend; awaited = new.awaited } → new.awaited ≡ Nobody
-        → stop ≡ stop_of (ends call) (new.asking.faulted || new.serving.faulted) result new.reply.bytes → Served gives call sent old answer stop new
+        → stop ≡ stop_of (new.asking.faulted || new.serving.faulted) new.frontend new.session (ends call) result new.reply.bytes → Served gives call sent old answer stop new
     served-copied from result answer stop is h takes same quiet stops =
         served-so result answer stop (handed-in gives copied_parts result mid (subst (λ p. HandsOver gives p (Some result) mid) is h)) takes same quiet stops
 

@@ -2,6 +2,7 @@ pub mod OnWay
 pub mod Spent
 pub mod Taken
 pub mod Asked
+pub mod Settings
 pub mod Outcomes
 pub mod Calls
 pub mod Handled
@@ -14,9 +15,9 @@ pub mod Sound
 pub mod Limited
 pub mod Handing
 pub mod Exchanging
-pub mod HeaderFlags
 pub mod Ready
 pub mod Stepping
+pub mod Ending
 pub mod Steps
 pub mod Lockstep
 pub mod Running

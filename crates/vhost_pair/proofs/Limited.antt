@@ -34,7 +34,7 @@ module _ {Dev : Type 0} (gives : Gives Dev) (n : ℕ) where
 
   meets-some : (s s' : Session) (d d' : Dev) (m : Message FrontendReq PlainHandle) (answer : Result ⊤ Error) (written : List (Cell PlainHandle))
       → MeetsRow (fitting gives) (λ h c. OpensAsBackend opens kinds n h c) (λ h c. OpensAsGpu opens kinds n h c) s d m answer written s' d' → MeetsRow (fitting gives) opens_backend opens_gpu s d m answer written s' d'
-  meets-some s s' d d' m answer written p = (p.0, follows-some s d d' p.0 _ p.1, p.2, p.3, p.4)
+  meets-some s s' d d' m answer written (o, (told, follows, is), answers, writes, keeps) = (o, (told, follows-some s d d' told _ follows, is), answers, writes, keeps)
 
   -- one call of the handler, of a session that is not marked as failed
   pub handles-some : (old new : State Ends PlainHandle) (s s' : Session) (d d' : Dev) (result : Result ⊤ declared.Error) → s.failed ≡ None

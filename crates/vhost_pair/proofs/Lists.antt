@@ -5,18 +5,22 @@ use Rattle.std.specs.Prelude.{⊤, nat_le, bit_and}
 use Rattle.vhost_message.specs.Header.{Header}
 use Rattle.vhost_message.specs.Bits.{has_bit}
 use Rattle.vhost_message.specs.Records.{u64_at}
+use Rattle.vhost_message.specs.declared.postcopy.PostcopyState.TheVariants.{End}
 use Rattle.vhost_message.specs.declared.records.config.VhostUserConfig.{VhostUserConfig}
+use Rattle.vhost_message.specs.declared.records.inflight.VhostUserInflight.{VhostUserInflight}
 use Rattle.vhost_message.specs.declared.records.memory.VhostUserMemoryRegion.{VhostUserMemoryRegion}
-use Rattle.vhost_protocol.specs.AnswerTable.{Answered, answered, answer, plain_value, alone, with_one, only_if, is_same_range, are_same_ranges, bases_in as bases_of, config_reply, changed, queues_reply, state_reply, from_reply}
+use Rattle.vhost_protocol.specs.AnswerTable.{Answered, answered, answer, plain_value, alone, with_one, one_or_none, only_if, is_same_range, are_same_ranges, bases_in as bases_of, config_reply, changed, inflight_reply, queues_reply, state_reply, end_reply, from_reply}
 use Rattle.vhost_protocol.specs.Ask.{regions_in as ranges_in, config}
 use Rattle.vhost_protocol.specs.declared.asked.Awaited.{Awaited}
 use Rattle.vhost_protocol.specs.declared.asked.Awaited.TheVariants.{Nobody, Ack, Reply}
 use Rattle.vhost_protocol.specs.declared.asked.Shape.{Shape}
 use Rattle.vhost_protocol.specs.declared.asked.Shape.TheVariants as shape
 use Rattle.vhost_protocol.specs.Error.{Error, InvalidParam, InvalidMessage, IncorrectFds, BackendInternalError, seen}
-use Rattle.vhost_protocol.specs.FrontendCall.{FrontendCall, GetFeatures, GetProtocolFeatures, GetQueueNum, SetMemTable, SetLogBase, GetVringBase, GetConfig, GetSharedObject, GetInflightFd, GetMaxMemSlots, AddMemRegion, GetShmemConfig, SetDeviceStateFd, CheckDeviceState, PostcopyAdvise, Value, Nothing, Number, Bases, Base, ConfigOf, HandleOf, InflightOf, StateHandle, Info, Frontend}
+use Rattle.vhost_protocol.specs.FrontendCall.{FrontendCall, GetFeatures, GetProtocolFeatures, GetQueueNum, SetMemTable, SetLogBase, GetVringBase, GetConfig, GetSharedObject, GetInflightFd, GetMaxMemSlots, AddMemRegion, GetShmemConfig, SetDeviceStateFd, CheckDeviceState, PostcopyAdvise, PostcopyEnd, Value, Nothing, Number, Bases, Base, ConfigOf, HandleOf, InflightOf, StateHandle, Info, Frontend}
+use Rattle.vhost_protocol.specs.Profile.{is_standard}
 use Rattle.vhost_protocol.specs.ReplySplit.{Received}
 use Rattle.vhost_protocol.specs.Served.{Acknowledged}
+use Rattle.vhost_protocol.specs.Session.{is_listen}
 use Rattle.vhost_protocol.specs.Split.{Splits}
 use Rattle.vhost_protocol.specs.Stream.{Cell}
 use Rattle.vhost_protocol.specs.Take.{take, take_reply, take_config, understood, understood_ack, understood_config, is_sized, room, answers, reply_cut, config_cut, payload_of}
@@ -66,6 +70,22 @@ module _ (H : Type 0) (call : FrontendCall H) where
   listed-one [] v l = failed InvalidMessage
   listed-one (h ∷ []) v l = l h
   listed-one (h ∷ g ∷ hs) v l = failed IncorrectFds
+
+  listed-or-none : (f : Frontend) (hs : List H) (v : H → Value H) → ((h : H) → IsListedFor call (Ok (v h))) → IsListedFor call (one_or_none f hs v)
+  listed-or-none f [] v l = failed (cond (is_standard f.profile) BackendInternalError InvalidMessage)
+  listed-or-none f (h ∷ hs) v l = listed-one (h ∷ hs) v l
+
+  listed-area : (f : Frontend) (i : VhostUserInflight) (hs : List H) → ((h : H) → IsListedFor call (Ok (InflightOf i h))) → IsListedFor call (inflight_reply f i hs)
+  listed-area f i [] l = failed (cond (is_standard f.profile && i.mmap_size == 0) BackendInternalError InvalidMessage)
+  listed-area f i (h ∷ hs) l = listed-one (h ∷ hs) (InflightOf i) l
+
+  listed-end : (f : Frontend) (n : ℕ) (hs : List H) → IsListedFor call (end_reply f n hs).result
+  listed-end f n [] = go (n == 0)
+    where
+      go : (b : Bool) → IsListedFor call (cond b (answered (record f { postcopy = End }) (Ok Nothing)) (answered (cond (is_listen f.postcopy) (record f { postcopy = End }) f) (Err BackendInternalError))).result
+      go true = without (Ok Nothing) refl refl refl
+      go false = failed BackendInternalError
+  listed-end f n (h ∷ hs) = failed InvalidMessage
 
   listed-changed : (f g : Frontend) (r : Result (Value H) Error) → IsListedFor call r → IsListedFor call (changed f g r).result
   listed-changed f g (Ok v) l = l
@@ -125,14 +145,15 @@ module _ (H : Type 0) where
   from-listed (SetLogBase base region) f (LogArea l) hs fits = listed-alone H (SetLogBase base region) hs _ (listed-only H (SetLogBase base region) _ InvalidMessage Nothing (λ _. without H (SetLogBase base region) (Ok Nothing) refl refl refl))
   from-listed (GetVringBase i) f (RingState v) hs fits = listed-alone H (GetVringBase i) hs _ (number (GetVringBase i) v.num)
   from-listed (GetConfig offset size flags buffer) f (ConfigBytes c bytes) hs fits = config-listed offset size flags buffer f c bytes hs fits
-  from-listed (GetSharedObject name) f Empty hs fits = listed-one H (GetSharedObject name) hs (HandleOf) (λ h. without H (GetSharedObject name) (Ok (HandleOf h)) refl refl refl)
-  from-listed (GetInflightFd asked) f (InflightArea i) hs fits = listed-valid H (GetInflightFd asked) _ _ InvalidMessage (listed-one H (GetInflightFd asked) hs (InflightOf i) (λ h. without H (GetInflightFd asked) (Ok (InflightOf i h)) refl refl refl))
+  from-listed (GetSharedObject name) f Empty hs fits = listed-or-none H (GetSharedObject name) f hs HandleOf (λ h. without H (GetSharedObject name) (Ok (HandleOf h)) refl refl refl)
+  from-listed (GetInflightFd asked) f (InflightArea i) hs fits = listed-valid H (GetInflightFd asked) _ _ InvalidMessage (listed-area H (GetInflightFd asked) f i hs (λ h. without H (GetInflightFd asked) (Ok (InflightOf i h)) refl refl refl))
   from-listed GetMaxMemSlots f (U64 n) hs fits = listed-alone H GetMaxMemSlots hs _ (number GetMaxMemSlots n)
   from-listed (AddMemRegion info) f (OneRegion r) hs fits = listed-alone H (AddMemRegion info) hs _ (listed-only H (AddMemRegion info) _ InvalidMessage _ (λ _. without H (AddMemRegion info) (Ok (Base (Some (r.region.user_addr)))) refl refl refl))
   from-listed GetShmemConfig f (Shmem c) hs fits = listed-alone H GetShmemConfig hs _ (omega arith, omega arith, omega arith)
   from-listed (SetDeviceStateFd t h) f (U64 n) hs fits = listed-state H (SetDeviceStateFd t h) n hs
   from-listed CheckDeviceState f (U64 n) hs fits = listed-alone H CheckDeviceState hs _ (listed-only H CheckDeviceState (n == 0) BackendInternalError Nothing (λ _. without H CheckDeviceState (Ok Nothing) refl refl refl))
-  from-listed PostcopyAdvise f Empty hs fits = listed-changed H PostcopyAdvise f _ (with_one hs HandleOf) (listed-one H PostcopyAdvise hs HandleOf (λ h. without H PostcopyAdvise (Ok (HandleOf h)) refl refl refl))
+  from-listed PostcopyAdvise f Empty hs fits = listed-changed H PostcopyAdvise f _ (one_or_none f hs HandleOf) (listed-or-none H PostcopyAdvise f hs HandleOf (λ h. without H PostcopyAdvise (Ok (HandleOf h)) refl refl refl))
+  from-listed PostcopyEnd f (U64 n) hs fits = listed-end H PostcopyEnd f n hs
   from-listed _ f _ hs fits = tt
 
   plain-listed : (call : FrontendCall H) → IsListedFor call (Ok (plain_value call))

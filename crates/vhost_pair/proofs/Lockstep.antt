@@ -14,11 +14,13 @@ use Rattle.vhost_pair.specs.declared.halt.Halt.TheVariants as halt
 use Rattle.vhost_pair.specs.declared.halt.Stop.{Stop}
 use Rattle.vhost_pair.specs.declared.halt.Stop.TheVariants.{Table}
 use Rattle.vhost_protocol.specs.Joined.{JoinedRun, Shown}
+use Rattle.vhost_protocol.specs.Profile.{is_standard}
 use Rattle.vhost_pair.specs.Device.{Gives, opens_backend, opens_gpu}
 use Rattle.vhost_pair.specs.Joined.{View, IsReady, Offers, Moves, Steps, StepsBy, StepsAll, Keeps, Answers}
 use Rattle.vhost_pair.specs.Lockstep.{entries, IsPlain, ArePlain, IsOffered, AreOffered, InLockstep, Lockstep, StayInLockstep}
 use Rattle.vhost_pair.specs.Sides.{as_view, fresh_parts}
 use Rattle.vhost_link.specs.declared.cut.Cut.{Cut}
+use Rattle.vhost_pair.proofs.Ending.{profile-stays, moved-to-end}
 use Rattle.vhost_pair.proofs.Ready.{Reveals, stays-by}
 use Rattle.vhost_pair.proofs.Steps.{Answered, goes_on, ends, breaks, lockstep}
 
@@ -58,6 +60,7 @@ module _ {Dev : Type 0} (gives : Gives Dev) where
       in_step = λ on. subst (λ v. IsReady bit v) (sym same) (record { in_step = ready.in_step; plain = ready.plain; negotiates = ready.negotiates });
       no_request = ap (λ v. v.to_handler) same ∙ ready.in_step.no_request;
       no_reply = ap (λ v. v.to_frontend) same ∙ ready.in_step.no_reply;
+      ends = λ going standard at_end. absurd (cc (sym (ap (λ v. v.stopped) same ∙ going) ∙ at_end));
     }
       where
         none : (cs : List code.FrontendCall) → JoinedRun gives opens_backend opens_gpu old.frontend old.session old.device (entries cs []) new.frontend new.session new.device
@@ -84,15 +87,16 @@ module _ {Dev : Type 0} (gives : Gives Dev) where
         reveals (inl offers) = inl (shown-bit bit call result (k.shown) k.answered offers)
         reveals (inr offers) = inr (offers old.device mid.device)
 
-    module _ (old mid : View Dev) (c : code.FrontendCall) (a : FrontendAnswer) (k : Keeps gives old (call_of c) (answer_of a) mid) where
+    module _ (old mid : View Dev) (c : code.FrontendCall) (a : FrontendAnswer) (moves : Moves gives old (call_of c) (answer_of a) mid) (k : Keeps gives old (call_of c) (answer_of a) mid) where
       -- a call that kept the protocol, and those behind it
-      in-step-more : k.shown.last ≡ false → IsReady bit mid → (cs : List code.FrontendCall) (as' : List FrontendAnswer) (new : View Dev) → InLockstep gives bit mid cs as' new → InLockstep gives bit old (c ∷ cs) (a ∷ as') new
-      in-step-more on ready cs as' new rest = record {
+      in-step-more : k.shown.last ≡ false → mid.stopped ≡ None → IsReady bit mid → (cs : List code.FrontendCall) (as' : List FrontendAnswer) (new : View Dev) → InLockstep gives bit mid cs as' new → InLockstep gives bit old (c ∷ cs) (a ∷ as') new
+      in-step-more on goes ready cs as' new rest = record {
         run = (k.shown, mid.frontend, mid.session, mid.device, k.step, sym k.answered, λ t. absurd (cc (sym on ∙ t)), rest.run);
         each = (mid, k, λ _. ready, λ t. absurd (cc (sym on ∙ t)), rest.each);
         in_step = rest.in_step;
         no_request = rest.no_request;
         no_reply = rest.no_reply;
+        ends = λ going standard at_end. rest.ends goes (ap (λ p. is_standard p) (profile-stays gives old mid (call_of c) (answer_of a) moves) ∙ standard) at_end;
       }
 
       -- the last step
@@ -103,6 +107,7 @@ module _ {Dev : Type 0} (gives : Gives Dev) where
         in_step = λ on. absurd (cc (sym stopped ∙ on));
         no_request = k.no_request;
         no_reply = k.no_reply;
+        ends = moved-to-end gives old mid (call_of c) (answer_of a) moves;
       }
         where
           no-entries : (xs : List code.FrontendCall) → entries xs [] ≡ []
@@ -125,8 +130,8 @@ module _ {Dev : Type 0} (gives : Gives Dev) where
         stops last e = k.stopped ∙ ap (λ b. cond b (Some Table) None) e
 
         by-last : (last : Bool) → k.shown.last ≡ last → After old c a mid
-        by-last false e = let next = next-ready (call_of c) old mid (answer_of a) offered plain ready k e in goes_on (stops false e) next (in-step-more old mid c a k e next)
-        by-last true e = ends (stops true e) (in-step-last old mid c a k e (stops true e))
+        by-last false e = let next = next-ready (call_of c) old mid (answer_of a) offered plain ready k e in goes_on (stops false e) next (in-step-more old mid c a moves k e (stops false e) next)
+        by-last true e = ends (stops true e) (in-step-last old mid c a moves k e (stops true e))
     stepped old mid c a offered plain ready moves (inr premise) = breaks premise moves
 
     -- the calls are plain, and what was answered, or the device, offers the bit
@@ -152,7 +157,7 @@ module _ {Dev : Type 0} (gives : Gives Dev) where
 -- a run that begins is ready
 pub begins : {Dev : Type 0} (device : Dev) (queues budget : ℕ) (asking serving : List Cut) (bit : Bool) → IsReady bit (as_view (fresh_parts device queues budget asking serving) None)
 begins device queues budget asking serving bit = record {
-  in_step = record { agree = record { offered = refl; acked_protocol_features = refl; postcopy = refl; acked = refl }; nobody = refl; no_request = refl; no_reply = refl };
+  in_step = record { agree = record { offered = refl; acked_protocol_features = refl; postcopy = refl; acked = refl; profile = refl }; nobody = refl; no_request = refl; no_reply = refl };
   plain = refl;
   negotiates = (λ on. absurd (cc on), λ on. absurd (cc on), λ on. absurd (cc on));
 }

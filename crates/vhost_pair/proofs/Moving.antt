@@ -18,7 +18,6 @@ use Rattle.vhost_protocol.specs.Error.{Error, seen, seen_result}
 use Rattle.vhost_protocol.specs.FrontendCall.{FrontendCall, SetHdrFlags, Value, Nothing, Frontend}
 use Rattle.vhost_protocol.specs.Handler.{MeetsRow}
 use Rattle.vhost_protocol.specs.Joined.{read_as}
-use Rattle.vhost_protocol.specs.Row.{row}
 use Rattle.vhost_protocol.specs.Run as run
 use Rattle.vhost_protocol.specs.Session.{Session}
 use Rattle.vhost_protocol.specs.Split.{Message, split}
@@ -43,7 +42,7 @@ use Rattle.vhost_pair.specs.Sides.{Parts, cuts_of, as_view, IsSound, HaveLists, 
 use Rattle.vhost_pair.specs.Text.{Text, text_of, no_text}
 use Rattle.vhost_pair.proofs.Asked.{both-empty, IsAsked, is-asked, IsUnasked, is-unasked, arrived-behind, emptied, kept, held, sender-cuts, receiver-cuts, IsTaken, is-taken}
 use Rattle.vhost_pair.proofs.Served.{Handled1, ServingFaults, split-handled, faulted-so, handled-first, handled-written, both-passed, IsServed, is-served, pair-first, pair-second}
-use Rattle.vhost_pair.proofs.Outcomes.{follows-wider, sendable, few-met, few-written}
+use Rattle.vhost_pair.proofs.Outcomes.{meets-wider, sendable, few-met, few-written}
 use Rattle.vhost_pair.proofs.Spent.{End, Faults, faults}
 
 -- ---- a device that may do more
@@ -51,7 +50,7 @@ use Rattle.vhost_pair.proofs.Spent.{End, Faults, faults}
 module _ {Dev : Type 0} (gives : Gives Dev) where
   meets-plainly : (s : Session) (d : Dev) (m : Message FrontendReq PlainHandle) (a : Result ⊤ Error) (written : List (Cell PlainHandle)) (s' : Session) (d' : Dev)
       → MeetsRow (fitting gives) opens_backend opens_gpu s d m a written s' d' → MeetsRow gives opens_backend opens_gpu s d m a written s' d'
-  meets-plainly s d m a written s' d' (o, met, answers, writes, keeps) = (o, follows-wider (fitting gives) gives opens_backend opens_gpu (λ old c x new p. p.0) s d (row s m) o d' met, answers, writes, keeps)
+  meets-plainly s d m a written s' d' (o, met, answers, writes, keeps) = (o, meets-wider (fitting gives) gives opens_backend opens_gpu (λ old c x new p. p.0) s d m o d' met, answers, writes, keeps)
 
   handles-plainly : (s : Session) (d : Dev) (heard : Result (Message FrontendReq PlainHandle) Error) (a : Result ⊤ Error) (written : List (Cell PlainHandle)) (s' : Session) (d' : Dev)
       → run.Handles request_of allows_handles (λ (t : Session). t.failed) (MeetsRow (fitting gives) opens_backend opens_gpu) s d heard a written s' d'
@@ -60,12 +59,10 @@ module _ {Dev : Type 0} (gives : Gives Dev) where
   handles-plainly s d (Ok m) a written s' d' h = meets-plainly s d m a written s' d' h
 
 -- why a run stops, by the handler's answer as the definitions see it
-stops-as : (b : Bool) (r : Result ⊤ declared.Error) (reply : List ℕ) → stop_of b false r reply ≡ stop_after b (Some (seen_result r)) false reply
-stops-as b (Ok u) reply = refl
-stops-as b (Err error.OutOfMemory) reply = refl
-stops-as b (Err e) [] = refl
-stops-as true (Err e) (x ∷ reply) = refl
-stops-as false (Err e) (x ∷ reply) = refl
+stops-as : (f : Frontend) (s : Session) (b : Bool) (r : Result ⊤ declared.Error) (reply : List ℕ) → stop_of false f s b r reply ≡ stop_after f s b (Some (seen_result r)) false reply
+stops-as f s b (Ok u) reply = refl
+stops-as f s b (Err error.OutOfMemory) reply = refl
+stops-as f s b (Err e) reply = refl
 
 module _ {Dev : Type 0} (gives : Gives Dev) (call : FrontendCall PlainHandle) (old : Parts Dev) (sound : IsSound old) (lists : HaveLists old) (had : Bool) where
   -- what was seen before the lists of handles were made
@@ -248,7 +245,7 @@ module _ {Dev : Type 0} (gives : Gives Dev) (call : FrontendCall PlainHandle) (o
       same-cuts = receiver-cuts he2 fe2 new.serving fe3 v.back ∙ asking-cuts v.result fe2 he2 new.reply new.session new.device v.reached
 
       exchanged : (answer : Option (Result ⊤ Error)) (lost : Bool) → (lost ≡ false → outgoing new.asking ≡ []) → joined.Serves gives before view w (incoming he2) (outgoing he2) answer → joined.Takes gives before call w aw1 f1 (cuts_of fe1.link) (outgoing he2) ans view lost
-          → stop ≡ stop_after (ends call) answer lost new.reply.bytes → new.asking.budget ≡ old.asking.budget → Moves gives before call ans view
+          → stop ≡ stop_after new.frontend new.session (ends call) answer lost new.reply.bytes → new.asking.budget ≡ old.asking.budget → Moves gives before call ans view
       exchanged answer lost none serves takes stopped budget = joined.sent (record {
         message = w;
         awaited = aw1;
@@ -283,13 +280,15 @@ module _ {Dev : Type 0} (gives : Gives Dev) (call : FrontendCall PlainHandle) (o
           quiet : new.serving.faulted ≡ false
           quiet = ap {A = End} (λ e. e.faulted) v.back.sender ∙ h.replies.serves.faulted
 
-          by-fault : (b : Bool) → new.asking.faulted ≡ b → stop ≡ stop_after (ends call) (Some (seen_result v.result)) b new.reply.bytes
-          by-fault false is = v.stops ∙ ap (λ x. stop_of (ends call) (x || new.serving.faulted) v.result new.reply.bytes) is ∙ ap (λ x. stop_of (ends call) x v.result new.reply.bytes) quiet ∙ stops-as (ends call) v.result new.reply.bytes
-          by-fault true is = v.stops ∙ ap (λ x. stop_of (ends call) (x || new.serving.faulted) v.result new.reply.bytes) is
+          by-fault : (b : Bool) → new.asking.faulted ≡ b → stop ≡ stop_after new.frontend new.session (ends call) (Some (seen_result v.result)) b new.reply.bytes
+          by-fault false is =
+              v.stops ∙ ap (λ x. stop_of (x || new.serving.faulted) new.frontend new.session (ends call) v.result new.reply.bytes) is ∙ ap (λ x. stop_of x new.frontend new.session (ends call) v.result new.reply.bytes) quiet
+              ∙ stops-as new.frontend new.session (ends call) v.result new.reply.bytes
+          by-fault true is = v.stops ∙ ap (λ x. stop_of (x || new.serving.faulted) new.frontend new.session (ends call) v.result new.reply.bytes) is
       both-ends lost at none takes budget (inr k) =
           exchanged None lost none (serves-faulted v.result fe2 he2 new.reply new.session new.device v.reached view refl refl serving-link k) takes
-          (v.stops ∙ ap (λ x. stop_of (ends call) (new.asking.faulted || x) v.result new.reply.bytes) (ap {A = End} (λ e. e.faulted) v.back.sender ∙ faulted-so gives he0 he2 old.session new.session old.device new.device k)
-          ∙ ap (λ x. stop_of (ends call) x v.result new.reply.bytes) (or-true new.asking.faulted)) budget
+          (v.stops ∙ ap (λ x. stop_of (new.asking.faulted || x) new.frontend new.session (ends call) v.result new.reply.bytes) (ap {A = End} (λ e. e.faulted) v.back.sender ∙ faulted-so gives he0 he2 old.session new.session old.device new.device k)
+          ∙ ap (λ x. stop_of x new.frontend new.session (ends call) v.result new.reply.bytes) (or-true new.asking.faulted)) budget
 
       handled-here : Handled2
       handled-here = served-or-not v.result fe2 he2 new.reply new.session new.device v.reached
@@ -377,7 +376,7 @@ module _ {Dev : Type 0} (gives : Gives Dev) (call : FrontendCall PlainHandle) (o
           nothing : outgoing new.asking ≡ []
           nothing = emptied fe1 old.serving new.asking rc.serving_then rc.there
 
-          shut-so : (answer : Option (Result ⊤ Error)) → joined.Serves gives before shut w (incoming new.serving) (outgoing new.serving) answer → stop_after (ends call) answer true new.reply.bytes ≡ Some Premise → Moves gives before call ans shut
+          shut-so : (answer : Option (Result ⊤ Error)) → joined.Serves gives before shut w (incoming new.serving) (outgoing new.serving) answer → stop_after new.frontend new.session (ends call) answer true new.reply.bytes ≡ Some Premise → Moves gives before call ans shut
           shut-so answer serves premise = joined.sent (record {
             message = w;
             awaited = aw1;

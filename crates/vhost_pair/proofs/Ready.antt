@@ -1,7 +1,8 @@
 -- What a joined step keeps of a frontend that is ready.
-use Rattle.std.proofs.Common.{◌≡◌, ℕ, Bool, true, false, [], Result, Ok, Err, refl, sym, ◌∙◌, ap, subst, IfSome, Option, Some, None, inl, inr, ◌⊎◌}
-use Rattle.std.specs.Prelude.{⊤}
+use Rattle.std.proofs.Common.{◌≡◌, ℕ, Bool, true, false, cond, [], Result, Ok, Err, refl, sym, ◌∙◌, ap, subst, IfSome, Option, Some, None, inl, inr, ◌⊎◌}
+use Rattle.std.specs.Prelude.{⊤, ◌&&◌}
 use Rattle.vhost_message.specs.Bits.{has_bit}
+use Rattle.vhost_message.specs.declared.frontend_req.FrontendReq.{FrontendReq}
 use Rattle.vhost_message.specs.declared.frontend_req.FrontendReq.TheVariants.{GET_FEATURES}
 use Rattle.vhost_protocol.specs.Agreement.{Negotiates, AskedNegotiates, OffersBit}
 use Rattle.vhost_protocol.specs.AnswerTable.{Answered, answer}
@@ -12,12 +13,14 @@ use Rattle.vhost_protocol.specs.DeviceCall as device
 use Rattle.vhost_protocol.specs.Error.{Error, InvalidMessage}
 use Rattle.vhost_protocol.specs.Features.{PROTOCOL_FEATURES}
 use Rattle.vhost_protocol.specs.FrontendCall.{FrontendCall, GetFeatures, SetHdrFlags, Value, Number, Frontend}
-use Rattle.vhost_protocol.specs.Handler.{Follows, Meets}
+use Rattle.vhost_protocol.specs.Handler.{Meets}
 use Rattle.vhost_protocol.specs.Joined.{Shown, Exchanges, JoinedStep, read_as}
 use Rattle.vhost_protocol.specs.Answered.{with_features}
-use Rattle.vhost_protocol.specs.Row.{row}
+use Rattle.vhost_protocol.specs.Profile.{is_standard}
 use Rattle.vhost_protocol.specs.Served.{Served}
 use Rattle.vhost_protocol.specs.Session.{Session}
+use Rattle.vhost_protocol.specs.Settled.{settled, silenced, spoken}
+use Rattle.vhost_protocol.specs.Split.{Message}
 use Rattle.vhost_protocol.specs.Step.{Outcome}
 use Rattle.vhost_protocol.proofs.NegotiationLaws.{calls-negotiate, replies-negotiate}
 use Rattle.vhost_link.specs.declared.plain.PlainHandle.{PlainHandle}
@@ -26,7 +29,7 @@ use Rattle.vhost_pair.specs.Device.{Gives, opens_backend, opens_gpu}
 use Rattle.vhost_protocol.specs.declared.profile.Profile.{Profile}
 use Rattle.vhost_pair.specs.Joined.{View, IsReady, Offers}
 use Rattle.vhost_pair.specs.Lockstep.{IsPlain}
-use Rattle.vhost_pair.proofs.HeaderFlags.{SentWith, sent-with, With, answered-with}
+use Rattle.vhost_pair.proofs.Settings.{SentWith, sent-with, With, answered-with}
 
 -- every call but the one for the features
 abbrev IsOther : {H : Type 0} → FrontendCall H → Type 0
@@ -54,11 +57,28 @@ module _ {Dev : Type 0} (gives : Gives Dev) (bit : Bool) where
 
   -- ---- and so have those that are replied
 
+  abbrev features_request : Bool → Message FrontendReq PlainHandle
+  features_request need_reply = record { request = GET_FEATURES; reply = false; need_reply = need_reply; body = []; handles = [] }
+
+  -- nothing is written in the place of the features
+  features-settled : (s : Session) (n : Bool) (r : Result ℕ Error) → (settled s (features_request n) (with_features {H = PlainHandle} s r)).served ≡ (with_features {H = PlainHandle} s r).served
+  features-settled s n (Ok k) = by-profile (is_standard s.profile)
+    where
+      by-profile : (b : Bool) → (cond (b && false) (spoken s (features_request n) (silenced (with_features {H = PlainHandle} s (Ok k)))) (with_features {H = PlainHandle} s (Ok k))).served ≡ (with_features {H = PlainHandle} s (Ok k)).served
+      by-profile true = refl
+      by-profile false = refl
+  features-settled s n (Err e) = by-profile (is_standard s.profile)
+    where
+      by-profile : (b : Bool) → (cond (b && true) (spoken s (features_request n) (silenced (with_features {H = PlainHandle} s (Err e)))) (with_features {H = PlainHandle} s (Err e))).served ≡ (with_features {H = PlainHandle} s (Err e)).served
+      by-profile true = refl
+      by-profile false = refl
+
   features-offer : (P : Served PlainHandle → Type 0) (s : Session) (d : Dev) (need_reply reply : Bool) (o : Outcome PlainHandle) (d' : Dev) → reply ≡ false
       → ((r : Result ℕ Error) → gives d device.GetFeatures r d' → P (with_features {H = PlainHandle} s r).served)
-      → Follows gives opens_backend opens_gpu s d (row s (record { request = GET_FEATURES; reply = reply; need_reply = need_reply; body = []; handles = [] })) o d' → P o.served
+      → Meets gives opens_backend opens_gpu s d (record { request = GET_FEATURES; reply = reply; need_reply = need_reply; body = []; handles = [] }) o d' → P o.served
   features-offer P s d n true o d' plain each met = absurd (cc plain)
-  features-offer P s d n false o d' plain each (a, given, same) = subst (λ (x : Outcome PlainHandle). P x.served) (sym same) (each a given)
+  features-offer P s d n false o d' plain each (told, (a, given, same), is) =
+      subst (λ (x : Outcome PlainHandle). P x.served) (sym (is ∙ ap (λ (x : Outcome PlainHandle). settled s (features_request n) x) same)) (subst P (sym (features-settled s n a)) (each a given))
 
   module _ (f : Frontend) (s : Session) (d : Dev) (call : FrontendCall PlainHandle) (shown : Shown PlainHandle) (f' : Frontend) (s' : Session) (d' : Dev) where
     -- whatever the handler serves
@@ -81,16 +101,16 @@ module _ {Dev : Type 0} (gives : Gives Dev) (bit : Bool) where
 
     -- ---- a step
 
-    ready-asked : (x : Asked PlainHandle) → IsReadyFrontend f → SentWith PlainHandle f.header_flags x → AskedNegotiates bit x → OffersSo x
+    ready-asked : (x : Asked PlainHandle) → IsReadyFrontend f → SentWith PlainHandle f.header_flags f.profile x → AskedNegotiates bit x → OffersSo x
         → Exchanges gives opens_backend opens_gpu f s d call x shown f' s' d' → IsReadyFrontend f'
     ready-asked (Refuses e) ready sent asked offers step = subst IsReadyFrontend (sym step.1) ready
     ready-asked (Answers v g) ready sent asked offers step = absurd sent
     ready-asked (Sends w awaited g) ready sent asked offers (o, met, session, is, request, handled, reply, last) =
-        let same : f'.header_flags ≡ f.header_flags = subst (With PlainHandle f.header_flags) is (answered-with PlainHandle f.header_flags call awaited g o.served sent) in
-        (ap (λ n. has_bit n 2) same ∙ ready.0, subst (λ x. IfSome x (λ a. Negotiates bit a.session)) is (replies-negotiate PlainHandle bit call awaited g o.served asked (offers o met is)))
+        let same = subst (With PlainHandle f.header_flags f.profile) is (answered-with PlainHandle f.header_flags f.profile call awaited g o.served sent) in
+        (ap (λ n. has_bit n 2) same.0 ∙ ready.0, subst (λ x. IfSome x (λ a. Negotiates bit a.session)) is (replies-negotiate PlainHandle bit call awaited g o.served asked (offers o met is)))
 
     sent-ready : IsSent call → OffersSo (ask f call) → IsReadyFrontend f → JoinedStep gives opens_backend opens_gpu f s d call shown f' s' d' → IsReadyFrontend f'
-    sent-ready sent offers ready step = ready-asked (ask f call) ready (sent-with PlainHandle f.header_flags f call sent refl) (calls-negotiate PlainHandle bit f call ready.1) offers step
+    sent-ready sent offers ready step = ready-asked (ask f call) ready (sent-with PlainHandle f.header_flags f.profile f call sent (refl, refl)) (calls-negotiate PlainHandle bit f call ready.1) offers step
 
   -- where the answer shows no other features, or the device offers no others
   abbrev pub Reveals : Dev → FrontendCall PlainHandle → Shown PlainHandle → Dev → Type 0
@@ -134,12 +154,12 @@ module _ {Dev : Type 0} (gives : Gives Dev) (bit : Bool) where
       → Shows call shown → IsPlain call → IsReadyFrontend f → JoinedStep gives opens_backend opens_gpu f s d call shown f' s' d' → IsReadyFrontend f'
   stays-shown f s d call shown f' s' d' shows = stays-by f s d call shown f' s' d' (inl shows)
 
--- whoever was ready is so by any profiles
-pub ready-profiles : {Dev : Type 0} (bit : Bool) (v : View Dev) (asking serving : Profile) → IsReady bit v → IsReady bit (record v { frontend = record v.frontend { profile = asking }; session = record v.session { profile = serving } })
-ready-profiles bit v asking serving r =
+-- whoever was ready is so by any profile of both sides
+pub ready-profile : {Dev : Type 0} (bit : Bool) (v : View Dev) (profile : Profile) → IsReady bit v → IsReady bit (record v { frontend = record v.frontend { profile = profile }; session = record v.session { profile = profile } })
+ready-profile bit v profile r =
     let a = r.in_step.agree in record {
       in_step = record {
-        agree = record { offered = a.offered; acked_protocol_features = a.acked_protocol_features; postcopy = a.postcopy; acked = a.acked };
+        agree = record { offered = a.offered; acked_protocol_features = a.acked_protocol_features; postcopy = a.postcopy; acked = a.acked; profile = refl };
         nobody = r.in_step.nobody;
         no_request = r.in_step.no_request;
         no_reply = r.in_step.no_reply;

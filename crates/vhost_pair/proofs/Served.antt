@@ -1,6 +1,6 @@
 -- A request that was served.
-use Rattle.std.proofs.Common.{◌≡◌, ◌⊎◌, inl, inr, Bool, true, false, cond, List, [], ◌++◌, Option, Some, None, Result, Ok, Err, refl, sym, ◌∙◌, ap, subst}
-use Rattle.std.specs.Prelude.{⊤, ℕ}
+use Rattle.std.proofs.Common.{◌≡◌, ℤ, ◌⊎◌, inl, inr, Bool, true, false, cond, List, [], ◌++◌, Option, Some, None, Result, Ok, Err, refl, sym, ◌∙◌, ap, subst}
+use Rattle.std.specs.Prelude.{⊤, ℕ, not, ◌&&◌, ◌||◌, is_some, is_err}
 use Rattle.std.proofs.lemmas.List.{append-nil}
 use Rattle.vhost_message.specs.declared.error.Error as declared
 use Rattle.vhost_message.specs.declared.error.Error.TheVariants as error
@@ -8,18 +8,19 @@ use Rattle.vhost_message.specs.declared.frontend_req.FrontendReq.{FrontendReq}
 use Rattle.vhost_message.specs.FrontendReq.{request_of, request_number}
 use Rattle.vhost_protocol.specs.Codes.{allows_handles}
 use Rattle.vhost_protocol.specs.Error.{Error, OutOfMemory, seen, seen_result}
+use Rattle.vhost_protocol.specs.declared.profile.Profile.{Profile}
+use Rattle.vhost_protocol.specs.declared.profile.Profile.TheVariants.{Vhost, Standard}
+use Rattle.vhost_protocol.specs.FrontendCall.{Frontend}
 use Rattle.vhost_protocol.specs.Handler.{Meets, MeetsRow}
-use Rattle.vhost_protocol.specs.Joined.{is_last, is_end, read_as}
+use Rattle.vhost_protocol.specs.Joined.{is_silent, is_end, stops, read_as}
+use Rattle.vhost_protocol.specs.Profile.{is_standard}
 use Rattle.vhost_protocol.specs.Run as run
 use Rattle.vhost_protocol.specs.Served.{Served, Silent, Acknowledged, Replied, reply, cells_of}
 use Rattle.vhost_protocol.specs.Session.{Session}
-use Rattle.vhost_protocol.specs.Row.{row}
 use Rattle.vhost_protocol.specs.Split.{split, Message}
 use Rattle.vhost_protocol.specs.Step.{Outcome}
 use Rattle.vhost_protocol.specs.Stream.{Cell, bytes, has_some}
 use Rattle.vhost_protocol.specs.Written.{Written, written_cells}
-use Rattle.vhost_protocol.proofs.FollowLaws.{followed-mark}
-use Rattle.vhost_protocol.proofs.RowLaws.{rows-keep}
 use Rattle.vhost_protocol.proofs.TextLaws.{IsSendable, written-split}
 use Rattle.vhost_link.specs.declared.plain.PlainHandle.{PlainHandle}
 use Rattle.vhost_link.specs.Mem.{event}
@@ -29,7 +30,7 @@ use Rattle.vhost_pair.specs.declared.halt.Stop.{Stop}
 use Rattle.vhost_pair.specs.declared.halt.Stop.TheVariants.{Table, Premise}
 use Rattle.vhost_pair.specs.Device.{Gives, opens_backend, opens_gpu}
 use Rattle.vhost_pair.specs.OnWay.{incoming, outgoing}
-use Rattle.vhost_pair.specs.Joined.{PassesBoth}
+use Rattle.vhost_pair.specs.Joined.{PassesBoth, is_over}
 use Rattle.vhost_pair.specs.Sides.{cuts_of, stop_of}
 use Rattle.vhost_pair.proofs.Spent.{End}
 use Rattle.vhost_pair.proofs.Handled as handling
@@ -101,44 +102,53 @@ module _ {Dev : Type 0} (gives : Gives Dev) (he he' : End) (s s' : Session) (d d
         nothing = pair-second both;
       }
 
-  -- the mark of a session stays
-  handles-mark : (outcome : Result (Message FrontendReq PlainHandle) Error) (r : Result ⊤ Error) (written : List (Cell PlainHandle))
-      → run.Handles request_of allows_handles (λ (t : Session). t.failed) Met s d outcome r written s' d' → s'.failed ≡ s.failed
-  handles-mark (Err e) r written h = ap {A = Session} (λ t. t.failed) h.2
-  handles-mark (Ok m) r written h = ap {A = Session} (λ t. t.failed) h.4 ∙ followed-mark (fitting gives) opens_backend opens_gpu s d (row s m) h.0 d' (rows-keep PlainHandle _ _ m.request s m) h.1
-
-  pub handled-mark : (r : Result ⊤ Error) → Handled1 r → s.failed ≡ None → s'.failed ≡ None
-  handled-mark r h failed = handles-mark h.heard r h.written h.handles ∙ failed
-
 -- ---- where a run stops
 
 abbrev pub last_stop : Bool → Option Stop
 last_stop last = cond last (Some Table) None
 
-as_seen : Served PlainHandle → Session → Result ⊤ declared.Error → Outcome PlainHandle
-as_seen served s r = record { answer = seen_result r; served = served; session = s }
+-- where no endpoint met a fault, a run stops because there was no memory, or where it is over
+pub stopped-as : (f : Frontend) (s : Session) (b : Bool) (result : Result ⊤ declared.Error) (text : List ℕ)
+    → ((stop_of false f s b result text ≡ Some Premise) × (seen_result result ≡ Err OutOfMemory)) ⊎ (stop_of false f s b result text ≡ last_stop (is_over f s b (seen_result result) text))
+stopped-as f s b (Ok u) text = inr refl
+stopped-as f s b (Err error.OutOfMemory) text = inl (refl, refl)
+stopped-as f s b (Err e) text = inr refl
 
--- a run stops because there was no memory, or exactly at the last step
-abbrev StopsAs : (b : Bool) → FrontendReq → Result ⊤ declared.Error → Served PlainHandle → Outcome PlainHandle → Type 0
-StopsAs b r result served o =
-    ((stop_of b false result (bytes (cells_of request_number (reply r served))) ≡ Some Premise) × (o.answer ≡ Err OutOfMemory))
-    ⊎ (stop_of b false result (bytes (cells_of request_number (reply r served))) ≡ last_stop (is_last r o))
+-- nothing was written where there is no text
+silent-text : (r : FrontendReq) (served : Served PlainHandle) → not (has_some (bytes (cells_of request_number (reply r served)))) ≡ is_silent served
+silent-text r Silent = refl
+silent-text r (Acknowledged agreed) = refl
+silent-text r (Replied p hs) = refl
 
-stopped-as-seen : (r : FrontendReq) (b : Bool) (result : Result ⊤ declared.Error) (served : Served PlainHandle) (s : Session) → is_end r ≡ b → StopsAs b r result served (as_seen served s result)
-unfolding as_seen
-stopped-as-seen r true (Ok u) served s ended = inr refl
-stopped-as-seen r false (Ok u) served s ended = inr refl
-stopped-as-seen r b (Err error.OutOfMemory) served s ended = inl (refl, refl)
-stopped-as-seen r b (Err e) Silent s ended = inr refl
-stopped-as-seen r true (Err e) (Acknowledged agreed) s ended = inr (ap last_stop (sym ended))
-stopped-as-seen r false (Err e) (Acknowledged agreed) s ended = inr (ap last_stop (sym ended))
-stopped-as-seen r true (Err e) (Replied p hs) s ended = inr (ap last_stop (sym ended))
-stopped-as-seen r false (Err e) (Replied p hs) s ended = inr (ap last_stop (sym ended))
+or-none : (b : Bool) → (b || false) ≡ b
+or-none true = refl
+or-none false = refl
 
-pub stopped-as : (r : FrontendReq) (b : Bool) (result : Result ⊤ declared.Error) (o : Outcome PlainHandle) → is_end r ≡ b → seen_result result ≡ o.answer → StopsAs b r result o.served o
-unfolding as_seen
-stopped-as r b result o ended is =
-    subst (λ (a : Result ⊤ Error). StopsAs b r result o.served (record { answer = a; served = o.served; session = o.session })) is (stopped-as-seen r b result o.served o.session ended)
+-- a run is over exactly where the definition stops it
+pub over-as : (p : Profile) (f : Frontend) (s : Session) (r : FrontendReq) (b : Bool) (o : Outcome PlainHandle) → f.profile ≡ p → s ≡ o.session → is_end r ≡ b → (p ≡ Vhost → is_some o.session.failed ≡ false)
+    → is_over f s b o.answer (bytes (cells_of request_number (reply r o.served))) ≡ stops p r o
+over-as Vhost f s r b o is same ended alive =
+    ap {A = Session} (λ t. is_over f t b o.answer (bytes (cells_of request_number (reply r o.served)))) same
+    ∙ ap (λ q. is_some o.session.failed || (not (is_standard q) && (is_err o.answer && (not (has_some (bytes (cells_of request_number (reply r o.served)))) || b)))) is
+    ∙ ap (λ c. c || (is_err o.answer && (not (has_some (bytes (cells_of request_number (reply r o.served)))) || b))) (alive refl)
+    ∙ ap (λ c. is_err o.answer && (c || b)) (silent-text r o.served) ∙ ap (λ c. is_err o.answer && (is_silent o.served || c)) (sym ended)
+over-as Standard f s r b o is same ended alive =
+    ap {A = Session} (λ t. is_over f t b o.answer (bytes (cells_of request_number (reply r o.served)))) same
+    ∙ ap (λ q. is_some o.session.failed || (not (is_standard q) && (is_err o.answer && (not (has_some (bytes (cells_of request_number (reply r o.served)))) || b)))) is
+    ∙ or-none (is_some o.session.failed)
+
+-- a run that does not stop is of a session that has not ended
+unended : (x : Option ℤ) (rest : Bool) → last_stop (is_some x || rest) ≡ None → x ≡ None
+unended None rest on = refl
+unended (Some n) rest on = absurd (cc on)
+
+pub going-alive : (faulted : Bool) (f : Frontend) (s : Session) (b : Bool) (result : Result ⊤ declared.Error) (text : List ℕ) → stop_of faulted f s b result text ≡ None → s.failed ≡ None
+going-alive true f s b result text on = absurd (cc on)
+going-alive false f s b result text on = by-cases (stopped-as f s b result text)
+  where
+    by-cases : ((stop_of false f s b result text ≡ Some Premise) × (seen_result result ≡ Err OutOfMemory)) ⊎ (stop_of false f s b result text ≡ last_stop (is_over f s b (seen_result result) text)) → s.failed ≡ None
+    by-cases (inl (e, memory)) = absurd (cc (sym e ∙ on))
+    by-cases (inr e) = unended s.failed (not (is_standard f.profile) && (is_err (seen_result result) && (not (has_some text) || b))) (sym e ∙ on)
 
 -- no other error is seen as that one
 other-seen : (e : declared.Error) → seen e ≡ OutOfMemory → e ≡ error.OutOfMemory
@@ -146,16 +156,16 @@ other-seen error.OutOfMemory is = refl
 other-seen _ is = absurd (cc is)
 
 -- where the run stops at the last step, or not at all, there was memory
-pub fed : (b : Bool) (result : Result ⊤ declared.Error) (text : List ℕ) (last : Bool) → stop_of b false result text ≡ last_stop last → seen_result result ≡ Err OutOfMemory → ⊥
-fed b (Ok u) text last stops is = cc is
-fed b (Err e) text last stops is = from-memory e (other-seen e (cc is)) stops
+pub fed : (f : Frontend) (s : Session) (b : Bool) (result : Result ⊤ declared.Error) (text : List ℕ) (last : Bool) → stop_of false f s b result text ≡ last_stop last → seen_result result ≡ Err OutOfMemory → ⊥
+fed f s b (Ok u) text last stops is = cc is
+fed f s b (Err e) text last stops is = from-memory e (other-seen e (cc is)) stops
   where
     no-last : (end : Bool) → Some Premise ≡ last_stop end → ⊥
     no-last true same = cc same
     no-last false same = cc same
 
-    from-memory : (e' : declared.Error) → e' ≡ error.OutOfMemory → stop_of b false (Err e') text ≡ last_stop last → ⊥
-    from-memory e' same at_last = no-last last (subst (λ x. stop_of b false (Err x) text ≡ last_stop last) same at_last)
+    from-memory : (e' : declared.Error) → e' ≡ error.OutOfMemory → stop_of false f s b (Err e') text ≡ last_stop last → ⊥
+    from-memory e' same at_last = no-last last (subst (λ x. stop_of false f s b (Err x) text ≡ last_stop last) same at_last)
 
 pub not-last : (last : Bool) → last_stop last ≡ None → last ≡ false
 not-last true e = absurd (cc e)

@@ -25,7 +25,7 @@ use Rattle.vhost_pair.specs.Sides as sides
 use Rattle.vhost_pair.specs.Joined.{ends}
 use Rattle.vhost_pair.specs.Sides.{Parts, IsSound, HaveLists, stop_of, Served, Serves, EndsUnsent, IsAskedBy, Exchanges}
 use Rattle.vhost_pair.proofs.Asked.{IsAsked, is-asked, IsUnasked, is-unasked, emptied, held, IsTaken, is-taken}
-use Rattle.vhost_pair.proofs.Served.{ServingFaults, Handled1, split-handled, faulted-so, handled-budget, handled-mark}
+use Rattle.vhost_pair.proofs.Served.{ServingFaults, Handled1, split-handled, faulted-so, handled-budget, going-alive}
 use Rattle.vhost_pair.proofs.Spent.{End, Faults, faults}
 
 module _ {Dev : Type 0} (gives : Gives Dev) (call : FrontendCall PlainHandle) (old : Parts Dev) (sound : IsSound old) (lists : HaveLists old) where
@@ -37,7 +37,7 @@ module _ {Dev : Type 0} (gives : Gives Dev) (call : FrontendCall PlainHandle) (o
     Handled2 = Handled1 gives v.reached.serving_then v.serving_after old.session new.session old.device new.device (seen_result v.result)
 
     faulted-stops : (new.asking.faulted || new.serving.faulted) ≡ true → ⊥
-    faulted-stops faulted = let why = v.stops ∙ ap (λ b. stop_of (ends call) b v.result new.reply.bytes) faulted in absurd (cc (sym why ∙ on))
+    faulted-stops faulted = let why = v.stops ∙ ap (λ b. stop_of b new.frontend new.session (ends call) v.result new.reply.bytes) faulted in absurd (cc (sym why ∙ on))
 
     pub handled : Handled2
     handled = by-cases (split-handled gives v.reached.serving_then v.serving_after old.session new.session old.device new.device v.result (v.reached.handled sound.failed) (ap {A = End} (λ e. e.broken) v.reached.there.receiver ∙ sound.serves) (ap {A = End} (λ e. e.list) v.reached.there.receiver ∙ lists.1))
@@ -72,7 +72,7 @@ module _ {Dev : Type 0} (gives : Gives Dev) (call : FrontendCall PlainHandle) (o
       sound = taken.faulted;
       budget = ap {A = End} (λ e. e.budget) v.back.sender ∙ handled-budget gives v.reached.serving_then v.serving_after old.session new.session old.device new.device (seen_result v.result) handled ∙ ap {A = End} (λ e. e.budget) v.reached.there.receiver ∙ sound.budget
           ∙ sym (taken.budget ∙ ap {A = End} (λ e. e.budget) v.back.receiver ∙ ap {A = End} (λ e. e.budget) v.reached.there.sender ∙ ask1.budget);
-      failed = handled-mark gives v.reached.serving_then v.serving_after old.session new.session old.device new.device (seen_result v.result) handled sound.failed;
+      failed = going-alive (new.asking.faulted || new.serving.faulted) new.frontend new.session (ends call) v.result new.reply.bytes (sym v.stops ∙ on);
       nobody = v.quiet;
       no_request = taken.outgoing ∙ held v.serving_after v.asking_then new.serving v.asking_after v.back ∙ emptied fe1 old.serving v.asking_then v.reached.serving_then v.reached.there;
       no_reply = emptied v.serving_after v.asking_then new.serving v.asking_after v.back;

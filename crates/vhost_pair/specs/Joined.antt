@@ -1,5 +1,5 @@
 -- Joined runs, as contracts see them.
-use Rattle.std.specs.Prelude.{◌≡◌, ℕ, ◌+◌, ◌<◌, ◌≤◌, List, [], ◌∷◌, ◌++◌, length, take, drop, sum_by, Option, Some, None, Bool, true, false, ◌⊎◌, if◌then◌else◌, Result, Ok, Err, ⊤, is_some}
+use Rattle.std.specs.Prelude.{◌≡◌, ℕ, ◌+◌, ◌<◌, ◌≤◌, List, [], ◌∷◌, ◌++◌, length, take, drop, sum_by, Option, Some, None, Bool, true, false, not, ◌&&◌, ◌||◌, ◌⊎◌, if◌then◌else◌, Result, Ok, Err, ⊤, is_some, is_err}
 use Rattle.vhost_protocol.specs.Stream.{Cell, has_some}
 use Rattle.vhost_protocol.specs.Error.{Error, OutOfMemory, seen}
 use Rattle.vhost_protocol.specs.Session.{Session}
@@ -22,6 +22,7 @@ use Rattle.vhost_protocol.specs.declared.asked.Awaited.{Awaited}
 use Rattle.vhost_protocol.specs.declared.asked.Awaited.TheVariants.{Nobody}
 use Rattle.vhost_protocol.specs.Handler.{MeetsRow}
 use Rattle.vhost_protocol.specs.Joined.{Shown, InStep, JoinedStep, read_as}
+use Rattle.vhost_protocol.specs.Profile.{is_standard}
 use Rattle.vhost_protocol.specs.Run as run
 use Rattle.vhost_protocol.specs.Split.{Message, split}
 use Rattle.vhost_protocol.specs.Written.{Written, head_of, written_cells}
@@ -120,15 +121,21 @@ abbrev pub ends : {H : Type 0} → FrontendCall H → Bool
 ends PostcopyEnd = true
 ends _ = false
 
--- Why a run stops with a step: a link failed, or there was no memory on the way or behind the handler; or the handler erred in silence, or at the end of postcopy.
+-- A run is over where the session has ended. Under Vhost it is over, too, where the handler erred in silence, or at the end of postcopy.
+abbrev pub is_over : Frontend → Session → (is_end : Bool) → Result ⊤ Error → (reply : List ℕ) → Bool
+is_over f s is_end answer reply = is_some s.failed || (not (is_standard f.profile) && (is_err answer && (not (has_some reply) || is_end)))
+
+-- Why a run stops with a step: a link failed, or there was no memory on the way or behind the handler; or the run is over.
 -- None is a handler that served nothing.
-abbrev pub stop_after : (is_end : Bool) → Option (Result ⊤ Error) → (lost : Bool) → (reply : List ℕ) → Option Stop
-stop_after is_end None lost reply = Some stop.Premise
-stop_after is_end (Some answer) true reply = Some stop.Premise
-stop_after is_end (Some (Err OutOfMemory)) false reply = Some stop.Premise
-stop_after is_end (Some (Err e)) false [] = Some stop.Table
-stop_after true (Some (Err e)) false reply = Some stop.Table
-stop_after _ _ _ _ = None
+abbrev pub stop_after : Frontend → Session → (is_end : Bool) → Option (Result ⊤ Error) → (lost : Bool) → (reply : List ℕ) → Option Stop
+stop_after f s is_end None lost reply = Some stop.Premise
+stop_after f s is_end (Some answer) true reply = Some stop.Premise
+stop_after f s is_end (Some (Err OutOfMemory)) false reply = Some stop.Premise
+stop_after f s is_end (Some answer) false reply = if is_over f s is_end answer reply then Some stop.Table else None
+
+-- Under Standard no refusal stops a run: where no premise failed, it stops only where the session has ended.
+abbrev pub StopsAtEnd : {Dev : Type 0} → View Dev → View Dev → Type 0
+StopsAtEnd old new = old.stopped ≡ None → is_standard old.frontend.profile ≡ true → new.stopped ≡ Some stop.Table → is_some new.session.failed ≡ true
 
 -- the request of a message, as cells
 abbrev pub request_cells : Written FrontendReq PlainHandle → List (Cell PlainHandle)
@@ -210,7 +217,7 @@ module _ {Dev : Type 0} (gives : Gives Dev) where
     pub behind : List (Cell PlainHandle)
     pub on_way : new.to_handler ≡ left ++ behind
     pub whole : lost ≡ false → behind ≡ []
-    pub stopped : new.stopped ≡ stop_after (ends call) answer lost new.reply.bytes
+    pub stopped : new.stopped ≡ stop_after new.frontend new.session (ends call) answer lost new.reply.bytes
     pub budget : new.budget ≡ old.budget
 
   -- Whatever was before: a call is refused, or answered at once; or its request was stopped by the frontend's link; or it was sent. Nothing else changes.

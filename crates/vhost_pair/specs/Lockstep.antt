@@ -11,7 +11,7 @@ use Rattle.vhost_frontend_core.specs.declared.values.answer.FrontendAnswer.{Fron
 use Rattle.vhost_frontend_core.specs.Values.{call_of, answer_of}
 use Rattle.vhost_pair.specs.declared.halt.Halt.{Halt}
 use Rattle.vhost_pair.specs.Device.{Gives, opens_backend, opens_gpu}
-use Rattle.vhost_pair.specs.Joined.{View, IsReady, Offers, Keeps, Moves, StepsBy}
+use Rattle.vhost_pair.specs.Joined.{View, IsReady, Offers, Keeps, Moves, StepsBy, StopsAtEnd}
 use Rattle.vhost_pair.specs.Runs as runs
 use Rattle.vhost_pair.specs.Runs.{Runs}
 
@@ -48,13 +48,14 @@ module _ {Dev : Type 0} (gives : Gives Dev) (bit : Bool) where
   KeepsAll old (c ∷ cs) (a ∷ as') new =
       (mid : View Dev) × (k : Keeps gives old (call_of c) (answer_of a) mid) × (k.shown.last ≡ false → IsReady bit mid) × (k.shown.last ≡ true → as' ≡ []) × KeepsAll mid cs as' new
 
-  -- The answered calls are a joined run of the protocol, to the sessions and the device of now. Nothing is left on the way, and unless the run stopped both sides are in step.
+  -- The answered calls are a joined run of the protocol, to the sessions and the device of now. Nothing is left on the way, and unless the run stopped both sides are in step. Under Standard it stops only where the session has ended.
   pub record InLockstep (old : View Dev) (calls : List code.FrontendCall) (answers : List FrontendAnswer) (new : View Dev) : Type 0 where
     pub run : JoinedRun gives opens_backend opens_gpu old.frontend old.session old.device (entries calls answers) new.frontend new.session new.device
     pub each : KeepsAll old calls answers new
     pub in_step : new.stopped ≡ None → IsReady bit new
     pub no_request : new.to_handler ≡ []
     pub no_reply : new.to_frontend ≡ []
+    pub ends : StopsAtEnd old new
 
   -- Frontend and handler are in lockstep; or they were up to the last answered call, where a premise failed.
   abbrev pub Lockstep : View Dev → List code.FrontendCall → List FrontendAnswer → View Dev → Type 0

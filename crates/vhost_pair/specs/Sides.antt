@@ -1,11 +1,11 @@
 -- Both sides of a joined run, as contracts see them, and one exchange between them.
-use Rattle.std.specs.Prelude.{◌≡◌, ℕ, ◌≤◌, List, [], ◌++◌, ◌⊎◌, length, Option, Some, None, Bool, true, false, ◌||◌, ◌&&◌, Result, Ok, Err, ⊤}
+use Rattle.std.specs.Prelude.{◌≡◌, ℕ, ◌≤◌, List, [], ◌++◌, ◌⊎◌, length, Option, Some, None, Bool, true, false, ◌||◌, ◌&&◌, if◌then◌else◌, Result, Ok, Err, ⊤}
 use Rattle.vhost_message.specs.declared.error.Error as declared
 use Rattle.vhost_message.specs.declared.error.Error.TheVariants.{OutOfMemory}
 use Rattle.vhost_message.specs.MsgHeader.{fields_of}
 use Rattle.vhost_message.specs.declared.limits.TheConstants.{MAX_MSG_TEXT}
 use Rattle.vhost_protocol.specs.Error as protocol
-use Rattle.vhost_protocol.specs.Error.{Error, seen}
+use Rattle.vhost_protocol.specs.Error.{Error, seen, seen_result}
 use Rattle.vhost_protocol.specs.FrontendCall.{FrontendCall, SetHdrFlags, Value, Nothing, Frontend, new_frontend}
 use Rattle.vhost_protocol.specs.Ask.{ask}
 use Rattle.vhost_protocol.specs.declared.asked.Awaited.{Awaited}
@@ -32,7 +32,7 @@ use Rattle.vhost_frontend_core.specs.Values.{answer_of}
 use Rattle.vhost_pair.specs.Device.{Gives, opens_backend, opens_gpu}
 use Rattle.vhost_frontend_core.specs.ValueHalves.{IsProper, TakesResult}
 use Rattle.vhost_frontend_core.specs.Halves.{makes_room}
-use Rattle.vhost_pair.specs.Joined.{View, Cuts, ends}
+use Rattle.vhost_pair.specs.Joined.{View, Cuts, ends, is_over}
 use Rattle.vhost_pair.specs.OnWay.{incoming, outgoing, Carries}
 use Rattle.vhost_pair.specs.Text.{Text, text_of, no_text}
 use Rattle.vhost_pair.specs.Wire.{text_in}
@@ -115,13 +115,11 @@ pub record IsSound {Dev : Type 0} (p : Parts Dev) : Type 0 where
 abbrev pub HaveLists : {Dev : Type 0} → Parts Dev → Type 0
 HaveLists p = (p.asking.list ≡ true) × (p.serving.list ≡ true)
 
--- why a run stops: one of the endpoints met a fault, or there was no memory; or the handler erred in silence, or at the end of postcopy
-abbrev pub stop_of : (ends faulted : Bool) → Result ⊤ declared.Error → List ℕ → Option Stop
-stop_of is_end true served reply = Some Premise
-stop_of is_end false (Err OutOfMemory) reply = Some Premise
-stop_of is_end false (Err e) [] = Some Table
-stop_of true false (Err e) reply = Some Table
-stop_of _ _ _ _ = None
+-- why a run stops: one of the endpoints met a fault, or there was no memory; or the run is over
+abbrev pub stop_of : (faulted : Bool) → Frontend → Session → (is_end : Bool) → Result ⊤ declared.Error → (reply : List ℕ) → Option Stop
+stop_of true f s is_end served reply = Some Premise
+stop_of false f s is_end (Err OutOfMemory) reply = Some Premise
+stop_of false f s is_end served reply = if is_over f s is_end (seen_result served) reply then Some Table else None
 
 -- ---- one exchange
 
@@ -176,7 +174,7 @@ module _ {Dev : Type 0} (gives : Gives Dev) (call : FrontendCall PlainHandle) wh
     pub takes : TakesResult call sent.awaited (fields_of sent.request) asking_after old.frontend answer new.asking new.frontend
     pub quiet : new.awaited ≡ Nobody
     pub request : length (outgoing old.asking) ≤ MAX_MSG_TEXT → new.request ≡ text_of (outgoing old.asking)
-    pub stops : stop ≡ stop_of (ends call) (new.asking.faulted || new.serving.faulted) result new.reply.bytes
+    pub stops : stop ≡ stop_of (new.asking.faulted || new.serving.faulted) new.frontend new.session (ends call) result new.reply.bytes
 
   -- There was no room on the way: where the handler had more to receive, or the frontend.
   pub record FoundNoRoom (old : Parts Dev) (given : Result (Value PlainHandle) Error) (stop : Option Stop) (new : Parts Dev) : Type 0 where

@@ -12,7 +12,8 @@ pub enum Halt {
 /// Why a joined run stopped.
 #[derive(Clone, Copy, Debug, PartialEq, Eq)]
 pub enum Stop {
-    /// The handler refused a request without a reply, or the device refused the end of postcopy.
+    /// The session has ended. Under `Vhost` also: the handler refused a request without a reply, or the device refused the end
+    /// of postcopy.
     Table,
     /// A link failed, a retry limit was spent, or an allocation failed in the middle of a step.
     Premise,

@@ -32,7 +32,7 @@ impl<D: Drop> Model for Joined<D> {
 
 impl<D: VhostUserBackendReqHandlerMut<Link = MemLink>> Joined<D> {
     ghost use Rattle.vhost_frontend_core.specs.Values.{call_of, answer_of};
-    ghost use Rattle.vhost_pair.specs.Joined.{IsReady, Steps};
+    ghost use Rattle.vhost_pair.specs.Joined.{IsReady, Steps, StopsAtEnd};
     ghost use Rattle.vhost_pair.specs.Lists.{IsListedFor};
     ghost use Rattle.vhost_pair.specs.Lockstep.{RunsCalls};
     ghost use Rattle.vhost_pair.specs.Sides.{as_view, fresh_parts};
@@ -63,13 +63,12 @@ impl<D: VhostUserBackendReqHandlerMut<Link = MemLink>> Joined<D> {
         }
     }
 
-    /// Whose behaviour the frontend and the handler have from now on: at first both have that of the crate `vhost`. The two
-    /// need not be the same. A run that was ready still is.
-    pub fn set_profiles(&mut self, asking: Profile, serving: Profile)
-        ensures profiles { self.new ≡ record self.old { frontend = record self.old.frontend { profile = asking }; session = record self.old.session { profile = serving } } }
+    /// Whose behaviour both sides have from now on: at first that of the crate `vhost`. A run that was ready still is.
+    pub fn set_profile(&mut self, profile: Profile)
+        ensures profile { self.new ≡ record self.old { frontend = record self.old.frontend { profile = profile }; session = record self.old.session { profile = profile } } }
         ensures ready { (bit : Bool) → IsReady bit self.old → IsReady bit self.new }
     {
-        self.sides.set_profiles(asking, serving);
+        self.sides.set_profile(profile);
     }
 
     /// Does one call: the request goes to the handler, which calls the device, and the reply comes back.
@@ -80,6 +79,7 @@ impl<D: VhostUserBackendReqHandlerMut<Link = MemLink>> Joined<D> {
     pub fn step(&mut self, call: &FrontendCall) -> Result<FrontendAnswer, Halt>
         ensures step { Steps D.gives self.old (call_of call.now) result self.new }
         ensures listed { IfOk result (λ answer. IsListedFor (call_of call.now) (answer_of answer)) }
+        ensures ends { StopsAtEnd self.old self.new }
     {
         if self.stopped.is_some() {
             return Err(Halt::Stopped);

@@ -4,7 +4,8 @@ ghost use Rattle.std.specs.Prelude.{◌≡◌, ◌||◌, false, Some, None, Ok, 
 ghost use Rattle.vhost_message.specs.declared.error.Error.TheVariants.{OutOfMemory};
 ghost use Rattle.vhost_frontend_core.specs.Values.{call_of, answer_of};
 ghost use Rattle.vhost_pair.specs.Lists.{IsListedFor};
-ghost use Rattle.vhost_pair.specs.Joined.{ends};
+ghost use Rattle.vhost_pair.specs.Joined.{ends, is_over};
+ghost use Rattle.vhost_protocol.specs.Error.{seen_result};
 ghost use Rattle.vhost_protocol.specs.declared.asked.Awaited.TheVariants.{Nobody};
 ghost use Rattle.vhost_pair.specs.declared.halt.Stop.TheVariants.{Premise};
 
@@ -39,9 +40,9 @@ pub struct Sides<D: Drop> {
 }
 
 impl<D: VhostUserBackendReqHandlerMut<Link = MemLink>> Sides<D> {
-    ghost use Rattle.vhost_backend_req_handler.specs.Core.{endpoint_of as serving_end};
+    ghost use Rattle.vhost_backend_req_handler.specs.Core.{endpoint_of as serving_end, session_in as serving_session};
     ghost use Rattle.vhost_frontend_core.specs.Awaiting.{MayAwait};
-    ghost use Rattle.vhost_frontend_core.specs.Frontend.{endpoint_of as asking_end, awaits, IsAwaited};
+    ghost use Rattle.vhost_frontend_core.specs.Frontend.{endpoint_of as asking_end, session_of as asking_session, awaits, IsAwaited};
     ghost use Rattle.vhost_frontend_core.specs.Kept.{IsKeptFor};
     ghost use Rattle.vhost_pair.specs.Sides.{parts_of, fresh_parts, has_lists, HaveLists, Exchanges, Serves, HandsOver, EndsUnsent, stop_of};
     ghost use Rattle.vhost_pair.specs.Text.{no_text};
@@ -75,12 +76,12 @@ impl<D: VhostUserBackendReqHandlerMut<Link = MemLink>> Sides<D> {
         })
     }
 
-    /// Whose behaviour the frontend and the handler have from now on.
-    pub fn set_profiles(&mut self, asking: Profile, serving: Profile)
-        ensures { parts_of self.new ≡ record (parts_of self.old) { frontend = record (parts_of self.old).frontend { profile = asking }; session = record (parts_of self.old).session { profile = serving } } }
+    /// Whose behaviour both sides have from now on.
+    pub fn set_profile(&mut self, profile: Profile)
+        ensures { parts_of self.new ≡ record (parts_of self.old) { frontend = record (parts_of self.old).frontend { profile = profile }; session = record (parts_of self.old).session { profile = profile } } }
     {
-        self.frontend.set_profile(asking);
-        self.handler.set_profile(serving);
+        self.frontend.set_profile(profile);
+        self.handler.set_profile(profile);
     }
 
     /// Allocates the descriptor buffers that a step may need before its first byte, where they were moved out.
@@ -185,15 +186,29 @@ impl<D: VhostUserBackendReqHandlerMut<Link = MemLink>> Sides<D> {
 
     /// Why the run stops once the handler answered so.
     fn stop_after(&self, call: &FrontendCall, served: &Result<()>) -> Option<Stop>
-        ensures { result ≡ stop_of (ends (call_of call.now)) ((asking_end self.now.frontend).faulted || (serving_end self.now.handler).faulted) served.now (text_in self.now.reply).bytes }
+        ensures { result ≡ stop_of ((asking_end self.now.frontend).faulted || (serving_end self.now.handler).faulted) (asking_session self.now.frontend) (serving_session self.now.handler) (ends (call_of call.now)) served.now (text_in self.now.reply).bytes }
     {
         if self.frontend.faulted() || self.handler.faulted() {
             return Some(Stop::Premise);
         }
         match served {
             Err(Error::OutOfMemory) => Some(Stop::Premise),
-            Err(_) if self.reply.bytes().is_empty() || is_end(call) => Some(Stop::Table),
-            _ => None,
+            _ => self.is_over(call, served).then_some(Stop::Table),
+        }
+    }
+
+    /// Whether the run is over once the handler answered so.
+    fn is_over(&self, call: &FrontendCall, served: &Result<()>) -> bool
+        ensures { result ≡ is_over (asking_session self.now.frontend) (serving_session self.now.handler) (ends (call_of call.now)) (seen_result served.now) (text_in self.now.reply).bytes }
+    {
+        if self.handler.failed().is_some() {
+            return true;
+        }
+        match served {
+            Err(_) if !self.frontend.profile().is_standard() => {
+                self.reply.bytes().is_empty() || is_end(call)
+            }
+            _ => false,
         }
     }
 }

@@ -32,6 +32,14 @@ base-acked : (standard on : Bool) → IsAck (cond standard (cond on Ack Nobody) 
 base-acked true on = inl (acked on)
 base-acked false on = inl tt
 
+turn-acked : (standard agreed on : Bool) → IsAck (cond standard (cond agreed Ack Nobody) (cond on Ack Nobody))
+turn-acked true agreed on = acked agreed
+turn-acked false agreed on = acked on
+
+end-replied : (standard on : Bool) → IsAck (cond standard (Reply shape.U64) (cond on Ack Nobody)) ⊎ (cond standard (Reply shape.U64) (cond on Ack Nobody) ≡ Reply shape.U64)
+end-replied true on = inr refl
+end-replied false on = inl (acked on)
+
 module _ (H : Type 0) (call : FrontendCall H) where
   behind-test : (x : Result (Unit {0}) Error) (next : Asked H) → AwaitsAllowed call next → AwaitsAllowed call (x >> next)
   behind-test (Ok u) next h = h
@@ -45,7 +53,7 @@ module _ (H : Type 0) (call : FrontendCall H) where
   either-way true x y h k = h
   either-way false x y h k = k
 
-ruleset awaiting = (behind-test, behind-given, either-way, acked, acked-or, replied-or, base-acked)
+ruleset awaiting = (behind-test, behind-given, either-way, acked, acked-or, replied-or, base-acked, turn-acked, end-replied)
 
 -- ---- each call
 

@@ -56,11 +56,11 @@ pub features-step : (d d' : Device) (shown : Shown PlainHandle) (f' : Frontend) 
     → JoinedStep moves opens_backend opens_gpu (new_frontend 2) fresh d GetFeatures shown f' s' d'
     → (shown.result ≡ Ok (Number 0x40000003)) × (f' ≡ asking) × (s' ≡ serving) × (d' ≡ d)
 unfolding read number_in
-features-step d d' shown f' s' (o, (Ok n, (is_a, same), is_o), is_s, is_answer, is_request, is_handled, is_reply, is_end) =
-    let now : o ≡ read 0x40000003 = is_o ∙ ap read (ap number_in is_a) in
-    let told = same_Some _ _ (sym (ap (λ x. answer GetFeatures (Reply shape.U64) (new_frontend 2) x.served) now) ∙ is_answer) in
-    (sym (ap (λ x. x.result) told), sym (ap (λ x. x.session) told), is_s ∙ ap (λ x. x.session) now, same)
-features-step d d' shown f' s' (o, (Err e, (is_a, same), is_o), is_s, is_answer, is_request, is_handled, is_reply, is_end) = absurd cc
+features-step d d' shown f' s' (o, (told, (Ok n, (is_a, same), is_o), is_told), is_s, is_answer, is_request, is_handled, is_reply, is_end) =
+    let now : o ≡ read 0x40000003 = is_told ∙ is_o ∙ ap read (ap number_in is_a) in
+    let heard = same_Some _ _ (sym (ap (λ x. answer GetFeatures (Reply shape.U64) (new_frontend 2) x.served) now) ∙ is_answer) in
+    (sym (ap (λ x. x.result) heard), sym (ap (λ x. x.session) heard), is_s ∙ ap (λ x. x.session) now, same)
+features-step d d' shown f' s' (o, (told, (Err e, (is_a, same), is_o), is_told), is_s, is_answer, is_request, is_handled, is_reply, is_end) = absurd cc
 
 -- the device gets its owner, in silence
 pub owner-step : (alloc : Global) (spare : List PlainHandle) (d' : Device) (shown : Shown PlainHandle) (f' : Frontend) (s' : Session)
@@ -68,18 +68,18 @@ pub owner-step : (alloc : Global) (spare : List PlainHandle) (d' : Device) (show
     → (shown.result ≡ Ok Nothing) × (f' ≡ asking) × (s' ≡ serving) × (d' ≡ record (dummy.fresh alloc spare) { owned = true })
     × (shown.last ≡ false) × (text_of shown.request ≡ record { bytes = owner_request; handles = [] }) × (text_of shown.reply ≡ record { bytes = []; handles = [] })
 unfolding agreed
-owner-step alloc spare d' shown f' s' (o, (Ok u, (is_a, same), is_o), is_s, is_answer, is_request, is_handled, is_reply, is_end) =
-    let now : o ≡ agreed = is_o in
-    let told = same_Some _ _ (sym (ap (λ x. answer SetOwner Nobody asking x.served) now) ∙ is_answer) in (
-      sym (ap (λ x. x.result) told),
-      sym (ap (λ x. x.session) told),
+owner-step alloc spare d' shown f' s' (o, (told, (Ok u, (is_a, same), is_o), is_told), is_s, is_answer, is_request, is_handled, is_reply, is_end) =
+    let now : o ≡ agreed = is_told ∙ is_o in
+    let heard = same_Some _ _ (sym (ap (λ x. answer SetOwner Nobody asking x.served) now) ∙ is_answer) in (
+      sym (ap (λ x. x.result) heard),
+      sym (ap (λ x. x.session) heard),
       is_s ∙ ap (λ x. x.session) now,
       same,
       is_end ∙ ap (λ x. is_last SET_OWNER x) now,
       ap text_of is_request,
       ap text_of (is_reply ∙ ap (λ x. cells_of request_number (reply SET_OWNER x.served)) now),
     )
-owner-step alloc spare d' shown f' s' (o, (Err e, (is_a, same), is_o), is_s, is_answer, is_request, is_handled, is_reply, is_end) = absurd cc
+owner-step alloc spare d' shown f' s' (o, (told, (Err e, (is_a, same), is_o), is_told), is_s, is_answer, is_request, is_handled, is_reply, is_end) = absurd cc
 
 -- where the device has refused in silence
 refused : Error → Outcome PlainHandle
@@ -91,17 +91,17 @@ pub again-step : (device d' : Device) (shown : Shown PlainHandle) (f' : Frontend
     → (shown.result ≡ Ok Nothing) × (d' ≡ device) × (shown.last ≡ true)
     × (text_of shown.request ≡ record { bytes = owner_request; handles = [] }) × (text_of shown.reply ≡ record { bytes = []; handles = [] })
 unfolding refused
-again-step device d' shown f' s' owned (o, (Err e, moved, is_o), is_s, is_answer, is_request, is_handled, is_reply, is_end) =
+again-step device d' shown f' s' owned (o, (told, (Err e, moved, is_o), is_told), is_s, is_answer, is_request, is_handled, is_reply, is_end) =
     let (is_a, same) = subst (λ x. Does device (refusal ((not x, InvalidOperation (codes "already claimed")) ∷ [])) tt (record device { owned = true }) (Err e) d') owned moved in
-    let now : o ≡ refused e = is_o in
-    let told = same_Some _ _ (sym (ap (λ x. answer SetOwner Nobody asking x.served) now) ∙ is_answer) in (
-      sym (ap (λ x. x.result) told),
+    let now : o ≡ refused e = is_told ∙ is_o in
+    let heard = same_Some _ _ (sym (ap (λ x. answer SetOwner Nobody asking x.served) now) ∙ is_answer) in (
+      sym (ap (λ x. x.result) heard),
       same,
       is_end ∙ ap (λ x. is_last SET_OWNER x) now,
       ap text_of is_request,
       ap text_of (is_reply ∙ ap (λ x. cells_of request_number (reply SET_OWNER x.served)) now),
     )
-again-step device d' shown f' s' owned (o, (Ok u, moved, is_o), is_s, is_answer, is_request, is_handled, is_reply, is_end) =
+again-step device d' shown f' s' owned (o, (told, (Ok u, moved, is_o), is_told), is_s, is_answer, is_request, is_handled, is_reply, is_end) =
     let (is_a, same) = subst (λ x. Does device (refusal ((not x, InvalidOperation (codes "already claimed")) ∷ [])) tt (record device { owned = true }) (Ok u) d') owned moved in
     absurd cc
 

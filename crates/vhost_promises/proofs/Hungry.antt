@@ -1,6 +1,6 @@
 -- Where no script cuts a call, a run stops for a premise only for want of memory.
 use Rattle.std.proofs.Common.{◌≡◌, ℕ, zero, suc, ◌+◌, ◌-◌, ◌^◌, ◌<◌, min, Bool, true, false, List, [], ◌∷◌, drop, Option, Some, None, Result, Ok, Err, arith, refl, sym, ap, subst, ◌∙◌, inl, inr}
-use Rattle.std.specs.Prelude.{⊤}
+use Rattle.std.specs.Prelude.{⊤, if◌then◌else◌}
 use Rattle.vhost_message.specs.declared.cause.IoCause.{IoCause}
 use Rattle.vhost_message.specs.declared.errno.TheConstants.{ENOMEM}
 use Rattle.vhost_message.specs.declared.cause.IoCause.TheVariants.{Raw}
@@ -9,7 +9,7 @@ use Rattle.vhost_message.specs.FrontendReq.{request_of}
 use Rattle.vhost_protocol.specs.Codes.{allows_handles}
 use Rattle.vhost_protocol.specs.Error.{Error, OutOfMemory}
 use Rattle.vhost_protocol.specs.FrontendCall as calls
-use Rattle.vhost_protocol.specs.FrontendCall.{Value}
+use Rattle.vhost_protocol.specs.FrontendCall.{Frontend, Value}
 use Rattle.vhost_protocol.specs.Handler.{MeetsRow}
 use Rattle.vhost_protocol.specs.Joined.{read_as}
 use Rattle.vhost_protocol.specs.Run as run
@@ -25,9 +25,9 @@ use Rattle.vhost_frontend_core.specs.declared.values.answer.FrontendAnswer.{Fron
 use Rattle.vhost_frontend_core.specs.declared.values.call.FrontendCall.{FrontendCall}
 use Rattle.vhost_pair.specs.Device.{Gives, opens_backend, opens_gpu}
 use Rattle.vhost_pair.specs.Joined as joined
-use Rattle.vhost_pair.specs.Joined.{View, Cuts, IsReady, Passes, PassesBoth, Stops, Exchanges, Moves, ends, stop_after}
+use Rattle.vhost_pair.specs.Joined.{View, Cuts, IsReady, Passes, PassesBoth, Stops, Exchanges, Moves, ends, is_over, stop_after}
 use Rattle.vhost_pair.specs.Lockstep.{KeepsAll, Lockstep}
-use Rattle.vhost_pair.specs.declared.halt.Stop.TheVariants.{Premise}
+use Rattle.vhost_pair.specs.declared.halt.Stop.TheVariants.{Premise, Table}
 use Rattle.vhost_promises.specs.Joined.{WantsMemory, of_asking, of_serving, of_handler}
 
 drop-none : {A : Type 0} (n : ℕ) → drop {A = A} n [] ≡ []
@@ -55,13 +55,16 @@ wanted script c before after none fails = go (subst (λ (s : List Cut). Fails s 
 hungry : (budget : ℕ) (c : IoCause) (old new : Cuts) → Stops budget c old new → old.script ≡ [] → 0 < new.wants
 hungry budget c old new s none = wanted s.before.script c s.before.wants new.wants (s.calls.script ∙ ap (λ x. drop s.calls.used x) none ∙ drop-none s.calls.used) s.last
 
+-- a run that is over is none where a premise failed
+no-premise : (b : Bool) → (if b then Some Table else None) ≡ Some Premise → ⊥
+no-premise true is = cc is
+no-premise false is = cc is
+
 -- the handler's want of memory stops a run for a premise, and no other answer of it does
-for-memory : (is_end : Bool) (a : Result ⊤ Error) (reply : List ℕ) → stop_after is_end (Some a) false reply ≡ Some Premise → a ≡ Err OutOfMemory
-for-memory is_end (Ok u) reply is = absurd (cc is)
-for-memory is_end (Err OutOfMemory) reply is = refl
-for-memory is_end (Err e) [] is = absurd (cc is)
-for-memory true (Err e) (x ∷ reply) is = absurd (cc is)
-for-memory false (Err e) (x ∷ reply) is = absurd (cc is)
+for-memory : (f : Frontend) (s : Session) (is_end : Bool) (a : Result ⊤ Error) (reply : List ℕ) → stop_after f s is_end (Some a) false reply ≡ Some Premise → a ≡ Err OutOfMemory
+for-memory f s is_end (Err OutOfMemory) reply is = refl
+for-memory f s is_end (Ok u) reply is = absurd (no-premise (is_over f s is_end (Ok u) reply) is)
+for-memory f s is_end (Err e) reply is = absurd (no-premise (is_over f s is_end (Err e) reply) is)
 
 module _ {Dev : Type 0} (gives : Gives Dev) (bit : Bool) where
   kept-uncut : (old new : View Dev) (calls : List FrontendCall) (answers : List FrontendAnswer) → KeepsAll gives bit old calls answers new
@@ -88,15 +91,15 @@ module _ {Dev : Type 0} (gives : Gives Dev) (bit : Bool) where
         of_handler old w met.0 met.1 (sym met.2 ∙ is)
 
     module _ (new : View Dev) (call : calls.FrontendCall PlainHandle) (result : Result (Value PlainHandle) Error) (premise : new.stopped ≡ Some Premise) (asking : old.asking.script ≡ []) (serving : old.serving.script ≡ []) where
-      by-handler : (w : Written FrontendReq PlainHandle) (left came : List (Cell PlainHandle)) (answer : Option (Result ⊤ Error)) → joined.Serves gives old new w left came answer → stop_after (ends call) answer false new.reply.bytes ≡ Some Premise → WantsMemory gives new
+      by-handler : (w : Written FrontendReq PlainHandle) (left came : List (Cell PlainHandle)) (answer : Option (Result ⊤ Error)) → joined.Serves gives old new w left came answer → stop_after new.frontend new.session (ends call) answer false new.reply.bytes ≡ Some Premise → WantsMemory gives new
       by-handler w left came _ (joined.full some came' session device link on_way) stops = absurd (none-there some)
       by-handler w left came _ (joined.unread c read s came' session device on_way) stops = of_serving (hungry old.budget c old.serving new.serving s serving)
       by-handler w left came _ (joined.unanswered c m answer reply after count s first met short front session) stops =
           of_serving (hungry old.budget c s.mid new.serving s.stopped (passed old.budget _ old.serving s.mid s.asked serving))
       by-handler w left came _ (joined.served heard answer p first handles) stops =
-          wants-behind new w heard answer came (first.own ready.in_step.no_request) (for-memory (ends call) answer new.reply.bytes stops) handles
+          wants-behind new w heard answer came (first.own ready.in_step.no_request) (for-memory new.frontend new.session (ends call) answer new.reply.bytes stops) handles
 
-      by-frontend : (x : Exchanges gives old call result new) (lost : Bool) → joined.Takes gives old call x.message x.awaited x.after x.mid x.came result new lost → new.stopped ≡ stop_after (ends call) x.answer lost new.reply.bytes → WantsMemory gives new
+      by-frontend : (x : Exchanges gives old call result new) (lost : Bool) → joined.Takes gives old call x.message x.awaited x.after x.mid x.came result new lost → new.stopped ≡ stop_after new.frontend new.session (ends call) x.answer lost new.reply.bytes → WantsMemory gives new
       by-frontend x _ (joined.no_room (inl some) is frontend awaits link on_way) stops = absurd (none-there some)
       by-frontend x _ (joined.no_room (inr some) is frontend awaits link on_way) stops = absurd (none-back some)
       by-frontend x _ (joined.lost c read s is frontend quiet on_way) stops = of_asking (hungry old.budget c x.mid new.asking s (passed old.budget _ old.asking x.mid x.passed asking))

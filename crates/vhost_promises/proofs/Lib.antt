@@ -1,6 +1,7 @@
 pub mod TwoCalls
 pub mod Awaiting
 pub mod Whole
+pub mod Waiting
 pub mod Lockstep
 pub mod OwnAnswer
 pub mod Calls

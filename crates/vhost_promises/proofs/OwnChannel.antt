@@ -16,6 +16,7 @@ use Rattle.vhost_protocol.specs.Row.{channel, only, row_of, session_feature}
 use Rattle.vhost_protocol.specs.Run as run
 use Rattle.vhost_protocol.specs.Session.{Session}
 use Rattle.vhost_protocol.specs.Split.{Message}
+use Rattle.vhost_protocol.proofs.SettleLaws.{settled-answer}
 use Rattle.vhost_protocol.specs.Step.{Outcome, Refusal, Step, OpensBackend, acknowledged, silently, ◌>>=◌, ◌>>◌}
 use Rattle.vhost_link.specs.Law.{Event}
 use Rattle.vhost_link.specs.declared.handle.Kind.{Kind}
@@ -62,5 +63,5 @@ module _ {L H Dev : Type 0} (event : L → Event H → L → Type 0) (opens : L 
     hears = h.hears;
     own = λ m is asked.
         let met = subst (λ x. run.Handles request_of allows_handles (λ (t : Session). t.failed) (MeetsRow (fitting gives) (λ h c. OpensAsBackend opens kinds old.budget h c) (λ h c. OpensAsGpu opens kinds old.budget h c)) s d x (Ok u) h.written s' d') is h.handles in
-        given-own opens kinds gives old.budget s m d d' met.0 asked u (sym met.2) met.1;
+        given-own opens kinds gives old.budget s m d d' met.1.0 asked u (sym (met.2 ∙ ap (λ (x : Outcome H). x.answer) met.1.2 ∙ settled-answer H s m met.1.0)) met.1.1;
   }

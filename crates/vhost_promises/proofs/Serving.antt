@@ -40,39 +40,39 @@ module _ {B G : Type 0} (opens_backend : PlainHandle → Result B Error → Type
   features-row : (d d' : Device) (answer : Result ⊤ Error) (written : List (Cell PlainHandle)) (s' : Session) → Meets fresh d (asks GET_FEATURES) answer written s' d'
       → (answer ≡ Ok tt) × (written ≡ plain features_reply) × (s' ≡ serving) × (d' ≡ d)
   unfolding read number_in
-  features-row d d' answer written s' (o, (Ok n, ((is_a, same), fits), is_o), is_answer, is_written, is_s) =
-      let now : o ≡ read 0x40000003 = is_o ∙ ap read (ap number_in is_a) in (
+  features-row d d' answer written s' (o, (told, (Ok n, ((is_a, same), fits), is_o), is_told), is_answer, is_written, is_s) =
+      let now : o ≡ read 0x40000003 = is_told ∙ is_o ∙ ap read (ap number_in is_a) in (
         is_answer ∙ ap (λ x. x.answer) now,
         is_written ∙ ap (λ x. cells_of request_number (reply GET_FEATURES x.served)) now,
         is_s ∙ ap (λ x. x.session) now,
         same,
       )
-  features-row d d' answer written s' (o, (Err e, ((is_a, same), fits), is_o), is_answer, is_written, is_s) = absurd cc
+  features-row d d' answer written s' (o, (told, (Err e, ((is_a, same), fits), is_o), is_told), is_answer, is_written, is_s) = absurd cc
 
   -- the device gets its owner, in silence
   owner-row : (d d' : Device) (answer : Result ⊤ Error) (written : List (Cell PlainHandle)) (s' : Session) → d.owned ≡ false → Meets serving d (asks SET_OWNER) answer written s' d'
       → (answer ≡ Ok tt) × (written ≡ []) × (s' ≡ serving) × (d' ≡ record d { owned = true })
-  owner-row d d' answer written s' free (o, (Ok u, (moved, fits), is_o), is_answer, is_written, is_s) =
+  owner-row d d' answer written s' free (o, (told, (Ok u, (moved, fits), is_o), is_told), is_answer, is_written, is_s) =
       let (is_a, same) = subst (λ x. Does d (refusal ((not x, InvalidOperation (codes "already claimed")) ∷ [])) tt (record d { owned = true }) (Ok u) d') free moved in (
-        is_answer ∙ ap (λ x. x.answer) is_o,
-        is_written ∙ ap (λ x. cells_of request_number (reply SET_OWNER x.served)) is_o,
-        is_s ∙ ap (λ x. x.session) is_o,
+        is_answer ∙ ap (λ x. x.answer) (is_told ∙ is_o),
+        is_written ∙ ap (λ x. cells_of request_number (reply SET_OWNER x.served)) (is_told ∙ is_o),
+        is_s ∙ ap (λ x. x.session) (is_told ∙ is_o),
         same,
       )
-  owner-row d d' answer written s' free (o, (Err e, (moved, fits), is_o), is_answer, is_written, is_s) =
+  owner-row d d' answer written s' free (o, (told, (Err e, (moved, fits), is_o), is_told), is_answer, is_written, is_s) =
       let (is_a, same) = subst (λ x. Does d (refusal ((not x, InvalidOperation (codes "already claimed")) ∷ [])) tt (record d { owned = true }) (Err e) d') free moved in absurd cc
 
   -- it has one already, and refuses in silence
   again-row : (d d' : Device) (answer : Result ⊤ Error) (written : List (Cell PlainHandle)) (s' : Session) → d.owned ≡ true → Meets serving d (asks SET_OWNER) answer written s' d'
       → (answer ≡ Err (InvalidOperation (codes "already claimed"))) × (written ≡ []) × (s' ≡ serving) × (d' ≡ d)
-  again-row d d' answer written s' owned (o, (Err e, (moved, fits), is_o), is_answer, is_written, is_s) =
+  again-row d d' answer written s' owned (o, (told, (Err e, (moved, fits), is_o), is_told), is_answer, is_written, is_s) =
       let (is_a, same) = subst (λ x. Does d (refusal ((not x, InvalidOperation (codes "already claimed")) ∷ [])) tt (record d { owned = true }) (Err e) d') owned moved in (
-        is_answer ∙ ap (λ x. x.answer) is_o ∙ is_a,
-        is_written ∙ ap (λ x. cells_of request_number (reply SET_OWNER x.served)) is_o,
-        is_s ∙ ap (λ x. x.session) is_o,
+        is_answer ∙ ap (λ x. x.answer) (is_told ∙ is_o) ∙ is_a,
+        is_written ∙ ap (λ x. cells_of request_number (reply SET_OWNER x.served)) (is_told ∙ is_o),
+        is_s ∙ ap (λ x. x.session) (is_told ∙ is_o),
         same,
       )
-  again-row d d' answer written s' owned (o, (Ok u, (moved, fits), is_o), is_answer, is_written, is_s) =
+  again-row d d' answer written s' owned (o, (told, (Ok u, (moved, fits), is_o), is_told), is_answer, is_written, is_s) =
       let (is_a, same) = subst (λ x. Does d (refusal ((not x, InvalidOperation (codes "already claimed")) ∷ [])) tt (record d { owned = true }) (Ok u) d') owned moved in absurd cc
 
   -- ---- one call of a run

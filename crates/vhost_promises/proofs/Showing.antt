@@ -61,13 +61,13 @@ done-answer (answer.ShmemConfig c) is = absurd cc
 features-shown : (d d' : Device) (shown : Shown PlainHandle) (f' : Frontend) (s' : Session) → JoinedStep (DummyGives copies) opens_backend opens_gpu (new_frontend 2) fresh d GetFeatures shown f' s' d'
     → (shown.last ≡ false) × (text_of shown.request ≡ record { bytes = features_request; handles = [] }) × (text_of shown.reply ≡ record { bytes = features_reply; handles = [] })
 unfolding read number_in
-features-shown d d' shown f' s' (o, (Ok n, (is_a, same), is_o), is_s, is_answer, is_request, is_handled, is_reply, is_end) =
-    let now : o ≡ read 0x40000003 = is_o ∙ ap read (ap number_in is_a) in (
+features-shown d d' shown f' s' (o, (told, (Ok n, (is_a, same), is_o), is_told), is_s, is_answer, is_request, is_handled, is_reply, is_end) =
+    let now : o ≡ read 0x40000003 = is_told ∙ is_o ∙ ap read (ap number_in is_a) in (
       is_end ∙ ap (λ x. is_last GET_FEATURES x) now,
       ap text_of is_request,
       ap text_of (is_reply ∙ ap (λ x. cells_of request_number (reply GET_FEATURES x.served)) now),
     )
-features-shown d d' shown f' s' (o, (Err e, (is_a, same), is_o), is_s, is_answer, is_request, is_handled, is_reply, is_end) = absurd cc
+features-shown d d' shown f' s' (o, (told, (Err e, (is_a, same), is_o), is_told), is_s, is_answer, is_request, is_handled, is_reply, is_end) = absurd cc
 
 -- the step of a call
 abbrev Step : Frontend → Session → Device → FrontendCall PlainHandle → Shown PlainHandle → Frontend → Session → Device → Type 0

@@ -14,6 +14,8 @@ use Rattle.vhost_protocol.specs.Error.{Error, InvalidOperation, seen_result}
 use Rattle.vhost_protocol.specs.Run as run
 use Rattle.vhost_protocol.specs.Served.{reply, cells_of}
 use Rattle.vhost_protocol.specs.Session.{Session, fresh}
+use Rattle.vhost_protocol.specs.Settled.{settled}
+use Rattle.vhost_protocol.specs.Step.{Outcome}
 use Rattle.vhost_protocol.specs.Split.{Message, split, split_after, split_body, body_outcome}
 use Rattle.vhost_protocol.specs.Stream.{Cell, Item, plain}
 use Rattle.vhost_link.specs.Mem.{event, HandsFront}
@@ -35,20 +37,22 @@ module _ {B G : Type 0} (opens_backend : PlainHandle → Result B Error → Type
   -- it is refused
   unserved-row : (d d' : Device) (answer : Result ⊤ Error) (written : List (Cell PlainHandle)) (s' : Session) → Meets opens_backend opens_gpu standing d kick answer written s' d'
       → (answer ≡ Err (InvalidOperation (codes "request not served"))) × (written ≡ []) × (s' ≡ standing) × (d' ≡ d)
-  unserved-row d d' answer written s' (o, (is_o, same), is_answer, is_written, is_s) =
-      (is_answer ∙ ap (λ x. x.answer) is_o, is_written ∙ ap (λ x. cells_of request_number (reply VRING_KICK x.served)) is_o, is_s ∙ ap (λ x. x.session) is_o, same)
+  unserved-row d d' answer written s' (o, (told, (is_o, same), is_told), is_answer, is_written, is_s) =
+      let now = is_told ∙ ap (λ (x : Outcome PlainHandle). settled standing kick x) is_o in
+      (is_answer ∙ ap (λ (x : Outcome PlainHandle). x.answer) now, is_written ∙ ap (λ (x : Outcome PlainHandle). cells_of request_number (reply VRING_KICK x.served)) now, is_s ∙ ap (λ (x : Outcome PlainHandle). x.session) now, same)
 
   -- the device gets its owner, without a reply
   owner-row : (d d' : Device) (answer : Result ⊤ Error) (written : List (Cell PlainHandle)) (s' : Session) → d.owned ≡ false → Meets opens_backend opens_gpu standing d (asks SET_OWNER) answer written s' d'
       → (answer ≡ Ok tt) × (written ≡ []) × (s' ≡ standing) × (d' ≡ record d { owned = true })
-  owner-row d d' answer written s' free (o, (Ok u, (moved, fits), is_o), is_answer, is_written, is_s) =
+  owner-row d d' answer written s' free (o, (told, (Ok u, (moved, fits), is_o), is_told), is_answer, is_written, is_s) =
+      let now = is_told ∙ ap (λ (x : Outcome PlainHandle). settled standing (asks SET_OWNER) x) is_o in
       let (is_a, same) = subst (λ x. Does d (refusal ((not x, InvalidOperation (codes "already claimed")) ∷ [])) tt (record d { owned = true }) (Ok u) d') free moved in (
-        is_answer ∙ ap (λ x. x.answer) is_o,
-        is_written ∙ ap (λ x. cells_of request_number (reply SET_OWNER x.served)) is_o,
-        is_s ∙ ap (λ x. x.session) is_o,
+        is_answer ∙ ap (λ (x : Outcome PlainHandle). x.answer) now,
+        is_written ∙ ap (λ (x : Outcome PlainHandle). cells_of request_number (reply SET_OWNER x.served)) now,
+        is_s ∙ ap (λ (x : Outcome PlainHandle). x.session) now,
         same,
       )
-  owner-row d d' answer written s' free (o, (Err e, (moved, fits), is_o), is_answer, is_written, is_s) =
+  owner-row d d' answer written s' free (o, (told, (Err e, (moved, fits), is_o), is_told), is_answer, is_written, is_s) =
       let (is_a, same) = subst (λ x. Does d (refusal ((not x, InvalidOperation (codes "already claimed")) ∷ [])) tt (record d { owned = true }) (Err e) d') free moved in absurd cc
 
   -- both of them

@@ -48,7 +48,9 @@ pub use records::{
     same_number, same_region, same_scanout, there_and_back,
 };
 pub use rings::{Carried, Part, carries};
-pub use runs::{serves_no_broken, serves_no_broken_back, serves_whole, serves_whole_back};
+pub use runs::{
+    answers_whoever_waits, serves_no_broken, serves_no_broken_back, serves_whole, serves_whole_back,
+};
 pub use scripts::{passes_its_script, stops_by_its_script};
 pub use served::{serves_three, serves_three_new};
 pub use shared::{finds_sound, own_features};

@@ -6,6 +6,8 @@ ghost use Rattle.std.specs.List.{list_any};
 ghost use Rattle.vhost_backend_req_handler.specs.Core.{endpoint_of, session_in};
 ghost use Rattle.vhost_backend_req_handler.specs.Opening.{OpensAsBackend, OpensAsGpu};
 ghost use Rattle.vhost_frontend_req_handler.specs.Core.{endpoint_of as endpoint_back, server_in};
+ghost use Rattle.vhost_protocol.specs.declared.profile.Profile.TheVariants.{Standard};
+ghost use Rattle.vhost_promises.specs.Waiting.{AnswersWaiting};
 ghost use Rattle.vhost_promises.specs.Runs.{Unserved, WholeBack, WholeServed, answer_of_link};
 
 use std::alloc::Global;
@@ -29,6 +31,20 @@ pub fn serves_whole<L: Link, D: VhostUserBackendReqHandlerMut<Link = L>>(
     let mut answers = Vec::new(alloc);
     core.run(count, device, &mut answers)?;
     Ok(answers)
+}
+
+/// Under Standard serves so many requests of a frontend. Where none of the answers is an error that a link or a failed allocation may
+/// bring, whoever waited was answered, once, or the session has ended, over every device and every link; and nobody else was answered.
+pub fn answers_whoever_waits<L: Link, D: VhostUserBackendReqHandlerMut<Link = L>>(
+    alloc: Global,
+    core: &mut SessionCore<L>,
+    device: &mut D,
+    count: usize,
+) -> Result<Vec<Result<()>>>
+    ensures { IfOk result (λ answers. list_any answer_of_link answers.items ≡ false → (session_in core.old).profile ≡ Standard →
+        AnswersWaiting L.event (endpoint_of core.old) (session_in core.old) count answers.items (endpoint_of core.new) (session_in core.new)) }
+{
+    serves_whole(alloc, core, device, count)
 }
 
 /// The same of a device's requests to its frontend.

@@ -1,6 +1,6 @@
 -- Frontend and handler stay in agreement, until the last step.
 use Rattle.std.proofs.Common.{◌≡◌, ℕ, ◌^◌, ◌<◌, Bool, true, false, cond, ◌&&◌, List, [], ◌∷◌, length, Option, Some, None, Result, Ok, Err, refl, sym, ◌∙◌, ap, subst, is_ok, bit_and}
-use Rattle.std.specs.Prelude.{◌==◌, nat_le, codes}
+use Rattle.std.specs.Prelude.{◌==◌, nat_le}
 use Rattle.std.specs.List.{list_all}
 use Rattle.std.proofs.lemmas.Nat.{and_comm, and_assoc}
 use Rattle.std.specs.Int.Bits.{and_self}
@@ -8,7 +8,7 @@ use Rattle.byteorder.specs.Numbers.{little_number-reads_back}
 use Rattle.vhost_message.specs.declared.limits.TheConstants.{MAX_MEM_REGIONS}
 use Rattle.vhost_message.specs.Bits.{has_bit}
 use Rattle.vhost_message.specs.declared.frontend_req.FrontendReq.{FrontendReq}
-use Rattle.vhost_message.specs.declared.frontend_req.FrontendReq.TheVariants.{GET_FEATURES, SET_FEATURES, SET_MEM_TABLE, SET_PROTOCOL_FEATURES, SET_LOG_FD, POSTCOPY_LISTEN, POSTCOPY_END, ADD_MEM_REG, GET_QUEUE_NUM}
+use Rattle.vhost_message.specs.declared.frontend_req.FrontendReq.TheVariants.{GET_FEATURES, SET_FEATURES, SET_MEM_TABLE, SET_PROTOCOL_FEATURES, POSTCOPY_LISTEN, POSTCOPY_END, ADD_MEM_REG, GET_QUEUE_NUM}
 use Rattle.vhost_message.specs.declared.postcopy.PostcopyState.TheVariants.{Advise, Listen, End}
 use Rattle.vhost_message.specs.declared.records.config.VhostUserConfig.{VhostUserConfig}
 use Rattle.vhost_message.specs.declared.records.inflight.VhostUserInflight.{VhostUserInflight}
@@ -23,14 +23,14 @@ use Rattle.vhost_message.specs.Text.{digits}
 use Rattle.vhost_protocol.specs.Error.{test}
 use Rattle.vhost_protocol.specs.Agreement.{IsNegotiated, IsKnown, AllKnown, StaysInStep, KeepsStep}
 use Rattle.vhost_protocol.specs.AnswerTable.{answered, after_success}
-use Rattle.vhost_protocol.specs.Ask.{Asked, Sends, ask, awaited_ack, needs_reply, message, quietly, sends, asks_quietly, param, regions_in, handles_in, is_usable, given, ◌>>◌, ◌>>=◌}
+use Rattle.vhost_protocol.specs.Ask.{Asked, Sends, ask, awaited_ack, awaited_turn, frontend_feature, needs_reply, turning, message, quietly, sends, asks_quietly, param, regions_in, handles_in, is_usable, given, ◌>>◌, ◌>>=◌}
 use Rattle.vhost_protocol.specs.declared.asked.Awaited.{Awaited}
 use Rattle.vhost_protocol.specs.declared.asked.Awaited.TheVariants.{Nobody, Ack, Reply}
 use Rattle.vhost_protocol.specs.declared.asked.Shape.{Shape}
 use Rattle.vhost_protocol.specs.declared.asked.Shape.TheVariants as shape
 use Rattle.vhost_protocol.specs.DeviceCall as device
-use Rattle.vhost_protocol.specs.Error.{Error, InvalidMessage, InvalidOperation, InactiveFeature, BackendInternalError}
-use Rattle.vhost_protocol.specs.Features.{PROTOCOL_FEATURES, REPLY_ACK}
+use Rattle.vhost_protocol.specs.Error.{Error, InvalidMessage, InactiveFeature, BackendInternalError}
+use Rattle.vhost_protocol.specs.Features.{PROTOCOL_FEATURES, REPLY_ACK, PAGEFAULT}
 use Rattle.vhost_protocol.specs.Profile.{is_standard}
 use Rattle.vhost_protocol.specs.FrontendCall.{FrontendCall, GetFeatures, SetFeatures, GetProtocolFeatures, SetProtocolFeatures, GetQueueNum, SetMemTable, SetLogBase, SetLogFd, SetVringCall, SetVringKick, SetVringErr, GetVringBase, GetConfig, GetSharedObject, GetInflightFd, GetMaxMemSlots, AddMemRegion, GetShmemConfig, SetDeviceStateFd, CheckDeviceState, PostcopyAdvise, PostcopyListen, PostcopyEnd, PostcopyAckMemRegions, SetHdrFlags, Info, LogRegion, Number, Frontend}
 use Rattle.vhost_protocol.specs.Joined.{AgreeOn, is_end, read_as}
@@ -44,7 +44,7 @@ use Rattle.vhost_protocol.specs.Split.{Message}
 use Rattle.vhost_protocol.specs.Written.{Empty, U64, Regions, OneRegion, RingState, Shmem, LogArea, ConfigBytes, Written, Payload}
 
 -- what both have and one of them has
-acked-stays : (n offered : ℕ) → bit_and (bit_and n offered) n ≡ bit_and n offered
+pub acked-stays : (n offered : ℕ) → bit_and (bit_and n offered) n ≡ bit_and n offered
 acked-stays n offered = and_comm (bit_and n offered) n ∙ sym (and_assoc offered n n) ∙ ap (λ x. bit_and x offered) (and_self n)
 
 module _ (H B G : Type 0) where
@@ -78,7 +78,7 @@ module _ (H B G : Type 0) where
   -- ---- acknowledgements
 
   -- what the frontend waits for is what the handler writes
-  ack-agrees : (g : Frontend) (s : Session) → AgreeOn g s → IsNegotiated g → awaited_ack g ≡ cond (ack_on s && needs_reply g) Ack Nobody
+  pub ack-agrees : (g : Frontend) (s : Session) → AgreeOn g s → IsNegotiated g → awaited_ack g ≡ cond (ack_on s && needs_reply g) Ack Nobody
   ack-agrees g s agree on =
       both (has_bit g.acked_protocol_features REPLY_ACK) (has_bit g.offered PROTOCOL_FEATURES) (has_bit g.header_flags 3) (is_standard g.profile) on
       ∙ ap (λ x. cond (has_bit x PROTOCOL_FEATURES && has_bit g.acked_protocol_features REPLY_ACK && needs_reply g) Ack Nobody) agree.offered
@@ -148,7 +148,7 @@ module _ (H B G : Type 0) where
   -- ---- replies
 
   known-features : (f : Frontend) (s : Session) (a : Result ℕ Error) → AgreeOn f s → IsKnown {H = H} GetFeatures (Reply shape.U64) f GET_FEATURES (with_features s a)
-  known-features f s (Ok n) agree = record { to_caller = _; known = refl; agree = λ last. record { offered = refl; acked_protocol_features = agree.acked_protocol_features; postcopy = agree.postcopy; acked = agree.acked } }
+  known-features f s (Ok n) agree = record { to_caller = _; known = refl; agree = λ last. record { offered = refl; acked_protocol_features = agree.acked_protocol_features; postcopy = agree.postcopy; acked = agree.acked; profile = agree.profile } }
   known-features f s (Err e) agree = known-silent GetFeatures (Reply shape.U64) f GET_FEATURES e s
 
   -- a reply whose answer changes no session
@@ -161,7 +161,7 @@ module _ (H B G : Type 0) where
   known-queues f s n agree = record { to_caller = _; known = refl; agree = λ last. go (nat_le n 0x8000) }
     where
       go : (b : Bool) → AgreeOn (cond b (answered {H = H} (record f { max_queue_num = n }) (Ok (Number n))) (answered f (Err InvalidMessage))).session s
-      go true = record { offered = agree.offered; acked_protocol_features = agree.acked_protocol_features; postcopy = agree.postcopy; acked = agree.acked }
+      go true = record { offered = agree.offered; acked_protocol_features = agree.acked_protocol_features; postcopy = agree.postcopy; acked = agree.acked; profile = agree.profile }
       go false = agree
 
   known-config : (call : FrontendCall H) (f : Frontend) (s : Session) (r : FrontendReq) (c : VhostUserConfig) (a : Result (List ℕ) Error)
@@ -195,14 +195,7 @@ module _ (H B G : Type 0) where
   ruleset known = (silent, known-same, known-unwritten, known-refused, known-channel, known-features, known-object, known-inflight, known-state, known-check)
 
   simple-log_fd : (f : Frontend) (s : Session) (h : H) → AgreeOn f s → IsNegotiated f → Stays s (SetLogFd h) (ask f (SetLogFd h))
-  simple-log_fd f s h agree on = go (is_standard s.profile)
-    where
-      m : Message FrontendReq H
-      m = read_as (message f SET_LOG_FD Empty (h ∷ []))
-
-      go : (b : Bool) → Row (SetLogFd h) (awaited_ack f) f SET_LOG_FD s (step.Refused (cond b (acknowledged s m (InvalidOperation (codes "request not served"))) (silently InvalidMessage)))
-      go true = known-same (SetLogFd h) f s SET_LOG_FD Empty (h ∷ []) (Err (InvalidOperation (codes "request not served"))) agree on refl
-      go false = known-silent (SetLogFd h) _ _ _ _ _
+  simple-log_fd f s h agree on = known-silent (SetLogFd h) _ _ _ _ _
 
   -- ---- replies that change no session
 
@@ -254,31 +247,58 @@ module _ (H B G : Type 0) where
   simple-advise f s agree on = search (silent, advised) depth 12
     where
       advised : (r : FrontendReq) (a : Result H Error) → IsKnown PostcopyAdvise (Reply shape.Empty) f r (with_handle (if_agreed s Advise a) a)
-      advised r (Ok h) = record { to_caller = _; known = refl; agree = λ last. record { offered = agree.offered; acked_protocol_features = agree.acked_protocol_features; postcopy = refl; acked = agree.acked } }
+      advised r (Ok h) = record { to_caller = _; known = refl; agree = λ last. record { offered = agree.offered; acked_protocol_features = agree.acked_protocol_features; postcopy = refl; acked = agree.acked; profile = agree.profile } }
       advised r (Err e) = record { to_caller = _; known = refl; agree = λ last. agree }
+
+  -- what the frontend waits for is what the handler writes, of a message that turns both
+  pub turn-agrees : (g : Frontend) (s : Session) (r : FrontendReq) → AgreeOn g s → IsNegotiated g → awaited_turn g ≡ cond (ack_on s && (turning {H = H} g r).need_reply) Ack Nobody
+  turn-agrees g s r agree on =
+      both (has_bit g.acked_protocol_features REPLY_ACK) (has_bit g.offered PROTOCOL_FEATURES) (has_bit g.header_flags 3) (is_standard g.profile) on
+      ∙ ap (λ x. cond (has_bit x PROTOCOL_FEATURES && has_bit g.acked_protocol_features REPLY_ACK && (turning {H = H} g r).need_reply) Ack Nobody) agree.offered
+      ∙ ap (λ x. cond (has_bit s.offered PROTOCOL_FEATURES && has_bit x REPLY_ACK && (turning {H = H} g r).need_reply) Ack Nobody) agree.acked_protocol_features
+    where
+      both : (x o n p : Bool) → (x ≡ true → o ≡ true) → cond p (cond x Ack Nobody) (cond (x && n) Ack Nobody) ≡ cond (o && x && cond p x (n && cond p x true)) Ack Nobody
+      both true true true true h = refl
+      both true true true false h = refl
+      both true true false true h = refl
+      both true true false false h = refl
+      both true false n p h = absurd (cc (h refl))
+      both false true n true h = refl
+      both false true n false h = refl
+      both false false n true h = refl
+      both false false n false h = refl
 
   -- where the handler listens, so does the frontend; a refused start leaves both as they were
   simple-listen : (f : Frontend) (s : Session) → AgreeOn f s → IsNegotiated f → Stays s PostcopyListen (ask f PostcopyListen)
   simple-listen f s agree on = search (silent, listened) depth 12
     where
       w : Written FrontendReq H
-      w = message f POSTCOPY_LISTEN Empty []
+      w = turning f POSTCOPY_LISTEN
 
-      listened : (a : Result (Unit {0}) Error) → IsKnown PostcopyListen (awaited_ack f) f POSTCOPY_LISTEN (with_ack (if_agreed s Listen a) (read_as w) a)
-      listened (Ok u) = known-ack (Unit {0}) PostcopyListen f (record s { postcopy = Listen }) w (Ok u) (ack-agrees f s agree on) refl
-          (λ h. record { offered = agree.offered; acked_protocol_features = agree.acked_protocol_features; postcopy = refl; acked = agree.acked }) (λ h last. absurd (cc h))
-      listened (Err e) = known-ack (Unit {0}) PostcopyListen f s w (Err e) (ack-agrees f s agree on) refl (λ h. absurd (cc h)) (λ h last. agree)
+      turned : (t : Session) (a : Result (Unit {0}) Error) → (is_ok a ≡ true → AgreeOn (record f { postcopy = Listen }) (record s { postcopy = t.postcopy })) → (is_ok a ≡ false → AgreeOn f (record s { postcopy = t.postcopy }))
+          → IsKnown PostcopyListen (awaited_turn f) f POSTCOPY_LISTEN (with_ack (record s { postcopy = t.postcopy }) (read_as w) a)
+      turned t a agreed refused = subst (λ x. IsKnown PostcopyListen x f POSTCOPY_LISTEN (with_ack (record s { postcopy = t.postcopy }) (read_as w) a)) (sym (turn-agrees f s POSTCOPY_LISTEN agree on))
+          (known-acked (Unit {0}) PostcopyListen f POSTCOPY_LISTEN (record s { postcopy = t.postcopy }) (ack_on s && w.need_reply) a agreed (λ h last. refused h))
 
-  -- a refused end is the last step
-  simple-end : (f : Frontend) (s : Session) → AgreeOn f s → IsNegotiated f → Stays s PostcopyEnd (ask f PostcopyEnd)
-  simple-end f s agree on = search (silent, ended) depth 12
+      listened : (a : Result (Unit {0}) Error) → IsKnown PostcopyListen (awaited_turn f) f POSTCOPY_LISTEN (with_ack (if_agreed s Listen a) (read_as w) a)
+      listened (Ok u) = turned (record s { postcopy = Listen }) (Ok u)
+          (λ h. record { offered = agree.offered; acked_protocol_features = agree.acked_protocol_features; postcopy = refl; acked = agree.acked; profile = agree.profile }) (λ h. absurd (cc h))
+      listened (Err e) = turned s (Err e) (λ h. absurd (cc h)) (λ h. agree)
+
+  -- a refused end is the last step; under Standard its reply is settled
+  simple-end : (f : Frontend) (s : Session) → is_standard f.profile ≡ false → AgreeOn f s → IsNegotiated f → Stays s PostcopyEnd (ask f PostcopyEnd)
+  simple-end f s vhost agree on = subst (λ p. Stays s PostcopyEnd (sent p)) (sym vhost) (search (silent, ended) depth 12)
     where
+      -- by whether the profile is Standard
+      sent : Bool → Asked H
+      sent p = frontend_feature f PAGEFAULT >> Sends (record (message f POSTCOPY_END Empty []) { need_reply = cond p (has_bit f.acked_protocol_features REPLY_ACK) (needs_reply f) }) (cond p (Reply shape.U64) (awaited_ack f)) f
+
       w : Written FrontendReq H
       w = message f POSTCOPY_END Empty []
 
       ended : (a : Result (Unit {0}) Error) → IsKnown PostcopyEnd (awaited_ack f) f POSTCOPY_END (with_ack (record s { postcopy = End }) (read_as w) a)
       ended a = known-ack (Unit {0}) PostcopyEnd f (record s { postcopy = End }) w a (ack-agrees f s agree on) refl
-          (λ h. record { offered = agree.offered; acked_protocol_features = agree.acked_protocol_features; postcopy = refl; acked = agree.acked }) (λ h last. absurd (cc last))
+          (λ h. record { offered = agree.offered; acked_protocol_features = agree.acked_protocol_features; postcopy = refl; acked = agree.acked; profile = agree.profile }) (λ h last. absurd (cc last))
 
   -- ---- features
 
@@ -292,7 +312,7 @@ module _ (H B G : Type 0) where
       w = message g SET_FEATURES (U64 n) []
 
       both : AgreeOn g (record s { acked = n })
-      both = record { offered = agree.offered; acked_protocol_features = agree.acked_protocol_features; postcopy = agree.postcopy; acked = acked-stays n f.offered }
+      both = record { offered = agree.offered; acked_protocol_features = agree.acked_protocol_features; postcopy = agree.postcopy; acked = acked-stays n f.offered; profile = agree.profile }
 
       stored : (a : Result (Unit {0}) Error) → IsKnown {H = H} (SetFeatures n) (awaited_ack g) g SET_FEATURES (with_ack (record s { acked = u64_at 0 (digits 8 n) }) (read_as w) a)
       stored a = subst (λ k. IsKnown {H = H} (SetFeatures n) (awaited_ack g) g SET_FEATURES (with_ack (record s { acked = k }) (read_as w) a)) (sym (little_number-reads_back 8 n [] fits))
@@ -308,7 +328,7 @@ module _ (H B G : Type 0) where
       w = message g SET_PROTOCOL_FEATURES (U64 n) []
 
       both : AgreeOn g (record s { acked_protocol_features = n })
-      both = record { offered = agree.offered; acked_protocol_features = refl; postcopy = agree.postcopy; acked = agree.acked }
+      both = record { offered = agree.offered; acked_protocol_features = refl; postcopy = agree.postcopy; acked = agree.acked; profile = agree.profile }
 
       stored : has_bit f.offered PROTOCOL_FEATURES ≡ true → (a : Result (Unit {0}) Error) → IsKnown {H = H} (SetProtocolFeatures n) (awaited_ack g) g SET_PROTOCOL_FEATURES (with_ack (record s { acked_protocol_features = u64_at 0 (digits 8 n) }) (read_as w) a)
       stored offers a = subst (λ k. IsKnown {H = H} (SetProtocolFeatures n) (awaited_ack g) g SET_PROTOCOL_FEATURES (with_ack (record s { acked_protocol_features = k }) (read_as w) a)) (sym (little_number-reads_back 8 n [] fits))
@@ -436,28 +456,28 @@ module _ (H B G : Type 0) where
   -- ---- all calls
 
   pub keeps-step : KeepsStep H B G
-  keeps-step f s (SetFeatures n) agree on fits = simple-set_features f s n fits agree on
-  keeps-step f s GetProtocolFeatures agree on fits = simple-protocol_features f s agree on
-  keeps-step f s (SetProtocolFeatures n) agree on fits = simple-set_protocol_features f s n fits agree
-  keeps-step f s GetQueueNum agree on fits = simple-queues f s agree on
-  keeps-step f s (SetMemTable infos) agree on fits = simple-mem_table f s infos agree on
-  keeps-step f s (SetLogBase base None) agree on fits = simple-no_log f s base agree on
-  keeps-step f s (SetLogBase base (Some r)) agree on fits = simple-log f s base r agree on
-  keeps-step f s (SetLogFd h) agree on fits = simple-log_fd f s h agree on
-  keeps-step f s (GetVringBase i) agree on fits = simple-get_base f s i agree on
-  keeps-step f s (GetConfig o n flags buffer) agree on fits = simple-get_config f s o n flags buffer agree on
-  keeps-step f s GetMaxMemSlots agree on fits = simple-slots f s agree on
-  keeps-step f s (AddMemRegion info) agree on fits = simple-add_region f s info agree on
-  keeps-step f s GetShmemConfig agree on fits = simple-shmem f s agree on
-  keeps-step f s PostcopyAdvise agree on fits = simple-advise f s agree on
-  keeps-step f s PostcopyListen agree on fits = simple-listen f s agree on
-  keeps-step f s PostcopyEnd agree on fits = simple-end f s agree on
-  keeps-step f s (PostcopyAckMemRegions r) agree on fits = simple-mapped f s r agree
-  keeps-step f s (SetVringCall i None) agree on fits = search known depth 12
-  keeps-step f s (SetVringCall i (Some h)) agree on fits = search known depth 12
-  keeps-step f s (SetVringKick i None) agree on fits = search known depth 12
-  keeps-step f s (SetVringKick i (Some h)) agree on fits = search known depth 12
-  keeps-step f s (SetVringErr i None) agree on fits = search known depth 12
-  keeps-step f s (SetVringErr i (Some h)) agree on fits = search known depth 12
-  keeps-step f s (SetHdrFlags flags) agree on fits = record { offered = agree.offered; acked_protocol_features = agree.acked_protocol_features; postcopy = agree.postcopy; acked = agree.acked }
-  keeps-step f s _ agree on fits = search known depth 12
+  keeps-step f s (SetFeatures n) other agree on fits = simple-set_features f s n fits agree on
+  keeps-step f s GetProtocolFeatures other agree on fits = simple-protocol_features f s agree on
+  keeps-step f s (SetProtocolFeatures n) other agree on fits = simple-set_protocol_features f s n fits agree
+  keeps-step f s GetQueueNum other agree on fits = simple-queues f s agree on
+  keeps-step f s (SetMemTable infos) other agree on fits = simple-mem_table f s infos agree on
+  keeps-step f s (SetLogBase base None) other agree on fits = simple-no_log f s base agree on
+  keeps-step f s (SetLogBase base (Some r)) other agree on fits = simple-log f s base r agree on
+  keeps-step f s (SetLogFd h) other agree on fits = simple-log_fd f s h agree on
+  keeps-step f s (GetVringBase i) other agree on fits = simple-get_base f s i agree on
+  keeps-step f s (GetConfig o n flags buffer) other agree on fits = simple-get_config f s o n flags buffer agree on
+  keeps-step f s GetMaxMemSlots other agree on fits = simple-slots f s agree on
+  keeps-step f s (AddMemRegion info) other agree on fits = simple-add_region f s info agree on
+  keeps-step f s GetShmemConfig other agree on fits = simple-shmem f s agree on
+  keeps-step f s PostcopyAdvise other agree on fits = simple-advise f s agree on
+  keeps-step f s PostcopyListen other agree on fits = simple-listen f s agree on
+  keeps-step f s PostcopyEnd other agree on fits = simple-end f s other agree on
+  keeps-step f s (PostcopyAckMemRegions r) other agree on fits = simple-mapped f s r agree
+  keeps-step f s (SetVringCall i None) other agree on fits = search known depth 12
+  keeps-step f s (SetVringCall i (Some h)) other agree on fits = search known depth 12
+  keeps-step f s (SetVringKick i None) other agree on fits = search known depth 12
+  keeps-step f s (SetVringKick i (Some h)) other agree on fits = search known depth 12
+  keeps-step f s (SetVringErr i None) other agree on fits = search known depth 12
+  keeps-step f s (SetVringErr i (Some h)) other agree on fits = search known depth 12
+  keeps-step f s (SetHdrFlags flags) other agree on fits = record { offered = agree.offered; acked_protocol_features = agree.acked_protocol_features; postcopy = agree.postcopy; acked = agree.acked; profile = agree.profile }
+  keeps-step f s _ other agree on fits = search known depth 12

@@ -31,7 +31,7 @@ use Rattle.vhost_protocol.specs.FrontendCall.{FrontendCall, GetFeatures, GetProt
 use Rattle.vhost_protocol.specs.Heard.{IsAwaitedBy, AsksPlainly, AwaitsItsShape, HearsTheAnswer, shape_of, CallFits, IsGoodReply, AllGood, AskedWell, RepliesWell}
 use Rattle.vhost_protocol.specs.Laws.{PayloadFits, IsReplyOf}
 use Rattle.vhost_message.specs.Bits.{has_bit}
-use Rattle.vhost_message.specs.declared.frontend_req.FrontendReq.TheVariants.{SET_LOG_BASE, SET_LOG_FD, SET_MEM_TABLE, ADD_MEM_REG, GET_CONFIG}
+use Rattle.vhost_message.specs.declared.frontend_req.FrontendReq.TheVariants.{SET_LOG_BASE, SET_MEM_TABLE, ADD_MEM_REG, GET_CONFIG}
 use Rattle.vhost_message.specs.declared.records.memory.VhostUserMemoryRegion.{VhostUserMemoryRegion}
 use Rattle.vhost_message.specs.declared.records.memory.VhostUserSingleMemoryRegion.{VhostUserSingleMemoryRegion}
 use Rattle.vhost_message.specs.Records.{log_of, log_text, single_region, single_region_of, single_region_text, memory_of, regions_of, region_text, config_of}
@@ -40,14 +40,13 @@ use Rattle.vhost_protocol.specs.Joined.{read_as}
 use Rattle.vhost_protocol.specs.Answered.{rebased, with_base, with_bases, with_config, with_features, with_handle, with_inflight, with_state, with_check}
 use Rattle.vhost_protocol.specs.Row.{row, is_bare, is_valid_area, mapped_row, table, is_valid_table, channel}
 use Rattle.vhost_protocol.specs.Served.{Silent, Acknowledged, Replied}
-use Rattle.vhost_protocol.specs.Profile.{is_standard}
 use Rattle.vhost_protocol.specs.Session.{Session, ack_on, is_listen}
 use Rattle.vhost_protocol.specs.Split.{Message}
 use Rattle.vhost_protocol.specs.Stream.{Cell}
 use Rattle.vhost_protocol.specs.Take.{take}
 use Rattle.vhost_protocol.specs.Step as step
 use Rattle.vhost_protocol.specs.Step.{Step, Refusal, Calls, with_ack, acknowledged}
-use Rattle.vhost_protocol.specs.Written.{header_flags, head_of, Payload, Empty, LogArea, ConfigBytes, Regions, payload_text, U64, RingState, Shmem}
+use Rattle.vhost_protocol.specs.Written.{header_flags, head_of, Payload, LogArea, ConfigBytes, Regions, payload_text, U64, RingState, Shmem}
 use Rattle.vhost_protocol.proofs.TakeLaws.{take-acknowledged}
 use Rattle.vhost_protocol.proofs.TakeShapes.{take-reply, take-nothing}
 use Rattle.vhost_protocol.proofs.RegionLaws.{head-read, regions-read}
@@ -173,7 +172,7 @@ module _ (H B G : Type 0) where
   well-plain f s (GetConfig o n k buffer) plain = absurd plain
   well-plain f s (AddMemRegion info) plain = absurd plain
   well-plain f s (PostcopyAckMemRegions r) plain = absurd plain
-  well-plain f s (SetLogFd h) plain = good-unserved (SetLogFd h) s (read_as (message f SET_LOG_FD Empty (h ∷ []))) (is_standard s.profile)
+  well-plain f s (SetLogFd h) plain = tt
   well-plain f s (SetVringCall i None) plain = search good depth 12
   well-plain f s (SetVringCall i (Some h)) plain = search good depth 12
   well-plain f s (SetVringKick i None) plain = search good depth 12
@@ -330,7 +329,7 @@ module _ (H B G : Type 0) where
 
   -- ---- configuration bytes
 
-  config-fits : (c : VhostUserConfig) → is_valid_config c ≡ true → ConfigFits c
+  pub config-fits : (c : VhostUserConfig) → is_valid_config c ≡ true → ConfigFits c
   config-fits c valid =
       let parts = both (nat_le c.flags 3 && not (c.size == 0)) (nat_le (c.offset + c.size) VHOST_USER_CONFIG_SIZE) valid in
       let flags = leb-true c.flags 3 (both (nat_le c.flags 3) (not (c.size == 0)) parts.0).0 in
@@ -422,7 +421,17 @@ module _ (H : Type 0) where
   plain-base call true b = plain-ack call b
   plain-base call false b = tt
 
-  ruleset plainly = (plain-then, plain-given, plain-cond, plain-ack, plain-base)
+  -- an acknowledgement by either profile
+  plain-turn : (call : FrontendCall H) (standard a b : Bool) → IsAwaitedBy call (cond standard (cond a Ack Nobody) (cond b Ack Nobody))
+  plain-turn call true a b = plain-ack call a
+  plain-turn call false a b = plain-ack call b
+
+  -- a reply, or by the other profile an acknowledgement
+  plain-end : (call : FrontendCall H) (standard b : Bool) → shape_of call ≡ shape.U64 → IsAwaitedBy call (cond standard (Reply shape.U64) (cond b Ack Nobody))
+  plain-end call true b same = sym same
+  plain-end call false b same = plain-ack call b
+
+  ruleset plainly = (plain-then, plain-given, plain-cond, plain-ack, plain-base, plain-turn, plain-end)
 
   pub awaits-shape : AwaitsItsShape H
   awaits-shape f (SetLogBase base None) = search plainly depth 12

@@ -16,6 +16,7 @@ use Rattle.vhost_protocol.specs.Row.{row}
 use Rattle.vhost_protocol.specs.Served.{reply}
 use Rattle.vhost_protocol.specs.declared.profile.Profile.TheVariants.{Vhost}
 use Rattle.vhost_protocol.specs.Session.{Session, fresh}
+use Rattle.vhost_protocol.specs.Settled.{settled}
 use Rattle.vhost_protocol.specs.Socket.{opened, NoSocket, UnixStream}
 use Rattle.vhost_protocol.specs.Step.{Step, Outcome, Refused, Calls, OpensBackend, OpensGpu}
 use Rattle.vhost_protocol.specs.Written.{Written, written_text}
@@ -55,7 +56,7 @@ line gives f s call = go (ask f call)
     go (Refuses e) = record { request = ([], []); reply = ([], []); result = Some (Err e); frontend = f; session = s; last = false }
     go (Answers v g) = record { request = ([], []); reply = ([], []); result = Some (Ok v); frontend = g; session = s; last = false }
     go (Sends w awaited g) =
-        let o = outcome_of gives s (row s (read_as w)) in shown w o (answer call awaited g o.served)
+        let o = settled s (read_as w) (outcome_of gives s (row s (read_as w))) in shown w o (answer call awaited g o.served)
 
 -- the example device, where it has not been owned
 example : (c : Call ℕ ℕ ℕ) → Answer c

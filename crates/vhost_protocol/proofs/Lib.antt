@@ -25,5 +25,9 @@ pub mod ReverseLaws
 pub mod NegotiationLaws
 pub mod HeardLaws
 pub mod SendLaws
+pub mod FormLaws
 pub mod FollowLaws
+mod SettledRows
+pub mod SettleLaws
+pub mod LockLaws
 mod TruncatedRows

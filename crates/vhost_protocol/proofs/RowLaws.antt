@@ -8,7 +8,7 @@ use Rattle.vhost_message.specs.declared.records.config.VhostUserConfig.{VhostUse
 use Rattle.vhost_message.specs.declared.records.inflight.VhostUserInflight.{VhostUserInflight}
 use Rattle.vhost_message.specs.declared.records.memory.VhostUserMemoryRegion.{VhostUserMemoryRegion}
 use Rattle.vhost_message.specs.declared.records.memory.VhostUserSingleMemoryRegion.{VhostUserSingleMemoryRegion}
-use Rattle.vhost_protocol.specs.Agreement.{KeepsMark, RowsKeepMark}
+use Rattle.vhost_protocol.specs.Agreement.{lasting, KeepsMark, RowsKeepMark}
 use Rattle.vhost_protocol.specs.Error.{Error, BackendInternalError}
 use Rattle.vhost_protocol.specs.Split.{Message}
 use Rattle.vhost_protocol.specs.Session.{Session}
@@ -30,54 +30,54 @@ module _ (H B G : Type 0) where
   keeps-if s false x y h k = k
 
   -- the outcomes that go by cases on the answer
-  keeps-replied_or_silent : (A : Type 0) (s : Session) (payload : A → Payload) (a : Result A Error) → (replied_or_silent {H = H} s payload a).session.failed ≡ s.failed
+  keeps-replied_or_silent : (A : Type 0) (s : Session) (payload : A → Payload) (a : Result A Error) → lasting (replied_or_silent {H = H} s payload a).session ≡ lasting s
   keeps-replied_or_silent A s payload (Ok a) = refl
   keeps-replied_or_silent A s payload (Err e) = refl
 
-  keeps-with_handle : (s t : Session) (a : Result H Error) → t.failed ≡ s.failed → (with_handle t a).session.failed ≡ s.failed
+  keeps-with_handle : (s t : Session) (a : Result H Error) → lasting t ≡ lasting s → lasting (with_handle t a).session ≡ lasting s
   keeps-with_handle s t (Ok a) h = h
   keeps-with_handle s t (Err e) h = h
 
-  keeps-with_inflight : (s : Session) (a : Result (VhostUserInflight × H) Error) → (with_inflight s a).session.failed ≡ s.failed
+  keeps-with_inflight : (s : Session) (a : Result (VhostUserInflight × H) Error) → lasting (with_inflight s a).session ≡ lasting s
   keeps-with_inflight s (Ok a) = refl
   keeps-with_inflight s (Err e) = refl
 
-  keeps-with_state : (s : Session) (a : Result (Option H) Error) → (with_state s a).session.failed ≡ s.failed
+  keeps-with_state : (s : Session) (a : Result (Option H) Error) → lasting (with_state s a).session ≡ lasting s
   keeps-with_state s (Ok (Some h)) = refl
   keeps-with_state s (Ok None) = refl
   keeps-with_state s (Err e) = refl
 
-  keeps-with_check : (s : Session) (a : Result (Unit {0}) Error) → (with_check {H = H} s a).session.failed ≡ s.failed
+  keeps-with_check : (s : Session) (a : Result (Unit {0}) Error) → lasting (with_check {H = H} s a).session ≡ lasting s
   keeps-with_check s (Ok u) = refl
   keeps-with_check s (Err e) = refl
 
-  keeps-with_features : (s : Session) (a : Result ℕ Error) → (with_features {H = H} s a).session.failed ≡ s.failed
+  keeps-with_features : (s : Session) (a : Result ℕ Error) → lasting (with_features {H = H} s a).session ≡ lasting s
   keeps-with_features s (Ok a) = refl
   keeps-with_features s (Err e) = refl
 
-  keeps-with_config : (s : Session) (c : VhostUserConfig) (a : Result (List ℕ) Error) → (with_config {H = H} s c a).session.failed ≡ s.failed
+  keeps-with_config : (s : Session) (c : VhostUserConfig) (a : Result (List ℕ) Error) → lasting (with_config {H = H} s c a).session ≡ lasting s
   keeps-with_config s c (Ok bytes) = go (length bytes == c.size)
     where
-      go : (b : Bool) → (cond b (replied {H = H} s (ConfigBytes c bytes) []) (replied s (ConfigBytes (record c { size = 0 }) []) [])).session.failed ≡ s.failed
+      go : (b : Bool) → lasting (cond b (replied {H = H} s (ConfigBytes c bytes) []) (replied s (ConfigBytes (record c { size = 0 }) []) [])).session ≡ lasting s
       go true = refl
       go false = refl
   keeps-with_config s c (Err e) = refl
 
-  keeps-with_base : (s : Session) (m : Message FrontendReq H) (r : VhostUserSingleMemoryRegion) (a : Result (Option ℕ) Error) → (with_base s m r a).session.failed ≡ s.failed
+  keeps-with_base : (s : Session) (m : Message FrontendReq H) (r : VhostUserSingleMemoryRegion) (a : Result (Option ℕ) Error) → lasting (with_base s m r a).session ≡ lasting s
   keeps-with_base s m r (Ok (Some base)) = refl
   keeps-with_base s m r (Ok None) = refl
   keeps-with_base s m r (Err e) = refl
 
-  keeps-with_bases : (s : Session) (m : Message FrontendReq H) (regions : List VhostUserMemoryRegion) (a : Result (Option (List ℕ)) Error) → (with_bases s m regions a).session.failed ≡ s.failed
+  keeps-with_bases : (s : Session) (m : Message FrontendReq H) (regions : List VhostUserMemoryRegion) (a : Result (Option (List ℕ)) Error) → lasting (with_bases s m regions a).session ≡ lasting s
   keeps-with_bases s m regions (Ok (Some bases)) = go (length bases == length regions)
     where
-      go : (b : Bool) → (cond b (replied s (Regions (rebased regions bases)) []) (failed_with s m BackendInternalError)).session.failed ≡ s.failed
+      go : (b : Bool) → lasting (cond b (replied s (Regions (rebased regions bases)) []) (failed_with s m BackendInternalError)).session ≡ lasting s
       go true = refl
       go false = refl
   keeps-with_bases s m regions (Ok None) = refl
   keeps-with_bases s m regions (Err e) = refl
 
-  keeps-if_agreed : (A : Type 0) (s : Session) (p : PostcopyState) (a : Result A Error) → (if_agreed s p a).failed ≡ s.failed
+  keeps-if_agreed : (A : Type 0) (s : Session) (p : PostcopyState) (a : Result A Error) → lasting (if_agreed s p a) ≡ lasting s
   keeps-if_agreed A s p (Ok a) = refl
   keeps-if_agreed A s p (Err e) = refl
 

@@ -71,7 +71,7 @@ owned = (
   [],
   fresh,
   1,
-  (_, (owner, false, refl, λ rest. refl), (_, (Ok tt, refl, refl), refl, refl, refl)),
+  (_, (owner, false, refl, λ rest. refl), (_, (_, (Ok tt, refl, refl), refl), refl, refl, refl)),
   refl,
   refl,
   (refl, refl, refl, refl),

@@ -10,7 +10,7 @@ use Rattle.vhost_protocol.specs.declared.asked.Awaited.TheVariants.{Nobody, Ack,
 use Rattle.vhost_protocol.specs.declared.asked.Shape.TheVariants as shape
 use Rattle.vhost_protocol.specs.declared.profile.Profile.TheVariants.{Vhost, Standard}
 use Rattle.vhost_protocol.specs.Error.{PartialMessage, InvalidMessage, BackendInternalError}
-use Rattle.vhost_protocol.specs.FrontendCall.{FrontendCall, GetFeatures, GetConfig, SetOwner, SetProtocolFeatures, SetLogBase, LogRegion, Nothing, Number, ConfigOf, Frontend, new_frontend}
+use Rattle.vhost_protocol.specs.FrontendCall.{GetFeatures, GetConfig, SetOwner, SetProtocolFeatures, SetLogBase, LogRegion, Nothing, Number, ConfigOf, Frontend, new_frontend}
 use Rattle.vhost_protocol.specs.ReplySplit.{reply_split, received, bare_or_reply, whole_split}
 use Rattle.vhost_protocol.specs.Stream.{Cell, plain, carrying}
 use Rattle.vhost_protocol.specs.Take.{take}

@@ -14,6 +14,7 @@ use Rattle.vhost_protocol.specs.Served.{Served, reply}
 use Rattle.vhost_protocol.specs.declared.profile.Profile.TheVariants.{Standard}
 use Rattle.vhost_protocol.specs.Session.{Session, fresh}
 use Rattle.vhost_protocol.specs.Socket.{opened, NoSocket, UnixStream}
+use Rattle.vhost_protocol.specs.Settled.{settled}
 use Rattle.vhost_protocol.specs.Split.{Message}
 use Rattle.vhost_protocol.specs.Step.{Step, Refused, Calls, OpensBackend, OpensGpu}
 use Rattle.vhost_protocol.specs.Written.{written_text}
@@ -30,9 +31,11 @@ shown : Message FrontendReq ℕ → Served ℕ → List ℕ × List ℕ
 shown m served = elim (reply m.request served) [ None ↦ ([], []) | Some w ↦ (written_text request_number w, w.handles) ]
 
 done_by : ((c : Call ℕ ℕ ℕ) → Answer c) → (ℕ → Result ℕ Error) → Session → Message FrontendReq ℕ → Step ℕ ℕ ℕ → Done
-done_by device opens s m (Refused r) = record { call = None; answer = Err r.error; text = (shown m (r.served)).0; handles = (shown m (r.served)).1; session = s }
+done_by device opens s m (Refused r) =
+    let o = settled s m (record { answer = Err r.error; served = r.served; session = s }) in
+    record { call = None; answer = o.answer; text = (shown m (o.served)).0; handles = (shown m (o.served)).1; session = o.session }
 done_by device opens s m (Calls c next) =
-    let o = next (device c) in
+    let o = settled s m (next (device c)) in
     record { call = Some c; answer = o.answer; text = (shown m (o.served)).0; handles = (shown m (o.served)).1; session = o.session }
 done_by device opens s m (OpensBackend h next) = done_by device opens s m (next (opens h))
 done_by device opens s m (OpensGpu h next) = done_by device opens s m (next (opens h))

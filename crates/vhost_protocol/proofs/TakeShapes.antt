@@ -19,12 +19,12 @@ use Rattle.vhost_message.specs.Valid.{is_valid_config, is_valid_inflight, is_val
 use Rattle.vhost_message.specs.Bits.{has_bit}
 use Rattle.vhost_message.specs.FrontendReq.{request_number}
 use Rattle.vhost_message.specs.Header.{Header, header_of, header_text}
-use Rattle.vhost_protocol.specs.AnswerTable.{answered, answer, with_one, only_if}
+use Rattle.vhost_protocol.specs.AnswerTable.{answered, answer, inflight_reply, only_if}
 use Rattle.vhost_protocol.specs.declared.asked.Awaited.TheVariants.{Nobody, Ack, Reply}
 use Rattle.vhost_protocol.specs.declared.asked.Shape.{Shape}
 use Rattle.vhost_protocol.specs.declared.asked.Shape.TheVariants as shape
 use Rattle.vhost_protocol.specs.Error.{Error, PartialMessage, InvalidMessage, InvalidParam, BackendInternalError}
-use Rattle.vhost_protocol.specs.FrontendCall.{FrontendCall, SetMemTable, GetConfig, GetInflightFd, ConfigOf, Info, InflightOf, Frontend}
+use Rattle.vhost_protocol.specs.FrontendCall.{FrontendCall, SetMemTable, GetConfig, GetInflightFd, ConfigOf, Info, Frontend}
 use Rattle.vhost_protocol.specs.Laws.{IsShort, IsSentFor, IsTableOf, IsConfigOf, IsInflightOf, TakesReply, TakesNothing}
 use Rattle.vhost_protocol.specs.declared.profile.Profile.{Profile}
 use Rattle.vhost_protocol.specs.declared.profile.Profile.TheVariants.{Vhost, Standard}
@@ -32,7 +32,7 @@ use Rattle.vhost_protocol.specs.ReplySplit.{Received, reply_split, bare_or_reply
 use Rattle.vhost_message.specs.Text.{number_at}
 use Rattle.vhost_protocol.specs.Served.{Silent, Replied, reply, cells_of}
 use Rattle.vhost_protocol.specs.Stream.{Cell, has_some}
-use Rattle.vhost_protocol.specs.Take.{record_size, room, is_valid_record, is_known, answers, reply_cut, config_cut, understood, understood_config, take_reply, take}
+use Rattle.vhost_protocol.specs.Take.{room, is_valid_record, is_known, answers, reply_cut, config_cut, understood, understood_config, take_reply, take}
 use Rattle.vhost_protocol.specs.Written.{Payload, Empty, U64, ConfigBytes, head_of, Regions, OneRegion, Shmem, RingState, InflightArea, LogArea, Written, table_head, payload_text, written_cells, reply_to}
 use Rattle.vhost_protocol.proofs.RegionLaws.{regions-read, regions-length, head-read, head-valid}
 use Rattle.vhost_protocol.proofs.ReplyLaws.{reply-invalid}
@@ -148,7 +148,7 @@ module _ (H : Type 0) where
       let cells : List (Cell H) = written_cells request_number w ++ rest in
       ap (λ b. cond b (Some (answered f (Err InvalidParam)), cells) (take_reply (GetInflightFd asked) shape.Inflight sent f cells)) flag
       ∙ ap (λ cut. (understood (GetInflightFd asked) (Reply shape.Inflight) sent f cut.0, cut.1)) (invalid-cut f.profile r i handles rest invalid fits)
-      ∙ ap (λ b. (Some (answered f (cond b (with_one handles (InflightOf i)) (Err InvalidMessage))), rest)) (sym invalid)
+      ∙ ap (λ b. (Some (answered f (cond b (inflight_reply f i handles) (Err InvalidMessage))), rest)) (sym invalid)
 
   take-inflight : (asked : VhostUserInflight) (sent : Header) (f : Frontend) (r : FrontendReq) (i : VhostUserInflight) (handles : List H) (rest : List (Cell H)) → IsSentFor r sent → InflightFits i
       → take (GetInflightFd asked) (Reply shape.Inflight) sent f (cells_of request_number (reply r (Replied (InflightArea i) handles)) ++ rest) ≡ (answer (GetInflightFd asked) (Reply shape.Inflight) f (Replied (InflightArea i) handles), rest)

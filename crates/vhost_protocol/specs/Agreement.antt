@@ -1,5 +1,5 @@
 -- What stays true of both sides: laws of the protocol table and of the calls of a frontend.
-use Rattle.std.specs.Prelude.{◌≡◌, ◌^◌, ◌<◌, Bool, true, false, Some, Result, Err, is_err, ⊤, IfSome}
+use Rattle.std.specs.Prelude.{◌≡◌, ◌^◌, ◌<◌, ℤ, Bool, true, false, Option, Some, Result, Err, is_err, ⊤, IfSome}
 use Rattle.vhost_message.specs.Bits.{has_bit}
 use Rattle.vhost_message.specs.declared.frontend_req.FrontendReq.{FrontendReq}
 use Rattle.vhost_protocol.specs.AnswerTable.{Answered, answer}
@@ -8,8 +8,10 @@ use Rattle.vhost_protocol.specs.declared.asked.Awaited.{Awaited}
 use Rattle.vhost_protocol.specs.DeviceCall.{Answer}
 use Rattle.vhost_protocol.specs.Error.{Error}
 use Rattle.vhost_protocol.specs.Features.{PROTOCOL_FEATURES, REPLY_ACK}
-use Rattle.vhost_protocol.specs.FrontendCall.{FrontendCall, GetFeatures, SetFeatures, SetProtocolFeatures, Frontend}
+use Rattle.vhost_protocol.specs.FrontendCall.{FrontendCall, GetFeatures, SetFeatures, SetProtocolFeatures, PostcopyEnd, Frontend}
 use Rattle.vhost_protocol.specs.Joined.{AgreeOn, is_last, is_silent, read_as}
+use Rattle.vhost_protocol.specs.declared.profile.Profile.{Profile}
+use Rattle.vhost_protocol.specs.Profile.{is_standard}
 use Rattle.vhost_protocol.specs.Row.{row, row_of}
 use Rattle.vhost_protocol.specs.Served.{Served, Replied}
 use Rattle.vhost_protocol.specs.Session.{Session}
@@ -19,14 +21,18 @@ use Rattle.vhost_protocol.specs.Written.{U64}
 
 -- ---- the table
 
--- whatever the device answers, the failure mark stays
+-- what no row changes: the failure mark, and whose behaviour the session has
+abbrev pub lasting : Session → Option ℤ × Profile
+lasting s = (s.failed, s.profile)
+
+-- whatever the device answers, they stay
 abbrev pub KeepsMark : {H B G : Type 0} → Session → Step H B G → Type 0
 KeepsMark s (Refused refusal) = ⊤
-KeepsMark s (Calls c next) = (a : Answer c) → (next a).session.failed ≡ s.failed
+KeepsMark s (Calls c next) = (a : Answer c) → lasting (next a).session ≡ lasting s
 KeepsMark {B = B} s (OpensBackend h next) = (opened : Result B Error) → KeepsMark s (next opened)
 KeepsMark {G = G} s (OpensGpu h next) = (opened : Result G Error) → KeepsMark s (next opened)
 
--- no row changes the failure mark
+-- no row changes the failure mark, or the profile
 abbrev pub RowsKeepMark : (H B G : Type 0) → Type 0
 RowsKeepMark H B G = (r : FrontendReq) (s : Session) (m : Message FrontendReq H) → KeepsMark {B = B} {G = G} s (row_of r s m)
 
@@ -65,9 +71,14 @@ StaysInStep B G s call (Refuses e) = ⊤
 StaysInStep B G s call (Answers v g) = AgreeOn g s
 StaysInStep B G s call (Sends w awaited g) = AllKnown {B = B} {G = G} call awaited g w.request s (row s (read_as w))
 
+-- the end of postcopy under Standard, whose reply the table leaves to what is settled
+abbrev pub is_settled_end : {H : Type 0} → Frontend → FrontendCall H → Bool
+is_settled_end f PostcopyEnd = is_standard f.profile
+is_settled_end f _ = false
+
 -- For each call of two sides that agree: the answer table knows what the handler lets the frontend know, and both agree after it, unless it was the last step.
 abbrev pub KeepsStep : (H B G : Type 0) → Type 0
-KeepsStep H B G = (f : Frontend) (s : Session) (call : FrontendCall H) → AgreeOn f s → IsNegotiated f → Fits call → StaysInStep B G s call (ask f call)
+KeepsStep H B G = (f : Frontend) (s : Session) (call : FrontendCall H) → is_settled_end f call ≡ false → AgreeOn f s → IsNegotiated f → Fits call → StaysInStep B G s call (ask f call)
 
 -- ---- negotiation
 

@@ -4,6 +4,7 @@ use Rattle.std.specs.Prelude.{ℕ, Bool, true, false, ◌&&◌, List, [], ◌∷
 use Rattle.vhost_message.specs.declared.limits.TheConstants.{VHOST_USER_MAX_VRINGS}
 use Rattle.vhost_message.specs.declared.postcopy.PostcopyState.TheVariants.{Advise, Listen, End}
 use Rattle.vhost_message.specs.declared.records.config.VhostUserConfig.{VhostUserConfig}
+use Rattle.vhost_message.specs.declared.records.inflight.VhostUserInflight.{VhostUserInflight}
 use Rattle.vhost_message.specs.declared.records.memory.VhostUserMemoryRegion.{VhostUserMemoryRegion}
 use Rattle.vhost_message.specs.Valid.{is_valid_inflight, is_valid_log}
 use Rattle.vhost_protocol.specs.Ask.{regions_in, config}
@@ -12,6 +13,7 @@ use Rattle.vhost_protocol.specs.declared.asked.Awaited.TheVariants.{Nobody, Ack,
 use Rattle.vhost_protocol.specs.Error.{Error, InvalidParam, InvalidMessage, PartialMessage, IncorrectFds, BackendInternalError}
 use Rattle.vhost_protocol.specs.FrontendCall.{FrontendCall, GetFeatures, GetProtocolFeatures, GetQueueNum, SetMemTable, SetLogBase, GetVringBase, GetConfig, GetSharedObject, GetInflightFd, GetMaxMemSlots, AddMemRegion, GetShmemConfig, SetDeviceStateFd, CheckDeviceState, PostcopyAdvise, PostcopyListen, PostcopyEnd, Value, Nothing, Number, Bases, Base, ConfigOf, HandleOf, InflightOf, StateHandle, ShmemOf, Frontend}
 use Rattle.vhost_protocol.specs.Profile.{is_standard}
+use Rattle.vhost_protocol.specs.Session.{is_listen}
 use Rattle.vhost_protocol.specs.Served.{Served, Silent, Acknowledged, Replied}
 use Rattle.vhost_protocol.specs.Written.{Payload, Empty, U64, Regions, OneRegion, Shmem, RingState, ConfigBytes, InflightArea, LogArea}
 
@@ -56,6 +58,11 @@ with_one [] value = Err InvalidMessage
 with_one (h ∷ []) value = Ok (value h)
 with_one (h ∷ g ∷ hs) value = Err IncorrectFds
 
+-- the same, where under Standard a reply without one says that there is no such thing
+abbrev pub one_or_none : {H A : Type 0} → Frontend → List H → (H → A) → Result A Error
+one_or_none f [] value = Err (if is_standard f.profile then BackendInternalError else InvalidMessage)
+one_or_none f (h ∷ hs) value = with_one (h ∷ hs) value
+
 -- a value where the test holds
 abbrev pub only_if : {A : Type 0} → Bool → Error → A → Result A Error
 only_if holds e a = if holds then Ok a else Err e
@@ -92,9 +99,21 @@ abbrev pub changed : {H : Type 0} → Frontend → Frontend → Result (Value H)
 changed f g (Ok v) = answered g (Ok v)
 changed f g (Err e) = answered f (Err e)
 
+-- A region with its handle. Under Standard one of size 0 without a handle says that there is none.
+abbrev pub inflight_reply : {H : Type 0} → Frontend → VhostUserInflight → List H → Result (Value H) Error
+inflight_reply f i [] = Err (if is_standard f.profile && i.mmap_size == 0 then BackendInternalError else InvalidMessage)
+inflight_reply f i (h ∷ hs) = with_one (h ∷ hs) (InflightOf i)
+
 -- the number of queues is taken over, unless it is beyond all queues ("Multiple queue support")
 abbrev pub queues_reply : {H : Type 0} → Frontend → ℕ → Result (Value H) Error → Answered H
 queues_reply f n result = if nat_le n VHOST_USER_MAX_VRINGS then changed f (record f { max_queue_num = n }) result else answered f (Err InvalidMessage)
+
+-- Whether the end of postcopy succeeded. Whoever listened has ended, whatever became of it.
+abbrev pub end_reply : {H : Type 0} → Frontend → ℕ → List H → Answered H
+end_reply f n [] =
+    if n == 0 then answered (record f { postcopy = End }) (Ok Nothing)
+    else answered (if is_listen f.postcopy then record f { postcopy = End } else f) (Err BackendInternalError)
+end_reply f n (h ∷ hs) = answered f (Err InvalidMessage)
 
 -- ---- the table
 
@@ -109,15 +128,16 @@ from_reply (SetMemTable infos) f (Regions rs) hs =
 from_reply (SetLogBase base region) f (LogArea l) hs = Some (answered f (alone hs (only_if (if is_standard f.profile then true else is_valid_log l) InvalidMessage Nothing)))
 from_reply (GetVringBase i) f (RingState v) hs = Some (answered f (alone hs (Ok (Number v.num))))
 from_reply (GetConfig offset size flags buffer) f (ConfigBytes c bytes) hs = Some (answered f (config_reply (config offset size flags) buffer hs c bytes))
-from_reply (GetSharedObject name) f Empty hs = Some (answered f (with_one hs HandleOf))
-from_reply (GetInflightFd asked) f (InflightArea i) hs = Some (answered f (if is_valid_inflight i then with_one hs (InflightOf i) else Err InvalidMessage))
+from_reply (GetSharedObject name) f Empty hs = Some (answered f (one_or_none f hs HandleOf))
+from_reply (GetInflightFd asked) f (InflightArea i) hs = Some (answered f (if is_valid_inflight i then inflight_reply f i hs else Err InvalidMessage))
 from_reply GetMaxMemSlots f (U64 n) hs = Some (answered f (alone hs (Ok (Number n))))
 from_reply (AddMemRegion info) f (OneRegion r) hs =
     Some (answered f (alone hs (only_if (is_same_range info.region r.region) InvalidMessage (Base (Some (r.region.user_addr))))))
 from_reply GetShmemConfig f (Shmem c) hs = Some (answered f (alone hs (Ok (ShmemOf c))))
 from_reply (SetDeviceStateFd t h) f (U64 n) hs = Some (answered f (state_reply n hs))
 from_reply CheckDeviceState f (U64 n) hs = Some (answered f (alone hs (only_if (n == 0) BackendInternalError Nothing)))
-from_reply PostcopyAdvise f Empty hs = Some (changed f (record f { postcopy = Advise }) (with_one hs HandleOf))
+from_reply PostcopyAdvise f Empty hs = Some (changed f (record f { postcopy = Advise }) (one_or_none f hs HandleOf))
+from_reply PostcopyEnd f (U64 n) hs = Some (end_reply f n hs)
 from_reply _ f payload hs = None
 
 -- The caller's answer, from what was awaited and what came; pairs that give None never come.

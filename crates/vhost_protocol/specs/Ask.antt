@@ -67,6 +67,10 @@ abbrev pub given : {A : Type 0} → Option A → Result A Error
 given None = Err InvalidParam
 given (Some a) = Ok a
 
+-- under Standard there is room for the bytes that are asked for: an answer comes whatever there is
+abbrev pub has_room : Frontend → List ℕ → Bool
+has_room f buffer = if is_standard f.profile then nat_le 1 (length buffer) else true
+
 -- ---- messages
 
 -- whether a message goes out with the session's flag NEED_REPLY; under Standard only where REPLY_ACK is acknowledged, since real handlers acknowledge it all the same
@@ -100,6 +104,14 @@ asks f r payload handles shape = Sends (message f r payload handles) (Reply shap
 -- sent without NEED_REPLY, and replied to
 abbrev pub asks_quietly : {H : Type 0} → Frontend → FrontendReq → Payload → List H → Shape → Asked H
 asks_quietly f r payload handles shape = Sends (quietly f r payload handles) (Reply shape) f
+
+-- A message that turns the state of both sides. Under Standard it asks for its acknowledgement wherever that was negotiated, whatever the header flags: a refusal that nobody hears would leave the sides apart.
+abbrev pub turning : {H : Type 0} → Frontend → FrontendReq → Written FrontendReq H
+turning f r = record (message f r Empty []) { need_reply = if is_standard f.profile then has_bit f.acked_protocol_features REPLY_ACK else needs_reply f }
+
+-- and what is awaited of it
+abbrev pub awaited_turn : Frontend → Awaited
+awaited_turn f = if is_standard f.profile then (if has_bit f.acked_protocol_features REPLY_ACK then Ack else Nobody) else awaited_ack f
 
 -- ---- arguments
 
@@ -202,7 +214,7 @@ ask f (SetVringEnable i on) = do
   index f i
   sends f SET_VRING_ENABLE (RingState (ring_state i (if on then 1 else 0))) []
 ask f (GetConfig offset size flags buffer) = do
-  param (is_valid_config (config offset size flags))
+  param (is_valid_config (config offset size flags) && has_room f buffer)
   frontend_feature f CONFIG
   param (nat_le (12 + length buffer) MAX_MSG_SIZE)
   asks f GET_CONFIG (ConfigBytes (config offset size flags) buffer) [] shape.Config
@@ -254,10 +266,11 @@ ask f PostcopyAdvise = do
   asks f POSTCOPY_ADVISE Empty [] shape.Empty
 ask f PostcopyListen = do
   frontend_feature f PAGEFAULT
-  sends f POSTCOPY_LISTEN Empty []
+  Sends (turning f POSTCOPY_LISTEN) (awaited_turn f) f
 ask f PostcopyEnd = do
   frontend_feature f PAGEFAULT
-  sends f POSTCOPY_END Empty []
+  -- the specification gives it a reply
+  Sends (turning f POSTCOPY_END) (if is_standard f.profile then Reply shape.U64 else awaited_ack f) f
 ask f (PostcopyAckMemRegions r) = do
   param (is_mapping r)
   Sends (quietly f r (U64 0) []) Nobody f

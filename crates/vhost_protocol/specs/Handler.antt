@@ -9,6 +9,7 @@ use Rattle.vhost_protocol.specs.Row.{row}
 use Rattle.vhost_protocol.specs.Run.{Serves, Run}
 use Rattle.vhost_protocol.specs.Served.{reply, cells_of}
 use Rattle.vhost_protocol.specs.Session.{Session}
+use Rattle.vhost_protocol.specs.Settled.{settled}
 use Rattle.vhost_protocol.specs.Split.{Message}
 use Rattle.vhost_protocol.specs.Step.{Outcome, Step, Refused, Calls, OpensBackend, OpensGpu}
 use Rattle.vhost_protocol.specs.Stream.{Cell, Item}
@@ -23,9 +24,9 @@ module _ {H B G Dev : Type 0} (gives : Dev → (c : Call H B G) → Answer c →
   Follows s d (OpensBackend h next) o d' = (opened : Result B Error) × opens_backend h opened × Follows s d (next opened) o d'
   Follows s d (OpensGpu h next) o d' = (opened : Result G Error) × opens_gpu h opened × Follows s d (next opened) o d'
 
-  -- the row of a message
+  -- the row of a message, and what becomes of its silence
   abbrev pub Meets : Session → Dev → Message FrontendReq H → Outcome H → Dev → Type 0
-  Meets s d m o d' = Follows s d (row s m) o d'
+  Meets s d m o d' = (told : Outcome H) × Follows s d (row s m) told d' × (o ≡ settled s m told)
 
   -- the same by its parts, with the text of what is written
   abbrev pub MeetsRow : Session → Dev → Message FrontendReq H → Result ⊤ Error → List (Cell H) → Session → Dev → Type 0

@@ -57,6 +57,7 @@ abbrev pub CallFits : {H : Type 0} → FrontendCall H → Type 0
 CallFits (SetMemTable infos) = All RegionFits (regions_in infos)
 CallFits (SetLogBase base (Some r)) = LogFits (log_area r)
 CallFits (AddMemRegion info) = RegionFits info.region
+CallFits (GetInflightFd area) = InflightFits area
 CallFits _ = ⊤
 
 -- a reply is one that the call may have

@@ -1,5 +1,5 @@
 -- Frontend and handler joined: each call's message, its row and the answer; in step, and the last step.
-use Rattle.std.specs.Prelude.{◌≡◌, Bool, true, false, ◌&&◌, ◌||◌, List, [], ◌∷◌, Option, Some, None, Result, Ok, Err, is_err, bit_and, ⊤}
+use Rattle.std.specs.Prelude.{◌≡◌, Bool, true, false, ◌&&◌, ◌||◌, List, [], ◌∷◌, Option, Some, None, Result, Ok, Err, is_err, is_some, bit_and, if◌then◌else◌, ⊤}
 use Rattle.vhost_message.specs.declared.frontend_req.FrontendReq.{FrontendReq}
 use Rattle.vhost_message.specs.declared.frontend_req.FrontendReq.TheVariants.{POSTCOPY_END}
 use Rattle.vhost_message.specs.FrontendReq.{request_number}
@@ -11,6 +11,8 @@ use Rattle.vhost_protocol.specs.DeviceCall.{Call, Answer}
 use Rattle.vhost_protocol.specs.Error.{Error}
 use Rattle.vhost_protocol.specs.FrontendCall.{FrontendCall, Value, Frontend}
 use Rattle.vhost_protocol.specs.Handler.{Meets}
+use Rattle.vhost_protocol.specs.declared.profile.Profile.{Profile}
+use Rattle.vhost_protocol.specs.Profile.{is_standard}
 use Rattle.vhost_protocol.specs.Served.{Served, Silent, reply, cells_of}
 use Rattle.vhost_protocol.specs.Session.{Session}
 use Rattle.vhost_protocol.specs.Split.{Message}
@@ -18,12 +20,13 @@ use Rattle.vhost_protocol.specs.Step.{Outcome}
 use Rattle.vhost_protocol.specs.Stream.{Cell}
 use Rattle.vhost_protocol.specs.Written.{Written, payload_text, written_cells}
 
--- Both sides agree on what was offered, on the protocol features and on postcopy; what the frontend acknowledged, the handler knows.
+-- Both sides have the same profile, and agree on what was offered, on the protocol features and on postcopy; what the frontend acknowledged, the handler knows.
 pub record AgreeOn (f : Frontend) (s : Session) : Type 0 where
   pub offered : f.offered ≡ s.offered
   pub acked_protocol_features : f.acked_protocol_features ≡ s.acked_protocol_features
   pub postcopy : f.postcopy ≡ s.postcopy
   pub acked : bit_and f.acked s.acked ≡ f.acked
+  pub profile : f.profile ≡ s.profile
 
 -- in step: they agree, nothing is awaited, and nothing is on the way
 pub record InStep {H : Type 0} (f : Frontend) (s : Session) (awaited : Awaited) (to_handler to_frontend : List (Cell H)) : Type 0 where
@@ -42,9 +45,13 @@ abbrev pub is_silent : {H : Type 0} → Served H → Bool
 is_silent Silent = true
 is_silent _ = false
 
--- the last step: an error in silence, or a refused end of postcopy
+-- the last step of the table: an error in silence, or a refused end of postcopy
 abbrev pub is_last : {H : Type 0} → FrontendReq → Outcome H → Bool
 is_last r o = is_err o.answer && (is_silent o.served || is_end r)
+
+-- A run stops where the table has its last step. Under Standard whoever waits is answered, and it stops only where the session has ended.
+abbrev pub stops : {H : Type 0} → Profile → FrontendReq → Outcome H → Bool
+stops profile r o = if is_standard profile then is_some o.session.failed else is_last r o
 
 -- a message as its receiver reads it
 abbrev pub read_as : {R H : Type 0} → Written R H → Message R H
@@ -72,7 +79,7 @@ module _ {H B G Dev : Type 0} (gives : Dev → (c : Call H B G) → Answer c →
       (o : Outcome H) × Meets gives opens_backend opens_gpu s d (read_as w) o d' × (s' ≡ o.session)
       × (answer call awaited g o.served ≡ Some (record { result = shown.result; session = f' }))
       × (shown.request ≡ written_cells request_number w) × (shown.handled ≡ Some o.answer) × (shown.reply ≡ cells_of request_number (reply w.request o.served))
-      × (shown.last ≡ is_last w.request o)
+      × (shown.last ≡ stops s.profile w.request o)
 
   -- one joined step
   abbrev pub JoinedStep : Frontend → Session → Dev → FrontendCall H → Shown H → Frontend → Session → Dev → Type 0

@@ -16,6 +16,7 @@ pub mod Served
 pub mod Step
 pub mod Answered
 pub mod Row
+pub mod Settled
 pub mod Socket
 pub mod Run
 pub mod Handler
@@ -40,5 +41,6 @@ pub mod Pieces
 -- what they say. Contracts cite some of their premises, as that a number fits its field.
 pub mod Laws
 pub mod Agreement
+pub mod Answering
 pub mod Heard
 pub mod ReverseLaws

@@ -135,9 +135,9 @@ abbrev pub channel : {H C : Type 0} → Session → Message FrontendReq H → Re
 channel s m (Ok c) = Ok c
 channel s m (Err e) = Err (acknowledged s m e)
 
--- A request that nobody serves. Under Standard that is acknowledged, since real frontends wait for it, and its error is none of a malformed message.
-abbrev pub unserved : {H : Type 0} → Session → Message FrontendReq H → Refusal H
-unserved s m = if is_standard s.profile then acknowledged s m (InvalidOperation (codes "request not served")) else silently InvalidMessage
+-- A request that nobody serves. Under Standard its error is none of a malformed message.
+abbrev pub unserved : {H : Type 0} → Session → Refusal H
+unserved s = silently (if is_standard s.profile then InvalidOperation (codes "request not served") else InvalidMessage)
 
 -- ---- the table
 
@@ -266,7 +266,7 @@ row_of POSTCOPY_END s m = do
   session_feature s PAGEFAULT
   test (is_listen s.postcopy) (silently (InvalidOperation (codes "postcopy not listening")))
   calls s m PostcopyEnd
-row_of _ s m = Refused (unserved s m)
+row_of _ s m = Refused (unserved s)
 
 -- the row of a message
 abbrev pub row : {H B G : Type 0} → Session → Message FrontendReq H → Step H B G

@@ -1,5 +1,5 @@
 -- What a handler remembers of its frontend.
-use Rattle.std.specs.Prelude.{ℕ, ℤ, Bool, true, false, ◌&&◌, Option, None, if◌then◌else◌}
+use Rattle.std.specs.Prelude.{ℕ, ℤ, Bool, true, false, ◌&&◌, Option, None, if◌then◌else◌, bit_or}
 use Rattle.vhost_message.specs.Bits.{has_bit}
 use Rattle.vhost_message.specs.declared.postcopy.PostcopyState.{PostcopyState}
 use Rattle.vhost_message.specs.declared.postcopy.PostcopyState.TheVariants.{Inactive, Advise, Listen}
@@ -42,4 +42,4 @@ ack_on s = has_bit s.offered PROTOCOL_FEATURES && has_bit s.acked_protocol_featu
 
 -- the features by which a ring may be enabled: those that were acknowledged; under Standard it is enough that they were offered
 abbrev pub enabling : Session → ℕ
-enabling s = if is_standard s.profile then s.offered else s.acked
+enabling s = if is_standard s.profile then bit_or s.offered s.acked else s.acked

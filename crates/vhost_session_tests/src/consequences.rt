@@ -12,7 +12,7 @@ fn over<D: Example, R: Threads + Wait + Sync>(rt: &R, alloc: Global) -> [bool; 4
     [
         faults::hold::<D>(alloc),
         joined::hold::<D>(alloc) == [true; 3],
-        promises::hold_over::<D>(alloc) == [true; 5],
+        promises::hold_over::<D>(alloc) == [true; 6],
         recorder::seen::hold_over::<D, R>(rt, alloc) == [true; 3],
     ]
 }

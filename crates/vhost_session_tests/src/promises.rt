@@ -7,15 +7,16 @@ use vhost_backend_req_handler::SessionCore;
 use vhost_connection::Endpoint;
 use vhost_link::{Kind, MemLink, PlainHandle};
 use vhost_message::{
-    Error, FrontendReq, IoError, Result as Answer, VhostUserConfig, VhostUserConfigFlags,
+    Error, FrontendReq, IoCause, IoError, Result as Answer, VhostUserConfig, VhostUserConfigFlags,
     VhostUserMsgHeader, VhostUserU64,
 };
 use vhost_pair::Joined;
 use vhost_promises::{
-    Device, back_and_there, finds_own, first_answer, goes_on_unserved_new, names_request,
-    opens_its_own, records_two, runs_two_lines, same_number, sends_in_one, serves_by_halves,
-    serves_three_new, shares_twice, steps_without_memory, two_callers,
+    Device, answers_whoever_waits, back_and_there, finds_own, first_answer, goes_on_unserved_new,
+    names_request, opens_its_own, records_two, runs_two_lines, same_number, sends_in_one,
+    serves_by_halves, serves_three_new, shares_twice, steps_without_memory, two_callers,
 };
+use vhost_protocol::Profile;
 use vhost_recorder::{FrontendAnswer, FrontendCall, Halt, Log, Receipt, Recorded};
 
 /// The reply to GET_FEATURES: 0x40000003.
@@ -58,6 +59,27 @@ fn in_halves<D: Example>(alloc: Global) -> Option<[bool; 2]> {
     let mut device = D::fresh(alloc);
     let answer = serves_by_halves(&mut core, &mut device);
     Some([answer.is_ok(), wrote(&mut core, &FEATURES)])
+}
+
+/// GET_QUEUE_NUM.
+static QUEUES: [u8; 12] = [17, 0, 0, 0, 1, 0, 0, 0, 0, 0, 0, 0];
+
+/// Whether a session under Standard that cannot say how many queues there are ends, says so from then on, and writes nothing.
+fn ended<D: Example>(alloc: Global) -> Option<[bool; 3]> {
+    let mut link = MemLink::new(alloc, Vec::new(alloc));
+    link.push(&QUEUES, &[]).ok()?;
+    let mut core = SessionCore::new(alloc, link, 40).ok()?;
+    core.set_profile(Profile::Standard);
+    let mut device = D::fresh(alloc);
+    let answers = answers_whoever_waits(alloc, &mut core, &mut device, 2).ok()?;
+    let is_right = matches!(
+        answers.as_slice(),
+        [
+            Err(Error::InactiveOperation(_)),
+            Err(Error::SocketBroken(IoCause::Raw(71)))
+        ]
+    );
+    Some([is_right, core.failed() == Some(71), wrote(&mut core, &[])])
 }
 
 /// What two lines print.
@@ -208,7 +230,7 @@ fn there_and_back() -> Option<(u64, u64, (FrontendReq, u32, bool, bool))> {
 }
 
 /// Whether those hold that are of a device.
-pub(crate) fn hold_over<D: Example>(alloc: Global) -> [bool; 5] {
+pub(crate) fn hold_over<D: Example>(alloc: Global) -> [bool; 6] {
     let three = Three {
         serials: [0, 1],
         base: Some(9),
@@ -216,6 +238,7 @@ pub(crate) fn hold_over<D: Example>(alloc: Global) -> [bool; 5] {
     };
     [
         in_halves::<D>(alloc) == Some([true; 2]),
+        ended::<D>(alloc) == Some([true; 3]),
         matches!(opened::<D>(alloc, Kind::UnixStream), Some(Ok(()))),
         matches!(
             opened::<D>(alloc, Kind::NotUnix),

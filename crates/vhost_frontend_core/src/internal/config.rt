@@ -15,11 +15,12 @@ ghost use Rattle.vhost_protocol.specs.FrontendCall as call;
 ghost use Rattle.vhost_protocol.specs.Written.{ConfigBytes};
 ghost use Rattle.vhost_frontend_core.specs.Asking.{tested};
 ghost use Rattle.vhost_frontend_core.specs.Kept.{KeepsConfig, IsKeptFor};
+ghost use Rattle.vhost_frontend_core.specs.Session.{frontend_of};
 ghost use Rattle.vhost_frontend_core.specs.TakingConfig.{is_asked};
 
 use crate::asked::{Kept, Sent};
 use crate::internal::{FrontendInternal, Header};
-use crate::session::{param, valid};
+use crate::session::{FrontendSession, param, valid};
 use vhost_connection::break_on_fault;
 use vhost_link::Link;
 use vhost_message::{
@@ -69,7 +70,7 @@ impl<L: Link> FrontendInternal<L> {
         ensures asked { AsksHalfWithRoom L.event (call.GetConfig offset size (config_bits flags) buffer.now) self.old result self.new }
         ensures kept { IfOk result (λ sent. IsKeptFor {H = L.Handle} (call.GetConfig offset size (config_bits flags) buffer.now) sent.awaited sent.kept) }
     {
-        let part = part_of(offset, size, flags)?;
+        let part = part_with_room(self.session, offset, size, flags, buffer)?;
         self.session.needs(protocol_bit::CONFIG)?;
         fits(buffer)?;
         self.ask_bytes(part, buffer)
@@ -205,6 +206,23 @@ fn is_same(asked: &VhostUserConfig, count: usize, part: &VhostUserConfig) -> boo
     ensures { result ≡ is_asked asked.now count part.now }
 {
     part.offset == asked.offset && part.size == asked.size && part.size as usize == count
+}
+
+/// The part of so many bytes from this byte on, for which the buffer has room. InvalidParam: as `part_of`; or under `Standard`
+/// the buffer is empty.
+fn part_with_room(
+    session: FrontendSession,
+    offset: u32,
+    size: u32,
+    flags: VhostUserConfigFlags,
+    buffer: &[u8],
+) -> Result<VhostUserConfig>
+    ensures test { ask.param (is_valid_config (ask.config offset size (config_bits flags)) && ask.has_room (frontend_of session) buffer.now) ≡ tested result }
+    ensures same { IfOk result (λ part. part ≡ ask.config offset size (config_bits flags)) }
+{
+    let part = VhostUserConfig::new(offset, size, flags);
+    param(part.is_valid() && session.has_room(buffer))?;
+    Ok(part)
 }
 
 /// The part of so many bytes from this byte on. InvalidParam: there is no byte, or the part goes beyond the space.

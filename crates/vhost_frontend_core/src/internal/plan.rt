@@ -4,6 +4,7 @@ ghost use Rattle.std.specs.Prelude.{◌≡◌, ◌==◌, ◌&&◌, ◌<◌, ◌�
 ghost use Rattle.vhost_message.specs.declared.frontend_req.FrontendReq.TheVariants as code;
 ghost use Rattle.vhost_protocol.specs.Ask as ask;
 ghost use Rattle.vhost_protocol.specs.Ask.{Asked, ◌>>◌ as ◌and_then◌, given_handle, ring_number};
+ghost use Rattle.vhost_protocol.specs.Features.{PAGEFAULT};
 ghost use Rattle.vhost_protocol.specs.FrontendCall as calls;
 ghost use Rattle.vhost_protocol.specs.Session.{is_listen};
 ghost use Rattle.vhost_protocol.specs.Written as payload;
@@ -16,6 +17,7 @@ ghost use Rattle.vhost_frontend_core.specs.Plan.{IsRecord, planned as planned_as
 ghost use Rattle.vhost_frontend_core.specs.Regions.{info_in, lent, log_region_in};
 ghost use Rattle.vhost_frontend_core.specs.Session.{frontend_of};
 ghost use Rattle.vhost_frontend_core.specs.Values.{call_in};
+ghost use Rattle.vhost_frontend_core.specs.declared.internal.plan.Asking.TheVariants.{AsFlagged};
 
 use crate::call::Call;
 use crate::session::{FrontendSession, param, protocol_in};
@@ -42,12 +44,23 @@ pub enum Record {
     DeviceState(VhostUserTransferDeviceState),
 }
 
+/// How a message asks for its acknowledgement.
+#[derive(Clone, Copy)]
+pub enum Asking {
+    /// As the session's flags say.
+    AsFlagged,
+    /// Not at all, whatever they say.
+    Quietly,
+    /// As one does that turns the state of both sides.
+    Turning,
+}
+
 /// What goes out, what is awaited of it, and the session from then on.
 #[derive(Drop)]
 pub struct Plan<'a, H> {
     pub request: FrontendReq,
-    /// Whether the message goes out without NEED_REPLY, whatever the session's flags say.
-    pub quiet: bool,
+    /// How the message asks for its acknowledgement.
+    pub asking: Asking,
     pub body: Record,
     /// The descriptor that goes with it, if any.
     pub handle: Option<&'a H>,
@@ -60,10 +73,10 @@ impl<'a, H> Plan<'a, H> {
     pub fn flags(&self) -> u32
         ensures { request_with result self.now.request (record_in self.now.body) (given_handle (lent self.now.handle)) ≡ written self.now }
     {
-        if self.quiet {
-            self.next.quiet_flags()
-        } else {
-            self.next.flags()
+        match self.asking {
+            Asking::AsFlagged => self.next.flags(),
+            Asking::Quietly => self.next.quiet_flags(),
+            Asking::Turning => self.next.turn_flags(),
         }
     }
 
@@ -74,12 +87,12 @@ impl<'a, H> Plan<'a, H> {
         body: Record,
         handle: Option<&'a H>,
     ) -> Self
-        ensures { result ≡ record { request = request; quiet = false; body = body; handle = handle.entry; awaited = ask.awaited_ack (frontend_of next); next = next } }
+        ensures { result ≡ record { request = request; asking = AsFlagged; body = body; handle = handle.entry; awaited = ask.awaited_ack (frontend_of next); next = next } }
     {
         let awaited = next.acknowledgement();
         Plan {
             request,
-            quiet: false,
+            asking: Asking::AsFlagged,
             body,
             handle,
             awaited,
@@ -95,11 +108,11 @@ impl<'a, H> Plan<'a, H> {
         handle: Option<&'a H>,
         shape: Shape,
     ) -> Self
-        ensures { result ≡ record { request = request; quiet = false; body = body; handle = handle.entry; awaited = Reply shape; next = session } }
+        ensures { result ≡ record { request = request; asking = AsFlagged; body = body; handle = handle.entry; awaited = Reply shape; next = session } }
     {
         Plan {
             request,
-            quiet: false,
+            asking: Asking::AsFlagged,
             body,
             handle,
             awaited: Awaited::Reply(shape),
@@ -266,20 +279,13 @@ pub fn planned<'a, H>(session: FrontendSession, call: &Call<'a, H>) -> Result<Pl
             None,
             Shape::Empty,
         ),
-        PostcopyListen => sends_once(
-            session.needs(protocol_bit::PAGEFAULT),
+        PostcopyListen => turns(
             session,
             POSTCOPY_LISTEN,
-            Record::Empty,
+            session.turn_acknowledgement(),
             None,
         ),
-        PostcopyEnd => sends_once(
-            session.needs(protocol_bit::PAGEFAULT),
-            session,
-            POSTCOPY_END,
-            Record::Empty,
-            None,
-        ),
+        PostcopyEnd => turns(session, POSTCOPY_END, session.end_acknowledgement(), None),
         PostcopyAckMemRegions(code) => acks_regions(session, *code, None),
         SetMtu(mtu) => sends_once(
             session.needs(protocol_bit::MTU),
@@ -325,6 +331,26 @@ fn asks_once<'a, H>(
     }
 }
 
+/// Turns the state of both sides, if postcopy is agreed on.
+fn turns<'a, H>(
+    session: FrontendSession,
+    request: FrontendReq,
+    awaited: Awaited,
+    handle: Option<&'a H>,
+) -> Result<Plan<'a, H>>
+    ensures { planned_as result ≡ ask.frontend_feature (frontend_of session) PAGEFAULT and_then ask.Sends (record (ask.turning (frontend_of session) request) { handles = given_handle (lent handle.entry) }) awaited (frontend_of session) }
+{
+    session.needs(protocol_bit::PAGEFAULT)?;
+    Ok(Plan {
+        request,
+        asking: Asking::Turning,
+        body: Record::Empty,
+        handle,
+        awaited,
+        next: session,
+    })
+}
+
 /// That the regions are mapped which this request brought.
 fn acks_regions<'a, H>(
     session: FrontendSession,
@@ -336,7 +362,7 @@ fn acks_regions<'a, H>(
     param(is_mapping(code))?;
     Ok(Plan {
         request: code,
-        quiet: true,
+        asking: Asking::Quietly,
         body: Record::U64(0),
         handle,
         awaited: Awaited::Nobody,
@@ -378,7 +404,7 @@ fn sends_base<'a, H>(session: FrontendSession, base: u64) -> Plan<'a, H>
 {
     Plan {
         request: FrontendReq::SET_LOG_BASE,
-        quiet: false,
+        asking: Asking::AsFlagged,
         body: Record::U64(base),
         handle: None,
         awaited: session.base_acknowledgement(),
@@ -495,7 +521,7 @@ fn added<'a, H>(
     if session.is_listening() {
         return Plan {
             request: FrontendReq::ADD_MEM_REG,
-            quiet: true,
+            asking: Asking::Quietly,
             body,
             handle: Some(handle),
             awaited: Awaited::Reply(Shape::SingleMemoryRegion),

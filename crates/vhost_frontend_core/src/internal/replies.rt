@@ -4,10 +4,11 @@ ghost use Rattle.std.specs.Prelude.{◌≡◌, ◌≤◌, List};
 ghost use Rattle.vhost_message.specs.declared.limits.TheConstants.{MAX_MSG_SIZE};
 ghost use Rattle.vhost_message.specs.MsgHeader.{fields_of};
 ghost use Rattle.vhost_protocol.specs.declared.asked.Awaited.TheVariants.{Nobody};
-ghost use Rattle.vhost_protocol.specs.AnswerTable.{after_success, plain_value, with_one};
+ghost use Rattle.vhost_protocol.specs.AnswerTable.{after_success, plain_value};
 ghost use Rattle.vhost_protocol.specs.FrontendCall.{FrontendCall, Nothing};
 ghost use Rattle.vhost_protocol.specs.Error.{seen_result};
 ghost use Rattle.vhost_connection.specs.Calls.{HandsOver};
+ghost use Rattle.vhost_frontend_core.specs.Taking.{one_unless};
 
 use crate::asked::Sent;
 use crate::internal::{FrontendInternal, Header};
@@ -18,7 +19,7 @@ use vhost_protocol::Awaited;
 impl<L: Link> FrontendInternal<L> {
     ghost use Rattle.vhost_frontend_core.specs.Frontend.{endpoint_of, session_of, awaits};
     ghost use Rattle.vhost_frontend_core.specs.Halves.{TakesAck};
-    ghost use Rattle.vhost_frontend_core.specs.Taking.{Recvs, Awaits, AwaitsAlone, AwaitsAny, AwaitsOne, RecvsAck, Acks};
+    ghost use Rattle.vhost_frontend_core.specs.Taking.{Recvs, Awaits, AwaitsAlone, AwaitsAny, RecvsAck, Acks};
 
     /// Receives the reply for a request: a record, and the descriptors.
     fn recv_record<T: VhostUserMsgValidator + Drop>(
@@ -131,31 +132,20 @@ impl<L: Link> FrontendInternal<L> {
         }
         Ok(())
     }
-
-    /// Receives a reply that has one descriptor.
-    ///
-    /// InvalidMessage: it has none. IncorrectFds: it has several.
-    pub(crate) fn take_reply_with_handle<T: VhostUserMsgValidator + Drop>(
-        &mut self,
-        sent: Sent,
-    ) -> Result<(T, L::Handle)>
-        requires { T.SIZE ≤ MAX_MSG_SIZE }
-        ensures session { session_of self.new ≡ session_of self.old }
-        ensures quiet { awaits self.new ≡ Nobody }
-        ensures taken { AwaitsOne L.event (session_of self.old).profile T.SIZE T.read T.valid (endpoint_of self.old) (fields_of sent.request) result (endpoint_of self.new) }
-    {
-        let (body, handles) = self.take_reply(sent)?;
-        let handle = one_of(handles)?;
-        Ok((body, handle))
-    }
 }
 
-/// The one descriptor that came. InvalidMessage: none came. IncorrectFds: several did.
-pub(crate) fn one_of<H: Drop>(handles: Option<Vec<H>>) -> Result<H>
-    ensures { (hs : List H) → HandsOver handles hs → with_one hs (λ h. h) ≡ seen_result result }
+/// The one descriptor that came. Where none came: BackendInternalError, if so a backend says that there is no such thing, else
+/// InvalidMessage. IncorrectFds: several did.
+pub(crate) fn one_of<H: Drop>(handles: Option<Vec<H>>, says_none: bool) -> Result<H>
+    ensures { (hs : List H) → HandsOver handles hs → one_unless says_none hs (λ h. h) ≡ seen_result result }
 {
     let Some(mut handles) = handles else {
-        return Err(Error::InvalidMessage);
+        let error = if says_none {
+            Error::BackendInternalError
+        } else {
+            Error::InvalidMessage
+        };
+        return Err(error);
     };
     if handles.len() > 1 {
         return Err(Error::IncorrectFds);

@@ -1,6 +1,6 @@
 //! The half that receives: each call's answer.
 
-ghost use Rattle.std.specs.Prelude.{◌≡◌, ℕ, List, Option, Some, bit_and};
+ghost use Rattle.std.specs.Prelude.{◌≡◌, ◌==◌, ◌&&◌, ℕ, List, Option, Some, bit_and};
 ghost use Rattle.vhost_message.specs.Records.{region_within};
 ghost use Rattle.vhost_message.specs.declared.records.inflight.VhostUserInflight.{VhostUserInflight};
 ghost use Rattle.vhost_message.specs.declared.records.memory.VhostUserMemoryRegion.{VhostUserMemoryRegion};
@@ -10,6 +10,7 @@ ghost use Rattle.vhost_protocol.specs.AnswerTable.{is_same_range, only_if, state
 ghost use Rattle.vhost_protocol.specs.Error.{InvalidMessage, seen_result};
 ghost use Rattle.vhost_protocol.specs.FrontendCall as call;
 ghost use Rattle.vhost_protocol.specs.FrontendCall.{LogRegion};
+ghost use Rattle.vhost_protocol.specs.Profile.{is_standard};
 ghost use Rattle.vhost_protocol.specs.declared.asked.Awaited.TheVariants.{Nobody, Reply};
 ghost use Rattle.vhost_protocol.specs.declared.asked.Shape.TheVariants as shape;
 ghost use Rattle.vhost_connection.specs.Calls.{HandsOver};
@@ -203,24 +204,28 @@ impl<L: Link> FrontendInternal<L> {
         }
     }
 
-    /// Receives the descriptor of an object.
+    /// Receives the descriptor of an object. Under `Standard` a reply without one says that there is no such object.
     fn take_get_shared_object(&mut self, sent: Sent) -> Result<L::Handle>
         ensures taken { (name : VhostUserSharedMsg) → TakesHalf L.event (call.GetSharedObject name) call.HandleOf (Reply shape.Empty) sent self.old result self.new }
         ensures quiet { awaits self.new ≡ Nobody }
     {
-        match self.take_reply_with_handle::<VhostUserEmpty>(sent) {
-            Ok((_, handle)) => { Ok(handle) }
+        match self.take_reply::<VhostUserEmpty>(sent) {
+            Ok((_, handles)) => one_of(handles, self.session.profile.is_standard()),
             Err(error) => Err(error),
         }
     }
 
-    /// Receives the inflight region: where it lies, and its descriptor.
+    /// Receives the inflight region: where it lies, and its descriptor. Under `Standard` a reply of the size 0 without one says
+    /// that there is none.
     fn take_get_inflight_fd(&mut self, sent: Sent) -> Result<(VhostUserInflight, L::Handle)>
         ensures taken { (asked : VhostUserInflight) → TakesHalf L.event (call.GetInflightFd asked) (λ buffer. call.InflightOf buffer.0 buffer.1) (Reply shape.Inflight) sent self.old result self.new }
         ensures quiet { awaits self.new ≡ Nobody }
     {
-        match self.take_reply_with_handle::<VhostUserInflight>(sent) {
-            Ok(buffer) => Ok(buffer),
+        match self.take_reply::<VhostUserInflight>(sent) {
+            Ok((area, handles)) => match one_of(handles, says_none(self.session.profile, &area)) {
+                Ok(handle) => Ok((area, handle)),
+                Err(error) => Err(error),
+            },
             Err(error) => Err(error),
         }
     }
@@ -289,16 +294,19 @@ impl<L: Link> FrontendInternal<L> {
         }
     }
 
-    /// Receives the userfaultfd; postcopy is advised from now on.
+    /// Receives the userfaultfd; postcopy is advised from now on. Under `Standard` a reply without one says that there is none.
     fn take_postcopy_advise(&mut self, sent: Sent) -> Result<L::Handle>
         ensures taken { TakesHalf L.event call.PostcopyAdvise call.HandleOf (Reply shape.Empty) sent self.old result self.new }
         ensures quiet { awaits self.new ≡ Nobody }
     {
-        match self.take_reply_with_handle::<VhostUserEmpty>(sent) {
-            Ok((_, handle)) => {
-                self.session.postcopy = PostcopyState::Advise;
-                Ok(handle)
-            }
+        match self.take_reply::<VhostUserEmpty>(sent) {
+            Ok((_, handles)) => match one_of(handles, self.session.profile.is_standard()) {
+                Ok(handle) => {
+                    self.session.postcopy = PostcopyState::Advise;
+                    Ok(handle)
+                }
+                Err(error) => Err(error),
+            },
             Err(error) => Err(error),
         }
     }
@@ -317,8 +325,38 @@ impl<L: Link> FrontendInternal<L> {
         }
     }
 
-    /// Receives the acknowledgement, where there is one. Postcopy has ended from now on.
+    /// Receives the reply, or the acknowledgement, where there is one. Postcopy has ended from now on.
     fn take_postcopy_end(&mut self, sent: Sent) -> Result<()>
+        ensures replied { sent.awaited ≡ Reply shape.U64 → TakesHalf L.event call.PostcopyEnd (λ _. call.Nothing) (Reply shape.U64) sent self.old result self.new }
+        ensures acked { TakesAck L.event call.PostcopyEnd sent self.old result self.new }
+        ensures quiet { awaits self.new ≡ Nobody }
+    {
+        match sent.awaited {
+            Awaited::Reply(_) => self.take_end(sent),
+            _ => self.take_end_ack(sent),
+        }
+    }
+
+    /// Receives whether the end of postcopy succeeded: 0. Whoever listened has ended, whatever became of it.
+    fn take_end(&mut self, sent: Sent) -> Result<()>
+        ensures taken { TakesHalf L.event call.PostcopyEnd (λ _. call.Nothing) (Reply shape.U64) sent self.old result self.new }
+        ensures quiet { awaits self.new ≡ Nobody }
+    {
+        match self.take_plain_reply::<VhostUserU64>(sent) {
+            Ok(number) => {
+                if number.value != 0 {
+                    self.session = self.session.after_refused_end();
+                    return Err(Error::BackendInternalError);
+                }
+                self.session.postcopy = PostcopyState::End;
+                Ok(())
+            }
+            Err(error) => Err(error),
+        }
+    }
+
+    /// Receives the acknowledgement of the end of postcopy, where there is one.
+    fn take_end_ack(&mut self, sent: Sent) -> Result<()>
         ensures taken { TakesAck L.event call.PostcopyEnd sent self.old result self.new }
         ensures quiet { awaits self.new ≡ Nobody }
     {
@@ -337,6 +375,13 @@ fn known_features(bits: u64) -> VhostUserProtocolFeatures
     ensures { result.bits ≡ bit_and bits 0x7FFFFF }
 {
     VhostUserProtocolFeatures::from_bits_retain(bits & KNOWN_FEATURES)
+}
+
+/// Whether an inflight region without a descriptor says that there is none.
+fn says_none(profile: Profile, area: &VhostUserInflight) -> bool
+    ensures { result ≡ (is_standard profile && area.now.mmap_size == 0) }
+{
+    profile.is_standard() && area.mmap_size == 0
 }
 
 /// Where the region is mapped that was kept, as this reply says. InvalidMessage: it is of another region.
@@ -368,6 +413,6 @@ fn handle_for<H: Drop>(number: u64, handles: Option<Vec<H>>) -> Result<Option<H>
     if number != 0 {
         return Err(Error::BackendInternalError);
     }
-    let handle = one_of(handles)?;
+    let handle = one_of(handles, false)?;
     Ok(Some(handle))
 }

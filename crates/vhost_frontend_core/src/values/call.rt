@@ -1,7 +1,7 @@
 //! What a caller asks of a frontend.
 
 ghost use Rattle.std.specs.Prelude.{◌≡◌, ◌<◌, ◌^◌, Some, IfSome, All, length};
-ghost use Rattle.vhost_message.specs.RecordLaws.{RegionFits};
+ghost use Rattle.vhost_message.specs.RecordLaws.{InflightFits, RegionFits};
 ghost use Rattle.vhost_frontend_core.specs.Regions.{log_region_in};
 ghost use Rattle.vhost_frontend_core.specs.Values.{log_region_of};
 
@@ -157,7 +157,10 @@ impl FrontendCall {
                 measure(name);
                 Call::GetSharedObject(*name)
             }
-            FrontendCall::GetInflightFd(area) => Call::GetInflightFd(*area),
+            FrontendCall::GetInflightFd(area) => {
+                measure_area(area);
+                Call::GetInflightFd(*area)
+            }
             FrontendCall::SetInflightFd(area, handle) => Call::SetInflightFd(*area, handle),
             FrontendCall::GetMaxMemSlots => Call::GetMaxMemSlots,
             FrontendCall::AddMemRegion(info) => Call::AddMemRegion(info.lent()),
@@ -195,6 +198,18 @@ fn measure_regions(regions: &[RegionInfo<PlainHandle>])
     'regions: for i in 0..regions.len() {
         let _region = regions[i].lent();
     }
+}
+
+/// The numbers of an inflight region have the bits of their types.
+fn measure_area(area: &VhostUserInflight)
+    ensures { InflightFits area.now }
+{
+    let VhostUserInflight {
+        mmap_size: _size,
+        mmap_offset: _offset,
+        num_queues: _queues,
+        queue_size: _length,
+    } = *area;
 }
 
 /// A name has sixteen bytes.

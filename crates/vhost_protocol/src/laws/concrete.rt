@@ -4,7 +4,9 @@ use super::lockstep::{heard_as_served, sent_whole};
 use super::messages::cut_in_order;
 use super::replies::{read_as_written, taken_as_served};
 use super::reverse::answered_as_served;
-use super::rows::{rows_keep_mark, silent_is_last, stays_in_step, stays_negotiated};
+use super::rows::{
+    no_silent_stop, rows_keep_mark, silent_is_last, stays_in_step, stays_negotiated, whoever_waits,
+};
 use vhost_message::{BackendReq, FrontendReq};
 
 /// The laws of both channels, with numbers for descriptors, channels and displays.
@@ -21,4 +23,6 @@ pub fn laws_of_both_channels() {
     silent_is_last::<u32>();
     stays_in_step::<u32, u32, u32>();
     stays_negotiated::<u32>();
+    whoever_waits::<u32, u32, u32>();
+    no_silent_stop::<u32, u32, u32>();
 }

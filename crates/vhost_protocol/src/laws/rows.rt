@@ -1,6 +1,7 @@
 //! The handling rules, and both sides of a connection.
 
 ghost use Rattle.vhost_protocol.specs.Agreement.{AnswersNegotiate, AsksNegotiate, RowsKeepMark, SilentIsLast, KeepsStep};
+ghost use Rattle.vhost_protocol.specs.Answering.{WhoeverWaitsIsAnswered, VhostIsTheTable, NoSilentStop};
 
 /// No handling rule changes the failure mark of a session.
 pub fn rows_keep_mark<H, B, G>()
@@ -23,4 +24,16 @@ pub fn stays_in_step<H, B, G>()
 pub fn stays_negotiated<H>()
     ensures asks { AsksNegotiate H }
     ensures answers { AnswersNegotiate H }
+{}
+
+/// Under `Standard` whoever waits is answered, or the session has ended; nobody else is answered. Under `Vhost` the table says all.
+pub fn whoever_waits<H, B, G>()
+    ensures standard { WhoeverWaitsIsAnswered H B G }
+    ensures vhost { VhostIsTheTable H }
+{}
+
+/// Under `Standard` on both sides no silence is the last step: whatever the handler serves, the answer table knows it and both sides
+/// agree after it, unless the session has ended.
+pub fn no_silent_stop<H, B, G>()
+    ensures { NoSilentStop H B G }
 {}

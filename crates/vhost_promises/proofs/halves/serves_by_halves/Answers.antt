@@ -9,7 +9,9 @@ use Rattle.vhost_connection.specs.declared.request.Request.{Request}
 use Rattle.vhost_backend_req.specs.declared.backend.Backend.{Backend}
 use Rattle.vhost_gpu_backend_req.specs.declared.backend.GpuBackend.{GpuBackend}
 use Rattle.vhost_backend_core.specs.Concluding.{concluded, regions_for}
+use Rattle.vhost_backend_core.specs.Settling.{settled_by}
 use Rattle.vhost_backend_core.specs.declared.answer.Then.{Then}
+use Rattle.vhost_backend_core.specs.declared.settle.Unanswered.{Unanswered}
 use Rattle.vhost_backend_req_handler.specs.Calling.{Called}
 use Rattle.vhost_backend_req_handler.specs.Core.{endpoint_of, session_in}
 use Rattle.vhost_backend_req_handler.specs.Halves.{beside_then}
@@ -26,8 +28,9 @@ returns-in-Some g c alive =
     let heard : IsReady (endpoint_of c.begin.new.self) = record { broken = begun.reads.hears.serves.after; faulted = begun.reads.hears.serves.faulted } in
     let ready = subst (λ (x : State g.row.L.Denot g.row.L-Handle.Denot). IsReady x) (sym c.call_device.ensures.endpoint) heard in
     let done = c.conclude.ensures.concluded q.0 q.1 ready in
-    let told = subst (λ (t : Then). Finishes g.L.Link.event q.0.request.code (concluded (session_in last) q.0.request.need_reply (beside_then t last.server) t c.in-Some.answer) (endpoint_of last) (session_in last) c.conclude.result (endpoint_of c.conclude.new.self) (session_in c.conclude.new.self)) q.3 done in
-    let finished = subst (λ (r : Request FrontendReq). Finishes g.L.Link.event r.code (concluded (session_in last) r.need_reply (beside_then p.then last.server) p.then c.in-Some.answer) (endpoint_of last) (session_in last) c.conclude.result (endpoint_of c.conclude.new.self) (session_in c.conclude.new.self)) q.2 told in
+    let kept = subst (λ (u : Unanswered). Finishes g.L.Link.event q.0.request.code (settled_by u (concluded (session_in last) q.0.request.need_reply (beside_then q.0.then last.server) q.0.then c.in-Some.answer)) (endpoint_of last) (session_in last) c.conclude.result (endpoint_of c.conclude.new.self) (session_in c.conclude.new.self)) q.4 done in
+    let told = subst (λ (t : Then). Finishes g.L.Link.event q.0.request.code (settled_by p.unanswered (concluded (session_in last) q.0.request.need_reply (beside_then t last.server) t c.in-Some.answer)) (endpoint_of last) (session_in last) c.conclude.result (endpoint_of c.conclude.new.self) (session_in c.conclude.new.self)) q.3 kept in
+    let finished = subst (λ (r : Request FrontendReq). Finishes g.L.Link.event r.code (settled_by p.unanswered (concluded (session_in last) r.need_reply (beside_then p.then last.server) p.then c.in-Some.answer)) (endpoint_of last) (session_in last) c.conclude.result (endpoint_of c.conclude.new.self) (session_in c.conclude.new.self)) q.2 told in
     c.halves_law.ensures.served (endpoint_of c.args.core.now).budget c.args.core.now c.begin.new.self last c.conclude.new.self c.args.device.now c.call_device.new.device c.in-Some.answer c.conclude.result begun
     c.call_device.ensures.endpoint c.call_device.ensures.session c.call_device.ensures.regions
     (subst (λ (s : Session). Called g.D.VhostUserBackendReqHandlerMut.gives (λ h o. OpensAsBackend g.L.Link.opens g.L.Handle.Handle.kinds (endpoint_of c.args.core.now).budget h o) (λ h o. OpensAsGpu g.L.Link.opens g.L.Handle.Handle.kinds (endpoint_of c.args.core.now).budget h o) c.args.device.now (beside_then p.then last.server)

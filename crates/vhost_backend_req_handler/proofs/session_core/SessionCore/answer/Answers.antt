@@ -17,7 +17,7 @@ returns g c m reads over is ready =
     let i = c.new-message.result in
     let same = message_is _ _ c.args.request c.args.handles.now m i reads over c.new-message.ensures (cc c.deref.ensures) in
     subst (λ (x : Message FrontendReq _). Answers g.L.Link.event g.D.VhostUserBackendReqHandlerMut.gives (λ h o. OpensAsBackend g.L.Link.opens g.L.Handle.Handle.kinds (endpoint_of c.args.self.now).budget h o) (λ h o. OpensAsGpu g.L.Link.opens g.L.Handle.Handle.kinds (endpoint_of c.args.self.now).budget h o)
-    c.args.request.code (row_of c.args.request.code (session_in c.args.self.now) x) (endpoint_of c.args.self.now) (session_in c.args.self.now) c.args.device.now c.serve.result (state c.serve.new.endpoint) (session_of c.serve.new.self.session) c.serve.new.device) same
+    x (row_of c.args.request.code (session_in c.args.self.now) x) (endpoint_of c.args.self.now) (session_in c.args.self.now) c.args.device.now c.serve.result (state c.serve.new.endpoint) (session_of c.serve.new.self.session) c.serve.new.device) same
     (subst (λ (r : FrontendReq). Answers g.L.Link.event g.D.VhostUserBackendReqHandlerMut.gives (λ h o. OpensAsBackend g.L.Link.opens g.L.Handle.Handle.kinds (endpoint_of c.args.self.now).budget h o) (λ h o. OpensAsGpu g.L.Link.opens g.L.Handle.Handle.kinds (endpoint_of c.args.self.now).budget h o)
-    r (row_of r (session_in c.args.self.now) (message_in i (handles_in c.args.handles.now))) (endpoint_of c.args.self.now) (session_in c.args.self.now) c.args.device.now c.serve.result (state c.serve.new.endpoint) (session_of c.serve.new.self.session) c.serve.new.device) c.new-message.ensures.request
+    (message_in i (handles_in c.args.handles.now)) (row_of r (session_in c.args.self.now) (message_in i (handles_in c.args.handles.now))) (endpoint_of c.args.self.now) (session_in c.args.self.now) c.args.device.now c.serve.result (state c.serve.new.endpoint) (session_of c.serve.new.self.session) c.serve.new.device) c.new-message.ensures.request
     (c.serve.ensures ready))

@@ -13,7 +13,9 @@ use Rattle.vhost_connection.specs.Talk.{State}
 use Rattle.vhost_connection.proofs.Serving.{handles-unread, handles-request}
 use Rattle.vhost_backend_req.specs.declared.backend.Backend.{Backend}
 use Rattle.vhost_gpu_backend_req.specs.declared.backend.GpuBackend.{GpuBackend}
+use Rattle.vhost_backend_core.specs.Beginning.{handles_in}
 use Rattle.vhost_backend_core.specs.Session.{session_of}
+use Rattle.vhost_backend_core.specs.Settling.{Settles}
 use Rattle.vhost_backend_req_handler.specs.Core.{endpoint_of, session_in}
 use Rattle.vhost_backend_req_handler.specs.Halves.{Denies, Prepares, uncalled, unopened}
 use Rattle.vhost_backend_req_handler.specs.Serving.{HandlesOne, fitting, kept_unsent}
@@ -47,6 +49,7 @@ returns-in-Ok-clause-begun g c alive =
         hears = subst (λ (x : State g.row.L.Denot g.row.L-Handle.Denot). Hears g.L.Link.event (split request_of allows_handles) (endpoint_of c.args.self.now) (Ok r.message) x) (sym begun.1) r.hears;
         list = ap (λ (x : State g.row.L.Denot g.row.L-Handle.Denot). x.list) begun.1 ∙ r.list;
       };
+      settles = subst (λ (x : Message FrontendReq g.row.L-Handle.Denot). Settles (session_in c.args.self.now) x c.unanswered-unanswered.result) same (c.unanswered-unanswered.ensures (handles_in c.in_ok-request.handles));
       prepares = subst (λ (x : Message FrontendReq g.row.L-Handle.Denot). Prepares (Backend g.row.L.Denot g.row.L-Handle.Denot) (GpuBackend g.row.L.Denot g.row.L-Handle.Denot) (session_in c.args.self.now) x c.in-Ok.then c.begin.new.self.regions) same begun.0;
       session = ap (λ t. session_of t) begun.2;
     }
@@ -62,4 +65,4 @@ returns-in-Err-clause-refused g c alive =
     (λ m reads over ready.
     let same = message_is _ _ c.in_ok-request.request c.in_ok-request.handles m i reads over c.new-message.ensures (cc c.deref.ensures) in
     meets-row g.L.Link.event (uncalled B G) (λ h o. ⊥) (λ h o. ⊥) m.request _ _ _ _ tt tt m _ refl
-    (subst (λ (x : Message FrontendReq g.row.L-Handle.Denot). Denies B G g.L.Link.event x.request (row_of x.request (session_in c.args.self.now) x) (state c.recv_request.new.self) (session_in c.args.self.now) c.in-Err.error (state c.begin.new.endpoint) (session_of c.begin.new.self.session)) same (c.in-Err.ensures.refused ready)))
+    (subst (λ (x : Message FrontendReq g.row.L-Handle.Denot). Denies B G g.L.Link.event x (row_of x.request (session_in c.args.self.now) x) (state c.recv_request.new.self) (session_in c.args.self.now) c.in-Err.error (state c.begin.new.endpoint) (session_of c.begin.new.self.session)) same (c.in-Err.ensures.refused ready (c.unanswered-unanswered.ensures (handles_in c.in_ok-request.handles)))))

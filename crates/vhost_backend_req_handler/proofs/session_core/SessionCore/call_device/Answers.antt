@@ -26,4 +26,5 @@ returns-in-Some-clause-pending g c p is =
       refl,
       c.make-answer.ensures.request ∙ ap (λ (x : Pending g.row.L-Handle.Denot). x.request) same,
       c.make-answer.ensures.then ∙ ap (λ (x : Pending g.row.L-Handle.Denot). x.then) same,
+      c.make-answer.ensures.unanswered ∙ ap (λ (x : Pending g.row.L-Handle.Denot). x.unanswered) same,
     )

@@ -22,7 +22,7 @@ pub returns-in-PostcopyListen-clause-taken : goal.returns-in-PostcopyListen-clau
 returns-in-PostcopyListen-clause-taken g c = renamed (ap call_in c.in-PostcopyListen.is) (record { taken = λ may kept. took c.done-in-PostcopyListen.ensures.same (c.take_postcopy_listen.ensures.taken may); quiet = c.take_postcopy_listen.ensures.quiet })
 
 pub returns-in-PostcopyEnd-clause-taken : goal.returns-in-PostcopyEnd-clause-taken
-returns-in-PostcopyEnd-clause-taken g c = renamed (ap call_in c.in-PostcopyEnd.is) (record { taken = λ may kept. took c.done-in-PostcopyEnd.ensures.same (c.take_postcopy_end.ensures.taken may); quiet = c.take_postcopy_end.ensures.quiet })
+returns-in-PostcopyEnd-clause-taken g c = renamed (ap call_in c.in-PostcopyEnd.is) (record { taken = λ may kept. took-either may (λ is. took c.done-in-PostcopyEnd.ensures.same (c.take_postcopy_end.ensures.acked is)) (λ is. took-reply is c.done-in-PostcopyEnd.ensures.same (c.take_postcopy_end.ensures.replied is)); quiet = c.take_postcopy_end.ensures.quiet })
 
 pub returns-in-SetLogBase-clause-taken : goal.returns-in-SetLogBase-clause-taken
 returns-in-SetLogBase-clause-taken g c = renamed (ap call_in c.in-SetLogBase.is) (record { taken = λ may kept. took-either may (λ is. took c.done.ensures.same (c.take_set_log_base.ensures.base _ _ is)) (λ is. took-reply is c.done.ensures.same (c.take_set_log_base.ensures.area _ _ is)); quiet = c.take_set_log_base.ensures.quiet })

@@ -1,25 +1,35 @@
 -- GET_INFLIGHT_FD: its reply.
-use Rattle.std.proofs.Common.{◌≡◌, List, [], ◌∷◌, sym, refl, ◌∙◌, true, Some, Ok, Err}
-use Rattle.std.specs.Prelude.{if◌then◌else◌}
+use Rattle.std.proofs.Common.{◌≡◌, Bool, List, Result, Some, Ok, Err, true, sym, ap, refl, ◌∙◌}
+use Rattle.std.specs.Prelude.{◌==◌, ◌&&◌, if◌then◌else◌}
 use Rattle.vhost_message.specs.Valid.{is_valid_inflight}
+use Rattle.vhost_message.specs.declared.error.Error as declared
 use Rattle.vhost_message.specs.declared.records.inflight.VhostUserInflight.{VhostUserInflight}
-use Rattle.vhost_protocol.specs.AnswerTable.{answered, with_one}
-use Rattle.vhost_protocol.specs.Error.{InvalidMessage}
-use Rattle.vhost_protocol.specs.FrontendCall.{InflightOf}
+use Rattle.vhost_protocol.specs.AnswerTable.{answered, inflight_reply}
+use Rattle.vhost_protocol.specs.Error.{InvalidMessage, seen_result}
+use Rattle.vhost_protocol.specs.FrontendCall.{Frontend, InflightOf}
+use Rattle.vhost_protocol.specs.Profile.{is_standard}
 use Rattle.vhost_frontend_core.specs.Frontend.{session_of}
-use Rattle.vhost_frontend_core.proofs.Taking.{one-replied, one-fails, with-one-err}
+use Rattle.vhost_frontend_core.specs.Taking.{one_unless, valued}
+use Rattle.vhost_frontend_core.proofs.Taking.{any-replied, unreplied, one-area, one-valued}
 use Rattle.vhost_frontend_core.proofs.internal.FrontendInternal.take_get_inflight_fd.Goals as goal
 
--- a valid buffer, with the handles that came
-buffer-is : {H : Type 0} (i j : VhostUserInflight) (hs : List H) → i ≡ j → is_valid_inflight i ≡ true
-    → (if is_valid_inflight j then with_one hs (InflightOf j) else Err InvalidMessage) ≡ with_one hs (InflightOf i)
-buffer-is i j hs e ok = rw (sym e, ok) refl
+-- a valid region, with the handles that came
+area-is : {H : Type 0} (f f' : Frontend) (i j : VhostUserInflight) (hs : List H) (none : Bool) (r : Result H declared.Error) → i ≡ j → is_valid_inflight i ≡ true → none ≡ (is_standard f'.profile && i.mmap_size == 0) → f' ≡ f
+    → one_unless none hs (λ h. h) ≡ seen_result r → (if is_valid_inflight j then inflight_reply f j hs else Err InvalidMessage) ≡ valued (InflightOf i) r
+area-is f f' i j hs none r e ok by same told =
+    rw (sym e, ok) (one-area f i hs ∙ ap (λ b. one_unless b hs (InflightOf i)) (sym (by ∙ ap (λ (g : Frontend). is_standard g.profile && i.mmap_size == 0) same)) ∙ one-valued (InflightOf i) none hs r told)
 
-pub returns-in-Ok-clause-taken : goal.returns-in-Ok-clause-taken
-returns-in-Ok-clause-taken g c asked =
-    one-replied c.in-Ok.ensures.taken (λ cells. refl) (λ r. refl)
-    (λ r is ok. (λ j. Some (answered (session_of c.args.self.now) (buffer-is c.in-Ok.buffer.0 _ (c.in-Ok.buffer.1 ∷ []) is ok j))) ∙ (λ j. Some (answered (sym c.take_reply_with_handle.ensures.session j) (Ok (InflightOf c.in-Ok.buffer.0 c.in-Ok.buffer.1)))))
+pub returns-in-Ok-one_of-clause-taken : goal.returns-in-Ok-one_of-clause-taken
+returns-in-Ok-one_of-clause-taken g c asked =
+    any-replied c.in-Ok.ensures.taken (λ cells. refl) (λ r. refl) (λ r is ok came.
+    ap (λ x. Some (answered (session_of c.args.self.now) x)) (area-is (session_of c.args.self.now) _ c.in-Ok.area _ r.handles _ (Ok c.in-Ok-one_of.handle) is ok c.says_none.ensures c.take_reply.ensures.session (c.in-Ok-one_of.ensures r.handles came))
+    ∙ ap (λ (f : Frontend). Some (answered f (valued (InflightOf c.in-Ok.area) (Ok c.in-Ok-one_of.handle)))) (sym c.take_reply.ensures.session))
+
+pub returns-in-Err-one_of-clause-taken : goal.returns-in-Err-one_of-clause-taken
+returns-in-Err-one_of-clause-taken g c asked =
+    any-replied c.in-Ok.ensures.taken (λ cells. refl) (λ r. refl) (λ r is ok came.
+    ap (λ x. Some (answered (session_of c.args.self.now) x)) (area-is (session_of c.args.self.now) _ c.in-Ok.area _ r.handles _ (Err c.in-Err-one_of.error) is ok c.says_none.ensures c.take_reply.ensures.session (c.in-Err-one_of.ensures r.handles came))
+    ∙ ap (λ (f : Frontend). Some (answered f (valued (InflightOf c.in-Ok.area) (Err c.in-Err-one_of.error)))) (sym c.take_reply.ensures.session))
 
 pub returns-in-Err-clause-taken : goal.returns-in-Err-clause-taken
-returns-in-Err-clause-taken g c asked =
-    one-fails c.in-Err.ensures.taken (λ cells. refl) (λ r. refl) (λ r t is ok several j. Some (answered (session_of c.args.self.now) ((buffer-is t _ r.handles is ok ∙ with-one-err (λ h. InflightOf t h) r.handles _ several) j))) c.take_reply_with_handle.ensures.session
+returns-in-Err-clause-taken g c asked = unreplied c.in-Err.ensures.taken (λ cells. refl) c.take_reply.ensures.session

@@ -1,13 +1,16 @@
--- POSTCOPY_END: its acknowledgement.
-use Rattle.std.proofs.Common.{ap, refl}
-use Rattle.vhost_message.specs.declared.postcopy.PostcopyState.TheVariants.{End}
-use Rattle.vhost_protocol.specs.FrontendCall.{Frontend, PostcopyEnd}
-use Rattle.vhost_frontend_core.proofs.Taking.{succeeds, failed-as}
+-- POSTCOPY_END: its reply or acknowledgement, where there is one.
 use Rattle.vhost_frontend_core.proofs.internal.FrontendInternal.take_postcopy_end.Goals as goal
 
-pub returns-in-Ok-clause-taken : goal.returns-in-Ok-clause-taken
-returns-in-Ok-clause-taken g c is =
-    succeeds PostcopyEnd tt c.args.sent.awaited refl (ap (λ (f : Frontend). record f { postcopy = End }) c.take_ack.ensures.session) is c.in-Ok.ensures.taken
+pub returns-in-Reply : goal.returns-in-Reply
+returns-in-Reply g c = record {
+  replied = λ is. c.take_end.ensures.taken;
+  acked = λ ack. absurd (rw c.in-Reply.is at ack);
+  quiet = c.take_end.ensures.quiet;
+}
 
-pub returns-in-Err-clause-taken : goal.returns-in-Err-clause-taken
-returns-in-Err-clause-taken g c is = failed-as PostcopyEnd c.args.sent.awaited c.take_ack.ensures.session is c.in-Err.ensures.taken
+pub returns-in_default : goal.returns-in_default
+returns-in_default g c = record {
+  replied = λ is. absurd (c.in_default.not-Reply _ is);
+  acked = c.take_end_ack.ensures.taken;
+  quiet = c.take_end_ack.ensures.quiet;
+}

@@ -3,6 +3,7 @@ use Rattle.std.specs.Prelude.{Ok, Err}
 use Rattle.vhost_frontend_core.specs.Values.{call_of}
 use Rattle.vhost_pair.specs.Joined.{Steps}
 use Rattle.vhost_pair.specs.Sides.{parts_of, as_view}
+use Rattle.vhost_pair.proofs.Ending.{stepped-to-end}
 use Rattle.vhost_pair.proofs.Running.{not-stopped, held}
 use Rattle.vhost_pair.proofs.Stepping.{still-sound, steps-so, sound-so, halts-so, sound-halted}
 use Rattle.vhost_pair.proofs.joined.Joined.step.Goals as goal
@@ -17,24 +18,30 @@ returns-in-Ok g c =
     let none = not-stopped (c.self.inside.stopped) (sym c.is_some.ensures ∙ c.if-is_some.false) in
     let gives = g.D.VhostUserBackendReqHandlerMut.gives in
     let lists = held c.prepare.result _ (sym c.is_err.ensures.value ∙ c.if-is_err.false) c.prepare.ensures.lists in
+    let stepped : Steps gives c.args.self.now (call_of c.args.call.now) (Ok c.in-Ok.done.answer) (as_view (parts_of c.exchange.new.self) c.in-Ok.done.stop) =
+    subst (λ v. Steps gives v (call_of c.args.call.now) (Ok c.in-Ok.done.answer) (as_view (parts_of c.exchange.new.self) c.in-Ok.done.stop)) c.self.view_is
+    (steps-so gives (call_of c.args.call.now) (parts_of c.self.inside.sides) (parts_of c.prepare.new.self) c.prepare.ensures.asking c.prepare.ensures.serving c.prepare.ensures.rest
+    c.in-Ok.done (parts_of c.exchange.new.self) c.self.inside.stopped none (c.self.invariant none) lists c.in-Ok.ensures.done)
+    in
     record {
-      step =
-          subst (λ v. Steps gives v (call_of c.args.call.now) (Ok c.in-Ok.done.answer) (as_view (parts_of c.exchange.new.self) c.in-Ok.done.stop)) c.self.view_is
-          (steps-so gives (call_of c.args.call.now) (parts_of c.self.inside.sides) (parts_of c.prepare.new.self) c.prepare.ensures.asking c.prepare.ensures.serving c.prepare.ensures.rest
-          c.in-Ok.done (parts_of c.exchange.new.self) c.self.inside.stopped none (c.self.invariant none) lists c.in-Ok.ensures.done);
+      step = stepped;
       listed = c.in-Ok.ensures.listed;
+      ends = stepped-to-end gives c.args.self.now (as_view (parts_of c.exchange.new.self) c.in-Ok.done.stop) (call_of c.args.call.now) (Ok c.in-Ok.done.answer) stepped;
     }
 
 pub returns-in-Err : goal.returns-in-Err
 returns-in-Err g c =
     let none = not-stopped (c.self.inside.stopped) (sym c.is_some.ensures ∙ c.if-is_some.false) in
     let gives = g.D.VhostUserBackendReqHandlerMut.gives in
+    let stepped : Steps gives c.args.self.now (call_of c.args.call.now) (Err c.in-Err.halt) (as_view (parts_of c.exchange.new.self) c.self.inside.stopped) =
+    subst (λ v. Steps gives v (call_of c.args.call.now) (Err c.in-Err.halt) (as_view (parts_of c.exchange.new.self) c.self.inside.stopped)) c.self.view_is
+    (halts-so gives (call_of c.args.call.now) (parts_of c.self.inside.sides) (parts_of c.prepare.new.self) c.prepare.ensures.asking c.prepare.ensures.serving c.prepare.ensures.rest
+    c.in-Err.halt (parts_of c.exchange.new.self) c.self.inside.stopped none c.in-Err.ensures.done)
+    in
     record {
-      step =
-          subst (λ v. Steps gives v (call_of c.args.call.now) (Err c.in-Err.halt) (as_view (parts_of c.exchange.new.self) c.self.inside.stopped)) c.self.view_is
-          (halts-so gives (call_of c.args.call.now) (parts_of c.self.inside.sides) (parts_of c.prepare.new.self) c.prepare.ensures.asking c.prepare.ensures.serving c.prepare.ensures.rest
-          c.in-Err.halt (parts_of c.exchange.new.self) c.self.inside.stopped none c.in-Err.ensures.done);
+      step = stepped;
       listed = tt;
+      ends = stepped-to-end gives c.args.self.now (as_view (parts_of c.exchange.new.self) c.self.inside.stopped) (call_of c.args.call.now) (Err c.in-Err.halt) stepped;
     }
 
 pub invariant_of-self-in-Ok : goal.invariant_of-self-in-Ok
