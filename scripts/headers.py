@@ -13,10 +13,11 @@ import sys
 TOP = os.path.dirname(os.path.dirname(os.path.realpath(__file__)))
 MESSAGE = "crates/vhost_message/src"
 
-# The headers' names of refusals that no error of the protocol is: a socket's.
-OF_SOCKETS = {"TIMED_OUT", "FDS_LOST", "INVALID_PATH"}
-# Constants whose values say nothing of the code's.
-OWN = {"COVRETIN_VERSION"}
+# The headers' names of refusals that no error of the protocol is: a socket's, and a device's.
+OF_SOCKETS = {"TIMED_OUT", "FDS_LOST", "INVALID_PATH", "MEMORY_LOST", "STOPPED"}
+# Constants whose values say nothing of the code's: a device's features are virtio's, and how many queues it has is its own.
+OWN = {"COVRETIN_VERSION", "COVRETIN_DEVICE_MAX_QUEUES", "COVRETIN_DEVICE_VERSION_1", "COVRETIN_DEVICE_INDIRECT_DESC"}
+OWN |= {"COVRETIN_DEVICE_EVENT_IDX", "COVRETIN_DEVICE_RING_PACKED"}
 
 
 def read(path):
@@ -73,6 +74,10 @@ def wanted():
         # (the library for C makes no request of HOST_NOTIFIER)
         "COVRETIN_SERVED_PROTOCOL_FEATURES": features["SERVED_PROTOCOL_FEATURES"] & ~(1 << bits["HOST_NOTIFIER"]),
         "COVRETIN_OK": 0,
+        "COVRETIN_QUEUE_OK": 0,
+        "COVRETIN_DEVICE_MAX_REGIONS": constants("crates/vhost_queue/src/memory.rt")["MAX_REGIONS"],
+        # (a chain has as many segments at most)
+        "COVRETIN_DEVICE_MAX_QUEUE_SIZE": constants("crates/vhost_queue/src/queue.rt")["MIN_INDIRECT_LIMIT"],
     }
     found.update({f"COVRETIN_PROTOCOL_{name}": 1 << bit for name, bit in bits.items()})
     found.update({f"COVRETIN_FEATURE_{name}": 1 << bit for name, bit in virtio.items()})
@@ -85,6 +90,8 @@ def wanted():
         found[f"COVRETIN_DISPLAY_FEATURE_{name}"] = 1 << int(number, 16)
     for name, number in re.findall(r"number \(?(?:error|refusal)\.(\w+).* = (\d+)", read("crates/vhost_c_common/specs/Number.antt")):
         found[f"COVRETIN_{name}"] = int(number)
+    for name, number in re.findall(r"number (\w+) = (\d+)", read("crates/vhost_c_queue/specs/Number.antt")):
+        found[f"COVRETIN_QUEUE_{name}"] = int(number)
     for number, name in re.findall(r"(\d+) => Some\(Profile::(\w+)\)", read("crates/vhost_c_common/src/profile.rt")):
         found[f"COVRETIN_PROFILE_{name}"] = int(number)
     return found, {"MAX_FDS": "COVRETIN_MAX_FDS", "MAX_MESSAGE": "COVRETIN_MAX_MESSAGE", "MAX_CONFIG": "COVRETIN_MAX_CONFIG"}
@@ -122,7 +129,7 @@ def needed_in_c():
 
 def needed_in_rust(bits):
     """The same by the last word of each call's documentation in the package for Rust."""
-    found = re.findall(r"((?:^ +/// .*\n)+) +(?:pub )?fn (\w+)\(", read("rust/src/vhost_user/frontend.rs"), re.MULTILINE)
+    found = re.findall(r"((?:^ +/// .*\n)+)(?: +#\[.*\]\n)* +(?:pub )?fn (\w+)\(", read("rust/src/vhost_user/frontend.rs"), re.MULTILINE)
     for text, call in found:
         last = re.search(r"(?:^|\. |/// )([A-Z_]+)(?: offered| accepted)?\.(?: Leave out .*)?$", re.sub(r"\s+///", "", text.strip()))
         if last and last[1] in {*bits, "PROTOCOL_FEATURES"}:

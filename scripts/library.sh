@@ -15,3 +15,12 @@ find_library() {
     fi
     proved="$archive $top/c/covretin_memory.c"
 }
+
+# The calls of queues, a proved library of their own, in `queues`: that of generated/, where it was made of these sources. Else they are
+# left out, and `queues` is empty.
+find_queues() {
+    queues=
+    "$top/scripts/generate.py" --current x86_64/covretin_queue || return 0
+    queues=$room/queues.o
+    cc -c -o "$queues" "$top/generated/x86_64-linux/covretin_queue.s"
+}

@@ -65,7 +65,7 @@ def write(path, text):
 def fields_of():
     """The fields of each record of the headers, and the crate that it is of."""
     found = {}
-    for path in glob.glob(f"{TOP}/crates/vhost_c_*/src/*records.rt"):
+    for path in (path for name in crates_below(NAME) for path in glob.glob(f"{TOP}/crates/{name}/src/*records.rt")):
         for name, fields in re.findall(r"pub struct (\w+) \{\n(.*?)\n\}", text_of(path), re.S):
             found[name] = path.split("/")[-3], re.findall(r"(?m)^    pub (\w+): (\w+),", fields)
     return found

@@ -1,0 +1,249 @@
+/* A queue in memory of this process: chains of either layout are taken, followed and used; what a guest does wrong is refused. */
+#include "covretin_queue.h"
+#include "testing.h"
+
+#include <stdlib.h>
+#include <string.h>
+
+#define GUEST 0x100000u  /* where the guest has the memory, */
+#define USER 0x70000000u /* and the frontend */
+#define SIZE 0x10000u
+
+static _Alignas(16) uint8_t memory[SIZE];
+#define HOLDS(that) EXPECT(true, that)
+
+static void put(size_t at, const void *bytes, size_t len)
+{
+    memcpy(memory + at, bytes, len);
+}
+
+static void put16(size_t at, uint16_t value)
+{
+    put(at, &value, 2);
+}
+
+static void put_descriptor(size_t at, uint64_t addr, uint32_t len, uint16_t third, uint16_t fourth)
+{
+    covretin_descriptor d = {addr, len, third, fourth};
+    put(at, &d, sizeof d);
+}
+
+/* What lies at a range, which has to be inside the memory. */
+static void get(covretin_range range, void *bytes)
+{
+    uint64_t base = (uint64_t)(uintptr_t)memory;
+    if (range.addr < base || range.len > SIZE || range.addr - base > SIZE - range.len)
+        abort();
+    memcpy(bytes, memory + (range.addr - base), range.len);
+}
+
+static uint16_t get16(covretin_range range)
+{
+    uint16_t value;
+    if (range.len != 2)
+        abort();
+    get(range, &value);
+    return value;
+}
+
+static covretin_queue opened(void)
+{
+    covretin_queue queue = {0};
+    covretin_guest_region region = {GUEST, SIZE, USER, 0};
+    region.host_addr = (uint64_t)(uintptr_t)memory;
+    memset(memory, 0, sizeof memory);
+    HOLDS(covretin_queue_open(&queue) == 0);
+    HOLDS(covretin_queue_open(&queue) == COVRETIN_QUEUE_QUEUE_OPEN);
+    HOLDS(covretin_queue_set_regions(&queue, &region, 1) == 0);
+    return queue;
+}
+
+/* Follows the chain to its end, or to a refusal: how many segments came. */
+static enum covretin_queue_error follow(covretin_queue *queue, covretin_segment *segments, size_t *count)
+{
+    *count = 0;
+    for (;;) {
+        covretin_range place;
+        covretin_descriptor descriptor;
+        bool found;
+        enum covretin_queue_error error = covretin_queue_descriptor_place(queue, &place, &found);
+        if (error != 0 || !found)
+            return error;
+        get(place, &descriptor);
+        error = covretin_queue_step(queue, &descriptor, &segments[*count], &found);
+        if (error != 0)
+            return error;
+        *count += found;
+    }
+}
+
+/* The rings of a queue of four: descriptors at 0, the available ring at 0x100, the used ring at 0x200. */
+static covretin_split_ring split_ring(void)
+{
+    covretin_split_ring ring = {USER, USER + 0x100, USER + 0x200, 4, 0, 0, true, true};
+    return ring;
+}
+
+static void split_queue(void)
+{
+    covretin_queue queue = opened();
+    covretin_split_ring ring = split_ring();
+    covretin_range place;
+    covretin_segment segments[8];
+    covretin_used used;
+    covretin_event_write event;
+    uint16_t count;
+    uint32_t base;
+    size_t n;
+    bool on;
+
+    HOLDS(covretin_queue_available_place(&queue, &place) == COVRETIN_QUEUE_NOT_STARTED);
+    HOLDS(covretin_queue_start_split(&queue, &ring) == 0);
+    put_descriptor(0, GUEST + 0x1000, 16, 1, 2);
+    put_descriptor(32, GUEST + 0x2000, 32, 4, 0);
+    put_descriptor(0x2000, GUEST + 0x3000, 512, 3, 1);
+    put_descriptor(0x2010, GUEST + 0x4000, 1, 2, 0);
+    put16(0x102, 1);
+    put16(0x104, 0);
+    HOLDS(covretin_queue_available_place(&queue, &place) == 0);
+    HOLDS(covretin_queue_available(&queue, get16(place), &count) == 0 && count == 1);
+    HOLDS(covretin_queue_head_place(&queue, &place) == 0);
+    HOLDS(covretin_queue_pop(&queue, get16(place)) == 0);
+    HOLDS(follow(&queue, segments, &n) == 0 && n == 3);
+    HOLDS(segments[0].range.addr == (uint64_t)(uintptr_t)(memory + 0x1000) && segments[0].range.len == 16 && !segments[0].writable);
+    HOLDS(segments[1].guest_addr == GUEST + 0x3000 && segments[1].range.len == 512 && segments[1].writable);
+    HOLDS(segments[2].range.len == 1 && segments[2].writable);
+    HOLDS(covretin_queue_add_used(&queue, 1, 0, &used) == COVRETIN_QUEUE_NOT_HANDED_OUT);
+    HOLDS(covretin_queue_add_used(&queue, 0, 513, &used) == 0);
+    HOLDS(used.elem.addr == (uint64_t)(uintptr_t)(memory + 0x204) && used.elem.len == 8 && used.elem_value == (uint64_t)513 << 32);
+    HOLDS(used.then.addr == (uint64_t)(uintptr_t)(memory + 0x202) && used.then.len == 2 && used.then_value == 1);
+    HOLDS(covretin_queue_add_used(&queue, 0, 513, &used) == COVRETIN_QUEUE_NOT_HANDED_OUT);
+    HOLDS(covretin_queue_notification_place(&queue, &place) == 0 && place.addr == (uint64_t)(uintptr_t)(memory + 0x10c));
+    HOLDS(covretin_queue_needs_notification(&queue, 5, 0, &on) == 0 && on);
+    HOLDS(covretin_queue_needs_notification(&queue, 0, 0, &on) == 0 && !on);
+    HOLDS(covretin_queue_set_notification(&queue, true, &event) == 0 && event.place.len == 2 && event.value == 1);
+    HOLDS(covretin_queue_set_notification(&queue, false, &event) == 0 && event.place.len == 0);
+    HOLDS(covretin_queue_base(&queue, &base) == 0 && base == 1);
+    HOLDS(covretin_queue_head_place(&queue, &place) == COVRETIN_QUEUE_NOTHING_AVAILABLE);
+    HOLDS(covretin_queue_move_split(&queue, USER + 0x8000, USER + 0x8100, USER + 0x8200) == 0);
+    HOLDS(covretin_queue_available_place(&queue, &place) == 0 && place.addr == (uint64_t)(uintptr_t)(memory + 0x8102));
+    HOLDS(covretin_queue_available(&queue, 7, &count) == COVRETIN_QUEUE_TOO_MANY_AVAILABLE);
+    HOLDS(covretin_queue_needs_reset(&queue, &on) == 0 && on);
+    covretin_queue_close(&queue);
+    HOLDS(queue.opaque == NULL);
+    HOLDS(covretin_queue_available(&queue, 7, &count) == COVRETIN_QUEUE_NO_QUEUE);
+}
+
+/* A chain of these two descriptors is refused so. */
+static void refused(covretin_descriptor first, covretin_descriptor second, enum covretin_queue_error as)
+{
+    covretin_queue queue = opened();
+    covretin_split_ring ring = split_ring();
+    covretin_segment segments[8];
+    uint16_t count;
+    size_t n;
+
+    HOLDS(covretin_queue_start_split(&queue, &ring) == 0);
+    put(0, &first, sizeof first);
+    put(16, &second, sizeof second);
+    HOLDS(covretin_queue_available(&queue, 1, &count) == 0);
+    HOLDS(covretin_queue_pop(&queue, 0) == 0);
+    HOLDS(follow(&queue, segments, &n) == as);
+    HOLDS(follow(&queue, segments, &n) == COVRETIN_QUEUE_NEEDS_RESET);
+    HOLDS(covretin_queue_pop(&queue, 0) == COVRETIN_QUEUE_NEEDS_RESET);
+    covretin_queue_close(&queue);
+}
+
+static void refused_chains(void)
+{
+    covretin_descriptor one = {GUEST, 16, 1, 1}, last = {GUEST, 16, 0, 0};
+    covretin_descriptor back = {GUEST, 16, 1, 0}, away = {GUEST, 16, 1, 4}, empty = {GUEST, 0, 0, 0}, long_one = {GUEST, SIZE + 1, 0, 0};
+    covretin_descriptor written = {GUEST, 16, 3, 1}, odd = {GUEST, 24, 4, 0}, on = {GUEST, 16, 5, 0}, greater = {GUEST, 1025 * 16, 4, 0};
+
+    refused(one, back, COVRETIN_QUEUE_DESCRIPTOR_LOOP);
+    refused(one, away, COVRETIN_QUEUE_NOT_IN_TABLE);
+    refused(one, empty, COVRETIN_QUEUE_EMPTY_DESCRIPTOR);
+    refused(one, long_one, COVRETIN_QUEUE_NOT_IN_GUEST);
+    refused(written, last, COVRETIN_QUEUE_READABLE_AFTER_WRITABLE);
+    refused(one, odd, COVRETIN_QUEUE_INVALID_INDIRECT_LENGTH);
+    refused(one, on, COVRETIN_QUEUE_INDIRECT_GOES_ON);
+    refused(one, greater, COVRETIN_QUEUE_CHAIN_TOO_LONG);
+}
+
+/* A ring of three at 0, the driver's area at 0x100, the device's at 0x104. */
+static void packed_queue(void)
+{
+    covretin_queue queue = opened();
+    covretin_packed_ring ring = {USER, USER + 0x100, USER + 0x104, 3, 0x8000, 0x8000, true, false};
+    covretin_range place;
+    covretin_segment segments[8];
+    covretin_used used;
+    covretin_event_write event;
+    uint16_t count;
+    uint32_t base;
+    size_t n;
+    bool on;
+
+    HOLDS(covretin_queue_start_packed(&queue, &ring) == 0);
+    put_descriptor(0, GUEST + 0x1000, 16, 0, 0x81);
+    put_descriptor(16, GUEST + 0x2000, 512, 2, 0x82);
+    HOLDS(covretin_queue_available_place(&queue, &place) == 0);
+    HOLDS(covretin_queue_available(&queue, get16(place), &count) == 0 && count == 1);
+    HOLDS(follow(&queue, segments, &n) == 0 && n == 2);
+    HOLDS(segments[1].guest_addr == GUEST + 0x2000 && segments[1].writable);
+    HOLDS(covretin_queue_available_place(&queue, &place) == 0 && place.addr == (uint64_t)(uintptr_t)(memory + 46));
+    HOLDS(covretin_queue_available(&queue, get16(place), &count) == 0 && count == 0);
+    HOLDS(covretin_queue_add_used(&queue, 0, 0, &used) == COVRETIN_QUEUE_NOT_HANDED_OUT);
+    HOLDS(covretin_queue_add_used(&queue, 2, 512, &used) == 0);
+    HOLDS(used.elem.addr == (uint64_t)(uintptr_t)(memory + 8) && used.elem.len == 6 && used.elem_value == ((uint64_t)2 << 32) + 512);
+    HOLDS(used.then.addr == (uint64_t)(uintptr_t)(memory + 14) && used.then_value == 0x8082);
+    HOLDS(covretin_queue_notification_place(&queue, &place) == 0 && place.addr == (uint64_t)(uintptr_t)(memory + 0x100) && place.len == 4);
+    HOLDS(covretin_queue_needs_notification(&queue, 0x8000, 2, &on) == 0 && on);
+    HOLDS(covretin_queue_needs_notification(&queue, 0x8001, 2, &on) == 0 && !on);
+    HOLDS(covretin_queue_set_notification(&queue, true, &event) == 0 && event.place.len == 4 && event.value == 0x28002);
+    HOLDS(covretin_queue_base(&queue, &base) == 0 && base == 0x80028002);
+    HOLDS(covretin_queue_pop(&queue, 0) == COVRETIN_QUEUE_OTHER_LAYOUT);
+    put_descriptor(32, GUEST + 0x1000, 16, 2, 0x80);
+    HOLDS(covretin_queue_available(&queue, 0x80, &count) == 0 && count == 1);
+    HOLDS(follow(&queue, segments, &n) == 0 && n == 1);
+    HOLDS(covretin_queue_base(&queue, &base) == 0 && base == 0x80020000);
+    HOLDS(covretin_queue_add_used(&queue, 2, 0, &used) == 0 && used.then_value == 0x8080);
+    HOLDS(covretin_queue_base(&queue, &base) == 0 && base == 0);
+    covretin_queue_close(&queue);
+}
+
+static void inflight_and_log(void)
+{
+    covretin_inflight_entry entries[4] = {{true, 0, 9}, {true, 0, 5}, {true, 0, 7}, {false, 0, 1}};
+    covretin_inflight_write first, second;
+    covretin_resubmit again[4];
+    covretin_log_bit bit;
+    bool settled[4];
+    size_t count;
+    uint64_t from, end;
+
+    HOLDS(covretin_inflight_recover(entries, 4, 2, 6, 7, settled, 4, again, 4, &count) == 0 && count == 2);
+    HOLDS(again[0].head == 1 && again[1].head == 0 && settled[2] && !settled[0]);
+    HOLDS(covretin_inflight_recover(entries, 4, 2, 0, 7, settled, 4, again, 4, &count) == COVRETIN_QUEUE_INVALID_INFLIGHT);
+    HOLDS(covretin_inflight_recover(entries, 4, 2, 6, 7, settled, 3, again, 4, &count) == COVRETIN_QUEUE_NO_ROOM);
+    covretin_inflight_take(3, 42, &first, &second);
+    HOLDS(first.offset == 72 && first.len == 8 && first.value == 42 && second.offset == 64 && second.len == 1 && second.value == 1);
+    covretin_inflight_before_used(3, 1, &first, &second);
+    HOLDS(first.offset == 70 && first.value == 1 && second.offset == 12 && second.value == 3);
+    covretin_inflight_after_used(3, 8, &first, &second);
+    HOLDS(first.offset == 64 && first.value == 0 && second.offset == 14 && second.value == 8);
+    HOLDS(covretin_log_pages(4095, 2, 100, &from, &end) == 0 && from == 0 && end == 2);
+    HOLDS(covretin_log_pages(4096 * 9, 4096 * 9, 2, &from, &end) == 0 && from == 9 && end == 16);
+    HOLDS(covretin_log_pages(UINT64_MAX, 2, 2, &from, &end) == COVRETIN_QUEUE_NOT_IN_GUEST);
+    covretin_log_bit_of(13, &bit);
+    HOLDS(bit.byte == 1 && bit.mask == 32);
+}
+
+int main(void)
+{
+    RUN(split_queue);
+    RUN(refused_chains);
+    RUN(packed_queue);
+    RUN(inflight_and_log);
+    return status();
+}

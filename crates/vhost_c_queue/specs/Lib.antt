@@ -1,0 +1,2 @@
+pub mod DeviceQueue
+pub mod Number

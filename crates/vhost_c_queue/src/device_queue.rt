@@ -1,0 +1,398 @@
+//! A queue of either layout, and the memory that it sees.
+
+ghost use Rattle.std.specs.Prelude.{◌≡◌, [], ◌++◌, ◌∷◌, Ok, Err, OnOk, OnErr, IfOk, IfErr};
+
+use crate::bytes::as_packed;
+use crate::records::{EventWrite, PackedRing, SplitRing, Used};
+use crate::refusal::Refusal;
+use std::alloc::Global;
+use vhost_queue::{
+    AddressSpace, Descriptor, Error, EventSuppression, GuestMemory, GuestRegion, HostRange,
+    PackedConfig, PackedQueue, PackedRings, Position, Queue, QueueConfig, Rings, Segment,
+};
+
+// What a number counts for above 32 bits.
+const HIGH: u64 = 1 << 32;
+
+/// What a queue's rings are.
+#[derive(Drop)]
+pub enum Ring {
+    Stopped,
+    Split(Queue),
+    Packed(PackedQueue),
+}
+
+/// A queue, and the memory that it sees.
+#[derive(Drop)]
+pub struct DeviceQueue {
+    memory: GuestMemory,
+    ring: Ring,
+}
+
+impl DeviceQueue {
+    ghost use Rattle.std.specs.Prelude.{ℕ, ◌<◌, length, remove, slice_index_or, All, true, false};
+    ghost use Rattle.vhost_queue.specs.Memory.{is_at, translated, LiesIn};
+    ghost use Rattle.vhost_queue.specs.Queue.{popped, resubmitted};
+    ghost use Rattle.vhost_queue.specs.Rings.{table_range, avail_range, used_range};
+    ghost use Rattle.vhost_queue.specs.declared.memory.GuestRegion.{GuestRegion};
+    ghost use Rattle.vhost_c_queue.specs.DeviceQueue.{Answers, ByLayout, HearsPacked, HearsSplit, StepsPacked, StepsSplit, Takes, Because, IsPacked, IsSplit, StartsPacked, StartsSplit, TellsPacked, TellsSplit, UsesPacked, UsesSplit, available_place, base, descriptor_place, event_write, head_place, needs_reset, notification_place, regions};
+    ghost use Rattle.vhost_c_queue.specs.declared.device_queue.Ring.TheVariants.{Stopped};
+    ghost use Rattle.vhost_c_queue.specs.declared.refusal.Refusal.TheVariants.{NotStarted, OtherLayout};
+
+    /// A queue without rings, which sees no memory.
+    pub fn new(alloc: Global) -> DeviceQueue
+        ensures none { regions result ≡ [] }
+        ensures stopped { result.ring ≡ Stopped }
+    {
+        DeviceQueue {
+            memory: GuestMemory::new(alloc),
+            ring: Ring::Stopped,
+        }
+    }
+
+    /// The next descriptor was read as these 16 bytes: its segment, or none where it names an indirect table.
+    pub fn step(&mut self, descriptor: Descriptor) -> Result<Option<Segment>, Refusal>
+        ensures steps { ByLayout (StepsSplit (regions self.old) descriptor result) (StepsPacked (regions self.old) descriptor result) (result ≡ Err NotStarted) self.old.ring self.new.ring }
+        ensures memory { regions self.new ≡ regions self.old }
+    {
+        match &mut self.ring {
+            Ring::Stopped => Err(Refusal::NotStarted),
+            Ring::Split(queue) => match queue.step(&mut self.memory, descriptor) {
+                Ok(segment) => Ok(segment),
+                Err(error) => Err(Refusal::Queue(error)),
+            },
+            Ring::Packed(queue) => match queue.step(&mut self.memory, as_packed(descriptor)) {
+                Ok(segment) => Ok(segment),
+                Err(error) => Err(Refusal::Queue(error)),
+            },
+        }
+    }
+
+    /// The memory that it sees has these regions, in the place of those that it had. Its rings stay where they are mapped, until
+    /// they are started again or moved. A refusal changes nothing.
+    pub fn set_regions(&mut self, alloc: Global, given: &[GuestRegion]) -> Result<(), Refusal>
+        ensures ok { OnOk result (regions self.new ≡ given.now) }
+        ensures err { OnErr result (regions self.new ≡ regions self.old) }
+        ensures ring { self.new.ring ≡ self.old.ring }
+    {
+        self.memory.set(alloc, given)?;
+        Ok(())
+    }
+
+    /// A region more. A refusal changes nothing.
+    pub fn add_region(&mut self, region: GuestRegion) -> Result<(), Refusal>
+        ensures ok { OnOk result (regions self.new ≡ regions self.old ++ region ∷ []) }
+        ensures err { OnErr result (regions self.new ≡ regions self.old) }
+        ensures ring { self.new.ring ≡ self.old.ring }
+    {
+        self.memory.add(region)?;
+        Ok(())
+    }
+
+    /// A region less. A refusal changes nothing.
+    pub fn remove_region(
+        &mut self,
+        guest_addr: u64,
+        size: u64,
+        user_addr: u64,
+    ) -> Result<(), Refusal>
+        ensures ok { OnOk result ((at : ℕ) × (at < length (regions self.old)) × (regions self.new ≡ remove (regions self.old) at) × ((d : GuestRegion) → is_at (slice_index_or (regions self.old) at d) guest_addr size user_addr ≡ true)) }
+        ensures err { OnErr result (All (λ r. is_at r guest_addr size user_addr ≡ false) (regions self.old) × (regions self.new ≡ regions self.old)) }
+        ensures ring { self.new.ring ≡ self.old.ring }
+    {
+        self.memory.remove(guest_addr, size, user_addr)?;
+        Ok(())
+    }
+
+    /// Where a range of the guest's addresses, or of the frontend's, is mapped.
+    pub fn translate(
+        &mut self,
+        space: AddressSpace,
+        addr: u64,
+        len: u64,
+    ) -> Result<HostRange, Refusal>
+        ensures ok { IfOk result (λ range. translated space (regions self.old) addr len ≡ Ok range) }
+        ensures err { IfErr result (Because (λ e. translated space (regions self.old) addr len ≡ Err e)) }
+        ensures memory { regions self.new ≡ regions self.old }
+        ensures ring { self.new.ring ≡ self.old.ring }
+    {
+        match self.memory.translate(space, addr, len) {
+            Ok(range) => Ok(range),
+            Err(error) => Err(Refusal::Queue(error)),
+        }
+    }
+
+    /// The queue is a split one from now on, and begins there. A refusal changes nothing.
+    pub fn start_split(&mut self, alloc: Global, given: SplitRing) -> Result<(), Refusal>
+        ensures ok { OnOk result (IsSplit (StartsSplit (regions self.old) given) self.new.ring) }
+        ensures err { OnErr result (self.new.ring ≡ self.old.ring) }
+        ensures memory { regions self.new ≡ regions self.old }
+    {
+        let rings = Rings::map(
+            &mut self.memory,
+            given.size,
+            given.desc_table,
+            given.avail_ring,
+            given.used_ring,
+        )?;
+        let config = QueueConfig {
+            event_idx: given.event_idx,
+            indirect_desc: given.indirect_desc,
+            next_avail: given.next_avail,
+            next_used: given.next_used,
+        };
+        let queue = Queue::new(alloc, rings, config)?;
+        self.ring = Ring::Split(queue);
+        Ok(())
+    }
+
+    /// The queue is a packed one from now on, and begins there. A refusal changes nothing.
+    pub fn start_packed(&mut self, alloc: Global, given: PackedRing) -> Result<(), Refusal>
+        ensures ok { OnOk result (IsPacked (StartsPacked (regions self.old) given) self.new.ring) }
+        ensures err { OnErr result (self.new.ring ≡ self.old.ring) }
+        ensures memory { regions self.new ≡ regions self.old }
+    {
+        let rings = PackedRings::map(
+            &mut self.memory,
+            given.size,
+            given.desc_ring,
+            given.driver_event,
+            given.device_event,
+        )?;
+        let config = PackedConfig {
+            event_idx: given.event_idx,
+            indirect_desc: given.indirect_desc,
+            avail: Position::of_number(given.avail),
+            used: Position::of_number(given.used),
+        };
+        let queue = PackedQueue::new(alloc, rings, config)?;
+        self.ring = Ring::Packed(queue);
+        Ok(())
+    }
+
+    /// It has no rings any more.
+    pub fn stop(&mut self)
+        ensures stopped { self.new.ring ≡ Stopped }
+        ensures memory { regions self.new ≡ regions self.old }
+    {
+        self.ring = Ring::Stopped;
+    }
+
+    /// The rings are mapped elsewhere from now on, since regions are: those of a split queue. The chain that was followed is none any
+    /// more. A refusal changes nothing of the rings.
+    pub fn move_split(
+        &mut self,
+        desc_table: u64,
+        avail_ring: u64,
+        used_ring: u64,
+    ) -> Result<(), Refusal>
+        ensures ok { OnOk result (IsSplit (λ q. LiesIn (regions self.old) (table_range q.rings) × LiesIn (regions self.old) (avail_range q.rings) × LiesIn (regions self.old) (used_range q.rings)) self.new.ring) }
+        ensures err { OnErr result (self.new.ring ≡ self.old.ring) }
+        ensures memory { regions self.new ≡ regions self.old }
+    {
+        match &mut self.ring {
+            Ring::Stopped => Err(Refusal::NotStarted),
+            Ring::Packed(_) => Err(Refusal::OtherLayout),
+            Ring::Split(queue) => {
+                let size = queue.rings().size();
+                let rings = Rings::map(&mut self.memory, size, desc_table, avail_ring, used_ring)?;
+                queue.set_rings(rings)?;
+                Ok(())
+            }
+        }
+    }
+
+    /// Where what is available is to be read.
+    pub fn available_place(&self) -> Result<HostRange, Refusal>
+        ensures { result ≡ available_place self.now.ring }
+    {
+        match &self.ring {
+            Ring::Stopped => Err(Refusal::NotStarted),
+            Ring::Split(queue) => Ok(queue.rings().avail_idx_place()),
+            Ring::Packed(queue) => Ok(queue.avail_flags_place()),
+        }
+    }
+
+    /// What is available was read as this: how many chains are. Of a packed queue at most one is told, and it is followed.
+    pub fn available(&mut self, value: u16) -> Result<u16, Refusal>
+        ensures hears { ByLayout (HearsSplit value result) (HearsPacked value result) (result ≡ Err NotStarted) self.old.ring self.new.ring }
+        ensures memory { regions self.new ≡ regions self.old }
+    {
+        match &mut self.ring {
+            Ring::Stopped => Err(Refusal::NotStarted),
+            Ring::Split(queue) => match queue.set_avail_idx(value) {
+                Ok(count) => Ok(count),
+                Err(error) => Err(Refusal::Queue(error)),
+            },
+            Ring::Packed(queue) => match queue.pop(value) {
+                Ok(true) => Ok(1),
+                Ok(false) => Ok(0),
+                Err(error) => Err(Refusal::Queue(error)),
+            },
+        }
+    }
+
+    /// The entry of a split queue's available ring that is to be read next.
+    pub fn head_place(&self) -> Result<HostRange, Refusal>
+        ensures { result ≡ head_place self.now.ring }
+    {
+        match &self.ring {
+            Ring::Stopped => Err(Refusal::NotStarted),
+            Ring::Packed(_) => Err(Refusal::OtherLayout),
+            Ring::Split(queue) => match queue.avail_entry_place() {
+                Some(place) => Ok(place),
+                None => Err(Refusal::Queue(Error::NothingAvailable)),
+            },
+        }
+    }
+
+    /// The next entry of a split queue's available ring was read as this head, whose chain is followed.
+    pub fn pop(&mut self, head: u16) -> Result<(), Refusal>
+        ensures takes { ByLayout (Takes popped head result) (λ q p. (result ≡ Err OtherLayout) × (p ≡ q)) (result ≡ Err NotStarted) self.old.ring self.new.ring }
+        ensures memory { regions self.new ≡ regions self.old }
+    {
+        match &mut self.ring {
+            Ring::Stopped => Err(Refusal::NotStarted),
+            Ring::Packed(_) => Err(Refusal::OtherLayout),
+            Ring::Split(queue) => match queue.pop(head) {
+                Ok(()) => Ok(()),
+                Err(error) => Err(Refusal::Queue(error)),
+            },
+        }
+    }
+
+    /// This head was a split queue's before a crash, and its chain is followed again.
+    pub fn resubmit(&mut self, head: u16) -> Result<(), Refusal>
+        ensures takes { ByLayout (Takes resubmitted head result) (λ q p. (result ≡ Err OtherLayout) × (p ≡ q)) (result ≡ Err NotStarted) self.old.ring self.new.ring }
+        ensures memory { regions self.new ≡ regions self.old }
+    {
+        match &mut self.ring {
+            Ring::Stopped => Err(Refusal::NotStarted),
+            Ring::Packed(_) => Err(Refusal::OtherLayout),
+            Ring::Split(queue) => match queue.resubmit(head) {
+                Ok(()) => Ok(()),
+                Err(error) => Err(Refusal::Queue(error)),
+            },
+        }
+    }
+
+    /// The descriptor that is to be read next, if the chain that is followed goes on.
+    pub fn descriptor_place(&self) -> Option<HostRange>
+        ensures { result ≡ descriptor_place self.now.ring }
+    {
+        match &self.ring {
+            Ring::Stopped => None,
+            Ring::Split(queue) => queue.descriptor_place(),
+            Ring::Packed(queue) => queue.descriptor_place(),
+        }
+    }
+
+    /// The device is done with the chain of this head or id, and wrote so many bytes: what is to be written.
+    pub fn add_used(&mut self, id: u16, len: u32) -> Result<Used, Refusal>
+        ensures uses { ByLayout (UsesSplit id len result) (UsesPacked id len result) (result ≡ Err NotStarted) self.old.ring self.new.ring }
+        ensures memory { regions self.new ≡ regions self.old }
+    {
+        match &mut self.ring {
+            Ring::Stopped => Err(Refusal::NotStarted),
+            Ring::Split(queue) => match queue.add_used(id, len) {
+                Ok(used) => Ok(Used {
+                    elem: used.place,
+                    elem_value: u64::from(used.id) + HIGH * u64::from(used.len),
+                    then: used.idx_place,
+                    then_value: used.idx,
+                }),
+                Err(error) => Err(Refusal::Queue(error)),
+            },
+            Ring::Packed(queue) => match queue.add_used(id, len) {
+                Ok(used) => Ok(Used {
+                    elem: used.place,
+                    elem_value: u64::from(used.len) + HIGH * u64::from(used.id),
+                    then: used.flags_place,
+                    then_value: used.flags,
+                }),
+                Err(error) => Err(Refusal::Queue(error)),
+            },
+        }
+    }
+
+    /// What is to be read before `needs_notification`.
+    pub fn notification_place(&self) -> Result<HostRange, Refusal>
+        ensures { result ≡ notification_place self.now.ring }
+    {
+        match &self.ring {
+            Ring::Stopped => Err(Refusal::NotStarted),
+            Ring::Split(queue) => Ok(queue.notification_place()),
+            Ring::Packed(queue) => Ok(queue.rings().driver_event_place()),
+        }
+    }
+
+    /// Whether the driver is to be told of what was used since this was last asked, where this was read: two bytes, and of a packed
+    /// queue two bytes of flags behind them.
+    pub fn needs_notification(&mut self, value: u16, flags: u16) -> Result<bool, Refusal>
+        ensures tells { Answers result (TellsSplit value) (TellsPacked value flags) self.old.ring self.new.ring }
+        ensures memory { regions self.new ≡ regions self.old }
+    {
+        match &mut self.ring {
+            Ring::Stopped => Err(Refusal::NotStarted),
+            Ring::Split(queue) => Ok(queue.needs_notification(value)),
+            Ring::Packed(queue) => {
+                let event = EventSuppression {
+                    position: value,
+                    flags,
+                };
+                Ok(queue.needs_notification(event))
+            }
+        }
+    }
+
+    /// What is to be written so that the driver tells, or does not tell, of what it makes available from now on.
+    pub fn set_notification(&self, enable: bool) -> Result<EventWrite, Refusal>
+        ensures { result ≡ event_write self.now.ring enable }
+    {
+        match &self.ring {
+            Ring::Stopped => Err(Refusal::NotStarted),
+            Ring::Split(queue) => match queue.set_notification(enable) {
+                Some(write) => Ok(EventWrite {
+                    place: write.place,
+                    value: u32::from(write.value),
+                }),
+                None => Ok(EventWrite {
+                    place: HostRange { addr: 0, len: 0 },
+                    value: 0,
+                }),
+            },
+            Ring::Packed(queue) => {
+                let event = queue.set_notification(enable);
+                Ok(EventWrite {
+                    place: queue.rings().device_event_place(),
+                    value: u32::from(event.position) + 0x1_0000 * u32::from(event.flags),
+                })
+            }
+        }
+    }
+
+    /// The base of the ring, for whoever goes on with it.
+    pub fn base(&self) -> Result<u32, Refusal>
+        ensures { result ≡ base self.now.ring }
+    {
+        match &self.ring {
+            Ring::Stopped => Err(Refusal::NotStarted),
+            Ring::Split(queue) => Ok(u32::from(queue.next_avail())),
+            Ring::Packed(queue) => {
+                let (avail, used) = queue.positions();
+                Ok(u32::from(avail.number()) + 0x1_0000 * u32::from(used.number()))
+            }
+        }
+    }
+
+    /// Whether the driver broke a rule.
+    pub fn needs_reset(&self) -> bool
+        ensures { result ≡ needs_reset self.now.ring }
+    {
+        match &self.ring {
+            Ring::Stopped => false,
+            Ring::Split(queue) => queue.needs_reset(),
+            Ring::Packed(queue) => queue.needs_reset(),
+        }
+    }
+}

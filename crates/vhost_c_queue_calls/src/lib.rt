@@ -1,0 +1,12 @@
+//! A queue and the memory that it sees, for programs in C.
+#![tactic(auto)]
+
+mod holder;
+mod loose;
+mod memory;
+mod opening;
+mod places;
+mod plain;
+mod rings;
+mod stepping;
+mod told;

@@ -1,0 +1,119 @@
+-- Chains of descriptors in a split queue: virtio 1.2, 2.7.5.
+use Rattle.std.specs.Prelude.{◌≡◌, ◌≤◌, ℕ, ◌+◌, ◌-◌, ◌*◌, Bool, true, false, not, ◌||◌, List, ◌==◌, nat_lt, length, Option, Some, None, option_map, Result, Ok, Err, if◌then◌else◌, slice_index_or, slice_set, replicate, take, max}
+use Rattle.vhost_queue.specs.Memory.{translated, LiesIn}
+use Rattle.vhost_queue.specs.Segment.{goes_on, is_writable, is_indirect, segment_of, table_entries}
+use Rattle.vhost_queue.specs.declared.error.Error.{Error}
+use Rattle.vhost_queue.specs.declared.error.Error.TheVariants.{NotInTable, DescriptorLoop, ChainTooLong, UnexpectedIndirect, IndirectGoesOn, ChainEnded}
+use Rattle.vhost_queue.specs.declared.chain.DescriptorChain.{DescriptorChain}
+use Rattle.vhost_queue.specs.declared.descriptor.Descriptor.{Descriptor}
+use Rattle.vhost_queue.specs.declared.descriptor.Segment.{Segment}
+use Rattle.vhost_queue.specs.declared.memory.AddressSpace.TheVariants.{Guest}
+use Rattle.vhost_queue.specs.declared.memory.GuestRegion.{GuestRegion}
+use Rattle.vhost_queue.specs.declared.memory.HostRange.{HostRange}
+
+-- A chain between two descriptors: where its table is mapped, which of the table's descriptors were followed, which is next if
+-- there is one, how many segments may come yet, whether a writable one came, and whether an indirect table may come.
+pub record Following : Type 0 where
+  pub table : ℕ
+  pub seen : List Bool
+  pub next : Option ℕ
+  pub left : ℕ
+  pub writing : Bool
+  pub nests : Bool
+
+abbrev pub following : DescriptorChain → Following
+following c = record { table = c.table; seen = take c.entries c.seen.items; next = c.next; left = c.left; writing = c.writing; nests = c.nests }
+
+-- how many segments a chain has at most
+abbrev pub limit_of : DescriptorChain → ℕ
+limit_of c = c.limit
+
+-- how many segments a chain has at most: as many as the queue has descriptors, and with indirect tables 1024 at least, since drivers
+-- make tables that are longer than their queue
+abbrev pub segment_limit : ℕ → Bool → ℕ
+segment_limit size nests = if nests then max size 1024 else size
+
+-- it begins at its head in the queue's table
+abbrev pub begun : ℕ → ℕ → ℕ → Bool → ℕ → Result Following Error
+begun table size limit nests head =
+    if nat_lt head size then Ok (record { table = table; seen = replicate size false; next = Some head; left = limit; writing = false; nests = nests })
+    else Err NotInTable
+
+-- the 16 bytes of the descriptor that is next
+abbrev pub place_of : Following → Option HostRange
+place_of f = option_map (λ i. record { addr = f.table + 16 * i; len = 16 }) f.next
+
+-- which descriptor comes behind the i-th, whose value is d: one of the table that was not followed, where one more may come
+abbrev pub next_of : Following → ℕ → Descriptor → Result (Option ℕ) Error
+next_of f i d =
+    if not (goes_on d.flags) then Ok None
+    else if not (nat_lt d.next (length f.seen)) then Err NotInTable
+    else if (d.next == i) || slice_index_or f.seen d.next false then Err DescriptorLoop
+    else if f.left == 1 then Err ChainTooLong
+    else Ok (Some d.next)
+
+-- the chain behind its i-th descriptor
+abbrev pub behind : Following → ℕ → Descriptor → Result (Option ℕ) Error → Result Following Error
+behind f i d (Ok next) = Ok (record f { seen = slice_set f.seen i true; next = next; left = f.left - 1; writing = is_writable d.flags })
+behind f i d (Err e) = Err e
+
+abbrev pub after : Following → ℕ → Descriptor → Result Following Error
+after f i d = behind f i d (next_of f i d)
+
+-- a segment, and the chain behind it
+abbrev pub with_segment : Segment → Result Following Error → Result (Option Segment × Following) Error
+with_segment s (Ok rest) = Ok (Some s, rest)
+with_segment s (Err e) = Err e
+
+abbrev pub followed : Following → ℕ → Descriptor → Result Segment Error → Result (Option Segment × Following) Error
+followed f i d (Ok s) = with_segment s (after f i d)
+followed f i d (Err e) = Err e
+
+-- the chain goes on at the first of n descriptors that are mapped there
+abbrev pub entered : Following → ℕ → Result HostRange Error → Result (Option Segment × Following) Error
+entered f n (Ok range) = Ok (None, record f { table = range.addr; seen = replicate n false; next = Some 0; nests = false })
+entered f n (Err e) = Err e
+
+abbrev pub entering : List GuestRegion → Following → Descriptor → Result ℕ Error → Result (Option Segment × Following) Error
+entering rs f d (Ok n) = entered f n (translated Guest rs d.addr d.len)
+entering rs f d (Err e) = Err e
+
+-- .. in the indirect table that a descriptor of this value names
+abbrev pub nested : List GuestRegion → Following → Descriptor → Result (Option Segment × Following) Error
+nested rs f d =
+    if not f.nests then Err UnexpectedIndirect
+    else if goes_on d.flags then Err IndirectGoesOn
+    else entering rs f d (table_entries d.len f.left)
+
+-- what the value of the i-th descriptor makes of a chain
+abbrev pub step_at : List GuestRegion → Following → ℕ → Descriptor → Result (Option Segment × Following) Error
+step_at rs f i d =
+    if is_indirect d.flags then nested rs f d
+    else followed f i d (segment_of rs f.writing d.addr d.len d.flags)
+
+abbrev pub step_next : List GuestRegion → Following → Option ℕ → Descriptor → Result (Option Segment × Following) Error
+step_next rs f (Some i) d = step_at rs f i d
+step_next rs f None d = Err ChainEnded
+
+-- what the value of the next descriptor makes of a chain: a segment, or none where it names an indirect table, and the chain
+-- behind it; or why it is refused
+abbrev pub step : List GuestRegion → Following → Descriptor → Result (Option Segment × Following) Error
+step rs f d = step_next rs f f.next d
+
+-- where the table is mapped that the chain is in
+abbrev pub table_of : Following → HostRange
+table_of f = record { addr = f.table; len = 16 * length f.seen }
+
+-- What a step gives: a segment that lies in a region, and is writable if one before it was; or an indirect table that lies in a
+-- region, where one may come.
+abbrev pub GoesOn : List GuestRegion → Following → Option Segment → Following → Type 0
+GoesOn rs f (Some s) g = LiesIn rs s.range × (f.writing ≡ true → s.writable ≡ true) × (g.writing ≡ s.writable) × (g.left + 1 ≡ f.left) × (table_of g ≡ table_of f) × (g.nests ≡ f.nests)
+GoesOn rs f None g = LiesIn rs (table_of g) × (g.writing ≡ f.writing) × (g.left ≡ f.left) × (f.nests ≡ true) × (g.nests ≡ false)
+
+-- the descriptor that gave a segment was not followed before, and is marked as followed
+abbrev pub FollowsOnce : Following → Following → Type 0
+FollowsOnce f g = (i : ℕ) × (f.next ≡ Some i) × (slice_index_or f.seen i false ≡ false) × (g.seen ≡ slice_set f.seen i true)
+
+-- it is at the head of a chain in a table that is mapped there, and may have so many segments
+abbrev pub Begins : HostRange → ℕ → Following → Type 0
+Begins table limit f = (table_of f ≡ table) × (f.left ≡ limit) × (f.writing ≡ false)

@@ -1,0 +1,13 @@
+pub mod Chain
+pub mod Inflight
+pub mod Log
+pub mod Memory
+pub mod Notification
+pub mod Packed
+pub mod PackedRings
+pub mod Places
+pub mod Queue
+pub mod Rings
+pub mod Segment
+pub mod Serving
+pub mod Wrap

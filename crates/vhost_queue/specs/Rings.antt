@@ -1,0 +1,14 @@
+-- The three parts of a split queue, and where the fields of its rings lie: virtio 1.2, 2.7.
+use Rattle.std.specs.Prelude.{◌+◌, ◌*◌}
+use Rattle.vhost_queue.specs.Places.{at}
+use Rattle.vhost_queue.specs.declared.memory.HostRange.{HostRange}
+use Rattle.vhost_queue.specs.declared.rings.Rings.{Rings}
+
+abbrev pub table_range : Rings → HostRange
+table_range r = at r.desc_table (16 * r.size)
+
+abbrev pub avail_range : Rings → HostRange
+avail_range r = at r.avail_ring (6 + 2 * r.size)
+
+abbrev pub used_range : Rings → HostRange
+used_range r = at r.used_ring (6 + 8 * r.size)

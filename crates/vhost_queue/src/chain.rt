@@ -1,0 +1,225 @@
+//! A chain of descriptors, followed one descriptor at a time.
+
+ghost use Rattle.std.specs.Prelude.{◌≡◌, ◌+◌, ◌*◌, ◌^◌, ◌<◌, ◌≤◌, ◌≢◌, length, take, IfOk, IfErr, OnOk, OnErr, Ok, Err, Some, None, true, false, replicate, slice_index_or};
+ghost use Rattle.std.specs.Option.{ForSome};
+
+use crate::descriptor::{DESCRIPTOR_SIZE, Descriptor, Segment};
+use crate::error::{Error, Result};
+use crate::memory::{AddressSpace, GuestMemory, HostRange};
+use crate::segment::{INDIRECT, NEXT, WRITE, segment_of};
+use crate::table::{clear, table_entries};
+use std::alloc::Global;
+
+/// A chain that is being followed. It is used again for the next one, since it keeps a mark for each descriptor of a table.
+#[derive(Drop)]
+pub struct DescriptorChain {
+    /// Where the table is mapped, and how many descriptors it has.
+    table: u64,
+    entries: u16,
+    /// The descriptor that is to be read.
+    next: Option<u16>,
+    /// How many segments may come yet.
+    left: u16,
+    /// Whether a writable one came.
+    writing: bool,
+    /// Whether an indirect table may come.
+    nests: bool,
+    /// Which descriptors of the table were followed.
+    seen: Vec<bool>,
+    /// How many segments a chain has at most.
+    limit: u16,
+    ghost fits: { table + 16 * entries < 2 ^ 64 },
+    ghost marks: { length seen.items ≡ limit },
+    ghost small: { entries ≤ limit },
+    ghost enough: { left ≤ limit },
+    ghost within: { ForSome next (λ i. i < entries) },
+    ghost some: { ForSome next (λ _. 0 < left) },
+    ghost fresh: { ForSome next (λ i. slice_index_or seen.items i false ≡ false) },
+}
+
+impl DescriptorChain {
+    ghost use Rattle.vhost_queue.specs.Chain.{after, begun, following, table_of, Begins, FollowsOnce, GoesOn, limit_of, nested, next_of, place_of, step};
+    ghost use Rattle.vhost_queue.specs.Places.{at, Within};
+    ghost use Rattle.vhost_queue.specs.Segment.{is_writable};
+    ghost use Rattle.std.specs.Prelude.{IfSome};
+    ghost use Rattle.vhost_queue.specs.declared.error.Error.TheVariants.{OutOfMemory};
+
+    /// No chain yet. Each will have at most so many segments.
+    pub fn new(alloc: Global, limit: u16) -> Result<DescriptorChain>
+        ensures limit { IfOk result (λ chain. limit_of chain ≡ limit) }
+        ensures ended { IfOk result (λ chain. (following chain).next ≡ None) }
+        ensures reason { IfErr result (λ e. e ≡ OutOfMemory) }
+    {
+        let seen = vec![in alloc; false; usize::from(limit)]?;
+        Ok(DescriptorChain {
+            table: 0,
+            entries: 0,
+            next: None,
+            left: 0,
+            writing: false,
+            nests: false,
+            seen,
+            limit,
+        })
+    }
+
+    /// The chain that was followed is none any more.
+    pub fn end(&mut self)
+        ensures ended { following self.new ≡ record (following self.old) { next = None } }
+        ensures limit { limit_of self.new ≡ limit_of self.old }
+    {
+        self.next = None;
+    }
+
+    /// The chain begins at this descriptor of a queue's table, and may have as many segments as was said.
+    pub fn begin(&mut self, table: u64, size: u16, nests: bool, head: u16) -> Result<()>
+        requires small { size ≤ limit_of self.old }
+        requires fits { table + 16 * size < 2 ^ 64 }
+        ensures ok { OnOk result (begun table size (limit_of self.old) nests head ≡ Ok (following self.new)) }
+        ensures begins { OnOk result (Begins (at table (16 * size)) (limit_of self.old) (following self.new)) }
+        ensures err { IfErr result (λ e. begun table size (limit_of self.old) nests head ≡ Err e) }
+        ensures kept { OnErr result (following self.new ≡ following self.old) }
+        ensures limit { limit_of self.new ≡ limit_of self.old }
+    {
+        if head >= size {
+            return Err(Error::NotInTable);
+        }
+        clear(&mut self.seen, usize::from(size));
+        self.table = table;
+        self.entries = size;
+        self.next = Some(head);
+        self.left = self.limit;
+        self.writing = false;
+        self.nests = nests;
+        Ok(())
+    }
+
+    /// The place in its table of the descriptor that is to be read next, if the chain goes on.
+    pub fn next(&self) -> Option<u16>
+        ensures exact { result ≡ (following self.now).next }
+        ensures within { IfSome result (λ i. i < length (following self.now).seen) }
+    {
+        self.next
+    }
+
+    /// How many descriptors its table has.
+    pub fn entries(&self) -> u16
+        ensures { result ≡ length (following self.now).seen }
+    {
+        self.entries
+    }
+
+    /// The 16 bytes that are to be read next, if the chain goes on.
+    pub fn place(&self) -> Option<HostRange>
+        ensures exact { result ≡ place_of (following self.now) }
+        ensures within { IfSome result (λ place. Within (table_of (following self.now)) place) }
+    {
+        match self.next {
+            Some(at) => Some(HostRange {
+                addr: self.table + DESCRIPTOR_SIZE * u64::from(at),
+                len: DESCRIPTOR_SIZE,
+            }),
+            None => None,
+        }
+    }
+
+    /// The next descriptor has this value: its segment, or none where it names an indirect table; the chain goes on behind it. A
+    /// refusal names what is wrong with the value, and changes nothing.
+    pub fn step(
+        &mut self,
+        memory: &mut GuestMemory,
+        descriptor: Descriptor,
+    ) -> Result<Option<Segment>>
+        ensures ok { IfOk result (λ segment. step memory.old.regions.items (following self.old) descriptor ≡ Ok (segment, following self.new)) }
+        ensures err { IfErr result (λ e. step memory.old.regions.items (following self.old) descriptor ≡ Err e) }
+        ensures goes_on { IfOk result (λ segment. GoesOn memory.old.regions.items (following self.old) segment (following self.new)) }
+        ensures once { IfOk result (λ segment. IfSome segment (λ _. FollowsOnce (following self.old) (following self.new))) }
+        ensures kept { OnErr result (self.new ≡ self.old) }
+        ensures limit { limit_of self.new ≡ limit_of self.old }
+        ensures memory { memory.new.regions.items ≡ memory.old.regions.items }
+    {
+        let Some(at) = self.next else {
+            return Err(Error::ChainEnded);
+        };
+        if descriptor.flags & INDIRECT != 0 {
+            self.enter(memory, descriptor)?;
+            return Ok(None);
+        }
+        let Descriptor {
+            addr,
+            len,
+            flags,
+            next: _,
+        } = descriptor;
+        let segment = segment_of(memory, self.writing, addr, len, flags)?;
+        self.follow(at, descriptor)?;
+        Ok(Some(segment))
+    }
+
+    // The chain goes on in the indirect table that this descriptor names.
+    fn enter(&mut self, memory: &mut GuestMemory, descriptor: Descriptor) -> Result<()>
+        ensures ok { OnOk result (nested memory.old.regions.items (following self.old) descriptor ≡ Ok (None, following self.new)) }
+        ensures goes_on { OnOk result (GoesOn memory.old.regions.items (following self.old) None (following self.new)) }
+        ensures err { IfErr result (λ e. nested memory.old.regions.items (following self.old) descriptor ≡ Err e) }
+        ensures kept { OnErr result (self.new ≡ self.old) }
+        ensures limit { limit_of self.new ≡ limit_of self.old }
+        ensures memory { memory.new.regions.items ≡ memory.old.regions.items }
+    {
+        if !self.nests {
+            return Err(Error::UnexpectedIndirect);
+        }
+        if descriptor.flags & NEXT != 0 {
+            return Err(Error::IndirectGoesOn);
+        }
+        let len = u64::from(descriptor.len);
+        let entries = table_entries(len, self.left)?;
+        let table = memory.translate(AddressSpace::Guest, descriptor.addr, len)?;
+        clear(&mut self.seen, usize::from(entries));
+        self.table = table.addr;
+        self.entries = entries;
+        self.next = Some(0);
+        self.nests = false;
+        Ok(())
+    }
+
+    // The chain goes on behind this descriptor, if it does.
+    fn follow(&mut self, at: u16, descriptor: Descriptor) -> Result<()>
+        requires next { self.old.next ≡ Some at }
+        ensures ok { OnOk result (after (following self.old) at descriptor ≡ Ok (following self.new)) }
+        ensures goes_on { OnOk result (((following self.new).left + 1 ≡ (following self.old).left) × ((following self.new).writing ≡ is_writable descriptor.flags) × (table_of (following self.new) ≡ table_of (following self.old)) × ((following self.new).nests ≡ (following self.old).nests)) }
+        ensures once { OnOk result (FollowsOnce (following self.old) (following self.new)) }
+        ensures err { IfErr result (λ e. after (following self.old) at descriptor ≡ Err e) }
+        ensures kept { OnErr result (self.new ≡ self.old) }
+        ensures limit { limit_of self.new ≡ limit_of self.old }
+    {
+        let next = self.next_of(at, descriptor)?;
+        self.seen[usize::from(at)] = true;
+        self.next = next;
+        self.left -= 1;
+        self.writing = descriptor.flags & WRITE != 0;
+        Ok(())
+    }
+
+    // Which descriptor comes behind the one at a place, if any does.
+    fn next_of(&self, at: u16, descriptor: Descriptor) -> Result<Option<u16>>
+        ensures exact { result ≡ next_of (following self.now) at descriptor }
+        ensures within { IfOk result (λ next. ForSome next (λ i. i < self.now.entries)) }
+        ensures some { IfOk result (λ next. ForSome next (λ i. self.now.left ≢ 1)) }
+        ensures fresh { IfOk result (λ next. ForSome next (λ i. (i ≢ at) × (slice_index_or self.now.seen.items i false ≡ false))) }
+    {
+        if descriptor.flags & NEXT == 0 {
+            return Ok(None);
+        }
+        let next = descriptor.next;
+        if next >= self.entries {
+            return Err(Error::NotInTable);
+        }
+        if next == at || self.seen[usize::from(next)] {
+            return Err(Error::DescriptorLoop);
+        }
+        if self.left == 1 {
+            return Err(Error::ChainTooLong);
+        }
+        Ok(Some(next))
+    }
+}

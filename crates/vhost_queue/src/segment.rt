@@ -1,0 +1,45 @@
+//! What one descriptor makes of a chain, in both kinds of queue.
+
+ghost use Rattle.std.specs.Prelude.{◌≡◌, true, IfOk};
+ghost use Rattle.vhost_queue.specs.Memory.{LiesIn};
+ghost use Rattle.vhost_queue.specs.Segment.{is_writable, segment_of};
+
+use crate::descriptor::Segment;
+use crate::error::{Error, Result};
+use crate::memory::{AddressSpace, GuestMemory};
+
+/// Flags of a descriptor: VIRTQ_DESC_F_NEXT, VIRTQ_DESC_F_WRITE and VIRTQ_DESC_F_INDIRECT.
+pub(crate) const NEXT: u16 = 1;
+
+pub(crate) const WRITE: u16 = 2;
+
+pub(crate) const INDIRECT: u16 = 4;
+
+/// The segment of a descriptor, where a writable one came before it or not.
+pub(crate) fn segment_of(
+    memory: &mut GuestMemory,
+    writing: bool,
+    addr: u64,
+    len: u32,
+    flags: u16,
+) -> Result<Segment>
+    ensures exact { result ≡ segment_of memory.old.regions.items writing addr len flags }
+    ensures inside { IfOk result (λ s. LiesIn memory.old.regions.items s.range) }
+    ensures ordered { IfOk result (λ s. writing ≡ true → s.writable ≡ true) }
+    ensures writable { IfOk result (λ s. s.writable ≡ is_writable flags) }
+    ensures memory { memory.new.regions.items ≡ memory.old.regions.items }
+{
+    let writable = flags & WRITE != 0;
+    if writing && !writable {
+        return Err(Error::ReadableAfterWritable);
+    }
+    if len == 0 {
+        return Err(Error::EmptyDescriptor);
+    }
+    let range = memory.translate(AddressSpace::Guest, addr, u64::from(len))?;
+    Ok(Segment {
+        range,
+        guest_addr: addr,
+        writable,
+    })
+}

@@ -1,0 +1,149 @@
+//! A device that serves a queue, whatever its guest writes: what the promises of this crate come to.
+
+ghost use Rattle.std.specs.Prelude.{◌≡◌, ◌++◌, option_to_list, [], false, All, OnOk, IfOk, IfSome};
+ghost use Rattle.vhost_queue.specs.declared.memory.HostRange.{HostRange};
+ghost use Rattle.vhost_queue.specs.Memory.{LiesIn};
+ghost use Rattle.vhost_queue.specs.Chain.{table_of, segment_limit, Begins};
+ghost use Rattle.vhost_queue.specs.Segment.{IsSafe};
+ghost use Rattle.vhost_queue.specs.Queue.{state, IsSameQueue};
+ghost use Rattle.vhost_queue.specs.Rings.{table_range};
+ghost use Rattle.vhost_queue.specs.Serving.{AreMapped};
+
+use crate::descriptor::{Descriptor, Segment};
+use crate::error::{Error, Result};
+use crate::memory::{GuestMemory, HostRange};
+use crate::queue::{Queue, UsedElem};
+use std::alloc::Global;
+
+/// Mapped memory, to which a guest writes at any time: nothing is known of what is read.
+pub trait Shared {
+    /// The ranges that may be touched.
+    ghost may_touch: { HostRange → Type 0 };
+
+    fn read_index(&mut self, place: HostRange) -> u16
+        requires { may_touch place };
+
+    fn read_descriptor(&mut self, place: HostRange) -> Descriptor
+        requires { may_touch place };
+
+    fn write_used(&mut self, elem: UsedElem)
+        requires entry { may_touch elem.place }
+        requires index { may_touch elem.idx_place };
+
+    /// Serves a request: reads and writes its segments, and answers how many bytes it wrote.
+    fn serve(&mut self, segments: &[Segment]) -> u32
+        requires { All (λ s. may_touch s.range) segments.now };
+}
+
+/// Follows the chain that was taken from the queue, to its end.
+pub fn follow<S: Shared>(
+    memory: &mut GuestMemory,
+    queue: &mut Queue,
+    shared: &mut S,
+    segments: &mut Vec<Segment>,
+) -> Result<()>
+    requires none { segments.old.items ≡ [] }
+    requires table { LiesIn memory.old.regions.items (table_of (state queue.old).chain) }
+    requires touch { (range : HostRange) → LiesIn memory.old.regions.items range → S.may_touch range }
+    requires readable { (state queue.old).chain.writing ≡ false }
+    ensures safe { OnOk result (IsSafe memory.old.regions.items (state queue.old).chain.left segments.new.items) }
+    ensures memory { memory.new.regions.items ≡ memory.old.regions.items }
+    ensures rings { IsSameQueue queue.old queue.new }
+{
+    while let Some(place) = queue.descriptor_place() {
+        let descriptor = shared.read_descriptor(place);
+        let segment = queue.step(memory, descriptor)?;
+        keep(segments, segment)?;
+    }
+    Ok(())
+}
+
+/// Serves the next chain, if one is available: whether the driver is to be told.
+pub fn serve_next<S: Shared>(
+    memory: &mut GuestMemory,
+    queue: &mut Queue,
+    shared: &mut S,
+    segments: &mut Vec<Segment>,
+) -> Result<bool>
+    requires mapped { AreMapped memory.old.regions.items queue.old.rings }
+    requires touch { (range : HostRange) → LiesIn memory.old.regions.items range → S.may_touch range }
+    ensures memory { memory.new.regions.items ≡ memory.old.regions.items }
+    ensures rings { IsSameQueue queue.old queue.new }
+{
+    let Some(head) = fetch(memory, queue, shared)? else {
+        return Ok(false);
+    };
+    segments.clear();
+    follow(memory, queue, shared, segments)?;
+    let len = shared.serve(segments);
+    finish(memory, queue, shared, head, len)
+}
+
+// Takes the next chain, if one is available.
+fn fetch<S: Shared>(memory: &GuestMemory, queue: &mut Queue, shared: &mut S) -> Result<Option<u16>>
+    requires mapped { AreMapped memory.now.regions.items queue.old.rings }
+    requires touch { (range : HostRange) → LiesIn memory.now.regions.items range → S.may_touch range }
+    ensures begins { IfOk result (λ head. IfSome head (λ _. Begins (table_range queue.old.rings) (segment_limit queue.old.rings.size queue.old.indirect_desc) (state queue.new).chain)) }
+    ensures rings { IsSameQueue queue.old queue.new }
+{
+    let idx = shared.read_index(queue.rings().avail_idx_place());
+    queue.set_avail_idx(idx)?;
+    let Some(place) = queue.avail_entry_place() else {
+        return Ok(None);
+    };
+    let head = shared.read_index(place);
+    queue.pop(head)?;
+    Ok(Some(head))
+}
+
+// The device is done with this chain: whether the driver is to be told.
+fn finish<S: Shared>(
+    memory: &GuestMemory,
+    queue: &mut Queue,
+    shared: &mut S,
+    head: u16,
+    len: u32,
+) -> Result<bool>
+    requires mapped { AreMapped memory.now.regions.items queue.old.rings }
+    requires touch { (range : HostRange) → LiesIn memory.now.regions.items range → S.may_touch range }
+    ensures { IsSameQueue queue.old queue.new }
+{
+    let elem = queue.add_used(head, len)?;
+    shared.write_used(elem);
+    let value = shared.read_index(queue.notification_place());
+    Ok(queue.needs_notification(value))
+}
+
+/// Serves so many chains, or up to a refusal. Whatever the guest writes meanwhile, only ranges are touched that lie in a region
+/// that the frontend gave.
+pub fn serve<S: Shared>(
+    alloc: Global,
+    memory: &mut GuestMemory,
+    queue: &mut Queue,
+    shared: &mut S,
+    steps: u32,
+) -> Result<()>
+    requires mapped { AreMapped memory.old.regions.items queue.old.rings }
+    requires touch { (range : HostRange) → LiesIn memory.old.regions.items range → S.may_touch range }
+    ensures memory { memory.new.regions.items ≡ memory.old.regions.items }
+    ensures rings { IsSameQueue queue.old queue.new }
+{
+    let mut segments = Vec::new(alloc);
+    for _step in 0..steps {
+        serve_next(memory, queue, shared, &mut segments)?;
+    }
+    Ok(())
+}
+
+/// Appends the segment, if there is one.
+pub(crate) fn keep(segments: &mut Vec<Segment>, segment: Option<Segment>) -> Result<()>
+    ensures { OnOk result (segments.new.items ≡ segments.old.items ++ option_to_list segment) }
+{
+    match segment {
+        None => Ok(()),
+        Some(segment) => match segments.push(segment) {
+            Ok(()) => Ok(()),
+            Err(_) => Err(Error::OutOfMemory),
+        },
+    }
+}

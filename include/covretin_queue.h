@@ -1,0 +1,298 @@
+/* SPDX-License-Identifier: Apache-2.0 */
+/* Covretin: a virtqueue as a device sees it, split or packed, and the guest memory that it lies in (virtio 1.2, chapter 2).
+ *
+ * A queue decides what a device may touch, and touches nothing itself: a call says where to read, and the next one takes what was
+ * read there. Each value is read once, so that a guest that changes it meanwhile gains nothing: whatever was read, a queue hands
+ * out only ranges that lie inside one region which the frontend gave.
+ *
+ * For each kick, of a split queue, where read16(range) reads two bytes at range.addr, little-endian:
+ *
+ *     covretin_queue_available_place(&queue, &place);            the index of the available ring; an acquiring read
+ *     covretin_queue_available(&queue, read16(place), &count);   how many chains are available
+ *     while (count-- != 0) {
+ *         covretin_queue_head_place(&queue, &place);             the next entry of the available ring
+ *         covretin_queue_pop(&queue, head = read16(place));      the chain of this head is the device's
+ *         for (;;) {
+ *             covretin_queue_descriptor_place(&queue, &place, &found);
+ *             if (!found) break;                                 the chain is at its end
+ *             covretin_queue_step(&queue, read(place), &segment, &found);
+ *             if (found) ..                                      a segment of the request; else an indirect table follows
+ *         }
+ *         ..                                                     the request is served, now or later
+ *         covretin_queue_add_used(&queue, head, len, &used);     what is to be written: elem, and then, by a releasing write, then
+ *     }
+ *     covretin_queue_notification_place(&queue, &place);         what the driver asks for; a full barrier lies before
+ *     covretin_queue_needs_notification(&queue, read16(place), 0, &told_of);
+ *
+ * Of a packed queue the same but for the heads: covretin_queue_available takes the flags of the next place, and tells one chain at
+ * most, which is followed at once. Its id, by which it is used, is that of the last descriptor that was read before the chain's end
+ * or an indirect table. Four bytes are read for covretin_queue_needs_notification: a place and flags.
+ *
+ * WHO OWNS WHAT
+ * Buffers: each pointer is borrowed for the call alone. What is `const` is only read; the others are only written. Two of them must
+ *   not overlap. A count says how many elements its array has, and a pointer is never NULL (also where its count is 0).
+ * Memory: a queue neither maps nor reads nor writes any. What it hands out stays valid only while the caller leaves the regions
+ *   mapped that it gave.
+ * Queues: a variable of type covretin_queue, {0} at first, belongs to the caller; it is not copied or written by him. Calls with the
+ *   same one must not overlap in time; each queue has its own memory, so that a device's queues may be in threads of their own. Not
+ *   from a signal handler.
+ *
+ * ERRORS are numbers of enum covretin_queue_error; 0 is none. After an error no other argument was written. No call makes a system
+ * call but for memory (malloc, free), waits for anything, or has a global state.
+ */
+#ifndef COVRETIN_QUEUE_H
+#define COVRETIN_QUEUE_H
+
+#include <stdbool.h>
+#include <stddef.h>
+#include <stdint.h>
+
+#ifdef __cplusplus
+extern "C" {
+#endif
+
+/* Why a call was refused. */
+enum covretin_queue_error {
+    COVRETIN_QUEUE_OK = 0,
+
+    /* what the frontend gave; nothing changed */
+    COVRETIN_QUEUE_INVALID_REGION = 1,          /* a region is empty or ends beyond the addresses of 64 bits */
+    COVRETIN_QUEUE_REGION_OVERLAP = 2,          /* a region overlaps another */
+    COVRETIN_QUEUE_TOO_MANY_REGIONS = 3,        /* more than 509 */
+    COVRETIN_QUEUE_NO_SUCH_REGION = 4,          /* there is no such region */
+    COVRETIN_QUEUE_INVALID_SIZE = 5,            /* 0, above 32768, or of a split queue no power of two */
+    COVRETIN_QUEUE_UNALIGNED = 6,               /* a part of a queue is not aligned where it is mapped */
+    COVRETIN_QUEUE_INVALID_BASE = 7,            /* the base of a packed ring is not in the ring */
+    COVRETIN_QUEUE_INVALID_INFLIGHT = 8,        /* the inflight region is not that of the queue */
+
+    /* what the guest wrote: the queue needs a reset (but where a range was only asked for by covretin_queue_translate) */
+    COVRETIN_QUEUE_NOT_IN_GUEST = 9,            /* a range does not lie in one region */
+    COVRETIN_QUEUE_EMPTY_DESCRIPTOR = 10,       /* a descriptor has no bytes */
+    COVRETIN_QUEUE_NOT_IN_TABLE = 11,           /* a head or a next descriptor is not in its table */
+    COVRETIN_QUEUE_DESCRIPTOR_LOOP = 12,        /* a descriptor comes twice in its chain */
+    COVRETIN_QUEUE_CHAIN_TOO_LONG = 13,         /* a chain has more descriptors than it may */
+    COVRETIN_QUEUE_READABLE_AFTER_WRITABLE = 14,
+    COVRETIN_QUEUE_UNEXPECTED_INDIRECT = 15,    /* an indirect table was not negotiated, or lies in another */
+    COVRETIN_QUEUE_INDIRECT_GOES_ON = 16,       /* a descriptor of an indirect table goes on */
+    COVRETIN_QUEUE_INVALID_INDIRECT_LENGTH = 17, /* 0, or no multiple of 16 */
+    COVRETIN_QUEUE_TOO_MANY_AVAILABLE = 18,     /* more chains are available than the queue has */
+    COVRETIN_QUEUE_HEAD_IN_USE = 19,            /* a chain is made available again before it was used */
+
+    /* what the caller did; nothing changed */
+    COVRETIN_QUEUE_NEEDS_RESET = 20,
+    COVRETIN_QUEUE_NOTHING_AVAILABLE = 21,
+    COVRETIN_QUEUE_CHAIN_ENDED = 22,            /* no descriptor was to be read */
+    COVRETIN_QUEUE_NOT_HANDED_OUT = 23,         /* the device has no such chain */
+    COVRETIN_QUEUE_OUT_OF_MEMORY = 24,
+    COVRETIN_QUEUE_NO_QUEUE = 101,              /* it is not open */
+    COVRETIN_QUEUE_QUEUE_OPEN = 102,                  /* it is open already */
+    COVRETIN_QUEUE_NOT_STARTED = 103,           /* it has no rings */
+    COVRETIN_QUEUE_OTHER_LAYOUT = 104,          /* it has rings of the other layout */
+    COVRETIN_QUEUE_NO_ROOM = 105                /* an array is too small */
+};
+
+/* A queue, and the memory that it sees. {0} is none. */
+typedef struct covretin_queue {
+    void *opaque;
+} covretin_queue;
+
+/* A region of guest memory. */
+typedef struct covretin_guest_region {
+    uint64_t guest_addr; /* where the guest has it */
+    uint64_t size;
+    uint64_t user_addr;  /* where the frontend has it */
+    uint64_t host_addr;  /* where it is mapped here */
+} covretin_guest_region;
+
+/* Mapped bytes. */
+typedef struct covretin_range {
+    uint64_t addr;
+    uint64_t len;
+} covretin_range;
+
+/* Where a split queue lies for the frontend, what was negotiated, and where it begins. */
+typedef struct covretin_split_ring {
+    uint64_t desc_table;
+    uint64_t avail_ring;
+    uint64_t used_ring;
+    uint16_t size;       /* in descriptors */
+    uint16_t next_avail; /* the base of the ring */
+    uint16_t next_used;  /* the index of the used ring, as it is in memory */
+    bool event_idx;      /* VIRTIO_F_EVENT_IDX */
+    bool indirect_desc;  /* VIRTIO_F_INDIRECT_DESC */
+} covretin_split_ring;
+
+/* The same of a packed queue. */
+typedef struct covretin_packed_ring {
+    uint64_t desc_ring;
+    uint64_t driver_event;
+    uint64_t device_event;
+    uint16_t size;  /* in descriptors */
+    uint16_t avail; /* the lower 16 bits of the base: an index, and the wrap counter above it */
+    uint16_t used;  /* the upper 16 bits */
+    bool event_idx;
+    bool indirect_desc;
+} covretin_packed_ring;
+
+/* The 16 bytes of a descriptor, whose fields are little-endian in memory. */
+typedef struct covretin_descriptor {
+    uint64_t addr;
+    uint32_t len;
+    uint16_t third;  /* of a split queue the flags, of a packed one the id */
+    uint16_t fourth; /* of a split queue the next descriptor, of a packed one the flags */
+} covretin_descriptor;
+
+/* A part of a request. */
+typedef struct covretin_segment {
+    covretin_range range;
+    uint64_t guest_addr; /* where the guest has it */
+    bool writable;       /* whether the device writes it; else it only reads it */
+} covretin_segment;
+
+/* What is to be written once a chain was used: the first elem.len bytes of elem_value, little-endian, and then, by a releasing
+ * write, then_value as two bytes. */
+typedef struct covretin_used {
+    covretin_range elem;
+    uint64_t elem_value;
+    covretin_range then;
+    uint16_t then_value;
+} covretin_used;
+
+/* What is to be written so that the driver tells or does not tell: the first place.len bytes of a value, little-endian. 0: none. */
+typedef struct covretin_event_write {
+    covretin_range place;
+    uint32_t value;
+} covretin_event_write;
+
+/* Bytes that are to be written in a queue's area of the inflight region: the first len bytes of a value, least first. */
+typedef struct covretin_inflight_write {
+    uint64_t offset;
+    uint64_t len;
+    uint64_t value;
+} covretin_inflight_write;
+
+/* The state of a head as the inflight region says it. */
+typedef struct covretin_inflight_entry {
+    bool inflight;
+    uint16_t next;
+    uint64_t counter;
+} covretin_inflight_entry;
+
+/* A head that is to be taken again. */
+typedef struct covretin_resubmit {
+    uint64_t counter;
+    uint16_t head;
+} covretin_resubmit;
+
+/* A bit of the dirty log. */
+typedef struct covretin_log_bit {
+    uint64_t byte;
+    uint8_t mask;
+} covretin_log_bit;
+
+/* -- Queues -------------------------------------------------------------------------------------------------------- */
+
+/* Opens a queue, which sees no memory and has no rings. QUEUE_OPEN; OUT_OF_MEMORY. */
+enum covretin_queue_error covretin_queue_open(covretin_queue *queue);
+
+/* Frees what the queue held; it is {0} again. One that is not open stays so. All other calls with a queue may return NO_QUEUE. */
+void covretin_queue_close(covretin_queue *queue);
+
+/* -- Memory -------------------------------------------------------------------------------------------------------- */
+
+/* The queue sees these regions, in the place of those that it had; one more; one less, by its addresses and its size. Rings stay
+ * where they are mapped until they are started again or moved. INVALID_REGION, REGION_OVERLAP, TOO_MANY_REGIONS, OUT_OF_MEMORY;
+ * NO_SUCH_REGION. */
+enum covretin_queue_error covretin_queue_set_regions(covretin_queue *queue, const covretin_guest_region *regions,
+                                                     size_t regions_len);
+enum covretin_queue_error covretin_queue_add_region(covretin_queue *queue, const covretin_guest_region *region);
+enum covretin_queue_error covretin_queue_remove_region(covretin_queue *queue, uint64_t guest_addr, uint64_t size,
+                                                       uint64_t user_addr);
+
+/* Where a range is mapped, one byte at least: of the frontend's addresses, or else of the guest's. NOT_IN_GUEST. */
+enum covretin_queue_error covretin_queue_translate(covretin_queue *queue, bool user, uint64_t addr, uint64_t len,
+                                                   covretin_range *range);
+
+/* -- Rings --------------------------------------------------------------------------------------------------------- */
+
+/* The queue has these rings from now on, and begins there; whatever it had is gone. INVALID_SIZE, NOT_IN_GUEST, UNALIGNED,
+ * INVALID_BASE, OUT_OF_MEMORY: it has those that it had. */
+enum covretin_queue_error covretin_queue_start_split(covretin_queue *queue, const covretin_split_ring *ring);
+enum covretin_queue_error covretin_queue_start_packed(covretin_queue *queue, const covretin_packed_ring *ring);
+
+/* The rings of a split queue lie elsewhere for the frontend, or are mapped elsewhere, since regions are. What the device has stays
+ * the device's; the chain that is followed is none any more. NOT_IN_GUEST, UNALIGNED, NOT_STARTED, OTHER_LAYOUT. */
+enum covretin_queue_error covretin_queue_move_split(covretin_queue *queue, uint64_t desc_table, uint64_t avail_ring,
+                                                    uint64_t used_ring);
+
+/* The queue has no rings any more. */
+enum covretin_queue_error covretin_queue_stop(covretin_queue *queue);
+
+/* The base of the ring, for whoever goes on with it: what GET_VRING_BASE replies. NOT_STARTED. */
+enum covretin_queue_error covretin_queue_base(covretin_queue *queue, uint32_t *base);
+
+/* Whether the driver broke a rule. Then nothing more is taken from the queue, and what the device has may still be used. */
+enum covretin_queue_error covretin_queue_needs_reset(covretin_queue *queue, bool *needs_reset);
+
+/* -- What is to be read, and what was --------------------------------------------------------------------------------
+ * All may return NOT_STARTED. */
+
+/* Where what is available is to be read, two bytes: the index of a split queue's available ring, or the flags of a packed queue's
+ * next place; and that it was read as this: how many chains are available. TOO_MANY_AVAILABLE, NEEDS_RESET. */
+enum covretin_queue_error covretin_queue_available_place(covretin_queue *queue, covretin_range *place);
+enum covretin_queue_error covretin_queue_available(covretin_queue *queue, uint16_t value, uint16_t *count);
+
+/* The next entry of a split queue's available ring, two bytes; and that it was read as this: the chain of this head is the
+ * device's, and is followed. NOTHING_AVAILABLE, OTHER_LAYOUT; NOT_IN_TABLE, HEAD_IN_USE, NEEDS_RESET. */
+enum covretin_queue_error covretin_queue_head_place(covretin_queue *queue, covretin_range *place);
+enum covretin_queue_error covretin_queue_pop(covretin_queue *queue, uint16_t head);
+
+/* A split queue's head was the device's before a crash, and its chain is followed again. Errors are those of covretin_queue_pop. */
+enum covretin_queue_error covretin_queue_resubmit(covretin_queue *queue, uint16_t head);
+
+/* The descriptor that is to be read next, 16 bytes, if the chain that is followed goes on; and that it was read as this: its
+ * segment, or none where it names an indirect table, in which the chain goes on. CHAIN_ENDED, NEEDS_RESET; NOT_IN_GUEST to
+ * HEAD_IN_USE. */
+enum covretin_queue_error covretin_queue_descriptor_place(covretin_queue *queue, covretin_range *place, bool *found);
+enum covretin_queue_error covretin_queue_step(covretin_queue *queue, const covretin_descriptor *descriptor, covretin_segment *segment,
+                                              bool *found);
+
+/* The device is done with the chain of this head, or of this id, and wrote so many bytes: what is to be written. In any order of
+ * chains, and from a queue that needs a reset, too. NOT_HANDED_OUT. */
+enum covretin_queue_error covretin_queue_add_used(covretin_queue *queue, uint16_t id, uint32_t len, covretin_used *used);
+
+/* What the driver wants to be told: two bytes, or four of a packed queue; and that they were read as this, the last two of four as
+ * flags: whether the driver is to be told of what was used since this was last asked. */
+enum covretin_queue_error covretin_queue_notification_place(covretin_queue *queue, covretin_range *place);
+enum covretin_queue_error covretin_queue_needs_notification(covretin_queue *queue, uint16_t value, uint16_t flags, bool *needed);
+
+/* What is to be written so that the driver tells, or does not tell, of what it makes available from now on. After it was asked to
+ * tell, what is available is to be read again, behind a full barrier. */
+enum covretin_queue_error covretin_queue_set_notification(covretin_queue *queue, bool enable, covretin_event_write *write);
+
+/* -- The inflight region of a split queue ----------------------------------------------------------------------------
+ * A queue's area has 16 bytes, and 16 for each descriptor. Each of these writes twice, in this order: once a head was taken and
+ * before it is served, with a counter that goes on by one each time; before the used ring's index tells of it, with the head that
+ * was used before; and after that index, which is given, was written. */
+void covretin_inflight_take(uint16_t head, uint64_t counter, covretin_inflight_write *first, covretin_inflight_write *second);
+void covretin_inflight_before_used(uint16_t head, uint16_t last, covretin_inflight_write *first, covretin_inflight_write *second);
+void covretin_inflight_after_used(uint16_t head, uint16_t idx, covretin_inflight_write *first, covretin_inflight_write *second);
+
+/* What a crash left, by the entries of a queue, by last_batch_head and used_idx of its area, and by the index of its used ring: of
+ * which heads the entry is to be cleared, since they were used (settled_len is entries_len), and which *count heads are to be taken
+ * again, in order. INVALID_INFLIGHT, NO_ROOM, OUT_OF_MEMORY. */
+enum covretin_queue_error covretin_inflight_recover(const covretin_inflight_entry *entries, size_t entries_len,
+                                                    uint16_t last_batch_head, uint16_t used_idx, uint16_t ring_idx, bool *settled,
+                                                    size_t settled_len, covretin_resubmit *again, size_t again_len, size_t *count);
+
+/* -- The dirty log ---------------------------------------------------------------------------------------------------
+ * The pages of a range of guest addresses that a log of so many bytes has bits for, from *first up to *end, which is none of them.
+ * NOT_IN_GUEST: the range ends beyond 64 bits. And the bit of a page, which is set by an atomic or. */
+enum covretin_queue_error covretin_log_pages(uint64_t addr, uint64_t len, uint64_t log_size, uint64_t *first, uint64_t *end);
+void covretin_log_bit_of(uint64_t page, covretin_log_bit *bit);
+
+#ifdef __cplusplus
+}
+#endif
+
+#endif
