@@ -37,8 +37,10 @@ $(error $(CC) compiles for a machine that there is no proved code for; there is 
 endif
 
 GLUE := covretin_socket covretin_backend_socket covretin_channel_socket covretin_display_socket covretin_serving \
-    covretin_transport covretin_text covretin_memory
-OBJECTS := $(BUILD)/proved.o $(GLUE:%=$(BUILD)/%.o)
+    covretin_transport covretin_text covretin_memory \
+    covretin_device covretin_device_calls covretin_device_memory covretin_device_rings
+# (queues are a proved library of their own)
+OBJECTS := $(BUILD)/proved.o $(BUILD)/proved_queue.o $(GLUE:%=$(BUILD)/%.o)
 # Assembly is told the machine, and wants no debug information, which would name this folder.
 OF_MACHINE := $(filter -m% --target=% -target%,$(CFLAGS))
 COMPILE = $(CC) -std=gnu11 -Wall -Wextra -pedantic -ffile-prefix-map=$(CURDIR)=. $(CPPFLAGS) $(CFLAGS) -fPIC -Iinclude
@@ -56,6 +58,10 @@ $(BUILD)/proved.o: $(GENERATED)/covretin.s
 	$(CC) $(OF_MACHINE) -c -o $@ $<
 endif
 
+$(BUILD)/proved_queue.o: $(GENERATED)/covretin_queue.s
+	@mkdir -p $(BUILD)
+	$(CC) $(OF_MACHINE) -c -o $@ $<
+
 $(BUILD)/%.o: c/%.c $(wildcard c/*.h include/*.h)
 	@mkdir -p $(BUILD)
 	$(COMPILE) -c -o $@ $<
@@ -70,7 +76,7 @@ $(BUILD)/libcovretin.a: $(BUILD)/covretin.o
 	$(AR) rcsD $@ $<
 
 $(BUILD)/$(SHARED): $(BUILD)/covretin.o c/covretin.map
-	$(CC) $(CFLAGS) $(LDFLAGS) -shared -o $@ -Wl,-soname,$(SONAME) -Wl,--version-script=c/covretin.map \
+	$(CC) $(CFLAGS) $(LDFLAGS) -pthread -shared -o $@ -Wl,-soname,$(SONAME) -Wl,--version-script=c/covretin.map \
 	    -Wl,-z,relro,-z,now,-z,noexecstack,-z,defs $<
 	ln -sf $(SHARED) $(BUILD)/$(SONAME)
 	ln -sf $(SHARED) $(BUILD)/libcovretin.so
@@ -80,7 +86,7 @@ $(BUILD)/covretin.pc: FORCE
 	@mkdir -p $(BUILD)
 	@printf '%s\n' 'prefix=$(PREFIX)' 'includedir=$(INCLUDEDIR)' 'libdir=$(LIBDIR)' '' 'Name: covretin' \
 	    'Description: both sides of vhost-user, with proofs' 'Version: $(VERSION)' 'Cflags: -I$${includedir}' \
-	    'Libs: -L$${libdir} -lcovretin' >$@
+	    'Libs: -L$${libdir} -lcovretin' 'Libs.private: -pthread' >$@
 
 programs: $(BUILD)/vhost-run $(BUILD)/vhost-daemon
 
@@ -93,7 +99,8 @@ check: all
 	CC='$(CC)' AR='$(AR)' ./test-c
 
 FOLDERS = $(LIBDIR)/pkgconfig $(INCLUDEDIR) $(DATADIR)/covretin $(DOCDIR)/examples $(MANDIR)/man1 $(MANDIR)/man7
-EXAMPLES := c/frontend.c c/blk.c $(sort $(wildcard c/blk_*.[ch])) c/covretin_transport.h
+HEADERS := $(wildcard include/*.h)
+EXAMPLES := c/frontend.c c/rng.c c/blk.c $(sort $(wildcard c/blk_*.[ch])) c/covretin_transport.h
 PAGES1 := $(notdir $(wildcard man/*.1))
 PAGES7 := $(notdir $(wildcard man/*.7))
 
@@ -104,15 +111,15 @@ install: all
 	ln -sf $(SHARED) $(DESTDIR)$(LIBDIR)/$(SONAME)
 	ln -sf $(SHARED) $(DESTDIR)$(LIBDIR)/libcovretin.so
 	$(INSTALL) -m 644 $(BUILD)/covretin.pc $(DESTDIR)$(LIBDIR)/pkgconfig
-	$(INSTALL) -m 644 $(wildcard include/*.h) $(DESTDIR)$(INCLUDEDIR)
-	$(INSTALL) -m 644 $(GENERATED)/covretin.verdict $(GENERATED)/covretin.sources $(DESTDIR)$(DATADIR)/covretin
+	$(INSTALL) -m 644 $(HEADERS) $(DESTDIR)$(INCLUDEDIR)
+	$(INSTALL) -m 644 $(sort $(wildcard $(GENERATED)/covretin*.verdict $(GENERATED)/covretin*.sources)) $(DESTDIR)$(DATADIR)/covretin
 	$(INSTALL) -m 644 $(EXAMPLES) $(DESTDIR)$(DOCDIR)/examples
 	$(INSTALL) -m 644 $(PAGES1:%=man/%) $(DESTDIR)$(MANDIR)/man1
 	$(INSTALL) -m 644 $(PAGES7:%=man/%) $(DESTDIR)$(MANDIR)/man7
 
 uninstall:
 	cd $(DESTDIR)$(LIBDIR) && rm -f libcovretin.a $(SHARED) $(SONAME) libcovretin.so pkgconfig/covretin.pc
-	cd $(DESTDIR)$(INCLUDEDIR) && rm -f $(notdir $(wildcard include/*.h))
+	cd $(DESTDIR)$(INCLUDEDIR) && rm -f $(notdir $(HEADERS))
 	rm -rf $(DESTDIR)$(DATADIR)/covretin $(DESTDIR)$(DOCDIR)
 	rm -f $(PAGES1:%=$(DESTDIR)$(MANDIR)/man1/%) $(PAGES7:%=$(DESTDIR)$(MANDIR)/man7/%)
 

@@ -44,6 +44,8 @@ const char *covretin_error_text(enum covretin_error error)
     case COVRETIN_TIMED_OUT: return "the limit of time passed";
     case COVRETIN_FDS_LOST: return "file descriptors were lost";
     case COVRETIN_INVALID_PATH: return "the socket's path is empty or too long";
+    case COVRETIN_MEMORY_LOST: return "memory of the frontend is gone";
+    case COVRETIN_STOPPED: return "the device was stopped";
     }
     return "unknown error";
 }

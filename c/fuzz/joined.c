@@ -10,6 +10,7 @@ static covretin_backend backend;
 /* Whether the two may believe that something else was agreed on: a request was refused whose reply the frontend did not await, or the
  * device offered other features than before. And what it offered last: features of virtio, and protocol features. */
 static bool may_differ;
+static bool is_vhost; /* and not standard */
 static struct {
     uint64_t features;
     bool is_there;
@@ -237,12 +238,14 @@ static bool is_as_replied(uint32_t code)
 }
 
 /* The frontend takes the reply. It says that a call succeeded whose reply it awaited only if the device did it, and awaits what does
- * not come only where this call was refused, or both may believe something else. Whether they go on. */
+ * not come only where this call was refused, or both may believe something else; under STANDARD only where the backend has ended. Whether
+ * they go on. */
 static bool take(uint8_t which, bool is_awaited, enum covretin_error served)
 {
     enum covretin_error error = covretin_take(&session);
     outcome(number_of(which) + 64, error);
     must(error != COVRETIN_NOT_YET || served != COVRETIN_OK || may_differ);
+    must(error != COVRETIN_NOT_YET || is_vhost || may_differ || is_starved(served) || covretin_backend_ended(&backend) == 1);
     may_differ = may_differ || (served != COVRETIN_OK && !is_awaited);
     if (is_starved(served) || is_starved(error) || error == COVRETIN_NOT_YET)
         return false;
@@ -269,7 +272,7 @@ static bool exchange(void)
         return false;
     error = serve();
     must(is_awaited || reply.length == 0);
-    return carry_reply() && take(which, is_awaited, error);
+    return carry_reply() && take(which, is_awaited, error) && covretin_backend_ended(&backend) == 0;
 }
 
 /* Sets the flags, or whose behaviour both have. */
@@ -281,6 +284,7 @@ static void set(uint8_t what)
         enum covretin_profile profile = next_byte() % 2;
         outcome(201, covretin_set_profile(&session, profile));
         outcome(511, covretin_backend_set_profile(&backend, profile));
+        is_vhost = profile == COVRETIN_PROFILE_VHOST;
     }
 }
 
@@ -300,7 +304,7 @@ static void open_both(void)
 void run_session(void)
 {
     open_both();
-    may_differ = false;
+    may_differ = is_vhost = false;
     memset(offers, 0, sizeof offers);
     while (more_steps()) {
         set(next_byte());

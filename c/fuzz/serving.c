@@ -9,6 +9,7 @@ static int32_t own[MOST_FDS];
 static size_t own_count, came;
 static uint32_t code; /* of its header */
 static uint8_t header[12];
+static enum covretin_profile profile;
 
 static void forget_request(void)
 {
@@ -50,15 +51,16 @@ static void receive(void)
     memcpy(&code, header, sizeof code);
 }
 
-static void send_all(uint32_t to)
+/* How many bytes. */
+static size_t send_all(uint32_t to)
 {
     static uint8_t bytes[COVRETIN_MAX_MESSAGE + 1];
     int32_t fds[2 * COVRETIN_MAX_FDS];
     size_t fd_count = 0;
-    take_reply(&backend, to, bytes, fds, &fd_count);
+    return take_reply(&backend, to, bytes, fds, &fd_count);
 }
 
-/* A session that was broken amid a reply stays so: it serves nothing that comes, and sends nothing more. */
+/* A session that has ended, or was broken amid a reply, stays so: it serves nothing that comes, and sends nothing more. */
 static bool is_broken(void)
 {
     static const uint8_t get_features[12] = {1, [4] = 1};
@@ -86,16 +88,35 @@ static bool reply(uint32_t call)
     TELL(call);
     error = reply_to(&backend, call, must_be_own);
     must(covretin_reply_refused(&backend) == COVRETIN_NOTHING_ASKED);
-    if (replied.form >= 240)
-        outcome(511, covretin_backend_set_profile(&backend, replied.form % 3));
+    if (replied.form >= 240) {
+        enum covretin_error set = covretin_backend_set_profile(&backend, replied.form % 3);
+        outcome(511, set);
+        if (set == COVRETIN_OK)
+            profile = replied.form % 3;
+    }
     return error != COVRETIN_SOCKET_RETRY && error != COVRETIN_SOCKET_BROKEN ? true : !is_broken();
 }
 
-/* Checks the request, if it is there, and serves it. Whether the session is of more use. */
+/* Whether a request has a reply of its own in every session. */
+static bool has_reply(uint32_t of)
+{
+    static const uint8_t with[] = {
+        COVRETIN_CALL_GET_FEATURES,       COVRETIN_CALL_GET_PROTOCOL_FEATURES, COVRETIN_CALL_GET_QUEUE_NUM,
+        COVRETIN_CALL_GET_VRING_BASE,     COVRETIN_CALL_GET_CONFIG,            COVRETIN_CALL_GET_INFLIGHT_FD,
+        COVRETIN_CALL_GET_MAX_MEM_SLOTS,  COVRETIN_CALL_GET_SHARED_OBJECT,     COVRETIN_CALL_GET_SHMEM_CONFIG,
+        COVRETIN_CALL_SET_DEVICE_STATE_FD, COVRETIN_CALL_CHECK_DEVICE_STATE,   COVRETIN_CALL_POSTCOPY_ADVISE,
+        COVRETIN_CALL_POSTCOPY_END,
+    };
+    return of < 64 && memchr(with, (int)of, sizeof with) != NULL;
+}
+
+/* Checks the request, if it is there, and serves it. Under STANDARD one that has a reply is replied to, or the session has ended; but for
+ * one that is malformed, after which nobody goes on. Whether the session is of more use. */
 static bool serve(void)
 {
     bool goes_on;
     uint32_t call = 0, of = code;
+    bool is_standard = profile == COVRETIN_PROFILE_STANDARD;
     enum covretin_error error = covretin_backend_next(&backend, &call);
     if (error == COVRETIN_NOT_YET)
         return true;
@@ -108,7 +129,10 @@ static bool serve(void)
     forget_request();
     read_arguments(&backend, must_be_own);
     must(called.form == NO_FORM);
-    send_all(of);
+    bool is_answered = send_all(of) != 0 || covretin_backend_ended(&backend) == 1;
+    must(!goes_on || !is_standard || is_answered || !has_reply(of) || is_starved(error));
+    if (goes_on && covretin_backend_ended(&backend) == 1)
+        return !is_broken();
     return goes_on;
 }
 
@@ -127,6 +151,7 @@ void run_session(void)
     while (is_again(error));
     must(error == COVRETIN_OK);
     forget_request();
+    profile = COVRETIN_PROFILE_STANDARD;
     while (more_bytes()) {
         receive();
         if (covretin_backend_missing(&backend) == 0 && !serve())

@@ -13,6 +13,7 @@
 #include <time.h>
 
 static bool wrong, any_wrong;
+static size_t wrong_count;
 
 void expect(int line, const char *call, long long want, long long got)
 {
@@ -20,6 +21,12 @@ void expect(int line, const char *call, long long want, long long got)
         return;
     printf("line %d: %s is %lld and not %lld\n", line, call, got, want);
     wrong = true;
+    wrong_count++;
+}
+
+size_t expected_wrong(void)
+{
+    return wrong_count;
 }
 
 /* Whether COVRETIN_LEFT_OUT names a test: what an emulator cannot do. */

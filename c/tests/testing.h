@@ -15,6 +15,9 @@
 void expect(int line, const char *call, long long want, long long got);
 void run(const char *name, void (*test)(void));
 
+/* How many expectations differed so far. */
+size_t expected_wrong(void);
+
 /* The status of a program whose tests have ended: 0 where all passed, else 1. */
 int status(void);
 

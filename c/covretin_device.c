@@ -1,0 +1,476 @@
+/* SPDX-License-Identifier: Apache-2.0 */
+/* A device's event loop, and its life. What a frontend's calls mean is in covretin_device_calls.c. */
+#ifndef _GNU_SOURCE
+#define _GNU_SOURCE /* for memfd_create and preadv2 */
+#endif
+
+#include "covretin_device_session.h"
+
+#include <errno.h>
+#include <poll.h>
+#include <signal.h>
+#include <stdlib.h>
+#include <string.h>
+#include <sys/epoll.h>
+#include <sys/eventfd.h>
+#include <sys/mman.h>
+#include <sys/signalfd.h>
+#include <sys/syscall.h>
+#include <sys/timerfd.h>
+#include <unistd.h>
+
+enum { MOST_CALLS = 256, SOCKET = COVRETIN_DEVICE_MAX_QUEUES, WAKE, STOP, TIMER, MOST_READY };
+
+/* -- The loop -- */
+
+static bool has_ended(struct session *session)
+{
+    if (session->why == COVRETIN_OK && session->is_stopped)
+        session->why = COVRETIN_STOPPED;
+    if (session->why == COVRETIN_OK && session->holder.has_lost)
+        session->why = COVRETIN_MEMORY_LOST;
+    return session->why != COVRETIN_OK;
+}
+
+/* Has the socket polled for this. */
+static void poll_socket(struct session *session, short events)
+{
+    struct epoll_event ready = {.events = (uint32_t)events, .data.u32 = SOCKET};
+    if (events != session->events)
+        epoll_ctl(session->polled, EPOLL_CTL_MOD, covretin_service_fd(&session->frontend), &ready);
+    session->events = events;
+}
+
+static void tell_refused(struct session *session, enum covretin_error error)
+{
+    uint32_t request = covretin_service_request(&session->frontend);
+    if (session->calls->refused == NULL || error == COVRETIN_OK || error == COVRETIN_DISCONNECTED)
+        return;
+    pthread_mutex_unlock(&session->lock);
+    session->calls->refused(session->own, request, error);
+    pthread_mutex_lock(&session->lock);
+}
+
+/* The next call, or the one that waits. NOT_YET: there is none. */
+static enum covretin_error next_call(struct session *session, uint32_t *call, short *events)
+{
+    enum covretin_error error;
+    if (session->waits != 0) {
+        *call = session->waits;
+        session->waits = 0;
+        return COVRETIN_OK;
+    }
+    error = covretin_next_call_nowait(&session->frontend, call, events);
+    if (error == COVRETIN_NOT_REPLIED) /* there was no memory for the reply */
+        session->why = COVRETIN_OUT_OF_MEMORY;
+    else if (error == COVRETIN_OUT_OF_MEMORY || (error != COVRETIN_OK && covretin_service_ended(&session->frontend)))
+        session->why = error;
+    return error;
+}
+
+/* Serves the calls that are there, but for those of one that sends without end: rings are served in between. */
+static void serve_calls(struct session *session)
+{
+    for (unsigned done = 0; !has_ended(session); done++) {
+        short events = 0;
+        uint32_t call = 0;
+        if (done == MOST_CALLS)
+            return;
+        enum covretin_error error = next_call(session, &call, &events);
+        if (error == COVRETIN_NOT_YET) {
+            poll_socket(session, events);
+            session->is_called = false;
+            return;
+        }
+        if (error == COVRETIN_OK && has_to_wait(session, call)) {
+            session->waits = call;
+            poll_socket(session, 0);
+            return;
+        }
+        if (error == COVRETIN_OK)
+            error = answer_call(session, call);
+        tell_refused(session, error);
+    }
+}
+
+/* A ring was kicked. One whose kick cannot be read has none any more, since it would be ready for ever, and is broken. */
+static void take_event(struct session *session, struct ring *ring)
+{
+    uint64_t count;
+    struct iovec whole = {&count, sizeof count};
+    if (ring->kick < 0)
+        return;
+    if (preadv2(ring->kick, &whole, 1, -1, RWF_NOWAIT) != sizeof count && errno != EAGAIN) {
+        ring_drop_kick(session, ring);
+        ring->is_broken = true;
+    }
+    ring->is_due = true;
+}
+
+/* Takes what is ready. */
+static void take_events(struct session *session)
+{
+    struct epoll_event ready[MOST_READY];
+    int count = epoll_wait(session->polled, ready, MOST_READY, 0);
+    uint64_t none;
+    for (int i = 0; i < count; i++) {
+        uint32_t of = ready[i].data.u32;
+        if (of < COVRETIN_DEVICE_MAX_QUEUES)
+            take_event(session, &session->rings[of]);
+        else if (of == WAKE)
+            (void)!read(session->holder.wake, &none, sizeof none);
+        else if (of == TIMER && read(session->timer, &none, sizeof none) > 0)
+            for (uint32_t each = 0; each < session->calls->queues; each++)
+                session->rings[each].is_due |= session->rings[each].kick < 0;
+        else if (of == SOCKET && session->waits != 0 && ready[i].events & (EPOLLHUP | EPOLLERR))
+            session->why = COVRETIN_DISCONNECTED;
+        else if (of == SOCKET)
+            session->is_called = true;
+    }
+}
+
+/* What is due still is served by the next call; a ring without a kick is looked at each millisecond. */
+static void plan(struct session *session)
+{
+    bool is_due = session->is_called && session->waits == 0, is_timed = false;
+    for (uint32_t i = 0; i < session->calls->queues; i++) {
+        const struct ring *ring = &session->rings[i];
+        is_due = is_due || (ring->is_due && ring_is_running(session, ring));
+        is_timed = is_timed || (ring->kick < 0 && ring_is_running(session, ring));
+    }
+    if (is_due)
+        wake_up(session->holder.wake);
+    if (is_timed != session->is_timed) {
+        const struct timespec each = {0, is_timed ? 1000000 : 0};
+        timerfd_settime(session->timer, 0, &(struct itimerspec){each, each}, NULL);
+    }
+    session->is_timed = is_timed;
+}
+
+/* All that the frontend gave is given up, but for what requests still point to. */
+static void give_up(struct session *session)
+{
+    epoll_ctl(session->polled, EPOLL_CTL_DEL, covretin_service_fd(&session->frontend), NULL);
+    covretin_hang_up(&session->frontend);
+    arrival_end(&session->arrival, session->space);
+    for (uint32_t i = 0; i < session->calls->queues; i++) {
+        ring_stop(session, &session->rings[i]);
+        bell_close(&session->rings[i].error);
+    }
+    space_release(session->space);
+    mapping_release(session->log);
+    mapping_release(session->inflight);
+    session->space = NULL;
+    session->log = session->inflight = NULL;
+    close_inflight_fd(session);
+}
+
+static void close_if(int fd)
+{
+    if (fd >= 0)
+        close(fd);
+}
+
+static void session_free(struct session *session)
+{
+    for (uint32_t i = 0; i < COVRETIN_DEVICE_MAX_QUEUES; i++)
+        covretin_queue_close(&session->rings[i].queue);
+    if (session->requests != 0)
+        syscall(SYS_io_destroy, session->requests);
+    close_if(session->empty);
+    close_if(session->timer);
+    close_if(session->stop);
+    close_if(session->holder.wake);
+    close_if(session->polled);
+    pthread_mutex_destroy(&session->lock);
+    free(session);
+}
+
+/* Says once that the session has ended. What it waits for stays ready from then on. */
+static void tell_end(struct session *session)
+{
+    if (!session->is_told && session->calls->ended != NULL) {
+        session->is_told = true;
+        pthread_mutex_unlock(&session->lock);
+        session->calls->ended(session->own, session->why);
+        pthread_mutex_lock(&session->lock);
+    }
+    session->is_told = true;
+    wake_up(session->stop);
+}
+
+enum covretin_error covretin_device_serve(covretin_device *device)
+{
+    struct session *session = device->opaque;
+    enum covretin_error why = COVRETIN_NOT_YET;
+    if (session == NULL)
+        return COVRETIN_NO_SESSION;
+    pthread_mutex_lock(&session->lock);
+    take_events(session);
+    if (session->frontend.opaque != NULL) {
+        if (session->is_called || session->waits != 0)
+            serve_calls(session);
+        for (uint32_t i = 0; i < session->calls->queues && !has_ended(session); i++)
+            if (session->rings[i].is_due)
+                ring_serve(session, &session->rings[i]);
+        if (has_ended(session))
+            give_up(session);
+        else
+            plan(session);
+    }
+    if (session->why != COVRETIN_OK && session->out == 0) {
+        tell_end(session);
+        why = session->why;
+    }
+    pthread_mutex_unlock(&session->lock);
+    return why;
+}
+
+/* -- Their life -- */
+
+static bool poll_for(struct session *session, int fd, uint32_t of)
+{
+    struct epoll_event ready = {.events = EPOLLIN, .data.u32 = of};
+    return fd >= 0 && epoll_ctl(session->polled, EPOLL_CTL_ADD, fd, &ready) == 0;
+}
+
+/* What the system and the proved part have to give for a session. SOCKET_ERROR, OUT_OF_MEMORY. */
+static enum covretin_error prepare(struct session *session)
+{
+    session->polled = epoll_create1(EPOLL_CLOEXEC);
+    session->holder.wake = eventfd(0, EFD_CLOEXEC | EFD_NONBLOCK);
+    session->stop = eventfd(0, EFD_CLOEXEC | EFD_NONBLOCK);
+    session->timer = timerfd_create(CLOCK_MONOTONIC, TFD_CLOEXEC | TFD_NONBLOCK);
+    session->empty = memfd_create("empty", MFD_CLOEXEC);
+    if (session->polled < 0 || session->empty < 0 || !poll_for(session, session->holder.wake, WAKE) ||
+        !poll_for(session, session->stop, STOP) || !poll_for(session, session->timer, TIMER) ||
+        syscall(SYS_io_setup, 1, &session->requests) != 0)
+        return COVRETIN_SOCKET_ERROR;
+    session->arrival = (struct arrival){.holder = &session->holder, .userfault = -1, .stop = session->stop, .signals = session->signals};
+    for (uint32_t i = 0; i < session->calls->queues; i++)
+        if (covretin_queue_open(&session->rings[i].queue))
+            return COVRETIN_OUT_OF_MEMORY;
+    return COVRETIN_OK;
+}
+
+static enum covretin_error open_session(covretin_device *device, const covretin_device_calls *calls, void *own,
+                                        covretin_listener *listener, int fd, int signals)
+{
+    struct session *session;
+    enum covretin_error error;
+    int was;
+    if (device->opaque != NULL)
+        return COVRETIN_SESSION_OPEN;
+    if (calls->request == NULL || calls->queues == 0 || calls->queues > COVRETIN_DEVICE_MAX_QUEUES)
+        return COVRETIN_INVALID_PARAM;
+    session = calloc(1, sizeof *session);
+    if (session == NULL)
+        return COVRETIN_OUT_OF_MEMORY;
+    pthread_mutex_init(&session->lock, NULL);
+    session->calls = calls;
+    session->own = own;
+    session->signals = signals;
+    session->inflight_fd = -1;
+    for (uint32_t i = 0; i < COVRETIN_DEVICE_MAX_QUEUES; i++) {
+        session->rings[i].kick = -1;
+        session->rings[i].call.fd = session->rings[i].error.fd = -1;
+    }
+    error = prepare(session);
+    if (error == COVRETIN_OK)
+        error = listener != NULL ? covretin_accept(listener, &session->frontend, 0) : covretin_serve_fd(&session->frontend, fd);
+    session->events = POLLIN;
+    session->is_called = true;
+    if (error == COVRETIN_OK && !poll_for(session, covretin_service_fd(&session->frontend), SOCKET))
+        error = COVRETIN_SOCKET_ERROR;
+    if (error == COVRETIN_OK) {
+        device->opaque = session;
+        return COVRETIN_OK;
+    }
+    was = errno;
+    covretin_hang_up(&session->frontend);
+    session_free(session);
+    errno = was;
+    return error;
+}
+
+enum covretin_error covretin_device_open(covretin_device *device, const covretin_device_calls *calls, void *own,
+                                         covretin_listener *listener)
+{
+    return open_session(device, calls, own, listener, -1, -1);
+}
+
+enum covretin_error covretin_device_open_fd(covretin_device *device, const covretin_device_calls *calls, void *own, int fd)
+{
+    return open_session(device, calls, own, NULL, fd, -1);
+}
+
+int covretin_device_fd(const covretin_device *device)
+{
+    const struct session *session = device->opaque;
+    return session != NULL ? session->polled : -1;
+}
+
+void covretin_device_stop(covretin_device *device)
+{
+    struct session *session = device->opaque;
+    int was = errno;
+    if (session != NULL) {
+        session->is_stopped = true;
+        wake_up(session->stop);
+    }
+    errno = was;
+}
+
+void covretin_device_close(covretin_device *device)
+{
+    struct session *session = device->opaque;
+    bool is_last;
+    if (session == NULL)
+        return;
+    covretin_device_stop(device); /* whoever waits for a page goes on */
+    pthread_mutex_lock(&session->lock);
+    has_ended(session);
+    give_up(session);
+    session->is_closed = true;
+    is_last = session->out == 0;
+    pthread_mutex_unlock(&session->lock);
+    device->opaque = NULL;
+    if (is_last)
+        session_free(session);
+}
+
+/* -- Requests -- */
+
+void covretin_request_done(covretin_request *request, uint32_t written)
+{
+    struct taken *taken = (struct taken *)(void *)request;
+    struct session *session = taken->session;
+    struct ring *ring = &session->rings[request->queue];
+    bool is_last;
+    pthread_mutex_lock(&session->lock);
+    if (!has_ended(session))
+        ring_give(session, ring, taken, written);
+    space_release(taken->space);
+    ring->out--;
+    session->out--;
+    if (session->waits != 0 || session->why != COVRETIN_OK)
+        wake_up(session->holder.wake);
+    is_last = session->is_closed && session->out == 0;
+    pthread_mutex_unlock(&session->lock);
+    free(taken);
+    if (is_last)
+        session_free(session);
+}
+
+bool covretin_request_is_lost(const covretin_request *request)
+{
+    return ((const struct taken *)(const void *)request)->session->holder.has_lost;
+}
+
+/* Copies between bytes and the beginning of these segments. */
+static size_t copy(struct iovec *segments, size_t count, uint8_t *bytes, size_t len, bool is_read)
+{
+    size_t done = 0;
+    for (size_t i = 0; i < count && done < len; i++) {
+        size_t part = segments[i].iov_len < len - done ? segments[i].iov_len : len - done;
+        if (is_read)
+            memcpy(bytes + done, segments[i].iov_base, part);
+        else
+            memcpy(segments[i].iov_base, bytes + done, part);
+        segments[i] = (struct iovec){(uint8_t *)segments[i].iov_base + part, segments[i].iov_len - part};
+        done += part;
+    }
+    return done;
+}
+
+size_t covretin_request_read(covretin_request *request, void *bytes, size_t len)
+{
+    return copy(request->segments, request->readable, bytes, len, true);
+}
+
+size_t covretin_request_write(covretin_request *request, const void *bytes, size_t len)
+{
+    return copy(request->segments + request->readable, request->writable, (uint8_t *)(uintptr_t)bytes, len, false);
+}
+
+/* -- All of it -- */
+
+/* Hangs up on another frontend, which would wait for its first reply as long as this one stays. Where this one has gone the other, who may
+ * be the same again, is left to be served next. */
+static void refuse_another(covretin_listener *listener, const covretin_device *device)
+{
+    const struct session *session = device->opaque;
+    struct pollfd gone = {.fd = covretin_service_fd(&session->frontend)};
+    covretin_service other = {0};
+    if (gone.fd >= 0 && poll(&gone, 1, 0) == 0 && covretin_accept(listener, &other, 0) == COVRETIN_OK)
+        covretin_hang_up(&other);
+}
+
+/* Serves the frontend that is there until it goes. False: a signal came. */
+static bool serve_frontend(covretin_device *device, covretin_listener *listener, int signals)
+{
+    for (;;) {
+        const struct session *session = device->opaque;
+        /* (a frontend that waits is left to wait where this one's requests are still to be done) */
+        int waiting = session->frontend.opaque != NULL ? covretin_listener_fd(listener) : -1;
+        struct pollfd polled[] = {{.fd = covretin_device_fd(device), .events = POLLIN},
+                                  {.fd = waiting, .events = POLLIN},
+                                  {.fd = signals, .events = POLLIN}};
+        if (poll(polled, 3, -1) < 0)
+            continue;
+        if (polled[2].revents != 0)
+            return false;
+        if (polled[1].revents != 0)
+            refuse_another(listener, device);
+        if (polled[0].revents != 0 && covretin_device_serve(device) != COVRETIN_NOT_YET)
+            return true;
+    }
+}
+
+static enum covretin_error serve_all(const covretin_device_calls *calls, void *own, covretin_listener *listener, int signals)
+{
+    for (;;) {
+        struct pollfd polled[] = {{.fd = covretin_listener_fd(listener), .events = POLLIN}, {.fd = signals, .events = POLLIN}};
+        covretin_device device = {0};
+        enum covretin_error error;
+        bool goes_on;
+        if (poll(polled, 2, -1) < 0)
+            continue;
+        if (polled[1].revents != 0)
+            return COVRETIN_OK;
+        error = open_session(&device, calls, own, listener, -1, signals);
+        if (error == COVRETIN_TIMED_OUT)
+            continue;
+        if (error != COVRETIN_OK)
+            return error;
+        goes_on = serve_frontend(&device, listener, signals);
+        covretin_device_close(&device);
+        if (!goes_on)
+            return COVRETIN_OK;
+    }
+}
+
+enum covretin_error covretin_device_run(const covretin_device_calls *calls, void *own, const char *path)
+{
+    covretin_listener listener = {0};
+    enum covretin_error error;
+    sigset_t ending, were;
+    int signals;
+    sigemptyset(&ending);
+    sigaddset(&ending, SIGTERM);
+    sigaddset(&ending, SIGINT);
+    pthread_sigmask(SIG_BLOCK, &ending, &were);
+    signals = signalfd(-1, &ending, SFD_CLOEXEC | SFD_NONBLOCK);
+    error = signals < 0 ? COVRETIN_SOCKET_ERROR : covretin_listen(&listener, path);
+    if (error == COVRETIN_OK)
+        error = serve_all(calls, own, &listener, signals);
+    int was = errno;
+    struct signalfd_siginfo taken;
+    covretin_unlisten(&listener);
+    if (error == COVRETIN_OK)
+        (void)!read(signals, &taken, sizeof taken); /* else it would end the program once it is not blocked */
+    close_if(signals);
+    pthread_sigmask(SIG_SETMASK, &were, NULL);
+    errno = was;
+    return error;
+}

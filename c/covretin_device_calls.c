@@ -1,0 +1,550 @@
+/* SPDX-License-Identifier: Apache-2.0 */
+/* What each call of a frontend means for a device. */
+#ifndef _GNU_SOURCE
+#define _GNU_SOURCE /* for memfd_create */
+#endif
+
+#include "covretin_device_session.h"
+
+#include <fcntl.h>
+#include <stdio.h>
+#include <stdlib.h>
+#include <string.h>
+#include <sys/epoll.h>
+#include <sys/mman.h>
+#include <unistd.h>
+
+enum { IN_A_TABLE = 32 };
+
+typedef enum covretin_error answer(struct session *session);
+
+/* -- Features and configuration -- */
+
+static uint64_t features_of(const struct session *session)
+{
+    return session->calls->features | COVRETIN_DEVICE_VERSION_1 | COVRETIN_DEVICE_EVENT_IDX | COVRETIN_DEVICE_INDIRECT_DESC |
+           COVRETIN_FEATURE_LOG_ALL | COVRETIN_FEATURE_PROTOCOL_FEATURES;
+}
+
+static uint64_t protocol_features_of(const struct covretin_device_calls *calls)
+{
+    return calls->protocol_features | COVRETIN_PROTOCOL_MQ | COVRETIN_PROTOCOL_LOG_SHMFD | COVRETIN_PROTOCOL_REPLY_ACK |
+           COVRETIN_PROTOCOL_PAGEFAULT | COVRETIN_PROTOCOL_RESET_DEVICE | COVRETIN_PROTOCOL_CONFIGURE_MEM_SLOTS |
+           (calls->features & COVRETIN_DEVICE_RING_PACKED ? 0 : COVRETIN_PROTOCOL_INFLIGHT_SHMFD) |
+           (calls->read_config != NULL ? COVRETIN_PROTOCOL_CONFIG : 0) | (calls->channel != NULL ? COVRETIN_PROTOCOL_BACKEND_REQ : 0);
+}
+
+static enum covretin_error reply(struct session *session, bool is_done)
+{
+    covretin_backend *backend = &session->frontend.backend;
+    return is_done ? covretin_reply_done(backend) : covretin_reply_refused(backend);
+}
+
+static enum covretin_error get_features(struct session *session)
+{
+    return covretin_reply_number(&session->frontend.backend, features_of(session));
+}
+
+static enum covretin_error get_protocol_features(struct session *session)
+{
+    return covretin_reply_number(&session->frontend.backend, protocol_features_of(session->calls));
+}
+
+static enum covretin_error get_queue_num(struct session *session)
+{
+    return covretin_reply_number(&session->frontend.backend, session->calls->queues);
+}
+
+static enum covretin_error get_max_mem_slots(struct session *session)
+{
+    return covretin_reply_number(&session->frontend.backend, COVRETIN_DEVICE_MAX_REGIONS);
+}
+
+static void tell_accepted(struct session *session)
+{
+    if (session->calls->accepted == NULL)
+        return;
+    pthread_mutex_unlock(&session->lock);
+    session->calls->accepted(session->own, session->features, session->protocol_features);
+    pthread_mutex_lock(&session->lock);
+}
+
+static enum covretin_error set_features(struct session *session)
+{
+    uint64_t accepted;
+    if (covretin_call_number(&session->frontend.backend, &accepted) || accepted & ~features_of(session))
+        return reply(session, false);
+    session->features = accepted;
+    tell_accepted(session);
+    return reply(session, true);
+}
+
+static enum covretin_error set_protocol_features(struct session *session)
+{
+    uint64_t accepted;
+    if (covretin_call_number(&session->frontend.backend, &accepted) || accepted & ~protocol_features_of(session->calls))
+        return reply(session, false);
+    session->protocol_features = accepted;
+    tell_accepted(session);
+    return reply(session, true);
+}
+
+static enum covretin_error get_config(struct session *session)
+{
+    uint8_t bytes[COVRETIN_MAX_CONFIG];
+    covretin_config part;
+    size_t none;
+    bool is_read;
+    if (covretin_call_config(&session->frontend.backend, &part, bytes, sizeof bytes, &none) || part.size > sizeof bytes ||
+        session->calls->read_config == NULL)
+        return reply(session, false);
+    pthread_mutex_unlock(&session->lock);
+    is_read = session->calls->read_config(session->own, part.offset, bytes, part.size);
+    pthread_mutex_lock(&session->lock);
+    return is_read ? covretin_reply_config(&session->frontend.backend, bytes, part.size) : reply(session, false);
+}
+
+static enum covretin_error set_config(struct session *session)
+{
+    uint8_t bytes[COVRETIN_MAX_CONFIG];
+    covretin_config part;
+    size_t count;
+    bool is_written;
+    if (covretin_call_config(&session->frontend.backend, &part, bytes, sizeof bytes, &count) || session->calls->write_config == NULL)
+        return reply(session, false);
+    pthread_mutex_unlock(&session->lock);
+    is_written = session->calls->write_config(session->own, part.offset, bytes, (uint32_t)count);
+    pthread_mutex_lock(&session->lock);
+    return reply(session, is_written);
+}
+
+static enum covretin_error set_backend_req_fd(struct session *session)
+{
+    int32_t fd;
+    bool is_taken;
+    if (session->calls->channel == NULL || covretin_call_fd(&session->frontend.backend, &fd))
+        return reply(session, false);
+    pthread_mutex_unlock(&session->lock);
+    is_taken = session->calls->channel(session->own, fd, session->protocol_features);
+    pthread_mutex_lock(&session->lock);
+    return reply(session, is_taken && covretin_claim_call_fd(&session->frontend, fd) == COVRETIN_OK);
+}
+
+/* -- Memory -- */
+
+/* Each queue sees these regions. False: they are none, and nothing changed; where memory failed the session ends. */
+static bool show_regions(struct session *session, const struct space *space)
+{
+    covretin_guest_region *regions = malloc((space->count + 1) * sizeof *regions);
+    enum covretin_queue_error error = regions == NULL ? COVRETIN_QUEUE_OUT_OF_MEMORY : COVRETIN_QUEUE_OK;
+    for (size_t i = 0; !error && i < space->count; i++) {
+        const struct mapping *it = space->mappings[i];
+        regions[i] = (covretin_guest_region){it->guest, it->size, it->user, (uint64_t)(uintptr_t)it->at};
+    }
+    for (uint32_t i = 0; !error && i < session->calls->queues; i++)
+        error = covretin_queue_set_regions(&session->rings[i].queue, regions, space->count);
+    free(regions);
+    if (error == COVRETIN_QUEUE_OUT_OF_MEMORY)
+        session->why = COVRETIN_OUT_OF_MEMORY;
+    return error == COVRETIN_QUEUE_OK;
+}
+
+/* The session has these regions, in the place of those that it had. A ring that lies in none of them is left alone until it does; what it
+ * has of them stays mapped for it. NULL: they could not be made. */
+static bool use_regions(struct session *session, struct space *space)
+{
+    if (space == NULL || space->count > COVRETIN_DEVICE_MAX_REGIONS || !show_regions(session, space)) {
+        space_release(space);
+        return false;
+    }
+    space_release(session->space);
+    session->space = space;
+    for (uint32_t i = 0; i < session->calls->queues; i++)
+        ring_move(session, &session->rings[i]);
+    return true;
+}
+
+/* A mapping of a region, or NULL. */
+static struct mapping *map_region(struct session *session, const covretin_region *region)
+{
+    struct mapping *mapping = mapping_new(&session->holder, region->fd, region->mmap_offset, region->memory_size);
+    if (mapping == NULL)
+        return NULL;
+    mapping->guest = region->guest_phys_addr;
+    mapping->user = region->user_addr;
+    return mapping;
+}
+
+/* Replies where the last regions are mapped, while postcopy listens. */
+static enum covretin_error reply_mapped(struct session *session, size_t count, bool listening)
+{
+    const struct space *space = session->space;
+    uint64_t bases[IN_A_TABLE];
+    if (!listening)
+        return reply(session, true);
+    for (size_t i = 0; i < count; i++)
+        bases[i] = (uint64_t)(uintptr_t)space->mappings[space->count - count + i]->at;
+    return covretin_reply_bases(&session->frontend.backend, bases, count);
+}
+
+/* A table is in the place of what was there; one more region is beside it. */
+static enum covretin_error add_regions(struct session *session, const struct space *before)
+{
+    covretin_region regions[IN_A_TABLE];
+    struct mapping *mappings[IN_A_TABLE];
+    struct space *space = NULL;
+    size_t count, done = 0;
+    bool listening;
+    if (covretin_call_regions(&session->frontend.backend, regions, IN_A_TABLE, &count, &listening))
+        return reply(session, false);
+    while (done < count && (mappings[done] = map_region(session, &regions[done])) != NULL)
+        done++;
+    if (done == count)
+        space = space_new(before, SIZE_MAX, mappings, count);
+    for (size_t i = 0; space == NULL && i < done; i++)
+        mapping_release(mappings[i]);
+    return use_regions(session, space) ? reply_mapped(session, count, listening) : reply(session, false);
+}
+
+static enum covretin_error set_mem_table(struct session *session)
+{
+    return add_regions(session, NULL);
+}
+
+static enum covretin_error add_mem_reg(struct session *session)
+{
+    return add_regions(session, session->space);
+}
+
+static enum covretin_error rem_mem_reg(struct session *session)
+{
+    covretin_region region;
+    size_t count, at = 0, had = session->space != NULL ? session->space->count : 0;
+    bool listening;
+    if (covretin_call_regions(&session->frontend.backend, &region, 1, &count, &listening))
+        return reply(session, false);
+    for (; at < had; at++) {
+        const struct mapping *it = session->space->mappings[at];
+        if (it->guest == region.guest_phys_addr && it->user == region.user_addr && it->size == region.memory_size)
+            break;
+    }
+    return reply(session, at < had && use_regions(session, space_new(session->space, at, NULL, 0)));
+}
+
+static enum covretin_error set_log_base(struct session *session)
+{
+    covretin_region log;
+    mapping_release(session->log);
+    session->log = NULL;
+    if (covretin_call_log(&session->frontend.backend, &log) == COVRETIN_OK)
+        session->log = mapping_new(&session->holder, log.fd, log.mmap_offset, log.memory_size);
+    return reply(session, session->log != NULL);
+}
+
+static enum covretin_error postcopy_advise(struct session *session)
+{
+    session->arrival.frontend = covretin_service_fd(&session->frontend);
+    if (!arrival_begin(&session->arrival))
+        return reply(session, false);
+    return covretin_reply_fd(&session->frontend.backend, session->arrival.userfault);
+}
+
+static enum covretin_error postcopy_ack(struct session *session)
+{
+    return reply(session, arrival_watch(&session->arrival, session->space));
+}
+
+static enum covretin_error postcopy_end(struct session *session)
+{
+    return reply(session, arrival_end(&session->arrival, session->space));
+}
+
+/* -- Rings -- */
+
+/* The ring of a call that has a number, or NULL: the device has no such ring. */
+static struct ring *ring_of(struct session *session, uint32_t *number)
+{
+    uint32_t index;
+    if (covretin_call_ring(&session->frontend.backend, &index, number) || index >= session->calls->queues)
+        return NULL;
+    return &session->rings[index];
+}
+
+static enum covretin_error set_vring_num(struct session *session)
+{
+    uint32_t size;
+    struct ring *ring = ring_of(session, &size);
+    if (ring == NULL || ring->is_started || size == 0 || size > COVRETIN_DEVICE_MAX_QUEUE_SIZE)
+        return reply(session, false);
+    ring->size = (uint16_t)size;
+    return reply(session, true);
+}
+
+static enum covretin_error set_vring_addr(struct session *session)
+{
+    covretin_vring place;
+    uint32_t index;
+    if (covretin_call_vring(&session->frontend.backend, &index, &place) || index >= session->calls->queues)
+        return reply(session, false);
+    session->rings[index].place = place;
+    ring_move(session, &session->rings[index]);
+    return reply(session, true);
+}
+
+static enum covretin_error set_vring_base(struct session *session)
+{
+    uint32_t base;
+    struct ring *ring = ring_of(session, &base);
+    if (ring == NULL || ring->is_started)
+        return reply(session, false);
+    ring->base = base;
+    ring->has_base = true;
+    return reply(session, true);
+}
+
+/* (its requests are done) */
+static enum covretin_error get_vring_base(struct session *session)
+{
+    uint32_t none;
+    struct ring *ring = ring_of(session, &none);
+    if (ring == NULL)
+        return reply(session, false);
+    if (ring->is_started && covretin_queue_base(&ring->queue, &ring->base) == COVRETIN_QUEUE_OK)
+        ring->has_base = true;
+    ring_stop(session, ring);
+    return covretin_reply_ring(&session->frontend.backend, (uint32_t)(ring - session->rings), ring->base);
+}
+
+static enum covretin_error set_vring_enable(struct session *session)
+{
+    uint32_t is_enabled;
+    struct ring *ring = ring_of(session, &is_enabled);
+    if (ring == NULL)
+        return reply(session, false);
+    ring->is_enabled = is_enabled != 0;
+    ring->is_due = true;
+    return reply(session, true);
+}
+
+/* What kind of file a descriptor is of, by the name that the system gives it: nothing is asked of the file itself. */
+static bool is_kind(int fd, const char *kind)
+{
+    char name[32], found[32] = "";
+    snprintf(name, sizeof name, "/proc/self/fd/%d", fd);
+    return readlink(name, found, sizeof found - 1) > 0 && strncmp(found, kind, strlen(kind)) == 0;
+}
+
+/* The kick that a ring has, or has no more. What is no eventfd stays the library's to close. */
+static bool take_kick(struct session *session, struct ring *ring, int32_t fd)
+{
+    struct epoll_event kicked = {.events = EPOLLIN, .data.u32 = (uint32_t)(ring - session->rings)};
+    if (fd >= 0 && (!is_kind(fd, "anon_inode:[eventfd]") || epoll_ctl(session->polled, EPOLL_CTL_ADD, fd, &kicked)))
+        return false;
+    if (fd >= 0 && covretin_claim_call_fd(&session->frontend, fd)) {
+        epoll_ctl(session->polled, EPOLL_CTL_DEL, fd, NULL);
+        return false;
+    }
+    ring_drop_kick(session, ring);
+    ring->kick = fd;
+    return true;
+}
+
+/* The same with what a ring signals. A pipe is opened anew, with flags that the frontend has no part in. */
+static bool take_bell(struct session *session, struct bell *bell, int32_t fd)
+{
+    struct bell taken = {.fd = fd, .is_pipe = fd >= 0 && is_kind(fd, "pipe:[")};
+    if (taken.is_pipe) {
+        char name[32];
+        snprintf(name, sizeof name, "/proc/self/fd/%d", fd);
+        taken.fd = open(name, O_WRONLY | O_NONBLOCK | O_CLOEXEC);
+        if (taken.fd < 0)
+            return false;
+    } else if (fd >= 0 && (!is_kind(fd, "anon_inode:[eventfd]") || covretin_claim_call_fd(&session->frontend, fd)))
+        return false;
+    bell_close(bell);
+    *bell = taken;
+    return true;
+}
+
+/* Its part of the inflight region, or NULL where it has none. */
+static uint8_t *inflight_of(const struct session *session, uint32_t index)
+{
+    uint64_t size = inflight_size(session->inflight_queue_size);
+    if (session->inflight == NULL || session->rings[index].size > session->inflight_queue_size ||
+        index >= session->inflight->size / size)
+        return NULL;
+    return session->inflight->at + index * size;
+}
+
+/* The kick begins the ring. */
+static enum covretin_error set_vring_kick(struct session *session)
+{
+    uint32_t index;
+    int32_t fd;
+    struct ring *ring;
+    if (covretin_call_ring_fd(&session->frontend.backend, &index, &fd) || index >= session->calls->queues)
+        return reply(session, false);
+    ring = &session->rings[index];
+    if (!take_kick(session, ring, fd))
+        return reply(session, false);
+    ring->is_due = true;
+    if (ring->is_started)
+        return reply(session, true);
+    ring->inflight = inflight_of(session, index);
+    return reply(session, ring_start(session, ring));
+}
+
+static enum covretin_error set_bell(struct session *session, bool is_call)
+{
+    uint32_t index;
+    int32_t fd;
+    struct ring *ring;
+    if (covretin_call_ring_fd(&session->frontend.backend, &index, &fd) || index >= session->calls->queues)
+        return reply(session, false);
+    ring = &session->rings[index];
+    return reply(session, take_bell(session, is_call ? &ring->call : &ring->error, fd));
+}
+
+static enum covretin_error set_vring_call(struct session *session)
+{
+    return set_bell(session, true);
+}
+
+static enum covretin_error set_vring_err(struct session *session)
+{
+    return set_bell(session, false);
+}
+
+/* -- The inflight region -- */
+
+/* Maps the region for as many rings of a size as it says. Not while a ring runs: it writes to its part of the one that is mapped. */
+static bool map_inflight(struct session *session, const covretin_inflight *told, int fd)
+{
+    uint64_t size = told->num_queues * inflight_size(told->queue_size);
+    struct mapping *mapping;
+    for (uint32_t i = 0; i < session->calls->queues; i++)
+        if (session->rings[i].is_started)
+            return false;
+    if (told->num_queues == 0 || told->num_queues > session->calls->queues || told->queue_size == 0 ||
+        told->queue_size > COVRETIN_DEVICE_MAX_QUEUE_SIZE || told->mmap_offset % 64 != 0 || told->mmap_size < size)
+        return false;
+    mapping = mapping_new(&session->holder, fd, told->mmap_offset, size);
+    if (mapping == NULL)
+        return false;
+    mapping_release(session->inflight);
+    session->inflight = mapping;
+    session->inflight_queue_size = told->queue_size;
+    return true;
+}
+
+void close_inflight_fd(struct session *session)
+{
+    if (session->inflight_fd >= 0)
+        close(session->inflight_fd);
+    session->inflight_fd = -1;
+}
+
+/* A region of zeros, for the frontend to keep. */
+static enum covretin_error get_inflight_fd(struct session *session)
+{
+    covretin_inflight told;
+    int32_t none;
+    if (covretin_call_inflight(&session->frontend.backend, &told, &none))
+        return reply(session, false);
+    told.mmap_size = told.num_queues * inflight_size(told.queue_size);
+    told.mmap_offset = 0;
+    close_inflight_fd(session);
+    session->inflight_fd = memfd_create("inflight", MFD_CLOEXEC);
+    if (session->inflight_fd < 0 || ftruncate(session->inflight_fd, (off_t)told.mmap_size) ||
+        !map_inflight(session, &told, session->inflight_fd))
+        return reply(session, false);
+    return covretin_reply_inflight(&session->frontend.backend, &told, session->inflight_fd);
+}
+
+static enum covretin_error set_inflight_fd(struct session *session)
+{
+    covretin_inflight told;
+    int32_t fd;
+    if (covretin_call_inflight(&session->frontend.backend, &told, &fd))
+        return reply(session, false);
+    return reply(session, map_inflight(session, &told, fd));
+}
+
+/* -- Calls -- */
+
+static enum covretin_error do_nothing(struct session *session)
+{
+    return reply(session, true);
+}
+
+/* (its requests are done) */
+static enum covretin_error reset_device(struct session *session)
+{
+    for (uint32_t i = 0; i < session->calls->queues; i++)
+        ring_stop(session, &session->rings[i]);
+    if (session->calls->reset != NULL) {
+        pthread_mutex_unlock(&session->lock);
+        session->calls->reset(session->own);
+        pthread_mutex_lock(&session->lock);
+    }
+    return reply(session, true);
+}
+
+/* What each call means. Any other is refused. */
+static answer *answer_of(uint32_t call)
+{
+    static answer *const answers[] = {
+        [COVRETIN_CALL_GET_FEATURES] = get_features,
+        [COVRETIN_CALL_SET_FEATURES] = set_features,
+        [COVRETIN_CALL_SET_OWNER] = do_nothing,
+        [COVRETIN_CALL_RESET_OWNER] = reset_device,
+        [COVRETIN_CALL_SET_MEM_TABLE] = set_mem_table,
+        [COVRETIN_CALL_SET_LOG_BASE] = set_log_base,
+        [COVRETIN_CALL_SET_VRING_NUM] = set_vring_num,
+        [COVRETIN_CALL_SET_VRING_ADDR] = set_vring_addr,
+        [COVRETIN_CALL_SET_VRING_BASE] = set_vring_base,
+        [COVRETIN_CALL_GET_VRING_BASE] = get_vring_base,
+        [COVRETIN_CALL_SET_VRING_KICK] = set_vring_kick,
+        [COVRETIN_CALL_SET_VRING_CALL] = set_vring_call,
+        [COVRETIN_CALL_SET_VRING_ERR] = set_vring_err,
+        [COVRETIN_CALL_GET_PROTOCOL_FEATURES] = get_protocol_features,
+        [COVRETIN_CALL_SET_PROTOCOL_FEATURES] = set_protocol_features,
+        [COVRETIN_CALL_GET_QUEUE_NUM] = get_queue_num,
+        [COVRETIN_CALL_SET_VRING_ENABLE] = set_vring_enable,
+        [COVRETIN_CALL_SET_BACKEND_REQ_FD] = set_backend_req_fd,
+        [COVRETIN_CALL_GET_CONFIG] = get_config,
+        [COVRETIN_CALL_SET_CONFIG] = set_config,
+        [COVRETIN_CALL_POSTCOPY_ADVISE] = postcopy_advise,
+        [COVRETIN_CALL_POSTCOPY_LISTEN] = do_nothing,
+        [COVRETIN_CALL_POSTCOPY_END] = postcopy_end,
+        [COVRETIN_CALL_GET_INFLIGHT_FD] = get_inflight_fd,
+        [COVRETIN_CALL_SET_INFLIGHT_FD] = set_inflight_fd,
+        [COVRETIN_CALL_RESET_DEVICE] = reset_device,
+        [COVRETIN_CALL_GET_MAX_MEM_SLOTS] = get_max_mem_slots,
+        [COVRETIN_CALL_ADD_MEM_REG] = add_mem_reg,
+        [COVRETIN_CALL_REM_MEM_REG] = rem_mem_reg,
+        [COVRETIN_CALL_POSTCOPY_ACK] = postcopy_ack,
+    };
+    return call < sizeof answers / sizeof *answers ? answers[call] : NULL;
+}
+
+bool has_to_wait(struct session *session, uint32_t call)
+{
+    bool is_reset = call == COVRETIN_CALL_RESET_DEVICE || call == COVRETIN_CALL_RESET_OWNER, is_out = false;
+    uint32_t none;
+    struct ring *one = call == COVRETIN_CALL_GET_VRING_BASE ? ring_of(session, &none) : NULL;
+    for (uint32_t i = 0; i < session->calls->queues; i++) {
+        struct ring *ring = &session->rings[i];
+        if (!is_reset && ring != one)
+            continue;
+        ring->is_ending = true;
+        is_out = is_out || ring->out != 0;
+    }
+    return is_out;
+}
+
+enum covretin_error answer_call(struct session *session, uint32_t call)
+{
+    answer *answers = answer_of(call);
+    return answers == NULL ? reply(session, false) : answers(session);
+}

@@ -1,0 +1,68 @@
+/* SPDX-License-Identifier: Apache-2.0 */
+/* Of covretin_device.h: what a frontend gives to be mapped, and memory that it takes away while it is used. Private: no program
+ * includes this.
+ *
+ * A mapping is counted by the spaces that it is in, and a space, the regions of a session at a time, by whoever uses it: so a request that
+ * is under way keeps what it points to, whatever regions come and go. The counts are the caller's lock's. */
+#ifndef COVRETIN_DEVICE_MEMORY_H
+#define COVRETIN_DEVICE_MEMORY_H
+
+#include "covretin_backend.h"
+#include "covretin_queue.h"
+
+#include <pthread.h>
+#include <stdatomic.h>
+
+/* Whose mappings they are: that one of them is lost, and an eventfd that says so. */
+struct holder {
+    atomic_bool has_lost;
+    int wake;
+};
+
+/* A part of a file that is mapped here. */
+struct mapping {
+    size_t users;
+    void *all; /* in whole pages of the file */
+    size_t all_size;
+    uint8_t *at; /* the part */
+    uint64_t size, guest, user; /* of a region, where the guest has it, and the frontend */
+    bool is_watched;            /* its page faults go to the frontend */
+};
+
+/* Maps so many bytes of a memory file, which has to have them, and guards them. NULL: it could not. The descriptor is needed no longer. */
+struct mapping *mapping_new(struct holder *holder, int fd, uint64_t offset, uint64_t size);
+
+/* One that uses it does no longer. NULL is none. */
+void mapping_release(struct mapping *mapping);
+
+/* Writes an eventfd of this process's own, which never waits. From a signal handler, too. */
+void wake_up(int eventfd);
+
+/* The regions of a session. NULL: there are none. */
+struct space {
+    size_t users, count;
+    struct mapping *mappings[];
+};
+
+/* What was there, without the mapping of an index, if it has that, and with these more, of which it is the user then. NULL: an allocation
+ * failed. */
+struct space *space_new(const struct space *before, size_t without, struct mapping *const *added, size_t count);
+void space_release(struct space *space);
+
+/* -- Postcopy -- */
+
+/* Memory that arrives page by page. A thread looks whether any page can still come: whoever waits for one sees nothing else. */
+struct arrival {
+    struct holder *holder;
+    int userfault;            /* -1: none */
+    int over;                 /* an eventfd */
+    int frontend, stop, signals; /* once one of these is ready all is lost; -1: none */
+    pthread_t watcher;
+};
+
+/* Begins; watches all regions of a space; ends that. Whether it could. */
+bool arrival_begin(struct arrival *arrival);
+bool arrival_watch(const struct arrival *arrival, const struct space *space);
+bool arrival_end(struct arrival *arrival, const struct space *space);
+
+#endif

@@ -1,0 +1,476 @@
+/* SPDX-License-Identifier: Apache-2.0 */
+#ifndef _GNU_SOURCE
+#define _GNU_SOURCE
+#endif
+
+#include "covretin_device_session.h"
+
+#include <signal.h>
+#include <stdlib.h>
+#include <string.h>
+#include <sys/epoll.h>
+#include <sys/syscall.h>
+#include <time.h>
+#include <unistd.h>
+
+/* -- Bytes of the guest, each read once -- */
+
+static uint16_t read16(uint64_t at)
+{
+    return __atomic_load_n((const uint16_t *)(uintptr_t)at, __ATOMIC_ACQUIRE);
+}
+
+static void write_bytes(uint64_t at, uint64_t value, uint64_t len)
+{
+    memcpy((void *)(uintptr_t)at, &value, len < sizeof value ? (size_t)len : sizeof value);
+}
+
+/* Logs that these bytes of the guest were written, where that is wanted. */
+static void log_bytes(const struct session *session, uint64_t guest, uint64_t len)
+{
+    uint64_t page, end;
+    if (!(session->features & COVRETIN_FEATURE_LOG_ALL) || session->log == NULL || len == 0 ||
+        covretin_log_pages(guest, len, session->log->size, &page, &end))
+        return;
+    for (; page < end; page++) {
+        covretin_log_bit bit;
+        covretin_log_bit_of(page, &bit);
+        __atomic_fetch_or(&session->log->at[bit.byte], bit.mask, __ATOMIC_SEQ_CST);
+    }
+}
+
+/* The same of bytes of a ring, where they are mapped. A packed ring has no address of its own for the log. */
+static void log_ring(const struct session *session, const struct ring *ring, covretin_range range)
+{
+    if (!ring->place.has_log_addr)
+        return;
+    for (size_t i = 0; ring->is_packed && i < ring->space->count; i++) {
+        const struct mapping *mapping = ring->space->mappings[i];
+        uint64_t into = range.addr - (uint64_t)(uintptr_t)mapping->at;
+        if (into < mapping->size)
+            log_bytes(session, mapping->guest + into, range.len);
+    }
+    if (!ring->is_packed && ring->place.log_addr <= UINT64_MAX - (range.addr - ring->used))
+        log_bytes(session, ring->place.log_addr + (range.addr - ring->used), range.len);
+}
+
+/* -- The inflight region -- */
+
+enum { INFLIGHT_HEAD = 16, VERSION_AT = 8, SIZE_AT = 10, LAST_AT = 12, USED_AT = 14 };
+
+uint64_t inflight_size(uint16_t size)
+{
+    return (INFLIGHT_HEAD + (uint64_t)size * 16 + 63) / 64 * 64;
+}
+
+static uint16_t noted16(const struct ring *ring, size_t at)
+{
+    return read16((uint64_t)(uintptr_t)(ring->inflight + at));
+}
+
+static void note16(const struct ring *ring, size_t at, uint16_t value)
+{
+    __atomic_store_n((uint16_t *)(void *)(ring->inflight + at), value, __ATOMIC_RELEASE);
+}
+
+/* Two writes, the second after the first. */
+static void note(const struct ring *ring, const covretin_inflight_write *first, const covretin_inflight_write *second)
+{
+    write_bytes((uint64_t)(uintptr_t)(ring->inflight + first->offset), first->value, first->len);
+    atomic_thread_fence(memory_order_release);
+    write_bytes((uint64_t)(uintptr_t)(ring->inflight + second->offset), second->value, second->len);
+    atomic_thread_fence(memory_order_release);
+}
+
+/* The entries of the area, as they are now. */
+static void read_entries(const struct ring *ring, covretin_inflight_entry *entries)
+{
+    for (size_t i = 0; i < ring->size; i++) {
+        const uint8_t *at = ring->inflight + INFLIGHT_HEAD + i * 16;
+        entries[i].inflight = __atomic_load_n(at, __ATOMIC_RELAXED) != 0;
+        memcpy(&entries[i].next, at + 6, sizeof entries[i].next);
+        memcpy(&entries[i].counter, at + 8, sizeof entries[i].counter);
+    }
+}
+
+/* What is to be taken again, by the entries; and those that were given back are cleared. */
+static bool settle(struct ring *ring, const covretin_inflight_entry *entries, bool *settled, uint16_t used)
+{
+    if (covretin_inflight_recover(entries, ring->size, noted16(ring, LAST_AT), noted16(ring, USED_AT), used, settled, ring->size,
+                                  ring->again, ring->size, &ring->again_count))
+        return false;
+    for (size_t i = 0; i < ring->size; i++)
+        if (settled[i])
+            ring->inflight[INFLIGHT_HEAD + i * 16] = 0;
+    note16(ring, USED_AT, used);
+    return true;
+}
+
+/* Finds what the device before took and did not give back. An area of zeros is a new one. False: it is not this ring's. */
+static bool recover(struct ring *ring, uint16_t used)
+{
+    covretin_inflight_entry *entries = calloc(ring->size, sizeof *entries);
+    bool *settled = calloc(ring->size, sizeof *settled);
+    bool is_found = false;
+    ring->again = calloc(ring->size, sizeof *ring->again);
+    if (entries != NULL && settled != NULL && ring->again != NULL) {
+        if (noted16(ring, VERSION_AT) == 0) {
+            note16(ring, SIZE_AT, ring->size);
+            note16(ring, USED_AT, used);
+            note16(ring, VERSION_AT, 1);
+        }
+        read_entries(ring, entries);
+        is_found = settle(ring, entries, settled, used);
+    }
+    ring->counter = is_found && ring->again_count != 0 ? ring->again[ring->again_count - 1].counter + 1 : 0;
+    free(entries);
+    free(settled);
+    return is_found;
+}
+
+/* -- Their life -- */
+
+bool ring_is_running(const struct session *session, const struct ring *ring)
+{
+    return ring->is_started && !ring->is_ending && !ring->is_broken && !ring->is_away &&
+           (ring->is_enabled || !(session->features & COVRETIN_FEATURE_PROTOCOL_FEATURES));
+}
+
+/* Where the index of the used ring is mapped. 0: nowhere. */
+static uint64_t find_used(struct ring *ring)
+{
+    covretin_range index;
+    if (covretin_queue_translate(&ring->queue, true, ring->place.used_ring_addr, 4, &index) || index.addr % 2 != 0)
+        return 0;
+    ring->used = index.addr;
+    return index.addr + 2;
+}
+
+static bool start_split(struct session *session, struct ring *ring)
+{
+    uint64_t index = find_used(ring);
+    covretin_split_ring at = {.desc_table = ring->place.desc_table_addr,
+                              .avail_ring = ring->place.avail_ring_addr,
+                              .used_ring = ring->place.used_ring_addr,
+                              .size = ring->size,
+                              .next_avail = (uint16_t)ring->base,
+                              .event_idx = (session->features & COVRETIN_DEVICE_EVENT_IDX) != 0,
+                              .indirect_desc = (session->features & COVRETIN_DEVICE_INDIRECT_DESC) != 0};
+    if (index == 0)
+        return false;
+    at.next_used = read16(index);
+    if (ring->inflight != NULL) {
+        if (!recover(ring, at.next_used))
+            return false;
+        at.next_avail = (uint16_t)(at.next_used + ring->again_count);
+    }
+    return covretin_queue_start_split(&ring->queue, &at) == COVRETIN_QUEUE_OK;
+}
+
+static bool start_packed(struct session *session, struct ring *ring)
+{
+    uint32_t base = ring->has_base ? ring->base : 0x80008000; /* the first places, and both wrap counters are 1 */
+    covretin_packed_ring at = {.desc_ring = ring->place.desc_table_addr,
+                               .driver_event = ring->place.avail_ring_addr,
+                               .device_event = ring->place.used_ring_addr,
+                               .size = ring->size,
+                               .avail = (uint16_t)base,
+                               .used = (uint16_t)(base >> 16),
+                               .event_idx = (session->features & COVRETIN_DEVICE_EVENT_IDX) != 0,
+                               .indirect_desc = (session->features & COVRETIN_DEVICE_INDIRECT_DESC) != 0};
+    return covretin_queue_start_packed(&ring->queue, &at) == COVRETIN_QUEUE_OK;
+}
+
+/* The ring is mapped in the session's regions as they are now. */
+static void use_space(struct session *session, struct ring *ring)
+{
+    space_release(ring->space);
+    ring->space = session->space;
+    ring->space->users++;
+}
+
+static void forget_again(struct ring *ring)
+{
+    free(ring->again);
+    ring->again = NULL;
+    ring->again_at = ring->again_count = 0;
+}
+
+bool ring_start(struct session *session, struct ring *ring)
+{
+    ring->is_packed = (session->features & COVRETIN_DEVICE_RING_PACKED) != 0;
+    ring->available = 0;
+    forget_again(ring);
+    if (session->space == NULL || !(ring->is_packed ? start_packed(session, ring) : start_split(session, ring))) {
+        forget_again(ring);
+        return false;
+    }
+    use_space(session, ring);
+    ring->is_started = ring->is_due = true;
+    ring->is_broken = ring->is_ending = ring->is_away = false;
+    return true;
+}
+
+/* (a packed queue has no such call: it stays where it is mapped, which stays mapped for it) */
+void ring_move(struct session *session, struct ring *ring)
+{
+    const covretin_vring *to = &ring->place;
+    if (!ring->is_started || ring->is_packed)
+        return;
+    ring->is_away = covretin_queue_move_split(&ring->queue, to->desc_table_addr, to->avail_ring_addr, to->used_ring_addr) ||
+                    find_used(ring) == 0;
+    if (!ring->is_away)
+        use_space(session, ring);
+    ring->is_due = true;
+}
+
+void bell_close(struct bell *bell)
+{
+    if (bell->fd >= 0)
+        close(bell->fd);
+    *bell = (struct bell){.fd = -1};
+}
+
+/* (the frontend has it, too, so that closing it here does not take it off what is polled) */
+void ring_drop_kick(const struct session *session, struct ring *ring)
+{
+    if (ring->kick >= 0) {
+        epoll_ctl(session->polled, EPOLL_CTL_DEL, ring->kick, NULL);
+        close(ring->kick);
+    }
+    ring->kick = -1;
+}
+
+void ring_stop(struct session *session, struct ring *ring)
+{
+    ring_drop_kick(session, ring);
+    bell_close(&ring->call);
+    ring->is_started = ring->is_due = ring->is_ending = ring->is_broken = false;
+    covretin_queue_stop(&ring->queue);
+    space_release(ring->space);
+    ring->space = NULL;
+    ring->inflight = NULL;
+    forget_again(ring);
+}
+
+/* -- What is available -- */
+
+static enum covretin_queue_error look(struct ring *ring)
+{
+    covretin_range place;
+    enum covretin_queue_error error = covretin_queue_available_place(&ring->queue, &place);
+    return error ? error : covretin_queue_available(&ring->queue, read16(place.addr), &ring->available);
+}
+
+/* Reads the descriptors of the chain that is followed, to its end. */
+static enum covretin_queue_error follow(struct session *session, struct ring *ring, uint16_t *id)
+{
+    bool is_indirect = false;
+    session->segment_count = 0;
+    for (;;) {
+        covretin_descriptor descriptor;
+        covretin_range place;
+        bool found;
+        enum covretin_queue_error error = covretin_queue_descriptor_place(&ring->queue, &place, &found);
+        if (error || !found)
+            return error;
+        if (session->segment_count == COVRETIN_DEVICE_MAX_QUEUE_SIZE)
+            return COVRETIN_QUEUE_CHAIN_TOO_LONG;
+        memcpy(&descriptor, (const void *)(uintptr_t)place.addr, sizeof descriptor);
+        error = covretin_queue_step(&ring->queue, &descriptor, &session->segments[session->segment_count], &found);
+        if (error)
+            return error;
+        if (ring->is_packed && !is_indirect)
+            *id = descriptor.third;
+        is_indirect = is_indirect || !found;
+        session->segment_count += found;
+    }
+}
+
+static enum covretin_queue_error take_head(struct ring *ring, uint16_t *id)
+{
+    covretin_inflight_write first, second;
+    covretin_range place;
+    enum covretin_queue_error error = covretin_queue_head_place(&ring->queue, &place);
+    if (error)
+        return error;
+    *id = read16(place.addr);
+    error = covretin_queue_pop(&ring->queue, *id);
+    if (error || ring->inflight == NULL)
+        return error;
+    covretin_inflight_take(*id, ring->counter++, &first, &second);
+    note(ring, &first, &second);
+    return COVRETIN_QUEUE_OK;
+}
+
+/* The next request, whose segments are the session's then. NOTHING_AVAILABLE: there is none. */
+static enum covretin_queue_error take(struct session *session, struct ring *ring, uint16_t *id, bool *again)
+{
+    enum covretin_queue_error error = COVRETIN_QUEUE_OK;
+    *again = ring->again_at < ring->again_count;
+    if (*again) {
+        *id = ring->again[ring->again_at++].head;
+        error = covretin_queue_resubmit(&ring->queue, *id);
+        return error ? error : follow(session, ring, id);
+    }
+    if (ring->available == 0)
+        error = look(ring);
+    if (error || ring->available == 0)
+        return error ? error : COVRETIN_QUEUE_NOTHING_AVAILABLE;
+    ring->available--;
+    if (!ring->is_packed)
+        error = take_head(ring, id);
+    return error ? error : follow(session, ring, id);
+}
+
+/* Has the driver tell of more. Whether there is more already. */
+static bool ask_for_kicks(struct session *session, struct ring *ring)
+{
+    covretin_event_write event;
+    if (covretin_queue_set_notification(&ring->queue, true, &event))
+        return false;
+    if (event.place.len != 0) {
+        write_bytes(event.place.addr, event.value, event.place.len);
+        log_ring(session, ring, event.place);
+    }
+    atomic_thread_fence(memory_order_seq_cst);
+    return look(ring) != COVRETIN_QUEUE_OK || ring->available != 0;
+}
+
+/* -- Requests -- */
+
+static struct taken *taken_new(struct session *session, struct ring *ring, uint16_t id, bool again)
+{
+    size_t count = session->segment_count, parts_at = sizeof(struct taken) + count * sizeof(struct iovec);
+    struct taken *taken = malloc(parts_at + count * sizeof(struct part));
+    if (taken == NULL)
+        return NULL;
+    *taken = (struct taken){.session = session, .space = ring->space, .id = id};
+    taken->request = (covretin_request){.segments = taken->segments, .queue = (uint32_t)(ring - session->rings), .again = again};
+    taken->parts = (struct part *)(void *)((uint8_t *)taken + parts_at);
+    for (size_t i = 0; i < count; i++) {
+        const covretin_segment *segment = &session->segments[i];
+        taken->segments[i] = (struct iovec){(void *)(uintptr_t)segment->range.addr, (size_t)segment->range.len};
+        if (segment->writable)
+            taken->parts[taken->request.writable++] = (struct part){segment->guest_addr, segment->range.len};
+        else
+            taken->request.readable++;
+    }
+    taken->part_count = taken->request.writable;
+    return taken;
+}
+
+/* The request is the device's. Its own count is taken before, since the device may be done with it at once. */
+static void hand_out(struct session *session, struct ring *ring, uint16_t id, bool again)
+{
+    struct taken *taken = taken_new(session, ring, id, again);
+    if (taken == NULL) {
+        session->why = COVRETIN_OUT_OF_MEMORY;
+        return;
+    }
+    taken->space->users++;
+    ring->out++;
+    session->out++;
+    pthread_mutex_unlock(&session->lock);
+    session->calls->request(session->own, &taken->request);
+    pthread_mutex_lock(&session->lock);
+}
+
+static void break_ring(struct session *session, struct ring *ring, enum covretin_queue_error error)
+{
+    ring->is_broken = true;
+    ring_signal(session, &ring->error);
+    if (session->calls->broken == NULL)
+        return;
+    pthread_mutex_unlock(&session->lock);
+    session->calls->broken(session->own, (uint32_t)(ring - session->rings), error);
+    pthread_mutex_lock(&session->lock);
+}
+
+void ring_serve(struct session *session, struct ring *ring)
+{
+    ring->is_due = false;
+    for (unsigned done = 0; ring_is_running(session, ring) && session->why == COVRETIN_OK && !session->is_stopped; done++) {
+        uint16_t id = 0;
+        bool again;
+        enum covretin_queue_error error = take(session, ring, &id, &again);
+        if (session->holder.has_lost)
+            return; /* what was read may be zeros that nobody wrote */
+        if (error == COVRETIN_QUEUE_NOTHING_AVAILABLE && !ask_for_kicks(session, ring))
+            return;
+        if (error && error != COVRETIN_QUEUE_NOTHING_AVAILABLE)
+            break_ring(session, ring, error);
+        if (!error)
+            hand_out(session, ring, id, again);
+        if (done == ring->size) {
+            ring->is_due = true;
+            return;
+        }
+    }
+}
+
+/* A read of nothing, that names an eventfd which the kernel adds 1 to as it ends: that never waits, which a write may, whatever this
+ * process asks for. To a pipe that nobody reads a write fails without a signal; one that is full has something to be read. */
+void ring_signal(struct session *session, const struct bell *bell)
+{
+    static const struct timespec at_once = {0, 0};
+    struct iocb request = {.aio_lio_opcode = IOCB_CMD_PREAD,
+                           .aio_fildes = (uint32_t)session->empty,
+                           .aio_flags = IOCB_FLAG_RESFD,
+                           .aio_resfd = (uint32_t)bell->fd};
+    struct iocb *list[] = {&request};
+    struct io_event ended;
+    sigset_t pipe_signal, were;
+    if (bell->fd < 0)
+        return;
+    if (!bell->is_pipe) {
+        if (syscall(SYS_io_submit, session->requests, 1, list) == 1)
+            syscall(SYS_io_getevents, session->requests, 1, 1, &ended, &at_once);
+        return;
+    }
+    sigemptyset(&pipe_signal);
+    sigaddset(&pipe_signal, SIGPIPE);
+    pthread_sigmask(SIG_BLOCK, &pipe_signal, &were);
+    wake_up(bell->fd);
+    if (!sigismember(&were, SIGPIPE)) {
+        while (sigtimedwait(&pipe_signal, NULL, &at_once) > 0)
+            ;
+        pthread_sigmask(SIG_SETMASK, &were, NULL);
+    }
+}
+
+/* Whether the driver is to be told, and if so that is done. */
+static void tell(struct session *session, struct ring *ring)
+{
+    covretin_range place;
+    bool needed;
+    atomic_thread_fence(memory_order_seq_cst);
+    if (covretin_queue_notification_place(&ring->queue, &place))
+        return;
+    uint16_t value = read16(place.addr), flags = place.len == 4 ? read16(place.addr + 2) : 0;
+    if (covretin_queue_needs_notification(&ring->queue, value, flags, &needed) == COVRETIN_QUEUE_OK && needed)
+        ring_signal(session, &ring->call);
+}
+
+void ring_give(struct session *session, struct ring *ring, const struct taken *taken, uint32_t written)
+{
+    covretin_inflight_write first, second;
+    covretin_used used;
+    if (covretin_queue_add_used(&ring->queue, taken->id, written, &used))
+        return;
+    for (size_t i = 0; i < taken->part_count; i++)
+        log_bytes(session, taken->parts[i].guest, taken->parts[i].size);
+    write_bytes(used.elem.addr, used.elem_value, used.elem.len);
+    if (ring->inflight != NULL) {
+        covretin_inflight_before_used(taken->id, noted16(ring, LAST_AT), &first, &second);
+        note(ring, &first, &second);
+    }
+    __atomic_store_n((uint16_t *)(uintptr_t)used.then.addr, used.then_value, __ATOMIC_RELEASE);
+    if (ring->inflight != NULL) {
+        covretin_inflight_after_used(taken->id, used.then_value, &first, &second);
+        note(ring, &first, &second);
+    }
+    log_ring(session, ring, used.elem);
+    log_ring(session, ring, used.then);
+    tell(session, ring);
+}

@@ -1,0 +1,125 @@
+/* SPDX-License-Identifier: Apache-2.0 */
+/* Of covretin_device.h: what a session holds, its rings, each over a proved queue, and its calls. Private: no program includes this. All is
+ * behind the session's lock, which is let go of while the device is called. */
+#ifndef COVRETIN_DEVICE_SESSION_H
+#define COVRETIN_DEVICE_SESSION_H
+
+#include "covretin_device.h"
+#include "covretin_device_memory.h"
+
+#include <linux/aio_abi.h>
+#include <pthread.h>
+
+/* What a ring signals: an eventfd, or a pipe, opened anew. */
+struct bell {
+    int fd; /* -1: none */
+    bool is_pipe;
+};
+
+struct ring {
+    covretin_queue queue;
+    covretin_vring place;
+    uint16_t size; /* in descriptors; 0: not told yet */
+    uint32_t base;
+    bool has_base, is_enabled, is_started, is_packed;
+    bool is_ending; /* nothing more is taken; it stops once its requests are done */
+    bool is_broken; /* the driver broke a rule */
+    bool is_away;   /* it lies in no region */
+    bool is_due;    /* to be looked at */
+    int kick;       /* -1: none */
+    struct bell call, error;
+    struct space *space; /* in which the ring is mapped */
+    uint64_t used;       /* where the used ring of a split queue is mapped */
+    uint16_t available;  /* how many heads may be taken before the index is read again */
+    size_t out;          /* requests that the device has */
+    uint8_t *inflight;   /* its area of the inflight region; NULL: none */
+    uint64_t counter;    /* of what was taken */
+    covretin_resubmit *again;
+    size_t again_at, again_count; /* those that are still to be taken again */
+};
+
+/* A request that the device has. */
+struct taken {
+    covretin_request request;
+    struct session *session;
+    struct space *space;
+    uint16_t id;
+    size_t part_count;
+    struct part {
+        uint64_t guest, size;
+    } *parts; /* that are to be written */
+    struct iovec segments[];
+};
+
+struct session {
+    struct holder holder;
+    pthread_mutex_t lock;
+    const covretin_device_calls *calls;
+    void *own;
+    covretin_service frontend;
+    uint64_t features, protocol_features; /* that were accepted */
+    struct space *space;
+    struct mapping *log, *inflight;
+    uint16_t inflight_queue_size;
+    int inflight_fd; /* of the region that was made here; open until its reply was sent */
+    struct arrival arrival;
+    struct ring rings[COVRETIN_DEVICE_MAX_QUEUES];
+    size_t out;      /* requests that the device has, of all rings */
+    uint32_t waits;  /* a call that is replied to once requests are done; 0: none */
+    int polled;      /* an epoll of all that the session waits for */
+    short events;    /* that are polled of the socket */
+    bool is_called;  /* which may have calls */
+    int timer;       /* for rings without a kick */
+    bool is_timed;
+    int stop, signals; /* an eventfd, and a signalfd, or -1 */
+    atomic_bool is_stopped;
+    bool is_told, is_closed;
+    enum covretin_error why; /* it ended; 0: it goes on */
+    aio_context_t requests;  /* see ring_signal */
+    int empty;
+    covretin_segment segments[COVRETIN_DEVICE_MAX_QUEUE_SIZE]; /* of the chain that is followed */
+    size_t segment_count;
+};
+
+/* How many bytes of the inflight region a ring of this size has. */
+uint64_t inflight_size(uint16_t size);
+
+/* Whether requests are taken from it. */
+bool ring_is_running(const struct session *session, const struct ring *ring);
+
+/* Begins to take requests, where the ring stopped, or where the device before was stopped. Whether it could. */
+bool ring_start(struct session *session, struct ring *ring);
+
+/* The ring's parts are found anew. Where they lie nowhere it is left alone. */
+void ring_move(struct session *session, struct ring *ring);
+
+/* The ring has no kick any more. */
+void ring_drop_kick(const struct session *session, struct ring *ring);
+
+/* Stops, and closes what belongs to a start. None of its requests is out, or the session has ended. */
+void ring_stop(struct session *session, struct ring *ring);
+
+/* Closes what a bell is. */
+void bell_close(struct bell *bell);
+
+/* Hands the requests that are there to the device, but for those of a driver that makes more without end: then the ring is still due. */
+void ring_serve(struct session *session, struct ring *ring);
+
+/* Gives a request back. */
+void ring_give(struct session *session, struct ring *ring, const struct taken *taken, uint32_t written);
+
+/* Signals a bell, without waiting. */
+void ring_signal(struct session *session, const struct bell *bell);
+
+/* -- Calls -- */
+
+/* Answers a call of the frontend: an error of the reply. */
+enum covretin_error answer_call(struct session *session, uint32_t call);
+
+/* Whether a call that stops rings has to wait for requests of theirs. Nothing more is taken meanwhile. */
+bool has_to_wait(struct session *session, uint32_t call);
+
+/* Closes the inflight region that was made here. */
+void close_inflight_fd(struct session *session);
+
+#endif

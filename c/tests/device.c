@@ -1,0 +1,1303 @@
+/* A device over covretin_device.h, whose frontend and guest the test plays, at the other end of a socket: the device's loop is in a thread
+ * of its own. */
+#ifndef _GNU_SOURCE
+#define _GNU_SOURCE
+#endif
+
+#include "covretin_device.h"
+#include "covretin_socket.h"
+#include "testing.h"
+
+#include <errno.h>
+#include <fcntl.h>
+#include <poll.h>
+#include <pthread.h>
+#include <signal.h>
+#include <stdatomic.h>
+#include <stdio.h>
+#include <stdlib.h>
+#include <string.h>
+#include <linux/userfaultfd.h>
+#include <sys/eventfd.h>
+#include <sys/ioctl.h>
+#include <sys/mman.h>
+#include <sys/socket.h>
+#include <sys/syscall.h>
+#include <sys/wait.h>
+#include <unistd.h>
+
+enum {
+    LIMIT = 20000,
+    GUEST = 0x10000000,   /* where the guest has its memory */
+    SIZE = 0x100000,      /* of it */
+    BUFFERS = 0x80000,    /* its bytes that no queue has */
+    QUEUE_ROOM = 0x4000,
+    QUEUE_SIZE = 16,
+    MOST_KEPT = 32,
+    NEXT = 1,
+    WRITE = 2,
+    INDIRECT = 4,
+    HANDED_ON = 42 /* a status: of whoever had a fault that was no session's */
+};
+
+static covretin_connection vmms[2], *one = vmms;
+#define vmm (*one)
+static covretin_device device;
+static pthread_t loop_thread;
+static enum covretin_error ended_with; /* what the loop ended with */
+
+/* -- The device: it writes the bytes that it reads, in capitals; or keeps its requests -- */
+
+static struct {
+    pthread_mutex_t lock;
+    bool keeps;
+    atomic_bool is_over; /* its loop is to end, though the session has not */
+    covretin_request *kept[MOST_KEPT];
+    size_t kept_count, served, broken, resets, ended;
+    enum covretin_queue_error why_broken;
+    enum covretin_error why_ended;
+    uint32_t last_queue;
+    bool again;
+    uint64_t features;
+    uint8_t config[8];
+} its = {.lock = PTHREAD_MUTEX_INITIALIZER};
+
+static void answer(covretin_request *request)
+{
+    char text[64];
+    size_t len = covretin_request_read(request, text, sizeof text);
+    for (size_t i = 0; i < len; i++)
+        text[i] = (char)(text[i] >= 'a' && text[i] <= 'z' ? text[i] - 32 : text[i]);
+    covretin_request_done(request, (uint32_t)covretin_request_write(request, text, len));
+}
+
+static void on_request(void *own, covretin_request *request)
+{
+    bool keeps;
+    EXPECT(true, own == &its);
+    pthread_mutex_lock(&its.lock);
+    its.last_queue = request->queue;
+    its.again = request->again;
+    its.served++;
+    keeps = its.keeps && its.kept_count < MOST_KEPT;
+    if (keeps)
+        its.kept[its.kept_count++] = request;
+    pthread_mutex_unlock(&its.lock);
+    if (!keeps)
+        answer(request);
+}
+
+static void on_accepted(void *own, uint64_t features, uint64_t protocol_features)
+{
+    (void)own;
+    (void)protocol_features;
+    its.features = features;
+}
+
+static bool on_read_config(void *own, uint32_t offset, uint8_t *bytes, uint32_t size)
+{
+    (void)own;
+    if (offset > sizeof its.config || size > sizeof its.config - offset)
+        return false;
+    memcpy(bytes, its.config + offset, size);
+    return true;
+}
+
+static bool on_write_config(void *own, uint32_t offset, const uint8_t *bytes, uint32_t size)
+{
+    (void)own;
+    if (offset > sizeof its.config || size > sizeof its.config - offset)
+        return false;
+    memcpy(its.config + offset, bytes, size);
+    return true;
+}
+
+static void on_reset(void *own)
+{
+    (void)own;
+    its.resets++;
+}
+
+static void on_broken(void *own, uint32_t queue, enum covretin_queue_error error)
+{
+    (void)own;
+    (void)queue;
+    its.broken++;
+    its.why_broken = error;
+}
+
+static void on_ended(void *own, enum covretin_error error)
+{
+    (void)own;
+    its.ended++;
+    its.why_ended = error;
+}
+
+static const covretin_device_calls calls = {.features = COVRETIN_DEVICE_RING_PACKED | 1,
+                                            .queues = 3,
+                                            .request = on_request,
+                                            .accepted = on_accepted,
+                                            .read_config = on_read_config,
+                                            .write_config = on_write_config,
+                                            .reset = on_reset,
+                                            .broken = on_broken,
+                                            .ended = on_ended};
+
+/* The same without packed rings, so that there is an inflight region. */
+static covretin_device_calls split_calls;
+
+static size_t count_of(const size_t *count)
+{
+    size_t value;
+    pthread_mutex_lock(&its.lock);
+    value = *count;
+    pthread_mutex_unlock(&its.lock);
+    return value;
+}
+
+/* Waits until the device has so many of something. */
+static void wait_for(const size_t *count, size_t wanted)
+{
+    for (int i = 0; i < LIMIT && count_of(count) < wanted; i++)
+        usleep(1000);
+    EXPECT(wanted, count_of(count));
+}
+
+/* -- Its loop -- */
+
+static void *loop(void *none)
+{
+    do {
+        struct pollfd polled = {.fd = covretin_device_fd(&device), .events = POLLIN};
+        if (poll(&polled, 1, LIMIT) == 0)
+            break;
+        ended_with = covretin_device_serve(&device);
+    } while (ended_with == COVRETIN_NOT_YET && !its.is_over);
+    return none;
+}
+
+static enum covretin_error ran; /* what the other loop ended with */
+
+static void *run_device(void *none)
+{
+    ran = covretin_device_run(&calls, &its, "device.socket");
+    return none;
+}
+
+static void begin(const covretin_device_calls *table)
+{
+    int ends[2];
+    if (socketpair(AF_UNIX, SOCK_STREAM | SOCK_CLOEXEC, 0, ends))
+        give_up("socketpair");
+    its.keeps = its.again = its.is_over = false;
+    its.kept_count = its.served = its.broken = its.resets = its.ended = 0;
+    EXPECT(COVRETIN_OK, covretin_device_open_fd(&device, table, &its, ends[0]));
+    EXPECT(COVRETIN_OK, covretin_connect_fd(&vmm, ends[1], 8));
+    if (pthread_create(&loop_thread, NULL, loop, NULL))
+        give_up("pthread_create");
+}
+
+/* The loop ended so, and said it once. */
+static void end_as(enum covretin_error why)
+{
+    pthread_join(loop_thread, NULL);
+    EXPECT(why, ended_with);
+    EXPECT(why, covretin_device_serve(&device));
+    EXPECT(1, its.ended);
+    EXPECT(why, its.why_ended);
+    covretin_device_close(&device);
+    EXPECT(true, device.opaque == NULL);
+    EXPECT(COVRETIN_NO_SESSION, covretin_device_serve(&device));
+    EXPECT(-1, covretin_device_fd(&device));
+    covretin_disconnect(&vmm);
+}
+
+static void end(void)
+{
+    covretin_disconnect(&vmm);
+    end_as(COVRETIN_DISCONNECTED);
+}
+
+/* -- The frontend -- */
+
+static enum covretin_error outcome(enum covretin_error asked)
+{
+    return asked ? asked : covretin_exchange(&vmm, LIMIT);
+}
+
+#define DONE(ask) EXPECT(COVRETIN_OK, outcome(ask))
+#define REFUSED(ask) EXPECT(COVRETIN_BACKEND_INTERNAL_ERROR, outcome(ask))
+
+static uint64_t number(enum covretin_error asked)
+{
+    uint64_t value = 0;
+    EXPECT(COVRETIN_OK, outcome(asked));
+    EXPECT(COVRETIN_OK, covretin_answer_number(&vmm.session, &value));
+    return value;
+}
+
+static void negotiate(uint64_t features)
+{
+    uint64_t offered = number(covretin_ask_get_features(&vmm.session));
+    uint64_t protocol = number(covretin_ask_get_protocol_features(&vmm.session)) & COVRETIN_ASKED_PROTOCOL_FEATURES;
+    features |= COVRETIN_FEATURE_PROTOCOL_FEATURES | COVRETIN_DEVICE_VERSION_1;
+    EXPECT(0, features & ~offered);
+    DONE(covretin_ask_set_protocol_features(&vmm.session, protocol));
+    EXPECT(COVRETIN_OK, covretin_set_hdr_flags(&vmm.session, COVRETIN_NEED_REPLY));
+    DONE(covretin_ask_set_owner(&vmm.session));
+    DONE(covretin_ask_set_features(&vmm.session, features));
+    EXPECT(features, its.features);
+}
+
+/* -- The guest -- */
+
+static int memory_fd = -1;
+static uint8_t *memory;
+
+static covretin_region region_of(uint64_t from, uint64_t size)
+{
+    return (covretin_region){.guest_phys_addr = GUEST + from,
+                             .memory_size = size,
+                             .user_addr = (uint64_t)(uintptr_t)memory + from,
+                             .mmap_offset = from,
+                             .fd = memory_fd};
+}
+
+static void make_memory(void)
+{
+    memory_fd = memfd_create("guest", MFD_CLOEXEC);
+    if (memory_fd < 0 || ftruncate(memory_fd, SIZE))
+        give_up("memfd_create");
+    memory = mmap(NULL, SIZE, PROT_READ | PROT_WRITE, MAP_SHARED, memory_fd, 0);
+    if (memory == MAP_FAILED)
+        give_up("mmap");
+}
+
+static void give_memory(void)
+{
+    covretin_region region = region_of(0, SIZE);
+    DONE(covretin_ask_set_mem_table(&vmm.session, &region, 1));
+}
+
+static void free_memory(void)
+{
+    munmap(memory, SIZE);
+    close(memory_fd);
+}
+
+struct descriptor {
+    uint64_t addr;
+    uint32_t len;
+    uint16_t flags, next;
+};
+
+struct queue {
+    size_t index;
+    uint16_t posted, seen;
+    int kick, call, error;
+};
+
+/* Its parts: descriptors, the available ring a page on, the used ring another. */
+static uint8_t *part_of(const struct queue *queue, size_t page)
+{
+    return memory + queue->index * QUEUE_ROOM + page * 4096;
+}
+
+static uint16_t *word_at(const struct queue *queue, size_t page, size_t offset)
+{
+    return (uint16_t *)(void *)(part_of(queue, page) + offset);
+}
+
+static void put(const struct queue *queue, size_t at, uint64_t addr, uint32_t len, uint16_t flags, uint16_t next)
+{
+    ((struct descriptor *)(void *)part_of(queue, 0))[at] = (struct descriptor){addr, len, flags, next};
+}
+
+static covretin_vring place_of(const struct queue *queue, uint64_t log)
+{
+    return (covretin_vring){.queue_max_size = QUEUE_SIZE,
+                            .queue_size = QUEUE_SIZE,
+                            .flags = log != 0,
+                            .desc_table_addr = (uint64_t)(uintptr_t)part_of(queue, 0),
+                            .avail_ring_addr = (uint64_t)(uintptr_t)part_of(queue, 1),
+                            .used_ring_addr = (uint64_t)(uintptr_t)part_of(queue, 2),
+                            .log_addr = log,
+                            .has_log_addr = log != 0};
+}
+
+static void start(struct queue *queue, uint32_t base)
+{
+    covretin_vring place = place_of(queue, 0);
+    DONE(covretin_ask_set_vring_num(&vmm.session, queue->index, QUEUE_SIZE));
+    DONE(covretin_ask_set_vring_base(&vmm.session, queue->index, (uint16_t)base));
+    DONE(covretin_ask_set_vring_addr(&vmm.session, queue->index, &place));
+    DONE(covretin_ask_set_vring_call(&vmm.session, queue->index, queue->call));
+    DONE(covretin_ask_set_vring_err(&vmm.session, queue->index, queue->error));
+    DONE(covretin_ask_set_vring_kick(&vmm.session, queue->index, queue->kick));
+    DONE(covretin_ask_set_vring_enable(&vmm.session, queue->index, true));
+}
+
+static struct queue make_queue(size_t index)
+{
+    struct queue queue = {.index = index,
+                          .kick = eventfd(0, EFD_CLOEXEC),
+                          .call = eventfd(0, EFD_CLOEXEC | EFD_NONBLOCK),
+                          .error = eventfd(0, EFD_CLOEXEC | EFD_NONBLOCK)};
+    if (queue.kick < 0 || queue.call < 0 || queue.error < 0)
+        give_up("eventfd");
+    return queue;
+}
+
+static void free_queue(const struct queue *queue)
+{
+    close(queue->kick);
+    close(queue->call);
+    close(queue->error);
+}
+
+static void post(struct queue *queue, uint16_t head)
+{
+    *word_at(queue, 1, 4 + queue->posted % QUEUE_SIZE * 2) = head;
+    queue->posted++;
+    __atomic_store_n(word_at(queue, 1, 2), queue->posted, __ATOMIC_SEQ_CST);
+    if (eventfd_write(queue->kick, 1))
+        give_up("kick");
+}
+
+static bool is_signalled(int fd, int milliseconds)
+{
+    struct pollfd polled = {.fd = fd, .events = POLLIN};
+    eventfd_t count;
+    return poll(&polled, 1, milliseconds) == 1 && eventfd_read(fd, &count) == 0;
+}
+
+/* Waits until one more was used: which, and how many bytes. */
+static void expect_used(struct queue *queue, uint32_t head, uint32_t len)
+{
+    const uint32_t *used = (const uint32_t *)(const void *)part_of(queue, 2) + 1 + queue->seen % QUEUE_SIZE * 2;
+    for (int i = 0; i < LIMIT && __atomic_load_n(word_at(queue, 2, 2), __ATOMIC_ACQUIRE) == queue->seen; i++)
+        usleep(1000);
+    EXPECT(true, __atomic_load_n(word_at(queue, 2, 2), __ATOMIC_ACQUIRE) != queue->seen);
+    EXPECT(head, used[0]);
+    EXPECT(len, used[1]);
+    queue->seen++;
+}
+
+/* A request: a text in two parts, and room for it in two parts, in four descriptors from a head on. */
+static void write_request(const struct queue *queue, uint16_t head, const char *text)
+{
+    uint64_t at = BUFFERS + queue->index * 0x8000 + head * 0x100u;
+    size_t len = strlen(text);
+    memcpy(memory + at, text, len);
+    memset(memory + at + 0x80, 0, 0x80);
+    put(queue, head, GUEST + at, 2, NEXT, (uint16_t)(head + 1));
+    put(queue, head + 1u, GUEST + at + 2, (uint32_t)len - 2, NEXT, (uint16_t)(head + 2));
+    put(queue, head + 2u, GUEST + at + 0x80, 3, NEXT | WRITE, (uint16_t)(head + 3));
+    put(queue, head + 3u, GUEST + at + 0x90, 0x70, WRITE, 0);
+}
+
+static void expect_text(const struct queue *queue, uint16_t head, const char *text)
+{
+    const uint8_t *at = memory + BUFFERS + queue->index * 0x8000 + head * 0x100u + 0x80;
+    EXPECT(0, memcmp(at, text, 3));
+    EXPECT(0, memcmp(at + 0x10, text + 3, strlen(text) - 3));
+}
+
+/* -- Tests -- */
+
+static void serves_requests(void)
+{
+    begin(&calls);
+    negotiate(0);
+    make_memory();
+    give_memory();
+    struct queue queue = make_queue(0);
+    start(&queue, 0);
+    for (uint16_t round = 0; round < 40; round++) {
+        write_request(&queue, 4, "some text");
+        post(&queue, 4);
+        expect_used(&queue, 4, 9);
+        expect_text(&queue, 4, "SOME TEXT");
+        EXPECT(true, is_signalled(queue.call, LIMIT));
+    }
+    *word_at(&queue, 1, 0) = 1; /* the driver wants no interrupt */
+    post(&queue, 4);
+    expect_used(&queue, 4, 9);
+    EXPECT(false, is_signalled(queue.call, 50));
+    EXPECT(41, number(covretin_ask_get_vring_base(&vmm.session, 0)));
+    EXPECT(41, its.served);
+    post(&queue, 4); /* it is stopped */
+    usleep(50000);
+    EXPECT(41, its.served);
+    end();
+    free_queue(&queue);
+    free_memory();
+}
+
+static void serves_several_queues(void)
+{
+    struct queue queues[3];
+    begin(&calls);
+    negotiate(0);
+    make_memory();
+    give_memory();
+    EXPECT(3, number(covretin_ask_get_queue_num(&vmm.session)));
+    for (size_t i = 0; i < 3; i++) {
+        queues[i] = make_queue(i);
+        start(&queues[i], 0);
+    }
+    for (size_t i = 3; i-- > 0;) {
+        write_request(&queues[i], 0, "queue");
+        post(&queues[i], 0);
+        expect_used(&queues[i], 0, 5);
+        expect_text(&queues[i], 0, "QUEUE");
+        EXPECT(i, its.last_queue);
+    }
+    DONE(covretin_ask_set_vring_enable(&vmm.session, 1, false));
+    post(&queues[1], 0);
+    post(&queues[2], 0);
+    expect_used(&queues[2], 0, 5);
+    usleep(50000);
+    EXPECT(4, its.served);
+    DONE(covretin_ask_set_vring_enable(&vmm.session, 1, true));
+    expect_used(&queues[1], 0, 5);
+    DONE(covretin_ask_reset_device(&vmm.session));
+    EXPECT(1, its.resets);
+    end();
+    for (size_t i = 0; i < 3; i++)
+        free_queue(&queues[i]);
+    free_memory();
+}
+
+static void serves_indirect_and_event_index(void)
+{
+    begin(&calls);
+    negotiate(COVRETIN_DEVICE_INDIRECT_DESC | COVRETIN_DEVICE_EVENT_IDX);
+    make_memory();
+    give_memory();
+    struct queue queue = make_queue(1);
+    start(&queue, 0);
+    write_request(&queue, 0, "indirect");
+    memcpy(memory + 0x70000, part_of(&queue, 0), 4 * sizeof(struct descriptor));
+    put(&queue, 7, GUEST + 0x70000, 4 * sizeof(struct descriptor), INDIRECT, 0);
+    post(&queue, 7);
+    expect_used(&queue, 7, 8);
+    expect_text(&queue, 0, "INDIRECT");
+    EXPECT(true, is_signalled(queue.call, LIMIT));
+    *word_at(&queue, 1, 4 + QUEUE_SIZE * 2) = 2; /* the driver is to be told of the third */
+    post(&queue, 7);
+    expect_used(&queue, 7, 8);
+    EXPECT(false, is_signalled(queue.call, 50));
+    post(&queue, 7);
+    expect_used(&queue, 7, 8);
+    EXPECT(true, is_signalled(queue.call, LIMIT));
+    for (int i = 0; i < LIMIT && __atomic_load_n(word_at(&queue, 2, 4 + QUEUE_SIZE * 8), __ATOMIC_ACQUIRE) != 3; i++)
+        usleep(1000);
+    EXPECT(3, *word_at(&queue, 2, 4 + QUEUE_SIZE * 8)); /* the device is to be told of the fourth */
+    end();
+    free_queue(&queue);
+    free_memory();
+}
+
+/* Two requests, each of a descriptor that is read and one that is written, which take the ring's four places; then one more, whose place is
+ * the first again. */
+static void serves_a_packed_queue(void)
+{
+    begin(&calls);
+    negotiate(COVRETIN_DEVICE_RING_PACKED);
+    make_memory();
+    give_memory();
+    struct queue queue = make_queue(2);
+    covretin_vring place = place_of(&queue, 0);
+    DONE(covretin_ask_set_vring_num(&vmm.session, 2, 4));
+    DONE(covretin_ask_set_vring_addr(&vmm.session, 2, &place));
+    DONE(covretin_ask_set_vring_call(&vmm.session, 2, queue.call));
+    DONE(covretin_ask_set_vring_kick(&vmm.session, 2, queue.kick));
+    DONE(covretin_ask_set_vring_enable(&vmm.session, 2, true));
+    for (uint16_t round = 0; round < 3; round++) {
+        uint16_t at = round * 2 % 4, wrap = round < 2, avail = wrap ? 0x80 : 0x8000, used = wrap ? 0x8080 : 0;
+        memcpy(memory + BUFFERS, "packed", 6);
+        memset(memory + BUFFERS + 0x100, 0, 6);
+        put(&queue, at + 1u, GUEST + BUFFERS + 0x100, 64, 3, (uint16_t)(avail | WRITE));
+        put(&queue, at, GUEST + BUFFERS, 6, 3, 0);
+        __atomic_store_n(word_at(&queue, 0, at * 16u + 14), (uint16_t)(avail | NEXT), __ATOMIC_SEQ_CST);
+        if (eventfd_write(queue.kick, 1))
+            give_up("kick");
+        EXPECT(true, is_signalled(queue.call, LIMIT));
+        EXPECT(used, *word_at(&queue, 0, at * 16u + 14) & 0x8080);
+        EXPECT(6, *word_at(&queue, 0, at * 16u + 8));
+        EXPECT(3, *word_at(&queue, 0, at * 16u + 12));
+        EXPECT(0, memcmp(memory + BUFFERS + 0x100, "PACKED", 6));
+    }
+    EXPECT(0x00020002, number(covretin_ask_get_vring_base(&vmm.session, 2)));
+    end();
+    free_queue(&queue);
+    free_memory();
+}
+
+static void *complete_later(void *none)
+{
+    wait_for(&its.kept_count, 3);
+    usleep(100000);
+    for (size_t i = 3; i-- > 0;)
+        answer(its.kept[i]);
+    return none;
+}
+
+/* Whoever stops a ring is answered once its requests are done, in any order, and other rings go on meanwhile. */
+static void completes_later(void)
+{
+    pthread_t thread;
+    begin(&calls);
+    negotiate(0);
+    make_memory();
+    give_memory();
+    struct queue queue = make_queue(0);
+    start(&queue, 0);
+    its.keeps = true;
+    for (uint16_t head = 0; head < 12; head += 4) {
+        write_request(&queue, head, "later");
+        post(&queue, head);
+    }
+    if (pthread_create(&thread, NULL, complete_later, NULL))
+        give_up("pthread_create");
+    wait_for(&its.kept_count, 3);
+    EXPECT(3, number(covretin_ask_get_vring_base(&vmm.session, 0)));
+    expect_used(&queue, 8, 5);
+    expect_used(&queue, 4, 5);
+    expect_used(&queue, 0, 5);
+    expect_text(&queue, 4, "LATER");
+    pthread_join(thread, NULL);
+    end();
+    free_queue(&queue);
+    free_memory();
+}
+
+static void ends_where_memory_is_gone(void)
+{
+    begin(&calls);
+    negotiate(0);
+    make_memory();
+    give_memory();
+    struct queue queue = make_queue(0);
+    start(&queue, 0);
+    write_request(&queue, 0, "gone");
+    post(&queue, 0);
+    expect_used(&queue, 0, 4);
+    if (ftruncate(memory_fd, 0) || eventfd_write(queue.kick, 1))
+        give_up("ftruncate");
+    struct pollfd polled = {.fd = covretin_connection_fd(&vmm), .events = POLLIN};
+    EXPECT(1, poll(&polled, 1, LIMIT)); /* the frontend is hung up on */
+    end_as(COVRETIN_MEMORY_LOST);
+    EXPECT(1, its.served);
+    free_queue(&queue);
+    free_memory();
+}
+
+/* The same under the device, which has a request. */
+static void ends_where_a_request_is_gone(void)
+{
+    char text[8] = "else";
+    begin(&calls);
+    negotiate(0);
+    make_memory();
+    give_memory();
+    struct queue queue = make_queue(0);
+    start(&queue, 0);
+    its.keeps = true;
+    write_request(&queue, 0, "gone");
+    post(&queue, 0);
+    wait_for(&its.kept_count, 1);
+    EXPECT(false, covretin_request_is_lost(its.kept[0]));
+    if (ftruncate(memory_fd, 0))
+        give_up("ftruncate");
+    EXPECT(4, covretin_request_read(its.kept[0], text, sizeof text));
+    EXPECT(0, text[0]);
+    EXPECT(true, covretin_request_is_lost(its.kept[0]));
+    covretin_request_done(its.kept[0], 4);
+    end_as(COVRETIN_MEMORY_LOST);
+    free_queue(&queue);
+    free_memory();
+}
+
+/* Of two sessions of a process that one ends whose memory is gone. */
+static void ends_no_other_session(void)
+{
+    pthread_t thread;
+    begin(&calls);
+    negotiate(0);
+    make_memory();
+    give_memory();
+    struct queue queue = make_queue(0);
+    start(&queue, 0);
+    int its_memory = memory_fd;
+    uint8_t *its_bytes = memory;
+
+    one = &vmms[1];
+    if (pthread_create(&thread, NULL, run_device, NULL))
+        give_up("pthread_create");
+    while (covretin_connect(&vmm, "device.socket", 8, LIMIT) == COVRETIN_SOCKET_CONNECT)
+        usleep(1000);
+    negotiate(0);
+    make_memory();
+    give_memory();
+    struct queue other = make_queue(0);
+    start(&other, 0);
+    write_request(&other, 0, "other");
+    if (ftruncate(its_memory, 0) || eventfd_write(queue.kick, 1))
+        give_up("ftruncate");
+    one = &vmms[0];
+    end_as(COVRETIN_MEMORY_LOST);
+    one = &vmms[1];
+    for (int i = 0; i < 3; i++) {
+        post(&other, 0);
+        expect_used(&other, 0, 5);
+    }
+    expect_text(&other, 0, "OTHER");
+    covretin_disconnect(&vmm);
+    one = &vmms[0];
+    wait_for(&its.ended, 2);
+    EXPECT(COVRETIN_DISCONNECTED, its.why_ended);
+    pthread_kill(thread, SIGTERM);
+    pthread_join(thread, NULL);
+    free_queue(&other);
+    free_memory();
+    memory_fd = its_memory;
+    memory = its_bytes;
+    free_queue(&queue);
+    free_memory();
+}
+
+/* A fault that is no session's is for the handler that was there before. */
+static void hands_on_other_faults(void)
+{
+    int ended = 0, fd = memfd_create("own", MFD_CLOEXEC);
+    pid_t child;
+    if (fd < 0 || ftruncate(fd, 4096))
+        give_up("memfd_create");
+    volatile uint8_t *at = mmap(NULL, 4096, PROT_READ | PROT_WRITE, MAP_SHARED, fd, 0);
+    if (at == MAP_FAILED || ftruncate(fd, 0))
+        give_up("mmap");
+    child = fork();
+    if (child == 0) {
+        at[0] = 1;
+        _exit(0);
+    }
+    EXPECT(child, waitpid(child, &ended, 0));
+    EXPECT(true, WIFEXITED(ended) && WEXITSTATUS(ended) == HANDED_ON);
+    munmap((void *)(uintptr_t)at, 4096);
+    close(fd);
+}
+
+/* -- Postcopy -- */
+
+static int userfault = -1, over = -1;
+static uint64_t base; /* where the device has the memory */
+static uint8_t *source;
+static size_t waited;
+
+static bool has_userfault(void)
+{
+    int fd = (int)syscall(SYS_userfaultfd, O_CLOEXEC);
+    if (fd >= 0)
+        close(fd);
+    return fd >= 0;
+}
+
+/* What is in the memory is in the source from now on, and comes from there page by page. */
+static void give_memory_by_pages(void)
+{
+    size_t count = 0;
+    source = malloc(SIZE);
+    memcpy(source, memory, SIZE);
+    if (fallocate(memory_fd, FALLOC_FL_PUNCH_HOLE | FALLOC_FL_KEEP_SIZE, 0, SIZE))
+        give_up("fallocate");
+    DONE(covretin_ask_postcopy_advise(&vmm.session));
+    EXPECT(COVRETIN_OK, covretin_claim_fd(&vmm, &userfault));
+    DONE(covretin_ask_postcopy_listen(&vmm.session));
+    give_memory();
+    EXPECT(COVRETIN_OK, covretin_answer_bases(&vmm.session, &base, 1, &count));
+    DONE(covretin_ask_postcopy_ack_mem_regions(&vmm.session, 5));
+}
+
+/* (where the guest wrote it meanwhile it is there, and whoever waits has to be woken) */
+static void copy_page(uint64_t offset)
+{
+    struct uffdio_copy copy = {.dst = base + offset, .src = (uint64_t)(uintptr_t)(source + offset), .len = 4096};
+    struct uffdio_range page = {.start = base + offset, .len = 4096};
+    while (ioctl(userfault, UFFDIO_COPY, &copy) != 0 && errno == EAGAIN)
+        ;
+    ioctl(userfault, UFFDIO_WAKE, &page);
+}
+
+static void *bring_pages(void *none)
+{
+    struct pollfd polled[2] = {{.fd = userfault, .events = POLLIN}, {.fd = over, .events = POLLIN}};
+    struct uffd_msg fault;
+    while (poll(polled, 2, LIMIT) > 0 && polled[1].revents == 0)
+        if (read(userfault, &fault, sizeof fault) == sizeof fault) {
+            copy_page((fault.arg.pagefault.address - base) / 4096 * 4096);
+            waited++;
+        }
+    return none;
+}
+
+static void takes_pages_as_they_come(void)
+{
+    pthread_t thread;
+    begin(&calls);
+    negotiate(0);
+    make_memory();
+    struct queue queue = make_queue(0);
+    write_request(&queue, 0, "arrives");
+    give_memory_by_pages();
+    waited = 0;
+    over = eventfd(0, EFD_CLOEXEC);
+    if (over < 0 || pthread_create(&thread, NULL, bring_pages, NULL))
+        give_up("pthread_create");
+    start(&queue, 0);
+    post(&queue, 0);
+    expect_used(&queue, 0, 7);
+    expect_text(&queue, 0, "ARRIVES");
+    for (uint64_t offset = 0; offset < SIZE; offset += 4096)
+        copy_page(offset);
+    DONE(covretin_ask_postcopy_end(&vmm.session));
+    eventfd_write(over, 1);
+    pthread_join(thread, NULL);
+    EXPECT(true, waited >= 2); /* descriptors and buffers, if no more */
+    post(&queue, 0);
+    expect_used(&queue, 0, 7);
+    end();
+    close(over);
+    close(userfault);
+    free(source);
+    free_queue(&queue);
+    free_memory();
+}
+
+/* The device waits for a page that does not come, as it begins a ring. */
+static struct queue wait_for_a_page(void)
+{
+    short events;
+    begin(&calls);
+    negotiate(0);
+    make_memory();
+    struct queue queue = make_queue(0);
+    give_memory_by_pages();
+    covretin_vring place = place_of(&queue, 0);
+    DONE(covretin_ask_set_vring_num(&vmm.session, 0, QUEUE_SIZE));
+    DONE(covretin_ask_set_vring_addr(&vmm.session, 0, &place));
+    EXPECT(COVRETIN_OK, covretin_ask_set_vring_kick(&vmm.session, 0, queue.kick));
+    EXPECT(COVRETIN_NOT_YET, covretin_exchange_nowait(&vmm, &events));
+    struct pollfd polled = {.fd = userfault, .events = POLLIN};
+    EXPECT(1, poll(&polled, 1, LIMIT));
+    return queue;
+}
+
+static void waits_for_no_page_of_who_went(void)
+{
+    struct queue queue = wait_for_a_page();
+    covretin_disconnect(&vmm);
+    end_as(COVRETIN_MEMORY_LOST);
+    close(userfault);
+    free(source);
+    free_queue(&queue);
+    free_memory();
+}
+
+static void stops_while_it_waits_for_a_page(void)
+{
+    struct queue queue = wait_for_a_page();
+    covretin_device_stop(&device);
+    end_as(COVRETIN_STOPPED);
+    close(userfault);
+    free(source);
+    free_queue(&queue);
+    free_memory();
+}
+
+/* A call that is full, and would block whoever writes it; a pipe, and one that nobody reads. */
+static void never_waits_for_a_call(void)
+{
+    int ends[2];
+    begin(&calls);
+    negotiate(0);
+    make_memory();
+    give_memory();
+    struct queue queue = make_queue(0);
+    start(&queue, 0);
+    int full = eventfd(0, EFD_CLOEXEC);
+    if (full < 0 || eventfd_write(full, UINT64_MAX - 1))
+        give_up("eventfd");
+    DONE(covretin_ask_set_vring_call(&vmm.session, 0, full));
+    write_request(&queue, 0, "full");
+    for (int i = 0; i < 3; i++) {
+        post(&queue, 0);
+        expect_used(&queue, 0, 4);
+    }
+    if (pipe2(ends, O_CLOEXEC))
+        give_up("pipe2");
+    DONE(covretin_ask_set_vring_call(&vmm.session, 0, ends[1]));
+    post(&queue, 0);
+    expect_used(&queue, 0, 4);
+    struct pollfd polled = {.fd = ends[0], .events = POLLIN};
+    EXPECT(1, poll(&polled, 1, LIMIT));
+    close(ends[0]);
+    post(&queue, 0);
+    expect_used(&queue, 0, 4);
+    close(ends[1]);
+    end();
+    close(full);
+    free_queue(&queue);
+    free_memory();
+}
+
+/* The same where the frontend waits meanwhile for a ring to be stopped. */
+static void frontend_dies_as_it_waits(void)
+{
+    begin(&calls);
+    negotiate(0);
+    make_memory();
+    give_memory();
+    struct queue queue = make_queue(0);
+    start(&queue, 0);
+    its.keeps = true;
+    write_request(&queue, 0, "waits");
+    post(&queue, 0);
+    wait_for(&its.kept_count, 1);
+    EXPECT(COVRETIN_OK, covretin_ask_get_vring_base(&vmm.session, 0));
+    EXPECT(COVRETIN_TIMED_OUT, covretin_exchange(&vmm, 50));
+    covretin_disconnect(&vmm);
+    usleep(50000);
+    EXPECT(0, its.ended);
+    answer(its.kept[0]);
+    end_as(COVRETIN_DISCONNECTED);
+    free_queue(&queue);
+    free_memory();
+}
+
+/* What the device has stays mapped, and the end is told once it is done. */
+static void frontend_dies_amid_a_request(void)
+{
+    begin(&calls);
+    negotiate(0);
+    make_memory();
+    give_memory();
+    struct queue queue = make_queue(0);
+    start(&queue, 0);
+    its.keeps = true;
+    write_request(&queue, 0, "amid");
+    post(&queue, 0);
+    wait_for(&its.kept_count, 1);
+    covretin_disconnect(&vmm);
+    usleep(100000);
+    EXPECT(0, its.ended);
+    answer(its.kept[0]);
+    end_as(COVRETIN_DISCONNECTED);
+    expect_text(&queue, 0, "AMID");
+    EXPECT(0, *word_at(&queue, 2, 2)); /* nobody was told */
+    free_queue(&queue);
+    free_memory();
+}
+
+/* A device is closed with requests under way, which the next one finds in the inflight region, in their order. */
+static void goes_on_by_the_inflight_region(void)
+{
+    covretin_inflight region = {.num_queues = 1, .queue_size = QUEUE_SIZE};
+    int32_t fd;
+    begin(&split_calls);
+    negotiate(0);
+    make_memory();
+    give_memory();
+    struct queue queue = make_queue(0);
+    DONE(covretin_ask_get_inflight_fd(&vmm.session, &region));
+    EXPECT(COVRETIN_OK, covretin_answer_inflight(&vmm.session, &region, &fd));
+    EXPECT(COVRETIN_OK, covretin_claim_fd(&vmm, &fd));
+    DONE(covretin_ask_set_inflight_fd(&vmm.session, &region, fd));
+    start(&queue, 0);
+    its.keeps = true;
+    for (uint16_t head = 0; head < 12; head += 4)
+        write_request(&queue, head, "again");
+    post(&queue, 8);
+    post(&queue, 0);
+    post(&queue, 4);
+    wait_for(&its.kept_count, 3);
+    answer(its.kept[1]);
+    expect_used(&queue, 0, 5);
+    covretin_device_stop(&device); /* as if it were killed: what it has is not given back */
+    usleep(50000);
+    answer(its.kept[0]);
+    answer(its.kept[2]);
+    end_as(COVRETIN_STOPPED);
+    EXPECT(1, *word_at(&queue, 2, 2));
+
+    begin(&split_calls);
+    negotiate(0);
+    give_memory();
+    DONE(covretin_ask_set_inflight_fd(&vmm.session, &region, fd));
+    its.keeps = true;
+    start(&queue, 1);
+    wait_for(&its.kept_count, 2);
+    EXPECT(true, its.kept[0]->again && its.kept[1]->again);
+    answer(its.kept[0]);
+    expect_used(&queue, 8, 5);
+    answer(its.kept[1]);
+    expect_used(&queue, 4, 5);
+    its.keeps = false;
+    post(&queue, 0);
+    expect_used(&queue, 0, 5);
+    EXPECT(false, its.again);
+    EXPECT(4, number(covretin_ask_get_vring_base(&vmm.session, 0)));
+    end();
+    close(fd);
+    free_queue(&queue);
+    free_memory();
+}
+
+/* Regions come and go while a request is under way, whose bytes stay; one that lies nowhere breaks its queue, until a reset. */
+static void regions_come_and_go(void)
+{
+    begin(&calls);
+    negotiate(0);
+    make_memory();
+    covretin_region rings = region_of(0, BUFFERS), buffers = region_of(BUFFERS, SIZE - BUFFERS), odd = region_of(BUFFERS, 0x1000);
+    struct queue queue = make_queue(0);
+    EXPECT(COVRETIN_DEVICE_MAX_REGIONS, number(covretin_ask_get_max_mem_slots(&vmm.session)));
+    DONE(covretin_ask_add_mem_region(&vmm.session, &rings));
+    DONE(covretin_ask_add_mem_region(&vmm.session, &buffers));
+    REFUSED(covretin_ask_add_mem_region(&vmm.session, &odd)); /* it overlaps */
+    start(&queue, 0);
+    its.keeps = true;
+    write_request(&queue, 0, "kept");
+    post(&queue, 0);
+    wait_for(&its.kept_count, 1);
+    DONE(covretin_ask_remove_mem_region(&vmm.session, &buffers));
+    REFUSED(covretin_ask_remove_mem_region(&vmm.session, &buffers));
+    answer(its.kept[0]);
+    expect_used(&queue, 0, 4);
+    expect_text(&queue, 0, "KEPT");
+    post(&queue, 0);
+    EXPECT(true, is_signalled(queue.error, LIMIT));
+    wait_for(&its.broken, 1);
+    EXPECT(COVRETIN_QUEUE_NOT_IN_GUEST, its.why_broken);
+    end();
+    free_queue(&queue);
+    free_memory();
+}
+
+static void logs_what_it_writes(void)
+{
+    covretin_region log = {.memory_size = 0x4000};
+    begin(&calls);
+    negotiate(COVRETIN_FEATURE_LOG_ALL);
+    make_memory();
+    give_memory();
+    struct queue queue = make_queue(0);
+    log.fd = memfd_create("log", MFD_CLOEXEC);
+    if (log.fd < 0 || ftruncate(log.fd, 0x4000))
+        give_up("memfd_create");
+    uint8_t *bits = mmap(NULL, 0x4000, PROT_READ | PROT_WRITE, MAP_SHARED, log.fd, 0);
+    DONE(covretin_ask_set_log_base(&vmm.session, 0, &log));
+    start(&queue, 0);
+    covretin_vring place = place_of(&queue, GUEST + 0x2000);
+    DONE(covretin_ask_set_vring_addr(&vmm.session, 0, &place));
+    write_request(&queue, 0, "logged");
+    post(&queue, 0);
+    expect_used(&queue, 0, 6);
+    EXPECT(1, number(covretin_ask_get_vring_base(&vmm.session, 0)));
+    size_t page = (GUEST + BUFFERS) / 4096, used = GUEST / 4096 + 2;
+    EXPECT(1 << page % 8, bits[page / 8]);
+    EXPECT(1 << used % 8, bits[used / 8]);
+    size_t set = 0;
+    for (size_t i = 0; i < 0x4000; i++)
+        set += bits[i] != 0;
+    EXPECT(2, set);
+    end();
+    munmap(bits, 0x4000);
+    close(log.fd);
+    free_queue(&queue);
+    free_memory();
+}
+
+/* What is no memory file is not mapped; what is no eventfd is no kick. */
+static void refuses_other_files(void)
+{
+    char name[] = "/var/tmp/covretin-device-XXXXXX";
+    int file = mkstemp(name), ends[2];
+    if (file < 0 || unlink(name) || ftruncate(file, SIZE) || socketpair(AF_UNIX, SOCK_STREAM, 0, ends))
+        give_up("mkstemp");
+    begin(&calls);
+    negotiate(0);
+    make_memory();
+    covretin_region region = region_of(0, SIZE), beyond = region_of(4096, SIZE);
+    region.fd = ends[0];
+    REFUSED(covretin_ask_set_mem_table(&vmm.session, &region, 1));
+    REFUSED(covretin_ask_set_mem_table(&vmm.session, &beyond, 1));
+    region.fd = file;
+    if (fcntl(file, F_GET_SEALS) < 0)
+        REFUSED(covretin_ask_set_mem_table(&vmm.session, &region, 1));
+    give_memory();
+    struct queue queue = make_queue(0);
+    REFUSED(covretin_ask_set_vring_kick(&vmm.session, 0, ends[0]));
+    REFUSED(covretin_ask_set_vring_call(&vmm.session, 0, ends[0]));
+    REFUSED(covretin_ask_set_vring_kick(&vmm.session, 0, queue.kick)); /* it has no size */
+    REFUSED(covretin_ask_set_vring_num(&vmm.session, 0, 2048));
+    start(&queue, 0);
+    write_request(&queue, 0, "goes on");
+    post(&queue, 0);
+    expect_used(&queue, 0, 7);
+    end();
+    close(file);
+    close(ends[0]);
+    close(ends[1]);
+    free_queue(&queue);
+    free_memory();
+}
+
+static void has_a_configuration(void)
+{
+    uint8_t bytes[4] = {1, 2, 3, 4}, read[4] = {0};
+    covretin_config part;
+    size_t count;
+    begin(&calls);
+    negotiate(1);
+    DONE(covretin_ask_set_config(&vmm.session, 2, 0, bytes, 4));
+    EXPECT(3, its.config[4]);
+    DONE(covretin_ask_get_config(&vmm.session, 2, 4, 0));
+    EXPECT(COVRETIN_OK, covretin_answer_config(&vmm.session, &part, read, 4, &count));
+    EXPECT(0, memcmp(bytes, read, 4));
+    REFUSED(covretin_ask_set_config(&vmm.session, 6, 0, bytes, 4));
+    REFUSED(covretin_ask_set_features(&vmm.session, COVRETIN_DEVICE_VERSION_1 | 2)); /* it is not offered */
+    end();
+}
+
+/* A ring without eventfds is looked at each millisecond. */
+static void polls_a_ring_without_a_kick(void)
+{
+    begin(&calls);
+    negotiate(0);
+    make_memory();
+    give_memory();
+    struct queue queue = make_queue(0);
+    start(&queue, 0);
+    DONE(covretin_ask_set_vring_kick(&vmm.session, 0, -1));
+    DONE(covretin_ask_set_vring_call(&vmm.session, 0, -1));
+    write_request(&queue, 0, "polled");
+    for (int i = 0; i < 3; i++) {
+        post(&queue, 0);
+        expect_used(&queue, 0, 6);
+    }
+    end();
+    free_queue(&queue);
+    free_memory();
+}
+
+/* A call that the device answers, so that its loop comes round. */
+static void kick_loop(void)
+{
+    EXPECT(3, number(covretin_ask_get_queue_num(&vmm.session)));
+}
+
+/* A device that is closed calls nobody back, and what it handed out may still be done. */
+static void closes_amid_a_request(void)
+{
+    begin(&calls);
+    negotiate(0);
+    make_memory();
+    give_memory();
+    struct queue queue = make_queue(0);
+    start(&queue, 0);
+    its.keeps = true;
+    write_request(&queue, 0, "closed");
+    post(&queue, 0);
+    wait_for(&its.kept_count, 1);
+    its.is_over = true;
+    kick_loop();
+    pthread_join(loop_thread, NULL);
+    covretin_device_close(&device);
+    EXPECT(COVRETIN_OK, covretin_ask_get_features(&vmm.session));
+    EXPECT(COVRETIN_DISCONNECTED, covretin_exchange(&vmm, LIMIT)); /* the frontend is hung up on */
+    answer(its.kept[0]);
+    expect_text(&queue, 0, "CLOSED");
+    EXPECT(0, *word_at(&queue, 2, 2));
+    EXPECT(0, its.ended);
+    covretin_disconnect(&vmm);
+    free_queue(&queue);
+    free_memory();
+}
+
+/* -- A guest that writes anything -- */
+
+/* A number below a bound: a linear congruential generator goes on. */
+static uint32_t any(uint32_t below)
+{
+    static uint32_t state = 1;
+    state = state * 1664525 + 1013904223;
+    return (uint32_t)(((uint64_t)state * below) >> 32);
+}
+
+/* Descriptors that are often right, a table of them in a buffer among these, and heads. */
+static void write_anything(const struct queue *queue, bool is_packed)
+{
+    for (int i = 0; i < 6; i++) {
+        uint64_t at = any(8) != 0 ? GUEST + any(SIZE) : (uint64_t)any(UINT32_MAX) << any(40);
+        uint32_t len = any(16) != 0 ? any(0x200) : any(UINT32_MAX);
+        uint16_t flags = (uint16_t)(any(8) | (any(2) != 0 ? 0x80u : 0) | (any(2) != 0 ? 0x8000u : 0));
+        struct descriptor it = {at, len, is_packed ? (uint16_t)any(QUEUE_SIZE + 1) : flags & 7, is_packed ? flags : (uint16_t)any(QUEUE_SIZE + 1)};
+        if (any(4) == 0)
+            it = (struct descriptor){GUEST + 0x70000, 16 * any(20), it.flags, it.next};
+        memcpy(any(2) != 0 ? part_of(queue, 0) + any(QUEUE_SIZE) * 16 : memory + 0x70000 + any(16) * 16, &it, sizeof it);
+        *word_at(queue, 1, 4 + any(QUEUE_SIZE + 1) * 2) = (uint16_t)any(QUEUE_SIZE + (any(8) == 0));
+    }
+}
+
+/* Whatever is in its rings, the device answers its frontend; a queue that broke is begun anew. */
+static void bear(struct queue *queue, bool is_packed)
+{
+    size_t broken = 0;
+    for (int round = 0; round < 4000; round++) {
+        write_anything(queue, is_packed);
+        if (!is_packed)
+            __atomic_store_n(word_at(queue, 1, 2), (uint16_t)(*word_at(queue, 1, 2) + any(3) + (any(100) == 0 ? 99 : 0)), __ATOMIC_SEQ_CST);
+        if (eventfd_write(queue->kick, 1))
+            give_up("kick");
+        if (round % 8 != 0)
+            continue;
+        uint64_t count = number(covretin_ask_get_queue_num(&vmm.session));
+        EXPECT(3, count);
+        if (count != 3)
+            return;
+        if (its.broken == broken)
+            continue;
+        broken = its.broken;
+        memset(part_of(queue, 0), 0, QUEUE_ROOM - 4096);
+        number(covretin_ask_get_vring_base(&vmm.session, queue->index));
+        start(queue, 0);
+    }
+    EXPECT(true, broken > 10);
+    EXPECT(true, its.served > 10);
+}
+
+static void bears_anything_in_a_split_queue(void)
+{
+    begin(&calls);
+    negotiate(COVRETIN_DEVICE_INDIRECT_DESC | COVRETIN_DEVICE_EVENT_IDX);
+    make_memory();
+    give_memory();
+    struct queue queue = make_queue(0);
+    start(&queue, 0);
+    bear(&queue, false);
+    end();
+    free_queue(&queue);
+    free_memory();
+}
+
+static void bears_anything_in_a_packed_queue(void)
+{
+    begin(&calls);
+    negotiate(COVRETIN_DEVICE_INDIRECT_DESC | COVRETIN_DEVICE_RING_PACKED);
+    make_memory();
+    give_memory();
+    struct queue queue = make_queue(0);
+    start(&queue, 0);
+    bear(&queue, true);
+    end();
+    free_queue(&queue);
+    free_memory();
+}
+
+static void refuses_tables(void)
+{
+    covretin_device_calls none = {.queues = 1}, many = {.queues = COVRETIN_DEVICE_MAX_QUEUES + 1, .request = on_request};
+    covretin_listener listener = {0};
+    int file = memfd_create("none", MFD_CLOEXEC);
+    EXPECT(COVRETIN_INVALID_PARAM, covretin_device_open_fd(&device, &none, NULL, file));
+    EXPECT(COVRETIN_INVALID_PARAM, covretin_device_open_fd(&device, &many, NULL, file));
+    EXPECT(COVRETIN_INVALID_SOCKET_FD, covretin_device_open_fd(&device, &calls, NULL, file));
+    EXPECT(COVRETIN_NO_SESSION, covretin_device_open(&device, &calls, NULL, &listener));
+    EXPECT(COVRETIN_OK, covretin_listen(&listener, "device.socket"));
+    EXPECT(COVRETIN_TIMED_OUT, covretin_device_open(&device, &calls, NULL, &listener));
+    EXPECT(COVRETIN_INVALID_PATH, covretin_device_run(&calls, NULL, ""));
+    covretin_device_close(&device);
+    covretin_device_stop(&device);
+    covretin_unlisten(&listener);
+    close(file);
+}
+
+/* It serves one frontend after another, hangs up on one that comes meanwhile, and ends at a signal. */
+static void runs_until_a_signal(void)
+{
+    covretin_connection other = {0};
+    its.ended = its.served = 0;
+    its.keeps = false;
+    if (pthread_create(&loop_thread, NULL, run_device, NULL))
+        give_up("pthread_create");
+    for (int round = 0; round < 2; round++) {
+        while (covretin_connect(&vmm, "device.socket", 8, LIMIT) == COVRETIN_SOCKET_CONNECT)
+            usleep(1000);
+        negotiate(0);
+        make_memory();
+        give_memory();
+        struct queue queue = make_queue(0);
+        start(&queue, 0);
+        write_request(&queue, 0, "run");
+        memcpy(memory + BUFFERS, "run", 3);
+        post(&queue, 0);
+        expect_used(&queue, 0, 3);
+        EXPECT(COVRETIN_OK, covretin_connect(&other, "device.socket", 8, LIMIT));
+        EXPECT(COVRETIN_OK, covretin_ask_get_features(&other.session));
+        EXPECT(COVRETIN_DISCONNECTED, covretin_exchange(&other, LIMIT));
+        covretin_disconnect(&other);
+        covretin_disconnect(&vmm);
+        wait_for(&its.ended, (size_t)round + 1);
+        free_queue(&queue);
+        free_memory();
+    }
+    pthread_kill(loop_thread, SIGTERM);
+    pthread_join(loop_thread, NULL);
+    EXPECT(COVRETIN_OK, ran);
+    EXPECT(-1, access("device.socket", F_OK));
+}
+
+static void hand_on(int number)
+{
+    (void)number;
+    _exit(HANDED_ON);
+}
+
+int main(void)
+{
+    signal(SIGBUS, hand_on);
+    split_calls = calls;
+    split_calls.features = 1;
+    RUN(serves_requests);
+    RUN(serves_several_queues);
+    RUN(serves_indirect_and_event_index);
+    RUN(serves_a_packed_queue);
+    RUN(completes_later);
+    RUN(ends_where_memory_is_gone);
+    RUN(ends_where_a_request_is_gone);
+    RUN(ends_no_other_session);
+    RUN(hands_on_other_faults);
+    RUN(never_waits_for_a_call);
+    if (has_userfault()) {
+        RUN(takes_pages_as_they_come);
+        RUN(waits_for_no_page_of_who_went);
+        RUN(stops_while_it_waits_for_a_page);
+    } else
+        printf("postcopy is left out: userfaultfd is not allowed here\n");
+    RUN(frontend_dies_amid_a_request);
+    RUN(frontend_dies_as_it_waits);
+    RUN(goes_on_by_the_inflight_region);
+    RUN(regions_come_and_go);
+    RUN(logs_what_it_writes);
+    RUN(refuses_other_files);
+    RUN(has_a_configuration);
+    RUN(polls_a_ring_without_a_kick);
+    RUN(closes_amid_a_request);
+    RUN(bears_anything_in_a_split_queue);
+    RUN(bears_anything_in_a_packed_queue);
+    RUN(refuses_tables);
+    RUN(runs_until_a_signal);
+    return status();
+}

@@ -1,0 +1,179 @@
+/* SPDX-License-Identifier: Apache-2.0 */
+/* Covretin: a device, of which its author writes what its requests mean, and no more. Beneath are a session, over a Unix socket
+ * (covretin_backend_socket.h), and queues, split or packed (covretin_queue.h); this part maps what the frontend gives, and does what
+ * these two say. A device is a table of callbacks:
+ *
+ *     static void answer(void *own, covretin_request *request)
+ *     {
+ *         ..                                         segments[0 .. readable) are to be read, those behind to be written
+ *         covretin_request_done(request, written);   now or later, from any thread
+ *     }
+ *     static const covretin_device_calls calls = {.queues = 1, .request = answer};
+ *     error = covretin_device_run(&calls, own, "/run/device.sock");
+ *
+ * or, in an event loop of one's own, which may have many:
+ *
+ *     error = covretin_device_open(&device, &calls, own, &listener);
+ *     ..                                             once covretin_device_fd(&device) is readable:
+ *     error = covretin_device_serve(&device);        NOT_YET: it goes on; else it has ended
+ *     covretin_device_close(&device);
+ *
+ * WHAT IT DOES BY ITSELF: memory regions and their hot plug, rings, kicks and calls, EVENT_IDX and INDIRECT_DESC, the dirty log, the
+ * inflight region of split queues, postcopy, reset. Rings that a device before left with requests under way are gone on with, and
+ * these are handed out again, with `again`.
+ *
+ * THE FRONTEND IS NOT TRUSTED. Only memory files are mapped (memfd, tmpfs, hugetlbfs), since the pages of another may be kept back by
+ * whoever serves its file system. Descriptors to kick and call by are eventfds, and for calls pipes, too; none is waited for, whatever
+ * its flags, and a frontend that floods a device is served in turns with its rings. A region that its file was truncated of becomes
+ * zeros at its first touch, all of it, and the session ends with MEMORY_LOST; the system's own calls (pread and its like) fail there with
+ * EFAULT, and then nothing is lost. That costs nothing until it happens, but takes a handler of SIGBUS, which is there from the first
+ * session on and hands each other fault to the handler that was there before: install one of your own before that. Where a frontend
+ * begins postcopy, whoever touches a page that has not come waits for it until the frontend hangs up, or covretin_device_stop.
+ *
+ * WHO OWNS WHAT
+ * Devices: a variable of type covretin_device, {0} at first, belongs to the caller; it is not copied or written by him. The table of
+ *   calls and `own` stay there until it is closed and each request is done.
+ * Requests: the device's from the callback until covretin_request_done, each once. Its segments are the device's to change, where they
+ *   point is the guest's memory, which stays mapped until then, also after the session ended or the device was closed. The guest can
+ *   change it meanwhile: what is checked is copied before.
+ * Descriptors: all are this part's but what `channel` takes.
+ *
+ * THREADS: covretin_device_serve calls back, one call at a time, and nothing else does. A callback may call covretin_request_done and
+ * covretin_device_stop. Calls with one device must not overlap in time, but for these two: any thread may call the one at any time, and the
+ * other until covretin_device_close begins, also in a signal handler. After covretin_device_serve has told the end, and after
+ * covretin_device_close began, nothing is called back.
+ *
+ * ERRORS are those of covretin.h, and of a queue those of covretin_queue.h. errno says more after SOCKET_ERROR.
+ */
+#ifndef COVRETIN_DEVICE_H
+#define COVRETIN_DEVICE_H
+
+#include "covretin_backend_socket.h"
+#include "covretin_queue.h"
+
+#include <sys/uio.h>
+
+#ifdef __cplusplus
+extern "C" {
+#endif
+
+/* virtio features that matter here: the first three are offered in any case, the last where the device offers it. */
+#define COVRETIN_DEVICE_INDIRECT_DESC ((uint64_t)1 << 28)
+#define COVRETIN_DEVICE_EVENT_IDX ((uint64_t)1 << 29)
+#define COVRETIN_DEVICE_VERSION_1 ((uint64_t)1 << 32)
+#define COVRETIN_DEVICE_RING_PACKED ((uint64_t)1 << 34)
+
+#define COVRETIN_DEVICE_MAX_QUEUES 64       /* of a device */
+#define COVRETIN_DEVICE_MAX_QUEUE_SIZE 1024 /* in descriptors; a request has as many segments at most */
+#define COVRETIN_DEVICE_MAX_REGIONS 509     /* of memory, of a session */
+
+/* A device that serves a frontend. {0} is none. */
+typedef struct covretin_device {
+    void *opaque;
+} covretin_device;
+
+/* A request of the guest. */
+typedef struct covretin_request {
+    struct iovec *segments; /* first those that are to be read, then those that are to be written; none is empty */
+    size_t readable;        /* how many of these and */
+    size_t writable;        /* of those */
+    uint32_t queue;         /* of which queue, from 0 on */
+    bool again;             /* a device before took it, and did not complete it: it may have been done, or a part of it */
+    void *own;              /* the device's; NULL at first */
+} covretin_request;
+
+/* A device. Each callback gets `own` of covretin_device_open. All but `request` may be NULL. */
+typedef struct covretin_device_calls {
+    /* What is offered, beside what is offered in any case: VERSION_1, EVENT_IDX, INDIRECT_DESC, LOG_ALL and PROTOCOL_FEATURES. With
+     * RING_PACKED no inflight region is offered. It was played over the tests' own rings, and not yet with QEMU. */
+    uint64_t features;
+
+    /* The same of protocol features: MQ, LOG_SHMFD, REPLY_ACK, PAGEFAULT, INFLIGHT_SHMFD, RESET_DEVICE and CONFIGURE_MEM_SLOTS are; CONFIG
+     * where there is `read_config`, BACKEND_REQ where there is `channel`. Here is what these want on the channel, as BACKEND_SEND_FD. */
+    uint64_t protocol_features;
+
+    uint32_t queues; /* 1 to COVRETIN_DEVICE_MAX_QUEUES */
+
+    /* A request is the device's. */
+    void (*request)(void *own, covretin_request *request);
+
+    /* The driver accepted these virtio features; and these protocol features were accepted so far. */
+    void (*accepted)(void *own, uint64_t features, uint64_t protocol_features);
+
+    /* Reads a part of the configuration space, or writes it. False: there is no such part, or it is not to be written. */
+    bool (*read_config)(void *own, uint32_t offset, uint8_t *bytes, uint32_t size);
+    bool (*write_config)(void *own, uint32_t offset, const uint8_t *bytes, uint32_t size);
+
+    /* The device is as it was at first; it has no request. */
+    void (*reset)(void *own);
+
+    /* The socket of the backend channel (covretin_channel_socket.h), with the protocol features that were accepted. True: it is the
+     * device's to close. */
+    bool (*channel)(void *own, int fd, uint64_t protocol_features);
+
+    /* A request of the frontend, by its number, was refused, or ended the session. */
+    void (*refused)(void *own, uint32_t request, enum covretin_error error);
+
+    /* The driver broke a rule of a queue: nothing more is taken of it until the device is reset. */
+    void (*broken)(void *own, uint32_t queue, enum covretin_queue_error error);
+
+    /* The session has ended, for this reason, and no request is left. The last callback. */
+    void (*ended)(void *own, enum covretin_error error);
+} covretin_device_calls;
+
+/* -- A session -------------------------------------------------------------------------------------------------------- */
+
+/* Serves the next frontend that waits at a listener, which is not waited for. NO_SESSION: there is no listener; SESSION_OPEN: the device
+ * serves one; INVALID_PARAM: the table has no request, or too many queues or none; TIMED_OUT: no frontend waits; SOCKET_ERROR: the system
+ * failed; OUT_OF_MEMORY. After an error nothing changed, but that a frontend may have been hung up on. */
+enum covretin_error covretin_device_open(covretin_device *device, const covretin_device_calls *calls, void *own,
+                                         covretin_listener *listener);
+
+/* The same over a socket that is connected already. It is the device's from then on; after an error it stays the caller's.
+ * INVALID_SOCKET_FD, NOT_UNIX_SOCKET, NOT_STREAM_SOCKET: it is no socket, or of another kind. All else as above. */
+enum covretin_error covretin_device_open_fd(covretin_device *device, const covretin_device_calls *calls, void *own, int fd);
+
+/* What to wait for: it is readable where covretin_device_serve has something to do. It stays the device's. -1: there is no session. */
+int covretin_device_fd(const covretin_device *device);
+
+/* Does what is to be done, and waits for nothing. NOT_YET: it goes on; call it again once the descriptor is readable. All else ends the
+ * session, and each further call returns the same: DISCONNECTED, PARTIAL_MESSAGE, INVALID_MESSAGE: the frontend went, between two requests,
+ * in a header, in a body, or the last sent what is none; MEMORY_LOST: it took memory away that was in use, or went while a page was waited
+ * for; STOPPED: covretin_device_stop; OUT_OF_MEMORY, SOCKET_ERROR, SOCKET_BROKEN, FDS_LOST: as of covretin_next_call. The frontend is hung
+ * up on at once; where the device has requests, the end is told once they are done, so that the next frontend finds nothing under way.
+ * NO_SESSION. */
+enum covretin_error covretin_device_serve(covretin_device *device);
+
+/* Ends the session: covretin_device_serve says so. From any thread, and from a signal handler. */
+void covretin_device_stop(covretin_device *device);
+
+/* Ends the session, if that has not ended, without a callback; the device is {0} again. Requests that are not done stay the device's until they
+ * are. What serves nobody stays so. */
+void covretin_device_close(covretin_device *device);
+
+/* -- Requests --------------------------------------------------------------------------------------------------------- */
+
+/* The request is done, and so many bytes were written, from the first that is to be written on: the driver is told. From any thread. It is
+ * no more. Where the session has ended meanwhile nobody is told. */
+void covretin_request_done(covretin_request *request, uint32_t written);
+
+/* Whether memory of the session is lost: what was read may be zeros that nobody wrote. */
+bool covretin_request_is_lost(const covretin_request *request);
+
+/* Copies bytes from the beginning of what is to be read, or to that of what is to be written, and takes that part off the segments, of which
+ * some are empty then. How many: fewer than `len` where no more are there. */
+size_t covretin_request_read(covretin_request *request, void *bytes, size_t len);
+size_t covretin_request_write(covretin_request *request, const void *bytes, size_t len);
+
+/* -- All of it -------------------------------------------------------------------------------------------------------- */
+
+/* Listens at a path, and serves one frontend after another until SIGTERM or SIGINT comes, which are blocked meanwhile in this thread:
+ * threads that are begun before have to block them, too. Another frontend at a time is hung up on. 0: a signal came; else it could not
+ * listen, as covretin_listen says, or not go on: SOCKET_ERROR, OUT_OF_MEMORY. */
+enum covretin_error covretin_device_run(const covretin_device_calls *calls, void *own, const char *path);
+
+#ifdef __cplusplus
+}
+#endif
+
+#endif
