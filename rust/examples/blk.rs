@@ -3,7 +3,9 @@
 //!
 //! It has as many virtqueues as it is told, one machine at a time, and serves reads, writes, flushes and its name. Where the guest
 //! puts an address outside of its memory, or a sector behind the disk's end, the request fails, and the disk goes on. Where the file
-//! grows the guest is told. Where another machine connects meanwhile, or one takes its memory away, it is hung up on. A machine:
+//! grows the guest is told. Where another machine connects meanwhile, or one takes its memory away, it is hung up on. A machine goes over
+//! to another (the dirty log, and postcopy), and a disk that takes the place of one that was ended does again what that had not given back
+//! (the inflight region). A machine:
 //!
 //! ```sh
 //! qemu-system-x86_64 -m 256M -machine pc,memory-backend=mem -object memory-backend-memfd,id=mem,size=256M,share=on \
@@ -13,6 +15,14 @@
 mod descriptors;
 #[path = "blk/guard.rs"]
 mod guard;
+#[path = "blk/inflight.rs"]
+mod inflight;
+#[path = "blk/memory.rs"]
+mod memory;
+#[path = "blk/postcopy.rs"]
+mod postcopy;
+#[path = "blk/rings.rs"]
+mod rings;
 
 use std::cmp::min;
 use std::env;
@@ -21,8 +31,8 @@ use std::fs::{symlink_metadata, File, OpenOptions};
 use std::io;
 use std::os::unix::fs::{FileExt, FileTypeExt};
 use std::os::unix::io::{AsRawFd, RawFd};
+use std::os::unix::net::UnixStream;
 use std::process::ExitCode;
-use std::sync::atomic::{fence, Ordering};
 use std::sync::{Arc, Mutex, MutexGuard, PoisonError};
 use std::time::Duration;
 
@@ -31,14 +41,16 @@ use covretin::vhost_user::{
     Backend, BackendReqHandler, Error, GpuBackend, Listener, Result, VhostUserBackendReqHandlerMut, VhostUserFrontendReqHandler,
 };
 use covretin::VhostUserMemoryRegionBase;
-use descriptors::{is_hung_up, poll, stop_lingering, Call, Kick, Signals, FOREVER};
+use descriptors::{is_hung_up, memory_file, poll, stop_lingering, Call, Kick, Signals, FOREVER};
 use guard::Guarded;
-use vm_memory::{Bytes, FileOffset, GuestAddress, GuestMemoryMmap, GuestRegionMmap, MmapRegion};
+use inflight::Inflight;
+use memory::{Guest, Malformed, Memory, Region};
+use rings::{Piece, Ring, EVENT_IDX, INDIRECT_DESC};
 
 const SECTOR: u64 = 512;
 const NAME: &[u8; 20] = b"covretin\0\0\0\0\0\0\0\0\0\0\0\0";
-/// SEG_MAX, FLUSH and MQ of the disk, the protocol features, VERSION_1.
-const FEATURES: u64 = 1 << 2 | 1 << 9 | 1 << 12 | 1 << 30 | 1 << 32;
+/// SEG_MAX, FLUSH and MQ of the disk, LOG_ALL, the protocol features, VERSION_1.
+const FEATURES: u64 = 1 << 2 | 1 << 9 | 1 << 12 | 1 << 26 | INDIRECT_DESC | EVENT_IDX | 1 << 30 | 1 << 32;
 /// The greatest number of parts of a request's data.
 const SEGMENTS: u32 = 126;
 const MEMORY_SLOTS: u64 = 64;
@@ -99,6 +111,7 @@ fn accept(listener: &Listener, disk: &Arc<Mutex<Disk>>) -> Result<Option<Backend
     socket.set_nonblocking(true).map_err(Error::SocketError)?;
     let mut handler = BackendReqHandler::from_stream(socket, disk.clone());
     handler.set_reply_timeout(Some(Duration::ZERO));
+    locked(disk).frontend = Some(handler.try_clone_connection().map_err(Error::SocketError)?);
     Ok(Some(handler))
 }
 
@@ -158,68 +171,21 @@ struct Disk {
     image: File,
     size: u64,
     features: u64,
-    regions: Vec<Region>,
-    memory: GuestMemoryMmap,
+    memory: Memory,
     rings: Vec<Ring>,
     signals: Arc<Signals>,
     channel: Option<Backend>,
-}
-
-/// A region of guest memory, and where it is mapped.
-#[derive(Clone)]
-struct Region {
-    about: VhostUserMemoryRegion,
-    guarded: Arc<Guarded>,
-}
-
-/// A split virtqueue; addresses are the guest's.
-#[derive(Default)]
-struct Ring {
-    size: u16,
-    table: u64,
-    available: u64,
-    used: u64,
-    /// The next buffer to be taken, which is the next one to be given back.
-    next: u16,
-    kick: Option<Kick>,
-    call: Option<Call>,
-    is_enabled: bool,
-}
-
-/// A part of a request in guest memory.
-struct Piece {
-    at: u64,
-    size: u32,
-    is_writable: bool,
-}
-
-/// The guest put an address outside of its memory, or something else is not as virtio has it.
-struct Malformed;
-
-impl<E: std::error::Error> From<E> for Malformed {
-    fn from(_: E) -> Malformed {
-        Malformed
-    }
-}
-
-type Guest<T> = std::result::Result<T, Malformed>;
-
-impl Region {
-    fn map(about: VhostUserMemoryRegion, file: File) -> Result<Region> {
-        let size = usize::try_from(about.memory_size).map_err(|_| Error::InvalidParam)?;
-        let mapping = MmapRegion::from_file(FileOffset::new(file, about.mmap_offset), size).map_err(|_| Error::InvalidParam)?;
-        let mapped = GuestRegionMmap::new(mapping, GuestAddress(about.guest_phys_addr)).map_err(|_| Error::InvalidParam)?;
-        let guarded = Guarded::new(mapped).ok_or(Error::InvalidParam)?;
-        Ok(Region { about, guarded: Arc::new(guarded) })
-    }
+    /// The inflight region, and for how many rings of which size it is.
+    inflight: Option<(Arc<Guarded>, VhostUserInflight)>,
+    frontend: Option<UnixStream>,
 }
 
 impl Disk {
     fn new(image: File, rings: u16, signals: Arc<Signals>) -> Result<Disk> {
         let size = image.metadata().map_err(Error::ReqHandlerError)?.len() / SECTOR * SECTOR;
         let rings = (0..rings).map(|_| Ring::default()).collect();
-        let (regions, memory) = (Vec::new(), GuestMemoryMmap::default());
-        Ok(Disk { image, size, features: 0, regions, memory, rings, signals, channel: None })
+        let memory = Memory::default();
+        Ok(Disk { image, size, features: 0, memory, rings, signals, channel: None, inflight: None, frontend: None })
     }
 
     /// Tells the machine where the size of the file has changed.
@@ -236,9 +202,18 @@ impl Disk {
         self.rings.get_mut(index.into() as usize).ok_or(Error::InvalidParam)
     }
 
+    /// A ring's part of the inflight region, if it has one: the region may be of smaller rings.
+    fn inflight_of(&self, index: u8) -> Option<Inflight> {
+        let (region, about) = self.inflight.as_ref()?;
+        let size = self.rings.get(usize::from(index))?.size;
+        let has_part = u16::from(index) < about.num_queues && size <= about.queue_size;
+        let at = u64::from(index) * inflight::size_of(about.queue_size);
+        has_part.then(|| Inflight::new(region.clone(), at, size))
+    }
+
     /// The rings that run, and what kicks each.
     fn kicks(&self) -> Vec<(usize, RawFd)> {
-        let running = self.rings.iter().enumerate().filter(|(_, ring)| ring.is_enabled && ring.size != 0);
+        let running = self.rings.iter().enumerate().filter(|(_, ring)| ring.is_enabled && ring.is_started);
         running.filter_map(|(index, ring)| Some((index, ring.kick.as_ref()?.as_raw_fd()))).collect()
     }
 
@@ -251,23 +226,12 @@ impl Disk {
         space
     }
 
-    /// Has these regions from now on. Where two of them overlap nothing changes.
-    fn set_regions(&mut self, mut regions: Vec<Region>) -> Result<()> {
-        regions.sort_by_key(|region| region.about.guest_phys_addr);
-        let mapped: Vec<_> = regions.iter().map(|region| region.guarded.mapped().clone()).collect();
-        self.memory = match mapped.is_empty() {
-            true => GuestMemoryMmap::default(),
-            false => GuestMemoryMmap::from_arc_regions(mapped).map_err(|_| Error::InvalidParam)?,
-        };
-        self.regions = regions;
-        Ok(())
-    }
-
-    /// The guest's address of one of the frontend's.
-    fn guest_address(&self, user: u64) -> Result<u64> {
-        let holds = |it: &&Region| user >= it.about.user_addr && user - it.about.user_addr < it.about.memory_size;
-        let region = &self.regions.iter().find(holds).ok_or(Error::InvalidParam)?.about;
-        Ok(region.guest_phys_addr + (user - region.user_addr))
+    /// Serves what the disk before left behind of a ring, which nobody kicks for.
+    fn serve_left_behind(&mut self, index: usize) {
+        let ring = &self.rings[index];
+        if ring.is_enabled && ring.is_started && !ring.again.is_empty() {
+            self.serve_ring(index);
+        }
     }
 
     /// Serves what a ring has, and tells the guest. A malformed ring is served no longer.
@@ -283,52 +247,17 @@ impl Disk {
     }
 
     fn serve_available(&mut self, index: usize) -> Guest<()> {
-        let Ring { size, table, available, used, next: first, .. } = self.rings[index];
-        let place = |list: u64, at: u16, step: u64| GuestAddress(list.wrapping_add(4 + u64::from(at % size) * step));
+        let since = self.rings[index].given(&self.memory)?;
         loop {
-            let next = self.rings[index].next;
-            let end: u16 = self.memory.load(GuestAddress(available.wrapping_add(2)), Ordering::Acquire)?;
-            if end.wrapping_sub(next) > size {
-                return Err(Malformed);
+            while let Some(head) = self.rings[index].take(&self.memory)? {
+                let ring = &self.rings[index];
+                let written = ring.pieces(&self.memory, head).map_or(0, |pieces| self.serve_request(&pieces));
+                ring.give(&self.memory, head, written)?;
             }
-            if end == next {
-                break;
+            if !self.rings[index].await_kick(&self.memory)? {
+                return self.rings[index].call(&self.memory, &self.signals, since);
             }
-            let head: u16 = self.memory.read_obj(place(available, next, 2))?;
-            let written = self.pieces(table, size, head).map_or(0, |pieces| self.serve_request(&pieces));
-            self.memory.write_obj([u32::from(head), written], place(used, next, 8))?;
-            self.rings[index].next = next.wrapping_add(1);
-            self.memory.store(next.wrapping_add(1), GuestAddress(used.wrapping_add(2)), Ordering::Release)?;
         }
-        // (the guest's flag is read once it can see what was given back)
-        fence(Ordering::SeqCst);
-        let flags: u16 = self.memory.read_obj(GuestAddress(available))?;
-        match &self.rings[index].call {
-            Some(call) if first != self.rings[index].next && flags & 1 == 0 => call.signal(&self.signals),
-            _ => {}
-        }
-        Ok(())
-    }
-
-    /// The parts of a request: a chain of descriptors, as many as the ring has at most.
-    fn pieces(&self, table: u64, size: u16, head: u16) -> Guest<Vec<Piece>> {
-        let mut pieces = Vec::new();
-        let mut at = head;
-        for _ in 0..size {
-            if at >= size {
-                return Err(Malformed);
-            }
-            let place = table.wrapping_add(16 * u64::from(at));
-            let address: u64 = self.memory.read_obj(GuestAddress(place))?;
-            let length: u32 = self.memory.read_obj(GuestAddress(place.wrapping_add(8)))?;
-            let [flags, next]: [u16; 2] = self.memory.read_obj(GuestAddress(place.wrapping_add(12)))?;
-            pieces.push(Piece { at: address, size: length, is_writable: flags & 2 != 0 });
-            if flags & 1 == 0 {
-                return Ok(pieces);
-            }
-            at = next;
-        }
-        Err(Malformed)
     }
 
     /// Serves a request: how many bytes were written to guest memory.
@@ -344,7 +273,7 @@ impl Disk {
             Ok(None) => (0, 2),
             Err(Malformed) => (0, 1),
         };
-        match self.memory.write_obj(status, GuestAddress(last.at)) {
+        match self.memory.write_bytes(&[status], last.at) {
             Ok(()) => written.wrapping_add(1),
             Err(_) => 0,
         }
@@ -352,8 +281,8 @@ impl Disk {
 
     /// Moves the data: how many bytes to guest memory. None: there is no such request.
     fn transfer(&self, head: &Piece, data: &[Piece]) -> Guest<Option<u32>> {
-        let kind: u32 = self.memory.read_obj(GuestAddress(head.at))?;
-        let sector: u64 = self.memory.read_obj(GuestAddress(head.at.wrapping_add(8)))?;
+        let kind: u32 = self.memory.read(head.at)?;
+        let sector: u64 = self.memory.read(head.at.wrapping_add(8))?;
         let is_read = match kind {
             0 => true,
             1 => false,
@@ -364,7 +293,7 @@ impl Disk {
             8 => {
                 let piece = data.first().filter(|piece| piece.is_writable).ok_or(Malformed)?;
                 let size = min(piece.size as usize, NAME.len());
-                self.memory.write_slice(&NAME[..size], GuestAddress(piece.at))?;
+                self.memory.write_bytes(&NAME[..size], piece.at)?;
                 return Ok(Some(size as u32));
             }
             _ => return Ok(None),
@@ -388,12 +317,12 @@ impl Disk {
         let mut done = 0;
         while done < u64::from(piece.size) {
             let part = &mut bytes[..min(PART as u64, u64::from(piece.size) - done) as usize];
-            let at = GuestAddress(piece.at.checked_add(done).ok_or(Malformed)?);
+            let at = piece.at.checked_add(done).ok_or(Malformed)?;
             if piece.is_writable {
                 self.image.read_exact_at(part, place + done)?;
-                self.memory.write_slice(part, at)?;
+                self.memory.write_bytes(part, at)?;
             } else {
-                self.memory.read_slice(part, at)?;
+                self.memory.read_bytes(part, at)?;
                 // Zeros that stand for what is gone are not written.
                 if guard::has_lost() {
                     return Err(Malformed);
@@ -430,6 +359,8 @@ impl VhostUserBackendReqHandlerMut for Disk {
             return Err(Error::InvalidParam);
         }
         self.features = features;
+        self.memory.logs = features & VhostUserVirtioFeatures::LOG_ALL.bits() != 0;
+        self.rings.iter_mut().for_each(|ring| ring.features = features);
         // Without the protocol features there is no request that would enable a ring.
         if features & VhostUserVirtioFeatures::PROTOCOL_FEATURES.bits() == 0 {
             self.rings.iter_mut().for_each(|ring| ring.is_enabled = true);
@@ -441,7 +372,10 @@ impl VhostUserBackendReqHandlerMut for Disk {
         Ok(VhostUserProtocolFeatures::MQ
             | VhostUserProtocolFeatures::CONFIG
             | VhostUserProtocolFeatures::CONFIGURE_MEM_SLOTS
-            | VhostUserProtocolFeatures::BACKEND_REQ)
+            | VhostUserProtocolFeatures::BACKEND_REQ
+            | VhostUserProtocolFeatures::LOG_SHMFD
+            | VhostUserProtocolFeatures::INFLIGHT_SHMFD
+            | VhostUserProtocolFeatures::PAGEFAULT)
     }
 
     fn set_backend_req_fd(&mut self, backend: Backend) {
@@ -477,8 +411,10 @@ impl VhostUserBackendReqHandlerMut for Disk {
     ) -> Result<Option<Vec<VhostUserMemoryRegionBase>>> {
         files.iter().for_each(stop_lingering);
         let mapped: Result<Vec<Region>> = regions.iter().zip(files).map(|(region, file)| Region::map(*region, file)).collect();
-        self.set_regions(mapped?)?;
-        Ok(None)
+        let mapped = mapped?;
+        let bases = mapped.iter().map(Region::base).collect();
+        self.memory.set(mapped)?;
+        Ok(Some(bases))
     }
 
     fn get_max_mem_slots(&mut self) -> Result<u64> {
@@ -492,22 +428,24 @@ impl VhostUserBackendReqHandlerMut for Disk {
         _postcopy_listening: Option<bool>,
     ) -> Result<Option<VhostUserMemoryRegionBase>> {
         stop_lingering(&file);
-        if self.regions.len() as u64 >= MEMORY_SLOTS {
+        let regions = self.memory.regions();
+        if regions.len() as u64 >= MEMORY_SLOTS {
             return Err(Error::InvalidParam);
         }
         let added = Region::map(**region, file)?;
-        self.set_regions(self.regions.iter().cloned().chain([added]).collect())?;
-        Ok(None)
+        let base = added.base();
+        self.memory.set(regions.iter().cloned().chain([added]).collect())?;
+        Ok(Some(base))
     }
 
     fn remove_mem_region(&mut self, region: &VhostUserSingleMemoryRegion) -> Result<()> {
         let is_it = |it: &VhostUserMemoryRegion| {
             (it.guest_phys_addr, it.memory_size, it.user_addr) == (region.guest_phys_addr, region.memory_size, region.user_addr)
         };
-        let at = self.regions.iter().position(|it| is_it(&it.about)).ok_or(Error::InvalidParam)?;
-        let mut regions = self.regions.clone();
+        let mut regions = self.memory.regions().to_vec();
+        let at = regions.iter().position(|it| is_it(&it.about)).ok_or(Error::InvalidParam)?;
         regions.remove(at);
-        self.set_regions(regions)
+        self.memory.set(regions)
     }
 
     fn set_vring_num(&mut self, index: u32, num: u32) -> Result<()> {
@@ -521,16 +459,17 @@ impl VhostUserBackendReqHandlerMut for Disk {
     fn set_vring_addr(
         &mut self,
         index: u32,
-        _flags: VhostUserVringAddrFlags,
+        flags: VhostUserVringAddrFlags,
         descriptor: u64,
         used: u64,
         available: u64,
-        _log: u64,
+        log: u64,
     ) -> Result<()> {
-        let [table, used, available] =
-            [self.guest_address(descriptor)?, self.guest_address(used)?, self.guest_address(available)?];
+        let at = |user| self.memory.guest_address(user);
+        let [table, used, available] = [at(descriptor)?, at(used)?, at(available)?];
         let ring = self.ring(index)?;
         (ring.table, ring.used, ring.available) = (table, used, available);
+        ring.log = flags.contains(VhostUserVringAddrFlags::VHOST_VRING_F_LOG).then_some(log);
         Ok(())
     }
 
@@ -541,13 +480,23 @@ impl VhostUserBackendReqHandlerMut for Disk {
 
     fn get_vring_base(&mut self, index: u32) -> Result<VhostUserVringState> {
         let ring = self.ring(index)?;
-        ring.kick = None;
+        ring.stop();
         Ok(VhostUserVringState::new(index, ring.next.into()))
     }
 
     fn set_vring_kick(&mut self, index: u8, fd: Option<File>) -> Result<()> {
         let kick = fd.map(|file| Kick::new(file).ok_or(Error::InvalidParam)).transpose()?;
-        self.ring(index)?.kick = kick;
+        let inflight = self.inflight_of(index);
+        let ring = self.rings.get_mut(usize::from(index)).ok_or(Error::InvalidParam)?;
+        ring.kick = kick;
+        if !ring.is_started && ring.kick.is_some() && ring.size != 0 {
+            ring.inflight = inflight;
+            let again = ring.start(&self.memory).map_err(|Malformed| Error::InvalidParam)?;
+            if again != 0 {
+                eprintln!("blk: {again} requests of ring {index} are done again");
+                self.serve_left_behind(index.into());
+            }
+        }
         Ok(())
     }
 
@@ -564,6 +513,7 @@ impl VhostUserBackendReqHandlerMut for Disk {
 
     fn set_vring_enable(&mut self, index: u32, enable: bool) -> Result<()> {
         self.ring(index)?.is_enabled = enable;
+        self.serve_left_behind(index as usize);
         Ok(())
     }
 
@@ -571,17 +521,29 @@ impl VhostUserBackendReqHandlerMut for Disk {
         Err(NOT_OFFERED)
     }
 
-    fn get_shared_object(&mut self, _uuid: VhostUserSharedMsg) -> Result<File> {
-        Err(NOT_OFFERED)
+    fn get_inflight_fd(&mut self, inflight: &VhostUserInflight) -> Result<(VhostUserInflight, File)> {
+        let size = u64::from(inflight.num_queues) * inflight::size_of(inflight.queue_size);
+        let file = memory_file("inflight\0").map_err(|_| Error::MemFdCreateError)?;
+        file.set_len(size).map_err(|_| Error::FileTruncateError)?;
+        let made = VhostUserInflight::new(size, 0, inflight.num_queues, inflight.queue_size);
+        self.set_inflight_fd(&made, file.try_clone().map_err(Error::ReqHandlerError)?)?;
+        Ok((made, file))
     }
 
-    fn get_inflight_fd(&mut self, _inflight: &VhostUserInflight) -> Result<(VhostUserInflight, File)> {
-        Err(NOT_OFFERED)
-    }
-
-    fn set_inflight_fd(&mut self, _inflight: &VhostUserInflight, file: File) -> Result<()> {
+    /// Not while a ring runs: it writes to its part of the region that there is.
+    fn set_inflight_fd(&mut self, inflight: &VhostUserInflight, file: File) -> Result<()> {
         stop_lingering(&file);
-        Err(NOT_OFFERED)
+        let size = u64::from(inflight.num_queues) * inflight::size_of(inflight.queue_size);
+        let is_running = self.rings.iter().any(|ring| ring.is_started);
+        if is_running
+            || usize::from(inflight.num_queues) > self.rings.len()
+            || inflight.mmap_size < size
+            || inflight.mmap_offset % 64 != 0
+        {
+            return Err(Error::InvalidParam);
+        }
+        self.inflight = Some((memory::map(file, inflight.mmap_offset, size, 0)?, *inflight));
+        Ok(())
     }
 
     fn set_device_state_fd(
@@ -598,12 +560,26 @@ impl VhostUserBackendReqHandlerMut for Disk {
         Err(NOT_OFFERED)
     }
 
-    fn get_shmem_config(&mut self) -> Result<VhostUserShMemConfig> {
-        Err(NOT_OFFERED)
+    fn set_log_base(&mut self, log: &VhostUserLog, file: File) -> Result<()> {
+        stop_lingering(&file);
+        self.memory.set_log(file, log.mmap_offset, log.mmap_size)
     }
 
-    fn set_log_base(&mut self, _log: &VhostUserLog, file: File) -> Result<()> {
-        stop_lingering(&file);
-        Err(NOT_OFFERED)
+    fn postcopy_advice(&mut self) -> Result<File> {
+        let frontend = self.frontend.as_ref().ok_or(Error::Disconnected)?;
+        let frontend = frontend.try_clone().map_err(Error::ReqHandlerError)?;
+        self.memory.advise(frontend)
+    }
+
+    fn postcopy_listen(&mut self) -> Result<()> {
+        Ok(())
+    }
+
+    fn postcopy_ack_mem_regions(&mut self) -> Result<()> {
+        self.memory.watch()
+    }
+
+    fn postcopy_end(&mut self) -> Result<()> {
+        self.memory.arrived()
     }
 }

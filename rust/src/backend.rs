@@ -80,6 +80,12 @@ impl VhostUserMemoryRegionInfo {
         })
     }
 
+    /// A region of these fields, for tests: in the crate it has more of them where regions are Xen's.
+    #[cfg(feature = "test-utils")]
+    pub fn new(guest_phys_addr: u64, memory_size: u64, userspace_addr: u64, mmap_offset: u64, mmap_handle: RawFd) -> Self {
+        VhostUserMemoryRegionInfo { guest_phys_addr, memory_size, userspace_addr, mmap_offset, mmap_handle }
+    }
+
     /// The region without its descriptor.
     pub fn to_region(&self) -> VhostUserMemoryRegion {
         let VhostUserMemoryRegionInfo { guest_phys_addr, memory_size, userspace_addr, mmap_offset, .. } = *self;
@@ -120,14 +126,14 @@ macro_rules! backend {
 
         /// It panics where the lock is poisoned.
         impl<T: VhostBackendMut> VhostBackend for RwLock<T> {
-            $(fn $name(&self, $($arg: $ty),*) -> $out {
+            $($(#[$doc])* fn $name(&self, $($arg: $ty),*) -> $out {
                 self.write().unwrap().$name($($arg),*)
             })*
         }
 
         /// It panics where the value is borrowed.
         impl<T: VhostBackendMut> VhostBackend for RefCell<T> {
-            $(fn $name(&self, $($arg: $ty),*) -> $out {
+            $($(#[$doc])* fn $name(&self, $($arg: $ty),*) -> $out {
                 self.borrow_mut().$name($($arg),*)
             })*
         }
@@ -149,7 +155,12 @@ backend! {
 
     /// Tells the backend all regions of guest memory: 1 to 32, each with a size and a descriptor. Where the backend has mapped
     /// them, if it listens for page faults.
+    #[cfg(not(feature = "compat-0_17"))]
     fn set_mem_table(regions: &[VhostUserMemoryRegionInfo]) -> Result<Option<Vec<VhostUserMemoryRegionBase>>>;
+
+    /// Tells the backend all regions of guest memory: 1 to 32, each with a size and a descriptor.
+    #[cfg(feature = "compat-0_17")]
+    fn set_mem_table(regions: &[VhostUserMemoryRegionInfo]) -> Result<()>;
 
     /// Tells the backend where the dirty log is kept: at this address, or in this region where LOG_SHMFD was accepted. To a region
     /// a reply is awaited: some backends send none. Some send one of 8 bytes, which is refused under the profile `Vhost`.

@@ -9,10 +9,12 @@ use std::{error, fmt, io, result};
 mod backend;
 #[allow(unsafe_code)]
 mod foreign;
+mod iotlb;
 pub mod tap;
 pub mod vhost_user;
 
 pub use backend::*;
+pub use iotlb::*;
 
 /// Why a call of a [`VhostBackend`] failed. A [`Frontend`](vhost_user::Frontend) returns `VhostUserProtocol` alone, and
 /// [`from_guest_region`](VhostUserMemoryRegionInfo::from_guest_region) returns `InvalidGuestMemoryRegion`; the others are for

@@ -187,14 +187,35 @@ fn remove_mem_region() {
     acknowledged(38, body, 0, |it, files| it.remove_mem_region(&region(0x3000, &files[0])));
 }
 
+/// A call that turns both sides: it is acknowledged whatever the header flags, and under the crate's profile where they ask for it.
+fn turns(code: u32, call: fn(&mut Frontend) -> Result<()>) {
+    counted(|| {
+        let backend = move |peer: &Peer| {
+            for number in [0, 1] {
+                peer.hear(&message(code, WANTS, &[]));
+                peer.say_number(code, number);
+            }
+            peer.hear(&message(code, ASKS, &[]));
+            peer.still_serves(7);
+        };
+        negotiated(ALL, backend, |frontend| {
+            call(frontend).unwrap();
+            failed("BackendInternalError", call(frontend));
+            frontend.set_profile(Profile::Vhost);
+            call(frontend).unwrap();
+            assert_eq!(7, frontend.get_features().unwrap());
+        });
+    });
+}
+
 #[test]
 fn postcopy_listen() {
-    acknowledged(29, "", 0, |it, _| it.postcopy_listen());
+    turns(29, Frontend::postcopy_listen);
 }
 
 #[test]
 fn postcopy_end() {
-    acknowledged(30, "", 0, |it, _| it.postcopy_end());
+    turns(30, Frontend::postcopy_end);
 }
 
 /// Whether it is acknowledged is said by the features that it accepts itself; and under the standard profile, whether it asks for that.

@@ -43,7 +43,7 @@ fn identity_of(fd: &dyn AsRawFd) -> (u64, u64) {
 }
 
 fn part_of(it: &VhostUserMMap) -> String {
-    format!("{} {:#x} {:#x} {:#x} {}", it.shmid, it.fd_offset, it.shm_offset, it.len, it.flags)
+    format!("{} {:#x} {:#x} {:#x} {}", it.shmid, { it.fd_offset }, { it.shm_offset }, { it.len }, { it.flags })
 }
 
 impl VhostUserFrontendReqHandlerMut for Noting {

@@ -41,8 +41,15 @@ const HEAD: u64 = START + 0x3000;
 const STATUS: u64 = START + 0x3100;
 const DATA: u64 = START + 0x4000;
 
+/// PROTOCOL_FEATURES and VERSION_1; and what a driver may want beside them.
+const FEATURES: u64 = 1 << 30 | 1 << 32;
+const LOG_ALL: u64 = 1 << 26;
+const INDIRECT_DESC: u64 = 1 << 28;
+const EVENT_IDX: u64 = 1 << 29;
+
 const NEXT: u16 = 1;
 const WRITABLE: u16 = 2;
+const INDIRECT: u16 = 4;
 
 /// An eventfd that waits for nobody.
 fn event() -> File {
@@ -135,6 +142,8 @@ struct Guest {
     kick: File,
     call: File,
     next: u16,
+    /// Features of the driver beside the least.
+    features: u64,
 }
 
 impl Guest {
@@ -143,13 +152,17 @@ impl Guest {
     }
 
     fn of(disk: Rc<Disk>) -> Guest {
+        Guest::with(disk, 0)
+    }
+
+    fn with(disk: Rc<Disk>, features: u64) -> Guest {
         let file = memory_file();
         file.set_len(MEMORY).unwrap();
         let ranges = [(GuestAddress(START), MEMORY as usize, Some(FileOffset::new(file.try_clone().unwrap(), 0)))];
         let memory = GuestMemoryMmap::from_ranges_with_files(ranges).unwrap();
         let frontend = Frontend::connect(&disk.paths[0], 1).unwrap();
         frontend.set_timeout(Some(Duration::from_secs(20)));
-        let mut guest = Guest { disk, frontend, file, memory, kick: event(), call: event(), next: 0 };
+        let mut guest = Guest { disk, frontend, file, memory, kick: event(), call: event(), next: 0, features };
         guest.begin();
         guest
     }
@@ -158,10 +171,13 @@ impl Guest {
     fn begin(&mut self) {
         let it = &mut self.frontend;
         it.set_owner().unwrap();
-        let features = it.get_features().unwrap();
-        it.set_features(features).unwrap();
+        let wanted = FEATURES | self.features;
+        assert_eq!(wanted, wanted & it.get_features().unwrap());
+        it.set_features(wanted).unwrap();
         let offered = it.get_protocol_features().unwrap();
         let wanted = VhostUserProtocolFeatures::CONFIG
+            | VhostUserProtocolFeatures::LOG_SHMFD
+            | VhostUserProtocolFeatures::INFLIGHT_SHMFD
             | VhostUserProtocolFeatures::REPLY_ACK
             | VhostUserProtocolFeatures::BACKEND_REQ
             | VhostUserProtocolFeatures::CONFIGURE_MEM_SLOTS;
@@ -181,6 +197,8 @@ impl Guest {
             desc_table_addr: user(TABLE),
             used_ring_addr: user(USED),
             avail_ring_addr: user(AVAILABLE),
+            flags: u32::from(self.features & LOG_ALL != 0),
+            log_addr: Some(USED),
             ..Default::default()
         };
         let it = &mut self.frontend;
@@ -195,8 +213,13 @@ impl Guest {
 
     /// Writes descriptors from number 0 on: an address, a length, flags, and the next.
     fn describe(&self, descriptors: &[(u64, u32, u16, u16)]) {
+        self.describe_at(TABLE, descriptors);
+    }
+
+    /// The same in this table.
+    fn describe_at(&self, table: u64, descriptors: &[(u64, u32, u16, u16)]) {
         for (place, (at, length, flags, next)) in (0..).zip(descriptors) {
-            let place = TABLE + 16 * place;
+            let place = table + 16 * place;
             self.memory.write_obj(*at, GuestAddress(place)).unwrap();
             self.memory.write_obj(*length, GuestAddress(place + 8)).unwrap();
             self.memory.write_obj([*flags, *next], GuestAddress(place + 12)).unwrap();
@@ -409,6 +432,123 @@ fn regions_that_can_not_be() {
     });
 }
 
+/// A chain may end by a table of descriptors, if the driver accepted that; and that is no chain of tables.
+#[test]
+#[ignore = "needs COVRETIN_DISK"]
+fn tables_of_descriptors() {
+    const TABLE2: u64 = START + 0x5000;
+    counted(|| {
+        let mut guest = Guest::with(Disk::new("tables"), INDIRECT_DESC);
+        let mut ask = |chain: &[(u64, u32, u16, u16)]| {
+            guest.memory.write_obj([0u32, 0, 9, 0], GuestAddress(HEAD)).unwrap();
+            guest.memory.write_obj(0xaau8, GuestAddress(STATUS)).unwrap();
+            guest.describe(chain);
+            guest.describe_at(TABLE2, &[(HEAD, 16, NEXT, 1), (DATA, 512, NEXT | WRITABLE, 2), (STATUS, 1, WRITABLE, 0)]);
+            guest.offer(0);
+            let (_, written) = guest.given_back();
+            (guest.memory.read_obj::<u8>(GuestAddress(STATUS)).unwrap(), written)
+        };
+        assert_eq!((0, 513), ask(&[(TABLE2, 48, INDIRECT, 0)]));
+        for wrong in
+            [(TABLE2, 0, INDIRECT, 0), (TABLE2, 40, INDIRECT, 0), (TABLE2, 48, INDIRECT | NEXT, 1), (TABLE2, 16, INDIRECT, 0)]
+        {
+            assert_eq!((0xaa, 0), ask(&[wrong]), "{wrong:x?}");
+        }
+        guest.describe_at(DATA, &[(TABLE2, 48, INDIRECT, 0)]);
+        guest.describe(&[(DATA, 16, INDIRECT, 0)]);
+        guest.offer(0);
+        assert_eq!((0, 0), guest.given_back());
+        guest.still_serves();
+        let mut guest = Guest::new("no_tables");
+        guest.describe(&[(TABLE2, 48, INDIRECT, 0)]);
+        guest.offer(0);
+        assert_eq!((0, 0), guest.given_back());
+    });
+}
+
+/// A driver that says from which request on it wants to be called, and is told from which on it has to kick.
+#[test]
+#[ignore = "needs COVRETIN_DISK"]
+fn calls_that_are_wanted() {
+    let wanted_at = GuestAddress(AVAILABLE + 4 + 2 * u64::from(SIZE));
+    let kick_at = GuestAddress(USED + 4 + 8 * u64::from(SIZE));
+    counted(|| {
+        let mut guest = Guest::with(Disk::new("calls"), EVENT_IDX);
+        guest.still_serves();
+        guest.memory.write_obj(2u16, wanted_at).unwrap();
+        guest.post(0, 9, &[(DATA, 512, WRITABLE)]);
+        guest.used();
+        let disk = guest.disk.clone();
+        disk.wait_until("it says when to kick", || guest.memory.read_obj::<u16>(kick_at).unwrap() == 2);
+        // (it has given the second back, and waits for the third, which is the one that a call is wanted for)
+        assert_eq!(ErrorKind::WouldBlock, (&guest.call).read(&mut [0; 8]).unwrap_err().kind());
+        guest.still_serves();
+        assert_eq!(3, guest.memory.read_obj::<u16>(kick_at).unwrap());
+    });
+}
+
+/// The pages that are in the log are those that the disk wrote, and no others.
+#[test]
+#[ignore = "needs COVRETIN_DISK"]
+fn pages_that_were_written() {
+    counted(|| {
+        let mut guest = Guest::with(Disk::new("log"), LOG_ALL);
+        let log = memory_file();
+        log.set_len(0x1000).unwrap();
+        let region = covretin::VhostUserDirtyLogRegion { mmap_size: 0x1000, mmap_offset: 0, mmap_handle: log.as_raw_fd() };
+        guest.frontend.set_log_base(0, Some(region)).unwrap();
+        let logged = || {
+            let mut bits = [0; 0x1000];
+            std::os::unix::fs::FileExt::read_exact_at(&log, &mut bits, 0).unwrap();
+            std::os::unix::fs::FileExt::write_all_at(&log, &[0; 0x1000], 0).unwrap();
+            (0..0x8000u64)
+                .filter(|page| bits[*page as usize / 8] >> (page % 8) & 1 != 0)
+                .map(|page| page << 12)
+                .collect::<Vec<_>>()
+        };
+        // (a read over a border of pages)
+        assert_eq!((0, 1025), guest.ask(0, 9, &[(DATA + 0xe00, 1024, WRITABLE)]));
+        assert_eq!(vec![USED, HEAD, DATA, DATA + 0x1000], logged());
+        assert_eq!((0, 1), guest.ask(1, 20, &[(DATA, 512, 0)]));
+        assert_eq!(vec![USED, HEAD], logged());
+        // No more once the driver's features are without it.
+        guest.frontend.set_features(FEATURES).unwrap();
+        guest.still_serves();
+        assert_eq!(Vec::<u64>::new(), logged());
+    });
+}
+
+/// What the disk before took and did not give back is done again, without a kick; and noted when it is.
+#[test]
+#[ignore = "needs COVRETIN_DISK"]
+fn requests_that_were_left_behind() {
+    counted(|| {
+        let mut guest = Guest::new("left_behind");
+        guest.still_serves();
+        assert_eq!(1, guest.frontend.get_vring_base(0).unwrap());
+        let (about, file) = guest.frontend.get_inflight_fd(&VhostUserInflight::new(0, 0, 1, SIZE)).unwrap();
+        assert_eq!((192, 1, SIZE), (about.mmap_size, about.num_queues, about.queue_size));
+        let at = |offset: u64, bytes: &[u8]| std::os::unix::fs::FileExt::write_all_at(&file, bytes, offset).unwrap();
+        // Its head: version 1, as many descriptors, one given back; and of the first descriptor that it is in flight.
+        at(8, &[1, 0, SIZE as u8, 0, 0, 0, 1, 0]);
+        at(16, &[1]);
+        guest.post(0, 9, &[(DATA, 512, WRITABLE)]);
+        guest.frontend.set_inflight_fd(&about, file.as_raw_fd()).unwrap();
+        guest.start(1);
+        guest.next = 2;
+        assert_eq!((0, 513), guest.given_back());
+        let mut noted = [0; 32];
+        std::os::unix::fs::FileExt::read_exact_at(&file, &mut noted, 0).unwrap();
+        assert_eq!((2, 0), (noted[14], noted[16]));
+        guest.still_serves();
+        // Not while the ring runs, nor a region that is too small.
+        failed("BackendInternalError", guest.frontend.set_inflight_fd(&about, file.as_raw_fd()));
+        assert_eq!(3, guest.frontend.get_vring_base(0).unwrap());
+        let small = VhostUserInflight { mmap_size: 128, ..about };
+        failed("BackendInternalError", guest.frontend.set_inflight_fd(&small, file.as_raw_fd()));
+    });
+}
+
 /// The guest's machine is told by the backend channel, and reads the new size.
 #[test]
 #[ignore = "needs COVRETIN_DISK"]
@@ -438,8 +578,8 @@ fn attacked(name: &str, attack: impl Fn(&Rc<Disk>)) {
         let disk = Disk::new(name);
         let first = UnixStream::connect(&disk.paths[0]).unwrap();
         assert!(has_reply(&disk, &first));
-        // Of a machine it has the socket, and the image once more.
-        let before = disk.fds() - 2;
+        // Of a machine it has the socket twice, and the image once more.
+        let before = disk.fds() - 3;
         drop(first);
         attack(&disk);
         disk.wait_until("it has as many descriptors as before", || disk.fds() == before);

@@ -16,8 +16,8 @@ use vhost::vhost_user::gpu_message::*;
 use vhost::vhost_user::message::*;
 use vhost::vhost_user::{Error as ProtocolError, Frontend, Listener, Profile, VhostUserFrontend};
 use vhost::{
-    Error, Result, VhostBackend, VhostBackendMut, VhostUserDirtyLogRegion, VhostUserMemoryRegionBase, VhostUserMemoryRegionInfo,
-    VringConfigData,
+    Error, Result, VhostAccess, VhostBackend, VhostBackendMut, VhostIotlbBackend, VhostIotlbMsg, VhostIotlbMsgParser,
+    VhostIotlbType, VhostUserDirtyLogRegion, VhostUserMemoryRegionBase, VhostUserMemoryRegionInfo, VringConfigData,
 };
 
 fn path_of(name: &str) -> PathBuf {
@@ -171,12 +171,125 @@ fn regions_of_vm_memory() {
         let info = VhostUserMemoryRegionInfo::from_guest_region(region).unwrap();
         assert_eq!((0x1000, 0x2000, 0x1000, fd), (info.guest_phys_addr, info.memory_size, info.mmap_offset, info.mmap_handle));
         assert_eq!(memory.get_host_address(GuestAddress(0x1000)).unwrap() as u64, info.userspace_addr);
-        assert_eq!(info.userspace_addr, info.to_region().user_addr);
-        assert_eq!(0x1000, info.to_single_region().guest_phys_addr);
+        assert_eq!(info.userspace_addr, { info.to_region().user_addr });
+        assert_eq!(0x1000, { info.to_single_region().guest_phys_addr });
         let anonymous = GuestMemoryMmap::<()>::from_ranges(&[(GuestAddress(0), 0x1000)]).unwrap();
         let region = anonymous.find_region(GuestAddress(0)).unwrap();
         assert!(matches!(VhostUserMemoryRegionInfo::from_guest_region(region), Err(Error::InvalidGuestMemoryRegion)));
     });
+}
+
+#[cfg(feature = "vm-memory")]
+#[test]
+fn a_region_that_is_mapped() {
+    use vm_memory::VolatileMemory;
+    counted(|| {
+        let file = memory_file();
+        std::os::unix::fs::FileExt::write_all_at(&file, b"there", 0x1000).unwrap();
+        file.set_len(0x3000).unwrap();
+        let region = VhostUserMemoryRegion::new(0x5000, 0x2000, 0x9000, 0x1000);
+        let mapped = region.mmap_region::<()>(file.try_clone().unwrap()).unwrap();
+        assert_eq!(0x2000, mapped.size());
+        let mut read = [0; 5];
+        mapped.get_slice(0, 5).unwrap().copy_to(&mut read);
+        assert_eq!(b"there", &read);
+        let beyond = VhostUserMemoryRegion::new(0, 0x4000, 0, 0).mmap_region::<()>(file);
+        assert!(matches!(beyond, Err(ProtocolError::ReqHandlerError(_))));
+    });
+}
+
+/// The layout of records is the crate's, so that a program may read them where they lie.
+#[cfg(feature = "vm-memory")]
+#[test]
+fn records_are_bytes() {
+    use vm_memory::ByteValued;
+    let ring = VringConfigData { desc_table_addr: 0x10, used_ring_addr: 0x20, avail_ring_addr: 0x30, ..Default::default() };
+    let ring = VhostUserVringAddr::from_config_data(2, &ring);
+    assert_eq!(hex("02000000 00000000 1000000000000000 2000000000000000 3000000000000000 0000000000000000"), ring.as_slice());
+    assert!(ring.is_valid() && !VhostUserVringAddr { used: 2, ..ring }.is_valid());
+    let bytes = hex("ff 0100000000000000 0200000000000000 0300000000000000 0400000000000000");
+    let region = VhostUserMemoryRegion::from_slice(&bytes[1..]).unwrap();
+    assert_eq!(&VhostUserMemoryRegion::new(1, 2, 3, 4), region);
+    assert_eq!(40, VhostUserSingleMemoryRegion::default().as_slice().len());
+    assert_eq!(8 + 256 * 8, VhostUserShMemConfig::default().as_slice().len());
+    let state = VhostUserTransferDeviceState::new(VhostTransferStateDirection::LOAD, VhostTransferStatePhase::STOPPED);
+    assert_eq!(hex("01000000 00000000"), state.as_slice());
+    assert!(state.is_valid() && !VhostUserTransferDeviceState { direction: 2, phase: 0 }.is_valid());
+    assert!(VhostUserEmpty.is_valid() && VhostUserEmpty.as_slice().is_empty());
+}
+
+/// What lies in an inflight region, by the specification's sizes.
+#[test]
+fn records_of_the_inflight_region() {
+    use std::mem::size_of;
+    assert_eq!((16, 32), (size_of::<DescStateSplit>(), size_of::<DescStatePacked>()));
+    // (behind a head stands where its states begin, which has no place in the region)
+    assert_eq!((16 + 8, 29 + 8), (size_of::<QueueRegionSplit>(), size_of::<QueueRegionPacked>()));
+    let head = QueueRegionSplit::new(0, 128);
+    assert_eq!((1, 128, 0), ({ head.version }, { head.desc_num }, { head.used_idx }));
+    let head = QueueRegionPacked::new(0, 64);
+    assert_eq!((1, 64, 0), ({ head.version }, { head.desc_num }, { head.free_head }));
+    assert_eq!((0, 0), (DescStateSplit::new().inflight, { DescStatePacked::new().counter }));
+    let table: VhostUserMemoryPayload = vec![VhostUserMemoryRegion::default()];
+    assert!(VhostUserMemory::new(table.len() as u32).is_valid() && !VhostUserMemory::new(33).is_valid());
+}
+
+/// An IOTLB of a program's own.
+#[test]
+fn an_iotlb() {
+    struct Kept(std::cell::RefCell<Vec<VhostIotlbMsg>>);
+    impl VhostIotlbBackend for Kept {
+        fn send_iotlb_msg(&self, msg: &VhostIotlbMsg) -> Result<()> {
+            self.0.borrow_mut().push(*msg);
+            Ok(())
+        }
+    }
+    struct Kernels(u8);
+    impl VhostIotlbMsgParser for Kernels {
+        fn parse(&self, msg: &mut VhostIotlbMsg) -> Result<()> {
+            msg.msg_type = if self.0 == 1 { VhostIotlbType::Miss } else { return Err(Error::InvalidIotlbMsg) };
+            Ok(())
+        }
+    }
+    let mut message = VhostIotlbMsg { iova: 0x1000, size: 0x1000, perm: VhostAccess::ReadOnly, ..Default::default() };
+    assert_eq!((VhostIotlbType::Empty, VhostAccess::No), (message.msg_type, VhostAccess::default()));
+    assert!(matches!(Kernels(2).parse(&mut message), Err(Error::InvalidIotlbMsg)));
+    Kernels(1).parse(&mut message).unwrap();
+    let backend = Kept(Default::default());
+    backend.send_iotlb_msg(&message).unwrap();
+    assert_eq!(vec![VhostIotlbMsg { msg_type: VhostIotlbType::Miss, ..message }], backend.0.into_inner());
+}
+
+/// A listener that another program made.
+#[test]
+fn a_listener_of_a_number() {
+    use std::os::unix::io::{FromRawFd, IntoRawFd};
+    counted(|| {
+        let path = path_of("number");
+        let made = UnixListener::bind(&path).unwrap();
+        // SAFETY: it is given up.
+        let listener = unsafe { Listener::from_raw_fd(made.into_raw_fd()) };
+        let frontend = Frontend::connect(&path, 1).unwrap();
+        frontend.set_owner().unwrap();
+        Peer { socket: listener.accept().unwrap().unwrap() }.hear(&message(3, ASKS, &[]));
+        drop(listener);
+        // (it is who made the path that removes it)
+        std::fs::remove_file(&path).unwrap();
+    });
+}
+
+/// The calls of flags that bitflags 2 has.
+#[test]
+fn flags_by_their_names() {
+    let flags = VhostUserProtocolFeatures::MQ | VhostUserProtocolFeatures::CONFIG;
+    let named: Vec<_> = flags.iter_names().collect();
+    assert_eq!(vec![("MQ", VhostUserProtocolFeatures::MQ), ("CONFIG", VhostUserProtocolFeatures::CONFIG)], named);
+    let unnamed = VhostUserProtocolFeatures::from_bits_retain(1 << 63 | 1);
+    assert_eq!(vec![1, 1 << 63], unnamed.iter().map(|it| it.bits()).collect::<Vec<_>>());
+    // (a flag of two bits is there where both are, and then those alone are left out)
+    assert_eq!(vec![4, 8], VhostUserHeaderFlag::ALL_FLAGS.into_iter().map(|it| it.bits()).collect::<Vec<_>>());
+    assert_eq!(Some(VhostUserProtocolFeatures::SHMEM), VhostUserProtocolFeatures::from_name("SHMEM"));
+    assert_eq!(None, VhostUserProtocolFeatures::from_name("NONE"));
 }
 
 /// The texts of errors are the crate's.

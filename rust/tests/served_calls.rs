@@ -6,7 +6,6 @@ mod common;
 use std::fs::File;
 use std::os::unix::io::AsRawFd;
 use std::os::unix::net::UnixStream;
-use std::time::Duration;
 
 use common::device::*;
 use common::*;
@@ -55,18 +54,17 @@ fn replied<T>(device: &Shared, call: impl FnOnce(&mut Frontend) -> Result<T>) ->
     result.unwrap()
 }
 
-/// A call whose refusal has no reply: the handler's error is the device's, and the frontend waits.
-fn unreplied<T>(call: impl FnOnce(&mut Frontend) -> Result<T>) {
+/// A call that no reply refuses: the handler's error is the device's, and the frontend is hung up on.
+fn hung_up_on<T>(call: impl FnOnce(&mut Frontend) -> Result<T>) {
     counted(|| {
         let device = Shared::default();
         seen(&device).gives = Some(memory_file());
         let errors = served(&device, |frontend| {
             agree(&device, frontend);
-            frontend.set_timeout(Some(Duration::from_millis(100)));
             seen(&device).refuses = true;
-            failed("SocketBroken(110)", call(frontend));
+            failed("PartialMessage", call(frontend));
         });
-        assert_eq!(["MemFdSealError"], *errors);
+        assert_eq!(["MemFdSealError", "SocketBroken(71)"], *errors);
     });
 }
 
@@ -292,11 +290,11 @@ fn numbers() {
 
 #[test]
 fn numbers_that_the_device_refuses() {
-    unreplied(|it| it.get_features());
-    unreplied(|it| it.get_protocol_features());
-    unreplied(|it| it.get_queue_num());
-    unreplied(|it| it.get_max_mem_slots());
-    unreplied(|it| it.get_vring_base(0));
+    hung_up_on(|it| it.get_features());
+    hung_up_on(|it| it.get_protocol_features());
+    hung_up_on(|it| it.get_queue_num());
+    hung_up_on(|it| it.get_max_mem_slots());
+    hung_up_on(|it| it.get_vring_base(0));
 }
 
 #[test]
@@ -353,7 +351,9 @@ fn get_shared_object_that_the_device_refuses() {
         let errors = served(&device, |frontend| {
             agree(&device, frontend);
             seen(&device).refuses = true;
-            failed("InvalidMessage", frontend.get_shared_object(&object()));
+            for _ in 0..2 {
+                failed("BackendInternalError", frontend.get_shared_object(&object()));
+            }
         });
         assert_eq!([""; 0], *errors);
     });
@@ -367,7 +367,21 @@ fn get_inflight_fd() {
         assert_eq!((VhostUserInflight::new(0x1000, 0x2000, 4, 128), about), (inflight, identity(&file)));
         assert_eq!(["get_inflight_fd 4 128"], *seen(&device).asked);
     });
-    unreplied(|it| it.get_inflight_fd(&VhostUserInflight::new(0, 0, 4, 128)));
+}
+
+#[test]
+fn get_inflight_fd_that_the_device_refuses() {
+    counted(|| {
+        let (device, _) = giving();
+        let errors = served(&device, |frontend| {
+            agree(&device, frontend);
+            seen(&device).refuses = true;
+            for _ in 0..2 {
+                failed("BackendInternalError", frontend.get_inflight_fd(&VhostUserInflight::new(0, 0, 4, 128)));
+            }
+        });
+        assert_eq!(["MemFdSealError"; 2], *errors);
+    });
 }
 
 #[test]
@@ -377,7 +391,7 @@ fn get_shmem_config() {
         let config = replied(&device, |it| it.get_shmem_config()).unwrap();
         assert_eq!(VhostUserShMemConfig::new(2, &[0x1000, 0, 0x3000]), config);
     });
-    unreplied(|it| it.get_shmem_config());
+    hung_up_on(|it| it.get_shmem_config());
 }
 
 #[test]
@@ -508,11 +522,10 @@ fn bases_that_are_missing() {
             }
             peer.hear(&message(28, REPLIES, &[]));
             seen(&device).bases = bases.clone();
-            for flags in [ASKS, WANTS] {
-                peer.say(&message(code, flags, body), &[&memory_file()]);
-                assert_eq!("BackendInternalError", name(&handler.handle_request().unwrap_err()));
-            }
-            peer.hear(&message(code, REPLIES, &1u64.to_le_bytes()));
+            peer.say(&message(code, WANTS, body), &[&memory_file()]);
+            assert_eq!("BackendInternalError", name(&handler.handle_request().unwrap_err()));
+            assert!(peer.is_hung_up());
+            assert_eq!("SocketBroken(71)", name(&handler.handle_request().unwrap_err()));
             seen(&device).files.clear();
         });
     }

@@ -15,8 +15,9 @@ use covretin::vhost_user::{Error, Profile, Result};
 
 const NOT_NOW: &str = "InvalidOperation(\"the request is not served, or not in this state of postcopy\")";
 
-/// The requests of the specification that this library does not serve.
+/// The requests of the specification that this library does not serve; and those of them that have a reply of their own.
 const UNSERVED: [u32; 9] = [7, 19, 22, 23, 26, 27, 35, 39, 40];
+const UNSERVED_AWAITED: [u32; 2] = [26, 40];
 
 /// Regions as SET_MEM_TABLE has them: so many, each of a size.
 fn table(count: u32, sizes: &[u64]) -> Vec<u8> {
@@ -74,15 +75,42 @@ fn unasked(features: u64, request: &[u8], files: &[File]) -> (Result<()>, Vec<u8
     (result, reply)
 }
 
-/// That this request is refused so, without a reply.
+/// The reply by which a request is refused that has one for it; nothing of any other, which wants no acknowledgement.
+fn refusal_of(request: &[u8]) -> Vec<u8> {
+    let (code, body) = (u32::from(request[0]), &request[12..]);
+    let refusal = match code {
+        24 if body.len() >= 12 => [&body[..4], &[0; 4], &body[8..12]].concat(),
+        24 => vec![0; 12],
+        31 if body.len() >= 24 => [&[0; 8], &body[8..20], &[0; 4]].concat(),
+        31 => vec![0; 24],
+        28 | 41 => vec![],
+        30 => 1u64.to_le_bytes().to_vec(),
+        42 => 0x101u64.to_le_bytes().to_vec(),
+        _ => return vec![],
+    };
+    message(code, REPLIES, &refusal)
+}
+
+/// That this request is refused so: by its own reply, where that has a form for it.
 #[track_caller]
 fn refused(wanted: &str, features: u64, request: &[u8], files: &[File]) {
+    assert_eq!(refusal_of(request), refused_somehow(wanted, features, request, files));
+}
+
+/// The same of one that is no request, so that nothing is replied.
+#[track_caller]
+fn refused_unread(wanted: &str, features: u64, request: &[u8], files: &[File]) {
+    assert_eq!([0; 0], *refused_somehow(wanted, features, request, files));
+}
+
+#[track_caller]
+fn refused_somehow(wanted: &str, features: u64, request: &[u8], files: &[File]) -> Vec<u8> {
     let (result, reply) = unasked(features, request, files);
     match result {
         Ok(()) => panic!("wanted {wanted}, and it was served: {request:02x?}"),
         Err(error) => assert_eq!(wanted, name(&error), "{request:02x?} with {} descriptors", files.len()),
     }
-    assert!(reply.is_empty(), "{reply:02x?}");
+    reply
 }
 
 /// The same of one that wanted to be acknowledged: it was, by 1.
@@ -124,7 +152,7 @@ fn requests_that_nobody_serves() {
         let device = Shared::default();
         let (mut handler, peer) = handled(&device);
         agree_by_hand(&device, &mut handler, &peer, ALL);
-        for code in UNSERVED {
+        for code in UNSERVED.into_iter().filter(|code| !UNSERVED_AWAITED.contains(code)) {
             for flags in [ASKS, WANTS] {
                 peer.say(&message(code, flags, &[0; 8]), &[]);
                 assert_eq!(NOT_NOW, name(&handler.handle_request().unwrap_err()), "{code}");
@@ -140,6 +168,36 @@ fn requests_that_nobody_serves() {
     });
 }
 
+/// Where a frontend waits and no reply refuses its request, it is hung up on at once, and each later call says so. What it sent before is
+/// replied to.
+#[test]
+fn who_would_wait_in_vain_is_hung_up_on() {
+    counted(|| {
+        let unserved = UNSERVED_AWAITED.map(|code| (code, vec![0; 8], NOT_NOW));
+        let others = [
+            (17, vec![], "InactiveOperation(0x1)"),
+            (11, vec![0; 4], "InvalidMessage"),
+            (6, vec![1; 16], "IncorrectFds"),
+            (29, vec![], NOT_NOW),
+        ];
+        for (code, body, wanted) in unserved.into_iter().chain(others) {
+            let device = Shared::default();
+            let (mut handler, peer) = handled(&device);
+            agree_by_hand(&device, &mut handler, &peer, ALL & !1);
+            peer.say(&message(1, ASKS, &[]), &[]);
+            peer.say(&message(code, ASKS, &body), &[]);
+            handler.handle_request().unwrap();
+            assert_eq!(wanted, name(&handler.handle_request().unwrap_err()), "{code}");
+            peer.hear(&message(1, REPLIES, &PROTOCOL.to_le_bytes()));
+            assert!(peer.is_hung_up(), "{code}");
+            for _ in 0..2 {
+                assert_eq!("SocketBroken(71)", name(&handler.handle_request().unwrap_err()));
+            }
+            assert_eq!(["get_features"], *seen(&device).asked);
+        }
+    });
+}
+
 /// Which request was refused is told: of one that nobody serves, of one that lacks a feature, of no request's number, and of one that
 /// came in part.
 #[test]
@@ -148,14 +206,14 @@ fn which_request_was_refused() {
         let device = Shared::default();
         let (mut handler, peer) = handled(&device);
         assert_eq!(None, handler.last_request());
-        agree_by_hand(&device, &mut handler, &peer, ALL & !1);
+        agree_by_hand(&device, &mut handler, &peer, ALL & !0x200);
         assert_eq!(Some(16), handler.last_request());
         peer.say(&message(39, ASKS, &[0; 8]), &[]);
         assert_eq!(NOT_NOW, name(&handler.handle_request().unwrap_err()));
         assert_eq!(Some(Ok(FrontendReq::SET_STATUS)), handler.last_request().map(FrontendReq::try_from));
-        peer.say(&message(17, ASKS, &[]), &[]);
-        assert_eq!("InactiveOperation(0x1)", name(&handler.handle_request().unwrap_err()));
-        assert_eq!(Some(17), handler.last_request());
+        peer.say(&message(25, ASKS, &[]), &[]);
+        assert_eq!("InactiveOperation(0x200)", name(&handler.handle_request().unwrap_err()));
+        assert_eq!(Some(25), handler.last_request());
         peer.say(&message(45, WANTS, &[0; 8]), &[]);
         assert_eq!("InvalidMessage", name(&handler.handle_request().unwrap_err()));
         assert_eq!(Some(45), handler.last_request());
@@ -244,9 +302,7 @@ fn sizes_that_are_not_the_requests() {
                 _ => vec![size + 1, size + 8, size.wrapping_sub(1)],
             };
             for size in sizes.into_iter().filter(|size| *size <= 4096) {
-                let (result, reply) = unasked(ALL, &message(code, ASKS, &vec![1; size]), &some_files(count));
-                assert_eq!("InvalidMessage", name(&result.unwrap_err()), "{size} bytes to {code}");
-                assert!(reply.is_empty());
+                refused("InvalidMessage", ALL, &message(code, ASKS, &vec![1; size]), &some_files(count));
             }
         }
     });
@@ -258,7 +314,7 @@ fn descriptors_where_none_belong() {
     counted(|| {
         for (code, size, count) in shapes() {
             if count == 0 && code != 38 {
-                refused("InvalidMessage", ALL, &message(code, ASKS, &vec![0; size]), &some_files(1));
+                refused_unread("InvalidMessage", ALL, &message(code, ASKS, &vec![0; size]), &some_files(1));
             }
         }
         let device = Shared::default();
@@ -403,14 +459,16 @@ fn postcopy_in_another_state() {
         for (code, wanted) in
             [(29, wrong), (30, wrong), (28, ""), (28, wrong), (30, wrong), (29, ""), (28, wrong), (30, ""), (30, wrong)]
         {
-            peer.say(&message(code, ASKS, &[]), &[]);
+            peer.say(&message(code, WANTS, &[]), &[]);
             match handler.handle_request() {
                 Ok(()) => assert_eq!(wanted, "", "{code}"),
                 Err(error) => assert_eq!(wanted, name(&error), "{code}"),
             }
+            let reply = if code == 28 { vec![] } else { u64::from(wanted == wrong).to_le_bytes().to_vec() };
+            let files = peer.hear(&message(code, REPLIES, &reply));
+            assert_eq!(usize::from(code == 28 && wanted != wrong), files.len());
         }
         assert_eq!(["postcopy_advice", "postcopy_listen", "postcopy_end"], *seen(&device).asked);
-        assert_eq!(1, peer.hear(&message(28, REPLIES, &[])).len());
     });
 }
 
@@ -445,7 +503,7 @@ fn an_end_at_each_byte() {
         let request = message(12, ASKS, &[0; 8]);
         for at in 1..request.len() {
             let wanted = if at < 12 { "PartialMessage" } else { "InvalidMessage" };
-            refused(wanted, ALL, &request[..at], &some_files(1));
+            refused_unread(wanted, ALL, &request[..at], &some_files(1));
         }
         let device = Shared::default();
         let (mut handler, peer) = handled(&device);

@@ -95,9 +95,6 @@ impl VhostUserBackendReqHandlerMut for Mine {
     fn set_gpu_socket(&mut self, _gpu_backend: GpuBackend) -> Result<()> {
         Ok(())
     }
-    fn get_shared_object(&mut self, _uuid: VhostUserSharedMsg) -> Result<File> {
-        Err(Error::InvalidParam)
-    }
     fn get_inflight_fd(&mut self, _inflight: &VhostUserInflight) -> Result<(VhostUserInflight, File)> {
         Err(Error::MemFdCreateError)
     }
@@ -128,9 +125,6 @@ impl VhostUserBackendReqHandlerMut for Mine {
     }
     fn check_device_state(&mut self) -> Result<()> {
         Ok(())
-    }
-    fn get_shmem_config(&mut self) -> Result<VhostUserShMemConfig> {
-        Ok(VhostUserShMemConfig::default())
     }
     fn set_log_base(&mut self, _log: &VhostUserLog, _file: File) -> Result<()> {
         Ok(())
@@ -220,6 +214,8 @@ fn calls_that_have_a_body() {
         assert_eq!(0, io::Read::read(&mut &other, &mut [0]).unwrap());
         assert!(matches!(device.set_mtu(1500), Err(Error::InvalidOperation(_))));
         assert!(matches!(device.postcopy_advice(), Err(Error::InvalidOperation(_))));
+        assert!(matches!(device.get_shared_object(VhostUserSharedMsg::default()), Err(Error::InvalidOperation(_))));
+        assert_eq!(VhostUserShMemConfig::default(), device.get_shmem_config().unwrap());
         for refused in [device.postcopy_listen(), device.postcopy_end(), device.postcopy_ack_mem_regions()] {
             assert!(matches!(refused, Err(Error::InvalidOperation(_))));
         }

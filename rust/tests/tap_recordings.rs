@@ -177,8 +177,8 @@ fn wrong_behind(profile: &str, features: u64, session: &[Said]) -> Vec<String> {
 #[test]
 fn requests_that_are_refused() {
     let ring = [0; 8];
-    let rows: [(&str, Said); 12] = [
-        ("GET_QUEUE_NUM is refused: MQ was not accepted; nothing is replied, though the frontend waits for it", asks(17, &[])),
+    let rows: [(&str, Said); 13] = [
+        ("GET_QUEUE_NUM is refused: MQ was not accepted; no reply says so, so the session ends; nothing behind it is judged", asks(17, &[])),
         (
             "SET_VRING_NUM is refused: it is malformed: it wants 8 bytes and no descriptor, and came with 7 bytes and 0 descriptors; \
              nothing is replied, so the frontend cannot know",
@@ -215,7 +215,8 @@ fn requests_that_are_refused() {
              nothing is replied, so the frontend cannot know",
             asks(5, &ring),
         ),
-        ("POSTCOPY_LISTEN is refused: PAGEFAULT was not accepted; nothing is replied, so the frontend cannot know", asks(29, &[])),
+        ("RESET_DEVICE is refused: RESET_DEVICE was not accepted; nothing is replied, so the frontend cannot know", asks(34, &[])),
+        ("POSTCOPY_LISTEN is refused: PAGEFAULT was not accepted; no reply says so, so the session ends; nothing behind it is judged", asks(29, &[])),
     ];
     for (wanted, request) in rows {
         // (the refused request leaves nothing behind)
@@ -361,7 +362,18 @@ fn many_requests_behind_one() {
 #[test]
 fn a_refused_request_that_is_replied_to() {
     let session = [asks(17, &[]), replies(17, &number(1)), asks(1, &[]), replies(1, &number(PROTOCOL))];
+    assert_eq!(1, wrong_behind(VHOST, 8, &session).len());
     assert_eq!(1, wrong_behind(STANDARD, 8, &session).len());
+}
+
+/// What a backend refuses by the reply of its request is no fault of it.
+#[test]
+fn a_reply_that_refuses() {
+    let inflight = hex("0000000000000000 0000000000000000 0100 0001 00000000");
+    let session = [asks(31, &inflight), replies(31, &inflight), asks(41, &[1; 16]), replies(41, &[]), asks(3, &[])];
+    assert_eq!(Vec::<String>::new(), wrong_behind(STANDARD, ALL, &session));
+    let refused = "GET_INFLIGHT_FD is refused: INFLIGHT_SHMFD was not accepted; its reply says so";
+    assert_eq!([refused], wrong_behind(STANDARD, 8, &session[..2]).as_slice());
 }
 
 /// The messages of a recording.

@@ -30,8 +30,9 @@ struct Script {
     is_scripted: bool,
 }
 
-/// Requests that nobody serves, of which a tap has no part, by their codes: IOTLB_MSG, VRING_KICK, SET_STATUS.
-const UNSERVED: [u8; 3] = [22, 35, 39];
+/// Requests that nobody serves, of which a tap has no part, by their codes: SET_LOG_FD, SEND_RARP, IOTLB_MSG, SET_VRING_ENDIAN,
+/// VRING_KICK, SET_STATUS.
+const UNSERVED: [u8; 6] = [7, 19, 22, 23, 35, 39];
 
 impl Script {
     fn read(&mut self, word: &str, rest: &str) {
@@ -106,7 +107,7 @@ impl Script {
         let mut refused = BTreeSet::new();
         for line in wrong_lines(&profile, &self.messages) {
             // (a device that fails to give a value has no reply)
-            if line.contains(" B>F end ! ") {
+            if line.contains(" B>F end ! ") || line.ends_with(" was not replied to, and later requests go on") {
                 continue;
             }
             let (seconds, rest) = line.split_once(' ').unwrap();

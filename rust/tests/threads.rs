@@ -2,10 +2,14 @@
 //! Threads that share a frontend, by clones of it.
 mod common;
 
+use std::io::Read;
+use std::net::Shutdown;
+use std::sync::mpsc;
 use std::thread;
 
 use common::*;
-use covretin::VhostBackend;
+use covretin::vhost_user::{Error as ProtocolError, Frontend};
+use covretin::{Error, VhostBackend};
 
 fn is_shared<T: Send + Sync + Clone + 'static>(_: &T) {}
 
@@ -57,4 +61,34 @@ fn two_threads_with_descriptors() {
             });
         });
     });
+}
+
+/// A call that waits for its reply, and ends by this of another thread; so does each later one, and the backend sees the end.
+fn ended_by(end: impl FnOnce(&Frontend)) {
+    counted(|| {
+        let (tell, heard) = mpsc::channel();
+        let backend = move |peer: &Peer| {
+            peer.hear(&message(1, ASKS, &[]));
+            tell.send(()).unwrap();
+            assert_eq!(0, (&peer.socket).read(&mut [0]).unwrap());
+        };
+        played(backend, |frontend| {
+            let waiting = frontend.clone();
+            let call = thread::spawn(move || waiting.get_features());
+            heard.recv().unwrap();
+            end(frontend);
+            assert!(matches!(call.join().unwrap(), Err(Error::VhostUserProtocol(ProtocolError::PartialMessage))));
+            assert!(matches!(frontend.set_owner(), Err(Error::VhostUserProtocol(ProtocolError::SocketBroken(_)))));
+        });
+    });
+}
+
+#[test]
+fn a_call_that_another_thread_shuts_down() {
+    ended_by(Frontend::shutdown);
+}
+
+#[test]
+fn a_call_whose_socket_is_shut_down() {
+    ended_by(|frontend| frontend.try_clone_connection().unwrap().shutdown(Shutdown::Both).unwrap());
 }

@@ -260,12 +260,14 @@ fn postcopy_is_where_it_was() {
         fails_behind(0, libc::ENOBUFS);
         fails_by(("SocketRetry", libc::ENOBUFS), frontend.postcopy_listen());
         assert_eq!(None, table(&mut frontend).unwrap());
+        peer.say_number(29, 0);
         frontend.postcopy_listen().unwrap();
         fails_behind(0, libc::ENOBUFS);
         fails_by(("SocketRetry", libc::ENOBUFS), frontend.postcopy_end());
         let body: Vec<u8> = [1u64, 0, 0x1000, 9, 0].iter().flat_map(|it| it.to_le_bytes()).collect();
         peer.say(&message(5, REPLIES, &body), &[]);
         assert_eq!(Some(vec![9]), table(&mut frontend).unwrap());
+        peer.say_number(30, 0);
         frontend.postcopy_end().unwrap();
         assert_eq!(None, table(&mut frontend).unwrap());
     });

@@ -25,6 +25,18 @@ pub fn poll(fds: &[RawFd], events: libc::c_short, limit: libc::c_int) -> io::Res
     Ok(polled.iter().map(|it| it.revents).collect())
 }
 
+/// A file in memory, without a name: what it is called ends by a zero.
+pub fn memory_file(called: &str) -> io::Result<File> {
+    let called = CStr::from_bytes_with_nul(called.as_bytes()).map_err(|_| io::ErrorKind::InvalidInput)?;
+    // SAFETY: it is a string of C; what is made belongs to nobody else.
+    unsafe {
+        match libc::memfd_create(called.as_ptr(), libc::MFD_CLOEXEC) {
+            -1 => Err(io::Error::last_os_error()),
+            fd => Ok(File::from_raw_fd(fd)),
+        }
+    }
+}
+
 /// Whether the other end of a socket is closed, though there may still be something to read.
 pub fn is_hung_up(socket: RawFd) -> io::Result<bool> {
     Ok(poll(&[socket], 0, 0)?[0] != 0)
@@ -136,14 +148,7 @@ pub struct Signals {
 
 impl Signals {
     pub fn new() -> io::Result<Signals> {
-        let name = CStr::from_bytes_with_nul(b"empty\0").map_err(|_| io::ErrorKind::InvalidInput)?;
-        // SAFETY: the name is a string of C; what is made belongs to nobody else.
-        let empty = unsafe {
-            match libc::memfd_create(name.as_ptr(), libc::MFD_CLOEXEC) {
-                -1 => return Err(io::Error::last_os_error()),
-                fd => File::from_raw_fd(fd),
-            }
-        };
+        let empty = memory_file("empty\0")?;
         let mut requests: libc::c_ulong = 0;
         // SAFETY: it writes one number, the one that it is lent.
         match unsafe { libc::syscall(libc::SYS_io_setup, 1 as libc::c_uint, addr_of_mut!(requests)) } {

@@ -4,13 +4,18 @@
 //! under way goes on over these, as over whatever a guest writes, and then the session is to be ended.
 //!
 //! It holds for any number of threads. Where there are several sessions, a place would say whose it is, too.
+use std::fs::File;
 use std::io;
 use std::mem::zeroed;
+use std::os::unix::io::AsRawFd;
 use std::ptr::null_mut;
 use std::sync::atomic::{AtomicBool, AtomicUsize, Ordering};
 use std::sync::{Arc, Mutex, PoisonError};
 
 use vm_memory::{GuestMemoryRegion, GuestRegionMmap, MemoryRegionAddress};
+
+use super::descriptors::memory_file;
+use super::postcopy::{control, WAKE};
 
 const MOST: usize = 128;
 
@@ -24,6 +29,8 @@ struct Place {
 const NONE: Place = Place { at: AtomicUsize::new(0), size: AtomicUsize::new(0) };
 static PLACES: [Place; MOST] = [NONE; MOST];
 static HAS_LOST: AtomicBool = AtomicBool::new(false);
+/// Who adds or removes a mapping, so that one that is there stays meanwhile.
+static CHANGING: Mutex<()> = Mutex::new(());
 
 /// From now on SIGBUS is taken.
 pub fn begin() -> io::Result<()> {
@@ -83,9 +90,8 @@ pub struct Guarded {
 impl Guarded {
     /// None: there are too many.
     pub fn new(mapped: GuestRegionMmap) -> Option<Guarded> {
-        static ADDING: Mutex<()> = Mutex::new(());
         let at = mapped.get_host_address(MemoryRegionAddress(0)).ok()?;
-        let _alone = ADDING.lock().unwrap_or_else(PoisonError::into_inner);
+        let _alone = CHANGING.lock().unwrap_or_else(PoisonError::into_inner);
         let place = PLACES.iter().find(|place| place.at.load(Ordering::Relaxed) == 0)?;
         place.size.store(mapped.len() as usize, Ordering::Relaxed);
         place.at.store(at as usize, Ordering::Release);
@@ -99,7 +105,29 @@ impl Guarded {
 
 impl Drop for Guarded {
     fn drop(&mut self) {
+        let _alone = CHANGING.lock().unwrap_or_else(PoisonError::into_inner);
         self.place.at.store(0, Ordering::Release);
+    }
+}
+
+/// Takes all mappings away, and wakes who waits for a page of one. In the place of each is a file without pages, as if the frontend had shortened
+/// its own.
+pub fn lose_all(userfault: &File) {
+    let empty = match memory_file("gone\0") {
+        Ok(empty) => empty,
+        Err(_) => return,
+    };
+    HAS_LOST.store(true, Ordering::SeqCst);
+    let _alone = CHANGING.lock().unwrap_or_else(PoisonError::into_inner);
+    for place in &PLACES {
+        let (at, size) = (place.at.load(Ordering::Acquire), place.size.load(Ordering::Relaxed));
+        if at == 0 {
+            continue;
+        }
+        let flags = libc::MAP_SHARED | libc::MAP_NORESERVE | libc::MAP_FIXED;
+        // SAFETY: as above; a fault there is taken above, too.
+        unsafe { libc::mmap(at as *mut libc::c_void, size, libc::PROT_READ | libc::PROT_WRITE, flags, empty.as_raw_fd(), 0) };
+        let _ = control(userfault, WAKE, [at as u64, size as u64]);
     }
 }
 

@@ -44,6 +44,7 @@ values! {
 extern "C" {
     fn covretin_backend_open(backend: &mut Raw) -> u32;
     fn covretin_backend_inactive(backend: &mut Raw) -> u64;
+    fn covretin_backend_ended(backend: &mut Raw) -> u32;
     fn covretin_call_regions(backend: &mut Raw, regions: *mut Region, len: usize, count: &mut usize, listening: &mut bool)
         -> u32;
     fn covretin_call_config(backend: &mut Raw, config: &mut Config, bytes: *mut u8, len: usize, count: &mut usize) -> u32;
@@ -115,5 +116,10 @@ impl Serves for BackendSession {
     fn inactive(&mut self) -> u64 {
         // SAFETY: as above.
         unsafe { covretin_backend_inactive(&mut self.0) }
+    }
+
+    fn ended(&mut self) -> bool {
+        // SAFETY: as above.
+        unsafe { covretin_backend_ended(&mut self.0) != 0 }
     }
 }

@@ -1,7 +1,8 @@
 // SPDX-License-Identifier: Apache-2.0
 //! Closes what a peer sent without waiting for it. The system may wait all the same: where a file system does at each close of a
-//! file, as FUSE can; where the process may open no more descriptors, so that the system itself closes what comes; and where a
-//! process that shares a socket makes it linger again, and lets go of it, at just that time.
+//! file, as FUSE can; where the process may open no more descriptors, so that the system itself closes what comes; where a process that
+//! shares a socket makes it linger again, and lets go of it, at just that time; and where this process has a filter of system calls of its
+//! own, since one that does not know of `setsockopt` would end it.
 use std::fs::File;
 use std::mem::ManuallyDrop;
 use std::net::Shutdown;
@@ -10,7 +11,7 @@ use std::os::unix::io::{AsFd, AsRawFd, BorrowedFd, FromRawFd, OwnedFd, RawFd};
 use std::os::unix::net::UnixStream;
 use std::slice::from_raw_parts;
 
-use super::socket::{peek, set_option, Received};
+use super::socket::{lingers, peek, set_option, Received};
 
 /// A descriptor that a peer sent. Nobody here chose what it is of, so it is closed as `drop` says, until it becomes a `File` or an
 /// `OwnedFd`.
@@ -22,7 +23,9 @@ impl Drop for PeerFd {
     /// A socket with SO_LINGER keeps `close` waiting while it has something to send, for as long as its peer likes: so it lingers no
     /// more. What is no socket stays as it is.
     fn drop(&mut self) {
-        let _ = set_option(&self.0, libc::SO_LINGER, &libc::linger { l_onoff: 0, l_linger: 0 });
+        if lingers(&self.0) {
+            let _ = set_option(&self.0, libc::SO_LINGER, &libc::linger { l_onoff: 0, l_linger: 0 });
+        }
     }
 }
 
@@ -107,10 +110,12 @@ impl Drop for PeerSocket {
     /// The system closes the descriptors that wait in the socket within `close`: so no socket among them lingers any more. What waits
     /// stays there, for whoever has a copy of the socket.
     fn drop(&mut self) {
-        if set_option(&self.stream, libc::SO_PEEK_OFF, &0).is_err() {
+        let (mut room, mut fds) = ([0; 4096], Vec::new());
+        let is_empty = !matches!(peek(&self.stream, &mut room, &mut fds), Ok(Received { count: 1.., .. }));
+        fds.clear();
+        if is_empty || set_option(&self.stream, libc::SO_PEEK_OFF, &0).is_err() {
             return;
         }
-        let (mut room, mut fds) = ([0; 4096], Vec::new());
         for _ in 0..MOST_QUEUED {
             match peek(&self.stream, &mut room, &mut fds) {
                 Ok(Received { count: 1.., .. }) => fds.clear(),

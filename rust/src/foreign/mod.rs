@@ -5,9 +5,12 @@ mod backend_session;
 mod channel;
 mod closing;
 mod display;
+mod listening;
 mod moving;
 #[cfg(covretin_assembly)]
 mod proved;
+#[cfg(feature = "vm-memory")]
+mod records;
 mod session;
 mod signals;
 mod socket;

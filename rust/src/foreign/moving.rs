@@ -59,6 +59,10 @@ pub(crate) trait Serves: Moves {
     fn next(&mut self) -> Result<u32, Code>;
     /// Which feature the last request lacked, where the session tells.
     fn inactive(&mut self) -> u64;
+    /// Whether it reads nothing more, since it could not answer whoever waits.
+    fn ended(&mut self) -> bool {
+        false
+    }
 }
 
 /// Types of sessions, which are closed when they are dropped, by the names of these calls.

@@ -1,5 +1,6 @@
 // SPDX-License-Identifier: Apache-2.0
 //! Bytes with descriptors over a Unix socket: `sendmsg`, `recvmsg` and `poll`.
+use std::fs::read_to_string;
 use std::io;
 use std::mem::{size_of, size_of_val, zeroed, MaybeUninit};
 use std::os::unix::io::{AsRawFd, FromRawFd, OwnedFd, RawFd};
@@ -151,18 +152,61 @@ unsafe fn gather(message: &libc::msghdr, fds: &mut Vec<PeerFd>) {
 
 /// An option of a socket: of SOL_SOCKET, by its number.
 pub(crate) fn option_of(socket: &impl AsRawFd, name: libc::c_int) -> io::Result<libc::c_int> {
-    let mut value: libc::c_int = 0;
-    let mut length = size_of::<libc::c_int>() as libc::socklen_t;
-    let place = (&mut value as *mut libc::c_int).cast();
-    // SAFETY: it is one number, and its size, borrowed for the call.
+    read_option(socket, name)
+}
+
+/// Whether a descriptor is of a socket that lingers.
+pub(super) fn lingers(fd: &impl AsRawFd) -> bool {
+    // (l_onoff, l_linger)
+    read_option::<[libc::c_int; 2]>(fd, libc::SO_LINGER).map_or(false, |linger| linger[0] != 0)
+}
+
+/// An option whose value is of this type.
+fn read_option<T: Copy + Default>(socket: &impl AsRawFd, name: libc::c_int) -> io::Result<T> {
+    let mut value = T::default();
+    let mut length = size_of::<T>() as libc::socklen_t;
+    let place = (&mut value as *mut T).cast();
+    // SAFETY: it is one value made of numbers, and its size, borrowed for the call.
     match unsafe { libc::getsockopt(socket.as_raw_fd(), libc::SOL_SOCKET, name, place, &mut length) } {
         0 => Ok(value),
         _ => Err(io::Error::last_os_error()),
     }
 }
 
-/// Sets an option of a socket: of SOL_SOCKET, by its number, whose value is of this type.
+/// Whether this thread's system calls go through a filter of its own, as a daemon has it that shuts itself in: one more than the process has that
+/// began this one. Those are of a container, and let a program do what programs do. Where it can't be seen it may be so. (Of what is called for
+/// it, each such filter knows.)
+fn is_filtered() -> bool {
+    // SAFETY: it returns a number.
+    if unsafe { libc::prctl(libc::PR_GET_SECCOMP) } == 0 {
+        return false;
+    }
+    let inherited = match told_of("thread-self", "PPid") {
+        // (the first process of a container has none that it could see, and the container's filter)
+        Some(0) => Some(1),
+        parent => parent.and_then(|parent| told_of(&parent.to_string(), FILTERS)),
+    };
+    match (told_of("thread-self", FILTERS), inherited) {
+        (Some(own), Some(inherited)) => own > inherited,
+        _ => true,
+    }
+}
+
+/// What /proc calls the number of filters that a process has.
+const FILTERS: &str = "Seccomp_filters";
+
+/// A number that /proc has of a process, by the name that it has there.
+fn told_of(process: &str, name: &str) -> Option<u32> {
+    let status = read_to_string(format!("/proc/{process}/status")).ok()?;
+    status.lines().find_map(|line| line.strip_prefix(name)?.strip_prefix(':'))?.trim().parse().ok()
+}
+
+/// Sets an option of a socket: of SOL_SOCKET, by its number, whose value is of this type. EPERM: system calls are filtered, and a filter
+/// of the program's own that does not know of this one would end the process.
 pub(super) fn set_option<T: Copy>(socket: &impl AsRawFd, name: libc::c_int, value: &T) -> io::Result<()> {
+    if is_filtered() {
+        return Err(io::Error::from_raw_os_error(libc::EPERM));
+    }
     let place = (value as *const T).cast();
     // SAFETY: it is one value, and its size, borrowed for the call, which only reads it.
     match unsafe { libc::setsockopt(socket.as_raw_fd(), libc::SOL_SOCKET, name, place, size_of::<T>() as libc::socklen_t) } {

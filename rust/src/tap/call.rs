@@ -93,6 +93,7 @@ pub(super) fn answer(session: &mut BackendSession, form: Form, reply: &Message) 
             None if form == Form::Transfer && number_at(body, 0, 8) == OWN_FD => session.reply_fd(-1),
             None => session.reply_refused(),
         },
+        Form::Inflight if fd.is_none() && number_at(body, 0, 8) == 0 => session.reply_refused(),
         Form::Inflight => session.reply_inflight(&inflight_of(body), SOME_FD),
         Form::Shmem => session.reply_shmem(&sizes_of(body), u32_at(body, 0)),
     }

@@ -163,6 +163,10 @@ impl Judge {
     /// Judges no more, for this reason.
     fn stop(&mut self, reason: &str) {
         self.complain(format!("{reason}; nothing behind it is judged"));
+        self.close();
+    }
+
+    fn close(&mut self) {
         self.session = None;
         self.pending = None;
         self.waiting.clear();
@@ -206,6 +210,7 @@ impl Judge {
             Err(code) => self.refused(&mut session, code, &request),
         };
         match judged {
+            Ok(_) if session.ended() => self.close(),
             Ok(owed) => {
                 self.session = Some(session);
                 self.await_reply(time, request, owed);
@@ -244,7 +249,9 @@ impl Judge {
         if request.request() == Some(FrontendReq::SET_PROTOCOL_FEATURES) {
             self.agreed.protocol = session.number()?;
         }
-        if is_awaited(form, request, &self.agreed) {
+        // (its reply says whether it succeeded, whatever its flags)
+        let is_end = self.profile == Profile::Standard && request.request() == Some(FrontendReq::POSTCOPY_END);
+        if is_end || is_awaited(form, request, &self.agreed) {
             return Ok(Some(Owed::Answer(form)));
         }
         said(session.reply_done())?;
@@ -258,6 +265,8 @@ impl Judge {
         let (written, fds) = written_by(session)?;
         let waits = has_own_reply(request) || request.has_flag(VhostUserHeaderFlag::NEED_REPLY) && self.agreed.acknowledges();
         let heard = match (written.is_empty(), waits) {
+            _ if session.ended() => "no reply says so, so the session ends; nothing behind it is judged",
+            (false, _) if has_own_reply(request) => "its reply says so",
             (false, _) => "it is acknowledged as failed",
             (true, true) => "nothing is replied, though the frontend waits for it",
             (true, false) => "nothing is replied, so the frontend cannot know",
@@ -294,6 +303,9 @@ impl Judge {
                     self.pending = Some(pending);
                     self.give_up();
                     self.advance();
+                    if self.session.is_none() {
+                        return;
+                    }
                     continue;
                 }
                 Some(pending) => {
@@ -325,14 +337,21 @@ impl Judge {
             None => return,
         };
         let name = name_of(TO_BACKEND, &pending.request);
-        self.complain(format!("{name} was not replied to, and later requests go on"));
+        let reason = format!("{name} was not replied to, and later requests go on");
+        let mut has_ended = false;
         if let (Owed::Answer(form), Some(session)) = (&pending.owed, &mut self.session) {
             // (a device that fails to give a value has no reply)
             let given = if *form == Form::Done { session.reply_done() } else { session.reply_refused() };
             let given = said(given).and_then(|()| written_by(session));
+            has_ended = session.ended();
             if let Err(Code(number)) = given {
                 self.stop(&format!("the judge itself failed (error {number})"));
             }
+        }
+        if has_ended {
+            self.stop(&reason);
+        } else {
+            self.complain(reason);
         }
     }
 
@@ -360,7 +379,9 @@ impl Judge {
             self.agreed.offered = number_at(reply.body(), 0, 8);
         }
         let written = said(answer(session, form, reply)).and_then(|()| written_by(session));
+        let has_ended = session.ended();
         match written {
+            Ok(_) if has_ended => self.stop(&format!("{} has no reply that refuses it", name_of(TO_FRONTEND, reply))),
             Ok(_) if self.may_be_empty(form) && reply.size() == 0 && reply.fds.is_empty() => {}
             Ok((written, fds)) => self.compare(form, written, fds, reply),
             Err(Code(number)) => {

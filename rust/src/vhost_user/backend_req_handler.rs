@@ -11,6 +11,7 @@ use super::message::*;
 use super::served_connection::ServedConnection;
 use super::{Backend, Error, GpuBackend, Profile, Result, VhostUserBackendReqHandler};
 use crate::foreign::{option_of, BackendSession, Code, Inflight, Outcome, PeerFd, Region, MAX_CONFIG, MAX_FDS};
+use crate::VhostUserMemoryRegionBase;
 
 /// COVRETIN_CALL_POSTCOPY_ACK, which is the number of no request.
 const POSTCOPY_ACK: u32 = 256;
@@ -46,10 +47,11 @@ impl<S: VhostUserBackendReqHandler> BackendReqHandler<S> {
         self.connection.try_clone_socket()
     }
 
-    /// Whose behaviour each request has from now on. Under `Standard` a [`FrontendReq`] that nobody serves is InvalidOperation, is
-    /// acknowledged where it asks for that, and the connection goes on; a ring may be enabled once PROTOCOL_FEATURES was offered;
-    /// and a memory table may be longer than its regions. Under `Vhost` the first is InvalidMessage, and the others are refused. A
-    /// request of a number that is no [`FrontendReq`] is InvalidMessage, without a reply, under both.
+    /// Whose behaviour each request has from now on. Under `Standard` whoever waits hears of a refusal, or is hung up on; a
+    /// [`FrontendReq`] that nobody serves is InvalidOperation, and the connection goes on; a ring may be enabled once
+    /// PROTOCOL_FEATURES was offered or accepted; and a memory table may be longer than its regions. Under `Vhost` some refusals are
+    /// silent, the second is InvalidMessage, and the others are refused. A request of a number that is no [`FrontendReq`] is
+    /// InvalidMessage, without a reply, under both.
     pub fn set_profile(&mut self, profile: Profile) {
         self.connection.set(|session| session.set_profile(profile as u32));
     }
@@ -77,10 +79,10 @@ impl<S: VhostUserBackendReqHandler> BackendReqHandler<S> {
     /// body. InvalidMessage: the request is malformed, too, or its number is none. SocketRetry: the socket does not block, or
     /// its read timeout passed; what came is kept, and the next call goes on. After PartialMessage, InvalidMessage, SocketBroken
     /// and SocketError the connection is of no more use, and each later call is SocketBroken; so it is after IncorrectFds for more
-    /// descriptors than a message has, and once the device panicked. After any other error it goes on: the request was refused
-    /// before the device was asked (InactiveFeature, InactiveOperation, InvalidParam, InvalidOperation, IncorrectFds,
-    /// FrontendInternalError), or the device refused it, whose error it is, or gave another number of bases than of regions
-    /// (BackendInternalError).
+    /// descriptors than a message has, once the device panicked, and under `Standard` where a frontend waits for a reply that cannot
+    /// refuse: it is hung up on at once. After any other error it goes on: the request was refused before the device was asked
+    /// (InactiveFeature, InactiveOperation, InvalidParam, InvalidOperation, IncorrectFds, FrontendInternalError), or the device
+    /// refused it, whose error it is, or gave another number of bases than of regions (BackendInternalError).
     pub fn handle_request(&mut self) -> Result<()> {
         let call = self.connection.next_call()?;
         let (device, it) = (&*self.device, &mut self.connection);
@@ -187,7 +189,7 @@ fn serve_regions(device: &impl VhostUserBackendReqHandler, it: &mut BackendConne
         let files = regions.iter().map(|region| it.claim(region.fd)).collect::<Result<Vec<PeerFd>>>()?;
         let files = files.into_iter().map(File::from).collect();
         let table: Vec<VhostUserMemoryRegion> = regions.iter().map(region_of).collect();
-        return it.bases(device.set_mem_table(&table, files, Some(listening)), listening);
+        return it.bases(map_table(device, &table, files, listening), listening);
     }
     let Region { guest_phys_addr, memory_size, user_addr, mmap_offset, fd } = *regions.first().ok_or(Error::InvalidMessage)?;
     let region = VhostUserSingleMemoryRegion::new(guest_phys_addr, memory_size, user_addr, mmap_offset);
@@ -195,9 +197,51 @@ fn serve_regions(device: &impl VhostUserBackendReqHandler, it: &mut BackendConne
         return it.done(device.remove_mem_region(&region));
     }
     let file = it.claim(fd)?.into();
-    let base = device.add_mem_region(&region, file, Some(listening));
-    it.bases(base.map(|base| base.map(|base| vec![base])), listening)
+    it.bases(map_region(device, &region, file, listening), listening)
 }
+
+type Bases = Result<Option<Vec<VhostUserMemoryRegionBase>>>;
+
+#[cfg(not(feature = "compat-0_17"))]
+fn map_table(
+    device: &impl VhostUserBackendReqHandler,
+    table: &[VhostUserMemoryRegion],
+    files: Vec<File>,
+    listening: bool,
+) -> Bases {
+    device.set_mem_table(table, files, Some(listening))
+}
+
+#[cfg(not(feature = "compat-0_17"))]
+fn map_region(device: &impl VhostUserBackendReqHandler, it: &VhostUserSingleMemoryRegion, file: File, listening: bool) -> Bases {
+    let base = device.add_mem_region(it, file, Some(listening))?;
+    Ok(base.map(|base| vec![base]))
+}
+
+#[cfg(feature = "compat-0_17")]
+fn map_table(
+    device: &impl VhostUserBackendReqHandler,
+    table: &[VhostUserMemoryRegion],
+    files: Vec<File>,
+    listening: bool,
+) -> Bases {
+    match listening {
+        true => Err(NO_BASES),
+        false => device.set_mem_table(table, files).map(|()| None),
+    }
+}
+
+#[cfg(feature = "compat-0_17")]
+fn map_region(device: &impl VhostUserBackendReqHandler, it: &VhostUserSingleMemoryRegion, file: File, listening: bool) -> Bases {
+    match listening {
+        true => Err(NO_BASES),
+        false => device.add_mem_region(it, file).map(|()| None),
+    }
+}
+
+/// A device of the older signatures can't say where it has mapped a region.
+#[cfg(feature = "compat-0_17")]
+const NO_BASES: Error = Error::InvalidOperation("the device can't say where it maps");
 
 fn region_of(region: &Region) -> VhostUserMemoryRegion {
     VhostUserMemoryRegion::new(region.guest_phys_addr, region.memory_size, region.user_addr, region.mmap_offset)

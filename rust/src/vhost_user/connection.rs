@@ -4,6 +4,7 @@ use std::fs::File;
 use std::os::unix::io::{AsRawFd, RawFd};
 use std::os::unix::net::UnixStream;
 use std::result;
+use std::sync::Arc;
 use std::time::Duration;
 
 use super::frontend_session::FrontendSession;
@@ -16,7 +17,8 @@ use crate::foreign::{numbers_of, Asks, Code, Outcome, PeerFd, PeerSocket, MAX_ME
 /// A connection of a frontend to its backend; or on the backend channel the other way round.
 pub(super) struct Connection<S: Asks> {
     session: S,
-    socket: PeerSocket,
+    /// (who hangs up has it, too)
+    socket: Arc<PeerSocket>,
     timeout: Option<Duration>,
     /// Bytes that are sent, and then those of the reply: a request goes out whole before its reply is read.
     bytes: Box<[u8; MAX_MESSAGE]>,
@@ -37,7 +39,12 @@ impl<S: Asks> Connection<S> {
     /// A session over a socket, as above.
     pub(super) fn over(session: S, socket: PeerSocket) -> Connection<S> {
         let timeout = socket.read_timeout().ok().flatten();
-        Connection { session, socket, timeout, bytes: Box::new([0; MAX_MESSAGE]), broken: None }
+        Connection { session, socket: Arc::new(socket), timeout, bytes: Box::new([0; MAX_MESSAGE]), broken: None }
+    }
+
+    /// Its socket, for who hangs up amid a call.
+    pub(super) fn socket(&self) -> Arc<PeerSocket> {
+        Arc::clone(&self.socket)
     }
 
     pub(super) fn set_timeout(&mut self, timeout: Option<Duration>) {

@@ -5,6 +5,7 @@ use std::sync::Mutex;
 
 use super::message::*;
 use super::{Backend, Error, GpuBackend, Result};
+#[cfg(not(feature = "compat-0_17"))]
 use crate::VhostUserMemoryRegionBase;
 
 /// The trait of a device; the same for one that changes by its calls; and that a lock around the latter is the former.
@@ -32,7 +33,7 @@ macro_rules! devices {
 
         /// It panics where the lock is poisoned.
         impl<T: VhostUserBackendReqHandlerMut> VhostUserBackendReqHandler for Mutex<T> {
-            $(fn $name(&self, $($arg: $ty),*) -> $out {
+            $($(#[$doc])* fn $name(&self, $($arg: $ty),*) -> $out {
                 self.lock().unwrap().$name($($arg),*)
             })*
             $(fn $name2(&self, $($arg2: $ty2),*) -> $out2 {
@@ -62,11 +63,16 @@ devices! {
 
         /// All regions of guest memory, 1 to 32, and the file that maps each. While postcopy listens it returns where each is
         /// mapped; else what it returns is not looked at.
+        #[cfg(not(feature = "compat-0_17"))]
         fn set_mem_table(
             ctx: &[VhostUserMemoryRegion],
             files: Vec<File>,
             postcopy_listening: Option<bool>
         ) -> Result<Option<Vec<VhostUserMemoryRegionBase>>>;
+
+        /// All regions of guest memory, 1 to 32, and the file that maps each. Not while postcopy listens.
+        #[cfg(feature = "compat-0_17")]
+        fn set_mem_table(ctx: &[VhostUserMemoryRegion], files: Vec<File>) -> Result<()>;
 
         /// The size of a ring, in descriptors.
         fn set_vring_num(index: u32, num: u32) -> Result<()>;
@@ -121,9 +127,6 @@ devices! {
         /// The vhost-user-gpu channel.
         fn set_gpu_socket(gpu_backend: GpuBackend) -> Result<()>;
 
-        /// The object of this name. An error is replied without a file, and goes no further.
-        fn get_shared_object(uuid: VhostUserSharedMsg) -> Result<File>;
-
         /// The inflight region for so many rings of this size, and the file that maps it.
         fn get_inflight_fd(inflight: &VhostUserInflight) -> Result<(VhostUserInflight, File)>;
 
@@ -134,11 +137,16 @@ devices! {
         fn get_max_mem_slots() -> Result<u64>;
 
         /// Another region, and the file that maps it. While postcopy listens it returns where that is mapped.
+        #[cfg(not(feature = "compat-0_17"))]
         fn add_mem_region(
             region: &VhostUserSingleMemoryRegion,
             fd: File,
             postcopy_listening: Option<bool>
         ) -> Result<Option<VhostUserMemoryRegionBase>>;
+
+        /// Another region, and the file that maps it. Not while postcopy listens.
+        #[cfg(feature = "compat-0_17")]
+        fn add_mem_region(region: &VhostUserSingleMemoryRegion, fd: File) -> Result<()>;
 
         /// A region that the device has no longer.
         fn remove_mem_region(region: &VhostUserSingleMemoryRegion) -> Result<()>;
@@ -154,9 +162,6 @@ devices! {
         /// Whether the device's state was transferred whole. An error is replied, and goes no further.
         fn check_device_state() -> Result<()>;
 
-        /// The device's regions of shared memory.
-        fn get_shmem_config() -> Result<VhostUserShMemConfig>;
-
         /// The dirty log, and the file that maps it.
         fn set_log_base(log: &VhostUserLog, file: File) -> Result<()>;
     }
@@ -167,6 +172,12 @@ devices! {
 
         /// The greatest size of what a frame carries.
         fn set_mtu(mtu: u16) -> Result<()> { Err(Error::InvalidOperation("no network device")) }
+
+        /// The object of this name. An error is replied without a file, and goes no further.
+        fn get_shared_object(uuid: VhostUserSharedMsg) -> Result<File> { Err(Error::InvalidOperation("no shared objects")) }
+
+        /// The device's regions of shared memory; it has none.
+        fn get_shmem_config() -> Result<VhostUserShMemConfig> { Ok(VhostUserShMemConfig::default()) }
 
         /// Begins postcopy: a userfaultfd. An error is replied without a file, and goes no further.
         fn postcopy_advice() -> Result<File> { Err(NO_POSTCOPY) }

@@ -1,7 +1,7 @@
 // SPDX-License-Identifier: Apache-2.0
 //! The frontend: each call, as the crate `vhost` names it, is one of the proved session's.
 use std::fs::File;
-use std::io::ErrorKind;
+use std::io::{self, ErrorKind};
 use std::os::unix::io::{AsRawFd, OwnedFd, RawFd};
 use std::os::unix::net::UnixStream;
 use std::path::Path;
@@ -13,7 +13,7 @@ use super::connection::Connection;
 use super::frontend_session::FrontendSession;
 use super::message::*;
 use super::{Error as VhostUserError, Profile};
-use crate::foreign::{Inflight, Outcome, Region, Vring};
+use crate::foreign::{Inflight, Outcome, PeerSocket, Region, Vring};
 use crate::{
     Result, VhostBackend, VhostUserDirtyLogRegion, VhostUserMemoryRegionBase, VhostUserMemoryRegionInfo, VringConfigData,
 };
@@ -69,7 +69,12 @@ pub trait VhostUserFrontend: VhostBackend {
 
     /// Adds a region, with a size and a descriptor. Where the backend has mapped it, if it listens for page faults.
     /// CONFIGURE_MEM_SLOTS.
+    #[cfg(not(feature = "compat-0_17"))]
     fn add_mem_region(&mut self, region: &VhostUserMemoryRegionInfo) -> Result<Option<VhostUserMemoryRegionBase>>;
+
+    /// Adds a region, with a size and a descriptor. CONFIGURE_MEM_SLOTS.
+    #[cfg(feature = "compat-0_17")]
+    fn add_mem_region(&mut self, region: &VhostUserMemoryRegionInfo) -> Result<()>;
 
     /// Removes a region; its descriptor is not sent. CONFIGURE_MEM_SLOTS.
     fn remove_mem_region(&mut self, region: &VhostUserMemoryRegionInfo) -> Result<()>;
@@ -99,8 +104,8 @@ pub trait VhostUserFrontend: VhostBackend {
     /// ADD_MEM_REG.
     fn postcopy_ack_mem_regions(&mut self, code: FrontendReq) -> Result<()>;
 
-    /// Ends postcopy. Some backends reply to it also without NEED_REPLY, and that reply is then taken for the next call's: set the
-    /// flag before. PAGEFAULT.
+    /// Ends postcopy. Under `Standard` its reply is awaited whatever the flags are, and where that refuses, postcopy has ended all the
+    /// same. Under `Vhost` a reply that some backends send without NEED_REPLY, too, is taken for the next call's. PAGEFAULT.
     fn postcopy_end(&mut self) -> Result<()>;
 }
 
@@ -112,6 +117,8 @@ pub trait VhostUserFrontend: VhostBackend {
 #[derive(Clone)]
 pub struct Frontend {
     node: Arc<Mutex<Connection<FrontendSession>>>,
+    /// The same socket, for who does not wait until a call is over.
+    socket: Arc<PeerSocket>,
 }
 
 impl Frontend {
@@ -135,7 +142,9 @@ impl Frontend {
     /// A frontend over a connected socket, of a backend of at most so many rings. A read timeout of the socket becomes the limit
     /// of time. It panics where an allocation fails.
     pub fn from_stream(sock: UnixStream, max_queue_num: u64) -> Self {
-        Frontend { node: Arc::new(Mutex::new(Connection::new(sock, max_queue_num))) }
+        let node = Connection::new(sock, max_queue_num);
+        let socket = node.socket();
+        Frontend { node: Arc::new(Mutex::new(node)), socket }
     }
 
     /// Connects to the backend at a path, of at most so many rings. Where it refuses, five times more after 100 ms each.
@@ -163,8 +172,10 @@ impl Frontend {
     }
 
     /// Whose behaviour each call has from now on. Under `Standard` NEED_REPLY goes out only where REPLY_ACK was accepted,
-    /// `set_log_base` without a region is acknowledged like other calls, a reply to SET_LOG_BASE may have any size, and one to
-    /// GET_CONFIG without a body is BackendInternalError.
+    /// `set_log_base` without a region is acknowledged like other calls, and a reply to SET_LOG_BASE may have any size.
+    /// `postcopy_listen` and `postcopy_end` are answered whatever the flags are. A reply to GET_CONFIG without a body is
+    /// BackendInternalError, as is one without a descriptor to GET_SHARED_OBJECT, to POSTCOPY_ADVISE, and of size 0 to
+    /// GET_INFLIGHT_FD.
     pub fn set_profile(&self, profile: Profile) {
         self.node().set(|session| session.set_profile(profile as u32));
     }
@@ -173,6 +184,17 @@ impl Frontend {
     /// kind `TimedOut`.
     pub fn set_timeout(&self, timeout: Option<Duration>) {
         self.node().set_timeout(timeout);
+    }
+
+    /// Another descriptor of the socket, at once, also while another thread waits in a call.
+    pub fn try_clone_connection(&self) -> io::Result<UnixStream> {
+        self.socket.try_clone()
+    }
+
+    /// Hangs up on the backend, at once, also while another thread waits in a call: that one fails, and each later one, and the
+    /// backend sees that its frontend is gone.
+    pub fn shutdown(&self) {
+        self.socket.hang_up();
     }
 
     /// Tells a network device the greatest size of what a frame carries. MTU.
@@ -208,6 +230,18 @@ impl Frontend {
         Ok(Some(bases).filter(|bases| !bases.is_empty()))
     }
 
+    /// Tells all regions: where they are mapped, if the backend says so.
+    fn map_table(&self, regions: &[VhostUserMemoryRegionInfo]) -> Result<Option<Vec<VhostUserMemoryRegionBase>>> {
+        let table: Vec<Region> = regions.iter().map(region_of).collect();
+        self.bases(table.len(), |session| session.set_mem_table(&table))
+    }
+
+    /// The same of another one.
+    fn map_region(&self, region: &VhostUserMemoryRegionInfo) -> Result<Option<VhostUserMemoryRegionBase>> {
+        let bases = self.bases(1, |session| session.add_mem_region(&region_of(region)))?;
+        Ok(bases.and_then(|bases| bases.first().copied()))
+    }
+
     /// A call whose value is a file, or nothing.
     fn file(&self, ask: impl FnOnce(&mut FrontendSession) -> Outcome) -> Result<Option<File>> {
         let mut node = self.node();
@@ -226,7 +260,7 @@ impl Frontend {
 
 impl AsRawFd for Frontend {
     fn as_raw_fd(&self) -> RawFd {
-        self.node().as_raw_fd()
+        self.socket.as_raw_fd()
     }
 }
 
@@ -283,9 +317,14 @@ impl VhostBackend for Frontend {
         self.done(|session| session.reset_owner())
     }
 
+    #[cfg(not(feature = "compat-0_17"))]
     fn set_mem_table(&self, regions: &[VhostUserMemoryRegionInfo]) -> Result<Option<Vec<VhostUserMemoryRegionBase>>> {
-        let table: Vec<Region> = regions.iter().map(region_of).collect();
-        self.bases(table.len(), |session| session.set_mem_table(&table))
+        self.map_table(regions)
+    }
+
+    #[cfg(feature = "compat-0_17")]
+    fn set_mem_table(&self, regions: &[VhostUserMemoryRegionInfo]) -> Result<()> {
+        self.map_table(regions).map(drop)
     }
 
     fn set_log_base(&self, base: u64, region: Option<VhostUserDirtyLogRegion>) -> Result<()> {
@@ -401,9 +440,14 @@ impl VhostUserFrontend for Frontend {
         self.number(|session| session.get_max_mem_slots())
     }
 
+    #[cfg(not(feature = "compat-0_17"))]
     fn add_mem_region(&mut self, region: &VhostUserMemoryRegionInfo) -> Result<Option<VhostUserMemoryRegionBase>> {
-        let bases = self.bases(1, |session| session.add_mem_region(&region_of(region)))?;
-        Ok(bases.and_then(|bases| bases.first().copied()))
+        self.map_region(region)
+    }
+
+    #[cfg(feature = "compat-0_17")]
+    fn add_mem_region(&mut self, region: &VhostUserMemoryRegionInfo) -> Result<()> {
+        self.map_region(region).map(drop)
     }
 
     fn remove_mem_region(&mut self, region: &VhostUserMemoryRegionInfo) -> Result<()> {

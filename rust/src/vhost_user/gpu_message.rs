@@ -8,7 +8,7 @@
 #![allow(clippy::upper_case_acronyms)]
 use bitflags::bitflags;
 
-use super::message::{codes, retaining, VhostUserMsgValidator};
+use super::message::{codes, flags, VhostUserMsgValidator};
 
 /// The greatest number of screens.
 pub const VIRTIO_GPU_MAX_SCANOUTS: usize = 16;
@@ -38,7 +38,7 @@ codes! {
     }
 }
 
-bitflags! {
+flags! {
     /// The flags of a message's header.
     pub struct VhostUserGpuHeaderFlag: u32 {
         /// The message is a reply.
@@ -53,11 +53,6 @@ bitflags! {
         /// The display accepts DMABUF_SCANOUT2.
         const DMABUF2 = 1;
     }
-}
-
-retaining! {
-    VhostUserGpuHeaderFlag: u32,
-    VhostUserGpuProtocolFeatures: u64,
 }
 
 /// Records of fields that are sent or received.

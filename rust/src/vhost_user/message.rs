@@ -1,12 +1,23 @@
 // SPDX-License-Identifier: Apache-2.0
-//! The protocol's codes, flags and records, as far as the caller of a frontend or a device holds them. The bytes of a message are
-//! made and read by the proved library alone.
+//! The protocol's codes, flags and records, which have the layout of the crate's. The bytes of a message are made and read by the proved
+//! library alone.
 #![allow(non_camel_case_types)]
 #![allow(clippy::upper_case_acronyms)]
+#[cfg(feature = "vm-memory")]
+use std::fs::File;
+#[cfg(feature = "vm-memory")]
+use std::io;
 use std::ops::Deref;
 
 use bitflags::bitflags;
 use uuid::Uuid;
+#[cfg(feature = "vm-memory")]
+use vm_memory::{mmap::NewBitmap, FileOffset, MmapRegion};
+
+pub use super::inflight_records::*;
+pub use super::wire_records::*;
+#[cfg(feature = "vm-memory")]
+use super::{Error, Result};
 
 /// The greatest size of a message's body, in bytes.
 pub const MAX_MSG_SIZE: usize = 0x1000;
@@ -36,7 +47,7 @@ macro_rules! codes {
         impl TryFrom<u32> for $Name {
             type Error = ();
 
-            fn try_from(number: u32) -> Result<Self, ()> {
+            fn try_from(number: u32) -> std::result::Result<Self, ()> {
                 match number {
                     $($number => Ok($Name::$Code),)*
                     _ => Err(()),
@@ -128,7 +139,63 @@ codes! {
     }
 }
 
-bitflags! {
+/// Flags of bitflags 1, with the calls of bitflags 2.
+macro_rules! flags {
+    ($($(#[$($meta:tt)*])* pub struct $Name:ident: $Bits:ty { $($(#[$($doc:tt)*])* const $Flag:ident = $value:expr;)* })*) => {
+        bitflags! {
+            $($(#[$($meta)*])* pub struct $Name: $Bits { $($(#[$($doc)*])* const $Flag = $value;)* })*
+        }
+
+        $(
+            impl $Name {
+                /// All of these bits, also those that have no name.
+                pub const fn from_bits_retain(bits: $Bits) -> Self {
+                    $Name { bits }
+                }
+
+                /// The flag of this name.
+                pub fn from_name(name: &str) -> Option<Self> {
+                    Self::NAMED.iter().find(|(it, _)| *it == name).map(|(_, flag)| *flag)
+                }
+
+                /// Each flag that is set, and at last the bits that have no name, if there are any.
+                pub fn iter(&self) -> impl Iterator<Item = Self> {
+                    self.into_iter()
+                }
+
+                /// Each flag that is set, with its name. One whose bits are all those of flags before it is left out.
+                pub fn iter_names(&self) -> impl Iterator<Item = (&'static str, Self)> {
+                    let (all, mut left) = (*self, *self);
+                    Self::NAMED.iter().copied().filter(move |(_, flag)| {
+                        let is_next = all.contains(*flag) && left.intersects(*flag);
+                        if is_next {
+                            left.remove(*flag);
+                        }
+                        is_next
+                    })
+                }
+
+                const NAMED: &'static [(&'static str, Self)] = &[$((stringify!($Flag), $Name::$Flag),)*];
+            }
+
+            impl IntoIterator for $Name {
+                type Item = Self;
+                type IntoIter = std::vec::IntoIter<Self>;
+
+                fn into_iter(self) -> Self::IntoIter {
+                    let mut found: Vec<Self> = self.iter_names().map(|(_, flag)| flag).collect();
+                    let named = found.iter().fold(Self::empty(), |all, flag| all | *flag);
+                    found.extend(Some(self - named).filter(|rest| !rest.is_empty()));
+                    found.into_iter()
+                }
+            }
+        )*
+    };
+}
+
+pub(super) use flags;
+
+flags! {
     /// The flags of a message's header.
     pub struct VhostUserHeaderFlag: u32 {
         /// The bits of the version.
@@ -224,29 +291,6 @@ bitflags! {
     }
 }
 
-/// What bitflags 2 has and bitflags 1 has not.
-macro_rules! retaining {
-    ($($Name:ident: $bits:ty,)*) => {$(
-        impl $Name {
-            /// All of these bits, also those that have no name.
-            pub const fn from_bits_retain(bits: $bits) -> Self {
-                $Name { bits }
-            }
-        }
-    )*};
-}
-
-pub(super) use retaining;
-
-retaining! {
-    VhostUserHeaderFlag: u32,
-    VhostUserVirtioFeatures: u64,
-    VhostUserProtocolFeatures: u64,
-    VhostUserVringAddrFlags: u32,
-    VhostUserConfigFlags: u32,
-    VhostUserMMapFlags: u64,
-}
-
 /// Whether a record is one that the protocol allows.
 pub trait VhostUserMsgValidator {
     /// Whether it is.
@@ -256,6 +300,7 @@ pub trait VhostUserMsgValidator {
 }
 
 /// A number.
+#[repr(transparent)]
 #[derive(Clone, Copy, Debug, Default, PartialEq, Eq)]
 pub struct VhostUserU64 {
     /// It.
@@ -277,6 +322,7 @@ fn wraps(start: u64, size: u64) -> bool {
 }
 
 /// A region of guest memory.
+#[repr(C, packed)]
 #[derive(Clone, Copy, Debug, Default, PartialEq, Eq)]
 pub struct VhostUserMemoryRegion {
     /// Where it lies for the guest.
@@ -294,6 +340,14 @@ impl VhostUserMemoryRegion {
     pub fn new(guest_phys_addr: u64, memory_size: u64, user_addr: u64, mmap_offset: u64) -> Self {
         VhostUserMemoryRegion { guest_phys_addr, memory_size, user_addr, mmap_offset }
     }
+
+    /// Maps the region of its file. ReqHandlerError: it can't be mapped.
+    #[cfg(feature = "vm-memory")]
+    pub fn mmap_region<B: NewBitmap>(&self, file: File) -> Result<MmapRegion<B>> {
+        let size = usize::try_from(self.memory_size).map_err(|_| Error::InvalidParam)?;
+        let place = FileOffset::new(file, self.mmap_offset);
+        MmapRegion::from_file(place, size).map_err(|cause| Error::ReqHandlerError(io::Error::new(io::ErrorKind::Other, cause)))
+    }
 }
 
 impl VhostUserMsgValidator for VhostUserMemoryRegion {
@@ -304,15 +358,20 @@ impl VhostUserMsgValidator for VhostUserMemoryRegion {
 }
 
 /// A region of guest memory that is added or removed by itself.
+#[repr(C)]
 #[derive(Clone, Copy, Debug, Default, PartialEq, Eq)]
 pub struct VhostUserSingleMemoryRegion {
+    padding: u64,
     region: VhostUserMemoryRegion,
 }
 
 impl VhostUserSingleMemoryRegion {
     /// A region of these fields.
     pub fn new(guest_phys_addr: u64, memory_size: u64, user_addr: u64, mmap_offset: u64) -> Self {
-        VhostUserSingleMemoryRegion { region: VhostUserMemoryRegion::new(guest_phys_addr, memory_size, user_addr, mmap_offset) }
+        VhostUserSingleMemoryRegion {
+            padding: 0,
+            region: VhostUserMemoryRegion::new(guest_phys_addr, memory_size, user_addr, mmap_offset),
+        }
     }
 }
 
@@ -327,10 +386,12 @@ impl Deref for VhostUserSingleMemoryRegion {
 impl VhostUserMsgValidator for VhostUserSingleMemoryRegion {}
 
 /// The regions of shared memory that a device has.
+#[repr(C)]
 #[derive(Clone, Copy, Debug, PartialEq, Eq)]
 pub struct VhostUserShMemConfig {
     /// How many there are.
     pub nregions: u32,
+    padding: u32,
     /// The size of each, in bytes, at its number; 0 where there is none.
     pub memory_sizes: [u64; 256],
 }
@@ -342,7 +403,7 @@ impl VhostUserShMemConfig {
         for (size, given) in memory_sizes.iter_mut().zip(memory) {
             *size = *given;
         }
-        VhostUserShMemConfig { nregions, memory_sizes }
+        VhostUserShMemConfig { nregions, padding: 0, memory_sizes }
     }
 }
 
@@ -355,6 +416,7 @@ impl Default for VhostUserShMemConfig {
 impl VhostUserMsgValidator for VhostUserShMemConfig {}
 
 /// A ring, and a number of it.
+#[repr(C, packed)]
 #[derive(Clone, Copy, Debug, Default, PartialEq, Eq)]
 pub struct VhostUserVringState {
     /// The ring.
@@ -373,6 +435,7 @@ impl VhostUserVringState {
 impl VhostUserMsgValidator for VhostUserVringState {}
 
 /// Where the dirty log is in what its descriptor maps.
+#[repr(C)]
 #[derive(Clone, Copy, Debug, Default, PartialEq, Eq)]
 pub struct VhostUserLog {
     /// Its size, in bytes.
@@ -395,6 +458,7 @@ impl VhostUserMsgValidator for VhostUserLog {
 }
 
 /// A part of the configuration space.
+#[repr(C, packed)]
 #[derive(Clone, Copy, Debug, Default, PartialEq, Eq)]
 pub struct VhostUserConfig {
     /// Where it begins, in bytes.
@@ -423,6 +487,7 @@ impl VhostUserMsgValidator for VhostUserConfig {
 pub type VhostUserConfigPayload = Vec<u8>;
 
 /// The inflight region, where a backend notes the buffers that it has taken and not given back.
+#[repr(C)]
 #[derive(Clone, Copy, Debug, Default, PartialEq, Eq)]
 pub struct VhostUserInflight {
     /// Its size, in bytes.
@@ -449,6 +514,7 @@ impl VhostUserMsgValidator for VhostUserInflight {
 }
 
 /// The name of an object that backends share.
+#[repr(C)]
 #[derive(Clone, Copy, Debug, Default, PartialEq, Eq)]
 pub struct VhostUserSharedMsg {
     /// Neither all zeros nor all ones.
@@ -462,6 +528,7 @@ impl VhostUserMsgValidator for VhostUserSharedMsg {
 }
 
 /// A part of a region of shared memory, and what is mapped there.
+#[repr(C, packed)]
 #[derive(Clone, Copy, Debug, Default, PartialEq, Eq)]
 pub struct VhostUserMMap {
     /// The number of the region.

@@ -13,10 +13,12 @@ mod frontend_req_handler;
 mod frontend_session;
 mod gpu_backend_req;
 pub mod gpu_message;
+mod inflight_records;
 mod listener;
 pub mod message;
 mod served_connection;
 mod transport;
+mod wire_records;
 
 pub use self::backend::BackendListener;
 pub use self::backend_req::Backend;

@@ -99,6 +99,7 @@ impl<S: Serves> ServedConnection<S> {
         match said {
             Ok(()) | Err(Error::BackendInternalError) => {
                 self.broken = None;
+                self.end_with_session();
                 said
             }
             Err(error) => Err(self.break_by(error)),
@@ -190,10 +191,20 @@ impl<S: Serves> ServedConnection<S> {
             INVALID_OPERATION => Error::InvalidOperation("the request is not served, or not in this state of postcopy"),
             code => error_of(code, self.session.inactive()),
         };
-        match (self.send(), error) {
+        let error = match (self.send(), error) {
             (Err(error), _) => error,
             (Ok(()), error @ (Error::InvalidMessage | Error::SocketBroken(_) | Error::SocketRetry(_))) => self.break_by(error),
             (Ok(()), error) => error,
+        };
+        self.end_with_session();
+        error
+    }
+
+    /// Hangs up where the session could not answer whoever waits.
+    fn end_with_session(&mut self) {
+        if self.session.ended() {
+            self.broken = Some(libc::EPROTO);
+            self.socket.hang_up();
         }
     }
 

@@ -58,7 +58,7 @@ impl Noting {
 }
 
 fn region(it: &VhostUserMemoryRegion) -> String {
-    format!("{:#x} {:#x} {:#x} {:#x}", it.guest_phys_addr, it.memory_size, it.user_addr, it.mmap_offset)
+    format!("{:#x} {:#x} {:#x} {:#x}", { it.guest_phys_addr }, { it.memory_size }, { it.user_addr }, { it.mmap_offset })
 }
 
 impl VhostUserBackendReqHandlerMut for Noting {

@@ -1,13 +1,13 @@
 // SPDX-License-Identifier: Apache-2.0
-//! What the tests have in common: a backend that a test plays by hand at the other end of a socket, and a count of open
-//! descriptors around each test. All bytes are the vhost-user specification's.
+//! What the tests have in common: a backend that a test plays by hand at the other end of a socket, and the open descriptors
+//! before and after each test. All bytes are the vhost-user specification's.
 #![allow(dead_code)]
 pub mod device;
 pub mod lingering;
 pub mod random;
 pub mod tap;
 
-use std::fs::{read_dir, read_to_string, File};
+use std::fs::{read_dir, read_link, read_to_string, File};
 use std::io::{ErrorKind, Read, Write};
 use std::mem::{size_of, size_of_val, zeroed};
 use std::os::unix::fs::MetadataExt;
@@ -35,13 +35,22 @@ pub const ALL: u64 = 0x4c_b33b;
 /// The rings of the frontends here.
 pub const RINGS: u64 = 4;
 
-/// Runs a test alone, and counts the open descriptors before and after it.
+/// Runs a test alone, and compares the open descriptors before and after it.
 pub fn counted(test: impl FnOnce()) {
     static ALONE: Mutex<()> = Mutex::new(());
     let _alone = ALONE.lock().unwrap_or_else(PoisonError::into_inner);
-    let before = open_fds();
+    let before = descriptors();
     test();
-    assert_eq!(before, open_fds(), "open descriptors before, and after");
+    assert_eq!(before, descriptors(), "open descriptors before, and after");
+}
+
+/// Each open descriptor, with what it is of. (What another thread frees makes the system's allocator open a file of its own for a
+/// moment, so `debian.toml` lets one test run at a time.)
+fn descriptors() -> Vec<String> {
+    let fds = read_dir("/proc/self/fd").unwrap().map(|it| it.unwrap().path());
+    let mut fds: Vec<String> = fds.map(|it| format!("{} {:?}", it.display(), read_link(&it).ok())).collect();
+    fds.sort();
+    fds
 }
 
 pub fn open_fds() -> usize {
