@@ -6,9 +6,10 @@
  *     disk PATH IMAGE PID log        and the backend keeps the dirty log
  *     disk PATH IMAGE PID killed     kills the backend amid a call and amid requests, and goes on with the next one there
  *     disk PATH IMAGE PID harm       gives it a pipe that nobody reads, and an inflight region amid requests
+ *     disk PATH IMAGE PID turned     turns to postcopy and back without NEED_REPLY, and asks for numbers in between
  *
  * PID is the backend's process. What is read is compared with the image, and what was written is looked for there. Prints a
- * line for each call; status 0 where all was so, 1 where something was not, 2 after wrong arguments. */
+ * line for each call; status 0 where all was so, 1 where something was not, 2 after wrong arguments, 4 where the backend cannot do it. */
 #include "vmm.h"
 
 #include <fcntl.h>
@@ -449,6 +450,26 @@ static void asked_with_harm(const char *path)
     close(inflight_fd);
 }
 
+/* What turns both sides is heard by both, whatever the header flags say: each number is that of its own call. */
+static void asked_to_turn(const char *path)
+{
+    connect_to(path);
+    negotiate(0, 0);
+    check(covretin_set_hdr_flags(SESSION, 0) == COVRETIN_OK, "the header flags are set");
+    uint64_t features = number("get_features", covretin_ask_get_features(SESSION));
+    enum covretin_error error = outcome("postcopy_advise", covretin_ask_postcopy_advise(SESSION));
+    if (error == COVRETIN_INACTIVE_OPERATION) {
+        printf("the backend offers no postcopy\n");
+        exit(4);
+    }
+    done("postcopy_listen", error ? error : covretin_ask_postcopy_listen(SESSION));
+    check(number("get_features", covretin_ask_get_features(SESSION)) == features, "the features are those that were");
+    check(number("get_queue_num", covretin_ask_get_queue_num(SESSION)) == 2, "there are two rings");
+    done("postcopy_end", covretin_ask_postcopy_end(SESSION));
+    check(number("get_features", covretin_ask_get_features(SESSION)) == features, "the features are those that were");
+    check(number("get_queue_num", covretin_ask_get_queue_num(SESSION)) == 2, "there are two rings");
+}
+
 typedef void play(const char *path);
 
 /* What is to be tried, by its name. */
@@ -461,7 +482,8 @@ static play *try_of(const char *name)
                  {"regions", asked_with_regions},
                  {"log", asked_with_log},
                  {"killed", asked_when_killed},
-                 {"harm", asked_with_harm}};
+                 {"harm", asked_with_harm},
+                 {"turned", asked_to_turn}};
     for (size_t i = 0; i < sizeof tries / sizeof *tries; i++)
         if (strcmp(tries[i].name, name) == 0)
             return tries[i].plays;
@@ -472,7 +494,7 @@ int main(int argc, char **argv)
 {
     play *tried = argc == 5 ? try_of(argv[4]) : NULL;
     if (tried == NULL) {
-        fprintf(stderr, "usage: disk PATH IMAGE PID work|regions|log|killed|harm\n");
+        fprintf(stderr, "usage: disk PATH IMAGE PID work|regions|log|killed|harm|turned\n");
         return 2;
     }
     size_t before = open_fds();

@@ -97,14 +97,14 @@ class Stream:
 class Disk:
     """The example disk, as a process over the image."""
 
-    def __init__(self, program, name="disk"):
-        self.program, self.path = program, f"{name}-{os.getpid()}.socket"
+    def __init__(self, program, name="disk", **more):
+        self.program, self.path, self.more = program, f"{name}-{os.getpid()}.socket", more
         self.log = open("disk.log", "ab")
         self.start()
 
     def start(self):
         # (what is freed is soon given back, so that what it holds can be measured)
-        environment = dict(os.environ, ASAN_OPTIONS="quarantine_size_mb=1:thread_local_quarantine_size_kb=16")
+        environment = dict(os.environ, ASAN_OPTIONS="quarantine_size_mb=1:thread_local_quarantine_size_kb=16", **self.more)
         self.process = run([self.program, self.path, "image", "2"], self.log, env=environment)
         wait_until(self.is_there, "the disk listens", 10)
 
@@ -144,7 +144,8 @@ class Disk:
         return sum("/memfd:memory-backend-memfd" in line for line in self.told("maps").splitlines())
 
     def descriptors(self):
-        return len(os.listdir(f"/proc/{self.process.pid}/fd"))
+        """How many it has, with a shell that it may run under."""
+        return sum(len(os.listdir(f"/proc/{it}/fd")) for it in patience.family(self.process.pid))
 
     def memory(self):
         """How many kilobytes of memory it holds beside the guest's."""
@@ -173,10 +174,13 @@ class Emulator:
             self.process = run(["qemu-system-x86_64", *machine, *monitor, *words], log)
 
     def greet(self):
-        """Connects to the monitor. What it says at first has QEMU's version."""
+        """Connects to the monitor. Its greeting has QEMU's version; an event that nobody heard may come before it."""
         self.qmp = self.connect(f"{self.name}.qmp")
-        told = json.loads(self.qmp.line("the monitor greets"))["QMP"]["version"]["qemu"]
-        self.version = (told["major"], told["minor"])
+        said = self.hear_monitor("the monitor greets")
+        while "event" in said:
+            said = self.hear_monitor("the monitor greets")
+        version = said["QMP"]["version"]["qemu"]
+        self.version = (version["major"], version["minor"])
         self.ask("qmp_capabilities")
 
     def connect(self, path):

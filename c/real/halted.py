@@ -1,17 +1,19 @@
 # SPDX-License-Identifier: Apache-2.0
 """Machines without a guest over the example disk: QEMU is the frontend, and this program drives the virtqueues (driver.py).
 
-    halted.py TRY DISK    in an empty folder: DISK is the compiled c/blk.c; for state it is the compiled state.c
+    halted.py TRY DISK    in an empty folder: DISK is the compiled c/blk.c, or another program with its arguments; for state it is the
+                          compiled state.c
 
 Prints what is done. Status 0 where all was as it has to be; 1 where something was not, which the last line says; 4 where this QEMU
 cannot do it. What runs is ended by then. The disks' lines are kept in the folder.
 """
 import os
 import random
+import signal
 import sys
 
 from driver import PAGE, READS, SECTOR, WRITES, Halted, Ring, Slot
-from emulator import Disk, check, migrate, play, run, sent, tell, wait_for_end, wait_running, wait_until
+from emulator import RUNNING, Disk, check, migrate, play, run, sent, tell, wait_for_end, wait_running, wait_until
 
 MEGABYTE = 1 << 20
 IMAGE_SIZE = 4 * MEGABYTE
@@ -209,6 +211,61 @@ def tried_postcopy(program):
     for ring in rings:
         use(ring, 8 * ring.index)
     end(disks, source, target)
+
+
+# What QEMU asks a disk for without a guest, of any version.
+ASKED = set(
+    "GET_FEATURES SET_FEATURES SET_OWNER SET_LOG_BASE GET_PROTOCOL_FEATURES SET_PROTOCOL_FEATURES GET_QUEUE_NUM GET_CONFIG GET_INFLIGHT_FD"
+    " SET_INFLIGHT_FD SET_VRING_NUM SET_VRING_ADDR SET_VRING_BASE GET_VRING_BASE SET_VRING_KICK SET_VRING_CALL SET_VRING_ENABLE".split())
+
+
+def drive(machine):
+    """What makes QEMU ask a disk for all that it does without a guest: two rings, a reset, and a migration. Nothing has to succeed."""
+    begin(Slot(machine, 5))
+    machine.reset()
+    begin(Slot(machine, 5))
+    machine.ask("migrate", uri="exec:cat >migrated")
+    wait_until(lambda: machine.ask("query-migrate")["status"] in ("completed", "failed"), "the migration is over")
+
+
+def ends_over(disk):
+    """A machine over a disk that refuses something: its monitor answers to the end, and SIGTERM ends it; or QEMU gives up by itself, and
+    says why. How it ended."""
+    try:
+        machine = machine_over("machine", disk)
+        drive(machine)
+        machine.ask("query-status")
+        machine.process.terminate()
+    except (SystemExit, OSError):
+        wait_until(lambda: RUNNING[-1].poll() is not None, "QEMU answers, or ends")
+    process = RUNNING[-1]
+    wait_until(lambda: process.poll() is not None, "SIGTERM ends QEMU")
+    check(process.returncode in (0, 1, -signal.SIGABRT), f"QEMU ended by itself, and not with status {process.returncode}")
+    check(process.returncode == 0 or os.path.getsize("machine.log") != 0, "QEMU says why it gives up")
+    return "goes on" if process.returncode == 0 else "gives up"
+
+
+def calls_of(program, refused):
+    """Which calls QEMU makes of a disk that refuses one, and whether it goes on."""
+    began = os.path.getsize("disk.log") if os.path.exists("disk.log") else 0
+    disk = Disk(program, COVRETIN_REFUSES=refused)
+    open_then = disk.descriptors()
+    ended = ends_over(disk)
+    wait_until(lambda: disk.descriptors() == open_then, "the disk has as many descriptors as at first")
+    disk.end()
+    with open("disk.log", encoding="utf-8") as it:
+        it.seek(began)
+        return {line.split()[1] for line in it if line.startswith("asked ")}, ended
+
+
+def tried_refused(program):
+    """Each call that QEMU makes of a disk is refused in turn: whoever waits is answered, or hung up on."""
+    calls, ended = calls_of(program, "nothing")
+    check(ended == "goes on" and ASKED <= calls, f"QEMU asks for all that is known, and not for {', '.join(sorted(calls))} alone")
+    for call in sorted(calls):
+        refused, ended = calls_of(program, call)
+        check(call in refused, f"{call} was refused")
+        tell(f"{call} is refused: QEMU {ended}")
 
 
 def tried_state(program):

@@ -2,7 +2,7 @@
 """Virtual machines over the example disk: QEMU is the frontend, and Linux drives the virtqueues.
 
     machine.py TRY DISK BOOT [ANY]    in an empty folder: DISK is the compiled c/blk.c, BOOT the sector of boot.S, ANY the compiled any.c;
-                                      for display DISK is the compiled picture.c
+                                      for display DISK is the compiled picture.c, and for entropy ANY the compiled c/rng.c
 
 Prints what is done. Status 0 where all was as it has to be; 1 where something was not, which the last line says. What runs is ended
 by then. The machines' consoles and the disks' lines are kept in the folder.
@@ -104,13 +104,11 @@ def make_image(boot):
 # -- The machine --
 
 
-class Machine(Emulator):
-    """QEMU over a disk."""
+class Guest(Emulator):
+    """QEMU with a console, on which Linux is told what to do."""
 
-    def __init__(self, name, disk, *words, reconnect=0, memory="256M"):
+    def __init__(self, name, memory, *words):
         words += ("-no-reboot", "-serial", f"unix:{name}.console,server=on,wait=on")
-        words += ("-chardev", f"socket,id=disk,path={disk.path},reconnect={reconnect}")
-        words += ("-device", "vhost-user-blk-pci,chardev=disk,num-queues=2,bootindex=1")
         super().__init__(name, "tcg", memory, *words)
         self.console = self.connect(f"{name}.console")
         self.seen = b""
@@ -147,6 +145,15 @@ class Machine(Emulator):
         wait_for_end(self.process, f"the machine {self.name}")
         self.console.close()
         self.qmp.close()
+
+
+class Machine(Guest):
+    """One that boots from a disk."""
+
+    def __init__(self, name, disk, *words, reconnect=0, memory="256M"):
+        words += ("-chardev", f"socket,id=disk,path={disk.path},reconnect={reconnect}")
+        words += ("-device", "vhost-user-blk-pci,chardev=disk,num-queues=2,bootindex=1")
+        super().__init__(name, memory, *words)
 
 
 def boot(name, disk, *words, **settings):
@@ -386,6 +393,29 @@ def tried_devices(program):
         check_calls(name, rings)
 
 
+def tried_entropy(program):
+    """A source of entropy: the guest's own driver takes bytes from it, which are others each time."""
+    disk = Disk(program)
+    path = f"entropy-{os.getpid()}.socket"
+    with open("entropy.said", "wb") as log:
+        source = run([ANY, path], log)
+    wait_until(lambda: os.path.exists(path), "the source listens", 10)
+    machine = boot("machine", disk, "-chardev", f"socket,id=entropy,path={path}", "-device", "vhost-user-rng-pci,chardev=entropy")
+    machine.do("insmod /modules/virtio-rng.ko")
+    check(machine.do("cat /sys/class/misc/hw_random/rng_current") == "virtio_rng.0", "the guest's source is this one")
+    machine.do("dd if=/dev/hwrng of=/tmp/bytes bs=512 count=128 iflag=fullblock 2>/dev/null")
+    check(machine.do("wc -c </tmp/bytes") == "65536", "as many bytes come as are taken")
+    pieces = machine.do("hexdump -v -e '64/1 \"%02x\" \"\\n\"' /tmp/bytes | sort -u | wc -l")
+    check(pieces == "1024", "no 64 of them come twice")
+    machine.do("rmmod virtio-rng && insmod /modules/virtio-rng.ko && head -c 64 /dev/hwrng | wc -c")
+    machine.power_off()
+    disk.end()
+    source.terminate()
+    wait_for_end(source, "the source")
+    with open("entropy.said", encoding="utf-8") as it:
+        check(it.read() == "a frontend went: peer disconnected\n", "the source served one frontend to its end")
+
+
 def tried_resized(program):
     """The disk's file grows while the machine runs: the guest is told, and reads what is in the new part."""
     disk = Disk(program)
@@ -466,4 +496,5 @@ def main():
                 os.remove(it)
 
 
-main()
+if __name__ == "__main__":
+    main()
