@@ -44,6 +44,7 @@ compile calls calls.c testing.c peer.c \
     -Wl,--wrap=sendmsg,--wrap=recvmsg,--wrap=poll,--wrap=connect,--wrap=covretin_answer_fd,--wrap=covretin_receive
 compile memory memory.c testing.c peer.c -Wl,--wrap=malloc,--wrap=calloc,--wrap=realloc
 compile service service.c by_hand.c testing.c peer.c
+compile answers answers.c by_hand.c testing.c peer.c
 compile both both.c testing.c peer.c
 compile hostile_frontend hostile_frontend.c by_hand.c testing.c peer.c
 compile serving_calls serving_calls.c by_hand.c testing.c peer.c "$wrap" -Wl,--wrap=accept4,--wrap=covretin_backend_receive
@@ -52,11 +53,13 @@ compile channel_session channel_session.c testing.c
 compile display display.c screen.c testing.c peer.c
 compile display_session display_session.c screen.c testing.c
 compile display_calls display_calls.c screen.c testing.c peer.c "$wrap"
+# (the emulator has no io_submit, which devices over queues signal by)
+compile queue queue.c testing.c "$to/build/proved_queue.o"
 
 passed=0
 failed=0
-for program in session replies connection hostile calls memory service both hostile_frontend serving_calls channel channel_session \
-    display display_session display_calls; do
+for program in session replies connection hostile calls memory service answers both hostile_frontend serving_calls channel channel_session \
+    display display_session display_calls queue; do
     rm -rf "$to/$program.room" && mkdir "$to/$program.room" || exit 3
     (cd "$to/$program.room" && exec qemu-aarch64 -L /usr/aarch64-linux-gnu "$to/$program") >"$to/$program.said" 2>&1 &
     ran=$!

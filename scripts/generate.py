@@ -3,7 +3,8 @@
 """Writes generated/: the proved library and programs as assembly, so that they are built without the kit.
 
   scripts/generate.py                 writes all of it: generated/MACHINE-linux/ of x86_64 and aarch64
-  scripts/generate.py NAME..          writes these alone: x86_64/covretin, x86_64/vhost-run, x86_64/vhost-daemon, aarch64/covretin
+  scripts/generate.py NAME..          writes these alone: x86_64/covretin, x86_64/covretin_queue, x86_64/vhost-run, x86_64/vhost-daemon,
+                                      aarch64/covretin, aarch64/covretin_queue
   scripts/generate.py --compare       writes nothing, and compares what is there with what is proved now, instruction by instruction
   scripts/generate.py --current NAME  status 0 where that one was made of the sources as they are, else 1; it needs no kit
   scripts/generate.py --program NAME  the same, and assembles the program on this machine, in out/ of its crate, and prints where it is
@@ -32,9 +33,11 @@ X86_64 = ("x86_64-unknown-linux-gnu", "x86-64")
 AARCH64 = ("aarch64-unknown-linux-gnu", "generic")
 MADE = {
     "x86_64/covretin": ("vhost_c", X86_64),
+    "x86_64/covretin_queue": ("vhost_c_queue_calls", X86_64),
     "x86_64/vhost-run": ("vhost_run", X86_64),
     "x86_64/vhost-daemon": ("vhost_daemon", X86_64),
     "aarch64/covretin": ("vhost_c", AARCH64),
+    "aarch64/covretin_queue": ("vhost_c_queue_calls", AARCH64),
 }
 
 LIBRARY = f"{TOP}/crates/vhost_c/out/libvhost_c"
@@ -119,7 +122,7 @@ def prove(name, room):
     crate, of = MADE[name]
     kit_folder, folder = kit(), f"{room}/toolchain"
     # (of a program the checker makes an object)
-    made = f"{room}/made.{'a' if crate == 'vhost_c' else 'o'}"
+    made = f"{room}/made.{'o' if os.path.isfile(f'{TOP}/crates/{crate}/src/main.rt') else 'a'}"
     keeping(f"{kit_folder}/toolchain", folder)
     words = [f"{kit_folder}/bin/rattle", "build", *words_of(crate, kit_folder, of, folder, made)]
     how = {"stdin": subprocess.DEVNULL, "stdout": subprocess.PIPE, "stderr": subprocess.STDOUT}

@@ -701,6 +701,50 @@ def profiles(path):
         same(daemon.end()[:2], (0, f"session {end}\n"))
 
 
+# Requests that the example device or its session refuses, by code and body; and by what under Standard: an acknowledgement with 1, the
+# body of the request's own reply, or the end of the stream.
+REFUSED = [
+    (6, struct.pack("<QQ", 4096, 0), "end"),
+    (7, b"", "acknowledged"),
+    (8, bytes(4), "acknowledged"),
+    (11, struct.pack("<II", 9, 0), "end"),
+    (18, struct.pack("<II", 0, 2), "acknowledged"),
+    (20, struct.pack("<Q", 70000), "acknowledged"),
+    (24, struct.pack("<III", 8, 4, 0), struct.pack("<III", 8, 0, 0)),
+    (28, b"", b""),
+    (29, b"", "acknowledged"),
+    (30, b"", struct.pack("<Q", 1)),
+    (31, struct.pack("<QQHHI", 0, 0, 1, 256, 0), struct.pack("<QQHHI", 0, 0, 1, 256, 0)),
+    (32, struct.pack("<QQHHI", 4096, 0, 1, 8, 0), "acknowledged"),
+    (37, struct.pack("<QQQQQ", 0, 0, 4096, 0, 0), "acknowledged"),
+    (40, b"", "end"),
+    (41, bytes([1] * 16), b""),
+    (42, bytes(8), struct.pack("<Q", 0x101)),
+    (44, b"", "end"),
+]
+
+
+def refusals_are_answered(path):
+    """Under Standard a client that waits hears of each refusal, or is hung up on; else it waits in vain."""
+    every = message(16, struct.pack("<Q", (1 << 23) - 1))
+    daemon = Daemon(f"--socket-path={path}", "--profile=standard")
+    for code, body, wanted in REFUSED:
+        with connect(path) as client:
+            ask(client)
+            client.sendall(every + SET_OWNER + message(2, struct.pack("<Q", 0x40000003)) + message(code, body, 9))
+            if wanted == "end":
+                same(everything(client), b"")
+            else:
+                wait_for(client, message(code, struct.pack("<Q", 1) if wanted == "acknowledged" else wanted, 5))
+    with connect(path) as client:
+        ask(client)
+    daemon.process.kill()
+    daemon.process.wait()
+    os.remove(path)
+    os.remove(f"{path}.pid")
+    return f"{len(REFUSED)} of {len(REFUSED)} answered"
+
+
 def longest_path(path):
     longest = path + (107 - len(path)) * "x"
     daemon = Daemon(longest, "1")
@@ -856,6 +900,7 @@ ROWS = [
     output_that_nobody_reads,
     closed_standard_streams,
     profiles,
+    refusals_are_answered,
     longest_path,
     second_daemon,
     two_started_together,

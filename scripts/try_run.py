@@ -53,10 +53,23 @@ get_max_mem_slots
 
 ROUNDS = 500
 
+# Calls that the example device, which has no descriptor to give any more, refuses by their own replies.
+REFUSED = b"""get_features
+set_owner
+set_features 0x40000000
+set_protocol_features 0x41308
+"""
+REFUSED += 8 * b"get_shared_object 0102030405060708090a0b0c0d0e0f10\n"
+AWAITED = b"""get_shared_object 0102030405060708090a0b0c0d0e0f10
+postcopy_advise
+get_inflight_fd 0 0 1 256
+get_config 0 8 0
+"""
 
-def run(program, given, stdout=subprocess.PIPE, stderr=subprocess.PIPE, **how):
+
+def run(program, given, *words, stdout=subprocess.PIPE, stderr=subprocess.PIPE, **how):
     """The status of a run of these lines, and what it wrote to its two outputs, where they are pipes."""
-    ran = subprocess.run([program], input=given, stdout=stdout, stderr=stderr, check=False, **how)
+    ran = subprocess.run([program, *words], input=given, stdout=stdout, stderr=stderr, check=False, **how)
     return ran.returncode, ran.stdout, ran.stderr
 
 
@@ -144,7 +157,16 @@ def ten_thousand_lines(program):
     same(lines[before:], ROUNDS * lines[before : before + each])
 
 
-ROWS = [torn_input, failing_outputs, output_that_nobody_reads, failing_errors, interrupted_writes, ten_thousand_lines]
+def refusals_by_replies(program):
+    """Under Standard whoever waits is answered, and both sides go on: each refusal is followed by an answer of its own call."""
+    each = b"".join(it + b"\nget_features\n" for it in AWAITED.splitlines())
+    status, output, errors = run(program, REFUSED + each, "--profile=standard")
+    same((status, errors), (0, b""))
+    lines = output.splitlines()[-2 * len(AWAITED.splitlines()):]
+    same([it.split(b" ", 2)[2] for it in lines], 4 * [b"err BackendInternalError", b"ok 0x40000003"])
+
+
+ROWS = [torn_input, failing_outputs, output_that_nobody_reads, failing_errors, interrupted_writes, ten_thousand_lines, refusals_by_replies]
 
 
 def play(row, program):
