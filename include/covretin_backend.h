@@ -123,10 +123,10 @@ enum covretin_error covretin_backend_open(covretin_backend *backend);
 
 /* Whose behaviour the session has from now on. Under STANDARD, as at first, whoever waits is answered, as above; a request of 1 to 44
  * that nobody serves is INVALID_OPERATION, and the session goes on; a ring may be enabled once PROTOCOL_FEATURES was offered or
- * accepted; and a memory table may be longer than its regions. Real frontends want all four. Under VHOST some refusals are silent,
- * also where a frontend waits, the second is INVALID_MESSAGE without a reply, and the others are refused; a request of any other
- * number is INVALID_MESSAGE without a reply under both. NO_SESSION; INVALID_PARAM: there is no such profile; NOT_REPLIED: a call is still to be replied to. After an error
- * nothing changed. */
+ * accepted; and a memory table may be longer than its regions. Real frontends want all four. Under VHOST some refusals have no reply,
+ * also where a frontend waits, the second is INVALID_MESSAGE without a reply, and the others are refused. A request of any other
+ * number is INVALID_MESSAGE without a reply under both. NO_SESSION; INVALID_PARAM: there is no such profile; NOT_REPLIED: a call is
+ * still to be replied to. After an error nothing changed. */
 enum covretin_error covretin_backend_set_profile(covretin_backend *backend, enum covretin_profile profile);
 
 /* Frees what the session held; it is {0} again. Descriptors are not closed. A session that is not open stays so. */

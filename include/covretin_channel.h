@@ -118,7 +118,7 @@ enum covretin_error covretin_channel_take(covretin_channel *channel);
 /* -- Asks -----------------------------------------------------------------------------------------------------------
  * Each makes its request, which covretin_channel_to_send then hands out. After an error nothing more is to be sent than before.
  * All may return NO_SESSION, NOT_TAKEN, OUT_OF_MEMORY, SOCKET_RETRY, SOCKET_BROKEN, INVALID_PARAM for an argument, and
- * INACTIVE_OPERATION: its feature was not accepted, as covretin_channel_set_.. was told. name is a UUID: name_len is 16; a
+ * INACTIVE_OPERATION: its feature was not accepted, as covretin_channel_set_.. says. name is a UUID: name_len is 16; a
  * frontend refuses one whose bytes are all 0 or all 255. */
 
 /* The configuration space changed, as that of a disk does that grew. Its feature is CONFIG. */

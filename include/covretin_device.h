@@ -154,7 +154,7 @@ void covretin_device_close(covretin_device *device);
 /* -- Requests --------------------------------------------------------------------------------------------------------- */
 
 /* The request is done, and so many bytes were written, from the first that is to be written on: the driver is told. From any thread. It is
- * no more. Where the session has ended meanwhile nobody is told. */
+ * no more. Where the session has ended meanwhile the driver hears nothing. */
 void covretin_request_done(covretin_request *request, uint32_t written);
 
 /* Whether memory of the session is lost: what was read may be zeros that nobody wrote. */

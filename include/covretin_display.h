@@ -14,7 +14,7 @@
  *
  * PIXELS are never copied. covretin_display_ask_update_scanout and covretin_display_ask_cursor_update make all of their message but
  * the pixels: its header, whose size counts them, and the rectangle or the cursor's place. The caller sends all that
- * covretin_display_to_send hands out, then from his own buffer exactly as many bytes of pixels as he told, and only then asks again.
+ * covretin_display_to_send hands out, then from his own buffer exactly as many bytes of pixels as he said, and only then asks again.
  *
  * No call makes a system call but for memory (malloc, realloc, free), waits for anything, or has a global state.
  *

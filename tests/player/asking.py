@@ -5,7 +5,7 @@ from ctypes import c_uint32, c_uint64
 from calls import answer_text, call_in, error_text
 from library import PROFILES, Failed, Session
 from player import Player, expect_read
-from script import cuts_of
+from script import short_reads_of
 from transport import Transport
 from words import expect, message_of, number_of
 
@@ -16,8 +16,8 @@ OFFERED = "01000000 05000000 08000000 0000004000000000"
 class Frontend:
     """A frontend's session, and what is on its way to it."""
 
-    def __init__(self, library, settings, piece, cuts):
-        self.session = Session(library, "", c_uint64(settings.queues), piece=piece, cuts=cuts)
+    def __init__(self, library, settings, piece, short_reads):
+        self.session = Session(library, "", c_uint64(settings.queues), piece=piece, short_reads=short_reads)
         self.session.call("set_profile", c_uint32(PROFILES[settings.profile]))
         self.transport = Transport()
 
@@ -48,7 +48,7 @@ class Asking(Player):
 
     def __init__(self, library, settings, n, piece):
         super().__init__(n)
-        self.frontend = Frontend(library, settings, piece, cuts_of(n, settings.cuts))
+        self.frontend = Frontend(library, settings, piece, short_reads_of(n, settings.short_reads))
 
     def take_call(self, text):
         self.pend(call_in(text))

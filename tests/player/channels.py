@@ -6,7 +6,7 @@ from calls import name_of
 from device import CHANNEL_CALLS, Sheet, conclude
 from library import OK, Mmap, Session, octets, outcome
 from player import Player, expect_read
-from script import cuts_of
+from script import short_reads_of
 from transport import Transport
 from words import Unreadable, fd_of, message_of, number_of
 
@@ -68,8 +68,8 @@ def call_in(text):
 class Device:
     """A device's session on a channel, and what is on its way to it."""
 
-    def __init__(self, library, prefix, piece, cuts):
-        self.session = Session(library, prefix, piece=piece, cuts=cuts)
+    def __init__(self, library, prefix, piece, short_reads):
+        self.session = Session(library, prefix, piece=piece, short_reads=short_reads)
         self.transport = Transport()
 
     def ask(self, name, *arguments):
@@ -92,7 +92,7 @@ class Asker(Player):
 
     def __init__(self, library, settings, n, piece):
         super().__init__(n)
-        self.side = Device(library, self.prefix, piece, cuts_of(n, settings.cuts))
+        self.side = Device(library, self.prefix, piece, short_reads_of(n, settings.short_reads))
 
     def take_request(self, text):
         self.want(text)
@@ -139,8 +139,8 @@ class ReverseAsking(Asker):
 class Server:
     """A frontend's session on the backend channel, and what is on its way to it."""
 
-    def __init__(self, library, piece, cuts):
-        self.session = Session(library, "channel_server_", piece=piece, cuts=cuts)
+    def __init__(self, library, piece, short_reads):
+        self.session = Session(library, "channel_server_", piece=piece, short_reads=short_reads)
         self.transport = Transport()
         self.sheet = Sheet(CHANNEL_CALLS, "err Raw 22")
 
@@ -160,7 +160,7 @@ class ReverseServed(Player):
 
     def __init__(self, library, settings, n, piece):
         super().__init__(n)
-        self.server = Server(library, piece, cuts_of(n, settings.cuts))
+        self.server = Server(library, piece, short_reads_of(n, settings.short_reads))
 
     def take_request(self, text):
         self.server.transport.put(message_of(self.n, text))

@@ -5,7 +5,7 @@ from calls import call_in
 from channels import Device, Server
 from channels import call_in as device_call_in
 from player import Player
-from script import cuts_of
+from script import short_reads_of
 from served import Backend, device_of
 from words import Unreadable, expect, message_of
 
@@ -93,8 +93,8 @@ class Joined(Lockstep):
 
     def __init__(self, library, settings, n, piece):
         super().__init__(n, device_of(settings), settings.over == "scripted")
-        self.frontend = Frontend(library, settings, piece, cuts_of(n, settings.cuts))
-        self.backend = Backend(library, settings.profile, self.device, piece, cuts_of(n, settings.serving_cuts))
+        self.frontend = Frontend(library, settings, piece, short_reads_of(n, settings.short_reads))
+        self.backend = Backend(library, settings.profile, self.device, piece, short_reads_of(n, settings.peer_short_reads))
         if settings.profile == "standard":
             self.stop = "ended"
 
@@ -118,9 +118,9 @@ class Reverse(Lockstep):
     """A device asks its frontend on the backend channel. Both sides know whether requests are acknowledged."""
 
     def __init__(self, library, settings, n, piece):
-        self.server = Server(library, piece, cuts_of(n, settings.serving_cuts))
+        self.server = Server(library, piece, short_reads_of(n, settings.peer_short_reads))
         super().__init__(n, self.server.sheet, True)
-        self.side = Device(library, "channel_", piece, cuts_of(n, settings.cuts))
+        self.side = Device(library, "channel_", piece, short_reads_of(n, settings.short_reads))
 
     def take_call(self, text):
         self.pend((device_call_in(text), ""))

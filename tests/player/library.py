@@ -69,8 +69,8 @@ def outcome(code):
 class Session:
     """A session of the library, of one of its five kinds, whose calls have the same prefix."""
 
-    def __init__(self, library, prefix, *opened, piece=MAX_MESSAGE, cuts=()):
-        self.library, self.prefix, self.piece, self.cuts = library, prefix, piece, list(cuts)
+    def __init__(self, library, prefix, *opened, piece=MAX_MESSAGE, short_reads=()):
+        self.library, self.prefix, self.piece, self.short_reads = library, prefix, piece, list(short_reads)
         self.held = Holder()
         self.call("open", *opened)
 
@@ -99,7 +99,7 @@ class Session:
 
     def room(self, most):
         """How many bytes the next call moves at most."""
-        return max(1, min([most, self.piece, *self.cuts[:1]]))
+        return max(1, min([most, self.piece, *self.short_reads[:1]]))
 
     def send(self):
         """All that it hands out to be sent, as a text."""
@@ -118,14 +118,14 @@ class Session:
         self.call("to_send", some, c_size_t(room), fds, c_size_t(MAX_FDS), *(byref(it) for it in counts))
         count, fd_count = (it.value for it in counts)
         if count:
-            del self.cuts[:1]
+            del self.short_reads[:1]
         return Message(bytes(some[:count]), list(fds[:fd_count]))
 
     def fill(self, transport):
         """Reads what it misses, as long as there is some. Whether nothing is missing any more."""
         while missing := self.result("missing"):
             message = transport.read(self.room(missing))
-            del self.cuts[:1]
+            del self.short_reads[:1]
             if not message.bytes:
                 return False
             self.call("receive", *octets(message.bytes), array(c_int32, message.fds), c_size_t(len(message.fds)))

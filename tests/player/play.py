@@ -79,7 +79,7 @@ class Stage:
             return
         player = PLAYERS[session.kind]
         for n in session.range:
-            for piece in [MAX_MESSAGE] if session.cuts or session.serving_cuts else [MAX_MESSAGE, 1]:
+            for piece in [MAX_MESSAGE] if session.short_reads or session.peer_short_reads else [MAX_MESSAGE, 1]:
                 self.play(session, lambda n=n, piece=piece: player(self.library, session, n, piece))
 
     def play(self, session, begin):

@@ -15,10 +15,13 @@ SETTINGS = {
     "over": ("served", "joined"),
     "queues": ("asking", "joined"),
     "profile": ("served", "asking", "joined"),
-    "cuts": PEERS,
-    "serving_cuts": ("joined", "reverse"),
+    "short_reads": PEERS,
+    "peer_short_reads": ("joined", "reverse"),
     "explained": ("lines",),
 }
+
+# The words of before, which are read as well until the next version.
+OLD_WORDS = {"cuts": "short_reads", "serving_cuts": "peer_short_reads"}
 
 
 @dataclass
@@ -33,14 +36,15 @@ class Session:
     spare: list = field(default_factory=list)
     queues: int = 2
     profile: str = "vhost"
-    cuts: str = ""
-    serving_cuts: str = ""
+    short_reads: str = ""
+    peer_short_reads: str = ""
     explained: bool = False
     steps: list = field(default_factory=list)
 
     def take(self, number, line):
         """Reads a line as a setting, where it is one and stands before the first step; else as a step."""
         word, _, rest = line.partition(" ")
+        word = OLD_WORDS.get(word, word)
         if self.steps or word not in SETTINGS:
             self.steps.append((number, line))
             return
@@ -71,21 +75,21 @@ class Session:
         self.explained = True
 
     def set_text(self, word, text):
-        """A profile, or cuts, which are counted anew for each number."""
+        """A profile, or short reads, which are counted anew for each number."""
         if word == "profile" and text not in PROFILES:
             raise Unreadable("a profile", text)
-        if word.endswith("cuts"):
-            cuts_of(0, text)
+        if word.endswith("short_reads"):
+            short_reads_of(0, text)
         setattr(self, word, text)
 
 
-def cuts_of(n, text):
+def short_reads_of(n, text):
     """How many bytes the calls of a link move at most, one after another."""
-    cuts = []
+    short_reads = []
     for word in text.split():
         word, star, count = word.partition("*")
-        cuts += [count_of(n, word)] * (count_of(n, count) if star else 1)
-    return cuts
+        short_reads += [count_of(n, word)] * (count_of(n, count) if star else 1)
+    return short_reads
 
 
 class Bad(Exception):

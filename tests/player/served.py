@@ -7,7 +7,7 @@ from device import BACKEND_CALLS, Sheet, conclude
 from dummy import Dummy
 from library import OK, PROFILES, Failed, Session, outcome
 from player import Player, expect_read
-from script import cuts_of
+from script import short_reads_of
 from transport import Transport
 from words import Unreadable, expect, message_of, number_of
 
@@ -24,8 +24,8 @@ def device_of(settings):
 class Backend:
     """A backend's session with its device, and what is on its way to it."""
 
-    def __init__(self, library, profile, device, piece, cuts):
-        self.session = Session(library, "backend_", piece=piece, cuts=cuts)
+    def __init__(self, library, profile, device, piece, short_reads):
+        self.session = Session(library, "backend_", piece=piece, short_reads=short_reads)
         self.session.call("set_profile", c_uint32(PROFILES[profile]))
         self.transport = Transport()
         self.device = device
@@ -48,7 +48,7 @@ class Served(Player):
 
     def __init__(self, library, settings, n, piece):
         super().__init__(n)
-        self.backend = Backend(library, settings.profile, device_of(settings), piece, cuts_of(n, settings.cuts))
+        self.backend = Backend(library, settings.profile, device_of(settings), piece, short_reads_of(n, settings.short_reads))
         self.device = self.backend.device
         self.is_scripted = settings.over == "scripted"
         self.ended = False

@@ -49,8 +49,8 @@ impl<S: VhostUserBackendReqHandler> BackendReqHandler<S> {
 
     /// Whose behaviour each request has from now on. Under `Standard` whoever waits hears of a refusal, or is hung up on; a
     /// [`FrontendReq`] that nobody serves is InvalidOperation, and the connection goes on; a ring may be enabled once
-    /// PROTOCOL_FEATURES was offered or accepted; and a memory table may be longer than its regions. Under `Vhost` some refusals are
-    /// silent, the second is InvalidMessage, and the others are refused. A request of a number that is no [`FrontendReq`] is
+    /// PROTOCOL_FEATURES was offered or accepted; and a memory table may be longer than its regions. Under `Vhost` some refusals have
+    /// no reply, the second is InvalidMessage, and the others are refused. A request of a number that is no [`FrontendReq`] is
     /// InvalidMessage, without a reply, under both.
     pub fn set_profile(&mut self, profile: Profile) {
         self.connection.set(|session| session.set_profile(profile as u32));
