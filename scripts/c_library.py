@@ -1,7 +1,7 @@
 #!/usr/bin/env python3
 # SPDX-License-Identifier: Apache-2.0
 """Builds the proved library for programs in C, crates/vhost_c/out/libvhost_c.a, where it is not there or a source is newer,
-and beside it libvhost_c.verdict, the line in which the checker says what is proved, and libvhost_c.s, the same code as assembly.
+and beside it libvhost_c.verdict, the checker's verdict (verdict.py), and libvhost_c.s, the same code as assembly.
 Status 0, or 3 with why not.
 
 `c_library.py --current` builds nothing: status 0 where they are there and no source is newer, else 1.
@@ -14,7 +14,6 @@ missing or older than its sources, each is built by `rt lib` first, lowest first
 quick pass over all sources at once, which reports errors in functions that this library does not reach.
 """
 import os
-import re
 import shutil
 import subprocess
 import sys
@@ -22,6 +21,7 @@ import tempfile
 import time
 
 from assembly import assembly, keeping
+from verdict import LISTING, verdict_of
 
 TOP = os.path.dirname(os.path.dirname(os.path.abspath(__file__)))
 NAME = "vhost_c"
@@ -83,7 +83,7 @@ def run(folder, *words):
 
 def over_libraries(kit, uses, archive, toolchain):
     """Proves and builds it over the libraries that are there."""
-    words = ["--crate-name", NAME, "src/lib.rt", "--crate-type", "staticlib", "--cpu", CPU, "--links", f"{NAME}=", "--backend", "llvm"]
+    words = ["--crate-name", NAME, "src/lib.rt", "--crate-type", "staticlib", "--cpu", CPU, "--links", f"{NAME}=", "--backend", "llvm", LISTING]
     for it in ["std", *uses[NAME]]:
         words += ["--extern", f"{it}={rlib(it) if it in uses else f'{kit}/rlibs/{it}.rlib'}"]
     for it in [f"{kit}/rlibs", *(os.path.dirname(rlib(it)) for it in below(NAME, uses))]:
@@ -121,14 +121,14 @@ def build(kit, uses, names):
         if is_built:
             keeping(f"{kit}/toolchain", f"{room}/toolchain")
             said, is_built = over_libraries(kit, uses, ARCHIVE, f"{room}/toolchain")
-        lines = re.findall(r"(?m)^logic=proved .*$", said)
-        if not is_built or not lines:
+        verdict = verdict_of(said)
+        if not is_built or not verdict:
             print(said, end="", file=sys.stderr)
             stop("not proved, or not built")
         with open(ASSEMBLY, "w", encoding="utf-8") as it:
             it.write(assembly(f"{kit}/toolchain", f"{room}/toolchain"))
     with open(VERDICT, "w", encoding="utf-8") as it:
-        it.write(f"{lines[-1]}\n")
+        it.write(verdict)
 
 
 def watch(kit, uses):

@@ -9,8 +9,8 @@
   scripts/generate.py --current NAME  status 0 where that one was made of the sources as they are, else 1; it needs no kit
   scripts/generate.py --program NAME  the same, and assembles the program on this machine, in out/ of its crate, and prints where it is
 
-In a machine's folder NAME.s is the code; NAME.verdict the line in which the checker says what is proved; and NAME.sources the sum of the
-sources that it was made of, and the kit that proved it. What is made depends on nothing else, and names no place.
+In a machine's folder NAME.s is the code; NAME.verdict has the functions in C that its proof assumes, and the line in which the checker says
+what is proved; and NAME.sources the sum of the sources that it was made of, and the kit that proved it. What is made depends on nothing else, and names no place.
 
 The libraries below have to be there, as ./test leaves them. For x86_64 the library is what scripts/c_library.py builds, which proves it
 where a source is newer. Each of the others is a proof of its last crate: a minute or two of one processor, and five for aarch64.
@@ -19,7 +19,6 @@ Status 0; 1 where something differs or is not current; 2 after wrong arguments; 
 """
 import hashlib
 import os
-import re
 import shutil
 import subprocess
 import sys
@@ -27,6 +26,7 @@ import tempfile
 
 from assembly import assembly, keeping
 from build import TOP, crates_below, dependencies, kit
+from verdict import LISTING, verdict_of
 
 # The crate of each, with the kind, target and processor of its code: it runs on every processor of the family.
 X86_64 = ("x86_64-unknown-linux-gnu", "x86-64")
@@ -108,7 +108,7 @@ def words_of(crate, kit_folder, of, toolchain, made):
         stop(f"{lacking[0]} is not built: ./test builds it")
     root = "src/main.rt" if os.path.isfile(f"{TOP}/crates/{crate}/src/main.rt") else "src/lib.rt"
     words = ["--crate-name", crate, root, *(["--crate-type", "staticlib"] if root == "src/lib.rt" else [])]
-    words += ["--target", target, "--cpu", cpu, "--links", f"{crate}=", "--backend", "llvm"]
+    words += ["--target", target, "--cpu", cpu, "--links", f"{crate}=", "--backend", "llvm", LISTING]
     for it in ["std", *uses[crate]]:
         words += ["--extern", f"{it}={rlib(it) if it in uses else f'{kit_folder}/rlibs/{it}.rlib'}"]
     for it in [f"{kit_folder}/rlibs", *(os.path.dirname(rlib(it)) for it in crates_below(crate)[:-1])]:
@@ -118,7 +118,7 @@ def words_of(crate, kit_folder, of, toolchain, made):
 
 
 def prove(name, room):
-    """Proves and builds one: the object or archive, the same as assembly, and the checker's line."""
+    """Proves and builds one: the object or archive, the same as assembly, and the checker's verdict."""
     crate, of = MADE[name]
     kit_folder, folder = kit(), f"{room}/toolchain"
     # (of a program the checker makes an object)
@@ -127,11 +127,11 @@ def prove(name, room):
     words = [f"{kit_folder}/bin/rattle", "build", *words_of(crate, kit_folder, of, folder, made)]
     how = {"stdin": subprocess.DEVNULL, "stdout": subprocess.PIPE, "stderr": subprocess.STDOUT}
     ran = subprocess.run(words, cwd=f"{TOP}/crates/{crate}", text=True, errors="replace", check=False, **how)
-    lines = re.findall(r"(?m)^logic=proved .*$", ran.stdout)
-    if ran.returncode or not lines:
+    verdict = verdict_of(ran.stdout)
+    if ran.returncode or not verdict:
         print(ran.stdout, end="", file=sys.stderr)
         stop(f"{name} was not proved, or not built")
-    return made, assembly(f"{kit_folder}/toolchain", folder), f"{lines[-1]}\n"
+    return made, assembly(f"{kit_folder}/toolchain", folder), verdict
 
 
 def proved(name, room):

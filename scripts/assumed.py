@@ -1,0 +1,157 @@
+#!/usr/bin/env python3
+# SPDX-License-Identifier: Apache-2.0
+"""Writes docs/ASSUMED.md: whatever the proofs rest on and nothing proves, counted from the verdicts in generated/ and from the sources.
+
+  scripts/assumed.py           compares the page with what it would write
+  scripts/assumed.py --write   writes it
+
+Status 0 where both are the same; 1 where they differ, and the first lines that do are printed; 2 after wrong arguments.
+"""
+import difflib
+import glob
+import os
+import re
+import sys
+
+TOP = os.path.dirname(os.path.dirname(os.path.realpath(__file__)))
+PAGE = f"{TOP}/docs/ASSUMED.md"
+
+# Definitions that a reader has to believe, each by the modules that state it.
+READ = {
+    "the table of requests, and the runs over a stream": ("vhost_protocol", "Run"),
+    "the law of refusals under Standard": ("vhost_protocol", "Settled"),
+    "the frontend's answers": ("vhost_protocol", "AnswerTable"),
+    "lockstep of a frontend and a backend": ("vhost_pair", "Lockstep"),
+    "a split queue": ("vhost_queue", "Queue"),
+    "a packed queue": ("vhost_queue", "PackedRings"),
+}
+
+# Code that no proof reaches, by its files.
+UNPROVED = {
+    "memory for the proved code, and the start of a program": ("c/covretin_memory.c", "c/covretin_program.c"),
+    "sockets in C, with their descriptors": ("c/covretin_*socket.c", "c/covretin_transport.[ch]", "c/covretin_serving.[ch]"),
+    "texts in C": ("c/covretin_text.c",),
+    "the device kit in C: mapped memory, rings, events": ("c/covretin_device*.[ch]",),
+    "calls of C and of the system from Rust, where all `unsafe` is": ("rust/src/foreign/*.rs",),
+    "the other code of the package for Rust": ("rust/src/*.rs", "rust/src/vhost_user/*.rs"),
+}
+
+# What the words of a verdict say.
+WORDS = {
+    "logic=proved": "each function is proved to meet its contract, with no hole",
+    "functions": "that many functions of the last crate; those below it are proved in libraries",
+    "axioms": "that many functions in C are assumed to meet a contract: the table above names them",
+    "sum": "the program logic, by its sum",
+    "native": "the checker computes on these by code of its own language",
+    "logic-built=trusted": "the logic was built once, and is taken as it lies in the kit",
+    "libraries-built=trusted": "proved libraries are taken as they were built; the gate builds them from nothing",
+    "statements=trusted": "the statements of the kit's ported crates are read as they stand",
+    "threads": "C functions by which threads begin and end",
+    "main": "handles that `main` is given",
+    "may-wait": "that many functions may wait",
+}
+
+
+def text_of(path):
+    with open(path, encoding="utf-8") as file:
+        return file.read()
+
+
+def files_of(patterns):
+    return sorted({path for pattern in patterns for path in glob.glob(f"{TOP}/{pattern}")})
+
+
+def lines_in(paths):
+    return sum(text_of(path).count("\n") for path in paths)
+
+
+def module_at(crate, words):
+    """The longest beginning of a name that is a module of definitions written by hand, or None."""
+    for count in range(len(words), 0, -1):
+        path = f"{TOP}/crates/{crate}/specs/{'/'.join(words[:count])}.antt"
+        if os.path.isfile(path):
+            return path
+    return None
+
+
+def closure(crate, module):
+    """The modules that one rests on, itself among them, by the modules that each of them uses."""
+    found, left = set(), [f"{TOP}/crates/{crate}/specs/{module}.antt"]
+    while left:
+        path = left.pop()
+        if path not in found:
+            found.add(path)
+            uses = re.findall(r"(?m)^\s*use Rattle\.(\w+)\.specs\.([\w.]+)", text_of(path))
+            left += filter(None, (module_at(used, name.strip(".").split(".")) for used, name in uses))
+    return found
+
+
+def verdicts():
+    """Each verdict by its name: the functions that it assumes, and its words."""
+    for path in sorted(glob.glob(f"{TOP}/generated/*/*.verdict")):
+        *assumed, line = text_of(path).splitlines()
+        name = f"{os.path.basename(path).removesuffix('.verdict')}, {os.path.basename(os.path.dirname(path)).removesuffix('-linux')}"
+        yield name, [it.removeprefix("axiom ") for it in assumed], dict(word.partition("=")[::2] for word in line.split())
+
+
+def assumed_rows():
+    for name, assumed, words in verdicts():
+        if int(words["axioms"]) != len(assumed):
+            print(f"{name} counts {words['axioms']} axioms, and names {len(assumed)}")
+        yield f"| {name} | {words['functions']} | {', '.join(f'`{it}`' for it in assumed)} |"
+
+
+def word_rows():
+    said = {f"{word}={value}" if f"{word}={value}" in WORDS else word for _, _, words in verdicts() for word, value in words.items()}
+    for word in sorted(said - {"target", "cpu"}):
+        yield f"| `{word}` | {WORDS[word]} |"
+
+
+def unsafe_rows():
+    """Blocks of unsafe code, by file, in Rattle and in Rust."""
+    for path in files_of(("crates/*/src/*.rt", "crates/*/src/*/*.rt", "rust/src/*.rs", "rust/src/*/*.rs")):
+        count = len(re.findall(r"(?m)^[^/\n]*\bunsafe (?:\{|impl|fn|extern)", text_of(path)))
+        if count:
+            yield f"| `{os.path.relpath(path, TOP)}` | {count} |"
+
+
+def page():
+    """The page."""
+    readers = [(of, closure(*module)) for of, module in READ.items()]
+    parts = [
+        "# Assumed",
+        "`scripts/assumed.py` writes this page, and `.ci/run` compares it. It counts whatever the proofs rest on and nothing proves.\n"
+        "[PROOFS](PROOFS.md) says it in words, and [THREATS](THREATS.md) who could gain by a fault there.",
+        "## Functions in C\n\n| Code | Functions proved | Functions in C that its proof assumes |\n|---|---|---|\n" + "\n".join(assumed_rows()),
+        "Their contracts stand in the kit's libraries. The words of each verdict, which lies beside the code in `generated/`:",
+        "| Word | It says that |\n|---|---|\n" + "\n".join(word_rows()),
+        "## Definitions\n\nA reader has to believe these, with all that they are made of. No code is in them.\n\n| Of | Modules | Lines |\n|---|---|---|\n"
+        + "\n".join(f"| {of} | {len(modules)} | {lines_in(modules):,} |" for of, modules in readers),
+        "## Code that is tested only\n\n| Code | Lines |\n|---|---|\n"
+        + "\n".join(f"| {of} | {lines_in(files_of(patterns)):,} |" for of, patterns in UNPROVED.items()),
+        "## Unsafe code\n\nThe blocks in Rattle are proved, too. Each in Rust has its reason beside it.\n\n| File | Blocks |\n|---|---|\n" + "\n".join(unsafe_rows()),
+        "## Tools\n\n"
+        "- The checker and its logic: the Rattle kit. Each `.sources` file in `generated/` names the kit and the logic that proved it.\n"
+        "- Two code generators: LLVM makes the code that ships, and the kit's own compiles each program once more. The gate compares their outputs.\n"
+        "- The assembler and linker, the C library, the kernel and the processor.",
+    ]
+    return "\n\n".join(parts) + "\n"
+
+
+def main(words):
+    if words not in ([], ["--write"]):
+        print(__doc__, end="", file=sys.stderr)
+        return 2
+    wanted = page()
+    if words:
+        with open(PAGE, "w", encoding="utf-8") as file:
+            file.write(wanted)
+        return 0
+    there = text_of(PAGE) if os.path.isfile(PAGE) else ""
+    differ = list(difflib.unified_diff(there.splitlines(), wanted.splitlines(), "docs/ASSUMED.md", "scripts/assumed.py", n=0, lineterm=""))
+    print("\n".join(differ[:20]) if differ else "docs/ASSUMED.md is what the sources say")
+    return 1 if differ else 0
+
+
+if __name__ == "__main__":
+    sys.exit(main(sys.argv[1:]))
