@@ -2,8 +2,9 @@
 # SPDX-License-Identifier: Apache-2.0
 """scripts/quotes.py: whether the code that pages quote stands in the sources.
 
-A block of `rust` is quoted from one file of crates/vhost_examples/src or rust/examples, one of `antt` from one file of some crate's specs/: its
-lines stand there in this order, without the space before them; a line '// ..' or '-- ..' leaves some out.
+A block of `rust` is quoted from one file of crates/vhost_examples/src or below rust/examples, one of `c` from one file of c/, c/tests or
+c/real, one of `antt` from one file of some crate's specs/: its lines stand there in this order, without the space before them; a line
+'// ..', '/* .. */' or '-- ..' leaves some out. A block of `rust,no_run` is none: rustdoc compiles it.
 A session '$ ./vhost-run <<END' is quoted from one session of tests/scripts/lines_*.txt: its lines are typed there, and printed.
 
 Status 0 where all is quoted; 1 where some is not: the block's page and line are printed.
@@ -15,12 +16,23 @@ import sys
 
 TOP = os.path.dirname(os.path.dirname(os.path.realpath(__file__)))
 
-SOURCES = {"rust": ["crates/vhost_examples/src/*.rt", "rust/examples/*.rs"], "antt": ["crates/*/specs/*.antt"]}
+SOURCES = {
+    "rust": ["crates/vhost_examples/src/*.rt", "rust/examples/**/*.rs"],
+    "c": ["c/*.c", "c/tests/*.c", "c/real/*.c"],
+    "antt": ["crates/*/specs/*.antt"],
+}
+PAGES = ["*.md", "docs/**/*.md", "rust/**/*.md"]
 
 
 def read(path):
     with open(path, encoding="utf-8") as file:
         return file.read()
+
+
+def files_of(patterns):
+    """The files of these patterns, but for what cargo made."""
+    found = {path for pattern in patterns for path in glob.glob(pattern, root_dir=TOP, recursive=True)}
+    return [f"{TOP}/{path}" for path in sorted(found) if "target" not in path.split("/")]
 
 
 def lines_of(text):
@@ -43,7 +55,7 @@ def parts_of(block):
     """The parts of a block between the lines that leave some out."""
     parts = [[]]
     for line in lines_of(block):
-        if re.match(r"(//|--) \.\.", line):
+        if re.match(r"(//|--|/\*) \.\.", line):
             parts.append([])
         else:
             parts[-1].append(line)
@@ -66,13 +78,12 @@ def is_quoted(kind, block):
     """Whether a block stands in the sources."""
     if kind == "session":
         return is_session(block)
-    paths = [path for pattern in SOURCES[kind] for path in glob.glob(f"{TOP}/{pattern}")]
-    return any(stands_in(parts_of(block), lines_of(read(path))) for path in paths)
+    return any(stands_in(parts_of(block), lines_of(read(path))) for path in files_of(SOURCES[kind]))
 
 
 def blocks_of(text):
     """The blocks of a page that are quoted: each with its line and its kind."""
-    for found in re.finditer(r"^```(rust|antt)\n(.*?)^```", text, re.S | re.M):
+    for found in re.finditer(r"^```(rust|c|antt)\n(.*?)^```", text, re.S | re.M):
         yield text.count("\n", 0, found.start()) + 1, found[1], found[2]
     for found in re.finditer(r"^    \$ \./vhost-run <<END\n(?:    .*\n)*", text, re.M):
         yield text.count("\n", 0, found.start()) + 1, "session", found[0]
@@ -80,7 +91,7 @@ def blocks_of(text):
 
 def main():
     missing = 0
-    for page in sorted([*glob.glob(f"{TOP}/*.md"), *glob.glob(f"{TOP}/docs/**/*.md", recursive=True)]):
+    for page in files_of(PAGES):
         for number, kind, block in blocks_of(read(page)):
             if not is_quoted(kind, block):
                 missing += 1
