@@ -1,4 +1,4 @@
-//! Four small programs over the library, one after another: each is a module of its own. CALLING.md explains them.
+//! Four small programs over the library, one after another: each is a module of its own. docs/guide/rattle.md explains them.
 #![tactic(auto)]
 
 mod asking;

@@ -19,7 +19,7 @@ macro_rules! devices {
         /// What a call is given is the device's, as the frontend made it: a call of it may wait, and its close, too, where it is a socket
         /// that lingers ([`close_at_once`](super::close_at_once) does not). An error refuses the request; it goes to who called
         /// [`handle_request`](super::BackendReqHandler::handle_request), and is not sent. Where the reply is a value that can't say
-        /// so, as of `get_features`, nothing is replied, and the frontend waits.
+        /// so, as of `get_features`, the frontend is hung up on; under [`Profile::Vhost`](super::Profile) it waits.
         pub trait VhostUserBackendReqHandler {
             $($(#[$doc])* fn $name(&self, $($arg: $ty),*) -> $out;)*
             $($(#[$doc2])* #[allow(unused_variables)] fn $name2(&self, $($arg2: $ty2),*) -> $out2 { $default })*

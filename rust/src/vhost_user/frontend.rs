@@ -53,8 +53,8 @@ pub trait VhostUserFrontend: VhostBackend {
     /// Gives the socket on which the backend makes requests of its own. It stays the caller's. BACKEND_REQ.
     fn set_backend_request_fd(&mut self, fd: &dyn AsRawFd) -> Result<()>;
 
-    /// The object of this name that the backend shares. InvalidMessage: it replied without a descriptor, as one does that has no such
-    /// object; the connection ends. SHARED_OBJECT.
+    /// The object of this name that the backend shares. BackendInternalError: it replied without a descriptor, as one does that has no
+    /// such object; under [`Profile::Vhost`](super::Profile) that is InvalidMessage, and the connection ends. SHARED_OBJECT.
     fn get_shared_object(&mut self, uuid: &VhostUserSharedMsg) -> Result<File>;
 
     /// The inflight region for so many rings of this size, and the file that maps it. INFLIGHT_SHMFD.
