@@ -8,7 +8,7 @@
 A command is a line '    $ ..', with those that go on with it. All of a page run in one shell, one after another: of a guide in an empty folder
 with the checkout in `covretin`, of any other page in the checkout. Lines behind a command that begin with no '$' are printed by then, each
 whole, in their order. A command of tests/commands is tried elsewhere, and left out here. /tmp is a folder of the try's own, and cargo takes
-the crates that Debian packages. Behind a command in the background the next one waits for the sockets that it names.
+the crates that Debian packages. A command behind one in the background waits for the sockets that it names itself.
 
 It prints a line for each page, with its seconds, and last 'N passed, M failed'. Status 0 where all passed, 1 where one did not, 2 after wrong
 arguments.
@@ -23,7 +23,7 @@ import tempfile
 import time
 from dataclasses import dataclass, field
 
-from patience import LimitSpent, communicate
+from patience import LimitSpent, communicate, fields_of, wait_until
 
 TOP = os.path.dirname(os.path.dirname(os.path.realpath(__file__)))
 
@@ -39,8 +39,15 @@ GUIDES = "docs/guide/"
 
 # How many seconds of a processor a page may take, and idle ones.
 LIMIT = 600
-# How many seconds pass until a socket is there, in tenths.
+# The same, once its last command has ended.
+BEHIND = 10
+# How many tenths of a second pass until a socket is there.
 TENTHS = 1200
+
+
+def text_of(path):
+    with open(path, encoding="utf-8", errors="replace") as file:
+        return file.read()
 
 
 @dataclass
@@ -53,7 +60,7 @@ class Command:
 
     def goes_on(self):
         """Whether its last line ends within it."""
-        here = re.search(r"<<(\w+)", self.text)
+        here = re.search(r"<<'?(\w+)", self.text)
         if here:
             return not self.text.endswith(f"\n{here[1]}")
         return self.text.endswith("\\") or self.text.count("'") % 2 == 1
@@ -64,7 +71,7 @@ def commands_of(text):
     found, is_block = [], False
     for number, line in enumerate(text.split("\n"), 1):
         line, is_code = line[4:], line.startswith("    ")
-        if is_code and found and is_block and found[-1].goes_on():
+        if is_block and found[-1].goes_on() and (is_code or not line):
             found[-1].text += f"\n{line}"
         elif is_code and line.startswith("$ "):
             found.append(Command(number, line[2:]))
@@ -76,6 +83,11 @@ def commands_of(text):
     return found
 
 
+def plain(text):
+    """A command as one line."""
+    return " ".join(text.replace("\\\n", " ").split())
+
+
 def elsewhere():
     """The commands that other tests run, each with its test."""
     with open(f"{TOP}/tests/commands", encoding="utf-8") as file:
@@ -85,38 +97,40 @@ def elsewhere():
 
 def script_of(commands, room):
     """The shell's script: before each command it writes the line of the page, so that it is known where it ended."""
-    lines = ["set -e"]
+    lines, is_behind = ["set -e"], False
     for command in commands:
         text = command.text.replace("/tmp/", f"{room}/tmp/")
+        if is_behind:
+            lines += [f"i=0; until [ -S {it} ]; do i=$((i + 1)); [ $i != {TENTHS} ]; sleep 0.1; done" for it in re.findall(r"[\w./-]+\.sock\b", text)]
         lines += [f"echo {command.number} >{room}/at", text]
-        if text.endswith("&"):
-            lines += [f"i=0; until [ -S {it} ]; do i=$((i + 1)); [ $i != {TENTHS} ]; sleep 0.1; done" for it in re.findall(r"\S+\.sock\b", text)]
+        is_behind = text.endswith("&")
     return "\n".join(lines) + "\n"
 
 
-def shell(room, folder, script):
-    """Runs a script in a folder: its status, and what it and all that it began wrote."""
+def variables(room):
+    """The environment of a try: cargo takes what Debian packages, and files go into its own folder."""
     os.mkdir(f"{room}/bin")
     cargo = shutil.which("cargo")
     if cargo:
         with open(f"{room}/bin/cargo", "w", encoding="utf-8") as file:
             file.write(f'#!/bin/sh\nexec {cargo} --config {TOP}/rust/debian.toml --offline --quiet "$@"\n')
         os.chmod(f"{room}/bin/cargo", 0o755)
-    variables = {**os.environ, "PATH": f"{room}/bin:{os.environ['PATH']}", "TMPDIR": f"{room}/tmp", "CARGO_HOME": f"{room}/cargo"}
-    with open(f"{room}/output", "w+b") as output:
-        how = {"cwd": folder, "env": variables, "stdin": subprocess.DEVNULL, "stdout": output, "stderr": output, "start_new_session": True}
-        with subprocess.Popen(["sh", "-c", script], **how) as ran:
-            try:
-                communicate(ran, "the page's commands have ended", LIMIT)
-            finally:
-                for sign in (signal.SIGTERM, signal.SIGKILL):
-                    try:
-                        os.killpg(ran.pid, sign)
-                    except ProcessLookupError:
-                        break
-                    time.sleep(0.5)
-        output.seek(0)
-        return ran.returncode, output.read().decode(errors="replace")
+    return {**os.environ, "PATH": f"{room}/bin:{os.environ['PATH']}", "TMPDIR": f"{room}/tmp", "CARGO_HOME": f"{room}/cargo"}
+
+
+def group(number):
+    """The processes of a group."""
+    return [int(it) for it in os.listdir("/proc") if it.isdigit() and fields_of(f"/proc/{it}")[2:3] == [str(number)]]
+
+
+def end(number):
+    """Ends the processes of a group."""
+    for sign in (signal.SIGTERM, signal.SIGKILL):
+        try:
+            os.killpg(number, sign)
+        except ProcessLookupError:
+            return
+        time.sleep(0.5)
 
 
 def missing(commands, said):
@@ -129,11 +143,31 @@ def missing(commands, said):
     return None
 
 
+def ran(commands, room, folder):
+    """Runs commands in a folder: why they do not do as the page says, or None."""
+    said = f"{room}/said"
+    with open(said, "wb") as output:
+        how = {"cwd": folder, "env": variables(room), "stdin": subprocess.DEVNULL, "stdout": output, "stderr": output, "start_new_session": True}
+        with subprocess.Popen(["sh", "-c", script_of(commands, room)], **how) as process:
+            try:
+                communicate(process, "the page's commands have ended", LIMIT)
+                # (one in the background may still print)
+                if process.returncode == 0:
+                    wait_until(lambda: not missing(commands, text_of(said)), "all was printed", lambda: group(process.pid), BEHIND)
+            except LimitSpent as spent:
+                print(spent)
+            finally:
+                end(process.pid)
+    if process.returncode:
+        return f"{text_of(said)}{text_of(f'{room}/at').strip()}: ended with status {process.returncode}"
+    wrong = missing(commands, text_of(said))
+    return f"{text_of(said)}{wrong}" if wrong else None
+
+
 def play(tree, page):
     """Why a page does not hold, or None."""
-    with open(f"{tree}/{page}", encoding="utf-8") as file:
-        known = elsewhere()
-        commands = [it for it in commands_of(file.read()) if it.text not in known]
+    known = elsewhere()
+    commands = [it for it in commands_of(text_of(f"{tree}/{page}")) if plain(it.text) not in known]
     if not commands:
         return "it has no commands"
     with tempfile.TemporaryDirectory(prefix="page-") as room:
@@ -143,15 +177,7 @@ def play(tree, page):
             folder = f"{room}/empty"
             os.mkdir(folder)
             os.symlink(os.path.abspath(tree), f"{folder}/covretin")
-        try:
-            status, said = shell(room, folder, script_of(commands, room))
-        except LimitSpent as spent:
-            return str(spent)
-        if status:
-            with open(f"{room}/at", encoding="utf-8") as file:
-                return f"{said}{file.read().strip()}: ended with status {status}"
-        wrong = missing(commands, said)
-        return f"{said}{wrong}" if wrong else None
+        return ran(commands, room, folder)
 
 
 def main(words):
