@@ -97,7 +97,7 @@ def verdicts():
 def assumed_rows():
     for name, assumed, words in verdicts():
         if int(words["axioms"]) != len(assumed):
-            print(f"{name} counts {words['axioms']} axioms, and names {len(assumed)}")
+            sys.exit(f"{name} counts {words['axioms']} axioms, and names {len(assumed)}")
         yield f"| {name} | {words['functions']} | {', '.join(f'`{it}`' for it in assumed)} |"
 
 

@@ -1,18 +1,22 @@
 #!/usr/bin/env python3
 # SPDX-License-Identifier: Apache-2.0
-"""scripts/quotes.py: whether the code that pages quote stands in the sources.
+"""scripts/quotes.py: whether the code that pages quote stands in the sources, and their commands are run by a test.
 
 A block of `rust` is quoted from one file of crates/vhost_examples/src or below rust/examples, one of `c` from one file of c/, c/tests or
 c/real, one of `antt` from one file of some crate's specs/: its lines stand there in this order, without the space before them; a line
 '// ..', '/* .. */' or '-- ..' leaves some out. A block of `rust,no_run` is none: rustdoc compiles it.
 A session '$ ./vhost-run <<END' is quoted from one session of tests/scripts/lines_*.txt: its lines are typed there, and printed.
+Any other command '$ ..' is of a page that scripts/try_pages.py plays, which a test calls for that page, or it stands in tests/commands with
+the test that runs it: a file, and a word that stands there. A row of that list is of some page.
 
-Status 0 where all is quoted; 1 where some is not: the block's page and line are printed.
+Status 0 where all is so; 1 where some is not: its page and line are printed.
 """
 import glob
 import os
 import re
 import sys
+
+from try_pages import PLAYED, commands_of, elsewhere, plain
 
 TOP = os.path.dirname(os.path.dirname(os.path.realpath(__file__)))
 
@@ -89,14 +93,40 @@ def blocks_of(text):
         yield text.count("\n", 0, found.start()) + 1, "session", found[0]
 
 
+def untried(page, text, known):
+    """The commands of a page that no test runs."""
+    for command in commands_of(text):
+        if not (page in PLAYED or plain(command.text) in known or command.text.startswith("./vhost-run <<END")):
+            yield f"{page}:{command.number}: no test runs '{plain(command.text)[:60]}'"
+
+
+def missing_tests(texts, known):
+    """What the lists of pages and of commands name that is not there."""
+    for page, test in PLAYED.items():
+        if page not in texts or "try_pages.py" not in read(f"{TOP}/{test}"):
+            yield f"scripts/try_pages.py: {page} is no page, or {test} does not play pages"
+    typed = {plain(command.text) for text in texts.values() for command in commands_of(text)}
+    for command, where in known.items():
+        file, _, word = where.partition(" ")
+        if command not in typed or not os.path.isfile(f"{TOP}/{file}") or word not in read(f"{TOP}/{file}"):
+            yield f"tests/commands: '{command[:60]}' stands on no page, or {where} is not there"
+
+
+def unquoted(page, text):
+    """The blocks of a page that no source has."""
+    for number, kind, block in blocks_of(text):
+        if not is_quoted(kind, block):
+            yield f"{page}:{number}: no source has this {kind}"
+
+
 def main():
-    missing = 0
-    for page in files_of(PAGES):
-        for number, kind, block in blocks_of(read(page)):
-            if not is_quoted(kind, block):
-                missing += 1
-                print(f"{os.path.relpath(page, TOP)}:{number}: no source has this {kind}")
-    return 1 if missing else 0
+    texts = {os.path.relpath(path, TOP): read(path) for path in files_of(PAGES)}
+    known = elsewhere()
+    wrong = [fault for page, text in texts.items() for fault in (*unquoted(page, text), *untried(page, text, known))]
+    wrong += missing_tests(texts, known)
+    for fault in wrong:
+        print(fault)
+    return 1 if wrong else 0
 
 
 if __name__ == "__main__":

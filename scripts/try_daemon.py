@@ -13,6 +13,7 @@ import os
 import pathlib
 import resource
 import select
+import shutil
 import signal
 import socket
 import stat
@@ -888,6 +889,17 @@ def before_the_first_build(path):
     copy.rmdir()
 
 
+def commands_of_pages(_):
+    """The page on the daemon, and the guide for Rattle where its kit is there, as a new user follows them, in a copy of the checkout."""
+    pages = ["docs/DAEMON.md", *(["docs/guide/rattle.md"] if shutil.which("rt") else [])]
+    with tempfile.TemporaryDirectory() as room:
+        shutil.copytree(TOP, f"{room}/covretin", ignore=shutil.ignore_patterns(".git", "out", "target", "build"), symlinks=True)
+        words = [sys.executable, TOP / "scripts/try_pages.py", f"{room}/covretin", *pages]
+        ran = subprocess.run(words, stdout=subprocess.PIPE, text=True, check=False)
+    assert ran.returncode == 0, ran.stdout
+    return ", ".join(ran.stdout.splitlines()[:-1])
+
+
 ROWS = [
     before_the_first_build,
     inquiries,
@@ -918,6 +930,7 @@ ROWS = [
     no_thread_left,
     many_at_once,
     flat,
+    commands_of_pages,
 ]
 
 
