@@ -890,12 +890,9 @@ def before_the_first_build(path):
 
 
 def commands_of_pages(_):
-    """The page on the daemon, and the guide for Rattle where its kit is there, as a new user follows them, in a copy of the checkout."""
+    """The page on the daemon, and the guide for Rattle where its kit is there, as a new user follows them."""
     pages = ["docs/DAEMON.md", *(["docs/guide/rattle.md"] if shutil.which("rt") else [])]
-    with tempfile.TemporaryDirectory() as room:
-        shutil.copytree(TOP, f"{room}/covretin", ignore=shutil.ignore_patterns(".git", "out", "target", "build"), symlinks=True)
-        words = [sys.executable, TOP / "scripts/try_pages.py", f"{room}/covretin", *pages]
-        ran = subprocess.run(words, stdout=subprocess.PIPE, text=True, check=False)
+    ran = subprocess.run([sys.executable, TOP / "scripts/try_pages.py", TOP, *pages], stdout=subprocess.PIPE, text=True, check=False)
     assert ran.returncode == 0, ran.stdout
     return ", ".join(ran.stdout.splitlines()[:-1])
 

@@ -2,8 +2,7 @@
 # SPDX-License-Identifier: Apache-2.0
 """Plays the commands of pages as a new user types them.
 
-  scripts/try_pages.py TREE PAGE..   TREE is a checkout, which the try may write into; each PAGE one of its pages
-  scripts/try_pages.py --list        which pages are played so, and by which test
+  scripts/try_pages.py TREE PAGE..   TREE is a checkout, of which each page gets a copy of its own; each PAGE one of its pages
 
 A command is a line '    $ ..', with those that go on with it. All of a page run in one shell, one after another: of a guide in an empty folder
 with the checkout in `covretin`, of any other page in the checkout. Lines behind a command that begin with no '$' are printed by then, each
@@ -40,6 +39,8 @@ GUIDES = "docs/guide/"
 # These need crates that Debian has not packaged yet, in the folder that COVRETIN_CRATES names.
 BEYOND = {"docs/guide/rust.md"}
 
+# What a copy of a checkout leaves out.
+BUILT = (".git", "out", "target", "build")
 # How many seconds of a processor a page may take, and idle ones.
 LIMIT = 600
 # The same, once its last command has ended.
@@ -177,18 +178,12 @@ def play(tree, page):
         return "it has no commands"
     with tempfile.TemporaryDirectory(prefix="page-") as room:
         os.mkdir(f"{room}/tmp")
-        folder = tree
-        if page.startswith(GUIDES):
-            folder = f"{room}/empty"
-            os.mkdir(folder)
-            os.symlink(os.path.abspath(tree), f"{folder}/covretin")
-        return ran(commands, room, folder)
+        os.mkdir(f"{room}/empty")
+        copy = shutil.copytree(tree, f"{room}/empty/covretin", ignore=shutil.ignore_patterns(*BUILT), symlinks=True)
+        return ran(commands, room, f"{room}/empty" if page.startswith(GUIDES) else copy)
 
 
 def main(words):
-    if words == ["--list"]:
-        print("\n".join(f"{page}\t{test}" for page, test in PLAYED.items()))
-        return 0
     if len(words) < 2 or not os.path.isdir(words[0]):
         print(__doc__, end="", file=sys.stderr)
         return 2
