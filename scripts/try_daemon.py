@@ -3,7 +3,8 @@
 """Tries the daemon as a service: `./test-daemon` runs it. Each row is a function below that asserts what is wanted, on a daemon of
 its own in a folder of its own. It needs Python alone, and Linux's /proc.
 
-Words choose rows by their names. Status 0 where all passed; 1 where one failed; 3 where the daemon could not be built.
+Words choose rows by their names. Status 0 where all passed; 1 where one failed; 2 where a word is of none; 3 where the daemon could not be
+built.
 """
 
 import contextlib
@@ -961,7 +962,7 @@ def main(words):
     rows = [row for row in ROWS if not words or any(word in row.__name__ for word in words)]
     if not rows:
         print("try_daemon: no row has such a name", file=sys.stderr)
-        return 1
+        return 2
     passed = [play(row) for row in rows]
     print(f"{sum(passed)} passed, {len(passed) - sum(passed)} failed")
     return 0 if all(passed) else 1

@@ -61,7 +61,7 @@ enum { FIGURES_AT = sizeof figures_at / sizeof figures_at[0] };
 void fail(const char *what)
 {
     fprintf(stderr, "bench: %s failed\n", what);
-    exit(2);
+    exit(1);
 }
 
 double now(void)
@@ -124,7 +124,7 @@ static void show_good(int figure, long count)
 static int usage(void)
 {
     fprintf(stderr, "usage: bench [--limits | --at SOCKET | --try | --one FIGURE COUNT]\n");
-    return 1;
+    return 2;
 }
 
 /* Does the work of one figure, of this name, so often. Whether there is one. */
