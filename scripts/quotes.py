@@ -25,7 +25,7 @@ SOURCES = {
     "c": ["c/*.c", "c/tests/*.c", "c/real/*.c"],
     "antt": ["crates/*/specs/*.antt"],
 }
-PAGES = ["*.md", "docs/**/*.md", "rust/**/*.md"]
+PAGES = ["*.md", "docs/**/*.md", "dev/*.md", "rust/**/*.md"]
 
 
 def read(path):
