@@ -19,7 +19,7 @@
 #include <sys/timerfd.h>
 #include <unistd.h>
 
-enum { MOST_CALLS = 256, SOCKET = COVRETIN_DEVICE_MAX_QUEUES, WAKE, STOP, TIMER, MOST_READY };
+enum { MOST_CALLS = 256 };
 
 /* -- The loop -- */
 
@@ -122,6 +122,10 @@ static void take_events(struct session *session)
         else if (of == TIMER && read(session->timer, &none, sizeof none) > 0)
             for (uint32_t each = 0; each < session->calls->queues; each++)
                 session->rings[each].is_due |= session->rings[each].kick < 0;
+        else if (of == CHANNEL)
+            teller_go_on(session);
+        else if (of == CHANNEL_TIMER && read(session->teller.timer, &none, sizeof none) > 0)
+            teller_look(session);
         else if (of == SOCKET && session->waits != 0 && ready[i].events & (EPOLLHUP | EPOLLERR))
             session->why = COVRETIN_DISCONNECTED;
         else if (of == SOCKET)
@@ -151,6 +155,7 @@ static void plan(struct session *session)
 static void give_up(struct session *session)
 {
     epoll_ctl(session->polled, EPOLL_CTL_DEL, covretin_service_fd(&session->frontend), NULL);
+    teller_end(session);
     covretin_hang_up(&session->frontend);
     arrival_end(&session->arrival, session->space);
     for (uint32_t i = 0; i < session->calls->queues; i++) {
@@ -177,6 +182,7 @@ static void session_free(struct session *session)
         covretin_queue_close(&session->rings[i].queue);
     if (session->requests != 0)
         syscall(SYS_io_destroy, session->requests);
+    teller_free(session);
     close_if(session->empty);
     close_if(session->timer);
     close_if(session->stop);
@@ -228,7 +234,7 @@ enum covretin_error covretin_device_serve(covretin_device *device)
 
 /* -- Their life -- */
 
-static bool poll_for(struct session *session, int fd, uint32_t of)
+bool poll_for(const struct session *session, int fd, uint32_t of)
 {
     struct epoll_event ready = {.events = EPOLLIN, .data.u32 = of};
     return fd >= 0 && epoll_ctl(session->polled, EPOLL_CTL_ADD, fd, &ready) == 0;
@@ -244,7 +250,7 @@ static enum covretin_error prepare(struct session *session)
     session->empty = memfd_create("empty", MFD_CLOEXEC);
     if (session->polled < 0 || session->empty < 0 || !poll_for(session, session->holder.wake, WAKE) ||
         !poll_for(session, session->stop, STOP) || !poll_for(session, session->timer, TIMER) ||
-        syscall(SYS_io_setup, 1, &session->requests) != 0)
+        !teller_prepare(session) || syscall(SYS_io_setup, 1, &session->requests) != 0)
         return COVRETIN_SOCKET_ERROR;
     session->arrival = (struct arrival){.holder = &session->holder, .userfault = -1, .stop = session->stop, .signals = session->signals};
     for (uint32_t i = 0; i < session->calls->queues; i++)
@@ -270,7 +276,7 @@ static enum covretin_error open_session(covretin_device *device, const covretin_
     session->calls = calls;
     session->own = own;
     session->signals = signals;
-    session->inflight_fd = -1;
+    session->inflight_fd = session->teller.timer = -1;
     for (uint32_t i = 0; i < COVRETIN_DEVICE_MAX_QUEUES; i++) {
         session->rings[i].kick = -1;
         session->rings[i].call.fd = session->rings[i].error.fd = -1;
@@ -402,8 +408,11 @@ static void refuse_another(covretin_listener *listener, const covretin_device *d
     const struct session *session = device->opaque;
     struct pollfd gone = {.fd = covretin_service_fd(&session->frontend)};
     covretin_service other = {0};
-    if (gone.fd >= 0 && poll(&gone, 1, 0) == 0 && covretin_accept(listener, &other, 0) == COVRETIN_OK)
-        covretin_hang_up(&other);
+    if (gone.fd < 0 || poll(&gone, 1, 0) != 0 || covretin_accept(listener, &other, 0) != COVRETIN_OK)
+        return;
+    covretin_hang_up(&other);
+    if (session->calls->turned_away != NULL)
+        session->calls->turned_away(session->own);
 }
 
 /* Serves the frontend that is there until it goes. False: a signal came. */

@@ -4,11 +4,15 @@
 #ifndef COVRETIN_DEVICE_SESSION_H
 #define COVRETIN_DEVICE_SESSION_H
 
+#include "covretin_channel_socket.h"
 #include "covretin_device.h"
 #include "covretin_device_memory.h"
 
 #include <linux/aio_abi.h>
 #include <pthread.h>
+
+/* What is polled for: the kick of a ring, by its number, or one of these. */
+enum { SOCKET = COVRETIN_DEVICE_MAX_QUEUES, WAKE, STOP, TIMER, CHANNEL, CHANNEL_TIMER, MOST_READY };
 
 /* What a ring signals: an eventfd, or a pipe, opened anew. */
 struct bell {
@@ -51,6 +55,14 @@ struct taken {
     struct iovec segments[];
 };
 
+/* The backend channel, where this part keeps it. */
+struct teller {
+    covretin_channel_connection vmm;
+    int timer;     /* a timerfd */
+    bool is_due;   /* there is a change to be told, */
+    bool is_asked; /* and one that is being told */
+};
+
 struct session {
     struct holder holder;
     pthread_mutex_t lock;
@@ -63,6 +75,7 @@ struct session {
     uint16_t inflight_queue_size;
     int inflight_fd; /* of the region that was made here; open until its reply was sent */
     struct arrival arrival;
+    struct teller teller;
     struct ring rings[COVRETIN_DEVICE_MAX_QUEUES];
     size_t out;      /* requests that the device has, of all rings */
     uint32_t waits;  /* a call that is replied to once requests are done; 0: none */
@@ -110,6 +123,23 @@ void ring_give(struct session *session, struct ring *ring, const struct taken *t
 
 /* Signals a bell, without waiting. */
 void ring_signal(struct session *session, const struct bell *bell);
+
+/* -- The backend channel -- */
+
+/* What has to be there for it; and that is closed. */
+bool teller_prepare(struct session *session);
+void teller_free(struct session *session);
+
+/* Takes the channel's socket over. False: it stays the caller's. */
+bool teller_begin(struct session *session, int fd);
+void teller_end(struct session *session);
+
+/* The channel is ready; or it is time to ask the device whether its configuration changed. */
+void teller_go_on(struct session *session);
+void teller_look(struct session *session);
+
+/* Has something polled for, to be read. */
+bool poll_for(const struct session *session, int fd, uint32_t of);
 
 /* -- Calls -- */
 

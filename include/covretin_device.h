@@ -89,7 +89,8 @@ typedef struct covretin_device_calls {
     uint64_t features;
 
     /* The same of protocol features: MQ, LOG_SHMFD, REPLY_ACK, PAGEFAULT, INFLIGHT_SHMFD, RESET_DEVICE and CONFIGURE_MEM_SLOTS are; CONFIG
-     * where there is `read_config`, BACKEND_REQ where there is `channel`. Here is what these want on the channel, as BACKEND_SEND_FD. */
+     * where there is `read_config`, BACKEND_REQ where there is `channel` or `config_changed`. Here is what these want on the channel, as
+     * BACKEND_SEND_FD. */
     uint64_t protocol_features;
 
     uint32_t queues; /* 1 to COVRETIN_DEVICE_MAX_QUEUES */
@@ -104,11 +105,15 @@ typedef struct covretin_device_calls {
     bool (*read_config)(void *own, uint32_t offset, uint8_t *bytes, uint32_t size);
     bool (*write_config)(void *own, uint32_t offset, const uint8_t *bytes, uint32_t size);
 
+    /* Whether the configuration space has changed since this was last asked, or read: then the frontend is told, over the backend channel, that
+     * it is to read it again. Asked five times a second, as long as there is that channel, which this part keeps then. */
+    bool (*config_changed)(void *own);
+
     /* The device is as it was at first; it has no request. */
     void (*reset)(void *own);
 
     /* The socket of the backend channel (covretin_channel_socket.h), with the protocol features that were accepted. True: it is the
-     * device's to close. */
+     * device's to close. Not called where there is `config_changed`. */
     bool (*channel)(void *own, int fd, uint64_t protocol_features);
 
     /* A request of the frontend, by its number, was refused, or ended the session. */
@@ -116,6 +121,9 @@ typedef struct covretin_device_calls {
 
     /* The driver broke a rule of a queue: nothing more is taken of it until the device is reset. */
     void (*broken)(void *own, uint32_t queue, enum covretin_queue_error error);
+
+    /* Another frontend came meanwhile, and was hung up on: of covretin_device_run. */
+    void (*turned_away)(void *own);
 
     /* The session has ended, for this reason, and no request is left. The last callback. */
     void (*ended)(void *own, enum covretin_error error);

@@ -4,6 +4,7 @@
 #define _GNU_SOURCE
 #endif
 
+#include "covretin_channel_socket.h"
 #include "covretin_device.h"
 #include "covretin_socket.h"
 #include "testing.h"
@@ -53,7 +54,8 @@ static struct {
     bool keeps;
     atomic_bool is_over; /* its loop is to end, though the session has not */
     covretin_request *kept[MOST_KEPT];
-    size_t kept_count, served, broken, resets, ended;
+    atomic_bool has_changed; /* its configuration */
+    size_t kept_count, served, broken, resets, turned_away, ended;
     enum covretin_queue_error why_broken;
     enum covretin_error why_ended;
     uint32_t last_queue;
@@ -112,6 +114,18 @@ static bool on_write_config(void *own, uint32_t offset, const uint8_t *bytes, ui
     return true;
 }
 
+static bool on_config_changed(void *own)
+{
+    (void)own;
+    return atomic_exchange(&its.has_changed, false);
+}
+
+static void on_turned_away(void *own)
+{
+    (void)own;
+    its.turned_away++;
+}
+
 static void on_reset(void *own)
 {
     (void)own;
@@ -139,8 +153,10 @@ static const covretin_device_calls calls = {.features = COVRETIN_DEVICE_RING_PAC
                                             .accepted = on_accepted,
                                             .read_config = on_read_config,
                                             .write_config = on_write_config,
+                                            .config_changed = on_config_changed,
                                             .reset = on_reset,
                                             .broken = on_broken,
+                                            .turned_away = on_turned_away,
                                             .ended = on_ended};
 
 /* The same without packed rings, so that there is an inflight region. */
@@ -1071,6 +1087,45 @@ static void has_a_configuration(void)
     end();
 }
 
+/* A frontend that is told so replies only once it has read the configuration; one that refuses is told the next time, too; and one that
+ * closes the channel is told no more. */
+static void tells_of_a_changed_configuration(void)
+{
+    covretin_channel_service channel = {0};
+    uint32_t call = 0;
+    int ends[2];
+    begin(&calls);
+    negotiate(0);
+    if (socketpair(AF_UNIX, SOCK_STREAM | SOCK_CLOEXEC, 0, ends))
+        give_up("socketpair");
+    DONE(covretin_ask_set_backend_request_fd(&vmm.session, ends[1]));
+    close(ends[1]);
+    EXPECT(COVRETIN_OK, covretin_channel_serve_fd(&channel, ends[0]));
+    EXPECT(COVRETIN_OK, covretin_channel_server_set_reply_ack(&channel.server, true));
+    EXPECT(COVRETIN_TIMED_OUT, covretin_channel_next_call(&channel, &call, 500));
+    for (uint64_t refusal = 0; refusal < 2; refusal++) {
+        its.has_changed = true;
+        EXPECT(COVRETIN_OK, covretin_channel_next_call(&channel, &call, LIMIT));
+        EXPECT(COVRETIN_CHANNEL_CALL_CONFIG_CHANGE, call);
+        DONE(covretin_ask_get_config(&vmm.session, 0, 4, 0));
+        its.has_changed = true; /* and once more, amid that */
+        for (int i = 0; i < LIMIT && its.has_changed; i++)
+            usleep(1000);
+        EXPECT(COVRETIN_OK, covretin_channel_reply_number(&channel.server, refusal));
+        EXPECT(COVRETIN_OK, covretin_channel_next_call(&channel, &call, LIMIT));
+        EXPECT(COVRETIN_OK, covretin_channel_reply_number(&channel.server, refusal));
+        EXPECT(COVRETIN_TIMED_OUT, covretin_channel_next_call(&channel, &call, 500));
+    }
+    REFUSED(covretin_ask_set_backend_request_fd(&vmm.session, STDOUT_FILENO)); /* it is no socket */
+    covretin_channel_hang_up(&channel);
+    usleep(50000);
+    its.has_changed = true;
+    usleep(500000);
+    EXPECT(true, its.has_changed);
+    its.has_changed = false;
+    end();
+}
+
 /* A ring without eventfds is looked at each millisecond. */
 static void polls_a_ring_without_a_kick(void)
 {
@@ -1228,7 +1283,7 @@ static void refuses_tables(void)
 static void runs_until_a_signal(void)
 {
     covretin_connection other = {0};
-    its.ended = its.served = 0;
+    its.ended = its.served = its.turned_away = 0;
     its.keeps = false;
     if (pthread_create(&loop_thread, NULL, run_device, NULL))
         give_up("pthread_create");
@@ -1248,6 +1303,7 @@ static void runs_until_a_signal(void)
         EXPECT(COVRETIN_OK, covretin_ask_get_features(&other.session));
         EXPECT(COVRETIN_DISCONNECTED, covretin_exchange(&other, LIMIT));
         covretin_disconnect(&other);
+        wait_for(&its.turned_away, (size_t)round + 1);
         covretin_disconnect(&vmm);
         wait_for(&its.ended, (size_t)round + 1);
         free_queue(&queue);
@@ -1293,6 +1349,7 @@ int main(void)
     RUN(logs_what_it_writes);
     RUN(refuses_other_files);
     RUN(has_a_configuration);
+    RUN(tells_of_a_changed_configuration);
     RUN(polls_a_ring_without_a_kick);
     RUN(closes_amid_a_request);
     RUN(bears_anything_in_a_split_queue);
