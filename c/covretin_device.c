@@ -157,6 +157,7 @@ static void give_up(struct session *session)
     epoll_ctl(session->polled, EPOLL_CTL_DEL, covretin_service_fd(&session->frontend), NULL);
     teller_end(session);
     covretin_hang_up(&session->frontend);
+    arrival_lose(&session->arrival);
     arrival_end(&session->arrival, session->space);
     for (uint32_t i = 0; i < session->calls->queues; i++) {
         ring_stop(session, &session->rings[i]);

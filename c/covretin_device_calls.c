@@ -236,14 +236,18 @@ static enum covretin_error rem_mem_reg(struct session *session)
     return reply(session, at < had && use_regions(session, space_new(session->space, at, NULL, 0)));
 }
 
+/* The log that was there is kept where the new one cannot be had: nothing that is written meanwhile is lost. */
 static enum covretin_error set_log_base(struct session *session)
 {
     covretin_region log;
-    mapping_release(session->log);
-    session->log = NULL;
+    struct mapping *mapping = NULL;
     if (covretin_call_log(&session->frontend.backend, &log) == COVRETIN_OK)
-        session->log = mapping_new(&session->holder, log.fd, log.mmap_offset, log.memory_size);
-    return reply(session, session->log != NULL);
+        mapping = mapping_new(&session->holder, log.fd, log.mmap_offset, log.memory_size);
+    if (mapping == NULL)
+        return reply(session, false);
+    mapping_release(session->log);
+    session->log = mapping;
+    return reply(session, true);
 }
 
 static enum covretin_error postcopy_advise(struct session *session)
@@ -485,8 +489,11 @@ static enum covretin_error do_nothing(struct session *session)
 /* (its requests are done) */
 static enum covretin_error reset_device(struct session *session)
 {
-    for (uint32_t i = 0; i < session->calls->queues; i++)
+    for (uint32_t i = 0; i < session->calls->queues; i++) {
         ring_stop(session, &session->rings[i]);
+        session->rings[i].base = 0;
+        session->rings[i].has_base = session->rings[i].is_enabled = false;
+    }
     if (session->calls->reset != NULL) {
         pthread_mutex_unlock(&session->lock);
         session->calls->reset(session->own);

@@ -294,3 +294,9 @@ bool arrival_end(struct arrival *arrival, const struct space *space)
     arrival->userfault = -1;
     return is_ended;
 }
+
+void arrival_lose(const struct arrival *arrival)
+{
+    if (arrival->userfault >= 0)
+        lose_all(arrival->holder, arrival->userfault);
+}

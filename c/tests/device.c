@@ -832,6 +832,59 @@ static void stops_while_it_waits_for_a_page(void)
     free_memory();
 }
 
+/* What a thread of the device's own takes from the guest's memory, at a page that does not come: nothing, and no zeros in its place. */
+static void *write_out(void *of)
+{
+    const covretin_request *request = of;
+    int file = memfd_create("image", MFD_CLOEXEC);
+    ssize_t wrote = pwritev(file, request->segments, (int)request->readable, 0);
+    int error = wrote < 0 ? errno : 0;
+    close(file);
+    return (void *)(intptr_t)error;
+}
+
+/* The frontend hangs up while another thread than the loop's waits for a page: as the loop sees that, and the watcher. */
+static void gives_no_zeros_for_a_page_of_who_went(void)
+{
+    for (int round = 0; round < 30; round++) {
+        struct uffd_msg fault;
+        pthread_t thread;
+        void *error = NULL;
+        begin(&calls);
+        negotiate(0);
+        make_memory();
+        struct queue queue = make_queue(0);
+        write_request(&queue, 0, "waits");
+        put(&queue, 0, GUEST + BUFFERS + 0x4000, 2, NEXT, 1); /* on a page that does not come */
+        give_memory_by_pages();
+        EXPECT(3, number(covretin_ask_get_queue_num(&vmm.session))); /* the device watches its pages by now */
+        for (uint64_t offset = 0; offset < SIZE; offset += 4096)
+            if (offset != BUFFERS + 0x4000)
+                copy_page(offset);
+        start(&queue, 0);
+        its.keeps = true;
+        post(&queue, 0);
+        wait_for(&its.kept_count, 1);
+        if (pthread_create(&thread, NULL, write_out, its.kept[0]))
+            give_up("pthread_create");
+        struct pollfd polled = {.fd = userfault, .events = POLLIN};
+        EXPECT(1, poll(&polled, 1, LIMIT));
+        EXPECT(sizeof fault, read(userfault, &fault, sizeof fault));
+        covretin_disconnect(&vmm);
+        pthread_join(thread, &error);
+        EXPECT(EFAULT, (intptr_t)error);
+        EXPECT(true, covretin_request_is_lost(its.kept[0]));
+        covretin_request_done(its.kept[0], 0);
+        pthread_join(loop_thread, NULL);
+        EXPECT(1, its.ended);
+        covretin_device_close(&device);
+        close(userfault);
+        free(source);
+        free_queue(&queue);
+        free_memory();
+    }
+}
+
 /* A call that is full, and would block whoever writes it; a pipe, and one that nobody reads. */
 static void never_waits_for_a_call(void)
 {
@@ -1340,6 +1393,7 @@ int main(void)
         RUN(takes_pages_as_they_come);
         RUN(waits_for_no_page_of_who_went);
         RUN(stops_while_it_waits_for_a_page);
+        RUN(gives_no_zeros_for_a_page_of_who_went);
     } else
         printf("postcopy is left out: userfaultfd is not allowed here\n");
     RUN(frontend_dies_amid_a_request);
