@@ -374,15 +374,15 @@ bool covretin_request_is_lost(const covretin_request *request)
     return ((const struct taken *)(const void *)request)->session->holder.has_lost;
 }
 
-/* Copies between bytes and the beginning of these segments. */
+/* Copies between bytes, unless these are NULL, and the beginning of these segments. */
 static size_t copy(struct iovec *segments, size_t count, uint8_t *bytes, size_t len, bool is_read)
 {
     size_t done = 0;
     for (size_t i = 0; i < count && done < len; i++) {
         size_t part = segments[i].iov_len < len - done ? segments[i].iov_len : len - done;
-        if (is_read)
+        if (is_read && bytes != NULL)
             memcpy(bytes + done, segments[i].iov_base, part);
-        else
+        else if (bytes != NULL)
             memcpy(segments[i].iov_base, bytes + done, part);
         segments[i] = (struct iovec){(uint8_t *)segments[i].iov_base + part, segments[i].iov_len - part};
         done += part;

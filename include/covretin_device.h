@@ -169,7 +169,7 @@ void covretin_request_done(covretin_request *request, uint32_t written);
 bool covretin_request_is_lost(const covretin_request *request);
 
 /* Copies bytes from the beginning of what is to be read, or to that of what is to be written, and takes that part off the segments, of which
- * some are empty then. How many: fewer than `len` where no more are there. */
+ * some are empty then; bytes that are NULL are not copied. How many: fewer than `len` where no more are there. */
 size_t covretin_request_read(covretin_request *request, void *bytes, size_t len);
 size_t covretin_request_write(covretin_request *request, const void *bytes, size_t len);
 

@@ -1,7 +1,7 @@
 """Frontends that mean harm to the example disk: disk_attacks.py DISK [NAME..], in an empty folder. DISK is the compiled c/blk.c.
 
-Each has a disk of its own. Once it is gone the disk has as many descriptors and as much memory mapped as before, serves another
-frontend, and ends by SIGTERM with status 0. Prints a line for each; status 0 where all passed, else 1.
+Each has a disk of its own. Once it is gone the disk serves another frontend, has as many descriptors and as much memory mapped then as
+with the first one, and ends by SIGTERM with status 0. Prints a line for each; status 0 where all passed, else 1.
 """
 
 import fcntl
@@ -55,11 +55,7 @@ class Disk:
         self.said = open(f"{name}.said", "wb")
         self.program = program
         self.start()
-        first = Frontend(self, None)
-        check(first.ask(GET_FEATURES), "the disk serves")
-        fds, mapped = self.has()
-        self.had = fds - 1, mapped  # one is the socket of that frontend
-        first.close()
+        self.had = self.has()
 
     def start(self):
         words = [self.program, self.path, self.image]
@@ -78,10 +74,15 @@ class Disk:
         return words[0], (int(words[11]) + int(words[12])) / os.sysconf("SC_CLK_TCK")
 
     def has(self):
-        """How many descriptors it has open, and how many files of memory mapped."""
+        """How many descriptors it has open, and how many files of memory mapped, once it serves a frontend that did nothing: some belong to
+        a session."""
+        frontend = Frontend(self, None)
+        check(frontend.ask(GET_FEATURES), "the disk serves")
         with open(f"/proc/{self.process.pid}/maps", encoding="ascii") as it:
             mapped = sum("/memfd:" in line for line in it)
-        return len(os.listdir(f"/proc/{self.process.pid}/fd")), mapped
+        fds = len(os.listdir(f"/proc/{self.process.pid}/fd"))
+        frontend.close()
+        return fds, mapped
 
     def wait_until(self, holds, what):
         looks = 0
@@ -528,7 +529,7 @@ def attacked(program, attack):
     disk = Disk(program, attack.__name__)
     try:
         attack(disk)
-        disk.wait_until(lambda: disk.has() == disk.had, f"it has {disk.had[0]} descriptors and {disk.had[1]} mappings again")
+        check(disk.has() == disk.had, f"it has {disk.had[0]} descriptors and {disk.had[1]} mappings again")
         working(disk).close()
         disk.end()
     except (AssertionError, OSError) as why:
