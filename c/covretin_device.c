@@ -369,6 +369,29 @@ void covretin_request_done(covretin_request *request, uint32_t written)
         session_free(session);
 }
 
+static covretin_request *session_take(struct session *session, uint32_t queue)
+{
+    covretin_request *request;
+    if (queue >= session->calls->queues)
+        return NULL;
+    pthread_mutex_lock(&session->lock);
+    request = ring_take(session, &session->rings[queue]);
+    if (session->rings[queue].is_due || has_ended(session))
+        wake_up(session->holder.wake);
+    pthread_mutex_unlock(&session->lock);
+    return request;
+}
+
+covretin_request *covretin_request_take(const covretin_request *request, uint32_t queue)
+{
+    return session_take(((const struct taken *)(const void *)request)->session, queue);
+}
+
+covretin_request *covretin_device_take(covretin_device *device, uint32_t queue)
+{
+    return device->opaque != NULL ? session_take(device->opaque, queue) : NULL;
+}
+
 bool covretin_request_is_lost(const covretin_request *request)
 {
     return ((const struct taken *)(const void *)request)->session->holder.has_lost;

@@ -27,7 +27,8 @@ struct ring {
     uint32_t base;
     bool has_base, is_enabled, is_started, is_packed;
     bool is_ending; /* nothing more is taken; it stops once its requests are done */
-    bool is_broken; /* the driver broke a rule */
+    bool is_broken; /* the driver broke a rule, */
+    enum covretin_queue_error broken_by; /* which is still to be told */
     bool is_away;   /* it lies in no region */
     bool is_due;    /* to be looked at */
     int kick;       /* -1: none */
@@ -117,6 +118,9 @@ void bell_close(struct bell *bell);
 
 /* Hands the requests that are there to the device, but for those of a driver that makes more without end: then the ring is still due. */
 void ring_serve(struct session *session, struct ring *ring);
+
+/* Takes the next request of a ring that the device takes of. NULL: there is none. */
+covretin_request *ring_take(struct session *session, struct ring *ring);
 
 /* Gives a request back. */
 void ring_give(struct session *session, struct ring *ring, const struct taken *taken, uint32_t written);

@@ -95,6 +95,10 @@ typedef struct covretin_device_calls {
 
     uint32_t queues; /* 1 to COVRETIN_DEVICE_MAX_QUEUES */
 
+    /* Queues whose requests are not handed out, a bit for each from the first on: the device takes them once it has something for them, as
+     * a network card that has a frame. So it has none, and whoever stops such a queue is not waited for. */
+    uint64_t taken_queues;
+
     /* A request is the device's. */
     void (*request)(void *own, covretin_request *request);
 
@@ -164,6 +168,11 @@ void covretin_device_close(covretin_device *device);
 /* The request is done, and so many bytes were written, from the first that is to be written on: the driver is told. From any thread. It is
  * no more. Where the session has ended meanwhile nobody is told. */
 void covretin_request_done(covretin_request *request, uint32_t written);
+
+/* Takes a request of a queue of `taken_queues`, which is as one that was handed out: of the device that has this request, from any thread; or
+ * of a device by itself, by whoever may call covretin_device_serve. NULL: there is none. */
+covretin_request *covretin_request_take(const covretin_request *request, uint32_t queue);
+covretin_request *covretin_device_take(covretin_device *device, uint32_t queue);
 
 /* Whether memory of the session is lost: what was read may be zeros that nobody wrote. */
 bool covretin_request_is_lost(const covretin_request *request);

@@ -147,6 +147,18 @@ static void on_ended(void *own, enum covretin_error error)
     its.why_ended = error;
 }
 
+/* It writes what the first queue's next buffer takes, or says that there is none. */
+static void on_request_that_takes(void *own, covretin_request *request)
+{
+    covretin_request *buffer = covretin_request_take(request, 0);
+    (void)own;
+    EXPECT(true, covretin_request_take(request, 1) == NULL); /* it is handed out */
+    EXPECT(true, covretin_request_take(request, 3) == NULL);
+    if (buffer != NULL)
+        covretin_request_done(buffer, (uint32_t)covretin_request_write(buffer, "taken", 5));
+    covretin_request_done(request, (uint32_t)covretin_request_write(request, buffer != NULL ? "yes" : "not", 3));
+}
+
 static const covretin_device_calls calls = {.features = COVRETIN_DEVICE_RING_PACKED | 1,
                                             .queues = 3,
                                             .request = on_request,
@@ -586,6 +598,55 @@ static void completes_later(void)
     pthread_join(thread, NULL);
     end();
     free_queue(&queue);
+    free_memory();
+}
+
+/* A queue that the device takes of: it has none of its requests as long as it wants none, and whoever stops the queue is not waited for. */
+static void takes_of_a_queue(void)
+{
+    covretin_device_calls taking = calls;
+    taking.taken_queues = 1;
+    taking.request = on_request_that_takes;
+    begin(&taking);
+    negotiate(0);
+    make_memory();
+    give_memory();
+    struct queue first = make_queue(0), second = make_queue(1);
+    start(&first, 0);
+    start(&second, 0);
+    write_request(&second, 0, "next");
+    post(&second, 0);
+    expect_used(&second, 0, 3);
+    expect_text(&second, 0, "not");
+    for (uint16_t head = 0; head < 12; head += 4) {
+        write_request(&first, head, "room");
+        post(&first, head);
+    }
+    usleep(50000);
+    EXPECT(0, *word_at(&first, 2, 2)); /* nothing is taken by itself */
+    post(&second, 0);
+    expect_used(&first, 0, 5);
+    expect_text(&first, 0, "taken");
+    expect_used(&second, 0, 3);
+    EXPECT(true, is_signalled(first.call, LIMIT));
+    EXPECT(1, number(covretin_ask_get_vring_base(&vmm.session, 0)));
+    post(&second, 0);
+    expect_used(&second, 0, 3);
+    expect_text(&second, 0, "not"); /* it is stopped */
+    start(&first, 1);
+    post(&second, 0);
+    expect_used(&first, 4, 5);
+    expect_used(&second, 0, 3);
+    put(&first, 8, 0, 4, WRITE, 0); /* the next lies nowhere */
+    post(&second, 0);
+    expect_used(&second, 0, 3);
+    expect_text(&second, 0, "not");
+    wait_for(&its.broken, 1);
+    EXPECT(COVRETIN_QUEUE_NOT_IN_GUEST, its.why_broken);
+    EXPECT(true, is_signalled(first.error, LIMIT));
+    end();
+    free_queue(&first);
+    free_queue(&second);
     free_memory();
 }
 
@@ -1384,6 +1445,7 @@ int main(void)
     RUN(serves_indirect_and_event_index);
     RUN(serves_a_packed_queue);
     RUN(completes_later);
+    RUN(takes_of_a_queue);
     RUN(ends_where_memory_is_gone);
     RUN(ends_where_a_request_is_gone);
     RUN(ends_no_other_session);
