@@ -100,7 +100,7 @@ check: all
 
 FOLDERS = $(LIBDIR)/pkgconfig $(INCLUDEDIR) $(DATADIR)/covretin $(DOCDIR)/examples $(MANDIR)/man1 $(MANDIR)/man7
 HEADERS := $(wildcard include/*.h)
-EXAMPLES := c/frontend.c c/rng.c c/blk.c c/covretin_transport.h
+EXAMPLES := c/frontend.c c/rng.c c/blk.c c/net.c c/covretin_transport.h
 PAGES1 := $(notdir $(wildcard man/*.1))
 PAGES7 := $(notdir $(wildcard man/*.7))
 
