@@ -236,18 +236,15 @@ static enum covretin_error rem_mem_reg(struct session *session)
     return reply(session, at < had && use_regions(session, space_new(session->space, at, NULL, 0)));
 }
 
-/* The log that was there is kept where the new one cannot be had: nothing that is written meanwhile is lost. */
+/* (a refusal ends the session: this call has a reply of its own) */
 static enum covretin_error set_log_base(struct session *session)
 {
     covretin_region log;
-    struct mapping *mapping = NULL;
-    if (covretin_call_log(&session->frontend.backend, &log) == COVRETIN_OK)
-        mapping = mapping_new(&session->holder, log.fd, log.mmap_offset, log.memory_size);
-    if (mapping == NULL)
-        return reply(session, false);
     mapping_release(session->log);
-    session->log = mapping;
-    return reply(session, true);
+    session->log = NULL;
+    if (covretin_call_log(&session->frontend.backend, &log) == COVRETIN_OK)
+        session->log = mapping_new(&session->holder, log.fd, log.mmap_offset, log.memory_size);
+    return reply(session, session->log != NULL);
 }
 
 static enum covretin_error postcopy_advise(struct session *session)

@@ -414,6 +414,18 @@ static void give_log(const struct memory *log)
     done("set_log_base", covretin_ask_set_log_base(SESSION, 0, &region));
 }
 
+static covretin_vring place_of(const struct virtqueue *it, uint64_t log)
+{
+    return (covretin_vring){.queue_max_size = QUEUE_SIZE,
+                            .queue_size = QUEUE_SIZE,
+                            .flags = log != 0,
+                            .desc_table_addr = (uint64_t)(uintptr_t)it->descriptors,
+                            .used_ring_addr = (uint64_t)(uintptr_t)it->used,
+                            .avail_ring_addr = (uint64_t)(uintptr_t)it->available,
+                            .log_addr = log,
+                            .has_log_addr = log != 0};
+}
+
 static void set_log(bool is_on)
 {
     uint64_t features = FEATURE_VERSION_1 | COVRETIN_FEATURE_PROTOCOL_FEATURES | (is_on ? COVRETIN_FEATURE_LOG_ALL : 0);
@@ -465,6 +477,108 @@ static void logs_amid_requests(void)
     end();
     free_memory(&logs[0]);
     free_memory(&logs[1]);
+}
+
+/* What comes after another log was given is in that. */
+static void logs_where_it_was_told_last(void)
+{
+    struct memory logs[2] = {make_memory("log", LOG_SIZE, 0), make_memory("log", LOG_SIZE, 0)};
+    begin(NULL, COVRETIN_FEATURE_LOG_ALL);
+    stop_ring(&queue);
+    start_ring(&queue, guest_address(&memory, (uint8_t *)queue.used));
+    for (unsigned last = 0; last < 2; last++) {
+        give_log(&logs[last]);
+        memset(logs[0].at, 0, LOG_SIZE);
+        memset(logs[1].at, 0, LOG_SIZE);
+        check_goes_on();
+        stop_ring(&queue);
+        check(is_marked(&logs[last], memory.at + DATA) && is_marked(&logs[last], (uint8_t *)queue.used), "it is in this one");
+        check(!is_marked(&logs[1 - last], memory.at + DATA), "and not in the other");
+        start_ring(&queue, guest_address(&memory, (uint8_t *)queue.used));
+    }
+    end();
+    free_memory(&logs[0]);
+    free_memory(&logs[1]);
+}
+
+/* -- A migration -- */
+
+static uint8_t target[SIZE];
+static bool is_dirty[SIZE / PAGE];
+
+/* What the log says is to be copied, as a VMM takes it. */
+static void take_log(const struct memory *log)
+{
+    for (size_t i = 0; i < SIZE / PAGE; i++) {
+        uint64_t page = memory.guest / PAGE + i;
+        uint8_t bit = (uint8_t)(1 << page % 8);
+        is_dirty[i] |= (__atomic_fetch_and(&log->at[page / 8], (uint8_t)~bit, __ATOMIC_SEQ_CST) & bit) != 0;
+    }
+}
+
+static void copy_pages(size_t most)
+{
+    for (size_t i = 0; i < SIZE / PAGE && most != 0; i++)
+        if (is_dirty[i]) {
+            is_dirty[i] = false;
+            memcpy(target + i * PAGE, memory.at + i * PAGE, PAGE);
+            most--;
+        }
+}
+
+/* The guest's own writes are the VMM's to know. */
+static void post_and_tell(unsigned round)
+{
+    post_reads(round);
+    is_dirty[0] = is_dirty[HEADERS / PAGE] = is_dirty[STATUSES / PAGE] = true;
+    for (unsigned i = 0; i < AT_ONCE * 4; i++)
+        is_dirty[DATA / PAGE + i] = true;
+}
+
+static void take_all_that_is_posted(void)
+{
+    struct used_element used;
+    while (queue.taken != queue.posted)
+        take(&queue, &used, "a request is used");
+}
+
+/* The log begins as QEMU has it begin, amid requests, and others come while pages are copied. Once the ring was stopped, and the last ones were
+ * copied, the target has all. */
+static void comes_along_in_a_migration(void)
+{
+    struct memory log = make_memory("log", LOG_SIZE, 0);
+    begin(NULL, 0);
+    for (unsigned migration = 0; migration < 100; migration++) {
+        covretin_vring place = place_of(&queue, guest_address(&memory, (uint8_t *)queue.used));
+        post_and_tell(migration);
+        memset(is_dirty, 1, sizeof is_dirty);
+        give_log(&log);
+        set_log(true);
+        done("set_vring_addr", covretin_ask_set_vring_addr(SESSION, 0, &place));
+        for (unsigned step = 0; step < 30; step++) {
+            struct used_element used;
+            copy_pages(6);
+            while (queue.taken != queue.posted && take_used(&queue, 0, &used))
+                ;
+            if (queue.taken == queue.posted)
+                post_and_tell(migration * 30 + step);
+            take_log(&log);
+        }
+        uint64_t base = number("get_vring_base", covretin_ask_get_vring_base(SESSION, 0));
+        take_log(&log);
+        copy_pages(SIZE / PAGE);
+        check(memcmp(target, memory.at, SIZE) == 0, "the target has all that the source has");
+        check(queue.used->index == base, "what was taken was given back");
+        set_log(false);
+        uint16_t taken = queue.taken;
+        queue.taken = (uint16_t)base;
+        start_ring(&queue, 0);
+        queue.taken = taken;
+        take_all_that_is_posted();
+    }
+    stop_ring(&queue);
+    end();
+    free_memory(&log);
 }
 
 /* -- Packed rings -- */
@@ -604,6 +718,8 @@ int main(int argc, char **argv)
     RUN(does_several_at_once);
     RUN(writes_nothing_once_it_is_stopped);
     RUN(logs_amid_requests);
+    RUN(logs_where_it_was_told_last);
+    RUN(comes_along_in_a_migration);
     RUN(serves_packed_rings);
     RUN(bears_anything);
     RUN(tells_that_it_grew);
