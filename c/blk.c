@@ -21,7 +21,6 @@
 #include <linux/virtio_blk.h>
 #include <pthread.h>
 #include <signal.h>
-#include <stdatomic.h>
 #include <stdio.h>
 #include <stdlib.h>
 #include <string.h>
@@ -45,8 +44,7 @@ static int image, queue[2]; /* a pipe, by which threads are given jobs */
 static bool is_read_only;
 static uint32_t again[MOST_RINGS]; /* how many requests are done again */
 static uint64_t capacity;          /* in sectors */
-static covretin_device_calls calls;
-static atomic_size_t under_way;
+static _Atomic size_t under_way;
 
 /* Reads or writes what is left. What may be zeros in the place of what was lost is not written. */
 static bool move(struct job *job)
@@ -62,16 +60,19 @@ static bool move(struct job *job)
     return job->left == 0;
 }
 
-/* Makes sectors zeros, without room in the file where the guest may lose that. A discard may do nothing. */
+/* Makes sectors zeros, without room in the file where the guest says so; by writing them, if need be. A discard may do nothing. */
 static bool clear(const struct virtio_blk_discard_write_zeroes *range, bool is_discard)
 {
-    off_t at = (off_t)(range->sector * SECTOR), size = (off_t)range->num_sectors * SECTOR;
-    bool may_lose = is_discard || range->flags != 0;
-    if (size == 0 || (!may_lose && fallocate(image, FALLOC_FL_ZERO_RANGE | FALLOC_FL_KEEP_SIZE, at, size) == 0))
-        return true;
-    if (fallocate(image, FALLOC_FL_PUNCH_HOLE | FALLOC_FL_KEEP_SIZE, at, size) != 0)
-        return is_discard && errno == EOPNOTSUPP;
-    return may_lose || fallocate(image, FALLOC_FL_KEEP_SIZE, at, size) == 0;
+    static const uint8_t zeros[SECTOR];
+    int how = FALLOC_FL_KEEP_SIZE | (is_discard || range->flags != 0 ? FALLOC_FL_PUNCH_HOLE : FALLOC_FL_ZERO_RANGE);
+    off_t at = (off_t)(range->sector * SECTOR), end = at + (off_t)range->num_sectors * SECTOR;
+    bool is_lacking = at != end && fallocate(image, how, at, end - at) != 0;
+    if (is_lacking && errno != EOPNOTSUPP)
+        return false;
+    for (; is_lacking && !is_discard && at < end; at += SECTOR)
+        if (pwrite(image, zeros, SECTOR, at) != SECTOR)
+            return false;
+    return true;
 }
 
 static bool do_job(struct job *job)
@@ -94,11 +95,9 @@ static void finish(struct job *job, uint8_t status)
     under_way--;
 }
 
-/* (where the pipe is full this waits for a thread) */
 static void give_to_thread(struct job *job)
 {
-    if (write(queue[1], &job, sizeof job) != sizeof job)
-        finish(job, VIRTIO_BLK_S_IOERR);
+    (void)!write(queue[1], &job, sizeof job); /* it cannot fail; where the pipe is full it waits for a thread */
 }
 
 static void *work(void *none)
@@ -188,22 +187,24 @@ static uint8_t take_job(struct job *job, covretin_request *request)
     case VIRTIO_BLK_T_IN: return take_data(job, request->segments + request->readable, request->writable, header.sector);
     case VIRTIO_BLK_T_OUT: return is_read_only ? VIRTIO_BLK_S_IOERR : take_data(job, request->segments, request->readable, header.sector);
     case VIRTIO_BLK_T_FLUSH: return VIRTIO_BLK_S_OK;
-    case VIRTIO_BLK_T_GET_ID: return (job->size = covretin_request_write(request, name, sizeof name)) == sizeof name ? 0 : VIRTIO_BLK_S_IOERR;
+    case VIRTIO_BLK_T_GET_ID: return covretin_request_write(request, name, job->size = sizeof name) == sizeof name ? VIRTIO_BLK_S_OK : VIRTIO_BLK_S_IOERR;
     case VIRTIO_BLK_T_DISCARD:
     case VIRTIO_BLK_T_WRITE_ZEROES: return is_read_only ? VIRTIO_BLK_S_IOERR : take_ranges(job);
     default: return VIRTIO_BLK_S_UNSUPP;
     }
 }
 
-/* (where there is no room for a status, or no memory, nothing is written) */
 static void take(void *none, covretin_request *request)
 {
+    (void)none;
     struct iovec *last = request->segments + request->readable + request->writable - 1;
-    struct job *job = request->writable != 0 ? calloc(1, sizeof *job) : none;
+    struct job *job = request->writable != 0 ? calloc(1, sizeof *job) : NULL;
     if (request->again && again[request->queue]++ == 0)
         printf("ring %u: requests are done again\n", (unsigned)request->queue);
     if (job == NULL) {
-        covretin_request_done(request, 0);
+        if (request->writable != 0) /* else there is no room for a status */
+            ((uint8_t *)last->iov_base)[last->iov_len - 1] = VIRTIO_BLK_S_IOERR;
+        covretin_request_done(request, request->writable != 0);
         return;
     }
     under_way++;
@@ -225,10 +226,10 @@ static bool measure(void *none)
     return capacity != before;
 }
 
-static bool read_config(void *none, uint32_t offset, uint8_t *bytes, uint32_t size)
+static bool read_config(void *rings, uint32_t offset, uint8_t *bytes, uint32_t size)
 {
-    measure(none);
-    struct virtio_blk_config space = {.capacity = capacity, .seg_max = 126, .blk_size = SECTOR, .num_queues = (uint16_t)calls.queues,
+    measure(NULL);
+    struct virtio_blk_config space = {.capacity = capacity, .seg_max = 126, .blk_size = SECTOR, .num_queues = (uint16_t)*(uint32_t *)rings,
                                       .max_discard_sectors = MOST_SECTORS, .max_discard_seg = MOST_RANGES, .discard_sector_alignment = 1,
                                       .max_write_zeroes_sectors = MOST_SECTORS, .max_write_zeroes_seg = MOST_RANGES, .write_zeroes_may_unmap = 1};
     if (offset > sizeof space || size > sizeof space - offset)
@@ -289,7 +290,7 @@ int main(int argc, char **argv)
 #endif
     measure(NULL);
     setvbuf(stdout, NULL, _IOLBF, 0); /* also in a file, so that who is killed has said what it did */
-    enum covretin_error error = covretin_device_run(&calls, NULL, argv[1]);
+    enum covretin_error error = covretin_device_run(&calls, &calls.queues, argv[1]);
     if (error != COVRETIN_OK)
         fprintf(stderr, "%s: %s (%s)\n", argv[1], covretin_error_text(error), strerror(errno));
     while (under_way != 0)
