@@ -19,8 +19,8 @@
  *     covretin_device_close(&device);
  *
  * WHAT IT DOES BY ITSELF: memory regions and their hot plug, rings, kicks and calls, EVENT_IDX and INDIRECT_DESC, the dirty log, the
- * inflight region of split queues, postcopy, reset. Rings that a device before left with requests under way are gone on with, and
- * these are handed out again, with `again`.
+ * inflight region of split queues, postcopy, reset, and telling that the configuration changed. Rings that a device before left with requests
+ * under way are gone on with, and these are handed out again, with `again`.
  *
  * THE FRONTEND IS NOT TRUSTED. Only memory files are mapped (memfd, tmpfs, hugetlbfs), since the pages of another may be kept back by
  * whoever serves its file system. Descriptors to kick and call by are eventfds, and for calls pipes, too; none is waited for, whatever
@@ -38,10 +38,10 @@
  *   change it meanwhile: what is checked is copied before.
  * Descriptors: all are this part's but what `channel` takes.
  *
- * THREADS: covretin_device_serve calls back, one call at a time, and nothing else does. A callback may call covretin_request_done and
- * covretin_device_stop. Calls with one device must not overlap in time, but for these two: any thread may call the one at any time, and the
- * other until covretin_device_close begins, also in a signal handler. After covretin_device_serve has told the end, and after
- * covretin_device_close began, nothing is called back.
+ * THREADS: covretin_device_serve calls back, one call at a time, and nothing else does. A callback may call covretin_request_done,
+ * covretin_request_take and covretin_device_stop. Calls with one device must not overlap in time, but for these: any thread may call the
+ * first two at any time, and the last until covretin_device_close begins, also in a signal handler. After covretin_device_serve has told the
+ * end, and after covretin_device_close began, nothing is called back.
  *
  * ERRORS are those of covretin.h, and of a queue those of covretin_queue.h. errno says more after SOCKET_ERROR.
  */

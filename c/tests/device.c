@@ -151,7 +151,11 @@ static void on_ended(void *own, enum covretin_error error)
 static void on_request_that_takes(void *own, covretin_request *request)
 {
     covretin_request *buffer = covretin_request_take(request, 0);
+    char text[4];
     (void)own;
+    EXPECT(2, covretin_request_read(request, NULL, 2));
+    EXPECT(2, covretin_request_read(request, text, sizeof text));
+    EXPECT(0, memcmp(text, "xt", 2));
     EXPECT(true, covretin_request_take(request, 1) == NULL); /* it is handed out */
     EXPECT(true, covretin_request_take(request, 3) == NULL);
     if (buffer != NULL)
@@ -1267,6 +1271,35 @@ static void kick_loop(void)
     EXPECT(3, number(covretin_ask_get_queue_num(&vmm.session)));
 }
 
+/* The same without a request that was handed out, between two turns of the loop. */
+static void takes_by_itself(void)
+{
+    covretin_device_calls taking = calls;
+    taking.taken_queues = 1;
+    begin(&taking);
+    negotiate(0);
+    make_memory();
+    give_memory();
+    struct queue queue = make_queue(0);
+    start(&queue, 0);
+    write_request(&queue, 0, "itself");
+    post(&queue, 0);
+    its.is_over = true;
+    kick_loop();
+    pthread_join(loop_thread, NULL);
+    EXPECT(true, covretin_device_take(&device, 1) == NULL);
+    EXPECT(true, covretin_device_take(&device, 3) == NULL);
+    answer(covretin_device_take(&device, 0));
+    expect_used(&queue, 0, 6);
+    expect_text(&queue, 0, "ITSELF");
+    EXPECT(true, covretin_device_take(&device, 0) == NULL);
+    covretin_device_close(&device);
+    EXPECT(true, covretin_device_take(&device, 0) == NULL);
+    covretin_disconnect(&vmm);
+    free_queue(&queue);
+    free_memory();
+}
+
 /* A device that is closed calls nobody back, and what it handed out may still be done. */
 static void closes_amid_a_request(void)
 {
@@ -1446,6 +1479,7 @@ int main(void)
     RUN(serves_a_packed_queue);
     RUN(completes_later);
     RUN(takes_of_a_queue);
+    RUN(takes_by_itself);
     RUN(ends_where_memory_is_gone);
     RUN(ends_where_a_request_is_gone);
     RUN(ends_no_other_session);
