@@ -24,9 +24,9 @@
  *
  * THE FRONTEND IS NOT TRUSTED. Only memory files are mapped (memfd, tmpfs, hugetlbfs), since the pages of another may be kept back by
  * whoever serves its file system. Descriptors to kick and call by are eventfds, and for calls pipes, too; none is waited for, whatever
- * its flags, and a frontend that floods a device is served in turns with its rings. A region that its file was truncated of becomes
- * zeros at its first touch, all of it, and the session ends with MEMORY_LOST; the system's own calls (pread and its like) fail there with
- * EFAULT, and then nothing is lost. That costs nothing until it happens, but takes a handler of SIGBUS, which is there from the first
+ * its flags, and a frontend that floods a device is served in turns with its rings. A page that its file was truncated of becomes zeros at
+ * its first touch, and the session ends with MEMORY_LOST; the system's own calls (pread and its like) fail there with EFAULT, and then
+ * nothing is lost. That costs nothing until it happens, but takes a handler of SIGBUS, which is there from the first
  * session on and hands each other fault to the handler that was there before: install one of your own before that. Where a frontend
  * begins postcopy, whoever touches a page that has not come waits for it until the frontend hangs up, or covretin_device_stop.
  *

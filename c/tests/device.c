@@ -908,6 +908,30 @@ static void *write_out(void *of)
     return (void *)(intptr_t)error;
 }
 
+/* Where the loop has touched what is gone, another page of the same region is no zeros for the kernel. */
+static void gives_no_zeros_for_memory_that_is_gone(void)
+{
+    begin(&calls);
+    negotiate(0);
+    make_memory();
+    give_memory();
+    struct queue queue = make_queue(0);
+    start(&queue, 0);
+    its.keeps = true;
+    write_request(&queue, 0, "gone");
+    post(&queue, 0);
+    wait_for(&its.kept_count, 1);
+    if (ftruncate(memory_fd, 0) || eventfd_write(queue.kick, 1))
+        give_up("ftruncate");
+    struct pollfd polled = {.fd = covretin_connection_fd(&vmm), .events = POLLIN};
+    EXPECT(1, poll(&polled, 1, LIMIT)); /* the frontend is hung up on */
+    EXPECT(EFAULT, (intptr_t)write_out(its.kept[0]));
+    covretin_request_done(its.kept[0], 0);
+    end_as(COVRETIN_MEMORY_LOST);
+    free_queue(&queue);
+    free_memory();
+}
+
 /* The frontend hangs up while another thread than the loop's waits for a page: as the loop sees that, and the watcher. */
 static void gives_no_zeros_for_a_page_of_who_went(void)
 {
@@ -1283,9 +1307,8 @@ static void takes_by_itself(void)
     struct queue queue = make_queue(0);
     start(&queue, 0);
     write_request(&queue, 0, "itself");
-    post(&queue, 0);
     its.is_over = true;
-    kick_loop();
+    post(&queue, 0); /* whose kick has the loop come round */
     pthread_join(loop_thread, NULL);
     EXPECT(true, covretin_device_take(&device, 1) == NULL);
     EXPECT(true, covretin_device_take(&device, 3) == NULL);
@@ -1484,6 +1507,7 @@ int main(void)
     RUN(ends_where_a_request_is_gone);
     RUN(ends_no_other_session);
     RUN(hands_on_other_faults);
+    RUN(gives_no_zeros_for_memory_that_is_gone);
     RUN(never_waits_for_a_call);
     if (has_userfault()) {
         RUN(takes_pages_as_they_come);

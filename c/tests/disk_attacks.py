@@ -215,12 +215,12 @@ class Guest:
     def describe(self, at, *descriptor):
         struct.pack_into("<QIHH", self.memory, 16 * at, *descriptor)
 
-    def offer(self, sector):
-        """Offers to read a sector, and kicks."""
-        struct.pack_into("<IIQ", self.memory, REQUEST, 0, 0, sector)
+    def offer(self, sector, is_written=False):
+        """Offers to read a sector, or to write it, and kicks."""
+        struct.pack_into("<IIQ", self.memory, REQUEST, is_written, 0, sector)
         self.memory[STATUS] = 0xFF
         self.describe(0, REQUEST, 16, NEXT, 1)
-        self.describe(1, DATA, SECTOR, NEXT | WRITE, 2)
+        self.describe(1, DATA, SECTOR, NEXT if is_written else NEXT | WRITE, 2)
         self.describe(2, STATUS, 1, WRITE, 0)
         struct.pack_into("<H", self.memory, AVAILABLE + 4 + 2 * (self.offered % SIZE), 0)
         self.offered += 1
@@ -478,6 +478,42 @@ def pages_that_do_not_come(disk):
     disk.start()
 
 
+def waiting_for_data(disk):
+    """A guest whose pages are there, since it wrote them, but for one that is to be written to the image."""
+    guest = Guest(disk, listens=True)
+    guest.memory[AVAILABLE] = guest.memory[USED] = guest.memory[REQUEST] = guest.memory[0] = 0
+    check(guest.start(), "the ring starts")
+    guest.offer(4, is_written=True)
+    disk.wait_until(lambda: select.select(guest.frontend.fds, [], [], 0)[0], "the disk waits for a page")
+    return guest
+
+
+def contents(disk):
+    with open(disk.image, "rb") as it:
+        return it.read()
+
+
+def data_that_cannot_come(disk):
+    """The same where a request waits alone: no zeros are written in its place."""
+    before = contents(disk)
+    for _ in range(30):
+        guest = waiting_for_data(disk)
+        userfault = os.dup(guest.frontend.fds[0])
+        guest.close()
+        working(disk).close()
+        os.close(userfault)
+        check(contents(disk) == before, "nothing is written")
+
+
+def data_that_does_not_come(disk):
+    before = contents(disk)
+    guest = waiting_for_data(disk)
+    disk.end()
+    check(contents(disk) == before, "nothing is written")
+    guest.close()
+    disk.start()
+
+
 # -- Others --
 
 
@@ -510,7 +546,7 @@ ATTACKS = [full_call, full_pipe_for_call, pipe_for_call_that_nobody_reads, full_
 ATTACKS += [kick_that_counts_down, no_eventfds]
 ATTACKS += [shortened_memory, shortened_memory_at_a_start, shortened_data, shortened_log, shortened_inflight_region]
 ATTACKS += [second_frontend, frontend_that_comes_again]
-POSTCOPY = [pages_that_cannot_come, pages_that_do_not_come]
+POSTCOPY = [pages_that_cannot_come, pages_that_do_not_come, data_that_cannot_come, data_that_does_not_come]
 
 
 def may_wait_for_pages(program):
