@@ -19,7 +19,7 @@
 #include <sys/timerfd.h>
 #include <unistd.h>
 
-enum { MOST_CALLS = 256, SOCKET = COVRETIN_DEVICE_MAX_QUEUES, WAKE, STOP, TIMER, MOST_READY };
+enum { MOST_CALLS = 256 };
 
 /* -- The loop -- */
 
@@ -122,6 +122,10 @@ static void take_events(struct session *session)
         else if (of == TIMER && read(session->timer, &none, sizeof none) > 0)
             for (uint32_t each = 0; each < session->calls->queues; each++)
                 session->rings[each].is_due |= session->rings[each].kick < 0;
+        else if (of == CHANNEL)
+            teller_go_on(session);
+        else if (of == CHANNEL_TIMER && read(session->teller.timer, &none, sizeof none) > 0)
+            teller_look(session);
         else if (of == SOCKET && session->waits != 0 && ready[i].events & (EPOLLHUP | EPOLLERR))
             session->why = COVRETIN_DISCONNECTED;
         else if (of == SOCKET)
@@ -151,7 +155,9 @@ static void plan(struct session *session)
 static void give_up(struct session *session)
 {
     epoll_ctl(session->polled, EPOLL_CTL_DEL, covretin_service_fd(&session->frontend), NULL);
+    teller_end(session);
     covretin_hang_up(&session->frontend);
+    arrival_lose(&session->arrival);
     arrival_end(&session->arrival, session->space);
     for (uint32_t i = 0; i < session->calls->queues; i++) {
         ring_stop(session, &session->rings[i]);
@@ -177,6 +183,7 @@ static void session_free(struct session *session)
         covretin_queue_close(&session->rings[i].queue);
     if (session->requests != 0)
         syscall(SYS_io_destroy, session->requests);
+    teller_free(session);
     close_if(session->empty);
     close_if(session->timer);
     close_if(session->stop);
@@ -228,7 +235,7 @@ enum covretin_error covretin_device_serve(covretin_device *device)
 
 /* -- Their life -- */
 
-static bool poll_for(struct session *session, int fd, uint32_t of)
+bool poll_for(const struct session *session, int fd, uint32_t of)
 {
     struct epoll_event ready = {.events = EPOLLIN, .data.u32 = of};
     return fd >= 0 && epoll_ctl(session->polled, EPOLL_CTL_ADD, fd, &ready) == 0;
@@ -244,7 +251,7 @@ static enum covretin_error prepare(struct session *session)
     session->empty = memfd_create("empty", MFD_CLOEXEC);
     if (session->polled < 0 || session->empty < 0 || !poll_for(session, session->holder.wake, WAKE) ||
         !poll_for(session, session->stop, STOP) || !poll_for(session, session->timer, TIMER) ||
-        syscall(SYS_io_setup, 1, &session->requests) != 0)
+        !teller_prepare(session) || syscall(SYS_io_setup, 1, &session->requests) != 0)
         return COVRETIN_SOCKET_ERROR;
     session->arrival = (struct arrival){.holder = &session->holder, .userfault = -1, .stop = session->stop, .signals = session->signals};
     for (uint32_t i = 0; i < session->calls->queues; i++)
@@ -270,7 +277,7 @@ static enum covretin_error open_session(covretin_device *device, const covretin_
     session->calls = calls;
     session->own = own;
     session->signals = signals;
-    session->inflight_fd = -1;
+    session->inflight_fd = session->teller.timer = -1;
     for (uint32_t i = 0; i < COVRETIN_DEVICE_MAX_QUEUES; i++) {
         session->rings[i].kick = -1;
         session->rings[i].call.fd = session->rings[i].error.fd = -1;
@@ -362,20 +369,43 @@ void covretin_request_done(covretin_request *request, uint32_t written)
         session_free(session);
 }
 
+static covretin_request *session_take(struct session *session, uint32_t queue)
+{
+    covretin_request *request;
+    if (queue >= session->calls->queues)
+        return NULL;
+    pthread_mutex_lock(&session->lock);
+    request = ring_take(session, &session->rings[queue]);
+    if (session->rings[queue].is_due || has_ended(session))
+        wake_up(session->holder.wake);
+    pthread_mutex_unlock(&session->lock);
+    return request;
+}
+
+covretin_request *covretin_request_take(const covretin_request *request, uint32_t queue)
+{
+    return session_take(((const struct taken *)(const void *)request)->session, queue);
+}
+
+covretin_request *covretin_device_take(covretin_device *device, uint32_t queue)
+{
+    return device->opaque != NULL ? session_take(device->opaque, queue) : NULL;
+}
+
 bool covretin_request_is_lost(const covretin_request *request)
 {
     return ((const struct taken *)(const void *)request)->session->holder.has_lost;
 }
 
-/* Copies between bytes and the beginning of these segments. */
+/* Copies between bytes, unless these are NULL, and the beginning of these segments. */
 static size_t copy(struct iovec *segments, size_t count, uint8_t *bytes, size_t len, bool is_read)
 {
     size_t done = 0;
     for (size_t i = 0; i < count && done < len; i++) {
         size_t part = segments[i].iov_len < len - done ? segments[i].iov_len : len - done;
-        if (is_read)
+        if (is_read && bytes != NULL)
             memcpy(bytes + done, segments[i].iov_base, part);
-        else
+        else if (bytes != NULL)
             memcpy(segments[i].iov_base, bytes + done, part);
         segments[i] = (struct iovec){(uint8_t *)segments[i].iov_base + part, segments[i].iov_len - part};
         done += part;
@@ -402,8 +432,11 @@ static void refuse_another(covretin_listener *listener, const covretin_device *d
     const struct session *session = device->opaque;
     struct pollfd gone = {.fd = covretin_service_fd(&session->frontend)};
     covretin_service other = {0};
-    if (gone.fd >= 0 && poll(&gone, 1, 0) == 0 && covretin_accept(listener, &other, 0) == COVRETIN_OK)
-        covretin_hang_up(&other);
+    if (gone.fd < 0 || poll(&gone, 1, 0) != 0 || covretin_accept(listener, &other, 0) != COVRETIN_OK)
+        return;
+    covretin_hang_up(&other);
+    if (session->calls->turned_away != NULL)
+        session->calls->turned_away(session->own);
 }
 
 /* Serves the frontend that is there until it goes. False: a signal came. */

@@ -31,7 +31,8 @@ static uint64_t protocol_features_of(const struct covretin_device_calls *calls)
     return calls->protocol_features | COVRETIN_PROTOCOL_MQ | COVRETIN_PROTOCOL_LOG_SHMFD | COVRETIN_PROTOCOL_REPLY_ACK |
            COVRETIN_PROTOCOL_PAGEFAULT | COVRETIN_PROTOCOL_RESET_DEVICE | COVRETIN_PROTOCOL_CONFIGURE_MEM_SLOTS |
            (calls->features & COVRETIN_DEVICE_RING_PACKED ? 0 : COVRETIN_PROTOCOL_INFLIGHT_SHMFD) |
-           (calls->read_config != NULL ? COVRETIN_PROTOCOL_CONFIG : 0) | (calls->channel != NULL ? COVRETIN_PROTOCOL_BACKEND_REQ : 0);
+           (calls->read_config != NULL ? COVRETIN_PROTOCOL_CONFIG : 0) |
+           (calls->channel != NULL || calls->config_changed != NULL ? COVRETIN_PROTOCOL_BACKEND_REQ : 0);
 }
 
 static enum covretin_error reply(struct session *session, bool is_done)
@@ -122,7 +123,11 @@ static enum covretin_error set_backend_req_fd(struct session *session)
 {
     int32_t fd;
     bool is_taken;
-    if (session->calls->channel == NULL || covretin_call_fd(&session->frontend.backend, &fd))
+    if (covretin_call_fd(&session->frontend.backend, &fd))
+        return reply(session, false);
+    if (session->calls->config_changed != NULL)
+        return reply(session, teller_begin(session, fd) && covretin_claim_call_fd(&session->frontend, fd) == COVRETIN_OK);
+    if (session->calls->channel == NULL)
         return reply(session, false);
     pthread_mutex_unlock(&session->lock);
     is_taken = session->calls->channel(session->own, fd, session->protocol_features);
@@ -231,6 +236,7 @@ static enum covretin_error rem_mem_reg(struct session *session)
     return reply(session, at < had && use_regions(session, space_new(session->space, at, NULL, 0)));
 }
 
+/* (a refusal ends the session: this call has a reply of its own) */
 static enum covretin_error set_log_base(struct session *session)
 {
     covretin_region log;
@@ -480,8 +486,11 @@ static enum covretin_error do_nothing(struct session *session)
 /* (its requests are done) */
 static enum covretin_error reset_device(struct session *session)
 {
-    for (uint32_t i = 0; i < session->calls->queues; i++)
+    for (uint32_t i = 0; i < session->calls->queues; i++) {
         ring_stop(session, &session->rings[i]);
+        session->rings[i].base = 0;
+        session->rings[i].has_base = session->rings[i].is_enabled = false;
+    }
     if (session->calls->reset != NULL) {
         pthread_mutex_unlock(&session->lock);
         session->calls->reset(session->own);

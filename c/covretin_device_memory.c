@@ -24,10 +24,10 @@
 
 enum { MOST_GUARDED = 4096 };
 
-/* Read by the handler of a thread amid anything: a size and a holder count once there is a place, and as long as it stays the same. */
+/* Read by the handler of a thread amid anything: sizes and a holder count once there is a place, and as long as it stays the same. */
 static struct {
     _Atomic uintptr_t at; /* 0: none */
-    _Atomic size_t size;
+    _Atomic size_t size, page;
     struct holder *_Atomic holder;
 } guarded[MOST_GUARDED];
 
@@ -41,13 +41,19 @@ void wake_up(int eventfd)
     (void)!write(eventfd, &one, sizeof one);
 }
 
-/* Puts zeros in the place of a mapping. */
-static bool lose(uintptr_t at, size_t size, struct holder *holder)
+static bool put_zeros(uintptr_t at, size_t size)
 {
     const int flags = MAP_PRIVATE | MAP_ANONYMOUS | MAP_NORESERVE | MAP_FIXED;
+    return mmap((void *)at, size, PROT_READ | PROT_WRITE, flags, -1, 0) != MAP_FAILED;
+}
+
+/* Puts zeros in the place of a page of a mapping, and no more: what another thread gives to the kernel fails there, as it would have, where
+ * zeros would be taken for the guest's. All of it where there are too many mappings. */
+static bool lose(uintptr_t at, size_t size, uintptr_t page, size_t page_size, struct holder *holder)
+{
     holder->has_lost = true; /* before any thread may read zeros */
     wake_up(holder->wake);
-    return mmap((void *)at, size, PROT_READ | PROT_WRITE, flags, -1, 0) != MAP_FAILED;
+    return put_zeros(page / page_size * page_size, page_size) || put_zeros(at, size);
 }
 
 /* What is no fault of a mapping is for the handler before; where there was none it ends the process, as ever. */
@@ -68,9 +74,10 @@ static void take_fault(int number, siginfo_t *fault, void *context)
     int was = errno;
     for (size_t i = 0; i < MOST_GUARDED && fault->si_code > 0; i++) {
         uintptr_t at = guarded[i].at;
-        size_t size = guarded[i].size;
+        uintptr_t where = (uintptr_t)fault->si_addr;
+        size_t size = guarded[i].size, page = guarded[i].page;
         struct holder *holder = guarded[i].holder;
-        if (at == 0 || (uintptr_t)fault->si_addr - at >= size || guarded[i].at != at || !lose(at, size, holder))
+        if (at == 0 || where - at >= size || guarded[i].at != at || !lose(at, size, where, page, holder))
             continue;
         errno = was;
         return;
@@ -85,7 +92,7 @@ static void handle(void)
 }
 
 /* False: there are too many. */
-static bool guard(void *at, size_t size, struct holder *holder)
+static bool guard(void *at, size_t size, size_t page, struct holder *holder)
 {
     size_t i = 0;
     pthread_once(&handling, handle);
@@ -94,6 +101,7 @@ static bool guard(void *at, size_t size, struct holder *holder)
         i++;
     if (i < MOST_GUARDED) {
         guarded[i].size = size;
+        guarded[i].page = page;
         guarded[i].holder = holder;
         guarded[i].at = (uintptr_t)at;
     }
@@ -167,7 +175,7 @@ struct mapping *mapping_new(struct holder *holder, int fd, uint64_t offset, uint
     mapping->users = 1;
     mapping->at = (uint8_t *)mapping->all + into;
     mapping->size = size;
-    if (guard(mapping->all, mapping->all_size, holder))
+    if (guard(mapping->all, mapping->all_size, (size_t)page, holder))
         return mapping;
     munmap(mapping->all, mapping->all_size);
     free(mapping);
@@ -293,4 +301,10 @@ bool arrival_end(struct arrival *arrival, const struct space *space)
     close(arrival->userfault);
     arrival->userfault = -1;
     return is_ended;
+}
+
+void arrival_lose(const struct arrival *arrival)
+{
+    if (arrival->userfault >= 0)
+        lose_all(arrival->holder, arrival->userfault);
 }

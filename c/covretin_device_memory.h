@@ -65,4 +65,7 @@ bool arrival_begin(struct arrival *arrival);
 bool arrival_watch(const struct arrival *arrival, const struct space *space);
 bool arrival_end(struct arrival *arrival, const struct space *space);
 
+/* The session ends: where pages were to arrive all is lost, before arrival_end would let whoever waits for one go on with zeros. */
+void arrival_lose(const struct arrival *arrival);
+
 #endif

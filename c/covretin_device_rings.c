@@ -246,6 +246,7 @@ void ring_stop(struct session *session, struct ring *ring)
     ring_drop_kick(session, ring);
     bell_close(&ring->call);
     ring->is_started = ring->is_due = ring->is_ending = ring->is_broken = false;
+    ring->broken_by = COVRETIN_QUEUE_OK;
     covretin_queue_stop(&ring->queue);
     space_release(ring->space);
     ring->space = NULL;
@@ -360,17 +361,25 @@ static struct taken *taken_new(struct session *session, struct ring *ring, uint1
     return taken;
 }
 
-/* The request is the device's. Its own count is taken before, since the device may be done with it at once. */
-static void hand_out(struct session *session, struct ring *ring, uint16_t id, bool again)
+/* The request is the device's. It is counted before that has it, who may be done with it at once. NULL: the session ends. */
+static struct taken *count_out(struct session *session, struct ring *ring, uint16_t id, bool again)
 {
     struct taken *taken = taken_new(session, ring, id, again);
     if (taken == NULL) {
         session->why = COVRETIN_OUT_OF_MEMORY;
-        return;
+        return NULL;
     }
     taken->space->users++;
     ring->out++;
     session->out++;
+    return taken;
+}
+
+static void hand_out(struct session *session, struct ring *ring, uint16_t id, bool again)
+{
+    struct taken *taken = count_out(session, ring, id, again);
+    if (taken == NULL)
+        return;
     pthread_mutex_unlock(&session->lock);
     session->calls->request(session->own, &taken->request);
     pthread_mutex_lock(&session->lock);
@@ -379,6 +388,7 @@ static void hand_out(struct session *session, struct ring *ring, uint16_t id, bo
 static void break_ring(struct session *session, struct ring *ring, enum covretin_queue_error error)
 {
     ring->is_broken = true;
+    ring->broken_by = COVRETIN_QUEUE_OK;
     ring_signal(session, &ring->error);
     if (session->calls->broken == NULL)
         return;
@@ -387,9 +397,35 @@ static void break_ring(struct session *session, struct ring *ring, enum covretin
     pthread_mutex_lock(&session->lock);
 }
 
+/* Whether the device takes its requests by itself: what the driver makes available is found once it is wanted. */
+static bool is_taken_of(const struct session *session, const struct ring *ring)
+{
+    return session->calls->taken_queues >> (ring - session->rings) & 1;
+}
+
+covretin_request *ring_take(struct session *session, struct ring *ring)
+{
+    uint16_t id = 0;
+    bool again;
+    enum covretin_queue_error error;
+    if (!is_taken_of(session, ring) || !ring_is_running(session, ring) || session->why != COVRETIN_OK || session->is_stopped)
+        return NULL;
+    error = take(session, ring, &id, &again);
+    if (error && error != COVRETIN_QUEUE_NOTHING_AVAILABLE) {
+        ring->is_broken = ring->is_due = true; /* ring_serve tells that: nothing is called back from here */
+        ring->broken_by = error;
+    }
+    struct taken *taken = error || session->holder.has_lost ? NULL : count_out(session, ring, id, again);
+    return taken != NULL ? &taken->request : NULL;
+}
+
 void ring_serve(struct session *session, struct ring *ring)
 {
     ring->is_due = false;
+    if (ring->broken_by != COVRETIN_QUEUE_OK && !session->holder.has_lost)
+        break_ring(session, ring, ring->broken_by);
+    if (is_taken_of(session, ring))
+        return;
     for (unsigned done = 0; ring_is_running(session, ring) && session->why == COVRETIN_OK && !session->is_stopped; done++) {
         uint16_t id = 0;
         bool again;

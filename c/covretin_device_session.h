@@ -4,11 +4,15 @@
 #ifndef COVRETIN_DEVICE_SESSION_H
 #define COVRETIN_DEVICE_SESSION_H
 
+#include "covretin_channel_socket.h"
 #include "covretin_device.h"
 #include "covretin_device_memory.h"
 
 #include <linux/aio_abi.h>
 #include <pthread.h>
+
+/* What is polled for: the kick of a ring, by its number, or one of these. */
+enum { SOCKET = COVRETIN_DEVICE_MAX_QUEUES, WAKE, STOP, TIMER, CHANNEL, CHANNEL_TIMER, MOST_READY };
 
 /* What a ring signals: an eventfd, or a pipe, opened anew. */
 struct bell {
@@ -23,7 +27,8 @@ struct ring {
     uint32_t base;
     bool has_base, is_enabled, is_started, is_packed;
     bool is_ending; /* nothing more is taken; it stops once its requests are done */
-    bool is_broken; /* the driver broke a rule */
+    bool is_broken; /* the driver broke a rule, */
+    enum covretin_queue_error broken_by; /* which is still to be told */
     bool is_away;   /* it lies in no region */
     bool is_due;    /* to be looked at */
     int kick;       /* -1: none */
@@ -51,6 +56,14 @@ struct taken {
     struct iovec segments[];
 };
 
+/* The backend channel, where this part keeps it. */
+struct teller {
+    covretin_channel_connection vmm;
+    int timer;     /* a timerfd */
+    bool is_due;   /* there is a change to be told, */
+    bool is_asked; /* and one that is being told */
+};
+
 struct session {
     struct holder holder;
     pthread_mutex_t lock;
@@ -63,6 +76,7 @@ struct session {
     uint16_t inflight_queue_size;
     int inflight_fd; /* of the region that was made here; open until its reply was sent */
     struct arrival arrival;
+    struct teller teller;
     struct ring rings[COVRETIN_DEVICE_MAX_QUEUES];
     size_t out;      /* requests that the device has, of all rings */
     uint32_t waits;  /* a call that is replied to once requests are done; 0: none */
@@ -105,11 +119,31 @@ void bell_close(struct bell *bell);
 /* Hands the requests that are there to the device, but for those of a driver that makes more without end: then the ring is still due. */
 void ring_serve(struct session *session, struct ring *ring);
 
+/* Takes the next request of a ring that the device takes of. NULL: there is none. */
+covretin_request *ring_take(struct session *session, struct ring *ring);
+
 /* Gives a request back. */
 void ring_give(struct session *session, struct ring *ring, const struct taken *taken, uint32_t written);
 
 /* Signals a bell, without waiting. */
 void ring_signal(struct session *session, const struct bell *bell);
+
+/* -- The backend channel -- */
+
+/* What has to be there for it; and that is closed. */
+bool teller_prepare(struct session *session);
+void teller_free(struct session *session);
+
+/* Takes the channel's socket over. False: it stays the caller's. */
+bool teller_begin(struct session *session, int fd);
+void teller_end(struct session *session);
+
+/* The channel is ready; or it is time to ask the device whether its configuration changed. */
+void teller_go_on(struct session *session);
+void teller_look(struct session *session);
+
+/* Has something polled for, to be read. */
+bool poll_for(const struct session *session, int fd, uint32_t of);
 
 /* -- Calls -- */
 

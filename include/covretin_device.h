@@ -19,14 +19,14 @@
  *     covretin_device_close(&device);
  *
  * WHAT IT DOES BY ITSELF: memory regions and their hot plug, rings, kicks and calls, EVENT_IDX and INDIRECT_DESC, the dirty log, the
- * inflight region of split queues, postcopy, reset. Rings that a device before left with requests under way are gone on with, and
- * these are handed out again, with `again`.
+ * inflight region of split queues, postcopy, reset, and telling that the configuration changed. Rings that a device before left with requests
+ * under way are gone on with, and these are handed out again, with `again`.
  *
  * THE FRONTEND IS NOT TRUSTED. Only memory files are mapped (memfd, tmpfs, hugetlbfs), since the pages of another may be kept back by
  * whoever serves its file system. Descriptors to kick and call by are eventfds, and for calls pipes, too; none is waited for, whatever
- * its flags, and a frontend that floods a device is served in turns with its rings. A region that its file was truncated of becomes
- * zeros at its first touch, all of it, and the session ends with MEMORY_LOST; the system's own calls (pread and its like) fail there with
- * EFAULT, and then nothing is lost. That costs nothing until it happens, but takes a handler of SIGBUS, which is there from the first
+ * its flags, and a frontend that floods a device is served in turns with its rings. A page that its file was truncated of becomes zeros at
+ * its first touch, and the session ends with MEMORY_LOST; the system's own calls (pread and its like) fail there with EFAULT, and then
+ * nothing is lost. That costs nothing until it happens, but takes a handler of SIGBUS, which is there from the first
  * session on and hands each other fault to the handler that was there before: install one of your own before that. Where a frontend
  * begins postcopy, whoever touches a page that has not come waits for it until the frontend hangs up, or covretin_device_stop.
  *
@@ -38,10 +38,10 @@
  *   change it meanwhile: what is checked is copied before.
  * Descriptors: all are this part's but what `channel` takes.
  *
- * THREADS: covretin_device_serve calls back, one call at a time, and nothing else does. A callback may call covretin_request_done and
- * covretin_device_stop. Calls with one device must not overlap in time, but for these two: any thread may call the one at any time, and the
- * other until covretin_device_close begins, also in a signal handler. After covretin_device_serve has told the end, and after
- * covretin_device_close began, nothing is called back.
+ * THREADS: covretin_device_serve calls back, one call at a time, and nothing else does. A callback may call covretin_request_done,
+ * covretin_request_take and covretin_device_stop. Calls with one device must not overlap in time, but for these: any thread may call the
+ * first two at any time, and the last until covretin_device_close begins, also in a signal handler. After covretin_device_serve has told the
+ * end, and after covretin_device_close began, nothing is called back.
  *
  * ERRORS are those of covretin.h, and of a queue those of covretin_queue.h. errno says more after SOCKET_ERROR.
  */
@@ -89,10 +89,15 @@ typedef struct covretin_device_calls {
     uint64_t features;
 
     /* The same of protocol features: MQ, LOG_SHMFD, REPLY_ACK, PAGEFAULT, INFLIGHT_SHMFD, RESET_DEVICE and CONFIGURE_MEM_SLOTS are; CONFIG
-     * where there is `read_config`, BACKEND_REQ where there is `channel`. Here is what these want on the channel, as BACKEND_SEND_FD. */
+     * where there is `read_config`, BACKEND_REQ where there is `channel` or `config_changed`. Here is what these want on the channel, as
+     * BACKEND_SEND_FD. */
     uint64_t protocol_features;
 
     uint32_t queues; /* 1 to COVRETIN_DEVICE_MAX_QUEUES */
+
+    /* Queues whose requests are not handed out, a bit for each from the first on: the device takes them once it has something for them, as
+     * a network card that has a frame. So it has none, and whoever stops such a queue is not waited for. */
+    uint64_t taken_queues;
 
     /* A request is the device's. */
     void (*request)(void *own, covretin_request *request);
@@ -104,11 +109,15 @@ typedef struct covretin_device_calls {
     bool (*read_config)(void *own, uint32_t offset, uint8_t *bytes, uint32_t size);
     bool (*write_config)(void *own, uint32_t offset, const uint8_t *bytes, uint32_t size);
 
+    /* Whether the configuration space has changed since this was last asked, or read: then the frontend is told, over the backend channel, that
+     * it is to read it again. Asked five times a second, as long as there is that channel, which this part keeps then. */
+    bool (*config_changed)(void *own);
+
     /* The device is as it was at first; it has no request. */
     void (*reset)(void *own);
 
     /* The socket of the backend channel (covretin_channel_socket.h), with the protocol features that were accepted. True: it is the
-     * device's to close. */
+     * device's to close. Not called where there is `config_changed`. */
     bool (*channel)(void *own, int fd, uint64_t protocol_features);
 
     /* A request of the frontend, by its number, was refused, or ended the session. */
@@ -116,6 +125,9 @@ typedef struct covretin_device_calls {
 
     /* The driver broke a rule of a queue: nothing more is taken of it until the device is reset. */
     void (*broken)(void *own, uint32_t queue, enum covretin_queue_error error);
+
+    /* Another frontend came meanwhile, and was hung up on: of covretin_device_run. */
+    void (*turned_away)(void *own);
 
     /* The session has ended, for this reason, and no request is left. The last callback. */
     void (*ended)(void *own, enum covretin_error error);
@@ -157,11 +169,16 @@ void covretin_device_close(covretin_device *device);
  * no more. Where the session has ended meanwhile the driver hears nothing. */
 void covretin_request_done(covretin_request *request, uint32_t written);
 
+/* Takes a request of a queue of `taken_queues`, which is as one that was handed out: of the device that has this request, from any thread; or
+ * of a device by itself, by whoever may call covretin_device_serve. NULL: there is none. */
+covretin_request *covretin_request_take(const covretin_request *request, uint32_t queue);
+covretin_request *covretin_device_take(covretin_device *device, uint32_t queue);
+
 /* Whether memory of the session is lost: what was read may be zeros that nobody wrote. */
 bool covretin_request_is_lost(const covretin_request *request);
 
 /* Copies bytes from the beginning of what is to be read, or to that of what is to be written, and takes that part off the segments, of which
- * some are empty then. How many: fewer than `len` where no more are there. */
+ * some are empty then; bytes that are NULL are not copied. How many: fewer than `len` where no more are there. */
 size_t covretin_request_read(covretin_request *request, void *bytes, size_t len);
 size_t covretin_request_write(covretin_request *request, const void *bytes, size_t len);
 

@@ -118,16 +118,22 @@ class Disk:
         with open(f"/proc/{self.process.pid}/{name}", encoding="utf-8") as it:
             return it.read()
 
+    def threads(self):
+        return [f"task/{it}" for it in os.listdir(f"/proc/{self.process.pid}/task")]
+
     def is_writing(self):
-        """Whether it pauses before it writes to its file, which is slow, by the numbers of nanosleep."""
-        return self.told("syscall").split()[0] in ("35", "230")
+        """Whether a thread of its pauses before it writes to the file, which is slow, by the numbers of nanosleep."""
+        return any(self.told(f"{it}/syscall").split()[0] in ("35", "230") for it in self.threads())
+
+    def is_stopped(self):
+        return all(patience.fields_of(f"/proc/{self.process.pid}/{it}")[0] == "T" for it in self.threads())
 
     def is_stopped_amid_write(self):
         """Stops it, and lets it go on where that was not amid a write."""
         if not self.is_writing():
             return False
         self.process.send_signal(signal.SIGSTOP)
-        wait_until(lambda: patience.fields_of(f"/proc/{self.process.pid}")[0] == "T", "the disk is stopped")
+        wait_until(self.is_stopped, "the disk is stopped")
         if self.is_writing():
             return True
         self.process.send_signal(signal.SIGCONT)

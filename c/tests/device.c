@@ -4,6 +4,7 @@
 #define _GNU_SOURCE
 #endif
 
+#include "covretin_channel_socket.h"
 #include "covretin_device.h"
 #include "covretin_socket.h"
 #include "testing.h"
@@ -53,7 +54,8 @@ static struct {
     bool keeps;
     atomic_bool is_over; /* its loop is to end, though the session has not */
     covretin_request *kept[MOST_KEPT];
-    size_t kept_count, served, broken, resets, ended;
+    atomic_bool has_changed; /* its configuration */
+    size_t kept_count, served, broken, resets, turned_away, ended;
     enum covretin_queue_error why_broken;
     enum covretin_error why_ended;
     uint32_t last_queue;
@@ -112,6 +114,18 @@ static bool on_write_config(void *own, uint32_t offset, const uint8_t *bytes, ui
     return true;
 }
 
+static bool on_config_changed(void *own)
+{
+    (void)own;
+    return atomic_exchange(&its.has_changed, false);
+}
+
+static void on_turned_away(void *own)
+{
+    (void)own;
+    its.turned_away++;
+}
+
 static void on_reset(void *own)
 {
     (void)own;
@@ -133,14 +147,32 @@ static void on_ended(void *own, enum covretin_error error)
     its.why_ended = error;
 }
 
+/* It writes what the first queue's next buffer takes, or says that there is none. */
+static void on_request_that_takes(void *own, covretin_request *request)
+{
+    covretin_request *buffer = covretin_request_take(request, 0);
+    char text[4];
+    (void)own;
+    EXPECT(2, covretin_request_read(request, NULL, 2));
+    EXPECT(2, covretin_request_read(request, text, sizeof text));
+    EXPECT(0, memcmp(text, "xt", 2));
+    EXPECT(true, covretin_request_take(request, 1) == NULL); /* it is handed out */
+    EXPECT(true, covretin_request_take(request, 3) == NULL);
+    if (buffer != NULL)
+        covretin_request_done(buffer, (uint32_t)covretin_request_write(buffer, "taken", 5));
+    covretin_request_done(request, (uint32_t)covretin_request_write(request, buffer != NULL ? "yes" : "not", 3));
+}
+
 static const covretin_device_calls calls = {.features = COVRETIN_DEVICE_RING_PACKED | 1,
                                             .queues = 3,
                                             .request = on_request,
                                             .accepted = on_accepted,
                                             .read_config = on_read_config,
                                             .write_config = on_write_config,
+                                            .config_changed = on_config_changed,
                                             .reset = on_reset,
                                             .broken = on_broken,
+                                            .turned_away = on_turned_away,
                                             .ended = on_ended};
 
 /* The same without packed rings, so that there is an inflight region. */
@@ -573,6 +605,55 @@ static void completes_later(void)
     free_memory();
 }
 
+/* A queue that the device takes of: it has none of its requests as long as it wants none, and whoever stops the queue is not waited for. */
+static void takes_of_a_queue(void)
+{
+    covretin_device_calls taking = calls;
+    taking.taken_queues = 1;
+    taking.request = on_request_that_takes;
+    begin(&taking);
+    negotiate(0);
+    make_memory();
+    give_memory();
+    struct queue first = make_queue(0), second = make_queue(1);
+    start(&first, 0);
+    start(&second, 0);
+    write_request(&second, 0, "next");
+    post(&second, 0);
+    expect_used(&second, 0, 3);
+    expect_text(&second, 0, "not");
+    for (uint16_t head = 0; head < 12; head += 4) {
+        write_request(&first, head, "room");
+        post(&first, head);
+    }
+    usleep(50000);
+    EXPECT(0, *word_at(&first, 2, 2)); /* nothing is taken by itself */
+    post(&second, 0);
+    expect_used(&first, 0, 5);
+    expect_text(&first, 0, "taken");
+    expect_used(&second, 0, 3);
+    EXPECT(true, is_signalled(first.call, LIMIT));
+    EXPECT(1, number(covretin_ask_get_vring_base(&vmm.session, 0)));
+    post(&second, 0);
+    expect_used(&second, 0, 3);
+    expect_text(&second, 0, "not"); /* it is stopped */
+    start(&first, 1);
+    post(&second, 0);
+    expect_used(&first, 4, 5);
+    expect_used(&second, 0, 3);
+    put(&first, 8, 0, 4, WRITE, 0); /* the next lies nowhere */
+    post(&second, 0);
+    expect_used(&second, 0, 3);
+    expect_text(&second, 0, "not");
+    wait_for(&its.broken, 1);
+    EXPECT(COVRETIN_QUEUE_NOT_IN_GUEST, its.why_broken);
+    EXPECT(true, is_signalled(first.error, LIMIT));
+    end();
+    free_queue(&first);
+    free_queue(&second);
+    free_memory();
+}
+
 static void ends_where_memory_is_gone(void)
 {
     begin(&calls);
@@ -814,6 +895,83 @@ static void stops_while_it_waits_for_a_page(void)
     free(source);
     free_queue(&queue);
     free_memory();
+}
+
+/* What a thread of the device's own takes from the guest's memory, at a page that does not come: nothing, and no zeros in its place. */
+static void *write_out(void *of)
+{
+    const covretin_request *request = of;
+    int file = memfd_create("image", MFD_CLOEXEC);
+    ssize_t wrote = pwritev(file, request->segments, (int)request->readable, 0);
+    int error = wrote < 0 ? errno : 0;
+    close(file);
+    return (void *)(intptr_t)error;
+}
+
+/* Where the loop has touched what is gone, another page of the same region is no zeros for the kernel. */
+static void gives_no_zeros_for_memory_that_is_gone(void)
+{
+    begin(&calls);
+    negotiate(0);
+    make_memory();
+    give_memory();
+    struct queue queue = make_queue(0);
+    start(&queue, 0);
+    its.keeps = true;
+    write_request(&queue, 0, "gone");
+    post(&queue, 0);
+    wait_for(&its.kept_count, 1);
+    if (ftruncate(memory_fd, 0) || eventfd_write(queue.kick, 1))
+        give_up("ftruncate");
+    struct pollfd polled = {.fd = covretin_connection_fd(&vmm), .events = POLLIN};
+    EXPECT(1, poll(&polled, 1, LIMIT)); /* the frontend is hung up on */
+    EXPECT(EFAULT, (intptr_t)write_out(its.kept[0]));
+    covretin_request_done(its.kept[0], 0);
+    end_as(COVRETIN_MEMORY_LOST);
+    free_queue(&queue);
+    free_memory();
+}
+
+/* The frontend hangs up while another thread than the loop's waits for a page: as the loop sees that, and the watcher. */
+static void gives_no_zeros_for_a_page_of_who_went(void)
+{
+    for (int round = 0; round < 30; round++) {
+        struct uffd_msg fault;
+        pthread_t thread;
+        void *error = NULL;
+        begin(&calls);
+        negotiate(0);
+        make_memory();
+        struct queue queue = make_queue(0);
+        write_request(&queue, 0, "waits");
+        put(&queue, 0, GUEST + BUFFERS + 0x4000, 2, NEXT, 1); /* on a page that does not come */
+        give_memory_by_pages();
+        EXPECT(3, number(covretin_ask_get_queue_num(&vmm.session))); /* the device watches its pages by now */
+        for (uint64_t offset = 0; offset < SIZE; offset += 4096)
+            if (offset != BUFFERS + 0x4000)
+                copy_page(offset);
+        start(&queue, 0);
+        its.keeps = true;
+        post(&queue, 0);
+        wait_for(&its.kept_count, 1);
+        if (pthread_create(&thread, NULL, write_out, its.kept[0]))
+            give_up("pthread_create");
+        struct pollfd polled = {.fd = userfault, .events = POLLIN};
+        EXPECT(1, poll(&polled, 1, LIMIT));
+        EXPECT(sizeof fault, read(userfault, &fault, sizeof fault));
+        covretin_disconnect(&vmm);
+        pthread_join(thread, &error);
+        EXPECT(EFAULT, (intptr_t)error);
+        EXPECT(true, covretin_request_is_lost(its.kept[0]));
+        covretin_request_done(its.kept[0], 0);
+        pthread_join(loop_thread, NULL);
+        EXPECT(1, its.ended);
+        covretin_device_close(&device);
+        close(userfault);
+        free(source);
+        free_queue(&queue);
+        free_memory();
+    }
 }
 
 /* A call that is full, and would block whoever writes it; a pipe, and one that nobody reads. */
@@ -1071,6 +1229,45 @@ static void has_a_configuration(void)
     end();
 }
 
+/* A frontend that is told so replies only once it has read the configuration; one that refuses is told the next time, too; and one that
+ * closes the channel is told no more. */
+static void tells_of_a_changed_configuration(void)
+{
+    covretin_channel_service channel = {0};
+    uint32_t call = 0;
+    int ends[2];
+    begin(&calls);
+    negotiate(0);
+    if (socketpair(AF_UNIX, SOCK_STREAM | SOCK_CLOEXEC, 0, ends))
+        give_up("socketpair");
+    DONE(covretin_ask_set_backend_request_fd(&vmm.session, ends[1]));
+    close(ends[1]);
+    EXPECT(COVRETIN_OK, covretin_channel_serve_fd(&channel, ends[0]));
+    EXPECT(COVRETIN_OK, covretin_channel_server_set_reply_ack(&channel.server, true));
+    EXPECT(COVRETIN_TIMED_OUT, covretin_channel_next_call(&channel, &call, 500));
+    for (uint64_t refusal = 0; refusal < 2; refusal++) {
+        its.has_changed = true;
+        EXPECT(COVRETIN_OK, covretin_channel_next_call(&channel, &call, LIMIT));
+        EXPECT(COVRETIN_CHANNEL_CALL_CONFIG_CHANGE, call);
+        DONE(covretin_ask_get_config(&vmm.session, 0, 4, 0));
+        its.has_changed = true; /* and once more, amid that */
+        for (int i = 0; i < LIMIT && its.has_changed; i++)
+            usleep(1000);
+        EXPECT(COVRETIN_OK, covretin_channel_reply_number(&channel.server, refusal));
+        EXPECT(COVRETIN_OK, covretin_channel_next_call(&channel, &call, LIMIT));
+        EXPECT(COVRETIN_OK, covretin_channel_reply_number(&channel.server, refusal));
+        EXPECT(COVRETIN_TIMED_OUT, covretin_channel_next_call(&channel, &call, 500));
+    }
+    REFUSED(covretin_ask_set_backend_request_fd(&vmm.session, STDOUT_FILENO)); /* it is no socket */
+    covretin_channel_hang_up(&channel);
+    usleep(50000);
+    its.has_changed = true;
+    usleep(500000);
+    EXPECT(true, its.has_changed);
+    its.has_changed = false;
+    end();
+}
+
 /* A ring without eventfds is looked at each millisecond. */
 static void polls_a_ring_without_a_kick(void)
 {
@@ -1096,6 +1293,34 @@ static void polls_a_ring_without_a_kick(void)
 static void kick_loop(void)
 {
     EXPECT(3, number(covretin_ask_get_queue_num(&vmm.session)));
+}
+
+/* The same without a request that was handed out, between two turns of the loop. */
+static void takes_by_itself(void)
+{
+    covretin_device_calls taking = calls;
+    taking.taken_queues = 1;
+    begin(&taking);
+    negotiate(0);
+    make_memory();
+    give_memory();
+    struct queue queue = make_queue(0);
+    start(&queue, 0);
+    write_request(&queue, 0, "itself");
+    its.is_over = true;
+    post(&queue, 0); /* whose kick has the loop come round */
+    pthread_join(loop_thread, NULL);
+    EXPECT(true, covretin_device_take(&device, 1) == NULL);
+    EXPECT(true, covretin_device_take(&device, 3) == NULL);
+    answer(covretin_device_take(&device, 0));
+    expect_used(&queue, 0, 6);
+    expect_text(&queue, 0, "ITSELF");
+    EXPECT(true, covretin_device_take(&device, 0) == NULL);
+    covretin_device_close(&device);
+    EXPECT(true, covretin_device_take(&device, 0) == NULL);
+    covretin_disconnect(&vmm);
+    free_queue(&queue);
+    free_memory();
 }
 
 /* A device that is closed calls nobody back, and what it handed out may still be done. */
@@ -1228,7 +1453,7 @@ static void refuses_tables(void)
 static void runs_until_a_signal(void)
 {
     covretin_connection other = {0};
-    its.ended = its.served = 0;
+    its.ended = its.served = its.turned_away = 0;
     its.keeps = false;
     if (pthread_create(&loop_thread, NULL, run_device, NULL))
         give_up("pthread_create");
@@ -1248,6 +1473,7 @@ static void runs_until_a_signal(void)
         EXPECT(COVRETIN_OK, covretin_ask_get_features(&other.session));
         EXPECT(COVRETIN_DISCONNECTED, covretin_exchange(&other, LIMIT));
         covretin_disconnect(&other);
+        wait_for(&its.turned_away, (size_t)round + 1);
         covretin_disconnect(&vmm);
         wait_for(&its.ended, (size_t)round + 1);
         free_queue(&queue);
@@ -1275,15 +1501,19 @@ int main(void)
     RUN(serves_indirect_and_event_index);
     RUN(serves_a_packed_queue);
     RUN(completes_later);
+    RUN(takes_of_a_queue);
+    RUN(takes_by_itself);
     RUN(ends_where_memory_is_gone);
     RUN(ends_where_a_request_is_gone);
     RUN(ends_no_other_session);
     RUN(hands_on_other_faults);
+    RUN(gives_no_zeros_for_memory_that_is_gone);
     RUN(never_waits_for_a_call);
     if (has_userfault()) {
         RUN(takes_pages_as_they_come);
         RUN(waits_for_no_page_of_who_went);
         RUN(stops_while_it_waits_for_a_page);
+        RUN(gives_no_zeros_for_a_page_of_who_went);
     } else
         printf("postcopy is left out: userfaultfd is not allowed here\n");
     RUN(frontend_dies_amid_a_request);
@@ -1293,6 +1523,7 @@ int main(void)
     RUN(logs_what_it_writes);
     RUN(refuses_other_files);
     RUN(has_a_configuration);
+    RUN(tells_of_a_changed_configuration);
     RUN(polls_a_ring_without_a_kick);
     RUN(closes_amid_a_request);
     RUN(bears_anything_in_a_split_queue);

@@ -1,7 +1,7 @@
 """Frontends that mean harm to the example disk: disk_attacks.py DISK [NAME..], in an empty folder. DISK is the compiled c/blk.c.
 
-Each has a disk of its own. Once it is gone the disk has as many descriptors and as much memory mapped as before, serves another
-frontend, and ends by SIGTERM with status 0. Prints a line for each; status 0 where all passed, else 1.
+Each has a disk of its own. Once it is gone the disk serves another frontend, has as many descriptors and as much memory mapped then as
+with the first one, and ends by SIGTERM with status 0. Prints a line for each; status 0 where all passed, else 1.
 """
 
 import fcntl
@@ -55,11 +55,7 @@ class Disk:
         self.said = open(f"{name}.said", "wb")
         self.program = program
         self.start()
-        first = Frontend(self, None)
-        check(first.ask(GET_FEATURES), "the disk serves")
-        fds, mapped = self.has()
-        self.had = fds - 1, mapped  # one is the socket of that frontend
-        first.close()
+        self.had = self.has()
 
     def start(self):
         words = [self.program, self.path, self.image]
@@ -78,10 +74,15 @@ class Disk:
         return words[0], (int(words[11]) + int(words[12])) / os.sysconf("SC_CLK_TCK")
 
     def has(self):
-        """How many descriptors it has open, and how many files of memory mapped."""
+        """How many descriptors it has open, and how many files of memory mapped, once it serves a frontend that did nothing: some belong to
+        a session."""
+        frontend = Frontend(self, None)
+        check(frontend.ask(GET_FEATURES), "the disk serves")
         with open(f"/proc/{self.process.pid}/maps", encoding="ascii") as it:
             mapped = sum("/memfd:" in line for line in it)
-        return len(os.listdir(f"/proc/{self.process.pid}/fd")), mapped
+        fds = len(os.listdir(f"/proc/{self.process.pid}/fd"))
+        frontend.close()
+        return fds, mapped
 
     def wait_until(self, holds, what):
         looks = 0
@@ -214,12 +215,12 @@ class Guest:
     def describe(self, at, *descriptor):
         struct.pack_into("<QIHH", self.memory, 16 * at, *descriptor)
 
-    def offer(self, sector):
-        """Offers to read a sector, and kicks."""
-        struct.pack_into("<IIQ", self.memory, REQUEST, 0, 0, sector)
+    def offer(self, sector, is_written=False):
+        """Offers to read a sector, or to write it, and kicks."""
+        struct.pack_into("<IIQ", self.memory, REQUEST, is_written, 0, sector)
         self.memory[STATUS] = 0xFF
         self.describe(0, REQUEST, 16, NEXT, 1)
-        self.describe(1, DATA, SECTOR, NEXT | WRITE, 2)
+        self.describe(1, DATA, SECTOR, NEXT if is_written else NEXT | WRITE, 2)
         self.describe(2, STATUS, 1, WRITE, 0)
         struct.pack_into("<H", self.memory, AVAILABLE + 4 + 2 * (self.offered % SIZE), 0)
         self.offered += 1
@@ -477,6 +478,42 @@ def pages_that_do_not_come(disk):
     disk.start()
 
 
+def waiting_for_data(disk):
+    """A guest whose pages are there, since it wrote them, but for one that is to be written to the image."""
+    guest = Guest(disk, listens=True)
+    guest.memory[AVAILABLE] = guest.memory[USED] = guest.memory[REQUEST] = guest.memory[0] = 0
+    check(guest.start(), "the ring starts")
+    guest.offer(4, is_written=True)
+    disk.wait_until(lambda: select.select(guest.frontend.fds, [], [], 0)[0], "the disk waits for a page")
+    return guest
+
+
+def contents(disk):
+    with open(disk.image, "rb") as it:
+        return it.read()
+
+
+def data_that_cannot_come(disk):
+    """The same where a request waits alone: no zeros are written in its place."""
+    before = contents(disk)
+    for _ in range(30):
+        guest = waiting_for_data(disk)
+        userfault = os.dup(guest.frontend.fds[0])
+        guest.close()
+        working(disk).close()
+        os.close(userfault)
+        check(contents(disk) == before, "nothing is written")
+
+
+def data_that_does_not_come(disk):
+    before = contents(disk)
+    guest = waiting_for_data(disk)
+    disk.end()
+    check(contents(disk) == before, "nothing is written")
+    guest.close()
+    disk.start()
+
+
 # -- Others --
 
 
@@ -509,7 +546,7 @@ ATTACKS = [full_call, full_pipe_for_call, pipe_for_call_that_nobody_reads, full_
 ATTACKS += [kick_that_counts_down, no_eventfds]
 ATTACKS += [shortened_memory, shortened_memory_at_a_start, shortened_data, shortened_log, shortened_inflight_region]
 ATTACKS += [second_frontend, frontend_that_comes_again]
-POSTCOPY = [pages_that_cannot_come, pages_that_do_not_come]
+POSTCOPY = [pages_that_cannot_come, pages_that_do_not_come, data_that_cannot_come, data_that_does_not_come]
 
 
 def may_wait_for_pages(program):
@@ -528,7 +565,7 @@ def attacked(program, attack):
     disk = Disk(program, attack.__name__)
     try:
         attack(disk)
-        disk.wait_until(lambda: disk.has() == disk.had, f"it has {disk.had[0]} descriptors and {disk.had[1]} mappings again")
+        check(disk.has() == disk.had, f"it has {disk.had[0]} descriptors and {disk.had[1]} mappings again")
         working(disk).close()
         disk.end()
     except (AssertionError, OSError) as why:

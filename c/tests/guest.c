@@ -1,160 +1,59 @@
-/* The example disk with a guest that is not to be trusted: whatever its driver writes into its rings is answered by an error, and
- * touches nothing outside of its memory; memory that is taken away; and eventfds that would block. And what a disk finds that takes
- * the place of one that was killed. */
+/* SPDX-License-Identifier: Apache-2.0 */
+/* The example disk with a guest: what each request does, in any layout; that what its driver may not ask is answered by an error, and touches
+ * nothing; several requests under way, while rings are stopped and the dirty log is switched and replaced; packed rings; chains of anything;
+ * and a file that grows.
+ *
+ *     guest [DISK]
+ *
+ * In an empty folder. DISK is the compiled c/blk.c, or else ../blk. Each test has one of its own, which has to end with status 0. Prints a
+ * line for each, and for each call. Status 0; 1 where something was not so, which the last line says. */
 #ifndef _GNU_SOURCE
 #define _GNU_SOURCE
 #endif
 
-#include "blk_events.h"
-#include "blk_guard.h"
-#include "blk_requests.h"
-#include "testing.h"
+#include "../real/vmm.h"
+#include "covretin_channel_socket.h"
 
-#include <errno.h>
 #include <fcntl.h>
 #include <linux/virtio_blk.h>
-#include <linux/virtio_ring.h>
-#include <poll.h>
-#include <pthread.h>
 #include <signal.h>
 #include <stdio.h>
 #include <stdlib.h>
 #include <string.h>
-#include <sys/eventfd.h>
-#include <sys/mman.h>
+#include <sys/prctl.h>
 #include <sys/socket.h>
+#include <sys/stat.h>
 #include <sys/wait.h>
+#include <time.h>
 #include <unistd.h>
 
 enum {
-    SIZE = 8, /* descriptors of the ring */
-    SECTORS = 64,
-    PART = 0x4000, /* bytes of a region: the first two follow each other for the guest, the third lies far away */
-    DESCRIPTORS = 0,
-    AVAILABLE = 0x100,
-    USED = 0x200,
-    HEADER = 0x1000,
-    STATUS = 0x1100,
-    DATA = 0x2000
+    SECTOR = 512,
+    SECTORS = 1024,
+    HEADERS = QUEUE_ROOM, /* in the guest's memory: so many headers, a page with ranges and tables, statuses, and data */
+    TABLES = HEADERS + PAGE,
+    STATUSES = TABLES + PAGE,
+    DATA = STATUSES + PAGE,
+    SIZE = DATA + 32 * PAGE,
+    MOST_SECTORS = 1 << 16 /* of a range */
 };
 
-static const uint64_t user = 0x7000000000, far_away = 0xfffffffffffe0000;
+#define INDIRECT ((uint64_t)1 << 28)
+#define EVENT_IDX ((uint64_t)1 << 29)
+#define RING_PACKED ((uint64_t)1 << 34)
 
-static struct guest_memory memory;
-static struct disk disk;
-static struct ring ring;
-static uint8_t *seen[3]; /* the regions, as the guest sees them */
-static int backs[3];
-static struct vring_desc *descriptors;
-static struct vring_avail *available;
-static struct vring_used *used;
+static const char *program = "../blk";
+static pid_t disk;
+static int image;
+static struct memory memory;
+static struct virtqueue queue;
+static uint32_t used_length; /* of the request before */
 
-static int memory_of(size_t size)
-{
-    int fd = memfd_create("guest", MFD_CLOEXEC);
-    if (fd < 0 || ftruncate(fd, (off_t)size))
-        give_up("memfd_create");
-    return fd;
-}
-
-static uint8_t *map(int fd, size_t size)
-{
-    uint8_t *at = mmap(NULL, size, PROT_READ | PROT_WRITE, MAP_SHARED, fd, 0);
-    if (at == MAP_FAILED)
-        give_up("mmap");
-    return at;
-}
+/* -- The disk -- */
 
 static uint8_t byte_of(uint64_t sector, size_t at)
 {
     return (uint8_t)(sector * 7 + at * 3 + 1);
-}
-
-static void fill_image(void)
-{
-    uint8_t bytes[SECTOR];
-    disk = (struct disk){.image = memory_of(SECTORS * SECTOR), .name = "a name of 20 bytes.."};
-    for (uint64_t sector = 0; sector < SECTORS; sector++) {
-        for (size_t i = 0; i < SECTOR; i++)
-            bytes[i] = byte_of(sector, i);
-        if (pwrite(disk.image, bytes, SECTOR, (off_t)(sector * SECTOR)) != SECTOR)
-            give_up("pwrite");
-    }
-    EXPECT(true, disk_measure(&disk));
-}
-
-/* A guest with three regions, and a ring in the first. */
-static void begin(void)
-{
-    const uint64_t places[3] = {0, PART, far_away};
-    guard_forget();
-    memory = (struct guest_memory){.userfault = -1};
-    for (size_t i = 0; i < 3; i++) {
-        backs[i] = memory_of(PART);
-        seen[i] = map(backs[i], PART);
-        const covretin_region region = {places[i], PART, user + i * 2 * PART, 0, backs[i]};
-        EXPECT(true, memory_add(&memory, &region));
-    }
-    descriptors = (struct vring_desc *)(seen[0] + DESCRIPTORS);
-    available = (struct vring_avail *)(seen[0] + AVAILABLE);
-    used = (struct vring_used *)(seen[0] + USED);
-    fill_image();
-    ring = (struct ring){.size = SIZE, .kick = -1, .call = -1, .error = eventfd(0, EFD_CLOEXEC | EFD_NONBLOCK)};
-    ring.place = (covretin_vring){
-        .desc_table_addr = user + DESCRIPTORS, .avail_ring_addr = user + AVAILABLE, .used_ring_addr = user + USED};
-    EXPECT(true, ring_start(&ring, &memory));
-}
-
-static void end(void)
-{
-    ring_reset(&ring);
-    memory_clear(&memory);
-    unmap(&memory.log);
-    for (size_t i = 0; i < 3; i++) {
-        munmap(seen[i], PART);
-        close(backs[i]);
-    }
-    close(disk.image);
-}
-
-static void describe(uint16_t at, uint64_t address, uint32_t length, uint16_t flags, uint16_t next)
-{
-    descriptors[at] = (struct vring_desc){address, length, flags, next};
-}
-
-static void put_header(uint32_t type, uint64_t sector)
-{
-    const struct virtio_blk_outhdr header = {.type = type, .sector = sector};
-    memcpy(seen[0] + HEADER, &header, sizeof header);
-    seen[0][STATUS] = 0xee;
-}
-
-static void offer(uint16_t head)
-{
-    available->ring[available->idx % SIZE] = head;
-    available->idx++;
-}
-
-static void work(void)
-{
-    static struct chain chain;
-    while (ring.is_started && ring_next(&ring, &memory, &chain))
-        ring_put(&ring, &memory, chain.head, disk_do(&disk, &memory, &chain));
-}
-
-/* A request of three descriptors. How many bytes were written, as the used ring tells. */
-static uint32_t request(uint32_t type, uint64_t sector, uint64_t data, uint32_t length)
-{
-    uint16_t index = used->idx, flags = type == VIRTIO_BLK_T_OUT ? VRING_DESC_F_NEXT : VRING_DESC_F_NEXT | VRING_DESC_F_WRITE;
-    put_header(type, sector);
-    describe(0, HEADER, 16, VRING_DESC_F_NEXT, 3);
-    describe(3, data, length, flags, 5);
-    describe(5, STATUS, 1, VRING_DESC_F_WRITE, 0);
-    offer(0);
-    work();
-    EXPECT((uint16_t)(index + 1), used->idx);
-    EXPECT(0, used->ring[index % SIZE].id);
-    return used->ring[index % SIZE].len;
 }
 
 static bool is_sector(const uint8_t *bytes, uint64_t sector)
@@ -165,85 +64,162 @@ static bool is_sector(const uint8_t *bytes, uint64_t sector)
     return true;
 }
 
-/* -- What it is for -- */
-
-static void reads_and_writes(void)
+static bool is_zero(const uint8_t *bytes)
 {
-    begin();
-    EXPECT(SECTOR + 1, request(VIRTIO_BLK_T_IN, 5, DATA, SECTOR));
-    EXPECT(VIRTIO_BLK_S_OK, seen[0][STATUS]);
-    EXPECT(true, is_sector(seen[0] + DATA, 5));
-    EXPECT(1, request(VIRTIO_BLK_T_OUT, 9, DATA, SECTOR));
-    EXPECT(1, request(VIRTIO_BLK_T_FLUSH, 0, DATA, 0));
-    EXPECT(SECTOR + 1, request(VIRTIO_BLK_T_IN, 9, far_away, SECTOR));
-    EXPECT(true, is_sector(seen[2], 5));
-    EXPECT(NAME_SIZE + 1, request(VIRTIO_BLK_T_GET_ID, 0, DATA, NAME_SIZE));
-    EXPECT(0, memcmp(seen[0] + DATA, disk.name, NAME_SIZE));
+    for (size_t i = 0; i < SECTOR; i++)
+        if (bytes[i] != 0)
+            return false;
+    return true;
+}
+
+/* The image's sector. */
+static const uint8_t *in_image(uint64_t sector)
+{
+    static uint8_t bytes[SECTOR];
+    check(pread(image, bytes, SECTOR, (off_t)(sector * SECTOR)) == SECTOR, "the image has the sector");
+    return bytes;
+}
+
+static bool is_image_whole(void)
+{
+    struct stat file;
+    for (uint64_t sector = 0; sector < SECTORS; sector++)
+        if (!is_sector(in_image(sector), sector))
+            return false;
+    return fstat(image, &file) == 0 && file.st_size == SECTORS * SECTOR;
+}
+
+static void fill_image(void)
+{
+    uint8_t bytes[SECTOR];
+    image = open("image", O_RDWR | O_CREAT | O_TRUNC | O_CLOEXEC, 0600);
+    for (uint64_t sector = 0; sector < SECTORS; sector++) {
+        for (size_t i = 0; i < SECTOR; i++)
+            bytes[i] = byte_of(sector, i);
+        check(write(image, bytes, SECTOR) == SECTOR, "the image is written");
+    }
+}
+
+/* A disk with these words, and a guest that has a ring where it accepts these features. */
+static void begin(const char *word, uint64_t features)
+{
+    fill_image();
+    fflush(stdout);
+    disk = fork();
+    if (disk == 0) {
+        prctl(PR_SET_PDEATHSIG, SIGKILL); /* it goes with its test */
+        execl(program, "blk", "socket", "image", "2", word, NULL);
+        _exit(127);
+    }
+    check(disk > 0, "the disk is begun");
+    memory = make_memory("guest", SIZE, (uint64_t)1 << 32);
+    queue = make_virtqueue(0, memory.at);
+    connect_to("socket");
+    negotiate(features, 0);
+    give_memory(&memory);
+    if (!(features & RING_PACKED))
+        start_ring(&queue, 0);
+}
+
+static void end(void)
+{
+    int status = 0;
+    covretin_disconnect(&device);
+    free_virtqueue(&queue);
+    free_memory(&memory);
+    close(image);
+    check(kill(disk, SIGTERM) == 0 && waitpid(disk, &status, 0) == disk && status == 0, "the disk ends with status 0");
+}
+
+/* -- Requests -- */
+
+static void describe(unsigned at, const uint8_t *bytes, uint32_t length, uint16_t flags, uint16_t next)
+{
+    queue.descriptors[at] = (struct descriptor){guest_address(&memory, bytes), length, flags, next};
+}
+
+static uint8_t *put_header(unsigned request, uint32_t type, uint64_t sector)
+{
+    const struct virtio_blk_outhdr header = {.type = type, .sector = sector};
+    memory.at[STATUSES + request] = 0xee;
+    return memcpy(memory.at + HEADERS + request * sizeof header, &header, sizeof header);
+}
+
+/* Posts a request of up to three descriptors. */
+static void post_request(unsigned request, uint32_t type, uint64_t sector, const uint8_t *data, uint32_t length)
+{
+    uint16_t first = (uint16_t)(3 * request), next = (uint16_t)(length == 0 ? first + 2 : first + 1);
+    bool is_read = type == VIRTIO_BLK_T_IN || type == VIRTIO_BLK_T_GET_ID;
+    describe(first, put_header(request, type, sector), sizeof(struct virtio_blk_outhdr), DESCRIPTOR_NEXT, next);
+    describe(first + 1u, data, length, (uint16_t)(DESCRIPTOR_NEXT | (is_read ? DESCRIPTOR_WRITE : 0)), (uint16_t)(first + 2));
+    describe(first + 2u, memory.at + STATUSES + request, 1, DESCRIPTOR_WRITE, 0);
+    post(&queue, first);
+}
+
+/* The chain from a head on was used. */
+static void use(uint16_t head)
+{
+    struct used_element used;
+    kick(&queue);
+    take(&queue, &used, "the request is used");
+    check(used.head == head, "what is used is what was posted");
+    used_length = used.length;
+}
+
+/* The status of a request. */
+static uint8_t ask(uint32_t type, uint64_t sector, uint32_t length)
+{
+    post_request(0, type, sector, memory.at + DATA, length);
+    use(0);
+    check(memory.at[STATUSES] == VIRTIO_BLK_S_OK || used_length == 1, "of what failed the status alone was written");
+    return memory.at[STATUSES];
+}
+
+static void check_goes_on(void)
+{
+    check(ask(VIRTIO_BLK_T_IN, 5, SECTOR) == VIRTIO_BLK_S_OK && is_sector(memory.at + DATA, 5), "the disk goes on");
+}
+
+static void serves_each_request(void)
+{
+    begin(NULL, 0);
+    check(ask(VIRTIO_BLK_T_IN, 5, SECTOR) == VIRTIO_BLK_S_OK && used_length == SECTOR + 1, "a sector is read");
+    check(is_sector(memory.at + DATA, 5), "it is the image's");
+    check(ask(VIRTIO_BLK_T_OUT, 9, SECTOR) == VIRTIO_BLK_S_OK && used_length == 1, "a sector is written");
+    check(is_sector(in_image(9), 5), "it is in the image");
+    check(ask(VIRTIO_BLK_T_FLUSH, 0, 0) == VIRTIO_BLK_S_OK && used_length == 1, "that is flushed");
+    check(ask(VIRTIO_BLK_T_GET_ID, 0, VIRTIO_BLK_ID_BYTES) == VIRTIO_BLK_S_OK && used_length == VIRTIO_BLK_ID_BYTES + 1, "it has a name");
+    check(strcmp((const char *)memory.at + DATA, "covretin") == 0, "which is its own");
+    check(ask(VIRTIO_BLK_T_IN, SECTORS - 64, 64 * SECTOR) == VIRTIO_BLK_S_OK, "the last sectors are read");
+    check(is_sector(memory.at + DATA + 63 * SECTOR, SECTORS - 1), "to the end");
+    stop_ring(&queue);
     end();
 }
 
-/* Data that lies in two regions, which follow each other for the guest alone. */
-static void crosses_regions(void)
-{
-    begin();
-    EXPECT(2 * SECTOR + 1, request(VIRTIO_BLK_T_IN, 20, PART - SECTOR, 2 * SECTOR));
-    EXPECT(VIRTIO_BLK_S_OK, seen[0][STATUS]);
-    EXPECT(true, is_sector(seen[0] + PART - SECTOR, 20) && is_sector(seen[1], 21));
-    EXPECT(1, request(VIRTIO_BLK_T_OUT, 30, PART - SECTOR, 2 * SECTOR));
-    EXPECT(SECTOR + 1, request(VIRTIO_BLK_T_IN, 31, DATA, SECTOR));
-    EXPECT(true, is_sector(seen[0] + DATA, 21));
-    end();
-}
-
-/* A header in three pieces, and a status behind the data, in one descriptor. */
+/* A header in two parts, and a status behind the data, in one descriptor; and a table of all of these. */
 static void takes_any_layout(void)
 {
-    begin();
-    put_header(VIRTIO_BLK_T_IN, 2);
-    describe(1, HEADER, 5, VRING_DESC_F_NEXT, 2);
-    describe(2, HEADER + 5, 0, VRING_DESC_F_NEXT, 4);
-    describe(4, HEADER + 5, 11, VRING_DESC_F_NEXT, 6);
-    describe(6, DATA, SECTOR + 1, VRING_DESC_F_WRITE, 0);
-    seen[0][DATA + SECTOR] = 0xee;
-    offer(1);
-    work();
-    EXPECT(SECTOR + 1, used->ring[0].len);
-    EXPECT(VIRTIO_BLK_S_OK, seen[0][DATA + SECTOR]);
-    EXPECT(true, is_sector(seen[0] + DATA, 2));
-    end();
-}
-
-/* Used and available rings that were passed round, and numbers that begin anew. */
-static void goes_round(void)
-{
-    begin();
-    ring.taken = used->idx = available->idx = 65530;
-    for (unsigned i = 0; i < 40; i++) {
-        EXPECT(SECTOR + 1, request(VIRTIO_BLK_T_IN, i, DATA, SECTOR));
-        EXPECT(true, is_sector(seen[0] + DATA, i));
+    begin(NULL, INDIRECT);
+    for (uint64_t sector = 2; sector < 4; sector++) {
+        const uint8_t *header = put_header(0, VIRTIO_BLK_T_IN, sector);
+        memory.at[DATA + SECTOR] = 0xee;
+        describe(1, header, 5, DESCRIPTOR_NEXT, 2);
+        describe(2, header + 5, 11, DESCRIPTOR_NEXT, 3);
+        describe(3, memory.at + DATA, 100, DESCRIPTOR_WRITE | DESCRIPTOR_NEXT, 4);
+        describe(4, memory.at + DATA + 100, SECTOR + 1 - 100, DESCRIPTOR_WRITE, 0);
+        memcpy(memory.at + TABLES, queue.descriptors, 5 * sizeof(struct descriptor)); /* where the first is the second, too */
+        describe(7, memory.at + TABLES, 5 * sizeof(struct descriptor), 4, 0);
+        ((struct descriptor *)(memory.at + TABLES))[0] = queue.descriptors[1];
+        ((struct descriptor *)(memory.at + TABLES))[0].next = 2;
+        post(&queue, sector == 2 ? 1 : 7);
+        use(sector == 2 ? 1 : 7);
+        check(used_length == SECTOR + 1 && memory.at[DATA + SECTOR] == VIRTIO_BLK_S_OK, "the request succeeds");
+        check(is_sector(memory.at + DATA, sector), "what is read is the image's");
     }
     end();
 }
 
 /* -- What is refused -- */
-
-static void refuses_addresses(void)
-{
-    const struct {
-        uint64_t address;
-        uint32_t length;
-    } bad[] = {{2 * PART, SECTOR},          {2 * PART - 1, SECTOR},   {UINT64_MAX, SECTOR}, {UINT64_MAX - 100, SECTOR},
-               {far_away + PART, SECTOR},   {far_away - 1, SECTOR},   {0x123456789, 512},   {DATA, 0xfffffe00},
-               {far_away + PART - 1, 0x200}, {UINT64_MAX - 0x1ff, 512}, {user, SECTOR},       {0, 0xffffffff}};
-    begin();
-    for (size_t i = 0; i < sizeof bad / sizeof *bad; i++)
-        for (uint32_t type = VIRTIO_BLK_T_IN; type <= VIRTIO_BLK_T_OUT; type++) {
-            EXPECT(1, request(type, 0, bad[i].address, bad[i].length));
-            EXPECT(VIRTIO_BLK_S_IOERR, seen[0][STATUS]);
-        }
-    EXPECT(SECTOR + 1, request(VIRTIO_BLK_T_IN, 5, DATA, SECTOR));
-    end();
-}
 
 static void refuses_sectors(void)
 {
@@ -251,586 +227,501 @@ static void refuses_sectors(void)
         uint64_t sector;
         uint32_t length;
     } bad[] = {{SECTORS, SECTOR}, {SECTORS - 1, 2 * SECTOR}, {UINT64_MAX, SECTOR}, {(uint64_t)1 << 55, SECTOR}, {0, 100}, {1, SECTOR + 1}};
-    begin();
+    begin(NULL, 0);
     for (size_t i = 0; i < sizeof bad / sizeof *bad; i++)
-        for (uint32_t type = VIRTIO_BLK_T_IN; type <= VIRTIO_BLK_T_OUT; type++) {
-            EXPECT(1, request(type, bad[i].sector, DATA, bad[i].length));
-            EXPECT(VIRTIO_BLK_S_IOERR, seen[0][STATUS]);
-        }
-    EXPECT(1, request(77, 0, DATA, SECTOR));
-    EXPECT(VIRTIO_BLK_S_UNSUPP, seen[0][STATUS]);
-    EXPECT(1, request(VIRTIO_BLK_T_GET_ID, 0, DATA, NAME_SIZE - 1));
-    EXPECT(VIRTIO_BLK_S_IOERR, seen[0][STATUS]);
-    disk.is_read_only = true;
-    EXPECT(1, request(VIRTIO_BLK_T_OUT, 0, DATA, SECTOR));
-    EXPECT(VIRTIO_BLK_S_IOERR, seen[0][STATUS]);
+        for (uint32_t type = VIRTIO_BLK_T_IN; type <= VIRTIO_BLK_T_OUT; type++)
+            check(ask(type, bad[i].sector, bad[i].length) == VIRTIO_BLK_S_IOERR, "sectors that are not there are refused");
+    check(ask(77, 0, SECTOR) == VIRTIO_BLK_S_UNSUPP, "a request of another type is refused");
+    check(ask(VIRTIO_BLK_T_GET_ID, 0, VIRTIO_BLK_ID_BYTES - 1) == VIRTIO_BLK_S_IOERR, "a name has 20 bytes");
+    check_goes_on();
+    check(is_image_whole(), "nothing was written");
     end();
-}
-
-/* A request that begins at a descriptor. What the used ring tells that was written. */
-static uint32_t offered(uint16_t head)
-{
-    uint16_t index = used->idx;
-    offer(head);
-    work();
-    EXPECT((uint16_t)(index + 1), used->idx);
-    return used->ring[index % SIZE].len;
 }
 
 static void refuses_chains(void)
 {
-    begin();
-    put_header(VIRTIO_BLK_T_IN, 0);
-    describe(0, HEADER, 16, VRING_DESC_F_NEXT, 0); /* one that follows itself */
-    EXPECT(0, offered(0));
-    describe(0, HEADER, 16, VRING_DESC_F_NEXT, SIZE); /* what follows is none */
-    EXPECT(0, offered(0));
-    describe(0, HEADER, 16, VRING_DESC_F_NEXT, 65535);
-    EXPECT(0, offered(0));
-    describe(0, HEADER, 16, 0, 0); /* no status */
-    EXPECT(0, offered(0));
-    describe(0, HEADER, 15, VRING_DESC_F_NEXT, 1); /* a header that is cut */
-    describe(1, STATUS, 1, VRING_DESC_F_WRITE, 0);
-    EXPECT(1, offered(0));
-    EXPECT(VIRTIO_BLK_S_IOERR, seen[0][STATUS]);
-    describe(0, STATUS, 1, VRING_DESC_F_WRITE, 0); /* no header */
-    EXPECT(1, offered(0));
-    describe(0, STATUS, 1, VRING_DESC_F_WRITE | VRING_DESC_F_NEXT, 1); /* one to be read behind one to be written */
-    describe(1, HEADER, 16, 0, 0);
-    EXPECT(0, offered(0));
-    describe(0, HEADER, 16, VRING_DESC_F_INDIRECT | VRING_DESC_F_NEXT, 1); /* what was not offered */
-    describe(1, STATUS, 1, VRING_DESC_F_WRITE, 0);
-    EXPECT(1, offered(0));
-    EXPECT(VIRTIO_BLK_S_IOERR, seen[0][STATUS]);
-    describe(1, 2 * PART, 1, VRING_DESC_F_WRITE, 0); /* a status outside of the memory */
-    EXPECT(0, offered(0));
-    describe(1, STATUS, 0, VRING_DESC_F_WRITE, 0); /* an empty one */
-    EXPECT(0, offered(0));
-    EXPECT(true, ring.is_started);
+    begin(NULL, 0);
+    describe(0, put_header(0, VIRTIO_BLK_T_OUT, 0), 16, 0, 0);
+    post(&queue, 0);
+    use(0);
+    check(used_length == 0, "what has no room for a status is given back");
+    describe(0, put_header(0, VIRTIO_BLK_T_IN, 0), 15, DESCRIPTOR_NEXT, 1);
+    describe(1, memory.at + STATUSES, 1, DESCRIPTOR_WRITE, 0);
+    post(&queue, 0);
+    use(0);
+    check(used_length == 1 && memory.at[STATUSES] == VIRTIO_BLK_S_IOERR, "a header has 16 bytes");
+    memory.at[STATUSES] = 0xee;
+    post(&queue, 1);
+    use(1);
+    check(used_length == 1 && memory.at[STATUSES] == VIRTIO_BLK_S_IOERR, "there is a header");
+    check_goes_on();
+    check(is_image_whole(), "nothing was written");
     end();
 }
 
-/* A ring that is none any more is stopped, and its error signalled. */
-static void stops_rings(void)
+static void is_not_written_where_it_is_for_reading(void)
 {
-    eventfd_t errors = 0;
-    for (int i = 0; i < 4; i++) {
-        begin();
-        switch (i) {
-        case 0: offer(SIZE); break;
-        case 1: offer(65535); break;
-        case 2: available->idx = SIZE + 1; break;
-        default: EXPECT(true, memory_remove(&memory, &(covretin_region){0, PART, user, 0, -1}));
+    begin("ro", (uint64_t)1 << VIRTIO_BLK_F_RO);
+    for (uint32_t type = VIRTIO_BLK_T_OUT; type <= VIRTIO_BLK_T_WRITE_ZEROES; type += type == VIRTIO_BLK_T_OUT ? 10 : 2) {
+        const struct virtio_blk_discard_write_zeroes range = {.num_sectors = 1};
+        memcpy(memory.at + DATA, &range, sizeof range);
+        check(ask(type, 0, type == VIRTIO_BLK_T_OUT ? SECTOR : sizeof range) == VIRTIO_BLK_S_IOERR, "nothing is written");
+    }
+    check_goes_on();
+    check(is_image_whole(), "nothing was written");
+    end();
+}
+
+/* -- Ranges -- */
+
+static uint8_t ask_ranges(uint32_t type, const struct virtio_blk_discard_write_zeroes *ranges, uint32_t length)
+{
+    memcpy(memory.at + DATA, ranges, length);
+    return ask(type, 0, length);
+}
+
+static void clears_ranges(void)
+{
+    struct virtio_blk_discard_write_zeroes ranges[16] = {{.sector = 8, .num_sectors = 8}, {.sector = 32, .num_sectors = 3}, {.sector = 70}};
+    struct stat file;
+    begin(NULL, (uint64_t)1 << VIRTIO_BLK_F_DISCARD | (uint64_t)1 << VIRTIO_BLK_F_WRITE_ZEROES);
+    check(ask_ranges(VIRTIO_BLK_T_WRITE_ZEROES, ranges, 3 * sizeof *ranges) == VIRTIO_BLK_S_OK && used_length == 1, "sectors are cleared");
+    ranges[0] = (struct virtio_blk_discard_write_zeroes){.sector = SECTORS - 16, .num_sectors = 16, .flags = VIRTIO_BLK_WRITE_ZEROES_FLAG_UNMAP};
+    check(ask_ranges(VIRTIO_BLK_T_WRITE_ZEROES, ranges, sizeof *ranges) == VIRTIO_BLK_S_OK, "sectors are cleared, and need no room");
+    for (uint64_t sector = 0; sector < SECTORS; sector++)
+        if ((sector >= 8 && sector < 16) || (sector >= 32 && sector < 35) || sector >= SECTORS - 16)
+            check(is_zero(in_image(sector)), "they are zeros");
+        else
+            check(is_sector(in_image(sector), sector), "all others are as they were");
+    for (uint32_t i = 0; i < 16; i++)
+        ranges[i] = (struct virtio_blk_discard_write_zeroes){.sector = 512 + 8 * i, .num_sectors = 8};
+    check(ask_ranges(VIRTIO_BLK_T_DISCARD, ranges, sizeof ranges) == VIRTIO_BLK_S_OK && used_length == 1, "sectors are discarded");
+    check(fstat(image, &file) == 0 && file.st_size == SECTORS * SECTOR, "the file is as long as it was");
+    check_goes_on();
+    end();
+}
+
+/* One that may not be, behind one that may: neither is cleared. */
+static void refuses_ranges(void)
+{
+    const struct {
+        struct virtio_blk_discard_write_zeroes range;
+        uint8_t status[2]; /* of a discard, and of writing zeroes */
+    } bad[] = {{{0, 8, 2}, {VIRTIO_BLK_S_UNSUPP, VIRTIO_BLK_S_UNSUPP}},
+               {{0, 8, 1u << 31 | 1}, {VIRTIO_BLK_S_UNSUPP, VIRTIO_BLK_S_UNSUPP}},
+               {{UINT64_MAX, 8, 2}, {VIRTIO_BLK_S_UNSUPP, VIRTIO_BLK_S_UNSUPP}},
+               {{0, 8, 1}, {VIRTIO_BLK_S_UNSUPP, VIRTIO_BLK_S_OK}},
+               {{SECTORS - 7, 8, 0}, {VIRTIO_BLK_S_IOERR, VIRTIO_BLK_S_IOERR}},
+               {{SECTORS + 1, 0, 0}, {VIRTIO_BLK_S_IOERR, VIRTIO_BLK_S_IOERR}},
+               {{UINT64_MAX, 8, 0}, {VIRTIO_BLK_S_IOERR, VIRTIO_BLK_S_IOERR}},
+               {{0, MOST_SECTORS + 1, 0}, {VIRTIO_BLK_S_IOERR, VIRTIO_BLK_S_IOERR}},
+               {{0, UINT32_MAX, 0}, {VIRTIO_BLK_S_IOERR, VIRTIO_BLK_S_IOERR}}};
+    const uint32_t lengths[] = {0, 1, 15, 17, 16 * 17};
+    struct virtio_blk_discard_write_zeroes ranges[17] = {{.num_sectors = 8}};
+    begin(NULL, 0);
+    for (uint32_t kind = 0; kind < 2; kind++) {
+        uint32_t type = kind == 0 ? VIRTIO_BLK_T_DISCARD : VIRTIO_BLK_T_WRITE_ZEROES;
+        for (size_t i = 0; i < sizeof bad / sizeof *bad; i++) {
+            ranges[1] = bad[i].range;
+            if (bad[i].status[kind] != VIRTIO_BLK_S_OK)
+                check(ask_ranges(type, ranges, 2 * sizeof *ranges) == bad[i].status[kind], "a range is refused, and why");
         }
-        work();
-        EXPECT(false, ring.is_started);
-        EXPECT(0, eventfd_read(ring.error, &errors));
-        EXPECT(0, used->idx);
-        end();
+        ranges[1] = ranges[0];
+        for (size_t i = 0; i < sizeof lengths / sizeof *lengths; i++)
+            check(ask_ranges(type, ranges, lengths[i]) == VIRTIO_BLK_S_IOERR, "it is 1 to 16 whole ranges");
     }
-}
-
-static void starts_no_ring_elsewhere(void)
-{
-    const uint64_t places[] = {0, user - 16, user + PART, user + PART - 16, user + 8, UINT64_MAX - 15, far_away};
-    begin();
-    for (size_t i = 0; i < sizeof places / sizeof *places; i++) {
-        struct ring other = ring;
-        other.place.desc_table_addr = places[i];
-        EXPECT(false, ring_start(&other, &memory));
-        other.place = ring.place;
-        other.place.avail_ring_addr = places[i] == user + PART - 16 || places[i] == user + 8 ? user + PART - 2 : places[i];
-        EXPECT(false, ring_start(&other, &memory));
-        other.place = ring.place;
-        other.place.used_ring_addr = places[i] == user + 8 ? user + 2 : places[i];
-        EXPECT(false, ring_start(&other, &memory));
-    }
-    ring.size = 0;
-    EXPECT(false, ring_start(&ring, &memory));
+    check(is_image_whole(), "nothing was cleared");
+    check_goes_on();
     end();
 }
 
-static void refuses_regions(void)
+/* -- Several at a time -- */
+
+enum { AT_ONCE = QUEUE_SIZE / 3 };
+
+static uint8_t *data_of(unsigned request)
 {
-    begin();
-    covretin_region region = {0x100000, PART, user + 0x100000, 0, backs[0]};
-    region.mmap_offset = 1; /* longer than its file */
-    EXPECT(false, memory_add(&memory, &region));
-    region.mmap_offset = UINT64_MAX - 100;
-    EXPECT(false, memory_add(&memory, &region));
-    region = (covretin_region){UINT64_MAX - 100, PART, user, 0, backs[0]};
-    EXPECT(false, memory_add(&memory, &region));
-    region = (covretin_region){0x100000, PART, UINT64_MAX - 100, 0, backs[0]};
-    EXPECT(false, memory_add(&memory, &region));
-    region = (covretin_region){0x100000, 0, user, 0, backs[0]};
-    EXPECT(false, memory_add(&memory, &region));
-    region = (covretin_region){0x100000, PART, user, 0, -1};
-    EXPECT(false, memory_add(&memory, &region));
-    EXPECT(false, memory_remove(&memory, &region));
-    EXPECT(3, memory.count);
-    region.fd = backs[0];
-    while (memory.count < MOST_REGIONS)
-        EXPECT(true, memory_add(&memory, &region));
-    EXPECT(false, memory_add(&memory, &region));
+    return memory.at + DATA + request * 4 * PAGE;
+}
+
+static void post_reads(unsigned round)
+{
+    for (unsigned i = 0; i < AT_ONCE; i++) {
+        memset(data_of(i), 0, SECTOR);
+        post_request(i, VIRTIO_BLK_T_IN, (round * AT_ONCE + i) % (SECTORS - 32), data_of(i), 4 * PAGE);
+    }
+    kick(&queue);
+}
+
+/* (with EVENT_IDX the driver says which one it wants to be called for) */
+static void does_several_at_once(void)
+{
+    begin(NULL, EVENT_IDX);
+    for (unsigned round = 0; round < 2000; round++) {
+        unsigned seen = 0;
+        post_reads(round);
+        for (unsigned i = 0; i < AT_ONCE; i++) {
+            struct used_element used;
+            __atomic_store_n(&queue.available->heads[QUEUE_SIZE], queue.taken, __ATOMIC_SEQ_CST);
+            take(&queue, &used, "a request is used");
+            seen |= 1u << used.head / 3;
+            check(used.length == 4 * PAGE + 1 && memory.at[STATUSES + used.head / 3] == VIRTIO_BLK_S_OK, "it succeeded");
+            check(is_sector(data_of(used.head / 3), (round * AT_ONCE + used.head / 3) % (SECTORS - 32)), "what was read is the image's");
+        }
+        check(seen == (1u << AT_ONCE) - 1, "each is used once");
+    }
+    stop_ring(&queue);
     end();
 }
 
-/* Chains at random: each is given back, or the ring is stopped; the sanitizers see the rest. */
-static void bears_anything(void)
+/* Whoever stops a ring has all back that was taken of it: then nothing of the guest's memory is written. */
+static void writes_nothing_once_it_is_stopped(void)
 {
-    const uint64_t addresses[] = {0, HEADER, STATUS, DATA, PART - 8, PART, 2 * PART - 1, far_away, far_away + PART - 1, UINT64_MAX};
-    const uint32_t lengths[] = {0, 1, 16, SECTOR, SECTOR + 1, PART, 0xffffffff};
-    srand(1);
-    begin();
-    for (unsigned round = 0; round < 20000; round++) {
-        for (uint16_t i = 0; i < SIZE; i++)
-            describe(i, addresses[rand() % 10], lengths[rand() % 7], (uint16_t)(rand() % 8), (uint16_t)(rand() % (SIZE + 1)));
-        put_header((uint32_t)rand() % 9, (uint64_t)rand() % (SECTORS + 2));
-        available->idx = ring.taken; /* what it read may have been anything */
-        used->idx = ring.taken;
-        offer((uint16_t)(rand() % SIZE));
-        work();
-        if (!ring.is_started)
-            EXPECT(true, ring_start(&ring, &memory));
+    static uint8_t then[SIZE];
+    begin(NULL, 0);
+    for (unsigned round = 0; round < 300; round++) {
+        post_reads(round);
+        uint64_t base = number("get_vring_base", covretin_ask_get_vring_base(SESSION, 0));
+        memcpy(then, memory.at, SIZE);
+        check(queue.used->index == base, "what was taken is given back");
+        nanosleep(&(struct timespec){.tv_nsec = 500000}, NULL);
+        check(memcmp(then, memory.at, SIZE) == 0, "nothing is written any more");
+        queue.taken = (uint16_t)base; /* and the others are taken by the next start */
+        start_ring(&queue, 0);
+        while (queue.taken != queue.posted) {
+            struct used_element used;
+            take(&queue, &used, "the others are used");
+        }
+        stop_ring(&queue);
+        start_ring(&queue, 0);
     }
     end();
 }
 
 /* -- The dirty log -- */
 
-static void logs_what_it_writes(void)
+enum { LOG_SIZE = 0x40000 };
+
+static bool is_marked(const struct memory *log, const uint8_t *at)
 {
-    int file = memory_of(4096);
-    begin();
-    EXPECT(true, map_part(&memory.log, file, 0, 1)); /* eight pages */
-    memory.logs = true;
-    ring.place.has_log_addr = true;
-    ring.place.log_addr = 0x6000;
-    EXPECT(SECTOR + 1, request(VIRTIO_BLK_T_IN, 5, DATA, SECTOR));
-    EXPECT(1 << 2 | 1 << 1 | 1 << 6, memory.log.at[0]);
-    memory.log.at[0] = 0;
-    EXPECT(1, request(VIRTIO_BLK_T_OUT, 5, DATA, SECTOR));
-    EXPECT(1 << 1 | 1 << 6, memory.log.at[0]);
-    memory.log.at[0] = 0;
-    ring.place.log_addr = UINT64_MAX - 3; /* outside of the log, and of any memory */
-    EXPECT(SECTOR + 1, request(VIRTIO_BLK_T_IN, 5, far_away, SECTOR));
-    EXPECT(1 << 1, memory.log.at[0]);
-    EXPECT(0, memory.log.at[1]);
-    end();
-    close(file);
+    uint64_t page = guest_address(&memory, at) / PAGE;
+    return log->at[page / 8] >> page % 8 & 1;
 }
 
-/* -- Memory that is taken away -- */
-
-static void shorten(int fd)
+static void give_log(const struct memory *log)
 {
-    if (ftruncate(fd, 0))
-        give_up("ftruncate");
+    covretin_region region = {.memory_size = log->size, .fd = log->fd};
+    done("set_log_base", covretin_ask_set_log_base(SESSION, 0, &region));
 }
 
-static bool is_image_whole(void)
+static covretin_vring place_of(const struct virtqueue *it, uint64_t log)
 {
-    uint8_t bytes[SECTOR];
-    for (uint64_t sector = 0; sector < SECTORS; sector++)
-        if (pread(disk.image, bytes, SECTOR, (off_t)(sector * SECTOR)) != SECTOR || !is_sector(bytes, sector))
-            return false;
-    return true;
+    return (covretin_vring){.queue_max_size = QUEUE_SIZE,
+                            .queue_size = QUEUE_SIZE,
+                            .flags = log != 0,
+                            .desc_table_addr = (uint64_t)(uintptr_t)it->descriptors,
+                            .used_ring_addr = (uint64_t)(uintptr_t)it->used,
+                            .avail_ring_addr = (uint64_t)(uintptr_t)it->available,
+                            .log_addr = log,
+                            .has_log_addr = log != 0};
 }
 
-/* All that the device touches by itself: its ring, with what it offers, and at a start. */
-static void loses_its_ring(void)
+static void set_log(bool is_on)
 {
-    begin();
-    offer(0);
-    shorten(backs[0]);
-    work();
-    EXPECT(true, guard_has_lost());
-    guard_forget();
-    EXPECT(true, ring_start(&ring, &memory));
-    EXPECT(false, guard_has_lost()); /* there are zeros now */
-    end();
-    begin();
-    shorten(backs[0]);
-    EXPECT(true, ring_start(&ring, &memory));
-    EXPECT(true, guard_has_lost());
-    end();
+    uint64_t features = FEATURE_VERSION_1 | COVRETIN_FEATURE_PROTOCOL_FEATURES | (is_on ? COVRETIN_FEATURE_LOG_ALL : 0);
+    done("set_features", covretin_ask_set_features(SESSION, features));
 }
 
-/* Where the data are gone, the request fails, and the device goes on. */
-static void refuses_lost_data(void)
+/* Pages that are written from the log's switch on are in it, or in that which takes its place amid requests; all others are not, but for the
+ * used ring's, whose flags the disk writes by itself. */
+static void check_log(const struct memory *logs, unsigned requests, bool has_all)
 {
-    begin();
-    shorten(backs[2]);
-    for (uint32_t type = VIRTIO_BLK_T_IN; type <= VIRTIO_BLK_T_OUT; type++) {
-        EXPECT(1, request(type, 3, far_away, SECTOR));
-        EXPECT(VIRTIO_BLK_S_IOERR, seen[0][STATUS]);
+    for (const uint8_t *at = memory.at; at < memory.at + SIZE; at += PAGE) {
+        bool is_ring = at == (uint8_t *)queue.used, is_status = at == memory.at + STATUSES;
+        bool is_written = (at >= memory.at + DATA && at < data_of(requests)) || ((is_ring || is_status) && requests != 0);
+        bool is_in_log = is_marked(&logs[0], at) || is_marked(&logs[1], at);
+        check(is_in_log || !is_written || !has_all, "each page that is written is in the log");
+        check(!is_in_log || is_written || is_ring, "no other is in the log");
     }
-    EXPECT(false, guard_has_lost());
-    EXPECT(SECTOR + 1, request(VIRTIO_BLK_T_IN, 5, DATA, SECTOR));
-    EXPECT(true, is_image_whole());
-    end();
 }
 
-/* A header of which the second half is gone, with the data behind it: no zeros come to the image. */
-static void writes_no_zeros(void)
+static void logs_amid_requests(void)
 {
-    begin();
-    put_header(VIRTIO_BLK_T_OUT, 0);
-    describe(0, HEADER, 8, VRING_DESC_F_NEXT, 1);
-    describe(1, far_away, 8, VRING_DESC_F_NEXT, 2);
-    describe(2, far_away + SECTOR, SECTOR, VRING_DESC_F_NEXT, 3);
-    describe(3, STATUS, 1, VRING_DESC_F_WRITE, 0);
-    shorten(backs[2]);
-    EXPECT(1, offered(0));
-    EXPECT(VIRTIO_BLK_S_IOERR, seen[0][STATUS]);
-    EXPECT(true, guard_has_lost());
-    EXPECT(true, is_image_whole());
-    end();
-}
-
-static void loses_its_log(void)
-{
-    int file = memory_of(4096);
-    begin();
-    EXPECT(true, map_part(&memory.log, file, 0, 4096));
-    memory.logs = true;
-    shorten(file);
-    EXPECT(SECTOR + 1, request(VIRTIO_BLK_T_IN, 5, DATA, SECTOR));
-    EXPECT(true, guard_has_lost());
-    end();
-    close(file);
-}
-
-static void loses_its_inflight_region(void)
-{
-    int file = memory_of(inflight_size(SIZE));
-    struct mapping region = {NULL, 0, NULL, 0};
-    EXPECT(true, map_part(&region, file, 0, inflight_size(SIZE)));
-    begin();
-    ring.inflight = (struct inflight_queue *)region.at;
-    EXPECT(true, ring_start(&ring, &memory));
-    shorten(file);
-    EXPECT(1, request(VIRTIO_BLK_T_IN, 5, DATA, SECTOR)); /* nothing is done any more */
-    EXPECT(VIRTIO_BLK_S_IOERR, seen[0][STATUS]);
-    EXPECT(true, guard_has_lost());
-    end();
-    unmap(&region);
-    close(file);
-}
-
-static void *touch(void *of)
-{
-    const volatile uint8_t *bytes = of;
-    uintptr_t sum = 0;
-    for (size_t i = 0; i < PART; i++)
-        sum += bytes[i];
-    return (void *)sum;
-}
-
-static void touch_nothing(int signal_number)
-{
-    (void)signal_number;
-}
-
-/* Threads that meet the same loss. */
-static void loses_it_in_each_thread(void)
-{
-    enum { THREADS = 4 };
-    pthread_t threads[THREADS];
-    begin();
-    memset(seen[1], 1, PART);
-    shorten(backs[1]);
-    for (size_t i = 0; i < THREADS; i++)
-        if (pthread_create(&threads[i], NULL, touch, memory.regions[1].mapping.at))
-            give_up("pthread_create");
-    for (size_t i = 0; i < THREADS; i++) {
-        void *sum = &threads;
-        pthread_join(threads[i], &sum);
-        EXPECT(true, sum == NULL);
+    struct memory logs[2] = {make_memory("log", LOG_SIZE, 0), make_memory("log", LOG_SIZE, 0)};
+    begin(NULL, 0);
+    stop_ring(&queue);
+    for (unsigned round = 0; round < 300; round++) {
+        memset(logs[0].at, 0, LOG_SIZE);
+        memset(logs[1].at, 0, LOG_SIZE);
+        give_log(&logs[0]);
+        start_ring(&queue, guest_address(&memory, (uint8_t *)queue.used));
+        set_log(false);
+        if (round % 2 == 0)
+            set_log(true);
+        post_reads(round);
+        if (round % 2 != 0)
+            set_log(true);
+        give_log(&logs[1]);
+        if (round % 3 == 0)
+            give_log(&logs[0]);
+        uint64_t base = number("get_vring_base", covretin_ask_get_vring_base(SESSION, 0));
+        check_log(logs, (uint16_t)(base - queue.taken), round % 2 == 0);
+        queue.taken = (uint16_t)base;
+        start_ring(&queue, 0);
+        while (queue.taken != queue.posted) {
+            struct used_element used;
+            take(&queue, &used, "the others are used");
+        }
+        stop_ring(&queue);
     }
-    EXPECT(true, guard_has_lost());
+    end();
+    free_memory(&logs[0]);
+    free_memory(&logs[1]);
+}
+
+/* What comes after another log was given is in that. */
+static void logs_where_it_was_told_last(void)
+{
+    struct memory logs[2] = {make_memory("log", LOG_SIZE, 0), make_memory("log", LOG_SIZE, 0)};
+    begin(NULL, COVRETIN_FEATURE_LOG_ALL);
+    stop_ring(&queue);
+    start_ring(&queue, guest_address(&memory, (uint8_t *)queue.used));
+    for (unsigned last = 0; last < 2; last++) {
+        give_log(&logs[last]);
+        memset(logs[0].at, 0, LOG_SIZE);
+        memset(logs[1].at, 0, LOG_SIZE);
+        check_goes_on();
+        stop_ring(&queue);
+        check(is_marked(&logs[last], memory.at + DATA) && is_marked(&logs[last], (uint8_t *)queue.used), "it is in this one");
+        check(!is_marked(&logs[1 - last], memory.at + DATA), "and not in the other");
+        start_ring(&queue, guest_address(&memory, (uint8_t *)queue.used));
+    }
+    end();
+    free_memory(&logs[0]);
+    free_memory(&logs[1]);
+}
+
+/* -- A migration -- */
+
+static uint8_t target[SIZE];
+static bool is_dirty[SIZE / PAGE];
+
+/* What the log says is to be copied, as a VMM takes it. */
+static void take_log(const struct memory *log)
+{
+    for (size_t i = 0; i < SIZE / PAGE; i++) {
+        uint64_t page = memory.guest / PAGE + i;
+        uint8_t bit = (uint8_t)(1 << page % 8);
+        is_dirty[i] |= (__atomic_fetch_and(&log->at[page / 8], (uint8_t)~bit, __ATOMIC_SEQ_CST) & bit) != 0;
+    }
+}
+
+static void copy_pages(size_t most)
+{
+    for (size_t i = 0; i < SIZE / PAGE && most != 0; i++)
+        if (is_dirty[i]) {
+            is_dirty[i] = false;
+            memcpy(target + i * PAGE, memory.at + i * PAGE, PAGE);
+            most--;
+        }
+}
+
+/* The guest's own writes are the VMM's to know. */
+static void post_and_tell(unsigned round)
+{
+    post_reads(round);
+    is_dirty[0] = is_dirty[HEADERS / PAGE] = is_dirty[STATUSES / PAGE] = true;
+    for (unsigned i = 0; i < AT_ONCE * 4; i++)
+        is_dirty[DATA / PAGE + i] = true;
+}
+
+static void take_all_that_is_posted(void)
+{
+    struct used_element used;
+    while (queue.taken != queue.posted)
+        take(&queue, &used, "a request is used");
+}
+
+/* The log begins as QEMU has it begin, amid requests, and others come while pages are copied. Once the ring was stopped, and the last ones were
+ * copied, the target has all. */
+static void comes_along_in_a_migration(void)
+{
+    struct memory log = make_memory("log", LOG_SIZE, 0);
+    begin(NULL, 0);
+    for (unsigned migration = 0; migration < 100; migration++) {
+        covretin_vring place = place_of(&queue, guest_address(&memory, (uint8_t *)queue.used));
+        post_and_tell(migration);
+        memset(is_dirty, 1, sizeof is_dirty);
+        give_log(&log);
+        set_log(true);
+        done("set_vring_addr", covretin_ask_set_vring_addr(SESSION, 0, &place));
+        for (unsigned step = 0; step < 30; step++) {
+            struct used_element used;
+            copy_pages(6);
+            while (queue.taken != queue.posted && take_used(&queue, 0, &used))
+                ;
+            if (queue.taken == queue.posted)
+                post_and_tell(migration * 30 + step);
+            take_log(&log);
+        }
+        uint64_t base = number("get_vring_base", covretin_ask_get_vring_base(SESSION, 0));
+        take_log(&log);
+        copy_pages(SIZE / PAGE);
+        check(memcmp(target, memory.at, SIZE) == 0, "the target has all that the source has");
+        check(queue.used->index == base, "what was taken was given back");
+        set_log(false);
+        uint16_t taken = queue.taken;
+        queue.taken = (uint16_t)base;
+        start_ring(&queue, 0);
+        queue.taken = taken;
+        take_all_that_is_posted();
+    }
+    stop_ring(&queue);
+    end();
+    free_memory(&log);
+}
+
+/* -- Packed rings -- */
+
+/* Requests of three descriptors, which go round a ring of eight. */
+static void serves_packed_rings(void)
+{
+    struct packed {
+        uint64_t address;
+        uint32_t length;
+        uint16_t id, flags;
+    } *ring;
+    unsigned at = 0;
+    bool wrap = true;
+    begin("packed", RING_PACKED);
+    ring = (struct packed *)memory.at;
+    covretin_vring place = {.queue_max_size = 8, .queue_size = 8};
+    place.desc_table_addr = (uint64_t)(uintptr_t)ring;
+    place.avail_ring_addr = (uint64_t)(uintptr_t)memory.at + 256;
+    place.used_ring_addr = (uint64_t)(uintptr_t)memory.at + PAGE;
+    done("set_vring_num", covretin_ask_set_vring_num(SESSION, 0, 8));
+    done("set_vring_addr", covretin_ask_set_vring_addr(SESSION, 0, &place));
+    done("set_vring_call", covretin_ask_set_vring_call(SESSION, 0, queue.call));
+    done("set_vring_kick", covretin_ask_set_vring_kick(SESSION, 0, queue.kick));
+    done("set_vring_enable", covretin_ask_set_vring_enable(SESSION, 0, true));
+    for (uint64_t sector = 0; sector < 100; sector++) {
+        const struct packed parts[] = {{guest_address(&memory, put_header(0, VIRTIO_BLK_T_IN, sector)), 16, 5, DESCRIPTOR_NEXT},
+                                       {guest_address(&memory, memory.at + DATA), SECTOR, 5, DESCRIPTOR_NEXT | DESCRIPTOR_WRITE},
+                                       {guest_address(&memory, memory.at + STATUSES), 1, 5, DESCRIPTOR_WRITE}};
+        unsigned first = at;
+        uint16_t of_first = 0, is_used = wrap ? 0x8080 : 0;
+        for (unsigned i = 0; i < 3; i++) {
+            uint16_t flags = (uint16_t)(parts[i].flags | (wrap ? 0x80 : 0x8000));
+            ring[at] = parts[i];
+            ring[at].flags = i == 0 ? (uint16_t)(flags ^ 0x8080) : flags;
+            of_first = i == 0 ? flags : of_first;
+            wrap = wrap != (at == 7);
+            at = (at + 1) % 8;
+        }
+        __atomic_store_n(&ring[first].flags, of_first, __ATOMIC_SEQ_CST);
+        kick(&queue);
+        await("a request of a packed ring");
+        while ((__atomic_load_n(&ring[first].flags, __ATOMIC_ACQUIRE) & 0x8080) != is_used)
+            nanosleep(&(struct timespec){.tv_nsec = 100000}, NULL);
+        check(ring[first].id == 5 && ring[first].length == SECTOR + 1, "what was written is told");
+        check(memory.at[STATUSES] == VIRTIO_BLK_S_OK && is_sector(memory.at + DATA, sector), "what is read is the image's");
+    }
     end();
 }
 
-/* -- Pages that are waited for -- */
+/* -- Anything -- */
 
-static int ends[2]; /* the disk's and the frontend's, of a socket */
-
-/* The frontend goes, or a signal comes, once the disk waits for a page. */
-static void *go(void *of)
+static void bears_anything(void)
 {
-    struct pollfd faults = {.fd = memory.userfault, .events = POLLIN};
-    poll(&faults, 1, -1);
-    if (of == NULL)
-        shutdown(ends[1], SHUT_RDWR);
-    else
-        kill(getpid(), SIGTERM);
-    return NULL;
+    const uint32_t offsets[] = {HEADERS, HEADERS + 3, STATUSES, DATA, DATA + SECTOR, SIZE - 8, SIZE - 1, SIZE, 0xf0000000};
+    const uint32_t lengths[] = {0, 1, 16, 32, SECTOR, SECTOR + 1, 8 * SECTOR, 4 * PAGE, 0xffffffff};
+    srand(1);
+    begin(NULL, INDIRECT);
+    for (unsigned round = 0; round < 4000; round++) {
+        for (uint16_t i = 0; i < QUEUE_SIZE; i++)
+            describe(i, memory.at + offsets[rand() % (rand() % 4 == 0 ? 9 : 5)], lengths[rand() % (rand() % 8 == 0 ? 9 : 8)],
+                     (uint16_t)(rand() % (rand() % 8 == 0 ? 8 : 4)), (uint16_t)(i + 1 + rand() % 2));
+        put_header(0, (uint32_t)rand() % 15, (uint64_t)rand() % (SECTORS + 2));
+        memcpy(memory.at + TABLES, queue.descriptors, PAGE / 16);
+        post(&queue, (uint16_t)(rand() % QUEUE_SIZE));
+        kick(&queue);
+        if (round % 8 != 7)
+            continue;
+        number("get_vring_base", covretin_ask_get_vring_base(SESSION, 0));
+        memset(memory.at, 0, QUEUE_ROOM);
+        queue.posted = queue.taken = 0;
+        start_ring(&queue, 0);
+    }
+    struct stat file;
+    check(fstat(image, &file) == 0 && file.st_size == SECTORS * SECTOR, "the file is as long as it was");
+    check(ask(VIRTIO_BLK_T_GET_ID, 0, VIRTIO_BLK_ID_BYTES) == VIRTIO_BLK_S_OK, "the disk goes on");
+    end();
 }
 
-/* Offers what touches these data, while the pages of its region come from a frontend that goes amid that. */
-static void wait_for_pages(uint64_t data, bool by_signal)
+/* -- A file that grows -- */
+
+static uint64_t read_capacity(void)
 {
-    pthread_t goes;
-    begin();
-    if (socketpair(AF_UNIX, SOCK_STREAM, 0, ends) || !memory_advise(&memory, ends[0]) || !memory_watch(&memory))
-        give_up("userfaultfd");
-    if (pthread_create(&goes, NULL, go, by_signal ? &memory : NULL))
-        give_up("pthread_create");
-    put_header(VIRTIO_BLK_T_OUT, 0);
-    describe(0, data == far_away ? HEADER : far_away + 8, 16, VRING_DESC_F_NEXT, 1);
-    describe(1, far_away, SECTOR, VRING_DESC_F_NEXT, 2);
-    describe(2, STATUS, 1, VRING_DESC_F_WRITE, 0);
-    offer(0);
-    work();
-    pthread_join(goes, NULL);
-    EXPECT(true, guard_has_lost());
-    EXPECT(0, used->idx);
-    EXPECT(true, is_image_whole());
-    memory_arrived(&memory);
-    close(ends[0]);
+    uint64_t capacity = 0;
+    covretin_config part;
+    size_t count;
+    done("get_config", covretin_ask_get_config(SESSION, 0, sizeof capacity, 0));
+    check(covretin_answer_config(SESSION, &part, (uint8_t *)&capacity, sizeof capacity, &count) == COVRETIN_OK, "there is a capacity");
+    return capacity;
+}
+
+static void tells_that_it_grew(void)
+{
+    covretin_channel_service channel = {0};
+    uint32_t call = 0;
+    int ends[2];
+    begin(NULL, 0);
+    check(read_capacity() == SECTORS, "it is as large as its file");
+    check(socketpair(AF_UNIX, SOCK_STREAM | SOCK_CLOEXEC, 0, ends) == 0, "there is a channel");
+    done("set_backend_request_fd", covretin_ask_set_backend_request_fd(SESSION, ends[1]));
     close(ends[1]);
+    check(covretin_channel_serve_fd(&channel, ends[0]) == COVRETIN_OK, "which is served");
+    check(covretin_channel_server_set_reply_ack(&channel.server, true) == COVRETIN_OK, "with acknowledgements");
+    check(ask(VIRTIO_BLK_T_IN, SECTORS, SECTOR) == VIRTIO_BLK_S_IOERR, "there is no sector behind the end");
+    check(ftruncate(image, (SECTORS + 8) * SECTOR) == 0, "the file grows");
+    await("the change of the configuration");
+    check(covretin_channel_next_call(&channel, &call, LIMIT) == COVRETIN_OK && call == COVRETIN_CHANNEL_CALL_CONFIG_CHANGE, "it is told");
+    check(read_capacity() == SECTORS + 8, "the disk is larger");
+    check(covretin_channel_reply_number(&channel.server, 0) == COVRETIN_OK, "that is acknowledged");
+    check(covretin_channel_next_call(&channel, &call, 500) == COVRETIN_TIMED_OUT, "it is told once");
+    check(ask(VIRTIO_BLK_T_IN, SECTORS, SECTOR) == VIRTIO_BLK_S_OK && is_zero(memory.at + DATA), "there is a sector now");
+    covretin_channel_hang_up(&channel);
     end();
 }
 
-/* Within the kernel, and here. */
-static void waits_for_no_page_of_who_went(void)
+#define RUN(test) run(#test, test)
+
+static void run(const char *name, void (*test)(void))
 {
-    wait_for_pages(far_away, false);
-    wait_for_pages(HEADER, false);
+    size_t before = open_fds();
+    test();
+    check(open_fds() == before, "no descriptor is left open");
+    printf("%s: ok\n", name);
 }
 
-static void ends_while_it_waits_for_a_page(void)
+int main(int argc, char **argv)
 {
-    const uint64_t places[2] = {far_away, HEADER};
-    sigset_t blocked, was;
-    sigemptyset(&blocked);
-    sigaddset(&blocked, SIGTERM);
-    pthread_sigmask(SIG_BLOCK, &blocked, &was);
-    signal(SIGTERM, touch_nothing);
-    for (size_t i = 0; i < 2; i++) {
-        int came = 0;
-        wait_for_pages(places[i], true);
-        EXPECT(0, sigwait(&blocked, &came)); /* the disk's own wait takes it, too */
-        EXPECT(SIGTERM, came);
-    }
-    pthread_sigmask(SIG_SETMASK, &was, NULL);
-    signal(SIGTERM, SIG_DFL);
-}
-
-/* Whether this process may have a userfaultfd: a container often may not. */
-static bool may_wait_for_pages(void)
-{
-    struct guest_memory other = {.userfault = -1};
-    bool may = memory_advise(&other, -1);
-    memory_arrived(&other);
-    return may;
-}
-
-/* -- Other faults -- */
-
-/* How a process ends that does this. */
-static int end_of(void (*harms)(void))
-{
-    int status = 0;
-    pid_t child = fork();
-    if (child == 0) {
-        harms();
-        _exit(0);
-    }
-    if (child < 0 || waitpid(child, &status, 0) != child)
-        give_up("fork");
-    return WIFSIGNALED(status) ? WTERMSIG(status) : 0;
-}
-
-static void touch_unguarded(void)
-{
-    shorten(backs[1]);
-    touch(seen[1]);
-}
-
-static void raise_it(void)
-{
-    raise(SIGBUS);
-}
-
-/* What is no guarded memory is a fault of the program's, and ends it; so does the signal where it was sent. */
-static void hides_no_other_fault(void)
-{
-    begin();
-    EXPECT(SIGBUS, end_of(touch_unguarded));
-    EXPECT(SIGBUS, end_of(raise_it));
-    end();
-}
-
-/* -- Eventfds -- */
-
-/* Full, and with a flag by which a write would wait. */
-static int full_eventfd(void)
-{
-    int fd = eventfd(0, EFD_CLOEXEC);
-    if (fd < 0 || eventfd_write(fd, UINT64_MAX - 1))
-        give_up("eventfd");
-    return fd;
-}
-
-static void signals_what_is_full(void)
-{
-    eventfd_t count = 0;
-    begin();
-    ring.call = full_eventfd();
-    EXPECT(SECTOR + 1, request(VIRTIO_BLK_T_IN, 5, DATA, SECTOR));
-    EXPECT(SECTOR + 1, request(VIRTIO_BLK_T_IN, 6, DATA, SECTOR));
-    EXPECT(0, eventfd_read(ring.call, &count));
-    EXPECT(true, count == UINT64_MAX);
-    EXPECT(SECTOR + 1, request(VIRTIO_BLK_T_IN, 7, DATA, SECTOR));
-    EXPECT(0, eventfd_read(ring.call, &count));
-    EXPECT(1, count);
-    end();
-}
-
-/* A pipe, its ends open for ever and its flags the frontend's. */
-static void signals_pipes(void)
-{
-    int ends[2], opened;
-    uint64_t count = 0;
-    if (pipe(ends))
-        give_up("pipe");
-    opened = open_pipe(ends[1]);
-    EXPECT(true, opened >= 0);
-    event_signal(opened);
-    EXPECT(sizeof count, read(ends[0], &count, sizeof count));
-    EXPECT(1, count);
-    for (size_t i = 0; i < 70000; i++) /* more than it takes */
-        event_signal(opened);
-    EXPECT(0, fcntl(ends[1], F_GETFL) & O_NONBLOCK);
-    EXPECT(-1, open_pipe(STDERR_FILENO + 100));
-    close(opened);
-    close(ends[0]);
-    close(ends[1]);
-}
-
-static void takes_what_was_signalled(void)
-{
-    int event = eventfd(0, EFD_CLOEXEC), ends[2];
-    if (event < 0 || pipe(ends))
-        give_up("eventfd");
-    EXPECT(true, is_eventfd(event));
-    EXPECT(-1, open_pipe(event));
-    EXPECT(false, is_eventfd(ends[0]));
-    EXPECT(false, is_eventfd(disk.image));
-    errno = 0;
-    EXPECT(-1, event_take(event));
-    EXPECT(EAGAIN, errno);
-    event_signal(event);
-    event_signal(event);
-    EXPECT(0, event_take(event));
-    EXPECT(-1, event_take(event));
-    close(event);
-    close(ends[0]);
-    close(ends[1]);
-}
-
-/* -- One after another -- */
-
-/* The region of a disk that took three requests and gave one back: the next one does the other two, in their order. */
-static void does_again_what_was_in_flight(void)
-{
-    static struct chain chain;
-    uint8_t heads[2];
-    int file = memory_of(inflight_size(SIZE));
-    struct mapping region = {NULL, 0, NULL, 0};
-    EXPECT(true, map_part(&region, file, 0, inflight_size(SIZE)));
-    begin();
-    ring.inflight = (struct inflight_queue *)region.at;
-    EXPECT(true, ring_start(&ring, &memory));
-    EXPECT(SECTOR + 1, request(VIRTIO_BLK_T_IN, 1, DATA, SECTOR));
-    offer(5);
-    offer(0);
-    offer(3);
-    EXPECT(true, ring_next(&ring, &memory, &chain) && ring_next(&ring, &memory, &chain) && ring_next(&ring, &memory, &chain));
-    ring_put(&ring, &memory, 0, 0);
-    EXPECT(4, ring.taken);
-    ring_stop(&ring); /* and another one */
-    ring.taken = 0;
-    EXPECT(true, ring_start(&ring, &memory));
-    for (size_t i = 0; i < 2; i++) {
-        EXPECT(true, ring_next(&ring, &memory, &chain));
-        heads[i] = (uint8_t)chain.head;
-        ring_put(&ring, &memory, chain.head, 0);
-    }
-    EXPECT(5, heads[0]);
-    EXPECT(3, heads[1]);
-    EXPECT(false, ring_next(&ring, &memory, &chain));
-    EXPECT(4, used->idx);
-    EXPECT(4, ring.taken);
-    EXPECT(SECTOR + 1, request(VIRTIO_BLK_T_IN, 7, DATA, SECTOR));
-    EXPECT(true, is_sector(seen[0] + DATA, 7));
-    end();
-    unmap(&region);
-    close(file);
-}
-
-/* A disk that was killed between giving a request back and noting that. */
-static void does_nothing_twice(void)
-{
-    static struct chain chain;
-    int file = memory_of(inflight_size(SIZE));
-    struct mapping region = {NULL, 0, NULL, 0};
-    EXPECT(true, map_part(&region, file, 0, inflight_size(SIZE)));
-    begin();
-    ring.inflight = (struct inflight_queue *)region.at;
-    EXPECT(true, ring_start(&ring, &memory));
-    EXPECT(SECTOR + 1, request(VIRTIO_BLK_T_IN, 1, DATA, SECTOR));
-    ring.inflight->descriptors[0].inflight = 1;
-    ring.inflight->used_index--;
-    ring_stop(&ring);
-    EXPECT(true, ring_start(&ring, &memory));
-    EXPECT(false, ring_next(&ring, &memory, &chain));
-    EXPECT(0, ring.inflight->descriptors[0].inflight);
-    ring.inflight->last_batch_head = 65535; /* whatever the frontend makes of its region */
-    ring.inflight->used_index = 77;
-    EXPECT(true, ring_start(&ring, &memory));
-    end();
-    unmap(&region);
-    close(file);
-}
-
-int main(void)
-{
-    if (!events_begin())
-        give_up("events_begin");
-    guard_begin();
-    RUN(reads_and_writes);
-    RUN(crosses_regions);
+    if (argc == 2)
+        program = argv[1];
+    RUN(serves_each_request);
     RUN(takes_any_layout);
-    RUN(goes_round);
-    RUN(refuses_addresses);
     RUN(refuses_sectors);
     RUN(refuses_chains);
-    RUN(stops_rings);
-    RUN(starts_no_ring_elsewhere);
-    RUN(refuses_regions);
+    RUN(is_not_written_where_it_is_for_reading);
+    RUN(clears_ranges);
+    RUN(refuses_ranges);
+    RUN(does_several_at_once);
+    RUN(writes_nothing_once_it_is_stopped);
+    RUN(logs_amid_requests);
+    RUN(logs_where_it_was_told_last);
+    RUN(comes_along_in_a_migration);
+    RUN(serves_packed_rings);
     RUN(bears_anything);
-    RUN(logs_what_it_writes);
-    RUN(loses_its_ring);
-    RUN(refuses_lost_data);
-    RUN(writes_no_zeros);
-    RUN(loses_its_log);
-    RUN(loses_its_inflight_region);
-    RUN(loses_it_in_each_thread);
-    if (may_wait_for_pages()) {
-        RUN(waits_for_no_page_of_who_went);
-        RUN(ends_while_it_waits_for_a_page);
-    } else {
-        puts("the tests of pages that are waited for are left out: userfaultfd is not allowed here");
-    }
-    RUN(hides_no_other_fault);
-    RUN(signals_what_is_full);
-    RUN(signals_pipes);
-    RUN(takes_what_was_signalled);
-    RUN(does_again_what_was_in_flight);
-    RUN(does_nothing_twice);
-    events_end();
-    return status();
+    RUN(tells_that_it_grew);
+    return 0;
 }
