@@ -10,6 +10,7 @@ mod backend;
 #[allow(unsafe_code)]
 mod foreign;
 mod iotlb;
+pub mod queue;
 pub mod tap;
 pub mod vhost_user;
 
