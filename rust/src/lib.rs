@@ -7,6 +7,7 @@
 use std::{error, fmt, io, result};
 
 mod backend;
+pub mod device;
 #[allow(unsafe_code)]
 mod foreign;
 mod iotlb;
