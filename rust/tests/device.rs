@@ -206,7 +206,7 @@ fn moves_bytes_of_files() {
 fn names_what_is_wrong() {
     let one = (GUEST + BUFFERS, 16, NEXT, 1);
     let long = vec![(GUEST + BUFFERS, 1, NEXT, 0)];
-    let cases: Vec<(queue::Error, Vec<(u64, u32, u16, u16)>)> = vec![
+    let cases: Vec<(queue::Error, Vec<Descriptor>)> = vec![
         (queue::Error::DescriptorLoop, vec![one, (GUEST, 16, NEXT, 0)]),
         (queue::Error::DescriptorLoop, long),
         (queue::Error::NotInTable, vec![one, (GUEST, 16, NEXT, SIZE)]),
@@ -289,6 +289,25 @@ fn ends_where_a_request_is_gone() {
         assert!(request.is_lost());
         request.complete(4);
         machine.ends_by("MemoryLost");
+    });
+}
+
+/// Of two sessions of a process that one ends whose memory is gone.
+#[test]
+fn ends_no_other_session() {
+    counted(|| {
+        let (machine, ring) = begun(0, 0);
+        let (other, mut its) = begun(0, 0);
+        its.write_request(0, "other");
+        machine.memory.set_len(0).unwrap();
+        ring.kick();
+        machine.ends_by("MemoryLost");
+        for _ in 0..3 {
+            its.post(0);
+            assert_eq!((0, 5), its.used());
+        }
+        assert_eq!("OTHER", its.text(0, 5));
+        other.end();
     });
 }
 

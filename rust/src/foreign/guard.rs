@@ -4,7 +4,7 @@
 //! a handler of the process, which is there from the first mapping on, and hands each other fault to the one that was there before.
 use std::mem::{transmute, zeroed};
 use std::os::unix::io::{AsRawFd, RawFd};
-use std::ptr::null_mut;
+use std::ptr::{self, null_mut};
 use std::sync::atomic::{AtomicBool, AtomicPtr, AtomicUsize, Ordering};
 use std::sync::{Arc, Mutex, Once, PoisonError};
 
@@ -161,7 +161,7 @@ pub(crate) fn lose_all(holder: &Arc<Holder>, userfault: RawFd) {
     let _alone = CHANGING.lock().unwrap_or_else(PoisonError::into_inner);
     for place in &PLACES {
         let (at, size) = (place.at.load(Ordering::SeqCst), place.size.load(Ordering::SeqCst));
-        if at == 0 || place.holder.load(Ordering::SeqCst) as *const Holder != Arc::as_ptr(holder) {
+        if at == 0 || !ptr::eq(place.holder.load(Ordering::SeqCst), Arc::as_ptr(holder)) {
             continue;
         }
         let (access, flags) = (libc::PROT_READ | libc::PROT_WRITE, libc::MAP_SHARED | libc::MAP_NORESERVE | libc::MAP_FIXED);

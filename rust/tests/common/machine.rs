@@ -284,6 +284,9 @@ pub fn agree(frontend: &mut Frontend, features: u64) {
 
 // -- The guest --
 
+/// A descriptor: an address, a length, flags and the next one; of a packed queue an id and flags.
+pub type Descriptor = (u64, u32, u16, u16);
+
 /// A queue in the guest's memory: descriptors, the available ring a page on, the used ring another.
 pub struct Ring {
     pub memory: File,
@@ -323,7 +326,7 @@ impl Ring {
         self.memory.write_all_at(&value.to_le_bytes(), self.place(page, at)).unwrap();
     }
 
-    pub fn describe(&self, at: u16, descriptor: (u64, u32, u16, u16)) {
+    pub fn describe(&self, at: u16, descriptor: Descriptor) {
         self.memory.write_all_at(&bytes_of(descriptor), self.place(0, u64::from(at) * 16)).unwrap();
     }
 
@@ -396,7 +399,7 @@ impl Ring {
     }
 }
 
-pub fn bytes_of((addr, len, third, fourth): (u64, u32, u16, u16)) -> Vec<u8> {
+pub fn bytes_of((addr, len, third, fourth): Descriptor) -> Vec<u8> {
     [&addr.to_le_bytes()[..], &len.to_le_bytes(), &third.to_le_bytes(), &fourth.to_le_bytes()].concat()
 }
 
