@@ -194,6 +194,11 @@ fn moves_bytes_of_files() {
         assert_eq!(15, VolatileSlice::write_at(request.readable(), &file, 4).unwrap());
         assert_eq!(15, VolatileSlice::read_at(request.writable(), &file, 4).unwrap());
         assert_eq!(0, VolatileSlice::read_at(request.writable(), &file, 1 << 40).unwrap());
+        VolatileSlice::write_all_at(request.readable(), &file, 0x70).unwrap();
+        let end = VolatileSlice::read_exact_at(request.writable(), &file, 16).unwrap_err();
+        assert_eq!(std::io::ErrorKind::UnexpectedEof, end.kind());
+        VolatileSlice::read_exact_at(&request.writable()[..1], &file, 0x70).unwrap();
+        assert_eq!(15, VolatileSlice::read_at(request.writable(), &file, 0x70).unwrap());
         request.complete(15);
         assert_eq!((0, 15), ring.used());
         assert_eq!("file of its own", ring.text(0, 15));
@@ -528,7 +533,7 @@ fn refuses_other_files() {
         ring.write_request(0, "goes on");
         ring.post(0);
         assert_eq!((0, 7), ring.used());
-        assert_eq!(8, machine.device.has(|its| its.refused.len()));
+        machine.device.wait_until("it was told", |its| its.refused.len() == 8);
         machine.end();
     });
 }
@@ -545,7 +550,7 @@ fn has_a_configuration() {
         failed("BackendInternalError", it.set_config(6, flags, &[0; 4]));
         failed("BackendInternalError", it.get_config(6, 4, flags, &[0; 4]));
         failed("BackendInternalError", it.set_features(PROTOCOL | VERSION_1 | 2)); // it is not offered
-        assert_eq!(3, machine.device.has(|its| its.refused.len()));
+        machine.device.wait_until("it was told", |its| its.refused.len() == 3);
         machine.end();
     });
 }

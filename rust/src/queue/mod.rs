@@ -39,6 +39,7 @@
 use std::{error, fmt, io};
 
 mod chain;
+mod files;
 mod inflight;
 mod memory;
 mod ring;
