@@ -6,7 +6,7 @@ use std::fs::{remove_file, File};
 use std::io::{Read, Write};
 use std::os::unix::fs::FileExt;
 use std::os::unix::io::{AsRawFd, FromRawFd};
-use std::os::unix::net::UnixStream;
+use std::os::unix::net::{UnixListener, UnixStream};
 use std::os::unix::thread::JoinHandleExt;
 use std::path::PathBuf;
 use std::sync::Arc;
@@ -708,10 +708,19 @@ fn runs_until_a_signal() {
             drop(frontend);
             device.wait_until("it has ended", |its| its.ended.len() == round);
         }
+        let taken = run(&path, Capitals::new(0)).unwrap_err();
+        assert_eq!(std::io::ErrorKind::AddrInUse, taken.kind());
         // SAFETY: the thread was not joined.
         assert_eq!(0, unsafe { libc::pthread_kill(running.as_pthread_t(), libc::SIGTERM) });
         running.join().unwrap().unwrap();
         assert!(!path.exists());
+        // One that was left over is replaced.
+        drop(UnixListener::bind(&path).unwrap());
+        let (place, running) = (path.clone(), spawn(move || run(path, device)));
+        wait_until("it listens", || UnixStream::connect(&place).is_ok());
+        // SAFETY: as above.
+        assert_eq!(0, unsafe { libc::pthread_kill(running.as_pthread_t(), libc::SIGTERM) });
+        running.join().unwrap().unwrap();
     });
 }
 

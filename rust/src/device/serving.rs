@@ -4,24 +4,34 @@ use std::fs::symlink_metadata;
 use std::io;
 use std::os::unix::fs::FileTypeExt;
 use std::os::unix::io::{AsRawFd, RawFd};
+use std::os::unix::net::UnixStream;
 use std::path::Path;
 use std::sync::Arc;
 
 use super::{Device, Session};
 use crate::foreign::{poll, SignalFd};
-use crate::vhost_user::Listener;
+use crate::vhost_user::{Error, Listener};
 
 /// Listens at a path, and serves one frontend after another until SIGTERM or SIGINT comes, which are blocked meanwhile in this thread: threads
-/// that are begun before have to block them, too. Another frontend at a time is hung up on. What another device left behind at the path is
-/// replaced. Ok: a signal came; else it could not listen, or not go on. InvalidInput: the path is empty, by which nobody finds it.
+/// that are begun before have to block them, too. Another frontend at a time is hung up on. A socket that was left over at the path, at which
+/// nobody listens any more, is replaced; anything else stays. Ok: a signal came; else it could not listen, or not go on. InvalidInput: the
+/// path is empty, by which nobody finds it; AddrInUse: it is taken.
 pub fn run(path: impl AsRef<Path>, device: impl Device) -> io::Result<()> {
     if path.as_ref().as_os_str().is_empty() {
         return Err(io::ErrorKind::InvalidInput.into());
     }
     let signals = SignalFd::new()?;
-    let is_socket = symlink_metadata(&path).map_or(false, |about| about.file_type().is_socket());
-    let listener = Listener::new(path, is_socket)?;
+    let listener = listen(path.as_ref())?;
     serve_until(&listener, &Arc::new(device), signals.as_raw_fd())
+}
+
+fn listen(path: &Path) -> io::Result<Listener> {
+    let is_socket = symlink_metadata(path).map_or(false, |about| about.file_type().is_socket());
+    let is_refused = || matches!(UnixStream::connect(path), Err(cause) if cause.kind() == io::ErrorKind::ConnectionRefused);
+    match Listener::new(path, is_socket && is_refused()) {
+        Err(Error::SocketError(cause)) => Err(cause),
+        listening => Ok(listening?),
+    }
 }
 
 /// Serves one frontend after another at a listener. Another frontend at a time is hung up on. It returns where it can't go on.
@@ -57,7 +67,7 @@ fn serve_frontend<D: Device>(session: &mut Session<D>, listener: &Listener, sign
             return Ok(false);
         }
         if ready[1] != 0 {
-            refuse_another(session, listener)?;
+            refuse_another(session, listener);
         }
         if ready[0] != 0 && session.handle_events().is_some() {
             return Ok(true);
@@ -66,12 +76,10 @@ fn serve_frontend<D: Device>(session: &mut Session<D>, listener: &Listener, sign
 }
 
 /// Hangs up on another frontend, which would wait for its first reply as long as this one stays. Where this one has gone the other, who may
-/// be the same again, is left to be served next.
-fn refuse_another<D: Device>(session: &Session<D>, listener: &Listener) -> io::Result<()> {
-    if let Some(frontend) = session.frontend() {
-        if poll(&[(frontend, 0)], 0)?[0] == 0 {
-            drop(listener.accept()?);
-        }
+/// be the same again, is left to be served next. (who can't be accepted now is left, too: this one is served)
+fn refuse_another<D: Device>(session: &Session<D>, listener: &Listener) {
+    let is_there = |frontend| poll(&[(frontend, 0)], 0).map_or(false, |ready| ready[0] == 0);
+    if session.frontend().map_or(false, is_there) {
+        let _ = listener.accept();
     }
-    Ok(())
 }

@@ -64,10 +64,11 @@ impl<D: Device> Session<D> {
     }
 
     fn watching(device: Arc<D>, socket: UnixStream, signals: RawFd) -> io::Result<Session<D>> {
-        if !(1..=MAX_QUEUES).contains(&device.queues()) {
+        let queues = device.queues();
+        if !(1..=MAX_QUEUES).contains(&queues) {
             return Err(io::ErrorKind::InvalidInput.into());
         }
-        let shared = Arc::new(Shared::new(device.queues())?);
+        let shared = Arc::new(Shared::new(queues)?);
         socket.set_nonblocking(true)?;
         let frontend = socket.try_clone()?;
         let mut handler =
