@@ -166,6 +166,8 @@ fn is_kind(fd: &impl AsRawFd, kind: &str) -> bool {
 }
 
 const EVENTFD: &str = "anon_inode:[eventfd]";
+/// Of `linux/fs.h`: a read that waits for nothing.
+const RWF_NOWAIT: libc::c_long = 8;
 
 /// An eventfd that kicks a ring.
 pub(crate) struct Kick(PeerFd);
@@ -180,9 +182,10 @@ impl Kick {
     pub(crate) fn take(&self) -> bool {
         let mut count = 0u64;
         let whole = libc::iovec { iov_base: addr_of_mut!(count).cast(), iov_len: size_of_val(&count) };
+        let (fd, one, here) = (libc::c_long::from(self.0.as_raw_fd()), 1 as libc::c_long, -1 as libc::c_long);
         // SAFETY: one buffer of that length, borrowed for the call. RWF_NOWAIT is the call's, whatever the file's flags are.
-        let got = unsafe { libc::preadv2(self.0.as_raw_fd(), &whole, 1, -1, libc::RWF_NOWAIT) };
-        got == size_of::<u64>() as isize || io::Error::last_os_error().kind() == io::ErrorKind::WouldBlock
+        let got = unsafe { libc::syscall(libc::SYS_preadv2, fd, addr_of!(whole), one, here, here, RWF_NOWAIT) };
+        got == size_of::<u64>() as libc::c_long || io::Error::last_os_error().kind() == io::ErrorKind::WouldBlock
     }
 }
 
