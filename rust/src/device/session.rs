@@ -215,42 +215,50 @@ impl<D: Device> Session<D> {
 
     /// Hands the requests that are there to the device, but for those of a driver that makes more without end: then the ring is still due.
     fn serve_ring(&self, index: usize) {
-        let mut state = self.shared.lock();
-        if !std::mem::take(&mut state.rings[index].is_due) {
-            return;
-        }
-        for _ in 0..=state.rings[index].queue.size() {
-            if self.shared.has_ended(&mut state) || !state.is_running(index) {
+        let size = {
+            let ring = &mut self.shared.lock().rings[index];
+            if !std::mem::take(&mut ring.is_due) {
                 return;
             }
-            let queue = &mut state.rings[index].queue;
-            let popped = queue.pop();
-            if self.shared.holder.has_lost() {
-                return; // what was read may be zeros that nobody wrote
-            }
-            match popped {
-                Ok(Some(chain)) => {
-                    // (before the device, which may be done with it at once)
-                    state.rings[index].out += 1;
-                    state.out += 1;
-                    drop(state);
-                    self.device.request(Request::new(chain, self.shared.clone(), index));
-                    state = self.shared.lock();
-                }
-                Ok(None) => match queue.enable_notification() {
-                    Ok(true) => {}
-                    _ => return,
-                },
-                Err(error) => {
-                    state.rings[index].is_broken = true;
-                    self.shared.signal(&state.rings[index].error);
-                    drop(state);
-                    self.tell_broken(index, error);
-                    return;
-                }
+            ring.queue.size()
+        };
+        for _ in 0..=size {
+            if !self.serve_request(index) {
+                return;
             }
         }
-        state.rings[index].is_due = true;
+        self.shared.lock().rings[index].is_due = true;
+    }
+
+    /// Hands the next request to the device, if there is one. Whether there may be another.
+    fn serve_request(&self, index: usize) -> bool {
+        let mut state = self.shared.lock();
+        if self.shared.has_ended(&mut state) || !state.is_running(index) {
+            return false;
+        }
+        let queue = &mut state.rings[index].queue;
+        let popped = queue.pop();
+        if self.shared.holder.has_lost() {
+            return false; // what was read may be zeros that nobody wrote
+        }
+        match popped {
+            Ok(None) => queue.enable_notification() == Ok(true),
+            Ok(Some(chain)) => {
+                // (before the device, which may be done with it at once)
+                state.rings[index].out += 1;
+                state.out += 1;
+                drop(state);
+                self.device.request(Request::new(chain, self.shared.clone(), index));
+                true
+            }
+            Err(error) => {
+                state.rings[index].is_broken = true;
+                self.shared.signal(&state.rings[index].error);
+                drop(state);
+                self.tell_broken(index, error);
+                false
+            }
+        }
     }
 
     fn tell_broken(&self, index: usize, error: queue::Error) {
