@@ -68,9 +68,11 @@ fn frontend_dies_amid_a_request() {
                 machine.frontend.get_vring_base(0).unwrap_err();
             }
             let Machine { device, frontend, looping, .. } = machine;
+            let before = open_fds();
             frontend.shutdown();
+            // (the device's end of the socket, and what kicks and is called)
+            wait_until("it gives up what it has", || open_fds() < before);
             drop(frontend);
-            sleep(Duration::from_millis(100));
             assert!(device.has(|its| its.ended.is_empty()));
             answer(device.has(|its| its.kept.pop()).unwrap());
             assert_eq!("Disconnected", looping.join().unwrap());
