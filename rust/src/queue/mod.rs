@@ -50,7 +50,7 @@ pub use self::memory::{DirtyLog, GuestAddress, GuestMemory, GuestRegion};
 pub use self::ring::{Chains, Queue};
 pub use crate::foreign::VolatileSlice;
 
-/// The greatest number of parts of a request.
+/// The greatest number of parts of a request; of a queue that has more descriptors, as many as it has.
 pub const MAX_PARTS: usize = 1024;
 
 /// Each error, its number in `covretin_queue.h`, and its text.
@@ -68,6 +68,7 @@ macro_rules! errors {
             pub(crate) fn of_number(number: u32) -> Error {
                 match number {
                     $($number => Error::$Name,)*
+                    // (all others are of queues that are not open, or of arrays that are too small, and none is so)
                     _ => Error::OutOfMemory,
                 }
             }

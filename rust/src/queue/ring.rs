@@ -4,7 +4,7 @@ use std::collections::VecDeque;
 
 use super::inflight::Area;
 use super::{DescriptorChain, DirtyLog, Error, GuestAddress, GuestMemory, InflightRegion, Result, MAX_PARTS};
-use crate::foreign::{CoreQueue, PackedRing, Range, SplitRing};
+use crate::foreign::{Chain, CoreQueue, PackedRing, Range, SplitRing};
 
 /// The greatest size of a queue that there is.
 const MAX_SIZE: u16 = 0x8000;
@@ -316,7 +316,7 @@ impl Queue {
         }
         if let Some(head) = self.again.pop_front() {
             self.core.resubmit(head)?;
-            return Ok(Some(DescriptorChain::of(self.core.follow(MAX_PARTS)?, head, true)));
+            return Ok(Some(DescriptorChain::of(self.follow()?, head, true)));
         }
         if self.available == 0 {
             self.available = self.core.available()?;
@@ -326,7 +326,7 @@ impl Queue {
         }
         self.available -= 1;
         if self.is_packed {
-            let chain = self.core.follow(MAX_PARTS)?;
+            let chain = self.follow()?;
             let id = chain.id;
             return Ok(Some(DescriptorChain::of(chain, id, false)));
         }
@@ -334,7 +334,11 @@ impl Queue {
         if let Some(inflight) = &mut self.inflight {
             inflight.take(head);
         }
-        Ok(Some(DescriptorChain::of(self.core.follow(MAX_PARTS)?, head, false)))
+        Ok(Some(DescriptorChain::of(self.follow()?, head, false)))
+    }
+
+    fn follow(&mut self) -> Result<Chain> {
+        self.core.follow(MAX_PARTS.max(self.size.into()))
     }
 
     /// Gives a request back, of which so many bytes were written, from the first that is to be written on. In any order. All that was to be
