@@ -4,15 +4,18 @@
 mod common;
 
 use std::os::unix::fs::FileExt;
+use std::os::unix::net::UnixStream;
+use std::sync::mpsc::{channel, Receiver, Sender};
+use std::sync::{Arc, Mutex};
 use std::thread::{sleep, spawn};
 use std::time::Duration;
 
 use common::machine::*;
 use common::random::Numbers;
 use common::*;
-use covretin::device::{EVENT_IDX, INDIRECT_DESC, RING_PACKED};
+use covretin::device::{Device, Request, Session, EVENT_IDX, INDIRECT_DESC, RING_PACKED};
 use covretin::queue;
-use covretin::vhost_user::VhostUserFrontend;
+use covretin::vhost_user::{Frontend, VhostUserFrontend};
 use covretin::VhostBackend;
 
 #[test]
@@ -153,6 +156,70 @@ fn completes_later() {
         assert_eq!("LATER", ring.text(4, 5));
         later.join().unwrap();
         machine.end();
+    });
+}
+
+/// Threads that do requests of three queues, in whatever order, until their device is no more.
+struct Pool(Mutex<Sender<Request>>);
+
+impl Device for Pool {
+    fn queues(&self) -> usize {
+        3
+    }
+
+    fn request(&self, request: Request) {
+        self.0.lock().unwrap().send(request).unwrap();
+    }
+}
+
+/// Each request is given back once, with its own text; also those that are under way as their ring is stopped.
+#[test]
+fn completes_from_several_threads() {
+    counted(|| {
+        let (requests, taken) = channel();
+        let taken = Arc::new(Mutex::new(taken));
+        let work = |taken: Arc<Mutex<Receiver<Request>>>| loop {
+            let next = taken.lock().unwrap().recv();
+            match next {
+                Ok(request) => answer(request),
+                Err(_) => return,
+            }
+        };
+        let workers: Vec<_> = (0..4).map(|_| taken.clone()).map(|taken| spawn(move || work(taken))).collect();
+        let (mine, other) = UnixStream::pair().unwrap();
+        let session = Session::new(Arc::new(Pool(Mutex::new(requests))), other).unwrap();
+        let looping = spawn(move || serve_all(session));
+        let (mut frontend, memory) = (Frontend::from_stream(mine, 8), guest_memory());
+        agree(&mut frontend, 0);
+        frontend.set_mem_table(&[region_of(&memory, 0, MEMORY)]).unwrap();
+        let mut rings: Vec<Ring> = (0..3).map(|index| Ring::in_memory(&memory, index)).collect();
+        rings.iter_mut().for_each(|ring| ring.start(&mut frontend, 0));
+        for round in 1..=300u16 {
+            for ring in &mut rings {
+                for head in [0, 4, 8, 12] {
+                    ring.write_request(head, &format!("text {round} {head}"));
+                    ring.post(head);
+                }
+            }
+            if round % 10 == 0 {
+                // (what is not taken yet stays available)
+                let base = frontend.get_vring_base(1).unwrap() as u16;
+                assert!((round * 4 - 4..=round * 4).contains(&base), "{base}");
+                rings[1].start_again(&mut frontend, base);
+            }
+            for ring in &mut rings {
+                let mut used: Vec<u32> = (0..4).map(|_| ring.used().0).collect();
+                used.sort_unstable();
+                assert_eq!(vec![0, 4, 8, 12], used);
+                for head in [0, 4, 8, 12] {
+                    let text = format!("TEXT {round} {head}");
+                    assert_eq!(text, ring.text(head, text.len()));
+                }
+            }
+        }
+        drop(frontend);
+        assert_eq!("Disconnected", looping.join().unwrap());
+        workers.into_iter().for_each(|worker| worker.join().unwrap());
     });
 }
 

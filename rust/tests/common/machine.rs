@@ -199,7 +199,7 @@ pub struct Machine {
 }
 
 /// Serves until the session ends: why.
-pub fn serve_all(mut session: Session<Capitals>) -> String {
+pub fn serve_all(mut session: Session<impl Device>) -> String {
     loop {
         assert!(is_readable(session.as_raw_fd(), LIMIT as i32), "nothing was to be done");
         if let Some(why) = session.handle_events() {
@@ -352,6 +352,13 @@ impl Ring {
         it.set_vring_kick(index, &self.kick).unwrap();
         it.set_vring_enable(index, true).unwrap();
         (self.posted, self.seen) = (base, base);
+    }
+
+    /// It was stopped, and goes on there.
+    pub fn start_again(&mut self, it: &mut Frontend, base: u16) {
+        let (posted, seen) = (self.posted, self.seen);
+        self.start(it, base);
+        (self.posted, self.seen) = (posted, seen);
     }
 
     pub fn kick(&self) {
