@@ -104,6 +104,16 @@ impl<D: Device> Calls<D> {
         Ok(())
     }
 
+    fn begin_postcopy(&self) -> io::Result<File> {
+        if self.shared.lock().arrival.is_some() {
+            return Err(io::ErrorKind::AlreadyExists.into());
+        }
+        let frontend = self.frontend.try_clone()?;
+        let (arrival, file) = Arrival::begin(self.shared.holder.clone(), frontend, self.shared.stop.clone(), self.signals)?;
+        self.shared.lock().arrival = Some(arrival);
+        Ok(file)
+    }
+
     fn set_bell(&self, index: u8, fd: Option<File>, is_call: bool) -> Result<()> {
         let bell = fd.map(|file| Bell::of(given(file)).ok_or(Error::InvalidParam)).transpose()?;
         let (mut state, index) = self.with_ring(index.into())?;
@@ -242,16 +252,7 @@ impl<D: Device> VhostUserBackendReqHandler for Calls<D> {
     }
 
     fn postcopy_advice(&self) -> Result<File> {
-        let begun = || {
-            if self.shared.lock().arrival.is_some() {
-                return Err(io::ErrorKind::AlreadyExists.into());
-            }
-            let frontend = self.frontend.try_clone()?;
-            let (arrival, file) = Arrival::begin(self.shared.holder.clone(), frontend, self.shared.stop.clone(), self.signals)?;
-            self.shared.lock().arrival = Some(arrival);
-            Ok(file)
-        };
-        let begun: io::Result<File> = begun();
+        let begun = self.begin_postcopy();
         self.has_refused.fetch_or(begun.is_err(), Ordering::SeqCst);
         begun.map_err(failed)
     }
