@@ -1,10 +1,9 @@
 // SPDX-License-Identifier: Apache-2.0
 //! A disk for a virtual machine, over a file and over the kit for devices: `cargo run --example disk -- /tmp/disk.sock disk.img 2`
 //!
-//! It has as many virtqueues as it is told, one machine at a time, and some threads that do requests: reads, writes, flushes, sectors that are
-//! discarded or zeroed, and its name. A sector behind the disk's end makes the request fail; a chain that breaks a rule of virtio, or an address
-//! outside of the guest's memory, ends its queue until a reset. Where the file grows the guest is told. `blk` is such a disk without the kit,
-//! and says how a machine has it.
+//! It has as many virtqueues as it is told, one machine at a time, and threads that do requests: reads, writes, flushes, sectors that are
+//! discarded or zeroed, and its name. A sector behind the disk's end makes the request fail; a chain that breaks a rule of virtio ends its
+//! queue until a reset. Where the file grows the guest is told. `blk` is such a disk without the kit, and says how a machine has it.
 use std::env;
 use std::ffi::OsString;
 use std::fs::{symlink_metadata, File, OpenOptions};
@@ -57,8 +56,9 @@ fn main() -> ExitCode {
 fn listen(path: &OsString, image: &OsString, queues: usize) -> io::Result<()> {
     let image = OpenOptions::new().read(true).write(true).open(image)?;
     let (requests, taken) = channel();
-    let (sectors, taken) = (AtomicU64::new(image.metadata()?.len() / SECTOR), Arc::new(Mutex::new(taken)));
-    let disk = Arc::new(Disk { image, sectors, queues, requests: Mutex::new(requests), channel: Mutex::new(None) });
+    let (requests, taken, sectors) = (Mutex::new(requests), Arc::new(Mutex::new(taken)), AtomicU64::new(0));
+    let disk = Arc::new(Disk { image, sectors, queues, requests, channel: Mutex::new(None) });
+    disk.measure();
     for _ in 0..THREADS {
         let (disk, taken) = (disk.clone(), taken.clone());
         spawn(move || disk.work(&taken));
@@ -66,7 +66,10 @@ fn listen(path: &OsString, image: &OsString, queues: usize) -> io::Result<()> {
     let looking = disk.clone();
     spawn(move || loop {
         sleep(LOOK);
-        looking.look();
+        // Who does not hear it reads the size at its next start.
+        if looking.measure() {
+            let _ = locked(&looking.channel).as_ref().map(|channel| channel.handle_config_change());
+        }
     });
     // What another disk left behind is replaced, and nothing else.
     let is_socket = symlink_metadata(path).map_or(false, |about| about.file_type().is_socket());
@@ -108,6 +111,7 @@ impl Device for Disk {
 
     /// How many sectors, how many parts, how many queues, and how much is discarded or zeroed at once.
     fn read_config(&self, offset: u32, bytes: &mut [u8]) -> bool {
+        self.measure();
         let mut space = [0; 256];
         space[..8].copy_from_slice(&self.sectors.load(Ordering::SeqCst).to_le_bytes());
         space[12..16].copy_from_slice(&SEGMENTS.to_le_bytes());
@@ -158,12 +162,10 @@ impl Disk {
         }
     }
 
-    /// Tells the machine where the size of the file has changed. Who does not hear it reads the size at its next start.
-    fn look(&self) {
+    /// Looks how large the file is. Whether that has changed.
+    fn measure(&self) -> bool {
         let sectors = self.image.metadata().map_or(0, |about| about.len() / SECTOR);
-        if sectors != 0 && sectors != self.sectors.swap(sectors, Ordering::SeqCst) {
-            let _ = locked(&self.channel).as_ref().map(|channel| channel.handle_config_change());
-        }
+        sectors != 0 && sectors != self.sectors.swap(sectors, Ordering::SeqCst)
     }
 
     /// Does a request, and gives it back. Its last byte is that of its status.
@@ -230,8 +232,8 @@ impl Disk {
             return Err(io::ErrorKind::Unsupported.into());
         }
         let place = self.place(sector, u64::from(count) * SECTOR)?;
-        (0..u64::from(count)).try_for_each(|at| self.image.write_all_at(&[0; SECTOR as usize], place + at * SECTOR))?;
-        Ok(0)
+        let zero = |at| self.image.write_all_at(&[0; SECTOR as usize], place + at * SECTOR);
+        (0..u64::from(count)).try_for_each(zero).map(|()| 0)
     }
 }
 

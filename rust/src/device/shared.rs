@@ -27,7 +27,7 @@ pub(super) struct Shared {
     pub(super) holder: Arc<Holder>,
     pub(super) stop: Arc<Stop>,
     pub(super) timer: Timer,
-    ringer: Ringer,
+    ringer: Arc<Ringer>,
     state: Mutex<State>,
 }
 
@@ -101,7 +101,7 @@ impl Shared {
         polled.add(&stop.event, STOP)?;
         polled.add(&timer, TIMER)?;
         let holder = Arc::new(Holder::woken_by(wake));
-        Ok(Shared { polled, holder, stop, timer, ringer: Ringer::new()?, state: Mutex::new(state) })
+        Ok(Shared { polled, holder, stop, timer, ringer: Ringer::shared()?, state: Mutex::new(state) })
     }
 
     pub(super) fn lock(&self) -> MutexGuard<'_, State> {

@@ -7,6 +7,7 @@ use std::mem::{size_of, size_of_val, zeroed};
 use std::os::unix::fs::OpenOptionsExt;
 use std::os::unix::io::{AsRawFd, FromRawFd, OwnedFd, RawFd};
 use std::ptr::{addr_of, addr_of_mut, null_mut};
+use std::sync::{Arc, Mutex, PoisonError, Weak};
 use std::time::Duration;
 
 use super::closing::PeerFd;
@@ -265,20 +266,35 @@ const RESFD: u32 = 1;
 pub(crate) struct Ringer {
     requests: libc::c_ulong,
     empty: File,
+    /// Who has a request under way: there is room for one.
+    ringing: Mutex<()>,
 }
 
 impl Ringer {
-    pub(crate) fn new() -> io::Result<Ringer> {
+    /// The one of this process, which is there as long as anybody has it: the kernel takes a while to end one.
+    pub(crate) fn shared() -> io::Result<Arc<Ringer>> {
+        static SHARED: Mutex<Option<Weak<Ringer>>> = Mutex::new(None);
+        let mut shared = SHARED.lock().unwrap_or_else(PoisonError::into_inner);
+        if let Some(ringer) = shared.as_ref().and_then(Weak::upgrade) {
+            return Ok(ringer);
+        }
+        let ringer = Arc::new(Ringer::new()?);
+        *shared = Some(Arc::downgrade(&ringer));
+        Ok(ringer)
+    }
+
+    fn new() -> io::Result<Ringer> {
         let empty = memory_file()?;
         let mut requests: libc::c_ulong = 0;
         // SAFETY: it writes one number, the one that it is lent.
         match unsafe { libc::syscall(libc::SYS_io_setup, 1 as libc::c_uint, addr_of_mut!(requests)) } {
-            0 => Ok(Ringer { requests, empty }),
+            0 => Ok(Ringer { requests, empty, ringing: Mutex::new(()) }),
             _ => Err(io::Error::last_os_error()),
         }
     }
 
     fn ring(&self, eventfd: &PeerFd) {
+        let _alone = self.ringing.lock().unwrap_or_else(PoisonError::into_inner);
         let mut request = AioRequest {
             opcode: PREAD,
             file: self.empty.as_raw_fd() as u32,
