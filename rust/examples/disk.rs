@@ -58,18 +58,16 @@ fn listen(path: &OsString, image: &OsString, queues: usize) -> io::Result<()> {
     let (requests, taken) = channel();
     let (requests, taken, sectors) = (Mutex::new(requests), Arc::new(Mutex::new(taken)), AtomicU64::new(0));
     let disk = Arc::new(Disk { image, sectors, queues, requests, channel: Mutex::new(None) });
-    disk.measure();
-    for _ in 0..THREADS {
-        let (disk, taken) = (disk.clone(), taken.clone());
+    for (disk, taken) in (0..THREADS).map(|_| (disk.clone(), taken.clone())) {
         spawn(move || disk.work(&taken));
     }
     let looking = disk.clone();
     spawn(move || loop {
-        sleep(LOOK);
         // Who does not hear it reads the size at its next start.
         if looking.measure() {
             let _ = locked(&looking.channel).as_ref().map(|channel| channel.handle_config_change());
         }
+        sleep(LOOK);
     });
     // What another disk left behind is replaced, and nothing else.
     let is_socket = symlink_metadata(path).map_or(false, |about| about.file_type().is_socket());
