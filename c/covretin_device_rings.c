@@ -346,7 +346,8 @@ static struct taken *taken_new(struct session *session, struct ring *ring, uint1
     struct taken *taken = malloc(parts_at + count * sizeof(struct part));
     if (taken == NULL)
         return NULL;
-    *taken = (struct taken){.session = session, .space = ring->space, .id = id};
+    /* (of the regions as they are now, which a packed ring that began before need not lie in) */
+    *taken = (struct taken){.session = session, .space = session->space, .id = id};
     taken->request = (covretin_request){.segments = taken->segments, .queue = (uint32_t)(ring - session->rings), .again = again};
     taken->parts = (struct part *)(void *)((uint8_t *)taken + parts_at);
     for (size_t i = 0; i < count; i++) {

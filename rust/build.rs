@@ -44,7 +44,7 @@ fn take_in() -> Result<(), String> {
     match (machine.as_str(), system.as_str(), pointer.as_str(), endian.as_str()) {
         ("x86_64" | "aarch64", "linux", "64", "little") => {
             println!("cargo:rustc-cfg=covretin_assembly");
-            name_folder(&format!("{machine}-linux/covretin.s"))
+            name_folder(&["covretin.s", "covretin_queue.s"].map(|file| format!("{machine}-linux/{file}")))
         }
         _ => Err(format!(
             "there is no proved code for {}, only for x86_64 and aarch64 on Linux. With COVRETIN_LIB_DIR=none 'cargo check' and 'cargo doc' go through",
@@ -54,12 +54,13 @@ fn take_in() -> Result<(), String> {
 }
 
 /// Tells the compiler in which folder generated/ is.
-fn name_folder(file: &str) -> Result<(), String> {
+fn name_folder(files: &[String]) -> Result<(), String> {
     let package = PathBuf::from(env::var("CARGO_MANIFEST_DIR").unwrap_or_default());
     let places = [package.join("generated"), package.join("../generated")];
-    let found = places.iter().find(|folder| folder.join(file).is_file());
-    let folder = found.ok_or_else(|| format!("no generated/{file}, neither in {} nor beside it", package.display()))?;
-    println!("cargo:rerun-if-changed={}", folder.join(file).display());
+    let found = places.iter().find(|folder| files.iter().all(|file| folder.join(file).is_file()));
+    let folder =
+        found.ok_or_else(|| format!("no generated/{}, neither in {} nor beside it", files.join(", "), package.display()))?;
+    files.iter().for_each(|file| println!("cargo:rerun-if-changed={}", folder.join(file).display()));
     println!("cargo:rustc-env=COVRETIN_GENERATED={}", folder.display());
     Ok(())
 }

@@ -158,6 +158,15 @@ def wrong_names():
             yield f"c/covretin_text.c: {table} are not those of {MESSAGE}/{path}"
 
 
+def wrong_queue_errors():
+    """Where the package for Rust has another number for an error of a queue than the header."""
+    header = dict(re.findall(r"COVRETIN_QUEUE_(\w+) = (\d+)", read("include/covretin_queue.h")))
+    for name, number in re.findall(r'^    (\w+) = (\d+), "', read("rust/src/queue/mod.rs"), re.MULTILINE):
+        in_c = re.sub(r"(?<!^)(?=[A-Z])", "_", name).upper()
+        if header.get(in_c) != number:
+            yield f"rust/src/queue/mod.rs: {name} is {number}, and COVRETIN_QUEUE_{in_c} {header.get(in_c)}"
+
+
 def main():
     code, glue = wanted()
     by_plain = {plain(name): value for name, value in code.items()}
@@ -175,6 +184,7 @@ def main():
             if name in glue and int(value) != code[glue[name]]:
                 wrong.append(f"{path}: {name} is {value}, and of the code {code[glue[name]]}")
     wrong += wrong_names()
+    wrong += wrong_queue_errors()
     wrong += wrong_needs(constants(f"{MESSAGE}/protocol_bit.rt"))
     print("\n".join(wrong + [f"headers: {len(met)} constants, {len(wrong)} wrong"]))
     return bool(wrong)

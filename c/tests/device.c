@@ -1143,6 +1143,39 @@ static void regions_come_and_go(void)
     free_memory();
 }
 
+/* A packed queue stays where it was mapped: what its requests point to came after it, and goes meanwhile. */
+static void a_packed_queue_keeps_what_it_has(void)
+{
+    begin(&calls);
+    negotiate(COVRETIN_DEVICE_RING_PACKED);
+    make_memory();
+    covretin_region rings = region_of(0, BUFFERS), buffers = region_of(BUFFERS, SIZE - BUFFERS);
+    struct queue queue = make_queue(0);
+    covretin_vring place = place_of(&queue, 0);
+    DONE(covretin_ask_add_mem_region(&vmm.session, &rings));
+    DONE(covretin_ask_set_vring_num(&vmm.session, 0, 4));
+    DONE(covretin_ask_set_vring_addr(&vmm.session, 0, &place));
+    DONE(covretin_ask_set_vring_call(&vmm.session, 0, queue.call));
+    DONE(covretin_ask_set_vring_kick(&vmm.session, 0, queue.kick));
+    DONE(covretin_ask_set_vring_enable(&vmm.session, 0, true));
+    DONE(covretin_ask_add_mem_region(&vmm.session, &buffers));
+    its.keeps = true;
+    memcpy(memory + BUFFERS, "packed", 6);
+    put(&queue, 1, GUEST + BUFFERS + 0x100, 64, 3, 0x80 | WRITE);
+    put(&queue, 0, GUEST + BUFFERS, 6, 3, 0);
+    __atomic_store_n(word_at(&queue, 0, 14), (uint16_t)(0x80 | NEXT), __ATOMIC_SEQ_CST);
+    if (eventfd_write(queue.kick, 1))
+        give_up("kick");
+    wait_for(&its.kept_count, 1);
+    DONE(covretin_ask_remove_mem_region(&vmm.session, &buffers));
+    answer(its.kept[0]);
+    EXPECT(true, is_signalled(queue.call, LIMIT));
+    EXPECT(0, memcmp(memory + BUFFERS + 0x100, "PACKED", 6));
+    end();
+    free_queue(&queue);
+    free_memory();
+}
+
 static void logs_what_it_writes(void)
 {
     covretin_region log = {.memory_size = 0x4000};
@@ -1520,6 +1553,7 @@ int main(void)
     RUN(frontend_dies_as_it_waits);
     RUN(goes_on_by_the_inflight_region);
     RUN(regions_come_and_go);
+    RUN(a_packed_queue_keeps_what_it_has);
     RUN(logs_what_it_writes);
     RUN(refuses_other_files);
     RUN(has_a_configuration);

@@ -7,9 +7,11 @@
 use std::{error, fmt, io, result};
 
 mod backend;
+pub mod device;
 #[allow(unsafe_code)]
 mod foreign;
 mod iotlb;
+pub mod queue;
 pub mod tap;
 pub mod vhost_user;
 

@@ -5,21 +5,35 @@ mod backend_session;
 mod channel;
 mod closing;
 mod display;
+mod events;
+mod guard;
+mod guest;
 mod listening;
 mod moving;
 #[cfg(covretin_assembly)]
 mod proved;
+mod queue;
 #[cfg(feature = "vm-memory")]
 mod records;
 mod session;
 mod signals;
 mod socket;
+mod userfault;
 
 pub(crate) use backend_session::{BackendSession, MAX_CONFIG};
 pub(crate) use channel::{ChannelServer, ChannelSession, Mmap};
 pub(crate) use closing::{numbers_of, PeerFd, PeerSocket};
 pub(crate) use display::DisplaySession;
+pub(crate) use events::{memory_file, poll, without_signals, Bell, Event, Kick, Polled, Ringer, SignalFd, Timer};
+pub(crate) use guard::{lose_all, Holder};
+pub use guest::VolatileSlice;
+pub(crate) use guest::{Mapping, Region as GuestRegion, Regions, Slices};
 pub(crate) use moving::{Asks, Code, Moves, Outcome, Serves, MAX_FDS, MAX_MESSAGE};
+pub(crate) use queue::{
+    inflight_after_used, inflight_before_used, inflight_recover, inflight_take, log_bit_of, log_pages, Chain, CoreQueue,
+    InflightEntry, Notes, PackedRing, Range, Resubmit, SplitRing,
+};
 pub(crate) use session::{Inflight, Region, Session, Vring};
 pub(crate) use signals::EndSignals;
 pub(crate) use socket::{is_ready, option_of, receive, receive_any, send, Received};
+pub(crate) use userfault::Userfault;

@@ -1,12 +1,19 @@
 // SPDX-License-Identifier: Apache-2.0
-//! The proved library itself, as assembly that the compiler takes in, and the memory that it asks for. Its labels begin with the
-//! library's name, so that nothing of the same module has them.
+//! The proved library itself, and its queues, as assembly that the compiler takes in, and the memory that they ask for. Labels begin with
+//! the library's name, and have a number of their function's, so that nothing of the same module has them.
 
 #[cfg(target_arch = "x86_64")]
 std::arch::global_asm!(include_str!(concat!(env!("COVRETIN_GENERATED"), "/x86_64-linux/covretin.s")), options(att_syntax, raw));
+#[cfg(target_arch = "x86_64")]
+std::arch::global_asm!(
+    include_str!(concat!(env!("COVRETIN_GENERATED"), "/x86_64-linux/covretin_queue.s")),
+    options(att_syntax, raw)
+);
 
 #[cfg(target_arch = "aarch64")]
 std::arch::global_asm!(include_str!(concat!(env!("COVRETIN_GENERATED"), "/aarch64-linux/covretin.s")), options(raw));
+#[cfg(target_arch = "aarch64")]
+std::arch::global_asm!(include_str!(concat!(env!("COVRETIN_GENERATED"), "/aarch64-linux/covretin_queue.s")), options(raw));
 
 /// Whether memory was had, and where it is: never at 0, which the proved part takes for no address.
 #[repr(C)]

@@ -73,6 +73,16 @@ impl<S: VhostUserBackendReqHandler> BackendReqHandler<S> {
         self.connection.last_request()
     }
 
+    /// The device.
+    pub(crate) fn device(&self) -> &S {
+        &self.device
+    }
+
+    /// Whether the connection is of no more use.
+    pub(crate) fn has_ended(&self) -> bool {
+        self.connection.has_ended()
+    }
+
     /// Serves the next request: receives it, asks the device, and replies. It waits for the request as long as the frontend likes.
     ///
     /// Disconnected, PartialMessage, InvalidMessage: the frontend closed the socket, or ended, between two requests, in a header, in a
@@ -84,7 +94,22 @@ impl<S: VhostUserBackendReqHandler> BackendReqHandler<S> {
     /// (InactiveFeature, InactiveOperation, InvalidParam, InvalidOperation, IncorrectFds, FrontendInternalError), or the device
     /// refused it, whose error it is, or gave another number of bases than of regions (BackendInternalError).
     pub fn handle_request(&mut self) -> Result<()> {
-        let call = self.connection.next_call()?;
+        let call = self.next_call()?;
+        self.answer(call)
+    }
+
+    /// Receives the next request, and checks it: its number, by which it is to be answered.
+    pub(crate) fn next_call(&mut self) -> Result<u32> {
+        self.connection.next_call()
+    }
+
+    /// The ring of the call that is to be answered, if it has one.
+    pub(crate) fn ring_of_call(&mut self) -> Option<u32> {
+        self.connection.argument(BackendSession::ring).ok().map(|(index, _)| index)
+    }
+
+    /// Asks the device, and replies.
+    pub(crate) fn answer(&mut self, call: u32) -> Result<()> {
         let (device, it) = (&*self.device, &mut self.connection);
         match FrontendReq::try_from(call) {
             Ok(request) => serve(device, it, request),

@@ -63,6 +63,11 @@ impl<S: Serves> ServedConnection<S> {
         self.broken = errno;
     }
 
+    /// Whether it is of no more use.
+    pub(super) fn has_ended(&self) -> bool {
+        self.broken.is_some()
+    }
+
     /// The number of the request that came last, as its header has it.
     pub(super) fn last_request(&self) -> Option<u32> {
         self.code[..].try_into().ok().map(u32::from_le_bytes)

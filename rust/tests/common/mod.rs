@@ -4,6 +4,7 @@
 #![allow(dead_code)]
 pub mod device;
 pub mod lingering;
+pub mod machine;
 pub mod random;
 pub mod tap;
 

@@ -1,0 +1,220 @@
+// SPDX-License-Identifier: Apache-2.0
+//! A device, of which its author writes what its requests mean, and no more. Beneath are a session of vhost-user, and [queues](crate::queue),
+//! both over the proved core; this part maps what the frontend gives, and does what these two say. It is what `covretin_device.h` is for
+//! programs in C.
+//!
+//! ```no_run
+//! use covretin::device::{run, Device, Request};
+//! use std::io::{Read, Write};
+//!
+//! struct Echo;
+//!
+//! impl Device for Echo {
+//!     fn request(&self, mut request: Request) {
+//!         let mut bytes = [0; 64];
+//!         let count = request.read(&mut bytes).unwrap_or(0);
+//!         let written = request.write(&bytes[..count]).unwrap_or(0);
+//!         request.complete(written as u32); // now or later, from any thread
+//!     }
+//! }
+//!
+//! fn main() -> std::io::Result<()> {
+//!     run("/run/device.sock", Echo)
+//! }
+//! ```
+//!
+//! Or, in an event loop of one's own, which may have many, a [`Session`]: once its descriptor is readable, `handle_events`.
+//!
+//! *What it does by itself*: memory regions and their hot plug, rings, kicks and calls, EVENT_IDX and INDIRECT_DESC, the dirty log, the
+//! inflight region of split queues, postcopy, reset. Rings that a device before left with requests under way are gone on with, and these
+//! are handed out again ([`is_again`](crate::queue::DescriptorChain::is_again)).
+//!
+//! *The frontend is not trusted.* Only memory files are mapped (memfd, tmpfs, hugetlbfs), since the pages of another may be kept back by
+//! whoever serves its file system. Descriptors to kick and call by are eventfds, and for calls pipes, too; none is waited for, whatever its
+//! flags, and a frontend that floods a device is served in turns with its rings. A region that its file was truncated of becomes zeros at
+//! its first touch, all of it, and the session ends with [`MemoryLost`](Ended::MemoryLost); the system's own calls (`preadv` and its like)
+//! fail there with EFAULT, and then nothing is lost. That costs nothing until it happens, but takes a handler of SIGBUS, which is there from
+//! the first mapping on and hands each other fault to the handler that was there before: install one of your own before that. Where a
+//! frontend begins postcopy, whoever touches a page that has not come waits for it until the frontend hangs up, or [`Stopper::stop`].
+//!
+//! *Threads*: [`Session::handle_events`] calls the device, one call at a time, and nothing else does. After it has told the end, and once a
+//! session is dropped, nothing is called. A request may be completed from any thread at any time, also then: what it points to stays
+//! mapped until that.
+//!
+//! What differs from the kit in C: a request that is dropped is done, with nothing written; what needs a protocol feature is chosen by
+//! [`Device::protocol_features`], since a trait does not tell which of its calls are there; the backend channel comes as a
+//! [`Backend`], which knows what was accepted; and a frontend that does not take its replies is hung up on
+//! once its socket is full, where the kit in C keeps them.
+use std::sync::Arc;
+use std::{error, fmt};
+
+use crate::queue;
+use crate::vhost_user::message::{VhostUserProtocolFeatures, VhostUserVirtioFeatures};
+use crate::vhost_user::{Backend, Error};
+
+mod arrival;
+mod calls;
+mod request;
+mod serving;
+mod session;
+mod shared;
+
+pub use self::request::Request;
+pub use self::serving::{run, serve};
+pub use self::session::{Session, Stopper};
+
+/// VIRTIO_F_INDIRECT_DESC, which is offered in any case.
+pub const INDIRECT_DESC: u64 = 1 << 28;
+/// VIRTIO_F_EVENT_IDX, which is offered in any case.
+pub const EVENT_IDX: u64 = 1 << 29;
+/// VIRTIO_F_VERSION_1, which is offered in any case.
+pub const VERSION_1: u64 = 1 << 32;
+/// VIRTIO_F_RING_PACKED, which is offered where the device offers it.
+pub const RING_PACKED: u64 = 1 << 34;
+
+/// The greatest number of queues of a device.
+pub const MAX_QUEUES: usize = 64;
+/// The greatest size of a queue, in descriptors; a request has as many parts at most.
+pub const MAX_QUEUE_SIZE: u16 = 1024;
+/// The greatest number of regions of memory of a session.
+pub const MAX_REGIONS: u64 = 509;
+
+/// A device. All but [`request`](Self::request) need not be there.
+pub trait Device: Send + Sync {
+    /// How many queues it has: 1 to [`MAX_QUEUES`].
+    fn queues(&self) -> usize {
+        1
+    }
+
+    /// What is offered, beside what is offered in any case: VERSION_1, EVENT_IDX, INDIRECT_DESC, LOG_ALL and PROTOCOL_FEATURES. With
+    /// [`RING_PACKED`] no inflight region is offered.
+    fn features(&self) -> u64 {
+        0
+    }
+
+    /// The same of protocol features: MQ, LOG_SHMFD, REPLY_ACK, PAGEFAULT, INFLIGHT_SHMFD, RESET_DEVICE and CONFIGURE_MEM_SLOTS are. CONFIG
+    /// belongs here where there is `read_config`, BACKEND_REQ where there is `channel`, with what is wanted on it, as BACKEND_SEND_FD.
+    fn protocol_features(&self) -> VhostUserProtocolFeatures {
+        VhostUserProtocolFeatures::empty()
+    }
+
+    /// A request is the device's.
+    fn request(&self, request: Request);
+
+    /// The driver accepted these virtio features; and these protocol features were accepted so far.
+    fn accepted(&self, _features: u64, _protocol_features: VhostUserProtocolFeatures) {}
+
+    /// Reads a part of the configuration space. False: there is no such part.
+    fn read_config(&self, _offset: u32, _bytes: &mut [u8]) -> bool {
+        false
+    }
+
+    /// Writes a part of it. False: there is no such part, or it is not to be written.
+    fn write_config(&self, _offset: u32, _bytes: &[u8]) -> bool {
+        false
+    }
+
+    /// The device is as it was at first; it has no request.
+    fn reset(&self) {}
+
+    /// The backend channel.
+    fn channel(&self, _channel: Backend) {}
+
+    /// A request of the frontend, by its number, was refused, or ended the session.
+    fn refused(&self, _request: Option<u32>, _error: &Error) {}
+
+    /// The driver broke a rule of a queue: nothing more is taken of it until the device is reset.
+    fn broken(&self, _queue: usize, _error: queue::Error) {}
+
+    /// The session has ended, for this reason, and no request is left. The last call.
+    fn ended(&self, _why: &Ended) {}
+}
+
+/// A device that others have, too.
+impl<D: Device + ?Sized> Device for Arc<D> {
+    fn queues(&self) -> usize {
+        (**self).queues()
+    }
+    fn features(&self) -> u64 {
+        (**self).features()
+    }
+    fn protocol_features(&self) -> VhostUserProtocolFeatures {
+        (**self).protocol_features()
+    }
+    fn request(&self, request: Request) {
+        (**self).request(request)
+    }
+    fn accepted(&self, features: u64, protocol_features: VhostUserProtocolFeatures) {
+        (**self).accepted(features, protocol_features)
+    }
+    fn read_config(&self, offset: u32, bytes: &mut [u8]) -> bool {
+        (**self).read_config(offset, bytes)
+    }
+    fn write_config(&self, offset: u32, bytes: &[u8]) -> bool {
+        (**self).write_config(offset, bytes)
+    }
+    fn reset(&self) {
+        (**self).reset()
+    }
+    fn channel(&self, channel: Backend) {
+        (**self).channel(channel)
+    }
+    fn refused(&self, request: Option<u32>, error: &Error) {
+        (**self).refused(request, error)
+    }
+    fn broken(&self, queue: usize, error: queue::Error) {
+        (**self).broken(queue, error)
+    }
+    fn ended(&self, why: &Ended) {
+        (**self).ended(why)
+    }
+}
+
+/// Why a session ended.
+#[derive(Debug)]
+pub enum Ended {
+    /// The frontend went (Disconnected), amid a request (PartialMessage, InvalidMessage), or sent what is none; or its socket failed.
+    Frontend(Error),
+    /// It took memory away that was in use, or went while a page was waited for.
+    MemoryLost,
+    /// [`Stopper::stop`].
+    Stopped,
+    /// An allocation failed.
+    OutOfMemory,
+}
+
+impl fmt::Display for Ended {
+    fn fmt(&self, f: &mut fmt::Formatter<'_>) -> fmt::Result {
+        match self {
+            Ended::Frontend(cause) => cause.fmt(f),
+            Ended::MemoryLost => f.write_str("guest memory is lost"),
+            Ended::Stopped => f.write_str("the session was stopped"),
+            Ended::OutOfMemory => f.write_str("out of memory"),
+        }
+    }
+}
+
+impl error::Error for Ended {}
+
+/// What a device offers.
+fn features_of(device: &impl Device) -> u64 {
+    let vhost_user = VhostUserVirtioFeatures::LOG_ALL | VhostUserVirtioFeatures::PROTOCOL_FEATURES;
+    device.features() | VERSION_1 | EVENT_IDX | INDIRECT_DESC | vhost_user.bits()
+}
+
+/// The protocol features that it offers. (With the older signatures a device can't say where it maps, which postcopy wants.)
+fn protocol_features_of(device: &impl Device) -> VhostUserProtocolFeatures {
+    let mut features = device.protocol_features()
+        | VhostUserProtocolFeatures::MQ
+        | VhostUserProtocolFeatures::LOG_SHMFD
+        | VhostUserProtocolFeatures::REPLY_ACK
+        | VhostUserProtocolFeatures::RESET_DEVICE
+        | VhostUserProtocolFeatures::CONFIGURE_MEM_SLOTS;
+    if cfg!(not(feature = "compat-0_17")) {
+        features |= VhostUserProtocolFeatures::PAGEFAULT;
+    }
+    if device.features() & RING_PACKED == 0 {
+        features |= VhostUserProtocolFeatures::INFLIGHT_SHMFD;
+    }
+    features
+}

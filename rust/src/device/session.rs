@@ -1,0 +1,351 @@
+// SPDX-License-Identifier: Apache-2.0
+//! A session's event loop, and its life.
+use std::io;
+use std::os::unix::io::{AsRawFd, RawFd};
+use std::os::unix::net::UnixStream;
+use std::sync::atomic::Ordering;
+use std::sync::Arc;
+use std::time::Duration;
+
+use super::calls::Calls;
+use super::shared::{Shared, Stop, SOCKET, STOP, TIMER, WAKE};
+use super::{Device, Ended, Request, MAX_QUEUES};
+use crate::queue;
+use crate::vhost_user::message::FrontendReq;
+use crate::vhost_user::{BackendReqHandler, Error, Listener};
+
+/// How many calls of a frontend are served before its rings are.
+const MOST_CALLS: usize = 256;
+/// How often a ring without a kick is looked at.
+const LOOK: Duration = Duration::from_millis(1);
+
+/// A device that serves a frontend. Once its descriptor is readable, [`handle_events`](Self::handle_events) has something to do. Where it is
+/// dropped the session ends, if that has not ended, and nothing is called; requests that are not done stay the device's until they are.
+pub struct Session<D: Device> {
+    device: Arc<D>,
+    shared: Arc<Shared>,
+    handler: Option<BackendReqHandler<Calls<D>>>,
+    /// Whether the socket may have calls.
+    is_called: bool,
+    /// A call that is answered once requests are done.
+    waits: Option<u32>,
+    ended: Option<Arc<Ended>>,
+}
+
+/// Ends a [`Session`], from any thread, and from a signal handler.
+#[derive(Clone)]
+pub struct Stopper(Arc<Stop>);
+
+impl Stopper {
+    /// The session ends: `handle_events` says so. Whoever waits for a page goes on.
+    pub fn stop(&self) {
+        self.0.is_stopped.store(true, Ordering::SeqCst);
+        self.0.event.set();
+    }
+}
+
+impl<D: Device> Session<D> {
+    /// Serves a frontend over a connected socket. InvalidInput: the device has no queue, or too many; other errors are the system's.
+    pub fn new(device: Arc<D>, socket: UnixStream) -> io::Result<Session<D>> {
+        Session::watching(device, socket, -1)
+    }
+
+    /// Serves the next frontend that waits at a listener. None, as [`Listener::accept`] returns it. Errors are those of `new`, and of that.
+    pub fn accept(device: Arc<D>, listener: &Listener) -> io::Result<Option<Session<D>>> {
+        Session::accept_watching(device, listener, -1)
+    }
+
+    /// The same; while a page is waited for a signal may come, that can be read of this descriptor, if it is not negative.
+    pub(super) fn accept_watching(device: Arc<D>, listener: &Listener, signals: RawFd) -> io::Result<Option<Session<D>>> {
+        match listener.accept()? {
+            Some(socket) => Session::watching(device, socket, signals).map(Some),
+            None => Ok(None),
+        }
+    }
+
+    fn watching(device: Arc<D>, socket: UnixStream, signals: RawFd) -> io::Result<Session<D>> {
+        let queues = device.queues();
+        if !(1..=MAX_QUEUES).contains(&queues) {
+            return Err(io::ErrorKind::InvalidInput.into());
+        }
+        let shared = Arc::new(Shared::new(queues)?);
+        socket.set_nonblocking(true)?;
+        let frontend = socket.try_clone()?;
+        let mut handler =
+            BackendReqHandler::from_stream(socket, Arc::new(Calls::new(device.clone(), shared.clone(), frontend, signals)));
+        handler.set_reply_timeout(Some(Duration::ZERO));
+        shared.polled.add(&handler, SOCKET)?;
+        Ok(Session { device, shared, handler: Some(handler), is_called: true, waits: None, ended: None })
+    }
+
+    /// By what it is stopped.
+    pub fn stopper(&self) -> Stopper {
+        Stopper(self.shared.stop.clone())
+    }
+
+    /// Does what is to be done, and waits for nothing. None: it goes on; call it again once the descriptor is readable. Else the session has
+    /// ended for this reason, which each further call returns, too. The frontend is hung up on at once; where the device has requests, the
+    /// end is told once they are done, so that the next frontend finds nothing under way.
+    pub fn handle_events(&mut self) -> Option<&Ended> {
+        self.take_events();
+        if self.handler.is_some() {
+            if self.is_called || self.waits.is_some() {
+                self.serve_calls();
+            }
+            let queues = self.shared.lock().rings.len();
+            for index in 0..queues {
+                self.serve_ring(index);
+            }
+            match self.has_ended() {
+                true => self.give_up(),
+                false => self.plan(),
+            }
+        }
+        self.tell_end();
+        self.ended.as_deref()
+    }
+
+    /// The socket, as long as nobody was hung up on.
+    pub(super) fn frontend(&self) -> Option<RawFd> {
+        self.handler.as_ref().map(AsRawFd::as_raw_fd)
+    }
+
+    fn has_ended(&self) -> bool {
+        self.shared.has_ended(&mut self.shared.lock())
+    }
+
+    fn end(&self, why: Ended) {
+        self.shared.lock().end(why);
+    }
+
+    /// Takes what is ready.
+    fn take_events(&mut self) {
+        for (number, has_ended) in self.shared.polled.ready() {
+            match number {
+                SOCKET if self.waits.is_some() && has_ended => self.end(Ended::Frontend(Error::Disconnected)),
+                SOCKET => self.is_called = true,
+                WAKE => self.shared.holder.waking().iter().for_each(|wake| wake.take()),
+                TIMER if self.shared.timer.take() => {
+                    let mut state = self.shared.lock();
+                    state.rings.iter_mut().for_each(|ring| ring.is_due |= ring.kick.is_none());
+                }
+                TIMER | STOP => {}
+                index => self.take_kick(index as usize),
+            }
+        }
+    }
+
+    /// A ring was kicked. One whose kick cannot be read has none any more, since it would be ready for ever, and is broken.
+    fn take_kick(&self, index: usize) {
+        let mut state = self.shared.lock();
+        let ring = match state.rings.get_mut(index) {
+            Some(ring) => ring,
+            None => return,
+        };
+        match &ring.kick {
+            None => return,
+            Some(kick) if kick.take() => {}
+            Some(_) => {
+                self.shared.set_kick(ring, None);
+                ring.is_broken = true;
+            }
+        }
+        ring.is_due = true;
+    }
+
+    // -- Calls --
+
+    /// Serves the calls that are there, but for those of one that sends without end: rings are served in between.
+    fn serve_calls(&mut self) {
+        for _ in 0..MOST_CALLS {
+            if self.has_ended() || !self.serve_call() {
+                return;
+            }
+        }
+    }
+
+    /// Serves the next call, or the one that waits. Whether there may be another.
+    fn serve_call(&mut self) -> bool {
+        let handler = match &mut self.handler {
+            Some(handler) => handler,
+            None => return false,
+        };
+        let call = match self.waits.take().map_or_else(|| handler.next_call(), Ok) {
+            Err(Error::SocketRetry(_)) => {
+                self.shared.polled.look_for(handler, SOCKET, true);
+                self.is_called = false;
+                return false;
+            }
+            call => call,
+        };
+        let answered = match call {
+            Ok(call) if has_to_wait(&self.shared, handler, call) => {
+                self.shared.polled.look_for(handler, SOCKET, false);
+                self.waits = Some(call);
+                return false;
+            }
+            Ok(call) => handler.answer(call),
+            Err(error) => Err(error),
+        };
+        self.tell_refused(answered);
+        true
+    }
+
+    /// Tells the device what was refused, and whether the frontend is gone by that.
+    fn tell_refused(&mut self, answered: Result<(), Error>) {
+        let handler = match &self.handler {
+            Some(handler) => handler,
+            None => return,
+        };
+        let has_refused = handler.device().take_refused();
+        match answered {
+            Ok(()) if has_refused => self.device.refused(handler.last_request(), &Error::BackendInternalError),
+            Ok(()) => {}
+            Err(Error::Disconnected) => self.end(Ended::Frontend(Error::Disconnected)),
+            Err(error) => {
+                self.device.refused(handler.last_request(), &error);
+                if handler.has_ended() {
+                    self.end(Ended::Frontend(error));
+                }
+            }
+        }
+    }
+
+    // -- Rings --
+
+    /// Hands the requests that are there to the device, but for those of a driver that makes more without end: then the ring is still due.
+    fn serve_ring(&self, index: usize) {
+        let size = {
+            let ring = &mut self.shared.lock().rings[index];
+            if !std::mem::take(&mut ring.is_due) {
+                return;
+            }
+            ring.queue.size()
+        };
+        for _ in 0..=size {
+            if !self.serve_request(index) {
+                return;
+            }
+        }
+        self.shared.lock().rings[index].is_due = true;
+    }
+
+    /// Hands the next request to the device, if there is one. Whether there may be another.
+    fn serve_request(&self, index: usize) -> bool {
+        let mut state = self.shared.lock();
+        if self.shared.has_ended(&mut state) || !state.is_running(index) {
+            return false;
+        }
+        let queue = &mut state.rings[index].queue;
+        let popped = queue.pop();
+        if self.shared.holder.has_lost() {
+            return false; // what was read may be zeros that nobody wrote
+        }
+        match popped {
+            Ok(None) => queue.enable_notification() == Ok(true),
+            Ok(Some(chain)) => {
+                // (before the device, which may be done with it at once)
+                state.rings[index].out += 1;
+                state.out += 1;
+                drop(state);
+                self.device.request(Request::new(chain, self.shared.clone(), index));
+                true
+            }
+            Err(error) => {
+                state.rings[index].is_broken = true;
+                self.shared.signal(&state.rings[index].error);
+                drop(state);
+                self.tell_broken(index, error);
+                false
+            }
+        }
+    }
+
+    fn tell_broken(&self, index: usize, error: queue::Error) {
+        if error == queue::Error::OutOfMemory {
+            return self.end(Ended::OutOfMemory);
+        }
+        self.device.broken(index, error);
+    }
+
+    /// What is due still is served by the next call; a ring without a kick is looked at from time to time.
+    fn plan(&self) {
+        let mut state = self.shared.lock();
+        let running: Vec<usize> = (0..state.rings.len()).filter(|index| state.is_running(*index)).collect();
+        let is_due = running.iter().any(|index| state.rings[*index].is_due);
+        let is_timed = running.iter().any(|index| state.rings[*index].kick.is_none());
+        if is_due || (self.is_called && self.waits.is_none()) {
+            self.shared.holder.wake();
+        }
+        if is_timed != state.is_timed {
+            self.shared.timer.set(if is_timed { LOOK } else { Duration::ZERO });
+            state.is_timed = is_timed;
+        }
+    }
+
+    // -- The end --
+
+    /// All that the frontend gave is given up, but for what requests still point to.
+    fn give_up(&mut self) {
+        if let Some(mut handler) = self.handler.take() {
+            self.shared.polled.remove(&handler);
+            // (whoever has a copy of the socket is hung up on, too)
+            handler.set_failed(libc::ESHUTDOWN);
+        }
+        self.waits = None;
+        let mut state = self.shared.lock();
+        let (arrival, memory) = (state.arrival.take(), state.memory.take());
+        let _ = arrival.map(|arrival| arrival.end(memory.as_ref()));
+        for ring in &mut state.rings {
+            self.shared.stop_ring(ring);
+            ring.queue.forget();
+            ring.error = None;
+        }
+        (state.log, state.inflight, state.waits) = (None, None, false);
+    }
+
+    /// Says once that the session has ended, and all its requests. What it waits for stays ready from then on.
+    fn tell_end(&mut self) {
+        let state = self.shared.lock();
+        let why = match &state.why {
+            Some(why) if self.ended.is_none() && state.out == 0 => why.clone(),
+            _ => return,
+        };
+        drop(state);
+        self.device.ended(&why);
+        self.shared.stop.event.set();
+        self.ended = Some(why);
+    }
+}
+
+impl<D: Device> AsRawFd for Session<D> {
+    fn as_raw_fd(&self) -> RawFd {
+        self.shared.polled.as_raw_fd()
+    }
+}
+
+impl<D: Device> Drop for Session<D> {
+    fn drop(&mut self) {
+        // Whoever waits for a page goes on.
+        self.stopper().stop();
+        self.has_ended();
+        self.give_up();
+    }
+}
+
+/// Whether a call that stops rings has to wait for requests of theirs. Nothing more is taken meanwhile.
+fn has_to_wait<D: Device>(shared: &Shared, handler: &mut BackendReqHandler<Calls<D>>, call: u32) -> bool {
+    let stopped = match FrontendReq::try_from(call) {
+        Ok(FrontendReq::GET_VRING_BASE) => handler.ring_of_call().map_or(0..0, |index| index as usize..index as usize + 1),
+        Ok(FrontendReq::RESET_DEVICE | FrontendReq::RESET_OWNER) => 0..MAX_QUEUES,
+        _ => return false,
+    };
+    let mut state = shared.lock();
+    let mut is_out = false;
+    for (_, ring) in state.rings.iter_mut().enumerate().filter(|(index, _)| stopped.contains(index)) {
+        ring.is_ending = true;
+        is_out |= ring.out != 0;
+    }
+    state.waits = is_out;
+    is_out
+}

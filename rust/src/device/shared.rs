@@ -1,0 +1,208 @@
+// SPDX-License-Identifier: Apache-2.0
+//! What a session holds: behind a lock, which is let go of while the device is called, since a request is completed from any thread.
+use std::io;
+use std::sync::atomic::{AtomicBool, Ordering};
+use std::sync::{Arc, Mutex, MutexGuard, PoisonError};
+
+use super::arrival::Arrival;
+use super::{Ended, EVENT_IDX, INDIRECT_DESC, MAX_QUEUE_SIZE, RING_PACKED};
+use crate::foreign::{Bell, Event, Holder, Kick, Polled, Ringer, Timer};
+use crate::queue::{DescriptorChain, DirtyLog, Error, GuestAddress, GuestMemory, InflightRegion, Queue};
+use crate::vhost_user::message::VhostUserVirtioFeatures;
+
+/// What is polled beside the kicks of rings, by their numbers.
+pub(super) const SOCKET: u32 = 0x100;
+pub(super) const WAKE: u32 = 0x101;
+pub(super) const STOP: u32 = 0x102;
+pub(super) const TIMER: u32 = 0x103;
+
+/// By what a session is stopped.
+pub(super) struct Stop {
+    pub(super) is_stopped: AtomicBool,
+    pub(super) event: Event,
+}
+
+pub(super) struct Shared {
+    pub(super) polled: Polled,
+    pub(super) holder: Arc<Holder>,
+    pub(super) stop: Arc<Stop>,
+    pub(super) timer: Timer,
+    ringer: Arc<Ringer>,
+    state: Mutex<State>,
+}
+
+/// A ring, and what it is kicked and signals by.
+pub(super) struct Ring {
+    pub(super) queue: Queue,
+    pub(super) log_addr: Option<GuestAddress>,
+    pub(super) kick: Option<Kick>,
+    pub(super) call: Option<Bell>,
+    pub(super) error: Option<Bell>,
+    pub(super) is_enabled: bool,
+    /// Nothing more is taken; it stops once its requests are done.
+    pub(super) is_ending: bool,
+    /// The driver broke a rule, or the kick can't be read.
+    pub(super) is_broken: bool,
+    /// It is to be looked at.
+    pub(super) is_due: bool,
+    /// Requests that the device has.
+    pub(super) out: usize,
+}
+
+pub(super) struct State {
+    pub(super) rings: Vec<Ring>,
+    /// What was accepted.
+    pub(super) features: u64,
+    pub(super) protocol_features: u64,
+    pub(super) memory: Option<GuestMemory>,
+    pub(super) log: Option<DirtyLog>,
+    pub(super) inflight: Option<InflightRegion>,
+    pub(super) arrival: Option<Arrival>,
+    /// Requests that the device has, of all rings.
+    pub(super) out: usize,
+    /// Whether a call waits for some of them.
+    pub(super) waits: bool,
+    pub(super) is_timed: bool,
+    pub(super) why: Option<Arc<Ended>>,
+}
+
+impl Shared {
+    pub(super) fn new(queues: usize) -> io::Result<Shared> {
+        let ring = || {
+            Ok(Ring {
+                queue: Queue::new(MAX_QUEUE_SIZE)?,
+                log_addr: None,
+                kick: None,
+                call: None,
+                error: None,
+                is_enabled: false,
+                is_ending: false,
+                is_broken: false,
+                is_due: false,
+                out: 0,
+            })
+        };
+        let state = State {
+            rings: (0..queues).map(|_| ring()).collect::<Result<_, Error>>()?,
+            features: 0,
+            protocol_features: 0,
+            memory: None,
+            log: None,
+            inflight: None,
+            arrival: None,
+            out: 0,
+            waits: false,
+            is_timed: false,
+            why: None,
+        };
+        let (polled, wake, timer) = (Polled::new()?, Event::new()?, Timer::new()?);
+        let stop = Arc::new(Stop { is_stopped: AtomicBool::new(false), event: Event::new()? });
+        polled.add(&wake, WAKE)?;
+        polled.add(&stop.event, STOP)?;
+        polled.add(&timer, TIMER)?;
+        let holder = Arc::new(Holder::woken_by(wake));
+        Ok(Shared { polled, holder, stop, timer, ringer: Ringer::shared()?, state: Mutex::new(state) })
+    }
+
+    pub(super) fn lock(&self) -> MutexGuard<'_, State> {
+        self.state.lock().unwrap_or_else(PoisonError::into_inner)
+    }
+
+    /// Whether the session has ended, as of now.
+    pub(super) fn has_ended(&self, state: &mut State) -> bool {
+        if state.why.is_none() && self.stop.is_stopped.load(Ordering::SeqCst) {
+            state.end(Ended::Stopped);
+        }
+        if state.why.is_none() && self.holder.has_lost() {
+            state.end(Ended::MemoryLost);
+        }
+        state.why.is_some()
+    }
+
+    /// Gives a request back, of which so many bytes were written. Where the session has ended meanwhile nobody is told.
+    pub(super) fn complete(&self, index: usize, chain: &DescriptorChain, written: u32) {
+        let mut state = self.lock();
+        if !self.has_ended(&mut state) {
+            let ring = &mut state.rings[index];
+            if ring.queue.add_used(chain, written).is_ok() && ring.queue.needs_notification() == Ok(true) {
+                self.signal(&ring.call);
+            }
+        }
+        state.rings[index].out -= 1;
+        state.out -= 1;
+        if state.waits || state.why.is_some() {
+            self.holder.wake();
+        }
+    }
+
+    pub(super) fn signal(&self, bell: &Option<Bell>) {
+        bell.iter().for_each(|bell| bell.ring(&self.ringer));
+    }
+
+    /// A ring has this kick from now on, or none.
+    pub(super) fn set_kick(&self, ring: &mut Ring, kick: Option<Kick>) {
+        ring.kick.iter().for_each(|kick| self.polled.remove(kick));
+        ring.kick = kick;
+    }
+
+    /// A ring stops, where none of its requests is out, or the session has ended; what belongs to a start is closed.
+    pub(super) fn stop_ring(&self, ring: &mut Ring) {
+        self.set_kick(ring, None);
+        ring.call = None;
+        (ring.is_due, ring.is_ending, ring.is_broken) = (false, false, false);
+        let _ = ring.queue.set_ready(false);
+    }
+}
+
+impl State {
+    pub(super) fn end(&mut self, why: Ended) {
+        self.why.get_or_insert_with(|| Arc::new(why));
+    }
+
+    /// Whether requests are taken of a ring.
+    pub(super) fn is_running(&self, index: usize) -> bool {
+        let ring = &self.rings[index];
+        let has_to_be_enabled = self.features & VhostUserVirtioFeatures::PROTOCOL_FEATURES.bits() != 0;
+        ring.queue.ready()
+            && ring.queue.is_mapped()
+            && !ring.is_ending
+            && !ring.is_broken
+            && (ring.is_enabled || !has_to_be_enabled)
+    }
+
+    /// Starts a ring, by what was accepted, and by the inflight region where there is one.
+    pub(super) fn start_ring(&mut self, index: usize) -> Result<(), Error> {
+        let (features, ring) = (self.features, &mut self.rings[index]);
+        ring.queue.set_packed(features & RING_PACKED != 0);
+        ring.queue.set_event_idx(features & EVENT_IDX != 0);
+        ring.queue.set_indirect(features & INDIRECT_DESC != 0);
+        match &self.inflight {
+            Some(region) if features & RING_PACKED == 0 => ring.queue.start_with(region, index)?,
+            _ => ring.queue.set_ready(true)?,
+        }
+        (ring.is_due, ring.is_broken, ring.is_ending) = (true, false, false);
+        self.set_log(index);
+        Ok(())
+    }
+
+    /// Has a ring log what is to be logged.
+    pub(super) fn set_log(&mut self, index: usize) {
+        let is_logged = self.features & VhostUserVirtioFeatures::LOG_ALL.bits() != 0;
+        let ring = &mut self.rings[index];
+        ring.queue.set_log(self.log.clone().filter(|_| is_logged), ring.log_addr);
+    }
+
+    /// The session has this memory, in the place of what it had. A ring that lies in none of it is left alone until it does. An error: it can't
+    /// be, and nothing changed.
+    pub(super) fn set_memory(&mut self, memory: GuestMemory) -> Result<(), Error> {
+        for ring in &mut self.rings {
+            if let Err(error) = ring.queue.set_memory(&memory) {
+                self.end(Ended::OutOfMemory);
+                return Err(error);
+            }
+            ring.is_due = ring.queue.ready();
+        }
+        self.memory = Some(memory);
+        Ok(())
+    }
+}

@@ -1,0 +1,387 @@
+// SPDX-License-Identifier: Apache-2.0
+//! Memory that a frontend gave: its files are mapped, and read and written by volatile and atomic accesses alone, since whoever shares
+//! them writes there at any time. What takes it away again is `guard`'s.
+use std::io;
+use std::marker::PhantomData;
+use std::mem::zeroed;
+use std::ops::Deref;
+use std::os::unix::io::AsRawFd;
+use std::ptr::null_mut;
+use std::sync::atomic::{AtomicBool, AtomicU16, AtomicU64, AtomicU8, Ordering};
+use std::sync::Arc;
+
+use super::guard::{Holder, Place};
+use crate::queue::Error;
+
+/// The number of hugetlbfs, of `linux/magic.h`.
+const HUGETLBFS_MAGIC: u64 = 0x9584_58f6;
+
+/// A part of a memory file, mapped, and guarded as long as it is there.
+pub(crate) struct Mapping {
+    place: &'static Place,
+    /// From the page on that it begins in.
+    all: usize,
+    all_size: usize,
+    into: usize,
+    size: usize,
+    /// Whether pages of it are waited for.
+    pub(super) is_watched: AtomicBool,
+    holder: Arc<Holder>,
+}
+
+impl Mapping {
+    /// Maps a part of a file, which may be closed then. InvalidInput: it is no memory file, or ends before. Nothing is asked of what is no
+    /// memory file: whoever serves its file system may not reply.
+    pub(crate) fn new(holder: &Arc<Holder>, file: &impl AsRawFd, offset: u64, size: u64) -> io::Result<Mapping> {
+        let fd = file.as_raw_fd();
+        if !has_bytes(fd, offset, size) {
+            return Err(io::ErrorKind::InvalidInput.into());
+        }
+        let page = page_of(fd);
+        let into = offset % page;
+        let (all_size, start) = ((into + size + page - 1) / page * page, (offset - into) as libc::off_t);
+        let (access, flags) = (libc::PROT_READ | libc::PROT_WRITE, libc::MAP_SHARED | libc::MAP_NORESERVE);
+        // SAFETY: the system chooses a place where nothing is.
+        let all = unsafe { libc::mmap(null_mut(), all_size as usize, access, flags, fd, start) };
+        if all == libc::MAP_FAILED {
+            return Err(io::Error::last_os_error());
+        }
+        match Place::take(all as usize, all_size as usize, holder) {
+            Some(place) => Ok(Mapping {
+                place,
+                all: all as usize,
+                all_size: all_size as usize,
+                into: into as usize,
+                size: size as usize,
+                is_watched: AtomicBool::new(false),
+                holder: holder.clone(),
+            }),
+            None => {
+                // SAFETY: it was mapped above, and nobody else knows of it.
+                unsafe { libc::munmap(all, all_size as usize) };
+                Err(io::Error::from_raw_os_error(libc::ENOMEM))
+            }
+        }
+    }
+
+    pub(crate) fn size(&self) -> u64 {
+        self.size as u64
+    }
+
+    /// Where it is mapped.
+    pub(crate) fn host(&self) -> u64 {
+        (self.all + self.into) as u64
+    }
+
+    /// The pages that it lies in: where they begin, and how many bytes they have.
+    pub(crate) fn pages(&self) -> (u64, u64) {
+        (self.all as u64, self.all_size as u64)
+    }
+
+    pub(crate) fn holder(&self) -> &Arc<Holder> {
+        &self.holder
+    }
+
+    /// So many bytes from there on, which have to be its own.
+    fn at<T>(&self, offset: usize, count: usize) -> *mut T {
+        assert!(offset <= self.size && count <= self.size - offset);
+        (self.all + self.into + offset) as *mut T
+    }
+
+    pub(crate) fn load8(&self, offset: usize) -> u8 {
+        // SAFETY: it is a byte of the mapping, and any will do.
+        unsafe { &*self.at::<AtomicU8>(offset, 1) }.load(Ordering::Acquire)
+    }
+
+    pub(crate) fn store8(&self, offset: usize, value: u8) {
+        // SAFETY: as above.
+        unsafe { &*self.at::<AtomicU8>(offset, 1) }.store(value, Ordering::Release)
+    }
+
+    /// Sets these bits of a byte.
+    pub(crate) fn set_bits(&self, offset: usize, mask: u8) {
+        // SAFETY: as above.
+        unsafe { &*self.at::<AtomicU8>(offset, 1) }.fetch_or(mask, Ordering::SeqCst);
+    }
+
+    pub(crate) fn load16(&self, offset: usize) -> u16 {
+        let at = self.at::<AtomicU16>(offset, 2);
+        assert!(at as usize % 2 == 0);
+        // SAFETY: these are bytes of the mapping, aligned, and any will do.
+        u16::from_le(unsafe { &*at }.load(Ordering::Acquire))
+    }
+
+    pub(crate) fn store16(&self, offset: usize, value: u16) {
+        let at = self.at::<AtomicU16>(offset, 2);
+        assert!(at as usize % 2 == 0);
+        // SAFETY: as above.
+        unsafe { &*at }.store(value.to_le(), Ordering::Release);
+    }
+
+    pub(crate) fn load64(&self, offset: usize) -> u64 {
+        let at = self.at::<AtomicU64>(offset, 8);
+        assert!(at as usize % 8 == 0);
+        // SAFETY: as above.
+        u64::from_le(unsafe { &*at }.load(Ordering::Acquire))
+    }
+
+    pub(crate) fn store64(&self, offset: usize, value: u64) {
+        let at = self.at::<AtomicU64>(offset, 8);
+        assert!(at as usize % 8 == 0);
+        // SAFETY: as above.
+        unsafe { &*at }.store(value.to_le(), Ordering::Release);
+    }
+
+    /// All of it.
+    pub(crate) fn slice(&self) -> VolatileSlice<'_> {
+        // SAFETY: it is mapped as long as it is borrowed.
+        unsafe { VolatileSlice::new(self.host(), self.size()) }
+    }
+}
+
+impl Drop for Mapping {
+    fn drop(&mut self) {
+        self.place.leave();
+        // SAFETY: it was mapped by `new`, and nobody has a part of it any more: each borrows it, or holds it by an Arc.
+        unsafe { libc::munmap(self.all as *mut libc::c_void, self.all_size) };
+    }
+}
+
+/// How large the pages of a file are.
+fn page_of(fd: libc::c_int) -> u64 {
+    // SAFETY: zeros are a `struct statfs`, which is borrowed for the call; the others read a number.
+    unsafe {
+        let mut about: libc::statfs = zeroed();
+        if libc::fstatfs(fd, &mut about) == 0 && about.f_type as u64 & 0xffff_ffff == HUGETLBFS_MAGIC && about.f_bsize > 0 {
+            return about.f_bsize as u64;
+        }
+        libc::sysconf(libc::_SC_PAGESIZE) as u64
+    }
+}
+
+fn has_bytes(fd: libc::c_int, offset: u64, size: u64) -> bool {
+    // SAFETY: zeros are a `struct stat`, which is borrowed for the call; the other asks for flags.
+    let length = unsafe {
+        let mut about: libc::stat = zeroed();
+        if size == 0 || libc::fcntl(fd, libc::F_GET_SEALS) < 0 || libc::fstat(fd, &mut about) != 0 {
+            return false;
+        }
+        u64::try_from(about.st_size).unwrap_or(0)
+    };
+    offset <= length && size <= length - offset
+}
+
+/// A region of guest memory, mapped.
+pub(crate) struct Region {
+    /// Where the guest has it.
+    pub(crate) guest: u64,
+    /// Where the frontend has it.
+    pub(crate) user: u64,
+    pub(crate) mapping: Mapping,
+}
+
+impl Deref for Region {
+    type Target = Mapping;
+
+    fn deref(&self) -> &Mapping {
+        &self.mapping
+    }
+}
+
+/// The regions of guest memory.
+#[derive(Clone, Default)]
+pub(crate) struct Regions(pub(crate) Vec<Arc<Region>>);
+
+impl Deref for Regions {
+    type Target = [Arc<Region>];
+
+    fn deref(&self) -> &[Arc<Region>] {
+        &self.0
+    }
+}
+
+impl Regions {
+    /// The region that so many bytes which are mapped there lie in.
+    fn holding(&self, host: u64, len: u64) -> Option<&Region> {
+        let holds =
+            |it: &&Arc<Region>| host >= it.host() && host - it.host() <= it.size() && len <= it.size() - (host - it.host());
+        self.iter().find(holds).map(|it| &**it)
+    }
+
+    /// Bytes that are mapped there. NotInGuest: they lie in no region.
+    pub(crate) fn slice(&self, host: u64, len: u64) -> Result<VolatileSlice<'_>, Error> {
+        self.holding(host, len).ok_or(Error::NotInGuest)?;
+        // SAFETY: they lie in a mapping, which stays as long as it is borrowed.
+        Ok(unsafe { VolatileSlice::new(host, len) })
+    }
+
+    /// Where the guest has bytes that are mapped there.
+    pub(crate) fn guest_of(&self, host: u64, len: u64) -> Option<u64> {
+        self.holding(host, len).map(|region| region.guest + (host - region.host()))
+    }
+}
+
+/// Bytes of guest memory. The guest may change them at any time, so there is no `&[u8]` of them: they are copied, once.
+#[repr(transparent)]
+#[derive(Clone, Copy)]
+pub struct VolatileSlice<'a> {
+    raw: libc::iovec,
+    of: PhantomData<&'a Regions>,
+}
+
+// SAFETY: whoever has it reads and writes shared memory, of which nothing is expected, by volatile accesses.
+unsafe impl Send for VolatileSlice<'_> {}
+
+// SAFETY: as above.
+unsafe impl Sync for VolatileSlice<'_> {}
+
+impl<'a> VolatileSlice<'a> {
+    /// # Safety
+    ///
+    /// They are mapped, as shared memory of a frontend, as long as the result can be used.
+    unsafe fn new(addr: u64, len: u64) -> VolatileSlice<'a> {
+        VolatileSlice {
+            raw: libc::iovec { iov_base: addr as usize as *mut libc::c_void, iov_len: len as usize },
+            of: PhantomData,
+        }
+    }
+
+    /// How many bytes there are.
+    pub fn len(&self) -> usize {
+        self.raw.iov_len
+    }
+
+    /// Whether there are none.
+    pub fn is_empty(&self) -> bool {
+        self.len() == 0
+    }
+
+    /// Where they begin. They are read and written by volatile accesses, or by calls of the system.
+    pub fn as_ptr(&self) -> *mut u8 {
+        self.raw.iov_base.cast()
+    }
+
+    /// So many of them from `offset` on. NotInGuest: they have not so many.
+    pub fn subslice(&self, offset: usize, count: usize) -> Result<VolatileSlice<'a>, Error> {
+        if offset > self.len() || count > self.len() - offset {
+            return Err(Error::NotInGuest);
+        }
+        // SAFETY: it is a part of this one.
+        Ok(unsafe { VolatileSlice::new((self.raw.iov_base as usize + offset) as u64, count as u64) })
+    }
+
+    /// Those from `count` on. NotInGuest: they have not so many.
+    pub fn offset(&self, count: usize) -> Result<VolatileSlice<'a>, Error> {
+        self.subslice(count, self.len().wrapping_sub(count))
+    }
+
+    /// Copies the first of them: how many, all of `bytes` or all that there are.
+    pub fn copy_to(&self, bytes: &mut [u8]) -> usize {
+        let count = bytes.len().min(self.len());
+        let (mut at, mut left) = (self.as_ptr(), &mut bytes[..count]);
+        while !left.is_empty() {
+            let step = if at as usize % 8 == 0 && left.len() >= 8 { 8 } else { 1 };
+            let (part, rest) = left.split_at_mut(step);
+            // SAFETY: so many bytes are left of those that are mapped, and a word of them is aligned.
+            unsafe {
+                match step {
+                    8 => part.copy_from_slice(&at.cast::<u64>().read_volatile().to_ne_bytes()),
+                    _ => part[0] = at.read_volatile(),
+                }
+                at = at.add(step);
+            }
+            left = rest;
+        }
+        count
+    }
+
+    /// Copies to the first of them: how many, as above.
+    pub fn copy_from(&self, bytes: &[u8]) -> usize {
+        let count = bytes.len().min(self.len());
+        let (mut at, mut left) = (self.as_ptr(), &bytes[..count]);
+        while !left.is_empty() {
+            let step = if at as usize % 8 == 0 && left.len() >= 8 { 8 } else { 1 };
+            let (part, rest) = left.split_at(step);
+            // SAFETY: as above.
+            unsafe {
+                match <[u8; 8]>::try_from(part) {
+                    Ok(word) => at.cast::<u64>().write_volatile(u64::from_ne_bytes(word)),
+                    Err(_) => at.write_volatile(part[0]),
+                }
+                at = at.add(step);
+            }
+            left = rest;
+        }
+        count
+    }
+
+    /// The same slices as `preadv` and its like take them. They are the guest's memory: as long as they are used by the system, what
+    /// they were had of has to stay.
+    pub fn iovecs<'s>(slices: &'s [VolatileSlice<'a>]) -> &'s [libc::iovec] {
+        // SAFETY: a slice has the representation of an iovec.
+        unsafe { std::slice::from_raw_parts(slices.as_ptr().cast(), slices.len()) }
+    }
+
+    /// Reads from a place in a file, by one `preadv`: how many bytes, which may be fewer than there is room for. EFAULT: the frontend took
+    /// that memory away; EINVAL: these are more than 1024 slices.
+    pub fn read_at(slices: &[VolatileSlice<'_>], file: &impl AsRawFd, offset: u64) -> io::Result<usize> {
+        let (parts, offset) = (VolatileSlice::iovecs(slices), place_of(offset)?);
+        // SAFETY: each part is mapped as long as the slices are borrowed, and of a frontend's memory; a list of that length is borrowed.
+        count_of(unsafe { libc::preadv(file.as_raw_fd(), parts.as_ptr(), parts.len() as libc::c_int, offset) })
+    }
+
+    /// Writes to a place in a file, by one `pwritev`: how many bytes. Errors are those of `read_at`.
+    pub fn write_at(slices: &[VolatileSlice<'_>], file: &impl AsRawFd, offset: u64) -> io::Result<usize> {
+        let (parts, offset) = (VolatileSlice::iovecs(slices), place_of(offset)?);
+        // SAFETY: as above.
+        count_of(unsafe { libc::pwritev(file.as_raw_fd(), parts.as_ptr(), parts.len() as libc::c_int, offset) })
+    }
+}
+
+fn place_of(offset: u64) -> io::Result<libc::off_t> {
+    libc::off_t::try_from(offset).map_err(|_| io::Error::from_raw_os_error(libc::EINVAL))
+}
+
+fn count_of(count: isize) -> io::Result<usize> {
+    usize::try_from(count).map_err(|_| io::Error::last_os_error())
+}
+
+/// Slices, and the regions that they lie in, which stay mapped with them.
+pub(crate) struct Slices {
+    list: Vec<VolatileSlice<'static>>,
+    regions: Arc<Regions>,
+}
+
+impl Slices {
+    pub(super) fn of(regions: Arc<Regions>) -> Slices {
+        Slices { list: Vec::new(), regions }
+    }
+
+    /// # Safety
+    ///
+    /// They lie in one of the regions.
+    pub(super) unsafe fn push(&mut self, addr: u64, len: u64) {
+        // SAFETY: the regions stay as long as this does, which lends it no longer.
+        self.list.push(unsafe { VolatileSlice::new(addr, len) });
+    }
+
+    pub(crate) fn count(&self) -> usize {
+        self.list.len()
+    }
+
+    pub(crate) fn list(&self) -> &[VolatileSlice<'_>] {
+        &self.list
+    }
+
+    /// Whether memory that they lie in was taken away.
+    pub(crate) fn are_lost(&self) -> bool {
+        self.regions.iter().any(|region| region.holder().has_lost())
+    }
+
+    /// Takes so many bytes off the beginning of a slice, which has them.
+    pub(crate) fn take_off(&mut self, at: usize, count: usize) {
+        if let Ok(rest) = self.list[at].offset(count) {
+            self.list[at] = rest;
+        }
+    }
+}

@@ -1,0 +1,543 @@
+// SPDX-License-Identifier: Apache-2.0
+//! The queues of `include/covretin_queue.h`: the structs and calls as that header declares them. What each call does, and when each
+//! error comes, stands there. A queue says which bytes are to be read or written, and what is done with them is here, beside it: so a
+//! place is used while it is what the queue said, and the memory that it lies in is held.
+use std::os::raw::c_void;
+use std::ptr::null_mut;
+use std::sync::atomic::{fence, AtomicU16, Ordering};
+use std::sync::Arc;
+
+use super::guest::{Regions, Slices};
+use crate::queue::Error;
+
+/// `covretin_queue`.
+#[repr(C)]
+struct Raw {
+    opaque: *mut c_void,
+}
+
+/// `covretin_guest_region`.
+#[repr(C)]
+struct Region {
+    guest_addr: u64,
+    size: u64,
+    user_addr: u64,
+    host_addr: u64,
+}
+
+/// `covretin_range`.
+#[repr(C)]
+#[derive(Clone, Copy, Default)]
+pub(crate) struct Range {
+    pub(crate) addr: u64,
+    pub(crate) len: u64,
+}
+
+/// `covretin_split_ring`.
+#[repr(C)]
+#[derive(Clone, Copy, Default)]
+pub(crate) struct SplitRing {
+    pub(crate) desc_table: u64,
+    pub(crate) avail_ring: u64,
+    pub(crate) used_ring: u64,
+    pub(crate) size: u16,
+    pub(crate) next_avail: u16,
+    pub(crate) next_used: u16,
+    pub(crate) event_idx: bool,
+    pub(crate) indirect_desc: bool,
+}
+
+/// `covretin_packed_ring`.
+#[repr(C)]
+#[derive(Clone, Copy, Default)]
+pub(crate) struct PackedRing {
+    pub(crate) desc_ring: u64,
+    pub(crate) driver_event: u64,
+    pub(crate) device_event: u64,
+    pub(crate) size: u16,
+    pub(crate) avail: u16,
+    pub(crate) used: u16,
+    pub(crate) event_idx: bool,
+    pub(crate) indirect_desc: bool,
+}
+
+/// `covretin_descriptor`.
+#[repr(C)]
+struct Descriptor {
+    addr: u64,
+    len: u32,
+    third: u16,
+    fourth: u16,
+}
+
+/// `covretin_segment`.
+#[repr(C)]
+#[derive(Default)]
+struct Segment {
+    range: Range,
+    guest_addr: u64,
+    writable: bool,
+}
+
+/// `covretin_used`.
+#[repr(C)]
+#[derive(Default)]
+struct RawUsed {
+    elem: Range,
+    elem_value: u64,
+    then: Range,
+    then_value: u16,
+}
+
+/// `covretin_event_write`.
+#[repr(C)]
+#[derive(Default)]
+struct EventWrite {
+    place: Range,
+    value: u32,
+}
+
+/// `covretin_inflight_write`.
+#[repr(C)]
+#[derive(Clone, Copy, Default)]
+pub(crate) struct InflightWrite {
+    pub(crate) offset: u64,
+    pub(crate) len: u64,
+    pub(crate) value: u64,
+}
+
+/// `covretin_inflight_entry`.
+#[repr(C)]
+#[derive(Clone, Copy, Default)]
+pub(crate) struct InflightEntry {
+    pub(crate) inflight: bool,
+    pub(crate) next: u16,
+    pub(crate) counter: u64,
+}
+
+/// `covretin_resubmit`.
+#[repr(C)]
+#[derive(Clone, Copy, Default)]
+pub(crate) struct Resubmit {
+    pub(crate) counter: u64,
+    pub(crate) head: u16,
+}
+
+/// `covretin_log_bit`.
+#[repr(C)]
+#[derive(Clone, Copy, Default)]
+pub(crate) struct LogBit {
+    pub(crate) byte: u64,
+    pub(crate) mask: u8,
+}
+
+extern "C" {
+    fn covretin_queue_open(queue: &mut Raw) -> u32;
+    fn covretin_queue_close(queue: &mut Raw);
+    fn covretin_queue_set_regions(queue: &mut Raw, regions: *const Region, regions_len: usize) -> u32;
+    fn covretin_queue_translate(queue: &mut Raw, user: bool, addr: u64, len: u64, range: &mut Range) -> u32;
+    fn covretin_queue_start_split(queue: &mut Raw, ring: &SplitRing) -> u32;
+    fn covretin_queue_start_packed(queue: &mut Raw, ring: &PackedRing) -> u32;
+    fn covretin_queue_move_split(queue: &mut Raw, desc_table: u64, avail_ring: u64, used_ring: u64) -> u32;
+    fn covretin_queue_stop(queue: &mut Raw) -> u32;
+    fn covretin_queue_base(queue: &mut Raw, base: &mut u32) -> u32;
+    fn covretin_queue_needs_reset(queue: &mut Raw, needs_reset: &mut bool) -> u32;
+    fn covretin_queue_available_place(queue: &mut Raw, place: &mut Range) -> u32;
+    fn covretin_queue_available(queue: &mut Raw, value: u16, count: &mut u16) -> u32;
+    fn covretin_queue_head_place(queue: &mut Raw, place: &mut Range) -> u32;
+    fn covretin_queue_pop(queue: &mut Raw, head: u16) -> u32;
+    fn covretin_queue_resubmit(queue: &mut Raw, head: u16) -> u32;
+    fn covretin_queue_descriptor_place(queue: &mut Raw, place: &mut Range, found: &mut bool) -> u32;
+    fn covretin_queue_step(queue: &mut Raw, descriptor: &Descriptor, segment: &mut Segment, found: &mut bool) -> u32;
+    fn covretin_queue_add_used(queue: &mut Raw, id: u16, len: u32, used: &mut RawUsed) -> u32;
+    fn covretin_queue_notification_place(queue: &mut Raw, place: &mut Range) -> u32;
+    fn covretin_queue_needs_notification(queue: &mut Raw, value: u16, flags: u16, needed: &mut bool) -> u32;
+    fn covretin_queue_set_notification(queue: &mut Raw, enable: bool, write: &mut EventWrite) -> u32;
+    fn covretin_inflight_take(head: u16, counter: u64, first: &mut InflightWrite, second: &mut InflightWrite);
+    fn covretin_inflight_before_used(head: u16, last: u16, first: &mut InflightWrite, second: &mut InflightWrite);
+    fn covretin_inflight_after_used(head: u16, idx: u16, first: &mut InflightWrite, second: &mut InflightWrite);
+    fn covretin_inflight_recover(
+        entries: *const InflightEntry,
+        entries_len: usize,
+        last_batch_head: u16,
+        used_idx: u16,
+        ring_idx: u16,
+        settled: *mut bool,
+        settled_len: usize,
+        again: *mut Resubmit,
+        again_len: usize,
+        count: &mut usize,
+    ) -> u32;
+    fn covretin_log_pages(addr: u64, len: u64, log_size: u64, first: &mut u64, end: &mut u64) -> u32;
+    fn covretin_log_bit_of(page: u64, bit: &mut LogBit);
+}
+
+fn outcome(number: u32) -> Result<(), Error> {
+    match number {
+        0 => Ok(()),
+        number => Err(Error::of_number(number)),
+    }
+}
+
+/// A chain that was followed to its end.
+pub(crate) struct Chain {
+    /// Its parts: first those that are to be read, then those that are to be written.
+    pub(crate) slices: Slices,
+    /// How many of them are to be read.
+    pub(crate) readable: usize,
+    /// Where the guest has those that are to be written, and their sizes.
+    pub(crate) written: Vec<(u64, u64)>,
+    /// The id of the last descriptor before the chain's end or an indirect table: a packed queue's chain is used by it.
+    pub(crate) id: u16,
+}
+
+/// What was written where a chain was used.
+pub(crate) struct Used {
+    pub(crate) elem: Range,
+    pub(crate) then: Range,
+    pub(crate) then_value: u16,
+}
+
+/// A queue of the proved core, with the memory that it sees, and the memory that its rings are mapped in.
+pub(crate) struct CoreQueue {
+    raw: Raw,
+    seen: Arc<Regions>,
+    rings: Arc<Regions>,
+}
+
+// SAFETY: the header says that a queue has no global state, and asks only that calls with the same one do not overlap; all of them take
+// `&mut self`, but for the drop, which owns it.
+unsafe impl Send for CoreQueue {}
+
+// SAFETY: as above; by a shared reference no call can be made.
+unsafe impl Sync for CoreQueue {}
+
+// SAFETY, of each foreign call below: it is declared as in the header. The queue is open, and borrowed by this call alone; any number may
+// be passed. A struct that is written is one of its own, borrowed for the call, and has the header's layout.
+//
+// SAFETY, of each access to memory: the core is proved to name no range but one that lies inside a region which it was given, and its rings
+// to be aligned there as virtio has it. It was given regions of `Regions` alone: for descriptors those of `seen`, for rings those of
+// `rings`, which both stay mapped while they are held, and are memory of the guest, of which nothing else is in this process. Each value
+// is read once, by a volatile or an atomic access, and any value will do.
+impl CoreQueue {
+    pub(crate) fn open() -> Result<CoreQueue, Error> {
+        let mut raw = Raw { opaque: null_mut() };
+        // SAFETY: as above; it is not open yet.
+        outcome(unsafe { covretin_queue_open(&mut raw) })?;
+        let none = Arc::new(Regions::default());
+        Ok(CoreQueue { raw, seen: none.clone(), rings: none })
+    }
+
+    /// It sees these regions from now on; rings stay where they are mapped.
+    pub(crate) fn set_regions(&mut self, regions: &Arc<Regions>) -> Result<(), Error> {
+        let list: Vec<Region> = regions
+            .iter()
+            .map(|it| Region { guest_addr: it.guest, size: it.size(), user_addr: it.user, host_addr: it.host() })
+            .collect();
+        // SAFETY: as above; the list is borrowed for the call, by its pointer, which is never null, and its own length.
+        outcome(unsafe { covretin_queue_set_regions(&mut self.raw, list.as_ptr(), list.len()) })?;
+        self.seen = regions.clone();
+        Ok(())
+    }
+
+    /// It has no rings and sees no regions any more. (where even that takes memory that is not there, they stay mapped for it)
+    pub(crate) fn let_go(&mut self) {
+        self.stop();
+        let _ = self.set_regions(&Arc::new(Regions::default()));
+    }
+
+    /// The memory that the rings are mapped in.
+    pub(crate) fn ring_regions(&self) -> &Arc<Regions> {
+        &self.rings
+    }
+
+    /// Where a range is mapped: of the frontend's addresses, or else of the guest's.
+    pub(crate) fn translate(&mut self, is_user: bool, addr: u64, len: u64) -> Result<Range, Error> {
+        let mut range = Range::default();
+        // SAFETY: as above.
+        outcome(unsafe { covretin_queue_translate(&mut self.raw, is_user, addr, len, &mut range) })?;
+        Ok(range)
+    }
+
+    /// Where the used ring at this address of the frontend begins here, and its index. Unaligned.
+    pub(crate) fn used_ring(&mut self, used_ring: u64) -> Result<(u64, u16), Error> {
+        let range = self.translate(true, used_ring, 4)?;
+        if range.addr % 2 != 0 {
+            return Err(Error::Unaligned);
+        }
+        // SAFETY: as above, of `seen`; it is aligned.
+        Ok((range.addr, unsafe { load(range.addr + 2) }))
+    }
+
+    pub(crate) fn start_split(&mut self, ring: &SplitRing) -> Result<(), Error> {
+        // SAFETY: as above.
+        outcome(unsafe { covretin_queue_start_split(&mut self.raw, ring) })?;
+        self.rings = self.seen.clone();
+        Ok(())
+    }
+
+    pub(crate) fn start_packed(&mut self, ring: &PackedRing) -> Result<(), Error> {
+        // SAFETY: as above.
+        outcome(unsafe { covretin_queue_start_packed(&mut self.raw, ring) })?;
+        self.rings = self.seen.clone();
+        Ok(())
+    }
+
+    pub(crate) fn move_split(&mut self, desc_table: u64, avail_ring: u64, used_ring: u64) -> Result<(), Error> {
+        // SAFETY: as above.
+        outcome(unsafe { covretin_queue_move_split(&mut self.raw, desc_table, avail_ring, used_ring) })?;
+        self.rings = self.seen.clone();
+        Ok(())
+    }
+
+    pub(crate) fn stop(&mut self) {
+        // SAFETY: as above.
+        let _ = outcome(unsafe { covretin_queue_stop(&mut self.raw) });
+        self.rings = Arc::new(Regions::default());
+    }
+
+    pub(crate) fn base(&mut self) -> Result<u32, Error> {
+        let mut base = 0;
+        // SAFETY: as above.
+        outcome(unsafe { covretin_queue_base(&mut self.raw, &mut base) })?;
+        Ok(base)
+    }
+
+    pub(crate) fn needs_reset(&mut self) -> Result<bool, Error> {
+        let mut needs_reset = false;
+        // SAFETY: as above.
+        outcome(unsafe { covretin_queue_needs_reset(&mut self.raw, &mut needs_reset) })?;
+        Ok(needs_reset)
+    }
+
+    /// How many chains are available.
+    pub(crate) fn available(&mut self) -> Result<u16, Error> {
+        let (mut place, mut count) = (Range::default(), 0);
+        // SAFETY: as above; the place is of `rings`.
+        outcome(unsafe { covretin_queue_available_place(&mut self.raw, &mut place) })?;
+        // SAFETY: as above.
+        outcome(unsafe { covretin_queue_available(&mut self.raw, load(place.addr), &mut count) })?;
+        Ok(count)
+    }
+
+    /// Takes the next head of a split queue, whose chain is followed then.
+    pub(crate) fn pop(&mut self) -> Result<u16, Error> {
+        let mut place = Range::default();
+        // SAFETY: as above; the place is of `rings`.
+        outcome(unsafe { covretin_queue_head_place(&mut self.raw, &mut place) })?;
+        // SAFETY: as above.
+        let head = unsafe { load(place.addr) };
+        // SAFETY: as above.
+        outcome(unsafe { covretin_queue_pop(&mut self.raw, head) })?;
+        Ok(head)
+    }
+
+    /// Takes a head again that was taken before a crash.
+    pub(crate) fn resubmit(&mut self, head: u16) -> Result<(), Error> {
+        // SAFETY: as above.
+        outcome(unsafe { covretin_queue_resubmit(&mut self.raw, head) })
+    }
+
+    /// Follows a chain to its end. ChainTooLong: it has more than so many parts.
+    pub(crate) fn follow(&mut self, most: usize) -> Result<Chain, Error> {
+        let mut chain = Chain { slices: Slices::of(self.seen.clone()), readable: 0, written: Vec::new(), id: 0 };
+        let mut is_indirect = false;
+        loop {
+            let (mut place, mut segment, mut found) = (Range::default(), Segment::default(), false);
+            // SAFETY: as above; the place is of `rings`, or a table's, of `seen`.
+            outcome(unsafe { covretin_queue_descriptor_place(&mut self.raw, &mut place, &mut found) })?;
+            if !found {
+                return Ok(chain);
+            }
+            if chain.slices.count() == most {
+                return Err(Error::ChainTooLong);
+            }
+            // SAFETY: as above.
+            let descriptor = unsafe { load_descriptor(place.addr) };
+            // SAFETY: as above.
+            outcome(unsafe { covretin_queue_step(&mut self.raw, &descriptor, &mut segment, &mut found) })?;
+            if !is_indirect {
+                chain.id = descriptor.third;
+            }
+            is_indirect |= !found;
+            if found {
+                // SAFETY: as above; the slices hold `seen`.
+                unsafe { chain.slices.push(segment.range.addr, segment.range.len) };
+                match segment.writable {
+                    true => chain.written.push((segment.guest_addr, segment.range.len)),
+                    false => chain.readable += 1,
+                }
+            }
+        }
+    }
+
+    /// Gives a chain back; `between` is done once its element was written, and before the driver is told of it.
+    pub(crate) fn add_used(&mut self, id: u16, len: u32, between: impl FnOnce()) -> Result<Used, Error> {
+        let mut used = RawUsed::default();
+        // SAFETY: as above; the places are of `rings`.
+        outcome(unsafe { covretin_queue_add_used(&mut self.raw, id, len, &mut used) })?;
+        // SAFETY: as above.
+        unsafe { store(used.elem, used.elem_value) };
+        between();
+        // SAFETY: as above.
+        unsafe { atomic(used.then.addr) }.store(used.then_value.to_le(), Ordering::Release);
+        Ok(Used { elem: used.elem, then: used.then, then_value: used.then_value })
+    }
+
+    /// Whether the driver is to be told of what was used.
+    pub(crate) fn needs_notification(&mut self) -> Result<bool, Error> {
+        let (mut place, mut needed) = (Range::default(), false);
+        fence(Ordering::SeqCst);
+        // SAFETY: as above; the place is of `rings`.
+        outcome(unsafe { covretin_queue_notification_place(&mut self.raw, &mut place) })?;
+        // SAFETY: as above.
+        let (value, flags) = unsafe { (load(place.addr), if place.len == 4 { load(place.addr + 2) } else { 0 }) };
+        // SAFETY: as above.
+        outcome(unsafe { covretin_queue_needs_notification(&mut self.raw, value, flags, &mut needed) })?;
+        Ok(needed)
+    }
+
+    /// Asks the driver to tell, or not to: what was written, if anything was. A full barrier is behind it.
+    pub(crate) fn set_notification(&mut self, enable: bool) -> Result<Option<Range>, Error> {
+        let mut write = EventWrite::default();
+        // SAFETY: as above; the place is of `rings`.
+        outcome(unsafe { covretin_queue_set_notification(&mut self.raw, enable, &mut write) })?;
+        let place = Some(write.place).filter(|place| place.len != 0);
+        if let Some(place) = place {
+            // SAFETY: as above.
+            unsafe { store(place, write.value.into()) };
+        }
+        fence(Ordering::SeqCst);
+        Ok(place)
+    }
+}
+
+impl Drop for CoreQueue {
+    fn drop(&mut self) {
+        // SAFETY: as above; nobody has it after this.
+        unsafe { covretin_queue_close(&mut self.raw) }
+    }
+}
+
+/// Two bytes of a ring.
+///
+/// # Safety
+///
+/// They are mapped, and aligned, and the reference ends before they are not.
+unsafe fn atomic<'a>(addr: u64) -> &'a AtomicU16 {
+    // SAFETY: as the caller says.
+    unsafe { &*(addr as usize as *const AtomicU16) }
+}
+
+/// # Safety
+///
+/// As above.
+unsafe fn load(addr: u64) -> u16 {
+    // SAFETY: as the caller says.
+    u16::from_le(unsafe { atomic(addr) }.load(Ordering::Acquire))
+}
+
+/// Writes a part of a ring: the first bytes of a value, an even number of them.
+///
+/// # Safety
+///
+/// It is mapped, and aligned to two bytes.
+unsafe fn store(place: Range, value: u64) {
+    for at in 0..place.len / 2 {
+        // SAFETY: as the caller says.
+        unsafe { atomic(place.addr + 2 * at) }.store(((value >> (16 * at)) as u16).to_le(), Ordering::Relaxed);
+    }
+}
+
+/// A descriptor. One of an indirect table may begin anywhere.
+///
+/// # Safety
+///
+/// Its 16 bytes are mapped.
+unsafe fn load_descriptor(addr: u64) -> Descriptor {
+    let words = if addr % 8 == 0 {
+        let at = addr as usize as *const u64;
+        // SAFETY: as the caller says, and it is aligned.
+        unsafe { [u64::from_le(at.read_volatile()), u64::from_le(at.add(1).read_volatile())] }
+    } else {
+        let at = addr as usize as *const u8;
+        let mut words = [0; 2];
+        for place in 0..16 {
+            // SAFETY: as the caller says.
+            words[place / 8] |= u64::from(unsafe { at.add(place).read_volatile() }) << (8 * (place % 8));
+        }
+        words
+    };
+    Descriptor { addr: words[0], len: words[1] as u32, third: (words[1] >> 32) as u16, fourth: (words[1] >> 48) as u16 }
+}
+
+// -- The inflight region, and the dirty log: numbers come of numbers --
+
+/// Two writes, in this order.
+pub(crate) type Notes = [InflightWrite; 2];
+
+/// Notes of a call that writes two of them.
+fn notes(call: impl FnOnce(&mut InflightWrite, &mut InflightWrite)) -> Notes {
+    let (mut first, mut second) = (InflightWrite::default(), InflightWrite::default());
+    call(&mut first, &mut second);
+    [first, second]
+}
+
+pub(crate) fn inflight_take(head: u16, counter: u64) -> Notes {
+    // SAFETY: it is declared as in the header; what it writes is borrowed for the call.
+    notes(|first, second| unsafe { covretin_inflight_take(head, counter, first, second) })
+}
+
+pub(crate) fn inflight_before_used(head: u16, last: u16) -> Notes {
+    // SAFETY: as above.
+    notes(|first, second| unsafe { covretin_inflight_before_used(head, last, first, second) })
+}
+
+pub(crate) fn inflight_after_used(head: u16, idx: u16) -> Notes {
+    // SAFETY: as above.
+    notes(|first, second| unsafe { covretin_inflight_after_used(head, idx, first, second) })
+}
+
+/// What a crash left: of which heads the entry is to be cleared, and which are to be taken again.
+pub(crate) fn inflight_recover(
+    entries: &[InflightEntry],
+    last_batch_head: u16,
+    used_idx: u16,
+    ring_idx: u16,
+) -> Result<(Vec<bool>, Vec<Resubmit>), Error> {
+    let (mut settled, mut again) = (vec![false; entries.len()], vec![Resubmit::default(); entries.len()]);
+    let mut count = 0;
+    // SAFETY: it is declared as in the header. Each list is borrowed for the call, by its pointer, which is never null, and its own
+    // length; they are lists of their own.
+    outcome(unsafe {
+        covretin_inflight_recover(
+            entries.as_ptr(),
+            entries.len(),
+            last_batch_head,
+            used_idx,
+            ring_idx,
+            settled.as_mut_ptr(),
+            settled.len(),
+            again.as_mut_ptr(),
+            again.len(),
+            &mut count,
+        )
+    })?;
+    again.truncate(count);
+    Ok((settled, again))
+}
+
+/// The pages of a range that a log of so many bytes has bits for.
+pub(crate) fn log_pages(addr: u64, len: u64, log_size: u64) -> Result<std::ops::Range<u64>, Error> {
+    let (mut first, mut end) = (0, 0);
+    // SAFETY: it is declared as in the header; what it writes is borrowed for the call.
+    outcome(unsafe { covretin_log_pages(addr, len, log_size, &mut first, &mut end) })?;
+    Ok(first..end)
+}
+
+pub(crate) fn log_bit_of(page: u64) -> LogBit {
+    let mut bit = LogBit::default();
+    // SAFETY: as above.
+    unsafe { covretin_log_bit_of(page, &mut bit) };
+    bit
+}

@@ -1,0 +1,425 @@
+// SPDX-License-Identifier: Apache-2.0
+//! A queue: where it lies, what is taken of it, and what is given back.
+use std::collections::VecDeque;
+
+use super::inflight::Area;
+use super::{DescriptorChain, DirtyLog, Error, GuestAddress, GuestMemory, InflightRegion, Result, MAX_PARTS};
+use crate::foreign::{Chain, CoreQueue, PackedRing, Range, SplitRing};
+
+/// The greatest size of a queue that there is.
+const MAX_SIZE: u16 = 0x8000;
+/// Where a packed queue begins: at the first places, and both wrap counters are 1.
+const FIRST_PACKED: u32 = 0x8000_8000;
+
+/// A virtqueue, split or packed. It is told where it lies, and started by [`set_ready`](Self::set_ready); what a guest does wrong then is
+/// an error, after which it needs a reset: nothing more is taken from it, and what was handed out may still be given back.
+pub struct Queue {
+    core: CoreQueue,
+    max_size: u16,
+    size: u16,
+    desc_table: u64,
+    avail_ring: u64,
+    used_ring: u64,
+    is_packed: bool,
+    has_event_idx: bool,
+    has_indirect: bool,
+    base: Option<u32>,
+    is_ready: bool,
+    /// Whether it lies in no region.
+    is_away: bool,
+    is_broken: bool,
+    /// How many heads may be taken before the index is read again.
+    available: u16,
+    /// Where the used ring of a split queue is mapped.
+    used_at: u64,
+    log: Option<DirtyLog>,
+    log_addr: Option<GuestAddress>,
+    inflight: Option<Area>,
+    /// What is to be taken again.
+    again: VecDeque<u16>,
+}
+
+impl Queue {
+    /// A queue of at most so many descriptors, which sees no memory. InvalidSize: that is 0, or above 32768; OutOfMemory.
+    pub fn new(max_size: u16) -> Result<Queue> {
+        if max_size == 0 || max_size > MAX_SIZE {
+            return Err(Error::InvalidSize);
+        }
+        Ok(Queue {
+            core: CoreQueue::open()?,
+            max_size,
+            size: 0,
+            desc_table: 0,
+            avail_ring: 0,
+            used_ring: 0,
+            is_packed: false,
+            has_event_idx: false,
+            has_indirect: false,
+            base: None,
+            is_ready: false,
+            is_away: false,
+            is_broken: false,
+            available: 0,
+            used_at: 0,
+            log: None,
+            log_addr: None,
+            inflight: None,
+            again: VecDeque::new(),
+        })
+    }
+
+    // -- Where it lies --
+
+    /// It sees this memory from now on. A split queue that is ready is found there; where it lies in none of it, nothing is taken until it
+    /// does, and what it has stays mapped. A packed one stays where it is mapped. OutOfMemory: nothing changed.
+    pub fn set_memory(&mut self, memory: &GuestMemory) -> Result<()> {
+        self.core.set_regions(memory.regions())?;
+        self.find_rings();
+        Ok(())
+    }
+
+    /// The greatest size that it may have.
+    pub fn max_size(&self) -> u16 {
+        self.max_size
+    }
+
+    /// How many descriptors it has; 0: it was not told.
+    pub fn size(&self) -> u16 {
+        self.size
+    }
+
+    /// It has so many descriptors, once it is started. InvalidSize: that is 0, or more than it may have.
+    pub fn set_size(&mut self, size: u16) -> Result<()> {
+        if size == 0 || size > self.max_size {
+            return Err(Error::InvalidSize);
+        }
+        self.size = size;
+        Ok(())
+    }
+
+    /// Where the frontend has the descriptor table, or a packed queue's ring.
+    pub fn set_desc_table_address(&mut self, user_addr: u64) {
+        self.desc_table = user_addr;
+    }
+
+    /// Where the frontend has the available ring, or a packed queue's driver area.
+    pub fn set_avail_ring_address(&mut self, user_addr: u64) {
+        self.avail_ring = user_addr;
+    }
+
+    /// Where the frontend has the used ring, or a packed queue's device area.
+    pub fn set_used_ring_address(&mut self, user_addr: u64) {
+        self.used_ring = user_addr;
+    }
+
+    /// Finds the rings anew where they were told to lie: by a split queue that is ready, whose addresses changed.
+    pub fn find_rings(&mut self) {
+        if !self.is_ready || self.is_packed {
+            return;
+        }
+        let is_there = self.core.move_split(self.desc_table, self.avail_ring, self.used_ring).is_ok();
+        match self.core.used_ring(self.used_ring) {
+            Ok((at, _)) if is_there => (self.used_at, self.is_away) = (at, false),
+            _ => self.is_away = true,
+        }
+    }
+
+    /// Whether it is packed, once it is started: VIRTIO_F_RING_PACKED.
+    pub fn set_packed(&mut self, is_packed: bool) {
+        self.is_packed = is_packed;
+    }
+
+    /// Whether it has event indexes, once it is started: VIRTIO_F_EVENT_IDX.
+    pub fn set_event_idx(&mut self, enabled: bool) {
+        self.has_event_idx = enabled;
+    }
+
+    /// Whether it has event indexes.
+    pub fn event_idx_enabled(&self) -> bool {
+        self.has_event_idx
+    }
+
+    /// Whether it may have indirect tables, once it is started: VIRTIO_F_INDIRECT_DESC.
+    pub fn set_indirect(&mut self, enabled: bool) {
+        self.has_indirect = enabled;
+    }
+
+    /// Where it goes on once it is started, as SET_VRING_BASE has it: an index, and of a packed queue its wrap counter above it, and the
+    /// same of the used ones in the upper 16 bits.
+    pub fn set_base(&mut self, base: u32) {
+        self.base = Some(base);
+    }
+
+    /// The lower 16 bits of the base.
+    pub fn set_next_avail(&mut self, next_avail: u16) {
+        self.base = Some(self.base() & 0xffff_0000 | u32::from(next_avail));
+    }
+
+    /// The upper 16 bits of the base, which a split queue has not: it reads them in the used ring.
+    pub fn set_next_used(&mut self, next_used: u16) {
+        self.base = Some(self.base() & 0xffff | u32::from(next_used) << 16);
+    }
+
+    /// Where it goes on: what GET_VRING_BASE replies.
+    pub fn base(&self) -> u32 {
+        self.base.unwrap_or(if self.is_packed { FIRST_PACKED } else { 0 })
+    }
+
+    /// The lower 16 bits of that.
+    pub fn next_avail(&self) -> u16 {
+        self.base() as u16
+    }
+
+    /// Logs what is written from now on, by the driver's feature LOG_ALL, or nothing. `used_addr` is where the guest has the used ring, if
+    /// what is written there is logged, too (VHOST_VRING_F_LOG). A packed queue's ring is found by itself.
+    pub fn set_log(&mut self, log: Option<DirtyLog>, used_addr: Option<GuestAddress>) {
+        (self.log, self.log_addr) = (log, used_addr);
+    }
+
+    // -- Its life --
+
+    /// Whether it is started.
+    pub fn ready(&self) -> bool {
+        self.is_ready
+    }
+
+    /// Whether its rings lie in its memory.
+    pub(crate) fn is_mapped(&self) -> bool {
+        !self.is_away
+    }
+
+    /// Starts it at its base, or stops it. InvalidSize, NotInGuest, Unaligned, InvalidBase, OutOfMemory: it is not started.
+    pub fn set_ready(&mut self, ready: bool) -> Result<()> {
+        match ready {
+            true => self.start(None),
+            false => {
+                self.stop();
+                Ok(())
+            }
+        }
+    }
+
+    /// Starts a split queue with the part of an inflight region that the queue of this number has, if it has one: where the device before
+    /// was stopped. What that had not given back is handed out again, in its order. InvalidInflight: the part is another queue's; others
+    /// are those of `set_ready`.
+    pub fn start_with(&mut self, inflight: &InflightRegion, queue: usize) -> Result<()> {
+        let area = inflight.area(queue, self.size);
+        self.start(area)
+    }
+
+    fn start(&mut self, inflight: Option<Area>) -> Result<()> {
+        self.stop();
+        match self.is_packed {
+            true => self.start_packed()?,
+            false => self.start_split(inflight)?,
+        }
+        self.is_ready = true;
+        Ok(())
+    }
+
+    fn start_split(&mut self, mut inflight: Option<Area>) -> Result<()> {
+        let (used_at, next_used) = self.core.used_ring(self.used_ring)?;
+        let (mut again, mut next_avail) = (VecDeque::new(), self.next_avail());
+        if let Some(inflight) = &mut inflight {
+            again = inflight.recover(next_used)?.iter().map(|it| it.head).collect();
+            next_avail = next_used.wrapping_add(again.len() as u16);
+        }
+        self.core.start_split(&SplitRing {
+            desc_table: self.desc_table,
+            avail_ring: self.avail_ring,
+            used_ring: self.used_ring,
+            size: self.size,
+            next_avail,
+            next_used,
+            event_idx: self.has_event_idx,
+            indirect_desc: self.has_indirect,
+        })?;
+        (self.used_at, self.inflight, self.again) = (used_at, inflight, again);
+        Ok(())
+    }
+
+    fn start_packed(&mut self) -> Result<()> {
+        let base = self.base();
+        self.core.start_packed(&PackedRing {
+            desc_ring: self.desc_table,
+            driver_event: self.avail_ring,
+            device_event: self.used_ring,
+            size: self.size,
+            avail: base as u16,
+            used: (base >> 16) as u16,
+            event_idx: self.has_event_idx,
+            indirect_desc: self.has_indirect,
+        })
+    }
+
+    fn stop(&mut self) {
+        if self.is_ready {
+            self.base = self.core.base().ok().or(self.base);
+        }
+        self.core.stop();
+        (self.is_ready, self.is_away, self.is_broken) = (false, false, false);
+        self.available = 0;
+        self.inflight = None;
+        self.again.clear();
+    }
+
+    /// Stops it, and lets go of all memory.
+    pub(crate) fn forget(&mut self) {
+        self.reset();
+        self.core.let_go();
+    }
+
+    /// Stops it, and forgets what it was told, but for its memory.
+    pub fn reset(&mut self) {
+        self.stop();
+        (self.size, self.base) = (0, None);
+        (self.desc_table, self.avail_ring, self.used_ring) = (0, 0, 0);
+        (self.is_packed, self.has_event_idx, self.has_indirect) = (false, false, false);
+        (self.log, self.log_addr) = (None, None);
+    }
+
+    /// Whether the driver broke a rule since it was started.
+    pub fn needs_reset(&mut self) -> bool {
+        self.is_broken || self.core.needs_reset().unwrap_or(false)
+    }
+
+    // -- What is available, and what was used --
+
+    /// The next request, if there is one. NotStarted; NeedsReset; NotInGuest to HeadInUse: the driver broke a rule, and the queue needs a
+    /// reset; OutOfMemory, as well.
+    pub fn pop(&mut self) -> Result<Option<DescriptorChain>> {
+        match self.take() {
+            Ok(chain) => Ok(chain),
+            Err(Error::NothingAvailable) => Ok(None),
+            Err(Error::NotStarted) => Err(Error::NotStarted),
+            Err(error) => {
+                self.is_broken = true;
+                Err(error)
+            }
+        }
+    }
+
+    /// The requests that are there, and those that come meanwhile, as [`pop`](Self::pop) has them. After an error there is none.
+    pub fn iter(&mut self) -> Chains<'_> {
+        Chains { queue: self, has_ended: false }
+    }
+
+    fn take(&mut self) -> Result<Option<DescriptorChain>> {
+        if !self.is_ready {
+            return Err(Error::NotStarted);
+        }
+        if self.is_broken {
+            return Err(Error::NeedsReset);
+        }
+        if self.is_away {
+            return Ok(None);
+        }
+        if let Some(head) = self.again.pop_front() {
+            self.core.resubmit(head)?;
+            return Ok(Some(DescriptorChain::of(self.follow()?, head, true)));
+        }
+        if self.available == 0 {
+            self.available = self.core.available()?;
+        }
+        if self.available == 0 {
+            return Ok(None);
+        }
+        self.available -= 1;
+        if self.is_packed {
+            let chain = self.follow()?;
+            let id = chain.id;
+            return Ok(Some(DescriptorChain::of(chain, id, false)));
+        }
+        let head = self.core.pop()?;
+        if let Some(inflight) = &mut self.inflight {
+            inflight.take(head);
+        }
+        Ok(Some(DescriptorChain::of(self.follow()?, head, false)))
+    }
+
+    fn follow(&mut self) -> Result<Chain> {
+        self.core.follow(MAX_PARTS.max(self.size.into()))
+    }
+
+    /// Gives a request back, of which so many bytes were written, from the first that is to be written on. In any order. All that was to be
+    /// written is logged, whatever of it was. NotStarted; NotHandedOut: the device has no such request.
+    pub fn add_used(&mut self, chain: &DescriptorChain, len: u32) -> Result<()> {
+        let (id, inflight) = (chain.id, &self.inflight);
+        if let Some(log) = &self.log {
+            chain.written.iter().for_each(|(guest, size)| log.mark(GuestAddress(*guest), *size));
+        }
+        let used = self.core.add_used(id, len, || inflight.iter().for_each(|inflight| inflight.before_used(id)))?;
+        if let Some(inflight) = &self.inflight {
+            inflight.after_used(id, used.then_value);
+        }
+        self.log_ring(used.elem);
+        self.log_ring(used.then);
+        Ok(())
+    }
+
+    /// Whether the driver is to be told of what was given back since this was last asked. NotStarted.
+    pub fn needs_notification(&mut self) -> Result<bool> {
+        self.core.needs_notification()
+    }
+
+    /// Has the driver tell of what it makes available from now on. Whether something is available already: then it is to be taken first.
+    /// NotStarted.
+    pub fn enable_notification(&mut self) -> Result<bool> {
+        if self.is_away {
+            return Ok(false);
+        }
+        self.notify(true)?;
+        if self.available == 0 {
+            match self.core.available() {
+                Ok(count) => self.available = count,
+                // (what is wrong is told where it is taken)
+                Err(_) => return Ok(true),
+            }
+        }
+        Ok(self.available != 0)
+    }
+
+    /// Has the driver not tell of it, where it can be asked so. NotStarted.
+    pub fn disable_notification(&mut self) -> Result<()> {
+        self.notify(false)
+    }
+
+    fn notify(&mut self, enable: bool) -> Result<()> {
+        if let Some(place) = self.core.set_notification(enable)? {
+            self.log_ring(place);
+        }
+        Ok(())
+    }
+
+    /// Logs bytes of a ring, where they are mapped.
+    fn log_ring(&self, range: Range) {
+        let (log, used) = match (&self.log, self.log_addr) {
+            (Some(log), Some(used)) => (log, used),
+            _ => return,
+        };
+        let at = match self.is_packed {
+            true => self.core.ring_regions().guest_of(range.addr, range.len),
+            false => range.addr.checked_sub(self.used_at).and_then(|into| used.0.checked_add(into)),
+        };
+        at.iter().for_each(|at| log.mark(GuestAddress(*at), range.len));
+    }
+}
+
+/// The requests of a [`Queue`], as they come.
+pub struct Chains<'a> {
+    queue: &'a mut Queue,
+    has_ended: bool,
+}
+
+impl Iterator for Chains<'_> {
+    type Item = Result<DescriptorChain>;
+
+    fn next(&mut self) -> Option<Self::Item> {
+        if self.has_ended {
+            return None;
+        }
+        let next = self.queue.pop();
+        self.has_ended = next.is_err();
+        next.transpose()
+    }
+}

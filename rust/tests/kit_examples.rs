@@ -1,0 +1,171 @@
+// SPDX-License-Identifier: Apache-2.0
+//! The examples over the kit for devices, each a process of its own, and a guest that asks it. Where they are compiled, ./test-rust knows.
+mod common;
+
+use std::env;
+use std::fs::{read, remove_file, write};
+use std::io::Read;
+use std::os::unix::fs::FileExt;
+use std::path::PathBuf;
+use std::process::{Child, Command, Stdio};
+
+use common::machine::*;
+use common::*;
+use covretin::vhost_user::message::VhostUserConfigFlags;
+use covretin::vhost_user::{Frontend, VhostUserFrontend};
+use covretin::VhostBackend;
+
+const FOLDER: &str = "COVRETIN_EXAMPLES";
+const SECTORS: usize = 64;
+
+/// An example that listens.
+struct Example {
+    process: Child,
+    path: PathBuf,
+    image: PathBuf,
+}
+
+impl Example {
+    fn new(name: &str, words: &[&str]) -> Example {
+        let path = |kind: &str| env::temp_dir().join(format!("covretin-{}-{name}.{kind}", std::process::id()));
+        let (socket, image) = (path("sock"), path("img"));
+        write(&image, (0..SECTORS * 512).map(|at| (at / 512) as u8).collect::<Vec<u8>>()).unwrap();
+        let mut program = Command::new(PathBuf::from(env::var_os(FOLDER).expect(FOLDER)).join(name));
+        program.arg(&socket).stdout(Stdio::piped()).stderr(Stdio::null());
+        if let [rings] = words {
+            program.arg(&image).arg(rings);
+        }
+        let process = program.spawn().unwrap();
+        wait_until("it listens", || socket.exists());
+        Example { process, path: socket, image }
+    }
+
+    /// A machine that has begun, with so many queues.
+    fn machine(&self, queues: u64) -> (Frontend, Vec<Ring>) {
+        let mut frontend = Frontend::connect(&self.path, 8).unwrap();
+        agree(&mut frontend, 0);
+        let memory = guest_memory();
+        frontend.set_mem_table(&[region_of(&memory, 0, MEMORY)]).unwrap();
+        let mut rings: Vec<Ring> = (0..queues).map(|index| Ring::in_memory(&memory, index)).collect();
+        rings.iter_mut().for_each(|ring| ring.start(&mut frontend, 0));
+        (frontend, rings)
+    }
+
+    /// It is asked to end: what it printed. None: it ended by the signal.
+    fn end(mut self) -> (Option<i32>, String) {
+        // SAFETY: it is a child that was not waited for.
+        assert_eq!(0, unsafe { libc::kill(self.process.id() as libc::pid_t, libc::SIGTERM) });
+        let mut said = String::new();
+        self.process.stdout.take().unwrap().read_to_string(&mut said).unwrap();
+        (self.process.wait().unwrap().code(), said)
+    }
+}
+
+impl Drop for Example {
+    fn drop(&mut self) {
+        let _ = self.process.kill();
+        let _ = self.process.wait();
+        [&self.path, &self.image].iter().for_each(|path| drop(remove_file(path)));
+    }
+}
+
+/// A request of a disk, in four descriptors from a head on: a header, data, or none, and a status. Where the data are.
+fn ask(ring: &mut Ring, head: u16, kind: u32, sector: u64, data: (u32, u16)) -> u64 {
+    let at = BUFFERS + ring.index * 0x8000 + u64::from(head) * 0x800;
+    let header = [&kind.to_le_bytes()[..], &[0; 4], &sector.to_le_bytes()].concat();
+    ring.memory.write_all_at(&header, at).unwrap();
+    ring.memory.write_all_at(&[0xaa], at + 0x100).unwrap();
+    ring.describe(head, (GUEST + at, 16, NEXT, head + if data.0 == 0 { 2 } else { 1 }));
+    ring.describe(head + 1, (GUEST + at + 0x200, data.0, NEXT | data.1, head + 2));
+    ring.describe(head + 2, (GUEST + at + 0x100, 1, WRITE, 0));
+    ring.post(head);
+    at + 0x200
+}
+
+/// The same, done: its status, and how many bytes were written.
+fn done(ring: &mut Ring, kind: u32, sector: u64, data: (u32, u16)) -> (u8, u32) {
+    let at = ask(ring, 0, kind, sector, data);
+    let (_, written) = ring.used();
+    let mut status = [0];
+    ring.memory.read_exact_at(&mut status, at - 0x100).unwrap();
+    (status[0], written)
+}
+
+#[test]
+#[ignore = "needs COVRETIN_EXAMPLES"]
+fn entropy() {
+    counted(|| {
+        let example = Example::new("entropy", &[]);
+        for _ in 0..2 {
+            let (frontend, mut rings) = example.machine(1);
+            let ring = &mut rings[0];
+            ring.describe(0, (GUEST + BUFFERS, 100, NEXT | WRITE, 1));
+            ring.describe(1, (GUEST + BUFFERS + 200, 66_000, WRITE, 0));
+            ring.post(0);
+            assert_eq!((0, 65536), ring.used());
+            let mut bytes = [0; 70_000];
+            ring.memory.read_exact_at(&mut bytes, BUFFERS).unwrap();
+            let (zeros, end) = (bytes.iter().filter(|it| **it == 0).count(), 200 + 65536 - 100);
+            assert!(zeros < 6000, "{zeros}");
+            assert!(bytes[100..200].iter().chain(&bytes[end..]).all(|it| *it == 0));
+            drop(frontend);
+        }
+        let (status, said) = example.end();
+        assert_eq!(Some(0), status);
+        assert!(said.lines().all(|line| line == "a frontend went: peer disconnected"), "{said}");
+    });
+}
+
+#[test]
+#[ignore = "needs COVRETIN_EXAMPLES"]
+fn disk() {
+    counted(|| {
+        let example = Example::new("disk", &["2"]);
+        let (mut frontend, mut rings) = example.machine(2);
+        let space = frontend.get_config(0, 8, VhostUserConfigFlags::empty(), &[0; 8]).unwrap().1;
+        assert_eq!((SECTORS as u64).to_le_bytes(), *space);
+        assert_eq!((0, 1025), done(&mut rings[0], 0, 5, (1024, WRITE)));
+        let mut bytes = [0; 1024];
+        rings[0].memory.read_exact_at(&mut bytes, BUFFERS + 0x200).unwrap();
+        assert!(bytes[..512].iter().all(|it| *it == 5) && bytes[512..].iter().all(|it| *it == 6));
+        // Several are under way, of two queues, and each is done once.
+        for head in [0, 4, 8] {
+            for ring in &mut rings {
+                ring.memory
+                    .write_all_at(&[0xc0 + head as u8; 512], BUFFERS + ring.index * 0x8000 + u64::from(head) * 0x800 + 0x200)
+                    .unwrap();
+                let sector = 10 + ring.index * 3 + u64::from(head) / 4;
+                ask(ring, head, 1, sector, (512, 0));
+            }
+        }
+        for ring in &mut rings {
+            let mut used = [ring.used(), ring.used(), ring.used()];
+            used.sort_unstable();
+            assert_eq!([(0, 1), (4, 1), (8, 1)], used);
+        }
+        let ring = &mut rings[1];
+        assert_eq!((0, 1), done(ring, 4, 0, (0, 0)));
+        let image = read(&example.image).unwrap();
+        assert!((0..6).all(|sector| image[(10 + sector) * 512..][..512].iter().all(|it| *it as usize == 0xc0 + sector % 3 * 4)));
+        assert_eq!((0, 21), done(ring, 8, 0, (20, WRITE)));
+        // A sector is discarded, and two are zeroed.
+        for (kind, sector, count) in [(11, 20u64, 1u32), (13, 30, 2)] {
+            let part = [&sector.to_le_bytes()[..], &count.to_le_bytes(), &[0; 4]].concat();
+            ring.memory.write_all_at(&part, BUFFERS + 0x8000 + 0x200).unwrap();
+            assert_eq!((0, 1), done(ring, kind, 0, (16, 0)));
+        }
+        let image = read(&example.image).unwrap();
+        let zeros: Vec<usize> = (1..SECTORS).filter(|sector| image[sector * 512..][..512].iter().all(|it| *it == 0)).collect();
+        assert_eq!(vec![20, 30, 31], zeros);
+        // What the disk has not.
+        for (kind, sector, data) in
+            [(0, 64, (512, WRITE)), (1, 63, (1024, 0)), (0, u64::MAX, (512, WRITE)), (0, 0, (100, WRITE)), (0, 0, (512, 0))]
+        {
+            assert_eq!((1, 1), done(ring, kind, sector, data));
+        }
+        assert_eq!((2, 1), done(ring, 99, 0, (512, 0)));
+        assert_eq!((0, 513), done(ring, 0, 0, (512, WRITE)));
+        drop(frontend);
+        assert_eq!(None, example.end().0);
+    });
+}
