@@ -7,8 +7,7 @@
 A command is a line '    $ ..', with those that go on with it. All of a page run in one shell, one after another: of a guide in an empty folder
 with the checkout in `covretin`, of any other page in the checkout. Lines behind a command that begin with no '$' are printed by then, each
 whole, in their order. A command of tests/commands is tried elsewhere, and left out here. /tmp is a folder of the try's own, and cargo takes
-the crates that Debian packages, or those of the folder COVRETIN_CRATES. A command behind one in the background waits for the sockets that
-it names itself.
+the crates that Debian packages. A command behind one in the background waits for the sockets that it names itself.
 
 It prints a line for each page, with its seconds, and last 'N passed, M failed'. Status 0 where all passed, 1 where one did not, 2 after wrong
 arguments.
@@ -36,8 +35,6 @@ PLAYED = {
     "docs/DAEMON.md": "scripts/try_daemon.py",
 }
 GUIDES = "docs/guide/"
-# These need crates that Debian has not packaged yet, in the folder that COVRETIN_CRATES names.
-BEYOND = {"docs/guide/rust.md"}
 
 # What a copy of a checkout leaves out.
 BUILT = (".git", "out", "target", "build")
@@ -116,10 +113,8 @@ def variables(room):
     os.mkdir(f"{room}/bin")
     cargo = shutil.which("cargo")
     if cargo:
-        folder = os.environ.get("COVRETIN_CRATES")
-        source = f"""--config "source.crates-io.replace-with='here'" --config "source.here.directory='{folder}'\"""" if folder else f"--config {TOP}/rust/debian.toml"
         with open(f"{room}/bin/cargo", "w", encoding="utf-8") as file:
-            file.write(f'#!/bin/sh\nexec {cargo} {source} --offline --quiet "$@"\n')
+            file.write(f'#!/bin/sh\nexec {cargo} --config {TOP}/rust/debian.toml --offline --quiet "$@"\n')
         os.chmod(f"{room}/bin/cargo", 0o755)
     return {**os.environ, "PATH": f"{room}/bin:{os.environ['PATH']}", "TMPDIR": f"{room}/tmp", "CARGO_HOME": f"{room}/cargo"}
 
@@ -189,9 +184,6 @@ def main(words):
         return 2
     passed = failed = 0
     for page in words[1:]:
-        if page in BEYOND and not os.environ.get("COVRETIN_CRATES"):
-            print(f"{page}: left out: COVRETIN_CRATES names no folder of crates")
-            continue
         began = time.monotonic()
         wrong = play(words[0], page)
         passed, failed = passed + (wrong is None), failed + (wrong is not None)
