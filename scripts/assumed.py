@@ -23,7 +23,7 @@ READ = {
     "the frontend's answers": ("vhost_protocol", "AnswerTable"),
     "lockstep of a frontend and a backend": ("vhost_pair", "Lockstep"),
     "a split queue": ("vhost_queue", "Queue"),
-    "a packed queue": ("vhost_queue", "PackedRings"),
+    "a packed queue": ("vhost_queue", "Packed"),
 }
 
 # Code that no proof reaches, by its files.
@@ -33,22 +33,23 @@ UNPROVED = {
     "texts in C": ("c/covretin_text.c",),
     "the device kit in C: mapped memory, rings, events": ("c/covretin_device*.[ch]",),
     "calls of C and of the system from Rust, where all `unsafe` is": ("rust/src/foreign/*.rs",),
-    "the other code of the package for Rust": ("rust/src/*.rs", "rust/src/vhost_user/*.rs"),
+    "the package for Rust: sessions, their records": ("rust/src/*.rs", "rust/src/vhost_user/*.rs"),
+    "the device kit in Rust": ("rust/src/device/*.rs", "rust/src/queue/*.rs"),
 }
 
 # What the words of a verdict say.
 WORDS = {
     "logic=proved": "each function is proved to meet its contract, with no hole",
-    "functions": "that many functions of the last crate; those below it are proved in libraries",
-    "axioms": "that many functions in C are assumed to meet a contract: the table above names them",
-    "sum": "the program logic, by its sum",
-    "native": "the checker computes on these by code of its own language",
-    "logic-built=trusted": "the logic was built once, and is taken as it lies in the kit",
-    "libraries-built=trusted": "proved libraries are taken as they were built; the gate builds them from nothing",
-    "statements=trusted": "the statements of the kit's ported crates are read as they stand",
-    "threads": "C functions by which threads begin and end",
+    "functions": "so many are of the last crate; those below are in libraries",
+    "axioms": "so many functions in C are assumed to meet a contract",
+    "sum": "the program logic",
+    "native": "the checker's own code computes on these",
+    "logic-built=trusted": "the logic is the kit's, built once",
+    "libraries-built=trusted": "libraries are as built; the gate proves them from nothing",
+    "statements=trusted": "the kit's ported crates mean their statements",
+    "threads": "functions in C by which threads begin and end",
     "main": "handles that `main` is given",
-    "may-wait": "that many functions may wait",
+    "may-wait": "so many functions may wait",
 }
 
 
@@ -98,7 +99,16 @@ def assumed_rows():
     for name, assumed, words in verdicts():
         if int(words["axioms"]) != len(assumed):
             sys.exit(f"{name} counts {words['axioms']} axioms, and names {len(assumed)}")
-        yield f"| {name} | {words['functions']} | {', '.join(f'`{it}`' for it in assumed)} |"
+        yield f"| {name} | {words['functions']} | {by_crate(assumed)} |"
+
+
+def by_crate(names):
+    """Names of functions, below each crate that declares them."""
+    found = {}
+    for name in names:
+        crate, _, rest = name.partition("::")
+        found.setdefault(crate, []).append(rest)
+    return "; ".join(f"{crate}: {', '.join(rest)}" for crate, rest in found.items())
 
 
 def word_rows():
@@ -108,11 +118,15 @@ def word_rows():
 
 
 def unsafe_rows():
-    """Blocks of unsafe code, by file, in Rattle and in Rust."""
+    """Blocks of unsafe code, by folder, in Rattle and in Rust."""
+    found = {}
     for path in files_of(("crates/*/src/*.rt", "crates/*/src/*/*.rt", "rust/src/*.rs", "rust/src/*/*.rs")):
         count = len(re.findall(r"(?m)^[^/\n]*\bunsafe (?:\{|impl|fn|extern)", text_of(path)))
+        folder = os.path.relpath(os.path.dirname(path), TOP)
+        found[folder] = found.get(folder, 0) + count
+    for folder, count in found.items():
         if count:
-            yield f"| `{os.path.relpath(path, TOP)}` | {count} |"
+            yield f"| `{folder}` | {count} |"
 
 
 def page():
@@ -129,7 +143,7 @@ def page():
         + "\n".join(f"| {of} | {len(modules)} | {lines_in(modules):,} |" for of, modules in readers),
         "## Code that is tested only\n\n| Code | Lines |\n|---|---|\n"
         + "\n".join(f"| {of} | {lines_in(files_of(patterns)):,} |" for of, patterns in UNPROVED.items()),
-        "## Unsafe code\n\nThe blocks in Rattle are proved, too. Each in Rust has its reason beside it.\n\n| File | Blocks |\n|---|---|\n" + "\n".join(unsafe_rows()),
+        "## Unsafe code\n\nThe blocks in Rattle are proved, too. Each in Rust has its reason beside it.\n\n| Folder | Blocks |\n|---|---|\n" + "\n".join(unsafe_rows()),
         "## Tools\n\n"
         "- The checker and its logic: the Rattle kit. Each `.sources` file in `generated/` names the kit and the logic that proved it.\n"
         "- Two code generators: LLVM makes the code that ships, and the kit's own compiles each program once more. The gate compares their outputs.\n"
