@@ -50,7 +50,7 @@ is_testable() {
 # What is played beside the inputs that are kept: of queues some inputs that are made, whose bytes are as they fall.
 fuzzer_made() {
     case $1 in
-    queue) echo --made 60 ;;
+    queue) echo --made 1000 ;;
     esac
 }
 

@@ -9,9 +9,10 @@
 
 static uint8_t bytes[1 << 20];
 
-/* Plays an input that is made of a number. */
+/* Plays an input that is made of a number. Of one in many each allocation fails, of the others one. */
 static void play_made(uint64_t number)
 {
+    at_every_place = number % 32 == 0;
     uint64_t random = (number + 1) * 0x9e3779b97f4a7c15u;
     size_t size = 64 + random % 1984;
     for (size_t i = 0; i < size; i++) {
@@ -32,6 +33,7 @@ int main(int argc, char **argv)
             int count = atoi(argv[++i]);
             for (int number = 0; number < count; number++)
                 play_made((uint64_t)number);
+            at_every_place = true;
             made += count - 2;
             continue;
         }

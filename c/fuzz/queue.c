@@ -7,13 +7,15 @@
 
 /* -- Steps -- */
 
-/* Some regions, or none; or as many as there may be, one less, or more. */
+/* Some regions, or none; or many; or as many as there may be, one less, or more. */
 static void set_regions(uint8_t how, bool is_full)
 {
     static covretin_guest_region regions[MOST_REGIONS + 3];
-    size_t count = is_full ? MOST_REGIONS - 1 + next_byte() % 3 : how % 32 == 31 ? 0 : 1 + how % 4;
+    bool are_many = how == 252;
+    size_t few = how % 32 == 31 ? 0 : 1 + how % 4;
+    size_t count = is_full ? MOST_REGIONS - 1u + next_byte() % 3 : are_many ? 64u + next_byte() % 16 : few;
     for (size_t i = 0; i < count; i++)
-        regions[i] = is_full ? small_region(i) : next_region(i);
+        regions[i] = is_full || are_many ? small_region(i) : next_region(i);
     DOES(SET, covretin_queue_set_regions(&queue, regions, count), model_set_regions(regions, count));
 }
 
@@ -23,7 +25,7 @@ static void change_regions(void)
     covretin_guest_region region = next_region(how % 16);
     covretin_range range;
     if (how % 4 == 0)
-        set_regions(how / 4, false);
+        set_regions(how == 252 ? how : how / 4, false);
     else if (how % 4 == 1)
         DOES(ADD, covretin_queue_add_region(&queue, &region), model_add_region(&region));
     else if (how % 4 == 2) {

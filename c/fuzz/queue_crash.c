@@ -86,7 +86,8 @@ void log_range(void)
     uint8_t how = next_byte();
     uint64_t addr = next_number(), len = next_number(), log_size = next_number(), first = 0, end = 0;
     covretin_log_bit bit;
-    len = how < 128 ? len * 4096 - addr % 4096 + how % 8 : len; /* (it ends where a page does, or near that) */
+    addr = how == 0 ? 0 : addr;
+    len = how < 128 ? len * 4096 - addr % 4096 + how % 8 : how < 144 ? 0 - addr - how % 2 : len; /* (it ends at a page's end, or at the last) */
     log_size = how % 4 == 3 ? addr / 32768 + how / 8 % 3 : log_size;
     bool is_within = len <= UINT64_MAX - addr;
     if (!DOES(LOG, covretin_log_pages(addr, len, log_size, &first, &end), is_within ? 0 : REASON(COVRETIN_QUEUE_NOT_IN_GUEST))) {

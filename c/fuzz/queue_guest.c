@@ -27,7 +27,7 @@ covretin_guest_region next_region(size_t i)
     uint64_t slot = (4 * i + how / 192) % SLOTS, odd = how / 16;
     covretin_guest_region region = region_at(slot * SLOT, SLOT);
     switch (how % 16) {
-    case 0: return odd < 4 ? region_at(0, sizeof memory) : region;
+    case 0: return odd < 8 ? region_at(0, sizeof memory) : region;
     case 1: /* which ends at the last addresses, or beyond */
         region.size = odd % 2 ? SLOT : next_number();
         region.guest_addr = 0 - region.size - odd % 4;
@@ -48,7 +48,7 @@ covretin_guest_region next_region(size_t i)
     return region;
 }
 
-/* A place of so many bytes in a region that is there; or anywhere. */
+/* A place of so many bytes in a region that is there, often at one of its ends, or a byte beyond; or anywhere. */
 static uint64_t next_place(bool user, uint64_t len, uint64_t multiple)
 {
     uint8_t how = next_byte();
@@ -57,7 +57,14 @@ static uint64_t next_place(bool user, uint64_t len, uint64_t multiple)
         return offset;
     const covretin_guest_region *region = &model.regions[how % model.region_count];
     uint64_t room = region->size > len ? region->size - len : 0;
-    offset = how > 240 ? room - (offset & 3) + (how & 1) : room == 0 ? 0 : offset * multiple % room / multiple * multiple;
+    offset = room == 0 ? 0 : offset * multiple % room / multiple * multiple;
+    switch (how / 16) {
+    case 15: offset = room + (how & 1); break;
+    case 14: offset = how & 2 ? room - (how & 1) : 0u - (how & 1); break;
+    case 13: case 12: offset = 0; break;
+    case 11: offset = room; break;
+    default: break;
+    }
     return (user ? region->user_addr : region->guest_addr) + offset;
 }
 
@@ -79,7 +86,7 @@ void next_start(struct start *start)
     start->event_idx = how & 2;
     start->indirect_desc = how & 4;
     if (size >= 250)
-        start->size = (uint16_t)next_number();
+        start->size = (uint16_t)(size < 253 ? next_number() : MOST_SIZE + size - 254u);
     else if (start->layout == SPLIT || size >= 240)
         start->size = (uint16_t)(1 << (size < 224 ? size % 5 : size % 16));
     else
@@ -90,6 +97,8 @@ void next_start(struct start *start)
     if (start->layout == PACKED && start->size != 0 && how < 56) {
         start->avail = (uint16_t)((start->avail & 0x8000) | (start->avail & 0x7fff) % start->size);
         start->used = (uint16_t)((start->used & 0x8000) | (start->used & 0x7fff) % start->size);
+        if (how % 16 == 9) /* (just beyond the ring) */
+            *(how < 32 ? &start->avail : &start->used) = (uint16_t)((start->avail & 0x8000) + start->size);
     }
 }
 
@@ -109,7 +118,7 @@ uint16_t next_head(void)
 {
     uint8_t how = next_byte();
     if (how >= 250 || model.size == 0)
-        return (uint16_t)next_number();
+        return (uint16_t)(how % 2 ? model.size : next_number());
     uint32_t head = how * (model.size / 256 + 1) % model.size;
     for (int i = 0; how < 240 && i < 8 && model.out[head] != 0; i++)
         head = (head + 1) % model.size;
@@ -143,6 +152,7 @@ uint32_t next_event(void)
     uint32_t rounds = 2 * model.size;
     place = how % 8 == 7 ? place : (model.used + rounds - how % 8 % rounds) % rounds;
     place = how % 8 == 7 ? place : place < model.size ? place | 0x8000 : place - model.size;
+    place = how % 64 == 6 ? model.size | (how & 64) << 9 : place;
     return (place & 0xffff) | (how < 192 ? 2u : how < 240 ? how % 4 : (uint32_t)next_number()) << 16;
 }
 
