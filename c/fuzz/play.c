@@ -6,8 +6,17 @@
 
 #include <stdio.h>
 #include <stdlib.h>
+#include <sys/time.h>
 
 static uint8_t bytes[1 << 20];
+
+/* Plays an input, whose calls all return: a minute of this processor's time is more than any takes. */
+static void play(size_t size)
+{
+    static const struct itimerval minute = {.it_value = {.tv_sec = 60}};
+    setitimer(ITIMER_VIRTUAL, &minute, NULL);
+    LLVMFuzzerTestOneInput(bytes, size);
+}
 
 /* Plays an input that is made of a number. Of one in many each allocation fails, of the others one. */
 static void play_made(uint64_t number)
@@ -21,7 +30,7 @@ static void play_made(uint64_t number)
         random ^= random << 17;
         bytes[i] = (uint8_t)(random >> 32);
     }
-    LLVMFuzzerTestOneInput(bytes, size);
+    play(size);
 }
 
 int main(int argc, char **argv)
@@ -42,7 +51,7 @@ int main(int argc, char **argv)
             perror(argv[i]);
             return 2;
         }
-        LLVMFuzzerTestOneInput(bytes, fread(bytes, 1, sizeof bytes, file));
+        play(fread(bytes, 1, sizeof bytes, file));
         fclose(file);
     }
     printf("%d inputs, %lu runs, %lu bytes; errors", argc - 1 + made, tally.runs, tally.bytes);

@@ -124,18 +124,23 @@ static void tell_of(void)
 
 /* -- Whole runs -- */
 
+static void close_it(void)
+{
+    covretin_queue_close(&queue);
+    must(queue.opaque == NULL);
+    model_close();
+    held_count = 0;
+}
+
+/* Stops it; or closes it, and opens it again now or later. */
 static void stop(uint8_t how)
 {
-    if (how < 64) {
-        covretin_queue_close(&queue);
-        must(queue.opaque == NULL);
-        model_close();
-        see();
-        DOES(ADD, covretin_queue_add_region(&queue, &(covretin_guest_region){4096, 4096, 4096, 4096}), REASON(COVRETIN_QUEUE_NO_QUEUE));
-        DOES(STOP, covretin_queue_stop(&queue), model_stop());
-    }
-    uint64_t open = model.is_open ? REASON(COVRETIN_QUEUE_QUEUE_OPEN) : 0;
-    if (DOES(OPEN, covretin_queue_open(&queue), open))
+    bool was_open = model.is_open;
+    if (how < 64)
+        close_it();
+    if (how < 32 && was_open)
+        return;
+    if (DOES(OPEN, covretin_queue_open(&queue), model.is_open ? REASON(COVRETIN_QUEUE_QUEUE_OPEN) : 0))
         model_open();
     else
         DOES(STOP, covretin_queue_stop(&queue), model_stop());
@@ -149,7 +154,9 @@ static void any_step(void)
 {
     struct start it;
     uint8_t which = next_byte();
-    if ((model.layout == STOPPED && which % 4 != 3) || (model.needs_reset && which % 4 == 0))
+    if (!model.is_open && which % 8 == 1)
+        stop(0);
+    if ((model.layout == STOPPED && which % 16 < 12 && next_byte() % 8 != 7) || (model.needs_reset && which % 4 == 0))
         which = 0;
     if (model.layout == STOPPED && model.region_count == 0 && which == 0)
         set_regions(next_byte(), false);
@@ -189,8 +196,7 @@ void run_session(void)
     while (more_steps())
         any_step();
     drain();
-    covretin_queue_close(&queue);
-    model_close();
+    close_it();
     see();
 }
 

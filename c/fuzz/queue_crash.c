@@ -126,38 +126,40 @@ static bool writes(void)
     return device.writes != 0 && device.writes-- != 0;
 }
 
-static void note(const covretin_inflight_write *it)
+/* It has to be this value of a field of so many bytes. */
+static void note(const covretin_inflight_write *it, void *field, size_t size, uint64_t value)
 {
-    must(it->offset <= sizeof device.area && it->len <= sizeof device.area - it->offset && it->len <= 8);
+    must(it->offset == (uint64_t)((uint8_t *)field - (uint8_t *)&device.area) && it->len == size && it->value == value);
     if (writes())
-        memcpy((uint8_t *)&device.area + it->offset, &it->value, it->len);
+        memcpy(field, &it->value, size);
 }
 
 static void device_takes(uint16_t head)
 {
     covretin_inflight_write first, second;
     covretin_inflight_take(head, ++device.counter, &first, &second);
-    note(&first);
+    note(&first, &device.area.desc[head].counter, 8, device.counter);
     if (device.writes != 0)
         device.taken[head] = device.counter;
-    note(&second);
+    note(&second, &device.area.desc[head].inflight, 1, 1);
 }
 
 static void device_gives(uint16_t head)
 {
     covretin_inflight_write first, second;
-    covretin_inflight_before_used(head, device.area.last_batch_head, &first, &second);
+    uint16_t last = device.area.last_batch_head;
+    covretin_inflight_before_used(head, last, &first, &second);
     give(256, head, 0);
     must(error == 0 && out.used.then_value == (uint16_t)(device.ring_idx + 1));
-    note(&first);
-    note(&second);
+    note(&first, &device.area.desc[head].next, 2, last);
+    note(&second, &device.area.last_batch_head, 2, head);
     if (writes()) {
         device.ring_idx = (uint16_t)(device.ring_idx + 1);
         device.taken[head] = 0;
     }
     covretin_inflight_after_used(head, device.ring_idx, &first, &second);
-    note(&first);
-    note(&second);
+    note(&first, &device.area.desc[head].inflight, 1, 0);
+    note(&second, &device.area.used_idx, 2, device.ring_idx);
 }
 
 /* Each head that was taken and not used is taken again, once, in the order in which they were; and no other. */

@@ -62,7 +62,9 @@ static uint64_t refused_region(const covretin_guest_region *regions, size_t coun
 
 uint64_t model_set_regions(const covretin_guest_region *regions, size_t count)
 {
-    uint64_t reasons = WHY(NO_QUEUE, !model.is_open) | WHY(TOO_MANY_REGIONS, count > MOST_REGIONS);
+    uint64_t reasons = WHY(TOO_MANY_REGIONS, count > MOST_REGIONS);
+    if (!model.is_open)
+        return REASON(COVRETIN_QUEUE_NO_QUEUE);
     for (size_t i = 0; i < count; i++)
         reasons |= refused_region(regions, i, &regions[i]);
     if (reasons != 0)
@@ -74,7 +76,7 @@ uint64_t model_set_regions(const covretin_guest_region *regions, size_t count)
 
 uint64_t model_add_region(const covretin_guest_region *region)
 {
-    uint64_t reasons = WHY(NO_QUEUE, !model.is_open) | refused_region(model.regions, model.region_count, region);
+    uint64_t reasons = model.is_open ? refused_region(model.regions, model.region_count, region) : REASON(COVRETIN_QUEUE_NO_QUEUE);
     if (reasons == 0)
         model.regions[model.region_count++] = *region;
     return reasons;
@@ -153,7 +155,9 @@ static uint64_t map(enum layout layout, uint32_t size, const uint64_t parts[3], 
 uint64_t model_start(const struct start *start)
 {
     bool is_packed = start->layout == PACKED, is_power = (start->size & (start->size - 1)) == 0;
-    uint64_t mapped[3], reasons = WHY(NO_QUEUE, !model.is_open) | map(start->layout, start->size, start->parts, mapped);
+    uint64_t mapped[3], reasons = map(start->layout, start->size, start->parts, mapped);
+    if (!model.is_open)
+        return REASON(COVRETIN_QUEUE_NO_QUEUE);
     reasons |= WHY(INVALID_SIZE, start->size == 0 || start->size > MOST_SIZE || (!is_packed && !is_power));
     reasons |= WHY(INVALID_BASE, is_packed && ((start->avail & (WRAP - 1)) >= start->size || (start->used & (WRAP - 1)) >= start->size));
     if (reasons != 0)
