@@ -42,7 +42,7 @@ covretin_guest_region next_region(size_t i)
         region.host_addr += odd % 4 < 2 ? odd : 0;
         region.user_addr += odd % 4 == 2 ? odd : 0;
         break;
-    case 5: region.size = odd == 0 ? 0 : SLOT - odd; break;
+    case 5: region.size = odd < 5 ? 4 * odd : SLOT - odd; break;
     default: region.size = SLOT * (1 + odd % 4); break;
     }
     return region;
