@@ -1,10 +1,10 @@
 # SPDX-License-Identifier: Apache-2.0
-# Which fuzzers there are, and how one is compiled: what ./test-c and ./vhost-fuzz share. They set `top`, and `proved`, the parts of the proved
-# library.
+# Which fuzzers there are, and how one is compiled: what ./test-c and ./vhost-fuzz share. They set `top`, `proved`, the parts of the proved
+# library, and `queues`, that of queues (library.sh), or nothing.
 
 # The sessions that have one: both sides', both joined; both ends' of the backend channel, both joined; the device's on the
-# vhost-user-gpu channel; and both sides' over their sockets.
-fuzzed='asking serving joined channel_asking channel_serving channel_joined display sockets'
+# vhost-user-gpu channel; both sides' over their sockets; and a queue, with its guest.
+fuzzed='asking serving joined channel_asking channel_serving channel_joined display sockets queue'
 
 # The sources of a session's fuzzer, without what makes it a program.
 fuzzer_sources() {
@@ -15,6 +15,7 @@ fuzzer_sources() {
     channel_asking) names='run channel_asking channel_asks' ;;
     channel_serving) names='run channel_serving channel_serves' ;;
     channel_joined) names='run channel_joined channel_asks channel_serves' ;;
+    queue) names='run queue queue_calls queue_crash queue_guest queue_model' ;;
     sockets)
         names='sockets asks serves'
         for glue in socket backend_socket channel_socket display_socket serving transport text; do echo "$top/c/covretin_$glue.c"; done
@@ -33,6 +34,26 @@ fuzzer_flags() {
     esac
 }
 
+# The proved library that it tests.
+fuzzer_proved() {
+    case $1 in
+    queue) echo "$queues" "$top/c/covretin_memory.c" ;;
+    *) echo "$proved" ;;
+    esac
+}
+
+# Whether it can be tested: queues are not where generated/ has none of these sources, and then that is told.
+is_testable() {
+    [ "$1" != queue ] || [ -n "$queues" ] || { echo "queue: left out: generated/ has no queues that are made of these sources"; return 1; }
+}
+
+# What is played beside the inputs that are kept: of queues some inputs that are made, whose bytes are as they fall.
+fuzzer_made() {
+    case $1 in
+    queue) echo --made 1000 ;;
+    esac
+}
+
 # Compiles it to a file, by this compiler, with these flags and sources more.
 compile_fuzzer() {
     session=$1
@@ -40,5 +61,5 @@ compile_fuzzer() {
     compiler=$3
     shift 3
     "$compiler" -std=gnu11 -g -O1 -Wall -Wextra -pedantic -Werror -fno-sanitize-recover=all -I"$top/include" -o "$to" "$@" \
-        $(fuzzer_flags "$session") $(fuzzer_sources "$session") $proved
+        $(fuzzer_flags "$session") $(fuzzer_sources "$session") $(fuzzer_proved "$session")
 }

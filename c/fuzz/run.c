@@ -226,18 +226,23 @@ static bool is_of_socket(enum covretin_error error)
            error == COVRETIN_INVALID_SOCKET_FD || error == COVRETIN_NOT_UNIX_SOCKET || error == COVRETIN_NOT_STREAM_SOCKET;
 }
 
-void outcome(uint32_t what, enum covretin_error error)
+void outcome_of(uint32_t what, uint32_t error)
 {
-    must(!is_of_socket(error));
     note(what * 131 + error);
     must(error < sizeof tally.errors / sizeof *tally.errors);
     tally.errors[error]++;
+    TELL(what, error, run.byte);
+}
+
+void outcome(uint32_t what, enum covretin_error error)
+{
+    must(!is_of_socket(error));
     if (is_starved(error)) {
         must(run.refused != 0);
         run.heard = run.refused;
         run.has_strayed = true;
     }
-    TELL(what, error, run.byte);
+    outcome_of(what, error);
 }
 
 bool is_again(enum covretin_error error)
@@ -247,6 +252,11 @@ bool is_again(enum covretin_error error)
     must(run.heard < run.refused);
     run.heard = run.refused;
     return true;
+}
+
+bool is_heard(void)
+{
+    return run.heard == run.refused;
 }
 
 /* -- Runs -- */
@@ -293,8 +303,10 @@ int LLVMFuzzerTestOneInput(const uint8_t *data, size_t size)
     record(data, size);
     uint64_t random = told_count == 0 ? size : sums[told_count - 1] >> 7;
     run_so((struct way){.most = SIZE_MAX, .end = byte_count}, false);
-    run_so((struct way){.most = 1, .end = byte_count}, false);
-    run_so((struct way){.end = byte_count}, false);
+    if (byte_count != 0) {
+        run_so((struct way){.most = 1, .end = byte_count}, false);
+        run_so((struct way){.end = byte_count}, false);
+    }
     size_t ends = at_every_place ? PLACES : 1;
     for (size_t i = 0; i < ends && i < byte_count; i++)
         end_at(byte_count <= ends ? i : (random + i * (byte_count / ends)) % byte_count);

@@ -17,9 +17,9 @@ int LLVMFuzzerTestOneInput(const uint8_t *data, size_t size);
  * inputs, has one of each tried. */
 extern bool at_every_place;
 
-/* How many runs there were, how many bytes came in them, and how often each error was an outcome. */
+/* How many runs there were, how many bytes came in them, how often each error was an outcome; and how many calls were steps of a queue. */
 extern struct tally {
-    unsigned long runs, bytes, errors[128];
+    unsigned long runs, bytes, errors[128], steps;
 } tally;
 
 /* What a fuzzer has to have: a session's whole life. */
@@ -78,8 +78,14 @@ void tell(const void *bytes, size_t size);
  * since the proved part has no counters of its own. */
 void outcome(uint32_t what, enum covretin_error error);
 
+/* The same of a call that has errors of its own, after none of which a run may go on otherwise. */
+void outcome_of(uint32_t what, uint32_t error);
+
 /* Whether a call is to be made again, since an allocation failed in it, and that left all as it was. */
 bool is_again(enum covretin_error error);
+
+/* Whether each allocation that failed was told by a call. */
+bool is_heard(void);
 
 /* Whether an error is one of an allocation. */
 static inline bool is_starved(enum covretin_error error)
