@@ -51,34 +51,34 @@ as_packed d = record { addr = d.addr; len = d.len; id = d.flags; flags = d.next 
 
 -- the next descriptor of the chain was read
 abbrev pub StepsSplit : List GuestRegion → Descriptor → Result (Option Segment) Refusal → Queue → Queue → Type 0
-StepsSplit rs d r q p = MatchResult r (λ s. split.stepped rs (split.state q) d ≡ Ok (s, split.state p)) (Because (λ e. split.stepped rs (split.state q) d ≡ Err e))
+StepsSplit rs d r q p = MatchResult r (λ s. split.stepped rs (split.state q) d ≡ Ok (s, split.state p)) (Because (λ e. (split.stepped rs (split.state q) d ≡ Err e) × (split.state p ≡ split.refused_step (split.state q))))
 
 abbrev pub StepsPacked : List GuestRegion → Descriptor → Result (Option Segment) Refusal → PackedQueue → PackedQueue → Type 0
-StepsPacked rs d r q p = MatchResult r (λ s. packed.stepped rs q.rings.size (packed.state q) (as_packed d) ≡ Ok (s, packed.state p)) (Because (λ e. packed.stepped rs q.rings.size (packed.state q) (as_packed d) ≡ Err e))
+StepsPacked rs d r q p = MatchResult r (λ s. packed.stepped rs q.rings.size (packed.state q) (as_packed d) ≡ Ok (s, packed.state p)) (Because (λ e. (packed.stepped rs q.rings.size (packed.state q) (as_packed d) ≡ Err e) × (packed.state p ≡ packed.refused_step (packed.state q))))
 
 -- what is available was read: the index of a split queue's available ring, or the flags of a packed queue's next place
 abbrev pub HearsSplit : ℕ → Result ℕ Refusal → Queue → Queue → Type 0
-HearsSplit value r q p = MatchResult r (λ n. (n ≡ moved q.next_avail value) × (split.told q.rings.size (split.state q) value ≡ Ok (split.state p))) (Because (λ e. split.told q.rings.size (split.state q) value ≡ Err e))
+HearsSplit value r q p = MatchResult r (λ n. (n ≡ moved q.next_avail value) × (split.told q.rings.size (split.state q) value ≡ Ok (split.state p))) (Because (λ e. (split.told q.rings.size (split.state q) value ≡ Err e) × (split.state p ≡ split.broken (split.state q))))
 
 abbrev pub HearsPacked : ℕ → Result ℕ Refusal → PackedQueue → PackedQueue → Type 0
-HearsPacked value r q p = MatchResult r (λ n. packed.popped q (packed.state q) value ≡ Ok (nat_lt 0 n, packed.state p)) (Because (λ e. packed.popped q (packed.state q) value ≡ Err e))
+HearsPacked value r q p = MatchResult r (λ n. packed.popped q (packed.state q) value ≡ Ok (nat_lt 0 n, packed.state p)) (Because (λ e. (packed.popped q (packed.state q) value ≡ Err e) × (packed.state p ≡ packed.state q)))
 
--- a head was read from the available ring, or is taken again
-abbrev pub Takes : (Queue → split.State → ℕ → Result split.State Error) → ℕ → Result ⊤ Refusal → Queue → Queue → Type 0
-Takes by head r q p = MatchResult r (λ _. by q (split.state q) head ≡ Ok (split.state p)) (Because (λ e. by q (split.state q) head ≡ Err e))
+-- a head was read from the available ring, or is taken again; and what a refusal leaves
+abbrev pub Takes : (Queue → split.State → ℕ → Result split.State Error) → (split.State → split.State) → ℕ → Result ⊤ Refusal → Queue → Queue → Type 0
+Takes by refused head r q p = MatchResult r (λ _. by q (split.state q) head ≡ Ok (split.state p)) (Because (λ e. (by q (split.state q) head ≡ Err e) × (split.state p ≡ refused (split.state q))))
 
 -- the device is done with a chain: what is to be written
 abbrev pub UsesSplit : ℕ → ℕ → Result Used Refusal → Queue → Queue → Type 0
 UsesSplit head len r q p =
     MatchResult r (λ u. (split.used (split.state q) head ≡ Ok (split.state p))
     × (u ≡ record { elem = at (q.rings.used_ring + 4 + 8 * (q.next_used % q.rings.size)) 8; elem_value = head + 2 ^ 32 * len; then = at (q.rings.used_ring + 2) 2; then_value = p.next_used }))
-    (Because (λ e. split.used (split.state q) head ≡ Err e))
+    (Because (λ e. (split.used (split.state q) head ≡ Err e) × (p ≡ q)))
 
 abbrev pub UsesPacked : ℕ → ℕ → Result Used Refusal → PackedQueue → PackedQueue → Type 0
 UsesPacked id len r q p =
     MatchResult r (λ u. (packed.used q.rings.size (packed.state q) id ≡ Ok (packed.state p))
     × (u ≡ record { elem = at (q.rings.desc_ring + 16 * q.used.index + 8) 6; elem_value = len + 2 ^ 32 * id; then = at (q.rings.desc_ring + 16 * q.used.index + 14) 2; then_value = packed.used_flags q.used.wrap len }))
-    (Because (λ e. packed.used q.rings.size (packed.state q) id ≡ Err e))
+    (Because (λ e. (packed.used q.rings.size (packed.state q) id ≡ Err e) × (p ≡ q)))
 
 -- whether the driver is to be told, by what was read: the index or the flags of a split queue, or the place and the flags of a
 -- packed one

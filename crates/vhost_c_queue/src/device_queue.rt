@@ -32,7 +32,7 @@ pub struct DeviceQueue {
 impl DeviceQueue {
     ghost use Rattle.std.specs.Prelude.{ℕ, ◌<◌, length, remove, slice_index_or, All, true, false};
     ghost use Rattle.vhost_queue.specs.Memory.{is_at, translated, LiesIn};
-    ghost use Rattle.vhost_queue.specs.Queue.{popped, resubmitted};
+    ghost use Rattle.vhost_queue.specs.Queue.{broken, popped, refused_pop, resubmitted};
     ghost use Rattle.vhost_queue.specs.Rings.{table_range, avail_range, used_range};
     ghost use Rattle.vhost_queue.specs.declared.memory.GuestRegion.{GuestRegion};
     ghost use Rattle.vhost_c_queue.specs.DeviceQueue.{Answers, ByLayout, HearsPacked, HearsSplit, StepsPacked, StepsSplit, Takes, Because, IsPacked, IsSplit, StartsPacked, StartsSplit, TellsPacked, TellsSplit, UsesPacked, UsesSplit, available_place, base, descriptor_place, event_write, head_place, needs_reset, notification_place, regions};
@@ -248,7 +248,7 @@ impl DeviceQueue {
 
     /// The next entry of a split queue's available ring was read as this head, whose chain is followed.
     pub fn pop(&mut self, head: u16) -> Result<(), Refusal>
-        ensures takes { ByLayout (Takes popped head result) (λ q p. (result ≡ Err OtherLayout) × (p ≡ q)) (result ≡ Err NotStarted) self.old.ring self.new.ring }
+        ensures takes { ByLayout (Takes popped refused_pop head result) (λ q p. (result ≡ Err OtherLayout) × (p ≡ q)) (result ≡ Err NotStarted) self.old.ring self.new.ring }
         ensures memory { regions self.new ≡ regions self.old }
     {
         match &mut self.ring {
@@ -263,7 +263,7 @@ impl DeviceQueue {
 
     /// This head was a split queue's before a crash, and its chain is followed again.
     pub fn resubmit(&mut self, head: u16) -> Result<(), Refusal>
-        ensures takes { ByLayout (Takes resubmitted head result) (λ q p. (result ≡ Err OtherLayout) × (p ≡ q)) (result ≡ Err NotStarted) self.old.ring self.new.ring }
+        ensures takes { ByLayout (Takes resubmitted broken head result) (λ q p. (result ≡ Err OtherLayout) × (p ≡ q)) (result ≡ Err NotStarted) self.old.ring self.new.ring }
         ensures memory { regions self.new ≡ regions self.old }
     {
         match &mut self.ring {

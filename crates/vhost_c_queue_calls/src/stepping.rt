@@ -1,7 +1,7 @@
 //! What was read.
 
 ghost use Rattle.std.specs.Prelude.{◌≡◌, ℕ, Bool, Option, Result, Err, ⊤};
-ghost use Rattle.vhost_queue.specs.Queue.{popped, resubmitted};
+ghost use Rattle.vhost_queue.specs.Queue.{broken, popped, refused_pop, resubmitted};
 ghost use Rattle.vhost_queue.specs.declared.descriptor.Segment.{Segment as Part};
 ghost use Rattle.vhost_c_queue.specs.DeviceQueue.{Answers, ByLayout, HearsPacked, HearsSplit, StepsPacked, StepsSplit, Takes, TellsPacked, TellsSplit, UsesPacked, UsesSplit, regions};
 ghost use Rattle.vhost_c_queue.specs.Number.{outcome_number};
@@ -39,7 +39,7 @@ pub extern "C" fn covretin_queue_available(
 /// The next entry of a split queue's available ring was read as this head, whose chain is followed.
 #[unsafe(no_mangle)]
 pub extern "C" fn covretin_queue_pop(alloc: Global, queue: &mut QueueHolder, head: u16) -> u32
-    ensures { Calls (λ s t. (r : Result ⊤ Refusal) × (result ≡ outcome_number r) × ByLayout (Takes popped head r) (λ q p. (r ≡ Err OtherLayout) × (p ≡ q)) (r ≡ Err NotStarted) s.ring t.ring × (regions t ≡ regions s)) queue.old.session result queue.new.session }
+    ensures { Calls (λ s t. (r : Result ⊤ Refusal) × (result ≡ outcome_number r) × ByLayout (Takes popped refused_pop head r) (λ q p. (r ≡ Err OtherLayout) × (p ≡ q)) (r ≡ Err NotStarted) s.ring t.ring × (regions t ≡ regions s)) queue.old.session result queue.new.session }
 {
     match queue.take(alloc) {
         None => number_of(Err(Refusal::NoQueue)),
@@ -54,7 +54,7 @@ pub extern "C" fn covretin_queue_pop(alloc: Global, queue: &mut QueueHolder, hea
 /// This head was a split queue's before a crash, and its chain is followed again.
 #[unsafe(no_mangle)]
 pub extern "C" fn covretin_queue_resubmit(alloc: Global, queue: &mut QueueHolder, head: u16) -> u32
-    ensures { Calls (λ s t. (r : Result ⊤ Refusal) × (result ≡ outcome_number r) × ByLayout (Takes resubmitted head r) (λ q p. (r ≡ Err OtherLayout) × (p ≡ q)) (r ≡ Err NotStarted) s.ring t.ring × (regions t ≡ regions s)) queue.old.session result queue.new.session }
+    ensures { Calls (λ s t. (r : Result ⊤ Refusal) × (result ≡ outcome_number r) × ByLayout (Takes resubmitted broken head r) (λ q p. (r ≡ Err OtherLayout) × (p ≡ q)) (r ≡ Err NotStarted) s.ring t.ring × (regions t ≡ regions s)) queue.old.session result queue.new.session }
 {
     match queue.take(alloc) {
         None => number_of(Err(Refusal::NoQueue)),

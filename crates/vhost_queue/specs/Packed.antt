@@ -1,5 +1,5 @@
 -- Where a device stands in a packed queue, and what its steps make of it: virtio 1.2, 2.8.
-use Rattle.std.specs.Prelude.{◌≡◌, ℕ, ◌+◌, ◌-◌, ◌*◌, ◌/◌, ◌%◌, ◌<◌, ◌≤◌, Bool, true, false, not, ◌&&◌, ◌||◌, ◌⊎◌, List, ◌==◌, nat_lt, nat_le, bit_and, bit_or, length, Option, Some, None, Result, Ok, Err, if◌then◌else◌, slice_index_or, slice_set, replicate}
+use Rattle.std.specs.Prelude.{◌≡◌, ℕ, ◌+◌, ◌-◌, ◌*◌, ◌/◌, ◌%◌, ◌<◌, ◌≤◌, Bool, true, false, not, ◌&&◌, ◌||◌, ◌⊎◌, List, ◌==◌, nat_lt, nat_le, bit_and, bit_or, length, Option, Some, None, Result, Ok, Err, if◌then◌else◌, is_some, slice_index_or, slice_set, replicate}
 use Rattle.vhost_queue.specs.Chain.{Following, begun, following, segment_limit, step}
 use Rattle.vhost_queue.specs.declared.descriptor.Descriptor.{Descriptor}
 use Rattle.vhost_queue.specs.declared.descriptor.Segment.{Segment}
@@ -33,6 +33,10 @@ state q = record { avail = q.avail; used = q.used; signalled = q.signalled; out 
 -- the driver broke a rule
 abbrev pub broken : State → State
 broken s = record s { needs_reset = true }
+
+-- what a refused step leaves: the driver broke a rule, unless the chain had ended
+abbrev pub refused_step : State → State
+refused_step s = if is_some s.chain.next then broken s else s
 
 -- the chain at the next place is followed, if the flags there say that it is available
 abbrev pub beginning : State → Result Following Error → Result (Bool × State) Error

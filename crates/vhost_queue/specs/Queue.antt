@@ -1,5 +1,5 @@
 -- Where a device stands in a split queue, and what its steps make of it: virtio 1.2, 2.7.
-use Rattle.std.specs.Prelude.{ℕ, ◌+◌, ◌-◌, ◌*◌, ◌≡◌, ◌≤◌, Bool, true, false, not, ◌&&◌, ◌||◌, List, ◌==◌, nat_lt, bit_and, Option, Some, None, Result, Ok, Err, if◌then◌else◌, slice_index_or, slice_set, replicate}
+use Rattle.std.specs.Prelude.{ℕ, ◌+◌, ◌-◌, ◌*◌, ◌≡◌, ◌≤◌, Bool, true, false, not, ◌&&◌, ◌||◌, List, ◌==◌, nat_lt, bit_and, Option, Some, None, Result, Ok, Err, if◌then◌else◌, is_some, slice_index_or, slice_set, replicate}
 use Rattle.vhost_queue.specs.Chain.{Following, begun, following, segment_limit, step}
 use Rattle.vhost_queue.specs.Notification.{moved, next_index, Passes}
 use Rattle.vhost_queue.specs.declared.descriptor.Descriptor.{Descriptor}
@@ -44,6 +44,14 @@ IsSameQueue q p = (p.rings ≡ q.rings) × (p.event_idx ≡ q.event_idx) × (p.i
 -- the driver broke a rule
 abbrev pub broken : State → State
 broken s = record s { needs_reset = true }
+
+-- what a refused `pop` leaves: the driver broke a rule, unless nothing was available
+abbrev pub refused_pop : State → State
+refused_pop s = if s.next_avail == s.avail_idx then s else broken s
+
+-- what a refused step leaves: the driver broke a rule, unless the chain had ended
+abbrev pub refused_step : State → State
+refused_step s = if is_some s.chain.next then broken s else s
 
 -- the index of the available ring was read
 abbrev pub told : ℕ → State → ℕ → Result State Error

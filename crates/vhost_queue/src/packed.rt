@@ -90,7 +90,7 @@ pub struct PackedQueue {
 impl PackedQueue {
     ghost use Rattle.std.specs.Prelude.{◌⊎◌, replicate, slice_index_or, slice_set, if◌then◌else◌, IfSome, IsSome};
     ghost use Rattle.vhost_queue.specs.Chain.{place_of, table_of, Begins, FollowsOnce, GoesOn};
-    ghost use Rattle.vhost_queue.specs.Packed.{IsNew, IsSameQueue, IsToldOf, as_split, broken, fault_of, gone_on, is_last, popped, state, stepped, used, used_flags};
+    ghost use Rattle.vhost_queue.specs.Packed.{IsNew, IsSameQueue, IsToldOf, as_split, refused_step, fault_of, gone_on, is_last, popped, state, stepped, used, used_flags};
     ghost use Rattle.vhost_queue.specs.PackedRings.{ring_range, driver_range, device_range};
     ghost use Rattle.vhost_queue.specs.Places.{at, Within};
     ghost use Rattle.vhost_queue.specs.Wrap.{number_of, position_of, is_available};
@@ -221,7 +221,7 @@ impl PackedQueue {
         ensures goes_on { IfOk result (λ segment. GoesOn memory.old.regions.items (state self.old).chain segment (state self.new).chain) }
         ensures followed_once { IfOk result (λ segment. IfSome segment (λ _. FollowsOnce (state self.old).chain (state self.new).chain)) }
         ensures taken_once { OnOk result (is_last (state self.old) descriptor ≡ true → slice_index_or (state self.old).out descriptor.id 0 ≡ 0) }
-        ensures kept { OnErr result ((state self.new ≡ state self.old) ⊎ (state self.new ≡ broken (state self.old))) }
+        ensures kept { OnErr result (state self.new ≡ refused_step (state self.old)) }
         ensures rings { IsSameQueue self.old self.new }
         ensures memory { memory.new.regions.items ≡ memory.old.regions.items }
     {

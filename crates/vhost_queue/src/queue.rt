@@ -70,11 +70,11 @@ pub struct Queue {
 }
 
 impl Queue {
-    ghost use Rattle.std.specs.Prelude.{◌%◌, ◌⊎◌, bit_and, if◌then◌else◌, slice_index_or, slice_set, IsSome, IfSome};
+    ghost use Rattle.std.specs.Prelude.{◌%◌, bit_and, if◌then◌else◌, slice_index_or, slice_set, IsSome, IfSome};
     ghost use Rattle.vhost_queue.specs.Chain.{place_of, table_of, Begins, FollowsOnce, GoesOn};
     ghost use Rattle.vhost_queue.specs.Memory.{LiesIn};
     ghost use Rattle.vhost_queue.specs.declared.error.Error.TheVariants.{InvalidSize, OutOfMemory};
-    ghost use Rattle.vhost_queue.specs.Queue.{IsNew, IsSameQueue, state, broken, told, popped, resubmitted, stepped, taken, used, IsToldOf};
+    ghost use Rattle.vhost_queue.specs.Queue.{IsNew, IsSameQueue, state, broken, refused_pop, refused_step, told, popped, resubmitted, stepped, taken, used, IsToldOf};
     ghost use Rattle.vhost_queue.specs.Rings.{table_range, avail_range, used_range};
     ghost use Rattle.vhost_queue.specs.Places.{at, Within};
 
@@ -188,7 +188,7 @@ impl Queue {
         ensures begins { OnOk result (Begins (table_range self.old.rings) (segment_limit self.old.rings.size self.old.indirect_desc) (state self.new).chain) }
         ensures once { OnOk result ((slice_index_or (state self.old).out head false ≡ false) × ((state self.new).out ≡ slice_set (state self.old).out head true)) }
         ensures err { IfErr result (λ e. popped self.old (state self.old) head ≡ Err e) }
-        ensures kept { OnErr result ((state self.new ≡ state self.old) ⊎ (state self.new ≡ broken (state self.old))) }
+        ensures kept { OnErr result (state self.new ≡ refused_pop (state self.old)) }
         ensures rings { IsSameQueue self.old self.new }
     {
         if self.needs_reset {
@@ -259,12 +259,15 @@ impl Queue {
         ensures err { IfErr result (λ e. stepped memory.old.regions.items (state self.old) descriptor ≡ Err e) }
         ensures goes_on { IfOk result (λ segment. GoesOn memory.old.regions.items (state self.old).chain segment (state self.new).chain) }
         ensures once { IfOk result (λ segment. IfSome segment (λ _. FollowsOnce (state self.old).chain (state self.new).chain)) }
-        ensures kept { OnErr result (state self.new ≡ broken (state self.old)) }
+        ensures kept { OnErr result (state self.new ≡ refused_step (state self.old)) }
         ensures rings { IsSameQueue self.old self.new }
         ensures memory { memory.new.regions.items ≡ memory.old.regions.items }
     {
         if self.needs_reset {
             return Err(Error::NeedsReset);
+        }
+        if self.chain.next().is_none() {
+            return Err(Error::ChainEnded);
         }
         let stepped = self.chain.step(memory, descriptor);
         if stepped.is_err() {
