@@ -387,8 +387,6 @@ uint64_t model_step(const covretin_descriptor *it, covretin_segment *segment, bo
     uint64_t reasons = no_rings();
     if (reasons == 0)
         reasons = WHY(NEEDS_RESET, model.needs_reset) | WHY(CHAIN_ENDED, !model.chain.goes_on);
-    if (reasons == REASON(COVRETIN_QUEUE_CHAIN_ENDED) && model.layout == SPLIT)
-        model.needs_reset = true; /* (not as the header has it, by which nothing changes, nor as a packed queue: to go with that) */
     if (reasons != 0)
         return reasons;
     struct link link = link_of(it);

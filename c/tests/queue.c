@@ -89,6 +89,7 @@ static void split_queue(void)
     covretin_queue queue = opened();
     covretin_split_ring ring = split_ring();
     covretin_range place;
+    covretin_descriptor descriptor = {GUEST, 16, 0, 0};
     covretin_segment segments[8];
     covretin_used used;
     covretin_event_write event;
@@ -125,6 +126,9 @@ static void split_queue(void)
     HOLDS(covretin_queue_set_notification(&queue, false, &event) == 0 && event.place.len == 0);
     HOLDS(covretin_queue_base(&queue, &base) == 0 && base == 1);
     HOLDS(covretin_queue_head_place(&queue, &place) == COVRETIN_QUEUE_NOTHING_AVAILABLE);
+    HOLDS(covretin_queue_pop(&queue, 0) == COVRETIN_QUEUE_NOTHING_AVAILABLE);
+    HOLDS(covretin_queue_step(&queue, &descriptor, segments, &on) == COVRETIN_QUEUE_CHAIN_ENDED);
+    HOLDS(covretin_queue_needs_reset(&queue, &on) == 0 && !on);
     HOLDS(covretin_queue_move_split(&queue, USER + 0x8000, USER + 0x8100, USER + 0x8200) == 0);
     HOLDS(covretin_queue_available_place(&queue, &place) == 0 && place.addr == (uint64_t)(uintptr_t)(memory + 0x8102));
     HOLDS(covretin_queue_available(&queue, 7, &count) == COVRETIN_QUEUE_TOO_MANY_AVAILABLE);
