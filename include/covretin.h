@@ -180,7 +180,7 @@ typedef struct covretin_region {
 
 /* Where a ring lies. The three addresses of its parts are the caller's own (user_addr and on), log_addr is the guest's. */
 typedef struct covretin_vring {
-    uint16_t queue_max_size; /* not sent; covretin_ask_set_vring_num tells the size */
+    uint16_t queue_max_size; /* not sent; covretin_ask_set_vring_num sends the size */
     uint16_t queue_size;     /* likewise */
     uint32_t flags;          /* bit 0: writes to the used ring are logged */
     uint64_t desc_table_addr;

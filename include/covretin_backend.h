@@ -31,7 +31,7 @@
  *   where that comes before SET_FEATURES, as from QEMU's network cards. What is started and not enabled has no side effect: a
  *   network device gives the guest no packets, and drops those that it sends.
  * VIRTIO_F_VERSION_1, bit 32 of the virtio features: where it was accepted, rings and the device's own records are little endian.
- *   Else they are in the guest's byte order, and nothing tells which that is: nobody serves SET_VRING_ENDIAN. So a device offers it.
+ *   Else they are in the guest's byte order, and nothing says which that is: nobody serves SET_VRING_ENDIAN. So a device offers it.
  *
  * WHO OWNS WHAT
  * Buffers: each pointer is borrowed for the call alone. What is `const` is only read; the others are only written, from
@@ -163,7 +163,7 @@ enum covretin_error covretin_backend_to_send(covretin_backend *backend, uint8_t 
  * nothing changed. All others refuse the request: the device is asked nothing, nothing of the request is left, and *call was
  * not written. INVALID_MESSAGE: it is malformed, its number is none of 1 to 44, or under VHOST nobody serves it; close the
  * session, once what is to be sent was sent. INVALID_OPERATION: under STANDARD nobody serves it, or postcopy is in another state.
- * INACTIVE_FEATURE, INACTIVE_OPERATION: it wants a feature that was not accepted, which covretin_backend_inactive tells.
+ * INACTIVE_FEATURE, INACTIVE_OPERATION: it wants a feature that was not accepted, which covretin_backend_inactive says.
  * INVALID_PARAM, INCORRECT_FDS, FRONTEND_INTERNAL_ERROR: its arguments are wrong. OUT_OF_MEMORY, SOCKET_RETRY: an allocation
  * failed. SOCKET_BROKEN: the session had ended before: close it. */
 enum covretin_error covretin_backend_next(covretin_backend *backend, uint32_t *call);

@@ -40,7 +40,7 @@
  *
  * THREADS: covretin_device_serve calls back, one call at a time, and nothing else does. A callback may call covretin_request_done,
  * covretin_request_take and covretin_device_stop. Calls with one device must not overlap in time, but for these: any thread may call the
- * first two at any time, and the last until covretin_device_close begins, also in a signal handler. After covretin_device_serve has told the
+ * first two at any time, and the last until covretin_device_close begins, also in a signal handler. After covretin_device_serve has reported the
  * end, and after covretin_device_close began, nothing is called back.
  *
  * ERRORS are those of covretin.h, and of a queue those of covretin_queue.h. errno says more after SOCKET_ERROR.
@@ -109,7 +109,7 @@ typedef struct covretin_device_calls {
     bool (*read_config)(void *own, uint32_t offset, uint8_t *bytes, uint32_t size);
     bool (*write_config)(void *own, uint32_t offset, const uint8_t *bytes, uint32_t size);
 
-    /* Whether the configuration space has changed since this was last asked, or read: then the frontend is told, over the backend channel, that
+    /* Whether the configuration space has changed since this was last asked, or read: then the frontend is notified, over the backend channel, that
      * it is to read it again. Asked five times a second, as long as there is that channel, which this part keeps then. */
     bool (*config_changed)(void *own);
 
@@ -152,7 +152,7 @@ int covretin_device_fd(const covretin_device *device);
  * session, and each further call returns the same: DISCONNECTED, PARTIAL_MESSAGE, INVALID_MESSAGE: the frontend went, between two requests,
  * in a header, in a body, or the last sent what is none; MEMORY_LOST: it took memory away that was in use, or went while a page was waited
  * for; STOPPED: covretin_device_stop; OUT_OF_MEMORY, SOCKET_ERROR, SOCKET_BROKEN, FDS_LOST: as of covretin_next_call. The frontend is hung
- * up on at once; where the device has requests, the end is told once they are done, so that the next frontend finds nothing under way.
+ * up on at once; where the device has requests, the end is reported once they are done, so that the next frontend finds nothing under way.
  * NO_SESSION. */
 enum covretin_error covretin_device_serve(covretin_device *device);
 
@@ -165,7 +165,7 @@ void covretin_device_close(covretin_device *device);
 
 /* -- Requests --------------------------------------------------------------------------------------------------------- */
 
-/* The request is done, and so many bytes were written, from the first that is to be written on: the driver is told. From any thread. It is
+/* The request is done, and so many bytes were written, from the first that is to be written on: the driver is notified. From any thread. It is
  * no more. Where the session has ended meanwhile the driver hears nothing. */
 void covretin_request_done(covretin_request *request, uint32_t written);
 

@@ -24,7 +24,7 @@
  *     covretin_queue_notification_place(&queue, &place);         what the driver asks for; a full barrier lies before
  *     covretin_queue_needs_notification(&queue, read16(place), 0, &told_of);
  *
- * Of a packed queue the same but for the heads: covretin_queue_available takes the flags of the next place, and tells one chain at
+ * Of a packed queue the same but for the heads: covretin_queue_available takes the flags of the next place, and reports one chain at
  * most, which is followed at once. Its id, by which it is used, is that of the last descriptor that was read before the chain's end
  * or an indirect table. Four bytes are read for covretin_queue_needs_notification: a place and flags.
  *
@@ -158,7 +158,7 @@ typedef struct covretin_used {
     uint16_t then_value;
 } covretin_used;
 
-/* What is to be written so that the driver tells or does not tell: the first place.len bytes of a value, little-endian. 0: none. */
+/* What is to be written so that the driver notifies or does not: the first place.len bytes of a value, little-endian. 0: none. */
 typedef struct covretin_event_write {
     covretin_range place;
     uint32_t value;
@@ -261,18 +261,18 @@ enum covretin_queue_error covretin_queue_step(covretin_queue *queue, const covre
  * chains, and from a queue that needs a reset, too. NOT_HANDED_OUT. */
 enum covretin_queue_error covretin_queue_add_used(covretin_queue *queue, uint16_t id, uint32_t len, covretin_used *used);
 
-/* What the driver wants to be told: two bytes, or four of a packed queue; and that they were read as this, the last two of four as
- * flags: whether the driver is to be told of what was used since this was last asked. */
+/* When the driver wants a notification: two bytes, or four of a packed queue; and that they were read as this, the last two of four as
+ * flags: whether the driver is to be notified of what was used since this was last asked. */
 enum covretin_queue_error covretin_queue_notification_place(covretin_queue *queue, covretin_range *place);
 enum covretin_queue_error covretin_queue_needs_notification(covretin_queue *queue, uint16_t value, uint16_t flags, bool *needed);
 
-/* What is to be written so that the driver tells, or does not tell, of what it makes available from now on. After it was asked to
- * tell, what is available is to be read again, behind a full barrier. */
+/* What is to be written so that the driver notifies, or does not, of what it makes available from now on. After it was asked to
+ * notify, what is available is to be read again, behind a full barrier. */
 enum covretin_queue_error covretin_queue_set_notification(covretin_queue *queue, bool enable, covretin_event_write *write);
 
 /* -- The inflight region of a split queue ----------------------------------------------------------------------------
  * A queue's area has 16 bytes, and 16 for each descriptor. Each of these writes twice, in this order: once a head was taken and
- * before it is served, with a counter that goes on by one each time; before the used ring's index tells of it, with the head that
+ * before it is served, with a counter that goes on by one each time; before the used ring's index has it, with the head that
  * was used before; and after that index, which is given, was written. */
 void covretin_inflight_take(uint16_t head, uint64_t counter, covretin_inflight_write *first, covretin_inflight_write *second);
 void covretin_inflight_before_used(uint16_t head, uint16_t last, covretin_inflight_write *first, covretin_inflight_write *second);
