@@ -40,8 +40,8 @@
  *
  * THREADS: covretin_device_serve calls back, one call at a time, and nothing else does. A callback may call covretin_request_done,
  * covretin_request_take and covretin_device_stop. Calls with one device must not overlap in time, but for these: any thread may call the
- * first two at any time, and the last until covretin_device_close begins, also in a signal handler. After covretin_device_serve has reported the
- * end, and after covretin_device_close began, nothing is called back.
+ * first two at any time, and the last until covretin_device_close begins, also in a signal handler. After covretin_device_serve has
+ * reported the end, and after covretin_device_close began, nothing is called back.
  *
  * ERRORS are those of covretin.h, and of a queue those of covretin_queue.h. errno says more after SOCKET_ERROR.
  */
@@ -109,8 +109,8 @@ typedef struct covretin_device_calls {
     bool (*read_config)(void *own, uint32_t offset, uint8_t *bytes, uint32_t size);
     bool (*write_config)(void *own, uint32_t offset, const uint8_t *bytes, uint32_t size);
 
-    /* Whether the configuration space has changed since this was last asked, or read: then the frontend is notified, over the backend channel, that
-     * it is to read it again. Asked five times a second, as long as there is that channel, which this part keeps then. */
+    /* Whether the configuration space has changed since this was last asked, or read: then the frontend is notified, over the backend
+     * channel, that it is to read it again. Asked five times a second, as long as there is that channel, which this part keeps then. */
     bool (*config_changed)(void *own);
 
     /* The device is as it was at first; it has no request. */
@@ -165,8 +165,8 @@ void covretin_device_close(covretin_device *device);
 
 /* -- Requests --------------------------------------------------------------------------------------------------------- */
 
-/* The request is done, and so many bytes were written, from the first that is to be written on: the driver is notified. From any thread. It is
- * no more. Where the session has ended meanwhile the driver hears nothing. */
+/* The request is done, and so many bytes were written, from the first that is to be written on: the driver is notified. From any thread.
+ * It is no more. Where the session has ended meanwhile the driver hears nothing. */
 void covretin_request_done(covretin_request *request, uint32_t written);
 
 /* Takes a request of a queue of `taken_queues`, which is as one that was handed out: of the device that has this request, from any thread; or
