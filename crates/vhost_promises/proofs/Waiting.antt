@@ -29,11 +29,11 @@ module _ {H B G Dev : Type 0} (gives : Dev → (c : Call H B G) → Answer c →
   Behind t answers later rest s' = t.profile ≡ Standard → AllAnswered t answers later rest s'
 
   -- a call that changed nothing
-  unchanged : (s mid s' : Session) (a : Result ⊤ Error) (e : Error) (answers : List (Result ⊤ Error)) (now later : List (Item H)) (first rest : List (Cell H)) → s.profile ≡ Standard
+  unchanged : (s mid s' : Session) (d between : Dev) (e : Error) (a : Result ⊤ Error) (answers : List (Result ⊤ Error)) (now later : List (Item H)) (first rest : List (Cell H)) → s.profile ≡ Standard
       → (AllAnswered s answers later rest s' → AllAnswered s (Err e ∷ answers) (now ++ later) rest s')
-      → a ≡ Err e → first ≡ [] → mid ≡ s → Behind mid answers later rest s' → AllAnswered s (a ∷ answers) (now ++ later) (first ++ rest) s'
+      → Handles s d (Err e) a first mid between → Behind mid answers later rest s' → AllAnswered s (a ∷ answers) (now ++ later) (first ++ rest) s'
   unfolding Behind
-  unchanged s mid s' a e answers now later first rest standard adds is silent same behind =
+  unchanged s mid s' d between e a answers now later first rest standard adds (is, silent, same, still) behind =
       let left : AllAnswered s answers later rest s' = subst (λ (t : Session). AllAnswered t answers later rest s') same (behind (ap (λ (t : Session). t.profile) same ∙ standard)) in
       subst (λ (x : Result ⊤ Error). AllAnswered s (x ∷ answers) (now ++ later) (first ++ rest) s') (sym is) (subst (λ (cells : List (Cell H)). AllAnswered s (Err e ∷ answers) (now ++ later) (cells ++ rest) s') (sym silent) (adds left))
 
@@ -50,17 +50,17 @@ module _ {H B G Dev : Type 0} (gives : Dev → (c : Call H B G) → Answer c →
   -- a call of a session that has not ended
   one : (s mid s' : Session) (d between : Dev) (outcome : Result (Message FrontendReq H) Error) (a : Result ⊤ Error) (answers : List (Result ⊤ Error)) (now later : List (Item H)) (first rest : List (Cell H)) → s.profile ≡ Standard
       → s.failed ≡ None → IsHeard now outcome → Handles s d outcome a first mid between → Behind mid answers later rest s' → AllAnswered s (a ∷ answers) (now ++ later) (first ++ rest) s'
-  one s mid s' d between (Err e) a answers now later first rest standard sound came (is, silent, same, still) behind =
-      unchanged s mid s' a e answers now later first rest standard (λ left. not_whole e now sound came left) is silent same behind
+  one s mid s' d between (Err e) a answers now later first rest standard sound came handles behind =
+      unchanged s mid s' d between e a answers now later first rest standard (λ left. not_whole e now sound came left) handles behind
   one s mid s' d between (Ok m) a answers now later first rest standard sound came meets behind =
       met s mid s' d between m a answers now later first rest standard sound came meets behind
 
   -- a call, by whether the session has ended
   unless : (mark : Option ℤ) (s mid s' : Session) (d between : Dev) (now later : List (Item H)) (a : Result ⊤ Error) (answers : List (Result ⊤ Error)) (first rest : List (Cell H)) → s.profile ≡ Standard → s.failed ≡ mark
       → run.ServesUnless request_of allows_handles (λ (t : Session). t.failed) Meets mark s d now a first mid between → Behind mid answers later rest s' → AllAnswered s (a ∷ answers) (now ++ later) (first ++ rest) s'
-  unless (Some n) s mid s' d between now later a answers first rest standard failed (empty, is, silent, same, still) behind =
-      unchanged s mid s' a (SocketBroken (Raw n)) answers now later first rest standard
-      (λ left. subst (λ (items : List (Item H)). AllAnswered s (Err (SocketBroken (Raw n)) ∷ answers) (items ++ later) rest s') (sym empty) (ended n failed left)) is silent same behind
+  unless (Some n) s mid s' d between now later a answers first rest standard failed (empty, handles) behind =
+      unchanged s mid s' d between (SocketBroken (Raw n)) a answers now later first rest standard
+      (λ left. subst (λ (items : List (Item H)). AllAnswered s (Err (SocketBroken (Raw n)) ∷ answers) (items ++ later) rest s') (sym empty) (ended n failed left)) handles behind
   unless None s mid s' d between now later a answers first rest standard failed (outcome, hears, handles) behind =
       one s mid s' d between outcome a answers now later first rest standard failed hears handles behind
 
