@@ -96,10 +96,15 @@ def verdicts():
 
 
 def assumed_rows():
+    """A row for each proved code, with the machines of which it is the same."""
+    rows = {}
     for name, assumed, words in verdicts():
         if int(words["axioms"]) != len(assumed):
             sys.exit(f"{name} counts {words['axioms']} axioms, and names {len(assumed)}")
-        yield f"| {name} | {words['functions']} | {by_crate(assumed)} |"
+        code, _, machine = name.partition(", ")
+        rows.setdefault(f"{words['functions']} | {by_crate(assumed)}", {}).setdefault(code, []).append(machine)
+    for row, codes in rows.items():
+        yield f"| {', '.join(f'`{code}`: {', '.join(machines)}' for code, machines in codes.items())} | {row} |"
 
 
 def by_crate(names):
