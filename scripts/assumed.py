@@ -104,7 +104,8 @@ def assumed_rows():
         code, _, machine = name.partition(", ")
         rows.setdefault(f"{words['functions']} | {by_crate(assumed)}", {}).setdefault(code, []).append(machine)
     for row, codes in rows.items():
-        yield f"| {', '.join(f'`{code}`: {', '.join(machines)}' for code, machines in codes.items())} | {row} |"
+        names = (f"`{code}`, {' and '.join(machines)}" for code, machines in codes.items())
+        yield f"| {'; '.join(names)} | {row} |"
 
 
 def by_crate(names):

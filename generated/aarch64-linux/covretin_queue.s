@@ -3974,36 +3974,29 @@ covretin_queue_step:
 	stur	q0, [x29, #-64]
 	tbz	w10, #0, .Lcovretin_BB_17fa37a3_9
 	mov	w9, #19
-	b	.Lcovretin_BB_17fa37a3_25
+	b	.Lcovretin_BB_17fa37a3_28
 .Lcovretin_BB_17fa37a3_5:
 	mov	w0, #101
-	b	.Lcovretin_BB_17fa37a3_27
+	b	.Lcovretin_BB_17fa37a3_30
 .Lcovretin_BB_17fa37a3_6:
 	str	x19, [x0]
 	mov	w0, #103
-	b	.Lcovretin_BB_17fa37a3_27
+	b	.Lcovretin_BB_17fa37a3_30
 .Lcovretin_BB_17fa37a3_7:
 	stur	w8, [x29, #-8]
 	ldrb	w8, [x19, #168]
 	stur	x9, [x29, #-16]
-	cmp	w8, #1
 	sturh	w20, [x29, #-4]
 	sturh	w21, [x29, #-2]
 	stp	q0, q0, [x29, #-64]
 	stur	q0, [x29, #-32]
-	b.ne	.Lcovretin_BB_17fa37a3_15
-	mov	w8, wzr
+	tbz	w8, #0, .Lcovretin_BB_17fa37a3_15
 	mov	w9, #19
-	mov	w10, #1
-	ldp	q0, q1, [sp, #32]
-	stp	q0, q1, [sp, #64]
-	str	x19, [x0]
-	cbnz	w10, .Lcovretin_BB_17fa37a3_26
 	b	.Lcovretin_BB_17fa37a3_20
 .Lcovretin_BB_17fa37a3_9:
 	ldrb	w10, [x19, #122]
 	cmp	w10, #1
-	b.ne	.Lcovretin_BB_17fa37a3_17
+	b.ne	.Lcovretin_BB_17fa37a3_18
 	ldrb	w10, [x19, #170]
 	ldrh	w11, [x19, #124]
 	cmp	w10, #1
@@ -4011,11 +4004,11 @@ covretin_queue_step:
 	ldrh	w13, [x19, #168]
 	ldrh	w12, [x19, #40]
 	cmp	w12, w13
-	b.ls	.Lcovretin_BB_17fa37a3_23
+	b.ls	.Lcovretin_BB_17fa37a3_26
 	mov	w13, #5
 	and	w13, w21, w13
 	cmp	w13, #1
-	b.ne	.Lcovretin_BB_17fa37a3_32
+	b.ne	.Lcovretin_BB_17fa37a3_35
 .Lcovretin_BB_17fa37a3_13:
 	ldrh	w12, [x19, #120]
 	add	w13, w11, #1
@@ -4040,7 +4033,7 @@ covretin_queue_step:
 	sturh	w11, [x29, #-2]
 	bl	"vhost_queue::chain::DescriptorChain::step"
 	ldurb	w10, [x29, #-64]
-	cbz	w10, .Lcovretin_BB_17fa37a3_28
+	cbz	w10, .Lcovretin_BB_17fa37a3_31
 	ldurb	w9, [x29, #-63]
 	mov	w11, #1
 	mov	w8, wzr
@@ -4050,9 +4043,12 @@ covretin_queue_step:
 	ldp	q0, q1, [sp]
 	stp	q0, q1, [sp, #64]
 	str	x19, [x23]
-	cbnz	w10, .Lcovretin_BB_17fa37a3_26
-	b	.Lcovretin_BB_17fa37a3_20
+	cbnz	w10, .Lcovretin_BB_17fa37a3_29
+	b	.Lcovretin_BB_17fa37a3_23
 .Lcovretin_BB_17fa37a3_15:
+	ldrb	w8, [x19, #122]
+	cmp	w8, #1
+	b.ne	.Lcovretin_BB_17fa37a3_19
 	mov	x20, x0
 	mov	x21, x2
 	mov	x22, x3
@@ -4062,54 +4058,64 @@ covretin_queue_step:
 	mov	x2, x19
 	bl	"vhost_queue::chain::DescriptorChain::step"
 	ldurb	w10, [x29, #-64]
-	cbz	w10, .Lcovretin_BB_17fa37a3_18
+	cbz	w10, .Lcovretin_BB_17fa37a3_21
 	ldurb	w9, [x29, #-63]
 	mov	w11, #1
 	mov	w8, wzr
 	strb	w11, [x19, #168]
-	b	.Lcovretin_BB_17fa37a3_19
-.Lcovretin_BB_17fa37a3_17:
-	mov	w9, #21
-	b	.Lcovretin_BB_17fa37a3_25
+	b	.Lcovretin_BB_17fa37a3_22
 .Lcovretin_BB_17fa37a3_18:
+	mov	w9, #21
+	b	.Lcovretin_BB_17fa37a3_28
+.Lcovretin_BB_17fa37a3_19:
+	mov	w9, #21
+.Lcovretin_BB_17fa37a3_20:
+	mov	w8, wzr
+	mov	w10, #1
+	ldp	q0, q1, [sp, #32]
+	stp	q0, q1, [sp, #64]
+	str	x19, [x0]
+	cbnz	w10, .Lcovretin_BB_17fa37a3_29
+	b	.Lcovretin_BB_17fa37a3_23
+.Lcovretin_BB_17fa37a3_21:
 	ldp	q0, q1, [x29, #-48]
 	mov	w9, wzr
 	ldurb	w8, [x29, #-56]
 	stp	q0, q1, [sp, #32]
-.Lcovretin_BB_17fa37a3_19:
+.Lcovretin_BB_17fa37a3_22:
 	mov	x3, x22
 	mov	x2, x21
 	ldp	q0, q1, [sp, #32]
 	stp	q0, q1, [sp, #64]
 	str	x19, [x20]
-	cbnz	w10, .Lcovretin_BB_17fa37a3_26
-.Lcovretin_BB_17fa37a3_20:
+	cbnz	w10, .Lcovretin_BB_17fa37a3_29
+.Lcovretin_BB_17fa37a3_23:
 	cmp	w8, #1
-	b.ne	.Lcovretin_BB_17fa37a3_22
+	b.ne	.Lcovretin_BB_17fa37a3_25
 	ldp	q0, q1, [sp, #64]
 	mov	w0, wzr
 	stp	q0, q1, [x2]
 	strb	w8, [x3]
-	b	.Lcovretin_BB_17fa37a3_27
-.Lcovretin_BB_17fa37a3_22:
+	b	.Lcovretin_BB_17fa37a3_30
+.Lcovretin_BB_17fa37a3_25:
 	mov	w0, wzr
 	strb	wzr, [x3]
-	b	.Lcovretin_BB_17fa37a3_27
-.Lcovretin_BB_17fa37a3_23:
+	b	.Lcovretin_BB_17fa37a3_30
+.Lcovretin_BB_17fa37a3_26:
 	mov	w9, #12
-.Lcovretin_BB_17fa37a3_24:
+.Lcovretin_BB_17fa37a3_27:
 	mov	w8, #1
 	strb	w8, [x19, #171]
-.Lcovretin_BB_17fa37a3_25:
+.Lcovretin_BB_17fa37a3_28:
 	mov	w8, wzr
 	mov	w10, #1
 	ldp	q0, q1, [sp]
 	stp	q0, q1, [sp, #64]
 	str	x19, [x0]
-	cbz	w10, .Lcovretin_BB_17fa37a3_20
-.Lcovretin_BB_17fa37a3_26:
+	cbz	w10, .Lcovretin_BB_17fa37a3_23
+.Lcovretin_BB_17fa37a3_29:
 	add	w0, w9, #1
-.Lcovretin_BB_17fa37a3_27:
+.Lcovretin_BB_17fa37a3_30:
 	ldp	x20, x19, [sp, #224]
 	ldr	x25, [sp, #176]
 	ldp	x22, x21, [sp, #208]
@@ -4117,21 +4123,21 @@ covretin_queue_step:
 	ldp	x29, x30, [sp, #160]
 	add	sp, sp, #240
 	ret
-.Lcovretin_BB_17fa37a3_28:
+.Lcovretin_BB_17fa37a3_31:
 	ldrb	w9, [x19, #170]
 	ldurb	w8, [x29, #-56]
 	mov	x3, x25
 	mov	x2, x24
 	mov	x0, x23
 	cmp	w9, #1
-	b.ne	.Lcovretin_BB_17fa37a3_31
+	b.ne	.Lcovretin_BB_17fa37a3_34
 	ldrh	w9, [x19, #168]
 	mov	w10, #5
 	and	w10, w21, w10
 	add	w9, w9, #1
 	cmp	w10, #1
 	strh	w9, [x19, #168]
-	b.eq	.Lcovretin_BB_17fa37a3_31
+	b.eq	.Lcovretin_BB_17fa37a3_34
 	ldr	x10, [x19, #88]
 	strb	wzr, [x19, #170]
 	strh	w9, [x10, w20, uxtw #1]
@@ -4148,25 +4154,25 @@ covretin_queue_step:
 	add	w9, w9, w11
 	strb	w12, [x19, #76]
 	strh	w9, [x19, #74]
-.Lcovretin_BB_17fa37a3_31:
+.Lcovretin_BB_17fa37a3_34:
 	ldp	q0, q1, [x22, #16]
 	mov	w9, wzr
 	stp	q0, q1, [sp]
 	ldp	q0, q1, [sp]
 	stp	q0, q1, [sp, #64]
 	str	x19, [x0]
-	b	.Lcovretin_BB_17fa37a3_20
-.Lcovretin_BB_17fa37a3_32:
+	b	.Lcovretin_BB_17fa37a3_23
+.Lcovretin_BB_17fa37a3_35:
 	cmp	w12, w20
-	b.ls	.Lcovretin_BB_17fa37a3_35
+	b.ls	.Lcovretin_BB_17fa37a3_38
 	ldr	x12, [x19, #88]
 	ldrh	w12, [x12, w20, uxtw #1]
 	cbz	w12, .Lcovretin_BB_17fa37a3_13
 	mov	w9, #18
-	b	.Lcovretin_BB_17fa37a3_24
-.Lcovretin_BB_17fa37a3_35:
+	b	.Lcovretin_BB_17fa37a3_27
+.Lcovretin_BB_17fa37a3_38:
 	mov	w9, #10
-	b	.Lcovretin_BB_17fa37a3_24
+	b	.Lcovretin_BB_17fa37a3_27
 .Lcovretin_func_end_17fa37a3:
 	.size	covretin_queue_step, .Lcovretin_func_end_17fa37a3-covretin_queue_step
 

@@ -4568,10 +4568,10 @@ covretin_queue_step:
 	movaps	%xmm0, 16(%rsp)
 	movb	$19, %al
 	cmpb	$0, 171(%rbx)
-	jne	.Lcovretin_BB_17fa37a3_26
+	jne	.Lcovretin_BB_17fa37a3_27
 	movb	$21, %al
 	cmpb	$1, 122(%rbx)
-	jne	.Lcovretin_BB_17fa37a3_26
+	jne	.Lcovretin_BB_17fa37a3_27
 	movzwl	%r10w, %r15d
 	movzwl	124(%rbx), %r14d
 	movzbl	170(%rbx), %r11d
@@ -4580,11 +4580,11 @@ covretin_queue_step:
 	movzwl	40(%rbx), %esi
 	movb	$12, %al
 	cmpw	168(%rbx), %si
-	jbe	.Lcovretin_BB_17fa37a3_25
+	jbe	.Lcovretin_BB_17fa37a3_26
 	movl	%ebp, %eax
 	andl	$5, %eax
 	cmpw	$1, %ax
-	jne	.Lcovretin_BB_17fa37a3_23
+	jne	.Lcovretin_BB_17fa37a3_24
 .Lcovretin_BB_17fa37a3_8:
 	movq	%r15, 72(%rsp)
 	movq	%rdi, %r15
@@ -4612,21 +4612,21 @@ covretin_queue_step:
 	callq	"vhost_queue::chain::DescriptorChain::step"
 	movzbl	16(%rsp), %r8d
 	testb	%r8b, %r8b
-	je	.Lcovretin_BB_17fa37a3_19
+	je	.Lcovretin_BB_17fa37a3_20
 	movzbl	17(%rsp), %eax
 	movb	$1, 171(%rbx)
 	xorl	%esi, %esi
 	movq	%r13, %rcx
 	movq	%r12, %rdx
 	movq	%r15, %rdi
-	jmp	.Lcovretin_BB_17fa37a3_27
+	jmp	.Lcovretin_BB_17fa37a3_28
 .Lcovretin_BB_17fa37a3_10:
 	movl	$101, %eax
-	jmp	.Lcovretin_BB_17fa37a3_34
+	jmp	.Lcovretin_BB_17fa37a3_35
 .Lcovretin_BB_17fa37a3_11:
 	movq	%rbx, (%rdi)
 	movl	$103, %eax
-	jmp	.Lcovretin_BB_17fa37a3_34
+	jmp	.Lcovretin_BB_17fa37a3_35
 .Lcovretin_BB_17fa37a3_12:
 	movq	%r9, (%rsp)
 	movl	%r8d, 8(%rsp)
@@ -4635,13 +4635,12 @@ covretin_queue_step:
 	movaps	%xmm0, 16(%rsp)
 	movaps	%xmm0, 32(%rsp)
 	movaps	%xmm0, 48(%rsp)
-	cmpb	$1, 168(%rbx)
-	jne	.Lcovretin_BB_17fa37a3_14
 	movb	$19, %al
-	movb	$1, %r8b
-	xorl	%esi, %esi
-	jmp	.Lcovretin_BB_17fa37a3_18
-.Lcovretin_BB_17fa37a3_14:
+	cmpb	$0, 168(%rbx)
+	jne	.Lcovretin_BB_17fa37a3_16
+	movb	$21, %al
+	cmpb	$1, 122(%rbx)
+	jne	.Lcovretin_BB_17fa37a3_16
 	movq	%rdi, %r14
 	movq	%rdx, %r15
 	movq	%rcx, %r12
@@ -4650,14 +4649,18 @@ covretin_queue_step:
 	movq	%rsp, %rcx
 	movq	%rbx, %rdx
 	callq	"vhost_queue::chain::DescriptorChain::step"
-	cmpb	$1, 16(%rsp)
-	jne	.Lcovretin_BB_17fa37a3_16
+	testb	$1, 16(%rsp)
+	je	.Lcovretin_BB_17fa37a3_17
 	movzbl	17(%rsp), %eax
 	movb	$1, 168(%rbx)
 	movb	$1, %r8b
 	xorl	%esi, %esi
-	jmp	.Lcovretin_BB_17fa37a3_17
+	jmp	.Lcovretin_BB_17fa37a3_18
 .Lcovretin_BB_17fa37a3_16:
+	movb	$1, %r8b
+	xorl	%esi, %esi
+	jmp	.Lcovretin_BB_17fa37a3_19
+.Lcovretin_BB_17fa37a3_17:
 	movzbl	24(%rsp), %esi
 	movaps	32(%rsp), %xmm0
 	movaps	%xmm0, 112(%rsp)
@@ -4665,27 +4668,27 @@ covretin_queue_step:
 	movaps	%xmm0, 128(%rsp)
 	xorl	%r8d, %r8d
 	xorl	%eax, %eax
-.Lcovretin_BB_17fa37a3_17:
+.Lcovretin_BB_17fa37a3_18:
 	movq	%r12, %rcx
 	movq	%r15, %rdx
 	movq	%r14, %rdi
-.Lcovretin_BB_17fa37a3_18:
+.Lcovretin_BB_17fa37a3_19:
 	movaps	112(%rsp), %xmm0
 	movaps	128(%rsp), %xmm1
-	jmp	.Lcovretin_BB_17fa37a3_28
-.Lcovretin_BB_17fa37a3_19:
+	jmp	.Lcovretin_BB_17fa37a3_29
+.Lcovretin_BB_17fa37a3_20:
 	leaq	32(%rsp), %rax
 	cmpb	$1, 170(%rbx)
 	movq	%r13, %rcx
 	movq	%r12, %rdx
 	movq	%r15, %rdi
-	jne	.Lcovretin_BB_17fa37a3_22
+	jne	.Lcovretin_BB_17fa37a3_23
 	movzwl	168(%rbx), %esi
 	incl	%esi
 	movw	%si, 168(%rbx)
 	andl	$5, %ebp
 	cmpw	$1, %bp
-	je	.Lcovretin_BB_17fa37a3_22
+	je	.Lcovretin_BB_17fa37a3_23
 	movb	$0, 170(%rbx)
 	movq	88(%rbx), %r8
 	movq	72(%rsp), %r9
@@ -4703,7 +4706,7 @@ covretin_queue_step:
 	movw	%si, 74(%rbx)
 	xorb	%r10b, 76(%rbx)
 	movb	$0, 77(%rbx)
-.Lcovretin_BB_17fa37a3_22:
+.Lcovretin_BB_17fa37a3_23:
 	movzbl	24(%rsp), %esi
 	movups	(%rax), %xmm0
 	movups	16(%rax), %xmm1
@@ -4711,46 +4714,46 @@ covretin_queue_step:
 	movaps	%xmm0, 80(%rsp)
 	xorl	%r8d, %r8d
 	xorl	%eax, %eax
-	jmp	.Lcovretin_BB_17fa37a3_27
-.Lcovretin_BB_17fa37a3_23:
+	jmp	.Lcovretin_BB_17fa37a3_28
+.Lcovretin_BB_17fa37a3_24:
 	movb	$10, %al
 	cmpw	%r10w, %si
-	jbe	.Lcovretin_BB_17fa37a3_25
+	jbe	.Lcovretin_BB_17fa37a3_26
 	movq	88(%rbx), %rsi
 	movb	$18, %al
 	cmpw	$0, (%rsi,%r15,2)
 	je	.Lcovretin_BB_17fa37a3_8
-.Lcovretin_BB_17fa37a3_25:
-	movb	$1, 171(%rbx)
 .Lcovretin_BB_17fa37a3_26:
+	movb	$1, 171(%rbx)
+.Lcovretin_BB_17fa37a3_27:
 	movb	$1, %r8b
 	xorl	%esi, %esi
-.Lcovretin_BB_17fa37a3_27:
+.Lcovretin_BB_17fa37a3_28:
 	movaps	80(%rsp), %xmm0
 	movaps	96(%rsp), %xmm1
-.Lcovretin_BB_17fa37a3_28:
+.Lcovretin_BB_17fa37a3_29:
 	movaps	%xmm1, 160(%rsp)
 	movaps	%xmm0, 144(%rsp)
 	movq	%rbx, (%rdi)
 	testb	%r8b, %r8b
-	je	.Lcovretin_BB_17fa37a3_30
+	je	.Lcovretin_BB_17fa37a3_31
 	movzbl	%al, %eax
 	incl	%eax
-	jmp	.Lcovretin_BB_17fa37a3_34
-.Lcovretin_BB_17fa37a3_30:
+	jmp	.Lcovretin_BB_17fa37a3_35
+.Lcovretin_BB_17fa37a3_31:
 	cmpb	$1, %sil
-	jne	.Lcovretin_BB_17fa37a3_32
+	jne	.Lcovretin_BB_17fa37a3_33
 	movaps	144(%rsp), %xmm0
 	movaps	160(%rsp), %xmm1
 	movups	%xmm1, 16(%rdx)
 	movups	%xmm0, (%rdx)
 	movb	$1, (%rcx)
-	jmp	.Lcovretin_BB_17fa37a3_33
-.Lcovretin_BB_17fa37a3_32:
-	movb	$0, (%rcx)
+	jmp	.Lcovretin_BB_17fa37a3_34
 .Lcovretin_BB_17fa37a3_33:
-	xorl	%eax, %eax
+	movb	$0, (%rcx)
 .Lcovretin_BB_17fa37a3_34:
+	xorl	%eax, %eax
+.Lcovretin_BB_17fa37a3_35:
 	addq	$184, %rsp
 	popq	%rbx
 	popq	%r12
