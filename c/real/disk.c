@@ -497,7 +497,7 @@ int main(int argc, char **argv)
         fprintf(stderr, "usage: disk PATH IMAGE PID work|regions|log|killed|harm|turned\n");
         return 2;
     }
-    size_t before = open_fds();
+    size_t before = descriptor_count();
     image = open(argv[2], O_RDONLY | O_CLOEXEC);
     check(image >= 0, "the image can be read");
     backend = (pid_t)atol(argv[3]);
@@ -508,6 +508,6 @@ int main(int argc, char **argv)
     free_virtqueue(&queue);
     free_memory(&memory);
     close(image);
-    check(open_fds() == before, "no descriptor was left open");
+    check(descriptor_count() == before, "no descriptor was left open");
     return 0;
 }

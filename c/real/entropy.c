@@ -42,7 +42,7 @@ static void take_bytes(struct virtqueue *queue, const struct memory *memory)
 
 int main(int argc, char **argv)
 {
-    size_t before = open_fds();
+    size_t before = descriptor_count();
     struct memory memory = make_memory("guest", SIZE, GUEST);
     struct virtqueue queue = make_virtqueue(0, memory.at);
     check(argc == 2, "usage: entropy PATH");
@@ -55,6 +55,6 @@ int main(int argc, char **argv)
     covretin_disconnect(&device);
     free_virtqueue(&queue);
     free_memory(&memory);
-    check(open_fds() == before, "no descriptor is left open");
+    check(descriptor_count() == before, "no descriptor is left open");
     return 0;
 }

@@ -149,7 +149,7 @@ int main(int argc, char **argv)
         fprintf(stderr, "usage: files PATH FOLDER/FILE\n");
         return 2;
     }
-    size_t before = open_fds();
+    size_t before = descriptor_count();
     int file = open(argv[2], O_RDONLY | O_CLOEXEC);
     check(file >= 0, "the file can be read");
     memory = make_memory("guest", MEMORY_SIZE, (uint64_t)1 << 32);
@@ -173,6 +173,6 @@ int main(int argc, char **argv)
     covretin_disconnect(&device);
     free_memory(&memory);
     close(file);
-    check(open_fds() == before, "no descriptor was left open");
+    check(descriptor_count() == before, "no descriptor was left open");
     return 0;
 }

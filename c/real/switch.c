@@ -178,7 +178,7 @@ int main(int argc, char **argv)
         fprintf(stderr, "usage: switch PATH frames|postcopy\n");
         return 2;
     }
-    size_t before = open_fds();
+    size_t before = descriptor_count();
     struct memory memory = make_memory("guest", MEMORY_SIZE, (uint64_t)1 << 32);
     connect_to(argv[1]);
     negotiate(0, 0);
@@ -189,6 +189,6 @@ int main(int argc, char **argv)
         asked_for_frames(&memory);
     covretin_disconnect(&device);
     free_memory(&memory);
-    check(open_fds() == before, "no descriptor was left open");
+    check(descriptor_count() == before, "no descriptor was left open");
     return 0;
 }

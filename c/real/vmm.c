@@ -43,7 +43,7 @@ static void stop(const char *name, enum covretin_error error)
     exit(1);
 }
 
-size_t open_fds(void)
+size_t descriptor_count(void)
 {
     DIR *folder = opendir("/proc/self/fd");
     size_t count = 0;

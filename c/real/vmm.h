@@ -24,7 +24,7 @@ extern covretin_connection device;
 void check(bool holds, const char *what);
 
 /* How many descriptors this program has open: none is left at its end that was not there before. */
-size_t open_fds(void);
+size_t descriptor_count(void);
 
 /* Connects to the backend at a path, once it listens there. */
 void connect_to(const char *path);

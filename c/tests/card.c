@@ -160,7 +160,7 @@ static void reads_the_address(void)
 
 int main(int argc, char **argv)
 {
-    size_t before = open_fds();
+    size_t before = descriptor_count();
     check(argc == 2, "usage: card PATH");
     memory = make_memory("guest", SIZE, GUEST);
     connect_to(argv[1]);
@@ -182,6 +182,6 @@ int main(int argc, char **argv)
     for (unsigned i = 0; i < 2; i++)
         free_virtqueue(&queues[i]);
     free_memory(&memory);
-    check(open_fds() == before, "no descriptor is left open");
+    check(descriptor_count() == before, "no descriptor is left open");
     return 0;
 }
