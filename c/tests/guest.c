@@ -698,9 +698,9 @@ static void tells_that_it_grew(void)
 
 static void run(const char *name, void (*test)(void))
 {
-    size_t before = open_fds();
+    size_t before = descriptor_count();
     test();
-    check(open_fds() == before, "no descriptor is left open");
+    check(descriptor_count() == before, "no descriptor is left open");
     printf("%s: ok\n", name);
 }
 
