@@ -101,7 +101,7 @@ def type_text(kind, way=lambda it: it["path"].split("::")[-1]):
     if word == "tuple":
         return "(" + ", ".join(type_text(each, way) for each in it) + ")"
     if word in ("dyn_trait", "impl_trait"):
-        bounds = it["traits"] if word == "dyn_trait" else [bound["trait_bound"] for bound in it]
+        bounds = it["traits"] if word == "dyn_trait" else [bound["trait_bound"] for bound in it if "trait_bound" in bound]
         return " ".join([word[:-6], *(way(bound["trait"]) for bound in bounds)])
     return "_"
 
