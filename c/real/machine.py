@@ -304,8 +304,8 @@ def tried_killed(program):
     """The disk is killed amid writes, and started again: nothing is lost, and the guest goes on."""
     disk = Disk(program)
     machine = boot("machine", disk, reconnect=1)
-    # QEMU has an inflight region for rings of 128, for which Linux has 128 requests, and more for larger ones.
-    is_noted = int(machine.do("cat /sys/block/vda/queue/nr_requests")) <= 128
+    # QEMU has an inflight region for rings of 128, for which Linux has at most 128 requests under way, and more for larger ones.
+    is_noted = int(machine.do("cat /sys/block/vda/mq/0/nr_tags")) <= 128
     machine.do(WRITER)
     for _ in range(8):
         before = written(machine)
