@@ -37,6 +37,9 @@ UNPROVED = {
     "the device kit in Rust": ("rust/src/device/*.rs", "rust/src/queue/*.rs"),
 }
 
+# How many functions the page names of one code.
+MOST_NAMES = 20
+
 # What the words of a verdict say.
 WORDS = {
     "logic=proved": "each function is proved to meet its contract, with no hole",
@@ -109,11 +112,13 @@ def assumed_rows():
 
 
 def by_crate(names):
-    """Names of functions, below each crate that declares them."""
+    """Names of functions, below each crate that declares them; of many how many each declares, since the verdict names them."""
     found = {}
     for name in names:
         crate, _, rest = name.partition("::")
         found.setdefault(crate, []).append(rest)
+    if len(names) > MOST_NAMES:
+        return "; ".join(f"{crate}: {len(rest)}" for crate, rest in found.items()) + ", named in its verdict"
     return "; ".join(f"{crate}: {', '.join(rest)}" for crate, rest in found.items())
 
 
@@ -140,20 +145,16 @@ def page():
     readers = [(of, closure(*module)) for of, module in READ.items()]
     parts = [
         "# Assumed",
-        "`scripts/assumed.py` writes this page, and `.ci/run` compares it. It counts whatever the proofs rest on and nothing proves.\n"
-        "[PROOFS](PROOFS.md) says it in words, and [THREATS](THREATS.md) who could gain by a fault there.",
+        "`scripts/assumed.py` writes this page: whatever the proofs rest on and nothing proves. [PROOFS](PROOFS.md) has it in words.",
         "## Functions in C\n\n| Code | Functions proved | Functions in C that its proof assumes |\n|---|---|---|\n" + "\n".join(assumed_rows()),
-        "Their contracts stand in the kit's libraries. The words of each verdict, which lies beside the code in `generated/`:",
+        "The kit's libraries state their contracts. The words of the verdicts in `generated/`:",
         "| Word | It says that |\n|---|---|\n" + "\n".join(word_rows()),
-        "## Definitions\n\nA reader has to believe these, with all that they are made of. No code is in them.\n\n| Of | Modules | Lines |\n|---|---|---|\n"
+        "## Definitions\n\nA reader has to believe these, with all that they are made of.\n\n| Of | Modules | Lines |\n|---|---|---|\n"
         + "\n".join(f"| {of} | {len(modules)} | {lines_in(modules):,} |" for of, modules in readers),
         "## Code that is tested only\n\n| Code | Lines |\n|---|---|\n"
         + "\n".join(f"| {of} | {lines_in(files_of(patterns)):,} |" for of, patterns in UNPROVED.items()),
         "## Unsafe code\n\nThe blocks in Rattle are proved, too. Each in Rust has its reason beside it.\n\n| Folder | Blocks |\n|---|---|\n" + "\n".join(unsafe_rows()),
-        "## Tools\n\n"
-        "- The checker and its logic: the Rattle kit. Each `.sources` file in `generated/` names the kit and the logic that proved it.\n"
-        "- Two code generators: LLVM makes the code that ships, and the kit's own compiles each program once more. The gate compares their outputs.\n"
-        "- The assembler and linker, the C library, the kernel and the processor.",
+        "## Tools\n\nTwo code generators make each program, LLVM the one that ships, and the gate compares their outputs. [THREATS](THREATS.md) has the others.",
     ]
     return "\n\n".join(parts) + "\n"
 

@@ -16,7 +16,7 @@ from collections import defaultdict
 
 TOP = os.path.dirname(os.path.dirname(os.path.realpath(__file__)))
 
-MOST_BYTES = 150 * 1024
+MOST_BYTES = 150_000
 MOST_WORDS = 35
 MOST_WHATS = 6
 
