@@ -65,12 +65,13 @@ enum covretin_queue_error {
     COVRETIN_QUEUE_INVALID_BASE = 7,            /* the base of a packed ring is not in the ring */
     COVRETIN_QUEUE_INVALID_INFLIGHT = 8,        /* the inflight region is not that of the queue */
 
-    /* what the guest wrote: the queue needs a reset (but where a range was only asked for by covretin_queue_translate) */
+    /* what the guest wrote: the queue needs a reset (but where a range is asked for: by covretin_queue_translate, at a start or a move,
+     * and by covretin_log_pages) */
     COVRETIN_QUEUE_NOT_IN_GUEST = 9,            /* a range does not lie in one region */
     COVRETIN_QUEUE_EMPTY_DESCRIPTOR = 10,       /* a descriptor has no bytes */
     COVRETIN_QUEUE_NOT_IN_TABLE = 11,           /* a head or a next descriptor is not in its table */
     COVRETIN_QUEUE_DESCRIPTOR_LOOP = 12,        /* a descriptor comes twice in its chain */
-    COVRETIN_QUEUE_CHAIN_TOO_LONG = 13,         /* a chain has more descriptors than it may */
+    COVRETIN_QUEUE_CHAIN_TOO_LONG = 13,         /* more descriptors than the queue has, or than 1024 where it has fewer and INDIRECT_DESC */
     COVRETIN_QUEUE_READABLE_AFTER_WRITABLE = 14,
     COVRETIN_QUEUE_UNEXPECTED_INDIRECT = 15,    /* an indirect table was not negotiated, or lies in another */
     COVRETIN_QUEUE_INDIRECT_GOES_ON = 16,       /* a descriptor of an indirect table goes on */
@@ -262,7 +263,8 @@ enum covretin_queue_error covretin_queue_step(covretin_queue *queue, const covre
 enum covretin_queue_error covretin_queue_add_used(covretin_queue *queue, uint16_t id, uint32_t len, covretin_used *used);
 
 /* When the driver wants a notification: two bytes, or four of a packed queue; and that they were read as this, the last two of four as
- * flags: whether the driver is to be notified of what was used since this was last asked. */
+ * flags: whether the driver is to be notified of what was used since this was last asked. Ask at least once a ring: by then the index comes
+ * round, and virtio's rule says no. */
 enum covretin_queue_error covretin_queue_notification_place(covretin_queue *queue, covretin_range *place);
 enum covretin_queue_error covretin_queue_needs_notification(covretin_queue *queue, uint16_t value, uint16_t flags, bool *needed);
 
@@ -287,7 +289,8 @@ enum covretin_queue_error covretin_inflight_recover(const covretin_inflight_entr
 
 /* -- The dirty log ---------------------------------------------------------------------------------------------------
  * The pages of a range of guest addresses that a log of so many bytes has bits for, from *first up to *end, which is none of them.
- * NOT_IN_GUEST: the range ends beyond 64 bits. And the bit of a page, which is set by an atomic or. */
+ * Where *first is not below *end there are none. NOT_IN_GUEST: the range ends beyond 64 bits. And the bit of a page, which is set by an
+ * atomic or. */
 enum covretin_queue_error covretin_log_pages(uint64_t addr, uint64_t len, uint64_t log_size, uint64_t *first, uint64_t *end);
 void covretin_log_bit_of(uint64_t page, covretin_log_bit *bit);
 

@@ -9,6 +9,7 @@ use std::os::unix::net::UnixStream;
 use std::thread::sleep;
 use std::time::Duration;
 
+use common::lingering::{lingers, Lingering};
 use common::machine::*;
 use common::*;
 use covretin::device::RING_PACKED;
@@ -41,6 +42,24 @@ fn moves_bytes_of_files() {
         request.complete(15);
         assert_eq!((0, 15), ring.used());
         assert_eq!("file of its own", ring.text(0, 15));
+        machine.end();
+    });
+}
+
+/// A table of sockets that linger is refused at the first; the others are closed without waiting, too.
+#[test]
+fn refuses_a_table_of_sockets() {
+    counted(|| {
+        let (machine, _) = begun(0, 0);
+        let sockets = Lingering::new(3);
+        let region = |at: usize| {
+            let about = machine.region(at as u64 * 0x1000, 0x1000);
+            VhostUserMemoryRegionInfo { mmap_handle: sockets.files[at].as_raw_fd(), ..about }
+        };
+        let table: Vec<_> = (0..3).map(region).collect();
+        assert!(sockets.files.iter().all(lingers));
+        assert!(machine.frontend.set_mem_table(&table).is_err());
+        assert!(!sockets.files.iter().any(lingers));
         machine.end();
     });
 }

@@ -67,8 +67,8 @@ impl<D: Device> Calls<D> {
         self.device.accepted(features, VhostUserProtocolFeatures::from_bits_truncate(protocol_features));
     }
 
-    fn map(&self, about: &VhostUserMemoryRegion, file: File) -> Result<GuestRegion> {
-        GuestRegion::map_for(&self.shared.holder, about, &given(file)).map_err(failed)
+    fn map(&self, about: &VhostUserMemoryRegion, file: &PeerFd) -> Result<GuestRegion> {
+        GuestRegion::map_for(&self.shared.holder, about, file).map_err(failed)
     }
 
     /// The session has this memory: where the last regions of it are mapped.
@@ -79,13 +79,15 @@ impl<D: Device> Calls<D> {
     }
 
     fn set_regions(&self, table: &[VhostUserMemoryRegion], files: Vec<File>) -> Result<Vec<u64>> {
-        let mapped: Result<Vec<_>> = table.iter().zip(files).map(|(about, file)| self.map(about, file)).collect();
+        // (all of them, since none is looked at behind one that is refused)
+        let files: Vec<PeerFd> = files.into_iter().map(given).collect();
+        let mapped: Result<Vec<_>> = table.iter().zip(&files).map(|(about, file)| self.map(about, file)).collect();
         let memory = GuestMemory::from_regions(mapped?).map_err(|error| failed(error.into()))?;
         self.use_memory(memory, table.len())
     }
 
     fn add_region(&self, about: &VhostUserMemoryRegion, file: File) -> Result<u64> {
-        let added = self.map(about, file)?;
+        let added = self.map(about, &given(file))?;
         let before = self.shared.lock().memory.clone();
         let memory = match before {
             Some(memory) => memory.insert_region(added),
