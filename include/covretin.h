@@ -339,10 +339,10 @@ enum covretin_error covretin_ask_set_log_base_alone(covretin_session *session, u
 enum covretin_error covretin_ask_set_log_fd(covretin_session *session, int32_t fd);
 
 /* A ring's index is below max_queue_num of covretin_open, or what get_queue_num replied since. num and base are in
- * descriptors of the ring. */
+ * descriptors of the ring; of a packed ring base has both its indices with their wrap counters, in 32 bits. */
 enum covretin_error covretin_ask_set_vring_num(covretin_session *session, size_t index, uint16_t num);
 enum covretin_error covretin_ask_set_vring_addr(covretin_session *session, size_t index, const covretin_vring *ring);
-enum covretin_error covretin_ask_set_vring_base(covretin_session *session, size_t index, uint16_t base);
+enum covretin_error covretin_ask_set_vring_base(covretin_session *session, size_t index, uint32_t base);
 /* Stops the ring, and asks at which descriptor it goes on. It starts again by set_vring_kick and a kick. */
 enum covretin_error covretin_ask_get_vring_base(covretin_session *session, size_t index);
 /* The eventfd by which the backend signals used buffers, that by which the guest's driver signals available ones, and that

@@ -13,7 +13,7 @@ static enum covretin_error ask_rings(covretin_session *session, uint8_t which)
     switch (which % 8) {
     case 0: asked.number = (uint16_t)number; return covretin_ask_set_vring_num(session, index, (uint16_t)number);
     case 1: return covretin_ask_set_vring_addr(session, index, &asked.ring);
-    case 2: asked.number = (uint16_t)number; return covretin_ask_set_vring_base(session, index, (uint16_t)number);
+    case 2: asked.number = (uint32_t)number; return covretin_ask_set_vring_base(session, index, (uint32_t)number);
     case 3: return covretin_ask_get_vring_base(session, index);
     case 4: return covretin_ask_set_vring_call(session, index, asked.fd);
     case 5: return covretin_ask_set_vring_kick(session, index, asked.fd);

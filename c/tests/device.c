@@ -361,7 +361,7 @@ static void start(struct queue *queue, uint32_t base)
 {
     covretin_vring place = place_of(queue, 0);
     DONE(covretin_ask_set_vring_num(&vmm.session, queue->index, QUEUE_SIZE));
-    DONE(covretin_ask_set_vring_base(&vmm.session, queue->index, (uint16_t)base));
+    DONE(covretin_ask_set_vring_base(&vmm.session, queue->index, base));
     DONE(covretin_ask_set_vring_addr(&vmm.session, queue->index, &place));
     DONE(covretin_ask_set_vring_call(&vmm.session, queue->index, queue->call));
     DONE(covretin_ask_set_vring_err(&vmm.session, queue->index, queue->error));

@@ -127,6 +127,11 @@ fn set_vring_base() {
 }
 
 #[test]
+fn set_packed_vring_base() {
+    acknowledged(10, "02000000 05800780", 0, |it, _| it.set_packed_vring_base(2, 0x8007_8005));
+}
+
+#[test]
 fn set_vring_kick() {
     acknowledged(12, "0300000000000000", 1, |it, files| it.set_vring_kick(3, &files[0]));
 }

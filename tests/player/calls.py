@@ -70,7 +70,7 @@ PLAIN = {
     "get_max_mem_slots": ((), "number"),
     "set_log_fd": ((fd,), ""),
     "set_vring_num": ((index, u16), ""),
-    "set_vring_base": ((index, u16), ""),
+    "set_vring_base": ((index, u32), ""),
     "get_vring_base": ((index,), "number"),
     "set_vring_call": ((index, fd_or_none), ""),
     "set_vring_kick": ((index, fd_or_none), ""),

@@ -179,13 +179,13 @@ pub extern "C" fn covretin_ask_set_vring_addr(
     )
 }
 
-/// Sets a ring's next descriptor index.
+/// Sets a ring's next descriptor index; of a packed ring both indices, with their wrap counters.
 #[unsafe(no_mangle)]
 pub extern "C" fn covretin_ask_set_vring_base(
     alloc: Global,
     session: &mut Holder,
     index: usize,
-    base: u16,
+    base: u32,
 ) -> u32
     ensures { AsksBy (calls.SetVringBase index base) session.old.session result session.new.session }
 {

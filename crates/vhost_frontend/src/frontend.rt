@@ -74,6 +74,25 @@ impl<L: Link> Frontend<L> {
     pub fn set_profile(&self, rt: &impl Wait, profile: Profile) {
         self.inner.lock(rt).quiet.set_profile(profile);
     }
+
+    /// Sets where a packed ring goes on: both its indices with their wrap counters, in 32 bits as the specification has them.
+    /// The errors are those of `set_vring_base`.
+    #[tactic(auto, using(crate::proofs::Turns::turned, crate::proofs::Turns::turned_with_room))]
+    pub fn set_packed_vring_base(
+        &self,
+        rt: &impl Wait,
+        queue_index: usize,
+        base: u32,
+    ) -> Result<()>
+        ensures { Turn L.event (Whole L.event (call.SetVringBase queue_index base) (λ _. call.Nothing)) result }
+    {
+        within(
+            self.inner
+                .lock(rt)
+                .quiet
+                .done(&Call::SetVringBase(queue_index, base)),
+        )
+    }
 }
 
 #[tactic(auto, using(crate::proofs::Turns::turned, crate::proofs::Turns::turned_with_room))]
@@ -171,7 +190,7 @@ impl<L: Link> VhostBackend for Frontend<L> {
             self.inner
                 .lock(rt)
                 .quiet
-                .done(&Call::SetVringBase(queue_index, base)),
+                .done(&Call::SetVringBase(queue_index, base as u32)),
         )
     }
 

@@ -55,7 +55,7 @@ pub enum Call<'a, H> {
     /// InvalidParam: the backend has no queue of this index, or the index has more than 32 bits.
     SetVringNum(usize, u16),
     /// Sets a ring's next descriptor index; refused as `SetVringNum` is.
-    SetVringBase(usize, u16),
+    SetVringBase(usize, u32),
     /// Says where a ring's parts lie; refused as `SetVringNum` is, or where the flags are neither 0 nor 1.
     SetVringAddr(usize, VringConfigData),
     /// Stops a ring. Its next descriptor index: `Number`. Refused as `SetVringNum` is.

@@ -4,7 +4,7 @@ use Rattle.std.specs.Prelude.{⊤}
 use Rattle.std.specs.Str.{bytes_eq}
 use Rattle.vhost_protocol.specs.FrontendCall.{GetFeatures, SetFeatures, SetOwner, ResetOwner, GetProtocolFeatures, SetProtocolFeatures, GetQueueNum, ResetDevice, SetLogFd, SetVringNum, SetVringBase, GetVringBase, SetVringCall, SetVringKick, SetVringErr, SetVringEnable, SetBackendRequestFd, GetSharedObject, GetMaxMemSlots, AddMemRegion, RemoveMemRegion, GetShmemConfig, CheckDeviceState, PostcopyAdvise, PostcopyListen, PostcopyEnd, PostcopyAckMemRegions, SetMtu, SetHdrFlags}
 use Rattle.vhost_lines.specs.Arguments.{◌>>=◌, enabled, protocol_features, header_flags, handle, request, object_name}
-use Rattle.vhost_lines.specs.Number.{u64, u16}
+use Rattle.vhost_lines.specs.Number.{u64, u32, u16}
 use Rattle.vhost_lines.specs.Calls.{Call, calls, named, call_named, only_region, set_log_base, set_vring_addr, get_inflight_fd, set_inflight_fd, add_mem_region, remove_mem_region, set_device_state_fd, set_mem_table, get_config, set_config}
 use Rattle.vhost_lines.specs.Read.{read_for}
 use Rattle.vhost_lines.specs.Shapes.{bare, one, two}
@@ -171,7 +171,7 @@ all_read name args = (
                                           (
                                             short name args (codes "set_vring_num") (two u64 u16 SetVringNum) (two-short u64 u16 SetVringNum),
                                             (
-                                              short name args (codes "set_vring_base") (two u64 u16 SetVringBase) (two-short u64 u16 SetVringBase),
+                                              short name args (codes "set_vring_base") (two u64 u32 SetVringBase) (two-short u64 u32 SetVringBase),
                                               (
                                                 short name args (codes "set_vring_call") (two u64 handle (λ i h. SetVringCall i (Some h))) (two-short u64 handle (λ i h. SetVringCall i (Some h))),
                                                 (

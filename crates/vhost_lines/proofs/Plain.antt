@@ -180,7 +180,7 @@ calls-plain = (
                                           (
                                             two-plain u64 u16 SetVringNum (λ a b. tt),
                                             (
-                                              two-plain u64 u16 SetVringBase (λ a b. tt),
+                                              two-plain u64 u32 SetVringBase (λ a b. tt),
                                               (
                                                 two-plain u64 handle (λ i h. SetVringCall i (Some h)) (λ a b. tt),
                                                 (

@@ -134,7 +134,7 @@ calls =
     ∷ (codes "set_mtu", one u16 SetMtu)
     ∷ (codes "set_hdr_flags", one header_flags SetHdrFlags)
     ∷ (codes "set_vring_num", two u64 u16 SetVringNum)
-    ∷ (codes "set_vring_base", two u64 u16 SetVringBase)
+    ∷ (codes "set_vring_base", two u64 u32 SetVringBase)
     ∷ (codes "set_vring_call", two u64 handle (λ i h. SetVringCall i (Some h)))
     ∷ (codes "set_vring_kick", two u64 handle (λ i h. SetVringKick i (Some h)))
     ∷ (codes "set_vring_err", two u64 handle (λ i h. SetVringErr i (Some h)))

@@ -80,7 +80,7 @@ calls! {
     set_log_fd = covretin_ask_set_log_fd(fd: i32);
     set_vring_num = covretin_ask_set_vring_num(index: usize, num: u16);
     set_vring_addr = covretin_ask_set_vring_addr(index: usize, ring: &Vring);
-    set_vring_base = covretin_ask_set_vring_base(index: usize, base: u16);
+    set_vring_base = covretin_ask_set_vring_base(index: usize, base: u32);
     get_vring_base = covretin_ask_get_vring_base(index: usize);
     set_vring_call = covretin_ask_set_vring_call(index: usize, fd: i32);
     set_vring_kick = covretin_ask_set_vring_kick(index: usize, fd: i32);

@@ -197,6 +197,11 @@ impl Frontend {
         self.socket.hang_up();
     }
 
+    /// Sets where a packed ring goes on: both its indices with their wrap counters, in 32 bits as the specification has them.
+    pub fn set_packed_vring_base(&self, queue_index: usize, base: u32) -> Result<()> {
+        self.done(|session| session.set_vring_base(queue_index, base))
+    }
+
     /// Tells a network device the greatest size of what a frame carries. MTU.
     pub fn set_mtu(&mut self, mtu: u16) -> Result<()> {
         self.done(|session| session.set_mtu(mtu))
@@ -347,7 +352,7 @@ impl VhostBackend for Frontend {
     }
 
     fn set_vring_base(&self, queue_index: usize, base: u16) -> Result<()> {
-        self.done(|session| session.set_vring_base(queue_index, base))
+        self.set_packed_vring_base(queue_index, base.into())
     }
 
     fn get_vring_base(&self, queue_index: usize) -> Result<u32> {

@@ -175,13 +175,7 @@ pub fn planned<'a, H>(session: FrontendSession, call: &Call<'a, H>) -> Result<Pl
         SetLogBase(base, region) => sends_log(session, *base, *region),
         SetLogFd(handle) => Ok(Plan::sends(session, SET_LOG_FD, Record::Empty, Some(*handle))),
         SetVringNum(index, num) => sends_ring(session, SET_VRING_NUM, *index, (*num).into(), None),
-        SetVringBase(index, base) => sends_ring(
-            session,
-            SET_VRING_BASE,
-            *index,
-            (*base).into(),
-            None,
-        ),
+        SetVringBase(index, base) => sends_ring(session, SET_VRING_BASE, *index, *base, None),
         SetVringAddr(index, config) => sends_ring_addr(session, *index, *config, None),
         GetVringBase(index) => asks_ring_base(session, *index, None),
         SetVringCall(index, Some(handle)) => {

@@ -68,7 +68,7 @@ pub enum FrontendCall {
     SetLogFd(PlainHandle),
     /// A ring's size, in descriptors.
     SetVringNum(usize, u16),
-    SetVringBase(usize, u16),
+    SetVringBase(usize, u32),
     SetVringAddr(usize, VringConfigData),
     GetVringBase(usize),
     /// Where there is no file descriptor, the driver polls.

@@ -4,12 +4,12 @@
 ghost use Rattle.std.specs.Prelude.{◌≡◌, Some};
 ghost use Rattle.vhost_protocol.specs.FrontendCall as value;
 ghost use Rattle.vhost_lines.specs.Arguments.{handle, enabled};
-ghost use Rattle.vhost_lines.specs.Number.{u64, u16};
+ghost use Rattle.vhost_lines.specs.Number.{u64, u32, u16};
 ghost use Rattle.vhost_lines.specs.Read.{called, texts};
 ghost use Rattle.vhost_lines.specs.Shapes.{two};
 
 use crate::call_words::argument::{enabled, handle};
-use crate::call_words::number::{index, number_16};
+use crate::call_words::number::{index, number_16, number_32};
 use vhost_frontend_core::FrontendCall;
 
 /// A ring and its size, in descriptors.
@@ -20,12 +20,12 @@ pub(crate) fn set_vring_num(args: &[&str]) -> Option<FrontendCall>
     Some(FrontendCall::SetVringNum(index(ring)?, number_16(word)?))
 }
 
-/// A ring and its first index to look for available descriptors.
+/// A ring and its first index to look for available descriptors; of a packed ring both indices.
 pub(crate) fn set_vring_base(args: &[&str]) -> Option<FrontendCall>
-    ensures { called result ≡ two u64 u16 value.SetVringBase (texts args.now) }
+    ensures { called result ≡ two u64 u32 value.SetVringBase (texts args.now) }
 {
     let [ring, word] = args else { return None };
-    Some(FrontendCall::SetVringBase(index(ring)?, number_16(word)?))
+    Some(FrontendCall::SetVringBase(index(ring)?, number_32(word)?))
 }
 
 /// A ring and its call descriptor, by which the backend signals used buffers.

@@ -31,7 +31,7 @@ static CALLS: [(&str, &str); 37] = [
     ("set_mtu", "s"),
     ("set_hdr_flags", "f"),
     ("set_vring_num", "ls"),
-    ("set_vring_base", "ls"),
+    ("set_vring_base", "li"),
     ("set_vring_call", "lh"),
     ("set_vring_kick", "lh"),
     ("set_vring_err", "lh"),
