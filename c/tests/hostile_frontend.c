@@ -145,9 +145,6 @@ static void refuses_headers(void)
         {GET_FEATURES, 2, 0},      /* version 2 */
         {GET_FEATURES, 0, 0},      /* version 0 */
         {GET_FEATURES, 0x101, 0},  /* an unknown flag */
-        {0, 1, 0},                 /* none */
-        {45, 1, 0},
-        {0xffffffff, 1, 0},
         {GET_FEATURES, 1, 4097},   /* longer than a message */
         {GET_FEATURES, 1, 0xffffffff},
     };
@@ -166,6 +163,25 @@ static void refuses_headers(void)
         close(file);
         close(peer);
     }
+}
+
+/* Numbers that are no request's: each is skipped by its size, and its descriptor is closed. */
+static void skips_numbers_of_no_request(void)
+{
+    static const uint32_t numbers[] = {0, 45, 0xffffffff};
+    int peer = served_pair(), file = file_of("sent");
+    size_t before = open_fds();
+    for (size_t i = 0; i < sizeof numbers / sizeof *numbers; i++) {
+        say_header(peer, numbers[i], 1, 0, &file, 1);
+        call = 99;
+        EXPECT(COVRETIN_INVALID_OPERATION, covretin_next_call(&service, &call, LIMIT));
+        EXPECT(99, call);
+        EXPECT(before, open_fds());
+        EXPECT(false, covretin_service_ended(&service));
+    }
+    covretin_hang_up(&service);
+    close(file);
+    close(peer);
 }
 
 /* Serves what came: refused requests, and calls that the device refuses. How many calls there were. */
@@ -357,6 +373,7 @@ int main(void)
 {
     RUN(out_of_turn);
     RUN(refuses_headers);
+    RUN(skips_numbers_of_no_request);
     RUN(refuses_sizes);
     RUN(refuses_tables);
     RUN(more_than_may_be_open);

@@ -553,8 +553,8 @@ static void tells_which_was_refused(void)
     EXPECT(0, covretin_service_request(&service));
 }
 
-/* A request of another number than 1 to 44 ends the service, without a reply. */
-static void ends_at_unknown_requests(void)
+/* A request of another number than 1 to 44 is acknowledged as one that is not served; under the profile of the crate it ends the service. */
+static void unknown_requests(void)
 {
     static const uint32_t unknown[] = {0, 45, 256, 0x12345678, UINT32_MAX};
     const uint8_t body[8] = {0};
@@ -564,9 +564,15 @@ static void ends_at_unknown_requests(void)
         EXPECT(COVRETIN_OK, covretin_backend_set_profile(&service.backend, i % 2 ? COVRETIN_PROFILE_VHOST : COVRETIN_PROFILE_STANDARD));
         accept_features(peer, COVRETIN_PROTOCOL_REPLY_ACK);
         request(peer, unknown[i / 2], NEED_REPLY, body, sizeof body, NULL, 0);
-        EXPECT(COVRETIN_INVALID_MESSAGE, covretin_next_call(&service, &call, LIMIT));
+        EXPECT(i % 2 ? COVRETIN_INVALID_MESSAGE : COVRETIN_INVALID_OPERATION, covretin_next_call(&service, &call, LIMIT));
         EXPECT(unknown[i / 2], covretin_service_request(&service));
-        EXPECT(true, covretin_service_ended(&service));
+        EXPECT(i % 2, covretin_service_ended(&service));
+        if (i % 2 == 0) {
+            const uint32_t told[] = {unknown[i / 2], REPLY_FLAGS, 8, 1, 0};
+            uint32_t reply[5];
+            EXPECT((ssize_t)sizeof reply, recv(peer, reply, sizeof reply, MSG_DONTWAIT));
+            EXPECT(0, memcmp(told, reply, sizeof reply));
+        }
         EXPECT(-1, recv(peer, &byte, 1, MSG_DONTWAIT));
         covretin_hang_up(&service);
         close(peer);
@@ -597,7 +603,7 @@ static void inactive(void)
             EXPECT(COVRETIN_OK, covretin_reply_done(&service.backend));
         } else {
             request(peer, 45, REQUEST_FLAGS, NULL, 0, NULL, 0);
-            EXPECT(COVRETIN_INVALID_MESSAGE, covretin_next_call(&service, &call, LIMIT));
+            EXPECT(COVRETIN_INVALID_OPERATION, covretin_next_call(&service, &call, LIMIT));
         }
         EXPECT(0, covretin_backend_inactive(&service.backend));
     }
@@ -711,7 +717,7 @@ int main(void)
     RUN(sends_in_parts);
     RUN(tells_refusals_late);
     RUN(tells_which_was_refused);
-    RUN(ends_at_unknown_requests);
+    RUN(unknown_requests);
     RUN(inactive);
     RUN(request_texts);
     RUN(served_features);

@@ -81,7 +81,8 @@ impl<H: Drop, B: Drop, G: Drop> Rows<H, B, G> {
             | FrontendReq::CLOSE_CRYPTO_SESSION
             | FrontendReq::VRING_KICK
             | FrontendReq::SET_STATUS
-            | FrontendReq::GET_STATUS => Self::unserved(session),
+            | FrontendReq::GET_STATUS
+            | FrontendReq::OTHER(_) => Self::unserved(session),
         }
     }
 

@@ -4,12 +4,11 @@ use Rattle.std.specs.Prelude.{⊤}
 use Rattle.vhost_message.specs.declared.error.Error as declared
 use Rattle.vhost_message.specs.declared.frontend_req.FrontendReq.{FrontendReq}
 use Rattle.vhost_message.specs.declared.records.memory.VhostUserMemoryRegion.{VhostUserMemoryRegion}
-use Rattle.vhost_message.specs.FrontendReq.{request_of}
 use Rattle.vhost_protocol.specs.Codes.{allows_handles}
 use Rattle.vhost_protocol.specs.DeviceCall.{Call, Answer}
 use Rattle.vhost_protocol.specs.Error.{Error}
 use Rattle.vhost_protocol.specs.Handler.{Follows, MeetsRow}
-use Rattle.vhost_protocol.specs.Session.{Session}
+use Rattle.vhost_protocol.specs.Session.{Session, heard_in}
 use Rattle.vhost_protocol.specs.Split.{Message}
 use Rattle.vhost_protocol.specs.Step.{Outcome, Step, Refused, Calls, OpensBackend, OpensGpu}
 use Rattle.vhost_protocol.specs.Stream.{Cell}
@@ -40,7 +39,7 @@ module _ {L H B G Dev : Type 0} (event : L → Event H → L → Type 0) (gives 
       let finished = subst (λ (r : FrontendReq). Finishes event r (settled_by begun.pending.unanswered (concluded (session_in last) m.need_reply b begun.pending.then a)) (endpoint_of last) (session_in last) result (endpoint_of new) (session_in new)) begun.reads.reads.code
       (subst (λ need. Finishes event begun.pending.request.code (settled_by begun.pending.unanswered (concluded (session_in last) need b begun.pending.then a)) (endpoint_of last) (session_in last) result (endpoint_of new) (session_in new)) begun.reads.reads.need_reply done) in
       let answered = by_row (sym p.row) (made s (session_in last) (endpoint_of mid) (endpoint_of last) (endpoint_of new) m p.call begun.pending.then begun.pending.unanswered b a d d' (session_in new) result (session ∙ begun.session) endpoint p.next kept sized begun.settles call finished) in
-      handles-request event request_of allows_handles (λ (t : Session). t.failed) kept_unsent (MeetsRow (fitting gives) opens_backend opens_gpu)
+      handles-request event heard_in allows_handles (λ (t : Session). t.failed) kept_unsent (MeetsRow (fitting gives) opens_backend opens_gpu)
       (endpoint_of old) (endpoint_of mid) (endpoint_of new) s (session_in new) d d' mid.body.value begun.pending.request begun.pending.handles result begun.reads
       (λ n reads over ready. subst (λ (x : Message FrontendReq H). serving.Answers event (MeetsRow (fitting gives) opens_backend opens_gpu s d x) (kept_unsent x.request s) (endpoint_of mid) result (endpoint_of new) (session_in new) d')
       (same_message mid.body.value begun.pending.request begun.pending.handles m n begun.reads.reads reads begun.reads.hands over)
@@ -59,7 +58,7 @@ module _ {L H B G Dev : Type 0} (event : L → Event H → L → Type 0) (gives 
   pub halves_refuse : HalvesRefuse event gives opens_backend opens_gpu
   halves_refuse old new d e alive refused =
       let s = session_in old in
-      let once = wider-once event request_of allows_handles (λ (t : Session). t.failed) kept_unsent (MeetsRow (fitting (uncalled B G)) (unopened B G) (unopened B G)) (MeetsRow (fitting gives) opens_backend opens_gpu) (λ u. d) (meets-none d)
+      let once = wider-once event heard_in allows_handles (λ (t : Session). t.failed) kept_unsent (MeetsRow (fitting (uncalled B G)) (unopened B G) (unopened B G)) (MeetsRow (fitting gives) opens_backend opens_gpu) (λ u. d) (meets-none d)
       (endpoint_of old) (endpoint_of new) s (session_in new) tt tt (Err e)
-      (subst (λ mark. serving.CallsUnless event request_of allows_handles (λ (t : Session). t.failed) kept_unsent (MeetsRow (fitting (uncalled B G)) (unopened B G) (unopened B G)) mark (endpoint_of old) s tt (Err e) (endpoint_of new) (session_in new) tt) (sym alive) refused) in
-      subst (λ mark. serving.CallsUnless event request_of allows_handles (λ (t : Session). t.failed) kept_unsent (MeetsRow (fitting gives) opens_backend opens_gpu) mark (endpoint_of old) s d (Err e) (endpoint_of new) (session_in new) d) alive once
+      (subst (λ mark. serving.CallsUnless event heard_in allows_handles (λ (t : Session). t.failed) kept_unsent (MeetsRow (fitting (uncalled B G)) (unopened B G) (unopened B G)) mark (endpoint_of old) s tt (Err e) (endpoint_of new) (session_in new) tt) (sym alive) refused) in
+      subst (λ mark. serving.CallsUnless event heard_in allows_handles (λ (t : Session). t.failed) kept_unsent (MeetsRow (fitting gives) opens_backend opens_gpu) mark (endpoint_of old) s d (Err e) (endpoint_of new) (session_in new) d) alive once

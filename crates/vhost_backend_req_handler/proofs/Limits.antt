@@ -4,12 +4,11 @@ use Rattle.std.specs.Prelude.{⊤, ℤ, Bool}
 use Rattle.vhost_message.specs.declared.cause.IoCause.{IoCause}
 use Rattle.vhost_message.specs.declared.error.Error as declared
 use Rattle.vhost_message.specs.declared.frontend_req.FrontendReq.{FrontendReq}
-use Rattle.vhost_message.specs.FrontendReq.{request_of}
 use Rattle.vhost_protocol.specs.Codes.{allows_handles}
 use Rattle.vhost_protocol.specs.DeviceCall.{Call, Answer}
 use Rattle.vhost_protocol.specs.Error.{Error}
 use Rattle.vhost_protocol.specs.Handler.{MeetsRow}
-use Rattle.vhost_protocol.specs.Session.{Session}
+use Rattle.vhost_protocol.specs.Session.{Session, heard_in}
 use Rattle.vhost_protocol.specs.Split.{Message}
 use Rattle.vhost_protocol.specs.Stream.{Cell}
 use Rattle.vhost_link.specs.Law.{Event, Move}
@@ -28,12 +27,12 @@ trouble-keeps (talk.no_memory g b l m is) = ap (λ (x : State _ _). x.budget) is
 trouble-keeps (talk.fault c b fell f r t a w k) = fell.talks.budget
 
 module _ {L H Dev : Type 0} (event : L → Event H → L → Type 0) (Meets : Session → Dev → Message FrontendReq H → Result ⊤ Error → List (Cell H) → Session → Dev → Type 0) (old new : State L H) (s s' : Session) (d d' : Dev) where
-  breaks-keeps : (e : declared.Error) → serving.Breaks event request_of allows_handles (λ (t : Session). t.failed) kept_unsent Meets old s d e new s' d' → new.budget ≡ old.budget
+  breaks-keeps : (e : declared.Error) → serving.Breaks event heard_in allows_handles (λ (t : Session). t.failed) kept_unsent Meets old s d e new s' d' → new.budget ≡ old.budget
   breaks-keeps e (serving.unread r t u) = trouble-keeps r.trouble
   breaks-keeps e (serving.unanswered m mid h p) = p.stops.fell.talks.budget ∙ h.serves.talks.budget
 
   -- one call, whether or not the session is marked
-  pub once-keeps : (mark : Option ℤ) (result : Result ⊤ declared.Error) → serving.CallsUnless event request_of allows_handles (λ (t : Session). t.failed) kept_unsent Meets mark old s d result new s' d' → new.budget ≡ old.budget
+  pub once-keeps : (mark : Option ℤ) (result : Result ⊤ declared.Error) → serving.CallsUnless event heard_in allows_handles (λ (t : Session). t.failed) kept_unsent Meets mark old s d result new s' d' → new.budget ≡ old.budget
   once-keeps (Some n) result p = ap (λ (x : State L H). x.budget) p.1
   once-keeps None (Ok a) h = h.replies.serves.talks.budget ∙ h.hears.serves.talks.budget
   once-keeps None (Err e) (inl h) = h.replies.serves.talks.budget ∙ h.hears.serves.talks.budget

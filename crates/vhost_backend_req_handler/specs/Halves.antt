@@ -3,12 +3,11 @@ use Rattle.std.specs.Prelude.{◌≡◌, List, Some, None, Result, Err, ⊤}
 use Rattle.vhost_message.specs.declared.error.Error as declared
 use Rattle.vhost_message.specs.declared.frontend_req.FrontendReq.{FrontendReq}
 use Rattle.vhost_message.specs.declared.records.memory.VhostUserMemoryRegion.{VhostUserMemoryRegion}
-use Rattle.vhost_message.specs.FrontendReq.{request_of}
 use Rattle.vhost_protocol.specs.Codes.{allows_handles}
 use Rattle.vhost_protocol.specs.DeviceCall.{Call, Answer}
 use Rattle.vhost_protocol.specs.Error.{Error}
 use Rattle.vhost_protocol.specs.Row.{row_of}
-use Rattle.vhost_protocol.specs.Session.{Session}
+use Rattle.vhost_protocol.specs.Session.{Session, heard_in}
 use Rattle.vhost_protocol.specs.Split.{Message}
 use Rattle.vhost_protocol.specs.Step.{Step}
 use Rattle.vhost_link.specs.Law.{Event}
@@ -58,7 +57,7 @@ module _ {H : Type 0} (B G : Type 0) where
     pub record Begins (old new : SessionCore L H) : Type 0 where
       pub pending : Pending H
       pub is : new.pending ≡ Some pending
-      pub reads : ReadsMessage event request_of allows_handles (endpoint_of old) pending.request pending.handles new.body.value (endpoint_of new)
+      pub reads : ReadsMessage event (heard_in (session_in old)) allows_handles (endpoint_of old) pending.request pending.handles new.body.value (endpoint_of new)
       pub prepares : Prepares (session_in old) reads.message pending.then new.server.regions
       pub settles : Settles (session_in old) reads.message pending.unanswered
       pub session : session_in new ≡ session_in old

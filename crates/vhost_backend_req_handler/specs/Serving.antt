@@ -3,11 +3,11 @@ use Rattle.std.specs.Prelude.{◌≡◌, ℕ, List, Result, Ok, Err, ⊤}
 use Rattle.vhost_message.specs.declared.error.Error as declared
 use Rattle.vhost_message.specs.declared.frontend_req.FrontendReq.{FrontendReq}
 use Rattle.vhost_message.specs.declared.frontend_req.FrontendReq.TheVariants.{GET_FEATURES}
-use Rattle.vhost_message.specs.FrontendReq.{request_of, request_number}
+use Rattle.vhost_message.specs.FrontendReq.{request_number}
 use Rattle.vhost_protocol.specs.Stream.{Cell}
 use Rattle.vhost_protocol.specs.Error.{Error, seen_result}
 use Rattle.vhost_protocol.specs.Codes.{allows_handles}
-use Rattle.vhost_protocol.specs.Session.{Session}
+use Rattle.vhost_protocol.specs.Session.{Session, heard_in}
 use Rattle.vhost_protocol.specs.DeviceCall.{Call, Answer}
 use Rattle.vhost_protocol.specs.Handler.{Follows, MeetsRow}
 use Rattle.vhost_protocol.specs.Heard.{AnswerFits}
@@ -58,23 +58,23 @@ module _ {L H B G Dev : Type 0} (event : L → Event H → L → Type 0) (gives 
 
   -- one that was served
   abbrev pub Handled : State L H → Session → Dev → Result ⊤ Error → State L H → Session → Dev → Type 0
-  Handled = serving.Handled event request_of allows_handles (λ (t : Session). t.failed) kept_unsent (MeetsRow (fitting gives) opens_backend opens_gpu)
+  Handled = serving.Handled event heard_in allows_handles (λ (t : Session). t.failed) kept_unsent (MeetsRow (fitting gives) opens_backend opens_gpu)
 
   -- one that was not
   abbrev pub Breaks : State L H → Session → Dev → declared.Error → State L H → Session → Dev → Type 0
-  Breaks = serving.Breaks event request_of allows_handles (λ (t : Session). t.failed) kept_unsent (MeetsRow (fitting gives) opens_backend opens_gpu)
+  Breaks = serving.Breaks event heard_in allows_handles (λ (t : Session). t.failed) kept_unsent (MeetsRow (fitting gives) opens_backend opens_gpu)
 
   -- one call of the handler
   abbrev pub HandlesOne : State L H → Session → Dev → Result ⊤ declared.Error → State L H → Session → Dev → Type 0
-  HandlesOne = serving.HandlesOne event request_of allows_handles (λ (t : Session). t.failed) kept_unsent (MeetsRow (fitting gives) opens_backend opens_gpu)
+  HandlesOne = serving.HandlesOne event heard_in allows_handles (λ (t : Session). t.failed) kept_unsent (MeetsRow (fitting gives) opens_backend opens_gpu)
 
   -- one call, whether or not the session is marked as failed
   abbrev pub CallsOnce : State L H → Session → Dev → Result ⊤ declared.Error → State L H → Session → Dev → Type 0
-  CallsOnce = serving.CallsOnce event request_of allows_handles (λ (t : Session). t.failed) kept_unsent (MeetsRow (fitting gives) opens_backend opens_gpu)
+  CallsOnce = serving.CallsOnce event heard_in allows_handles (λ (t : Session). t.failed) kept_unsent (MeetsRow (fitting gives) opens_backend opens_gpu)
 
   -- so many calls, and their answers behind others
   abbrev pub Runs : State L H → Session → Dev → ℕ → List (Result ⊤ declared.Error) → List (Result ⊤ declared.Error) → State L H → Session → Dev → Type 0
-  Runs = serving.Runs event request_of allows_handles (λ (t : Session). t.failed) kept_unsent (MeetsRow (fitting gives) opens_backend opens_gpu)
+  Runs = serving.Runs event heard_in allows_handles (λ (t : Session). t.failed) kept_unsent (MeetsRow (fitting gives) opens_backend opens_gpu)
 
 -- ---- what a call became goes out
 

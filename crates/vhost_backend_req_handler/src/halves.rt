@@ -74,7 +74,8 @@ impl<L: Link> SessionCore<L> {
         if let Some(number) = self.server.session.failed {
             return Err(Error::SocketBroken(IoCause::Raw(number)));
         }
-        let (request, handles) = self.endpoint.recv_request(&mut self.body[..])?;
+        let any_number = self.hears_any_number();
+        let (request, handles) = self.endpoint.recv_request(any_number, &mut self.body[..])?;
         let message = Incoming::new(
             request.code,
             request.reply,

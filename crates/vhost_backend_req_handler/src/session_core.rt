@@ -33,6 +33,7 @@ pub struct SessionCore<L: Link> {
 
 impl<L: Link> SessionCore<L> {
     ghost use Rattle.vhost_connection.specs.State.{fresh, state};
+    ghost use Rattle.vhost_protocol.specs.Profile.{is_standard};
     ghost use Rattle.vhost_backend_req_handler.specs.Core.{endpoint_of, session_in, MeetsRowWith};
     ghost use Rattle.std.specs.Borrow.{sem, Lends};
     ghost use Rattle.vhost_backend_req_handler.specs.Core.{with_endpoint};
@@ -110,6 +111,13 @@ impl<L: Link> SessionCore<L> {
         self.server.session.failed
     }
 
+    /// Whether any number is heard as that of a request, which nobody may serve.
+    pub fn hears_any_number(&self) -> bool
+        ensures { result ≡ is_standard (session_in self.now).profile }
+    {
+        self.server.session.is_standard()
+    }
+
     /// Whose behaviour the session has from now on: that of the crate `vhost`, as at first, or that of the specification and of
     /// real frontends.
     pub fn set_profile(&mut self, profile: Profile)
@@ -141,7 +149,8 @@ impl<L: Link> SessionCore<L> {
             return Err(Error::SocketBroken(IoCause::Raw(number)));
         }
         self.pending = None;
-        let (request, mut handles) = self.endpoint.recv_request(&mut self.body[..])?;
+        let any_number = self.hears_any_number();
+        let (request, mut handles) = self.endpoint.recv_request(any_number, &mut self.body[..])?;
         self.answer(device, request, &mut handles)
     }
 

@@ -1,26 +1,30 @@
 -- An answer is taken before anything came of it.
 use Rattle.std.proofs.Common.{◌≡◌, ℕ, Option, None, Some, Result, Ok, Err, refl, ◌∙◌, ap, arith}
 use Rattle.std.specs.Prelude.{⊤}
-use Rattle.vhost_protocol.specs.FrontendCall.{GetFeatures}
+use Rattle.vhost_protocol.specs.FrontendCall.{FrontendCall, GetFeatures}
 use Rattle.vhost_protocol.specs.declared.asked.Awaited.{Awaited}
 use Rattle.vhost_protocol.specs.declared.asked.Awaited.TheVariants.{Reply}
 use Rattle.vhost_protocol.specs.declared.asked.Shape.TheVariants as shape
+use Rattle.vhost_protocol.specs.declared.profile.Profile.{Profile}
+use Rattle.vhost_protocol.specs.declared.profile.Profile.TheVariants.{Vhost, Standard}
+use Rattle.vhost_link.specs.declared.plain.PlainHandle.{PlainHandle}
 use Rattle.vhost_c.specs.Incoming.{missing_from}
 use Rattle.vhost_c_common.specs.Number.{outcome_number}
 use Rattle.vhost_c_common.specs.ByNumber.{By, some}
-use Rattle.vhost_c.specs.Session.{Asking, Opens, opened, was_open, no_room, Asks, sent, at_once, Takes, kept, failed, other_size, nothing_asked, not_yet, missing_for, missing_of}
+use Rattle.vhost_c.specs.Session.{Asking, Opens, opened, was_open, no_room, Asks, sent, at_once, Takes, kept, failed, other_size, nothing_asked, not_yet, missing_for, missing_of, remembers}
 use Rattle.vhost_c_common.specs.declared.incoming.Incoming.{Incoming}
 use Rattle.vhost_c_common.specs.declared.refusal.Refusal.{Refusal}
 use Rattle.vhost_c.specs.declared.session.Session.{Session}
 
 -- of a reply of which nothing came, all of its header is missing
-whole : (a : Awaited) (i : Incoming) → a ≡ Reply shape.U64 → i.count ≡ 0 → missing_from a i ≡ 12
-whole a i is none = rw (is, none) refl
+whole : (profile : Profile) (call : FrontendCall PlainHandle) (a : Awaited) (i : Incoming) → a ≡ Reply shape.U64 → i.count ≡ 0 → missing_from profile call a i ≡ 12
+whole Vhost call a i is none = rw (is, none) refl
+whole Standard call a i is none = rw (is, none) refl
 
 -- so it is of the features that were asked for
 pub all-missing : (old new : Session) → Asks GetFeatures old new → missing_of new ≡ 12
 all-missing old new (sent w is queue keeps same) =
-    ap (λ a. missing_for a new.incoming) keeps.is ∙ whole keeps.kept.sent.awaited new.incoming (keeps.awaited ∙ cc is) keeps.nothing_came
+    ap (λ a. missing_for (remembers new).profile a new.incoming) keeps.is ∙ whole (remembers new).profile _ keeps.kept.sent.awaited new.incoming (keeps.awaited ∙ cc is) keeps.nothing_came
 all-missing old new (at_once flags is memory queue asked incoming answer) = absurd (cc is)
 
 -- and then it is too early
@@ -28,7 +32,7 @@ pub too-early : (s s' : Session) (outcome : Result ⊤ Refusal) → missing_of s
 too-early s s' _ all (kept asked zero sized one names fine) = absurd (omega (arith, all, zero))
 too-early s s' _ all (failed asked zero sized one done) = absurd (omega (arith, all, zero))
 too-early s s' _ all (other_size asked nothing zero other one done) = absurd (omega (arith, all, zero))
-too-early s s' _ all (nothing_asked bare same) = absurd (let zero : missing_of s ≡ 0 = ap (λ a. missing_for a s.incoming) bare in omega (arith, all, zero))
+too-early s s' _ all (nothing_asked bare same) = absurd (let zero : missing_of s ≡ 0 = ap (λ a. missing_for (remembers s).profile a s.incoming) bare in omega (arith, all, zero))
 too-early s s' _ all (not_yet more same) = refl
 
 never : (r : Refusal) → outcome_number (Err r) ≡ 0 → ⊥

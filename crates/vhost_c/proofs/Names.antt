@@ -14,7 +14,7 @@ use Rattle.vhost_protocol.specs.AnswerTable.{Answered, answered, plain_value, al
 use Rattle.vhost_protocol.specs.Ask.{config}
 use Rattle.vhost_protocol.specs.Error.{Error, InvalidParam, InvalidMessage, PartialMessage, BackendInternalError}
 use Rattle.vhost_protocol.specs.FrontendCall.{FrontendCall, GetFeatures, GetProtocolFeatures, GetQueueNum, SetMemTable, SetLogBase, GetVringBase, GetConfig, GetSharedObject, GetInflightFd, GetMaxMemSlots, AddMemRegion, GetShmemConfig, SetDeviceStateFd, CheckDeviceState, PostcopyAdvise, PostcopyEnd, Value, Nothing, Number, ConfigOf, HandleOf, InflightOf, StateHandle, Frontend}
-use Rattle.vhost_protocol.specs.ReplySplit.{Received, received, reply_split, bare_or_reply, not_bare, is_bare_reply, whole_split, is_right, apart, parted, then_made, is_empty_reply, parted_or_none}
+use Rattle.vhost_protocol.specs.ReplySplit.{Received, received, reply_split, bare_or_reply, not_bare, is_bare_reply, whole_split, has_size, has_config_size, is_right, apart, parted, then_made, is_empty_reply, parted_or_none}
 use Rattle.vhost_protocol.specs.Served.{Acknowledged}
 use Rattle.vhost_protocol.specs.Session.{is_listen}
 use Rattle.vhost_protocol.specs.Split.{Splits}
@@ -167,16 +167,16 @@ module _ {H : Type 0} where
       either-has (first_handles cells) (is_shorter (MSG_HEADER_SIZE + size) cells) (Err PartialMessage, []) (received is_known h valid (first_handles cells) body n rest) tt (received-has h valid (first_handles cells) body n rest)
 
   -- the same by its header
-  whole-has : (cells : List (Cell H)) → Has (first_handles cells) (whole_split is_known cells).0
+  whole-has : (is_awaited : Header → Bool) (cells : List (Cell H)) → Has (first_handles cells) (whole_split is_awaited cells).0
   unfolding whole_split
-  whole-has cells =
+  whole-has is_awaited cells =
       let h : Header = header_of (bytes (front MSG_HEADER_SIZE cells)) in
       let behind : List (Cell H) = drop MSG_HEADER_SIZE cells in
       let came : List H = first_handles cells in
       let found : Result (Received H) Error × List (Cell H) = (Ok (record { header = h; body = bytes (front h.size behind); payload = []; handles = came }), drop h.size behind) in
       let known : Result (Received H) Error × List (Cell H) = if is_shorter h.size behind then (Err PartialMessage, []) else found in
-      either-has came (is_shorter MSG_HEADER_SIZE cells) (Err PartialMessage, []) (if not (is_known h) then (Err InvalidMessage, behind) else known) tt
-      (either-has came (not (is_known h)) (Err InvalidMessage, behind) known tt (either-has came (is_shorter h.size behind) (Err PartialMessage, []) found tt refl))
+      either-has came (is_shorter MSG_HEADER_SIZE cells) (Err PartialMessage, []) (if not (is_awaited h) then (Err InvalidMessage, behind) else known) tt
+      (either-has came (not (is_awaited h)) (Err InvalidMessage, behind) known tt (either-has came (is_shorter h.size behind) (Err PartialMessage, []) found tt refl))
 
   parted-has : (size : ℕ) (valid : List ℕ → Bool) (n : ℕ) (came : List H) (x : Result (Received H) Error × List (Cell H)) → Has came x.0 → Has came (then_made is_known (parted is_known size valid n) x).0
   parted-has size valid n came (Ok r, rest) has = go (is_right is_known size valid n r)
@@ -189,9 +189,9 @@ module _ {H : Type 0} where
   -- by each profile
   reply-has : (s : Shape) (p : Profile) (n : ℕ) (cells : List (Cell H)) → Has (first_handles cells) (reply_cut s p n cells).0
   reply-has shape.Log Vhost n cells = cut-has 16 (is_valid_record shape.Log) 0 cells
-  reply-has shape.Log Standard n cells = whole-has cells
+  reply-has shape.Log Standard n cells = whole-has is_known cells
   reply-has s Vhost n cells = cut-has (record_size s) (is_valid_record s) n cells
-  reply-has s Standard n cells = parted-has (record_size s) (is_valid_record s) n (first_handles cells) (whole_split is_known cells) (whole-has cells)
+  reply-has s Standard n cells = parted-has (record_size s) (is_valid_record s) n (first_handles cells) (whole_split (has_size is_known (record_size s + n)) cells) (whole-has (has_size is_known (record_size s + n)) cells)
 
   none-named : (call : FrontendCall H) (sent : Header) (f : Frontend) (n : ℕ) (came : List H) (x : Result (Received H) Error × List (Cell H)) → Has came x.0
       → SomeNames came (understood_config call sent f (then_made is_known (parted_or_none is_known (answers sent) (is_valid_record shape.Config) n) x).0)
@@ -214,7 +214,7 @@ module _ {H : Type 0} where
 
   bytes-taken : (call : FrontendCall H) (p : Profile) (room : ℕ) (sent : Header) (f : Frontend) (cells : List (Cell H)) → SomeNames (first_handles cells) (understood_config call sent f (config_cut p sent room cells).0)
   unfolding bare_or_reply
-  bytes-taken call Standard room sent f cells = none-named call sent f room (first_handles cells) (whole_split is_known cells) (whole-has cells)
+  bytes-taken call Standard room sent f cells = none-named call sent f room (first_handles cells) (whole_split (has_config_size is_known room) cells) (whole-has (has_config_size is_known room) cells)
   bytes-taken call Vhost room sent f cells =
       let split : Result (Received H) Error × List (Cell H) = reply_split is_known 12 (is_valid_record shape.Config) room cells in
       let came : List H = first_handles cells in

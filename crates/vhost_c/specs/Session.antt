@@ -61,13 +61,13 @@ abbrev pub remembers : Session → Frontend
 remembers s = session_of s.frontend
 
 -- how many bytes can be told to be missing of an answer: none where nothing is asked
-abbrev pub missing_for : Option CallAsked → Incoming → ℕ
-missing_for None i = 0
-missing_for (Some asked) i = missing_from asked.sent.awaited i
+abbrev pub missing_for : Profile → Option CallAsked → Incoming → ℕ
+missing_for profile None i = 0
+missing_for profile (Some asked) i = missing_from profile (call_of asked.call) asked.sent.awaited i
 
 -- the same of a session
 abbrev pub missing_of : Session → ℕ
-missing_of s = missing_for s.asked s.incoming
+missing_of s = missing_for (remembers s).profile s.asked s.incoming
 
 -- the same where there may be none
 abbrev pub missing_at : Option Session → ℕ

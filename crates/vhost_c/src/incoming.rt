@@ -2,19 +2,46 @@
 
 ghost use Rattle.std.specs.Prelude.{◌≡◌, ◌≤◌};
 ghost use Rattle.vhost_message.specs.Header.{header_of};
-ghost use Rattle.vhost_message.specs.declared.limits.TheConstants.{MAX_MSG_SIZE as the_most};
+ghost use Rattle.vhost_message.specs.declared.limits.TheConstants.{MAX_MSG_SIZE as the_most, MAX_MSG_TEXT};
 ghost use Rattle.vhost_protocol.specs.Take.{record_size as size_of_record};
-ghost use Rattle.vhost_protocol.specs.declared.profile.Profile.TheVariants.{Vhost};
 ghost use Rattle.vhost_frontend_core.specs.Values.{call_of};
-ghost use Rattle.vhost_c.specs.Incoming.{behind as list_behind, is_sized as has_size};
+ghost use Rattle.vhost_c.specs.Incoming.{behind as list_behind, is_sized as has_size, missing_from as missing_of_reply};
 
 use vhost_c_common::Incoming;
 use vhost_frontend_core::{Awaited, FrontendCall};
-use vhost_message::{MAX_MEM_REGIONS, MAX_MSG_SIZE, MEMORY_HEAD_SIZE, MEMORY_REGION_SIZE};
+use vhost_message::{
+    FrontendReq, MAX_MEM_REGIONS, MAX_MSG_SIZE, MEMORY_HEAD_SIZE, MEMORY_REGION_SIZE,
+    MSG_HEADER_SIZE,
+};
 use vhost_protocol::{Profile, Shape};
 
+/// How many bytes are known to be missing of the reply that is awaited. Under `Standard` its body is not waited for where the
+/// header decides that it is refused: that may never come.
+pub(crate) fn missing_from(
+    incoming: &Incoming,
+    profile: Profile,
+    call: &FrontendCall,
+    awaited: Awaited,
+) -> usize
+    ensures missing { result ≡ missing_of_reply profile (call_of call.now) awaited incoming.now }
+    ensures within { result ≤ MAX_MSG_TEXT }
+{
+    match awaited {
+        Awaited::Nobody => 0,
+        _ => {
+            if !profile.is_standard() {
+                return incoming.missing();
+            }
+            if incoming.count >= MSG_HEADER_SIZE && !is_sized(incoming, profile, call, awaited) {
+                return 0;
+            }
+            incoming.missing_by::<FrontendReq>(false)
+        }
+    }
+}
+
 /// Whether what came announces an answer of the size that this call's has. In place of bytes of the configuration space the
-/// record may come alone. Under `Standard` the answer is read by its header, whatever size that announces.
+/// record may come alone, and under `Standard` nothing. Under `Standard` the answer about a log may have any size.
 pub(crate) fn is_sized(
     incoming: &Incoming,
     profile: Profile,
@@ -23,21 +50,16 @@ pub(crate) fn is_sized(
 ) -> bool
     ensures { result ≡ has_size profile (call_of call.now) awaited (header_of incoming.now.head).size }
 {
-    match profile {
-        Profile::Standard => true,
-        Profile::Vhost => has_size_of(incoming, call, awaited),
-    }
-}
-
-/// The same where the size has to be this.
-fn has_size_of(incoming: &Incoming, call: &FrontendCall, awaited: Awaited) -> bool
-    ensures { result ≡ has_size Vhost (call_of call.now) awaited (header_of incoming.now.head).size }
-{
     let size = incoming.size();
     match awaited {
         Awaited::Nobody => true,
         Awaited::Ack => size == 8,
-        Awaited::Reply(Shape::Config) => size == 12 || size == 12 + behind(call),
+        Awaited::Reply(Shape::Config) => {
+            size == 12 || size == 12 + behind(call) || profile.is_standard() && size == 0
+        }
+        Awaited::Reply(Shape::Log) => {
+            size == record_size(Shape::Log) + behind(call) || profile.is_standard()
+        }
         Awaited::Reply(shape) => size == record_size(shape) + behind(call),
     }
 }

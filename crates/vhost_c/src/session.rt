@@ -12,7 +12,7 @@ ghost use Rattle.vhost_protocol.specs.declared.profile.Profile.TheVariants.{Stan
 ghost use Rattle.vhost_c.specs.Awaiting.{awaited_of};
 
 use crate::carrying::{collect, forget, forget_arrived, give, take_nothing};
-use crate::incoming::is_sized;
+use crate::incoming::{is_sized, missing_from};
 use std::alloc::Global;
 use vhost_c_common::{Incoming, Outgoing, Refusal, handles_of, inactive_of};
 use vhost_connection::talks_law;
@@ -187,10 +187,12 @@ impl Session {
     {
         match &self.asked {
             None => 0,
-            Some(asked) => match asked.sent.awaited() {
-                Awaited::Nobody => 0,
-                _ => self.incoming.missing(),
-            },
+            Some(asked) => missing_from(
+                &self.incoming,
+                self.frontend.profile(),
+                &asked.call,
+                asked.sent.awaited(),
+            ),
         }
     }
 
@@ -224,8 +226,7 @@ impl Session {
     /// Decodes the answer of the call that was asked.
     ///
     /// NothingAsked: no call's answer is still to be decoded. NotYet: bytes are missing. After both, nothing changed.
-    /// InvalidMessage: the answer has another size than this call's, and nothing of it was read, but under `Standard`, where it
-    /// is read by its header. The errors of the call.
+    /// InvalidMessage: the answer has another size than this call's, and nothing of it was read. The errors of the call.
     /// After these, nothing is asked any more.
     pub(crate) fn take(&mut self) -> Outcome<()>
         ensures { Takes self.old self.new result }

@@ -4,9 +4,8 @@ use Rattle.std.specs.Prelude.{⊤, Vec, IfSome, is_some, ok_or, if◌then◌else
 use Rattle.std.specs.Global.{Global}
 use Rattle.vhost_message.specs.declared.error.Error as declared
 use Rattle.vhost_message.specs.declared.records.shmem.VhostUserShMemConfig.{VhostUserShMemConfig}
-use Rattle.vhost_message.specs.FrontendReq.{request_of}
 use Rattle.vhost_protocol.specs.Codes.{allows_handles}
-use Rattle.vhost_protocol.specs.Session.{Session}
+use Rattle.vhost_protocol.specs.Session.{Session, heard_in}
 use Rattle.vhost_protocol.specs.Settled.{settled}
 use Rattle.vhost_protocol.specs.Split.{split}
 use Rattle.vhost_protocol.specs.Step.{Outcome, Step}
@@ -31,13 +30,12 @@ use Rattle.vhost_backend_req_handler.specs.Serving.{Finishes, finished, stopped,
 use Rattle.vhost_backend_req_handler.specs.declared.halves.Pending.{Pending}
 use Rattle.vhost_backend_req_handler.specs.declared.session_core.SessionCore.{SessionCore}
 use Rattle.vhost_c_common.proofs.Hearing.{hears-cut, replies-told}
-use Rattle.vhost_c_common.specs.Incoming.{missing_of_request}
 use Rattle.vhost_c_common.specs.declared.outgoing.Outgoing.{Outgoing}
 use Rattle.vhost_c_common.specs.declared.refusal.Refusal.{Refusal}
 use Rattle.vhost_c_common.specs.declared.refusal.Refusal.TheVariants.{Protocol, NothingAsked, OtherCall}
 use Rattle.vhost_c_backend.specs.Calls.{asked_number, call_number}
 use Rattle.vhost_c_backend.specs.Replies.{form_in}
-use Rattle.vhost_c_backend.specs.Served.{remembers, has_call, missing_of}
+use Rattle.vhost_c_backend.specs.Served.{remembers, has_call, missing_of, missing_of_request}
 use Rattle.vhost_c_backend.specs.Serving as serving
 use Rattle.vhost_c_backend.specs.Serving.{Request, Channel, Display, row, IsCall, IsServed, Tells, Puts, Concludes, told, Answers, Replies, done, failed, rejected, IsDue}
 use Rattle.vhost_c_backend.specs.declared.replies.Form.{Form}
@@ -127,8 +125,8 @@ served old new b = record {
 }
 
 -- bytes are missing of a request where no call is to be replied to
-pub some-missing : (s : Served) → has_call s ≡ false → 0 < missing_of_request s.incoming → 0 < missing_of s
-some-missing s idle some = subst (λ n. 0 < n) (sym (ap (λ b. if b then 0 else missing_of_request s.incoming) idle)) some
+pub some-missing : (s : Served) → has_call s ≡ false → 0 < missing_of_request s → 0 < missing_of s
+some-missing s idle some = subst (λ n. 0 < n) (sym (ap (λ b. if b then 0 else missing_of_request s) idle)) some
 
 -- what a step asks is what its call asks, where it does not refuse
 one : (hs : List PlainHandle) (next : PlainHandle → Step PlainHandle Channel Display) (n : ℕ) → ((h : PlainHandle) → asked_number (next h) ≡ n) → Makes (with_one hs next) → asked_number (with_one hs next) ≡ n
@@ -153,15 +151,15 @@ asks s m (call.SetDeviceStateFd direction phase) makes = one m.handles _ 42 (λ 
 asks s m _ makes = refl
 
 -- none are missing where none are of the request
-pub is-due : (s : Served) (n : ℕ) → has_call s ≡ false → n ≡ missing_of_request s.incoming → n ≤ 0 → IsDue s
+pub is-due : (s : Served) (n : ℕ) → has_call s ≡ false → n ≡ missing_of_request s → n ≤ 0 → IsDue s
 is-due s n idle is none =
-    let zero : missing_of_request s.incoming ≡ 0 = omega arith in
-    record { idle = idle; whole = ap (λ b. if b then 0 else missing_of_request s.incoming) idle ∙ zero }
+    let zero : missing_of_request s ≡ 0 = omega arith in
+    record { idle = idle; whole = ap (λ b. if b then 0 else missing_of_request s) idle ∙ zero }
 
 pub begins : TalksLaw → (old new : Served) (number : ℕ) (c : DeviceCall) (b : halves.Begins Channel Display event old.core new.core) → new.outgoing ≡ old.outgoing → new.incoming.count ≡ 0 → new.inactive ≡ 0 → number ≡ call_number c
     → ((m : Request) → IsServed m new → (d : DeviceCall) × (Some c ≡ Some d) × IsCall (remembers new) m d) → IsDue old → serving.Begins number old new
 begins law old new number c b outgoing count inactive is lends due =
-    let cut = hears-cut law (split request_of allows_handles) (endpoint_of old.core) (endpoint_of new.core) (Ok b.reads.message) b.reads.hears in
+    let cut = hears-cut law (split (heard_in (remembers old)) allows_handles) (endpoint_of old.core) (endpoint_of new.core) (Ok b.reads.message) b.reads.hears in
     let x = served old new b in let d = lends b.reads.message x in
     let makes : Makes (step_of {B = Channel} {G = Display} (remembers new) b.reads.message d.0) =
     subst {A = Step PlainHandle Channel Display} (λ t. Makes t) (sym x.prepares.row ∙ d.2) x.prepares.makes in

@@ -7,14 +7,13 @@ use Rattle.vhost_message.specs.declared.frontend_req.FrontendReq.{FrontendReq}
 use Rattle.vhost_message.specs.declared.frontend_req.FrontendReq.TheVariants.{GET_FEATURES, SET_OWNER, RESET_OWNER}
 use Rattle.vhost_message.specs.declared.records.memory.VhostUserMemoryRegion.{VhostUserMemoryRegion}
 use Rattle.vhost_message.specs.declared.records.shmem.VhostUserShMemConfig.{VhostUserShMemConfig}
-use Rattle.vhost_message.specs.FrontendReq.{request_of}
 use Rattle.vhost_protocol.specs.Codes.{allows_handles}
 use Rattle.vhost_protocol.specs.Error.{Error, BackendInternalError}
 use Rattle.vhost_protocol.specs.Served.{Served as Told, Silent, Acknowledged, Replied}
 use Rattle.vhost_protocol.specs.Profile.{is_standard}
 use Rattle.vhost_protocol.proofs.SettleLaws.{settled-answer}
 use Rattle.vhost_protocol.specs.Settled.{awaits_reply, ended, refused_reply, saying, settled}
-use Rattle.vhost_protocol.specs.Session.{Session, ack_on}
+use Rattle.vhost_protocol.specs.Session.{Session, ack_on, heard_in}
 use Rattle.vhost_protocol.specs.Split.{split, split_after, split_body, body_outcome}
 use Rattle.vhost_protocol.specs.Step.{Outcome, with_ack}
 use Rattle.vhost_protocol.specs.Stream.{Cell, plain, carrying}
@@ -57,11 +56,11 @@ plain-text : (text : List ℕ) → carrying {H = PlainHandle} [] text ≡ plain 
 plain-text [] = refl
 plain-text (b ∷ bs) = refl
 
-module _ (text : List ℕ) (m : Request) (memory : Session) (queue : List (Cell PlainHandle)) (number : ℕ) (is : split request_of allows_handles (plain text) ≡ (Ok m, [])) (unmarked : memory.failed ≡ None) where
+module _ (text : List ℕ) (m : Request) (memory : Session) (queue : List (Cell PlainHandle)) (number : ℕ) (is : split (heard_in memory) allows_handles (plain text) ≡ (Ok m, [])) (unmarked : memory.failed ≡ None) where
   read : (s : Served) {n : ℕ} {new : Option Served} → arrived s ≡ plain text → remembers s ≡ memory → queued s ≡ queue → By (Beginning number) (Some s) n new → n ≡ 0 → IsSomeAnd new (HasRead m memory queue number)
   read s came memory-is queue-is (some {s' = t} {outcome = Ok u} begins) zero =
       let b : Begins number s t = begins.0 (ap {A = Session} (λ k. k.failed) memory-is ∙ unmarked) in
-      let both : (Ok b.message, arrived t) ≡ (Ok m, []) = sym b.came ∙ ap (split request_of allows_handles) came ∙ is in
+      let both : (Ok b.message, arrived t) ≡ (Ok m, []) = sym b.came ∙ ap (λ cells. split (heard_in (remembers s)) allows_handles cells) came ∙ ap {A = Session} (λ k. split (heard_in k) allows_handles (plain text)) memory-is ∙ is in
       let same : b.message ≡ m = cc (ap (λ x. x.0) both) in
       record {
         served = subst {A = Request} (λ k. IsServed k t) same b.served;
@@ -233,14 +232,14 @@ numbered m memory queue number (Some s) has = has.is_number
 numbered m memory queue number None has = absurd has
 
 -- the bytes of each are that message
-pub features-splits : split request_of allows_handles (plain (bare_request 1)) ≡ (Ok (asks GET_FEATURES), [])
+pub features-splits : split (heard_in new_session) allows_handles (plain (bare_request 1)) ≡ (Ok (asks GET_FEATURES), [])
 unfolding split split_after split_body body_outcome
 features-splits = refl
 
-pub owner-splits : split request_of allows_handles (plain (bare_request 3)) ≡ (Ok (asks SET_OWNER), [])
+pub owner-splits : split (heard_in new_session) allows_handles (plain (bare_request 3)) ≡ (Ok (asks SET_OWNER), [])
 unfolding split split_after split_body body_outcome
 owner-splits = refl
 
-pub reset-splits : split request_of allows_handles (plain (bare_request 4)) ≡ (Ok (asks RESET_OWNER), [])
+pub reset-splits : split (heard_in new_session) allows_handles (plain (bare_request 4)) ≡ (Ok (asks RESET_OWNER), [])
 unfolding split split_after split_body body_outcome
 reset-splits = refl

@@ -4,14 +4,14 @@ use Rattle.vhost_message.specs.declared.limits.TheConstants.{MSG_HEADER_SIZE}
 use Rattle.vhost_message.specs.declared.error.Error.TheVariants.{InvalidParam}
 use Rattle.vhost_protocol.specs.declared.profile.Profile.{Profile}
 use Rattle.vhost_protocol.specs.declared.profile.Profile.TheVariants.{Standard}
-use Rattle.vhost_protocol.specs.Session.{Session, fresh}
+use Rattle.vhost_protocol.specs.Session.{Session, fresh, heard_in}
 use Rattle.vhost_protocol.specs.Stream.{Cell}
 use Rattle.vhost_link.specs.Ends.{Ends}
 use Rattle.vhost_link.specs.declared.plain.PlainHandle.{PlainHandle}
 use Rattle.vhost_connection.specs.Memory.{stream}
 use Rattle.vhost_connection.specs.Talk.{State}
 use Rattle.vhost_backend_req_handler.specs.Core.{endpoint_of, session_in}
-use Rattle.vhost_c_common.specs.Incoming.{missing_of_request, Adds}
+use Rattle.vhost_c_common.specs.Incoming.{missing_by, Adds}
 use Rattle.vhost_c_common.specs.Moving.{HandsOut, TakesIn}
 use Rattle.vhost_c_common.specs.Number.{error_number}
 use Rattle.vhost_c_common.specs.declared.refusal.Refusal.{Refusal}
@@ -38,9 +38,13 @@ remembers s = session_in s.core
 abbrev pub has_call : Served → Bool
 has_call s = is_some s.core.pending
 
--- how many bytes can be told to be missing of a request: none where a call is to be replied to
+-- how many bytes can be told to be missing of the next request
+abbrev pub missing_of_request : Served → ℕ
+missing_of_request s = missing_by (heard_in (remembers s)) s.incoming
+
+-- the same: none where a call is to be replied to
 abbrev pub missing_of : Served → ℕ
-missing_of s = if has_call s then 0 else missing_of_request s.incoming
+missing_of s = if has_call s then 0 else missing_of_request s
 
 -- The call that is to be replied to, and what is remembered, are as before.
 pub record Rests (old new : Served) : Type 0 where

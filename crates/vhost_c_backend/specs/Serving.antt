@@ -6,12 +6,11 @@ use Rattle.vhost_message.specs.declared.error.Error.TheVariants.{SocketBroken}
 use Rattle.vhost_message.specs.declared.frontend_req.FrontendReq.{FrontendReq}
 use Rattle.vhost_message.specs.declared.records.memory.VhostUserMemoryRegion.{VhostUserMemoryRegion}
 use Rattle.vhost_message.specs.declared.records.shmem.VhostUserShMemConfig.{VhostUserShMemConfig}
-use Rattle.vhost_message.specs.FrontendReq.{request_of}
 use Rattle.vhost_message.specs.Records.{shmem_config}
 use Rattle.vhost_protocol.specs.Codes.{allows_handles}
 use Rattle.vhost_protocol.specs.Error.{seen_result}
 use Rattle.vhost_protocol.specs.Row.{row_of}
-use Rattle.vhost_protocol.specs.Session.{Session}
+use Rattle.vhost_protocol.specs.Session.{Session, heard_in}
 use Rattle.vhost_protocol.specs.Settled.{settled}
 use Rattle.vhost_protocol.specs.Split.{Message, split}
 use Rattle.vhost_protocol.specs.Step.{Step, Outcome}
@@ -104,7 +103,7 @@ pub record IsDue (s : Served) : Type 0 where
 pub record Begins (number : ℕ) (old new : Served) : Type 0 where
   pub due : IsDue old
   pub message : Request
-  pub came : split request_of allows_handles (arrived old) ≡ (Ok message, arrived new)
+  pub came : split (heard_in (remembers old)) allows_handles (arrived old) ≡ (Ok message, arrived new)
   pub served : IsServed message new
   pub is_number : number ≡ asked_number (row (remembers old) message)
   pub memory : remembers new ≡ remembers old

@@ -1,10 +1,9 @@
 -- A session between two requests, and with one that was read.
 use Rattle.std.specs.Prelude.{◌≡◌, ℕ, List, [], ◌∷◌, Option, None, Ok}
 use Rattle.std.specs.Option.{IsSomeAnd}
-use Rattle.vhost_message.specs.FrontendReq.{request_of}
 use Rattle.vhost_message.specs.Text.{digits}
 use Rattle.vhost_protocol.specs.Codes.{allows_handles}
-use Rattle.vhost_protocol.specs.Session.{Session}
+use Rattle.vhost_protocol.specs.Session.{Session, heard_in}
 use Rattle.vhost_protocol.specs.Split.{split}
 use Rattle.vhost_protocol.specs.Stream.{Cell, plain}
 use Rattle.vhost_link.specs.declared.plain.PlainHandle.{PlainHandle}
@@ -27,7 +26,7 @@ pub record HasRead (m : Request) (memory : Session) (queue : List (Cell PlainHan
 
 -- What bytes do that come and are read, where both are answered 0: if they are one message, it was read, whatever was remembered and was to be sent.
 abbrev pub Comes : List ℕ → Option Served → ℕ × ℕ → ℕ → Option Served → Type 0
-Comes text old n number new = (m : Request) (memory : Session) (queue : List (Cell PlainHandle)) → split request_of allows_handles (plain text) ≡ (Ok m, []) → memory.failed ≡ None
+Comes text old n number new = (m : Request) (memory : Session) (queue : List (Cell PlainHandle)) → split (heard_in memory) allows_handles (plain text) ≡ (Ok m, []) → memory.failed ≡ None
     → IsSomeAnd old (IsWaiting memory queue) → n.0 ≡ 0 → n.1 ≡ 0 → IsSomeAnd new (HasRead m memory queue number)
 
 -- the bytes of a request without a body

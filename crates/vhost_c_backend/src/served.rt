@@ -20,7 +20,7 @@ use vhost_c_common::{
 use vhost_connection::talks_law;
 use vhost_gpu_backend_req::GpuBackend;
 use vhost_link::{MemLink, PlainHandle};
-use vhost_message::{Error, MAX_ATTACHED_FD_ENTRIES, MSG_HEADER_SIZE, VhostUserShMemConfig};
+use vhost_message::{FrontendReq, Error, MAX_ATTACHED_FD_ENTRIES, MSG_HEADER_SIZE, VhostUserShMemConfig};
 use vhost_protocol::Profile;
 
 type Outcome<T> = std::result::Result<T, Refusal>;
@@ -42,7 +42,7 @@ pub struct Served {
 impl Served {
     ghost use Rattle.vhost_message.specs.declared.limits.TheConstants.{MAX_MSG_TEXT};
     ghost use Rattle.vhost_c_common.specs.Moving.{HandsOut};
-    ghost use Rattle.vhost_c_backend.specs.Served.{IsNew, Choosing, missing_of, Receiving, end_number, queued, Hands, remembers, has_call};
+    ghost use Rattle.vhost_c_backend.specs.Served.{IsNew, Choosing, missing_of, missing_of_request, Receiving, end_number, queued, Hands, remembers, has_call};
     ghost use Rattle.vhost_c_backend.specs.Replies.{form_in};
     ghost use Rattle.vhost_c_backend.specs.Serving.{Request, IsServed, IsCall, Nexts, Answering, AnsweringShmem, Concludes, Rests};
     ghost use Rattle.vhost_backend_core.specs.declared.call.DeviceCall.{DeviceCall};
@@ -97,7 +97,7 @@ impl Served {
         if self.core.has_call() {
             return 0;
         }
-        self.incoming.missing_of_request()
+        self.missing_of_request()
     }
 
     /// Receives bytes of the next request, with the descriptors that came with the first of them.
@@ -172,7 +172,7 @@ impl Served {
         if self.core.has_call() {
             return Err(Refusal::NotReplied);
         }
-        if self.incoming.missing_of_request() > 0 {
+        if self.missing_of_request() > 0 {
             return Err(Refusal::NotYet);
         }
         talks_law();
@@ -191,6 +191,15 @@ impl Served {
                 Err(Refusal::Protocol(error))
             }
         }
+    }
+
+    /// How many bytes are known to be missing of the next request, where no call is to be replied to.
+    fn missing_of_request(&self) -> usize
+        ensures missing { result ≡ missing_of_request self.now }
+        ensures within { result ≤ MAX_MSG_TEXT }
+    {
+        self.incoming
+            .missing_by::<FrontendReq>(self.core.hears_any_number())
     }
 
     /// The call that is to be replied to, if there is one. Its arguments are lent.

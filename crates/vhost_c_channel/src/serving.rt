@@ -76,7 +76,7 @@ impl ChannelServer {
         if self.core.has_call() {
             return 0;
         }
-        self.incoming.missing_by::<BackendReq>()
+        self.incoming.missing_by::<BackendReq>(false)
     }
 
     /// Receives bytes of the next request, with the descriptors that came with the first of them.
@@ -151,7 +151,7 @@ impl ChannelServer {
         if self.core.has_call() {
             return Err(Refusal::NotReplied);
         }
-        if self.incoming.missing_by::<BackendReq>() > 0 {
+        if self.incoming.missing_by::<BackendReq>(false) > 0 {
             return Err(Refusal::NotYet);
         }
         talks_law();

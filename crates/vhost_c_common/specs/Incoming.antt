@@ -1,6 +1,5 @@
 -- How much of a message came, and how much is missing.
 use Rattle.std.specs.Prelude.{◌≡◌, ℕ, ◌+◌, ◌-◌, ◌^◌, min, nat_lt, is_some, Option, List, ◌++◌, length, take, if◌then◌else◌}
-use Rattle.vhost_message.specs.FrontendReq.{request_of}
 use Rattle.vhost_message.specs.Header.{header_of}
 use Rattle.vhost_message.specs.declared.limits.TheConstants.{MAX_MSG_SIZE, MSG_HEADER_SIZE}
 use Rattle.vhost_protocol.specs.Split.{announced}
@@ -19,10 +18,6 @@ missing_by code i =
     if nat_lt i.count MSG_HEADER_SIZE then MSG_HEADER_SIZE - i.count
     else if is_some (announced code (header_of i.head)) then MSG_HEADER_SIZE + (header_of i.head).size - i.count
     else 0
-
--- the same of a frontend's request
-abbrev pub missing_of_request : Incoming → ℕ
-missing_of_request = missing_by request_of
 
 -- These bytes came: so many more, and the header goes on by them until it is whole.
 pub record Adds (bytes : List ℕ) (old new : Incoming) : Type 0 where

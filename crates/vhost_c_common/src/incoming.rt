@@ -1,8 +1,7 @@
 //! How much came of the message that is awaited.
 
 use vhost_message::{
-    ByteValued, FrontendReq, MAX_MSG_SIZE, MSG_HEADER_SIZE, Req, VhostUserMsgHeader,
-    VhostUserMsgValidator,
+    ByteValued, FrontendReq, MAX_MSG_SIZE, MSG_HEADER_SIZE, MsgHeader, Req, VhostUserMsgHeader,
 };
 
 type Header = VhostUserMsgHeader<FrontendReq>;
@@ -18,7 +17,8 @@ impl Incoming {
     ghost use Rattle.std.specs.Prelude.{◌≡◌, ◌≤◌};
     ghost use Rattle.vhost_message.specs.Header.{header_of};
     ghost use Rattle.vhost_message.specs.declared.limits.TheConstants.{MAX_MSG_TEXT};
-    ghost use Rattle.vhost_c_common.specs.Incoming.{missing_in, missing_by, missing_of_request, Adds};
+    ghost use Rattle.vhost_message.specs.Codes.{heard_by};
+    ghost use Rattle.vhost_c_common.specs.Incoming.{missing_in, missing_by, Adds};
 
     /// Nothing came yet.
     pub fn new() -> Incoming
@@ -46,24 +46,17 @@ impl Incoming {
         (MSG_HEADER_SIZE + size).saturating_sub(self.count)
     }
 
-    /// The same of a frontend's request.
-    pub fn missing_of_request(&self) -> usize
-        ensures missing { result ≡ missing_of_request self.now }
-        ensures within { result ≤ MAX_MSG_TEXT }
-    {
-        self.missing_by::<FrontendReq>()
-    }
-
-    /// The same of a request that is one of these codes. The body is not waited for where the header is not that of a request.
-    pub fn missing_by<R: Req>(&self) -> usize
-        ensures missing { result ≡ missing_by R.code self.now }
+    /// The same of a request that is one of these codes, or has any number. The body is not waited for where the header is not
+    /// that of a request.
+    pub fn missing_by<R: Req>(&self, any_number: bool) -> usize
+        ensures missing { result ≡ missing_by (heard_by R.code R.any any_number) self.now }
         ensures within { result ≤ MAX_MSG_TEXT }
     {
         if self.count < MSG_HEADER_SIZE {
             return MSG_HEADER_SIZE - self.count;
         }
         let header = VhostUserMsgHeader::<R>::decode(&self.head);
-        if !header.is_valid() {
+        if !header.is_heard(any_number) {
             return 0;
         }
         (MSG_HEADER_SIZE + header.get_size() as usize).saturating_sub(self.count)

@@ -17,7 +17,7 @@ use Rattle.vhost_connection.specs.Serving as serving
 use Rattle.vhost_connection.specs.Serving.{Handled, Breaks, HandlesOne, CallsUnless, CallsOnce, CallsMany, WholeRun, BrokenRun, RunsMany, Runs}
 use Rattle.vhost_connection.proofs.Serving.{as-entry}
 
-module _ {L R H S A Dev : Type 0} (event : L → Event H → L → Type 0) (request_of : ℕ → Option R) (allows_handles : R → ℕ → Bool) (failed : S → Option ℤ)
+module _ {L R H S A Dev : Type 0} (event : L → Event H → L → Type 0) (request_of : S → ℕ → Option R) (allows_handles : R → ℕ → Bool) (failed : S → Option ℤ)
     (kept : R → S → S → S) (Meets : S → Dev → Message R H → Result A Error → List (Cell H) → S → Dev → Type 0) where
   -- one more call behind others
   calls-more : (old mid new : State L H) (s t s' : S) (d between d' : Dev) (answers : List (Result A declared.Error)) (answer : Result A declared.Error)
@@ -168,7 +168,7 @@ module _ {L R H S A Dev : Type 0} (event : L → Event H → L → Type 0) (requ
       go None failed_so one = one refl
 
 -- What meets a row meets another one, where each device is seen as one of another type: so does a call.
-module _ {L R H S A Dev Seen : Type 0} (event : L → Event H → L → Type 0) (request_of : ℕ → Option R) (allows_handles : R → ℕ → Bool) (failed : S → Option ℤ)
+module _ {L R H S A Dev Seen : Type 0} (event : L → Event H → L → Type 0) (request_of : S → ℕ → Option R) (allows_handles : R → ℕ → Bool) (failed : S → Option ℤ)
     (kept : R → S → S → S) (Meets : S → Dev → Message R H → Result A Error → List (Cell H) → S → Dev → Type 0) (Wider : S → Seen → Message R H → Result A Error → List (Cell H) → S → Seen → Type 0) (as_seen : Dev → Seen)
     (widens : (s s' : S) (d d' : Dev) (m : Message R H) (answer : Result A Error) (written : List (Cell H)) → Meets s d m answer written s' d' → Wider s (as_seen d) m answer written s' (as_seen d')) where
   wider-entry : (s s' : S) (d d' : Dev) (outcome : Result (Message R H) Error) (answer : Result A Error) (written : List (Cell H)) → run.Handles request_of allows_handles failed Meets s d outcome answer written s' d'

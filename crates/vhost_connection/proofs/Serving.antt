@@ -89,38 +89,38 @@ answers-as event Met Other kept turns old new s' d' _ (serving.interrupted p) =
 
 -- ---- a call
 
-module _ {L R H S A Dev : Type 0} (event : L → Event H → L → Type 0) (request_of : ℕ → Option R) (allows_handles : R → ℕ → Bool) (failed : S → Option ℤ)
+module _ {L R H S A Dev : Type 0} (event : L → Event H → L → Type 0) (request_of : S → ℕ → Option R) (allows_handles : R → ℕ → Bool) (failed : S → Option ℤ)
     (kept : R → S → S → S) (Meets : S → Dev → Message R H → Result A Error → List (Cell H) → S → Dev → Type 0) where
   -- no message was read
-  handles-none : (old new : State L H) (s : S) (d : Dev) (e : Error) → ReadsNone event request_of allows_handles old e new → Handled event request_of allows_handles failed kept Meets old s d (Err e) new s d
+  handles-none : (old new : State L H) (s : S) (d : Dev) (e : Error) → ReadsNone event (request_of s) allows_handles old e new → Handled event request_of allows_handles failed kept Meets old s d (Err e) new s d
   handles-none old new s d e h = record { heard = Err e; mid = new; hears = h.hears; written = []; replies = none-sent event new (is-ready h.hears); handles = (refl, refl, refl, refl); list = h.list }
 
   -- a message was read, and then its reply was sent
-  handles-answered : (old mid new : State L H) (s s' : S) (d d' : Dev) (m : Message R H) (answer : Result A Error) → Hears event (split request_of allows_handles) old (Ok m) mid
+  handles-answered : (old mid new : State L H) (s s' : S) (d d' : Dev) (m : Message R H) (answer : Result A Error) → Hears event (split (request_of s) allows_handles) old (Ok m) mid
       → mid.list ≡ not (has_some m.handles) → Answered event (Meets s d m) mid answer new s' d' → Handled event request_of allows_handles failed kept Meets old s d answer new s' d'
   handles-answered old mid new s s' d d' m answer h list p = record { heard = Ok m; mid = mid; hears = h; written = p.written; replies = p.replies; handles = p.meets; list = p.replies.list ∙ list }
 
   -- whatever was answered
-  handles-one : (old mid new : State L H) (s s' : S) (d d' : Dev) (m : Message R H) (result : Result A declared.Error) → Hears event (split request_of allows_handles) old (Ok m) mid
+  handles-one : (old mid new : State L H) (s s' : S) (d d' : Dev) (m : Message R H) (result : Result A declared.Error) → Hears event (split (request_of s) allows_handles) old (Ok m) mid
       → mid.list ≡ not (has_some m.handles) → Answers event (Meets s d m) (kept m.request s) mid result new s' d' → HandlesOne event request_of allows_handles failed kept Meets old s d result new s' d'
   handles-one old mid new s s' d d' m (Ok a) h list (serving.answered p) = handles-answered old mid new s s' d d' m (Ok a) h list p
   handles-one old mid new s s' d d' m (Err e) h list (serving.answered p) = inl (handles-answered old mid new s s' d d' m (Err (seen e)) h list p)
   handles-one old mid new s s' d d' m (Err e) h list (serving.interrupted p) = inr (serving.unanswered m mid h p)
 
   -- nothing was read
-  handles-nothing : (old new : State L H) (s : S) (d : Dev) (e : declared.Error) → ReadsNone event request_of allows_handles old (seen e) new ⊎ ReadsInPart event request_of allows_handles old e new
+  handles-nothing : (old new : State L H) (s : S) (d : Dev) (e : declared.Error) → ReadsNone event (request_of s) allows_handles old (seen e) new ⊎ ReadsInPart event (request_of s) allows_handles old e new
       → HandlesOne event request_of allows_handles failed kept Meets old s d (Err e) new s d
   handles-nothing old new s d e (inl h) = inl (handles-none old new s d (seen e) h)
   handles-nothing old new s d e (inr f) = inr (serving.unread f refl refl)
 
   -- no request was read
   pub handles-unread : (old new : State L H) (s : S) (d : Dev) (bytes : List ℕ) (result : Result A declared.Error) (e : declared.Error) → IsErrAnd result (λ y. y ≡ e)
-      → ReadsRequest event request_of allows_handles old (Err e) bytes new → HandlesOne event request_of allows_handles failed kept Meets old s d result new s d
+      → ReadsRequest event (request_of s) allows_handles old (Err e) bytes new → HandlesOne event request_of allows_handles failed kept Meets old s d result new s d
   handles-unread old new s d bytes result e exit p = let q = err_from_is_err_and result exit in rw (q.1, q.2) (handles-nothing old new s d e p)
 
   -- a request was read, and then it was answered
   pub handles-request : (old mid new : State L H) (s s' : S) (d d' : Dev) (bytes : List ℕ) (request : Request R) (handles : Option (Vec H Global)) (result : Result A declared.Error)
-      → ReadsRequest event request_of allows_handles old (Ok (request, handles)) bytes mid
+      → ReadsRequest event (request_of s) allows_handles old (Ok (request, handles)) bytes mid
       → ((m : Message R H) → Reads bytes request m → HandsOver handles m.handles → IsReady mid → Answers event (Meets s d m) (kept m.request s) mid result new s' d')
       → HandlesOne event request_of allows_handles failed kept Meets old s d result new s' d'
   handles-request old mid new s s' d d' bytes request handles result p row =

@@ -14,7 +14,7 @@ use Rattle.vhost_message.specs.Text.{number_at}
 use Rattle.vhost_message.specs.Valid.{is_valid_config}
 use Rattle.vhost_protocol.specs.declared.profile.Profile.TheVariants.{Standard}
 use Rattle.vhost_protocol.specs.Error.{Error, PartialMessage, InvalidMessage}
-use Rattle.vhost_protocol.specs.ReplySplit.{Received, whole_split, is_right, apart, parted, then_made, sized_split, is_empty_reply, parted_or_none}
+use Rattle.vhost_protocol.specs.ReplySplit.{Received, whole_split, has_size, has_config_size, is_right, apart, parted, then_made, sized_split, is_empty_reply, parted_or_none}
 use Rattle.vhost_protocol.specs.Stream.{Cell, bytes, first_handles, has_some, items}
 use Rattle.vhost_link.specs.Law.{Event}
 use Rattle.vhost_link.proofs.Cells.{length-bytes}
@@ -35,31 +35,35 @@ use Rattle.vhost_connection.proofs.Failing.{trouble-breaks}
 use Rattle.vhost_connection.proofs.Replies.{known-is, replies-by}
 use Rattle.vhost_connection.proofs.Whole.{whole_in, body-whole}
 
+second-true : (a b : Bool) → (a && b) ≡ true → b ≡ true
+second-true true b e = e
+second-true false b e = absurd (cc e)
+
 -- ---- what is made of what was received
 
 made : {A B : Type 0} → (A → Result B Error) → Result A Error → Result B Error
 made make (Ok a) = make a
 made make (Err e) = Err e
 
-module _ {A H : Type 0} (is_known : Header → Bool) (make : Received H → Result A Error) where
+module _ {A H : Type 0} (is_known is_awaited : Header → Bool) (make : Received H → Result A Error) where
   made-is : (x : Result (Received H) Error × List (Cell H)) → then_made is_known make x ≡ (made make x.0, x.1)
   unfolding made
   made-is (Ok r, rest) = refl
   made-is (Err e, rest) = refl
 
   -- a reply that came is made into this
-  pub hears-made : {L : Type 0} {event : L → Event H → L → Type 0} {old new : State L H} (r : Received H) (o : Result A Error) → make r ≡ o → HearsReply event (whole_split is_known) old (Ok r) new
-      → HearsReply event (λ cells. then_made is_known make (whole_split is_known cells)) old o new
+  pub hears-made : {L : Type 0} {event : L → Event H → L → Type 0} {old new : State L H} (r : Received H) (o : Result A Error) → make r ≡ o → HearsReply event (whole_split is_awaited) old (Ok r) new
+      → HearsReply event (λ cells. then_made is_known make (whole_split is_awaited cells)) old o new
   unfolding made
   hears-made {event = event} {old} {new} r o e h =
-      subst (λ y. HearsReply event (λ cells. then_made is_known make (whole_split is_known cells)) old y new) e (replies-by (made make) (Ok r) (λ cells. made-is (whole_split is_known cells)) h)
+      subst (λ y. HearsReply event (λ cells. then_made is_known make (whole_split is_awaited cells)) old y new) e (replies-by (made make) (Ok r) (λ cells. made-is (whole_split is_awaited cells)) h)
 
   -- and so is none
-  pub none-made : {L : Type 0} {event : L → Event H → L → Type 0} {old : State L H} (e : declared.Error) (new : State L H) → ReadsNone event (whole_split is_known) old e new
-      → ReadsNone event (λ cells. then_made is_known make (whole_split is_known cells)) old e new
+  pub none-made : {L : Type 0} {event : L → Event H → L → Type 0} {old : State L H} (e : declared.Error) (new : State L H) → ReadsNone event (whole_split is_awaited) old e new
+      → ReadsNone event (λ cells. then_made is_known make (whole_split is_awaited cells)) old e new
   unfolding made
-  none-made e new (ended h l) = ended (replies-by (made make) (Err PartialMessage) (λ cells. made-is (whole_split is_known cells)) h) l
-  none-made e new (refused h l) = refused (replies-by (made make) (Err InvalidMessage) (λ cells. made-is (whole_split is_known cells)) h) l
+  none-made e new (ended h l) = ended (replies-by (made make) (Err PartialMessage) (λ cells. made-is (whole_split is_awaited cells)) h) l
+  none-made e new (refused h l) = refused (replies-by (made make) (Err InvalidMessage) (λ cells. made-is (whole_split is_awaited cells)) h) l
   none-made e new (short len cs f) = short len cs f
 
 -- where none came, errors of the link break the endpoint
@@ -71,8 +75,8 @@ none-missing {event = event} {old = old} e new (short len cs f) = failed (troubl
 
 -- ---- a whole reply
 
-module _ {R L H : Type 0} (event : L → Event H → L → Type 0) (request_of : ℕ → Option R) (old mid : State L H) {cs : List (Cell H)} (h : VhostUserMsgHeader R) (hs : List H) (text : List ℕ)
-    (m : Came event old Alone (12 + (fields_of h).size) cs false mid) (w : IsWhole request_of cs h hs text) where
+module _ {R L H : Type 0} (event : L → Event H → L → Type 0) (request_of : ℕ → Option R) (is_awaited : Header → Bool) (old mid : State L H) {cs : List (Cell H)} (h : VhostUserMsgHeader R) (hs : List H) (text : List ℕ)
+    (m : Came event old Alone (12 + (fields_of h).size) cs false mid) (w : IsWhole is_awaited cs h hs text) where
   abbrev pub known : Header → Bool
   known = is_known_by request_of
 
@@ -85,20 +89,20 @@ module _ {R L H : Type 0} (event : L → Event H → L → Type 0) (request_of :
   size-is : (header_of (take 12 (bytes cs))).size ≡ (fields_of h).size
   size-is = ap (λ (x : Header). x.size) head
 
-  hears : {list : Bool} {new : State L H} → Came event old Alone (12 + (fields_of h).size) cs list new → (has_some (first_handles cs) ≡ false → list ≡ true) → HearsReply event (whole_split known) old (Ok reply) new
+  hears : {list : Bool} {new : State L H} → Came event old Alone (12 + (fields_of h).size) cs list new → (has_some (first_handles cs) ≡ false → list ≡ true) → HearsReply event (whole_split is_awaited) old (Ok reply) new
   hears k kept = record {
     hears = record {
       cells = cs;
       ended = false;
       retries = k.retries;
       serves = came-all k (omega (arith, w.size));
-      splits = body-whole known cs (ap known head ∙ known-is request_of (fields_of h) ∙ w.known) (w.size ∙ ap (λ n. 12 + n) (sym size-is));
+      splits = body-whole is_awaited cs (ap is_awaited head ∙ w.known) (w.size ∙ ap (λ n. 12 + n) (sym size-is));
     };
     list = λ bare. k.listed ∙ kept bare;
   }
 
   -- its list of handles is taken back
-  pub hears-kept : (new : State L H) → new ≡ record mid { list = true } → HearsReply event (whole_split known) old (Ok reply) new
+  pub hears-kept : (new : State L H) → new ≡ record mid { list = true } → HearsReply event (whole_split is_awaited) old (Ok reply) new
   hears-kept new s = hears (came-listed m s) (λ _. refl)
 
   kept-list : (new : State L H) → new ≡ record mid { list = true } → new.list ≡ true
@@ -108,7 +112,7 @@ module _ {R L H : Type 0} (event : L → Event H → L → Type 0) (request_of :
   given : (new : State L H) (lent : List H) → lent ≡ hs → new ≡ gives mid lent → Came event old Alone (12 + (fields_of h).size) cs (not (has_some (first_handles cs))) new
   given new lent same s = came-given m lent refl s (same ∙ w.handles)
 
-  pub hears-given : (new : State L H) (lent : List H) → lent ≡ hs → new ≡ gives mid lent → HearsReply event (whole_split known) old (Ok reply) new
+  pub hears-given : (new : State L H) (lent : List H) → lent ≡ hs → new ≡ gives mid lent → HearsReply event (whole_split is_awaited) old (Ok reply) new
   hears-given new lent same s = hears (given new lent same s) (λ e. ap not e)
 
   given-list : (new : State L H) (lent : List H) → lent ≡ hs → new ≡ gives mid lent → new.list ≡ not (has_some reply.handles)
@@ -130,16 +134,16 @@ module _ {R L H : Type 0} (event : L → Event H → L → Type 0) (request_of :
 
   -- ---- of any size
 
-  pub any-comes : (sent : Header) (new : State L H) (lent : List H) (given_on : Option (Vec H Global)) → is_reply_for request_of (fields_of h) sent ≡ true → lent ≡ hs → new ≡ gives mid lent → HandsOver given_on lent
+  pub any-comes : (sent : Header) (new : State L H) (lent : List H) (given_on : Option (Vec H Global)) → is_awaited ≡ known → is_reply_for request_of (fields_of h) sent ≡ true → lent ≡ hs → new ≡ gives mid lent → HandsOver given_on lent
       → RecvsAny event request_of old sent (Ok given_on) new
-  any-comes sent new lent given_on ok same s over = (
+  any-comes sent new lent given_on test ok same s over = (
     reply,
-    record { hears = hears-given new lent same s; answers = answers-is sent ∙ ok; list = given-list new lent same s },
+    record { hears = subst (λ t. HearsReply event (whole_split t) old (Ok reply) new) test (hears-given new lent same s); answers = answers-is sent ∙ ok; list = given-list new lent same s },
     subst (λ ks. HandsOver given_on ks) (same ∙ w.handles) over,
   )
 
-  pub any-unfit : (sent : Header) (new : State L H) → is_reply_for request_of (fields_of h) sent ≡ false → new ≡ record mid { list = true } → RecvsAny event request_of old sent (Err code.InvalidMessage) new
-  any-unfit sent new bad s = unfit reply (hears-kept new s) (answers-is sent ∙ bad)
+  pub any-unfit : (sent : Header) (new : State L H) → is_awaited ≡ known → is_reply_for request_of (fields_of h) sent ≡ false → new ≡ record mid { list = true } → RecvsAny event request_of old sent (Err code.InvalidMessage) new
+  any-unfit sent new test bad s = unfit reply (subst (λ t. HearsReply event (whole_split t) old (Ok reply) new) test (hears-kept new s)) (answers-is sent ∙ bad)
 
   -- ---- with a record, and what fills the room
 
@@ -150,31 +154,37 @@ module _ {R L H : Type 0} (event : L → Event H → L → Type 0) (request_of :
     test : List ℕ → Bool
     test bs = valid (read bs)
 
-    pub other-size : ((fields_of h).size == count + length before) ≡ false → new ≡ record mid { list = true } → RecvsReply event known request_of Standard count read valid old sent before (Err code.InvalidMessage) after new
-    other-size differs s =
-        none (hears-made known (parted known count (λ bs. valid (read bs)) (length before)) reply (Err InvalidMessage)
-        (ap (λ b. cond (b && valid (read (take count (drop 12 (bytes cs))))) (Ok (apart known count reply)) (Err InvalidMessage)) (ap (λ n. n == count + length before) size-is ∙ differs))
-        (hears-kept new s)) (kept-list new s)
+    parts : Received H → Result (Received H) Error
+    parts = parted known count test (length before)
 
-    module _ (sum : ((fields_of h).size == count + length before) ≡ true) (t : T) (is_t : t ≡ read (take count text)) where
+    -- the reply is made into this
+    heard-as : (o : Result (Received H) Error) → parts reply ≡ o → is_awaited ≡ has_size known (count + length before) → HearsReply event (whole_split is_awaited) old (Ok reply) new → HearsReply event (sized_split known count (λ bs. valid (read bs)) (length before)) old o new
+    unfolding parts test
+    heard-as o is sizes k = subst (λ t. HearsReply event (λ cells. then_made known parts (whole_split t cells)) old o new) sizes (hears-made known is_awaited parts reply o is k)
+
+    module _ (sizes : is_awaited ≡ has_size known (count + length before)) (t : T) (is_t : t ≡ read (take count text)) where
+      sum : ((fields_of h).size == count + length before) ≡ true
+      sum = second-true (known (fields_of h)) ((fields_of h).size == count + length before) (ap (λ a. a (fields_of h)) (sym sizes) ∙ w.known)
+
       full : (fields_of h).size ≡ count + length before
       full = eqb-true (fields_of h).size (count + length before) sum
 
       record-is : t ≡ read (take count (drop 12 (bytes cs)))
       record-is = is_t ∙ ap read (part-is count (omega (arith, full)))
 
-      made-as : (b : Bool) → valid t ≡ b → parted known count (λ bs. valid (read bs)) (length before) reply ≡ cond b (Ok (apart known count reply)) (Err InvalidMessage)
+      made-as : (b : Bool) → valid t ≡ b → parts reply ≡ cond b (Ok (apart known count reply)) (Err InvalidMessage)
+      unfolding parts test
       made-as b e =
           ap (λ x. cond (x && valid (read (take count (drop 12 (bytes cs))))) (Ok (apart known count reply)) (Err InvalidMessage)) (ap (λ n. n == count + length before) size-is ∙ sum)
           ∙ ap (λ x. cond (valid x) (Ok (apart known count reply)) (Err InvalidMessage)) (sym record-is)
           ∙ ap (λ x. cond x (Ok (apart known count reply)) (Err InvalidMessage)) e
 
       pub bad-record : valid t ≡ false → new ≡ record mid { list = true } → RecvsReply event known request_of Standard count read valid old sent before (Err code.InvalidMessage) after new
-      bad-record bad s = none (hears-made known (parted known count (λ bs. valid (read bs)) (length before)) reply (Err InvalidMessage) (made-as false bad) (hears-kept new s)) (kept-list new s)
+      bad-record bad s = none (heard-as (Err InvalidMessage) (made-as false bad) sizes (hears-kept new s)) (kept-list new s)
 
       pub sized-unfit : valid t ≡ true → is_reply_for request_of (fields_of h) sent ≡ false → new ≡ record mid { list = true } → RecvsReply event known request_of Standard count read valid old sent before (Err code.InvalidMessage) after new
       sized-unfit ok bad s =
-          unfit (apart known count reply) (hears-made known (parted known count (λ bs. valid (read bs)) (length before)) reply (Ok (apart known count reply)) (made-as true ok) (hears-kept new s)) (answers-is sent ∙ bad)
+          unfit (apart known count reply) (heard-as (Ok (apart known count reply)) (made-as true ok) sizes (hears-kept new s)) (answers-is sent ∙ bad)
 
       pub sized-comes : (s : ℕ) (lent : List H) (given_on : Option (Vec H Global)) → valid t ≡ true → is_reply_for request_of (fields_of h) sent ≡ true → s ≡ (fields_of h).size → lent ≡ hs → new ≡ gives mid lent → HandsOver given_on lent
           → after ≡ take ((fields_of h).size - count) (drop count text) → RecvsReply event known request_of Standard count read valid old sent before (Ok (s, t, length before, given_on)) after new
@@ -183,7 +193,7 @@ module _ {R L H : Type 0} (event : L → Event H → L → Type 0) (request_of :
           let fills : length before ≡ length (drop count (drop 12 (bytes cs))) = sym (length-drop count (drop 12 (bytes cs)) ∙ omega (arith, long, full)) in (
             apart known count reply,
             record {
-              hears = hears-made known (parted known count (λ bs. valid (read bs)) (length before)) reply (Ok (apart known count reply)) (made-as true ok) (hears-given new lent same is);
+              hears = heard-as (Ok (apart known count reply)) (made-as true ok) sizes (hears-given new lent same is);
               answers = answers-is sent ∙ answered;
               list = given-list new lent same is;
             },
@@ -197,7 +207,7 @@ module _ {R L H : Type 0} (event : L → Event H → L → Type 0) (request_of :
 
   -- ---- with configuration bytes
 
-  module _ (sent : Header) (before after : List ℕ) (new : State L H) (part : VhostUserConfig) (is_part : part ≡ config_of (take 12 text)) where
+  module _ (sent : Header) (before after : List ℕ) (new : State L H) (sizes : is_awaited ≡ has_config_size known (length before)) (part : VhostUserConfig) (is_part : part ≡ config_of (take 12 text)) where
     abbrev make : Received H → Result (Option (Received H)) Error
     make r = parted_or_none known (λ x. is_reply_for request_of x sent) (λ bs. is_valid_config (config_of bs)) (length before) r
 
@@ -240,14 +250,18 @@ module _ {R L H : Type 0} (event : L → Event H → L → Type 0) (request_of :
         ap (λ b. cond b (Ok None) (cond (is_right known 12 (λ bs. is_valid_config (config_of bs)) (length before) reply) (Ok (Some (apart known 12 reply))) (Err InvalidMessage))) (empty-is lent same ∙ empty)
         ∙ ap (λ b. cond e (Ok None) (cond b (Ok (Some (apart known 12 reply))) (Err InvalidMessage))) (right-is c right)
 
+    -- the reply is made into this
+    heard-so : (o : Result (Option (Received H)) Error) → make reply ≡ o → HearsReply event (whole_split is_awaited) old (Ok reply) new → HearsReply event (bytes_cut event request_of sent (length before)) old o new
+    heard-so o is k = subst (λ t. HearsReply event (λ cells. then_made known make (whole_split t cells)) old o new) sizes (hears-made known is_awaited make reply o is k)
+
     -- there are no such bytes
     pub config-none : (lent : List H) → lent ≡ hs → empty_test lent ≡ true → new ≡ record mid { list = true } → ReadsOrNone event request_of sent old before (Ok None) after new
-    config-none lent same empty s = hears-made known make reply (Ok None) (made-so lent true _ same empty refl) (hears-kept new s)
+    config-none lent same empty s = heard-so (Ok None) (made-so lent true _ same empty refl) (hears-kept new s)
 
     -- it has another size, or no valid record
     pub config-refused : (lent : List H) → lent ≡ hs → empty_test lent ≡ false → ((fields_of h).size == 12 + length before && is_valid_config part) ≡ false → new ≡ record mid { list = true }
         → ReadsOrNone event request_of sent old before (Err code.InvalidMessage) after new
-    config-refused lent same some wrong s = refused (hears-made known make reply (Err InvalidMessage) (made-so lent false false same some wrong) (hears-kept new s)) (kept-list new s)
+    config-refused lent same some wrong s = refused (heard-so (Err InvalidMessage) (made-so lent false false same some wrong) (hears-kept new s)) (kept-list new s)
 
     -- they came
     pub config-comes : (lent others : List H) (given_on : Option (Vec H Global)) → lent ≡ hs → others ≡ hs → empty_test lent ≡ false → ((fields_of h).size == 12 + length before && is_valid_config part) ≡ true → new ≡ gives mid others → HandsOver given_on others
@@ -256,7 +270,7 @@ module _ {R L H : Type 0} (event : L → Event H → L → Type 0) (request_of :
         let n : (fields_of h).size ≡ 12 + length before = eqb-true (fields_of h).size (12 + length before) (first ((fields_of h).size == 12 + length before) (is_valid_config part) right) in
         let payload : drop 12 (drop 12 (bytes cs)) ≡ after = behind-is 12 (length before) n ∙ sym filled in (
           apart known 12 reply,
-          hears-made known make reply (Ok (Some (apart known 12 reply))) (made-so lent false true same some right) (hears-given new others same_too is),
+          heard-so (Ok (Some (apart known 12 reply))) (made-so lent false true same some right) (hears-given new others same_too is),
           head,
           is_part ∙ ap config_of (part-is 12 (omega (arith, n))),
           sym (length-drop 12 (drop 12 (bytes cs)) ∙ omega (arith, long, n)),
@@ -271,14 +285,14 @@ module _ {R L H : Type 0} (event : L → Event H → L → Type 0) (request_of :
 -- ---- none came
 
 module _ {R L H : Type 0} {event : L → Event H → L → Type 0} {request_of : ℕ → Option R} {old : State L H} {sent : Header} where
-  pub sized-missing : (count : ℕ) (valid : List ℕ → Bool) (room : ℕ) (e : declared.Error) (new : State L H) → ReadsNone event (whole_split (is_known_by request_of)) old e new
+  pub sized-missing : (count : ℕ) (valid : List ℕ → Bool) (room : ℕ) (e : declared.Error) (new : State L H) → ReadsNone event (whole_split (has_size (is_known_by request_of) (count + room))) old e new
       → Missing event request_of (sized_split (is_known_by request_of) count valid room) old sent e (broken_on e new)
-  sized-missing count valid room e new x = none-missing e new (none-made (is_known_by request_of) (parted (is_known_by request_of) count valid room) e new x)
+  sized-missing count valid room e new x = none-missing e new (none-made (is_known_by request_of) (has_size (is_known_by request_of) (count + room)) (parted (is_known_by request_of) count valid room) e new x)
 
 module _ {R L H : Type 0} (event : L → Event H → L → Type 0) (request_of : ℕ → Option R) (old : State L H) (sent : Header) (before after : List ℕ) where
-  pub config-missing : (e : declared.Error) (new : State L H) → ReadsNone event (whole_split (is_known_by request_of)) old e new → ReadsOrNone event request_of sent old before (Err e) after new
+  pub config-missing : (e : declared.Error) (new : State L H) → ReadsNone event (whole_split (has_config_size (is_known_by request_of) (length before))) old e new → ReadsOrNone event request_of sent old before (Err e) after new
   config-missing e new x =
-      none-made (is_known_by request_of) (λ r. parted_or_none (is_known_by request_of) (λ y. is_reply_for request_of y sent) (λ bs. is_valid_config (config_of bs)) (length before) r) e new x
+      none-made (is_known_by request_of) (has_config_size (is_known_by request_of) (length before)) (λ r. parted_or_none (is_known_by request_of) (λ y. is_reply_for request_of y sent) (λ bs. is_valid_config (config_of bs)) (length before) r) e new x
 
 pub both-true : (a b : Bool) → a ≡ true → b ≡ true → (a && b) ≡ true
 both-true true b e f = f

@@ -22,7 +22,6 @@ use Rattle.vhost_connection.specs.declared.list.Front.{Front}
 use Rattle.vhost_connection.specs.declared.pass.RecvPass.{RecvPass}
 use Rattle.vhost_connection.specs.declared.pass.PassEnd.TheVariants.{Fault}
 use Rattle.vhost_connection.specs.Ahead.{Way, reads_ahead}
-use Rattle.vhost_connection.specs.Asking.{is_known_by}
 use Rattle.vhost_connection.specs.Came.{Came, CutShort, GoesOn, Alone}
 use Rattle.vhost_connection.specs.Front.{IsFront, ComesFront, ReadsFront}
 use Rattle.vhost_connection.specs.Hearing.{HearsReply}
@@ -35,7 +34,6 @@ use Rattle.vhost_connection.proofs.Came.{came-alone, came-all, came-ended, came-
 use Rattle.vhost_connection.proofs.Data.{data-came, data-cut}
 use Rattle.vhost_connection.proofs.More.{came-then, cut-then}
 use Rattle.vhost_connection.proofs.Receiving.{first-append, front-of}
-use Rattle.vhost_connection.proofs.Replies.{known-is}
 use Rattle.vhost_connection.proofs.Talking.{At, served, failed}
 
 -- ---- what lies behind a header
@@ -138,9 +136,9 @@ module _ {H : Type 0} (is_known : Header → Bool) where
 
 -- ---- what comes in
 
-module _ {R L H : Type 0} (event : L → Event H → L → Type 0) (request_of : ℕ → Option R) (old : State L H) where
+module _ (R : Type 0) {L H : Type 0} (event : L → Event H → L → Type 0) (is_awaited : Header → Bool) (old : State L H) where
   -- there was trouble within the header
-  pub head-fails : (new : State L H) (e : declared.Error) → ReadsFront event old 12 (Err e) [] new → ReadsWhole event request_of old (Err e) [] new
+  pub head-fails : (new : State L H) (e : declared.Error) → ReadsFront event old 12 (Err e) [] new → ReadsWhole {R = R} event is_awaited old (Err e) [] new
   head-fails new e (cs, p) = short 12 cs (cut-only p)
 
   module _ (mid : State L H) {cs : List (Cell H)} {front : Front H} {text : List ℕ} (m : Came event old Alone 12 cs false mid) (x : ComesFront event old 12 0 cs front text mid) where
@@ -148,11 +146,11 @@ module _ {R L H : Type 0} (event : L → Event H → L → Type 0) (request_of :
     f = x.front
 
     -- the end comes first
-    pub head-ends : (new : State L H) → front.count < 12 → new ≡ record mid { list = true } → ReadsWhole event request_of old (Err code.PartialMessage) [] new
+    pub head-ends : (new : State L H) → front.count < 12 → new ≡ record mid { list = true } → ReadsWhole {R = R} event is_awaited old (Err code.PartialMessage) [] new
     head-ends new few s =
         let n : length cs < 12 = omega (arith, few, f.counted) in
         let k = came-listed m s in
-        ended (record { hears = record { cells = cs; ended = true; retries = k.retries; serves = came-ended k n; splits = head-short (is_known_by request_of) cs n }; list = λ _. k.listed }) k.listed
+        ended (record { hears = record { cells = cs; ended = true; retries = k.retries; serves = came-ended k n; splits = head-short is_awaited cs n }; list = λ _. k.listed }) k.listed
 
     -- a header came, and was read so
     module _ (most : 12 ≤ front.count) (h : VhostUserMsgHeader R) (is_h : h ≡ of_fields (header_of (take 12 text))) where
@@ -163,44 +161,44 @@ module _ {R L H : Type 0} (event : L → Event H → L → Type 0) (request_of :
       head = ap (λ (y : VhostUserMsgHeader R). fields_of y) is_h ∙ ap header_of (front-of-text f most 12 (omega arith))
 
       -- it is not valid
-      pub head-refused : (new : State L H) → (is_some (request_of (fields_of h).code) && is_valid_header (fields_of h)) ≡ false → new ≡ record mid { list = true } → ReadsWhole event request_of old (Err code.InvalidMessage) [] new
+      pub head-refused : (new : State L H) → is_awaited (fields_of h) ≡ false → new ≡ record mid { list = true } → ReadsWhole {R = R} event is_awaited old (Err code.InvalidMessage) [] new
       head-refused new bad s =
           let k = came-listed m s in
           refused (record {
-            hears = record { cells = cs; ended = false; retries = k.retries; serves = came-all k (omega (arith, all)); splits = head-bad (is_known_by request_of) cs all (ap (is_known_by request_of) (sym head) ∙ known-is request_of (fields_of h) ∙ bad) };
+            hears = record { cells = cs; ended = false; retries = k.retries; serves = came-all k (omega (arith, all)); splits = head-bad is_awaited cs all (ap is_awaited (sym head) ∙ bad) };
             list = λ _. k.listed;
           }) k.listed
 
-      module _ (ok : (is_some (request_of (fields_of h).code) && is_valid_header (fields_of h)) ≡ true) where
+      module _ (ok : is_awaited (fields_of h) ≡ true) where
         -- the header of all cells
         head-of : (ds : List (Cell H)) → header_of (take 12 (bytes (cs ++ ds))) ≡ fields_of h
         head-of ds = ap header_of (ap (take 12) (bytes-append cs ds) ∙ take-append-le 12 (bytes cs) (bytes ds) (omega (arith, length-bytes cs, all)) ∙ take_all 12 (bytes cs) (omega (arith, length-bytes cs, all)) ∙ sym (take_all 12 (bytes cs) (omega (arith, length-bytes cs, all)))) ∙ sym head
 
-        known : (ds : List (Cell H)) → is_known_by request_of (header_of (take 12 (bytes (cs ++ ds)))) ≡ true
-        known ds = ap (is_known_by request_of) (head-of ds) ∙ known-is request_of (fields_of h) ∙ ok
+        known : (ds : List (Cell H)) → is_awaited (header_of (take 12 (bytes (cs ++ ds)))) ≡ true
+        known ds = ap is_awaited (head-of ds) ∙ ok
 
         came-on : {rest : ℕ} {ds : List (Cell H)} {kept : Bool} {end : State L H} → Came event (record mid { left = front.left }) GoesOn (fields_of h).size ds kept (record end { left = rest }) → end.left ≡ mid.left
             → Came event old Alone (12 + (fields_of h).size) (cs ++ ds) kept end
         came-on d kept = came-alone (came-then x.begins (omega (arith, all)) d) (kept ∙ m.left)
 
         -- the end comes within the body
-        pub body-ends : (end new : State L H) (after : List ℕ) (n : ℕ) → ReadsBehind event mid front.left (fields_of h).size (Ok n) after end → n < (fields_of h).size → new ≡ record end { list = true } → ReadsWhole event request_of old (Err code.PartialMessage) after new
+        pub body-ends : (end new : State L H) (after : List ℕ) (n : ℕ) → ReadsBehind event mid front.left (fields_of h).size (Ok n) after end → n < (fields_of h).size → new ≡ record end { list = true } → ReadsWhole {R = R} event is_awaited old (Err code.PartialMessage) after new
         body-ends end new after n (ds, read, counted, kept, rest, d) few s =
             let k = came-listed (came-on d kept) s in
             let size : (header_of (take 12 (bytes (cs ++ ds)))).size ≡ (fields_of h).size = ap (λ (y : Header). y.size) (head-of ds) in
             let n : length (cs ++ ds) < 12 + (fields_of h).size = omega (arith, length-append cs ds, all, counted, few) in
             ended (record {
-              hears = record { cells = cs ++ ds; ended = true; retries = k.retries; serves = came-ended k n; splits = body-short (is_known_by request_of) (cs ++ ds) (omega (arith, length-append cs ds, all)) (known ds) (omega (arith, n, size)) };
+              hears = record { cells = cs ++ ds; ended = true; retries = k.retries; serves = came-ended k n; splits = body-short is_awaited (cs ++ ds) (omega (arith, length-append cs ds, all)) (known ds) (omega (arith, n, size)) };
               list = λ _. k.listed;
             }) k.listed
 
         -- there is trouble
-        pub body-fails : (end new : State L H) (after : List ℕ) (e : declared.Error) → ReadsBehind event mid front.left (fields_of h).size (Err e) after end → new ≡ record end { list = true } → ReadsWhole event request_of old (Err e) after new
+        pub body-fails : (end new : State L H) (after : List ℕ) (e : declared.Error) → ReadsBehind event mid front.left (fields_of h).size (Err e) after end → new ≡ record end { list = true } → ReadsWhole {R = R} event is_awaited old (Err e) after new
         body-fails end new after e (ds, d) s = short (12 + (fields_of h).size) (cs ++ ds) (cut-then x.begins (omega (arith, all)) (omega (arith, all)) d s)
 
         -- it comes whole
         pub body-comes : (end : State L H) (after : List ℕ) (n : ℕ) (front' : Front H) → ReadsBehind event mid front.left (fields_of h).size (Ok n) after end → (n < (fields_of h).size → ⊥) → front'.list.items ≡ front.list.items
-            → ReadsWhole event request_of old (Ok (h, front')) after end
+            → ReadsWhole {R = R} event is_awaited old (Ok (h, front')) after end
         body-comes end after n front' (ds, read, counted, kept, rest, d) whole lent =
             let full : n ≡ (fields_of h).size = omega (arith, counted, d.within, whole) in (
               cs ++ ds,

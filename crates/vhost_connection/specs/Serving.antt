@@ -43,14 +43,14 @@ keeps_list (Err e) = true
 
 -- ---- calls
 
--- A handler is what `Run` says it is. Of a session whose reply was stopped it keeps something, from before it and after.
-module _ {L R H S A Dev : Type 0} (event : L → Event H → L → Type 0) (request_of : ℕ → Option R) (allows_handles : R → ℕ → Bool) (failed : S → Option ℤ)
+-- A handler is what `Run` says it is, and hears the requests that its session does. Of a session whose reply was stopped it keeps something, from before it and after.
+module _ {L R H S A Dev : Type 0} (event : L → Event H → L → Type 0) (request_of : S → ℕ → Option R) (allows_handles : R → ℕ → Bool) (failed : S → Option ℤ)
     (kept : R → S → S → S) (Meets : S → Dev → Message R H → Result A Error → List (Cell H) → S → Dev → Type 0) where
   -- One request was read, or the stream has none there, and then what its row says went out: one entry of a run. The endpoint has given its list of handles away only where there were some.
   pub record Handled (old : State L H) (s : S) (d : Dev) (answer : Result A Error) (new : State L H) (s' : S) (d' : Dev) : Type 0 where
     pub heard : Result (Message R H) Error
     pub mid : State L H
-    pub hears : Hears event (split request_of allows_handles) old heard mid
+    pub hears : Hears event (split (request_of s) allows_handles) old heard mid
     pub written : List (Cell H)
     pub replies : Replies event mid written new
     pub handles : run.Handles request_of allows_handles failed Meets s d heard answer written s' d'
@@ -58,8 +58,8 @@ module _ {L R H S A Dev : Type 0} (event : L → Event H → L → Type 0) (requ
 
   -- One request was not served. There was trouble before a whole message was read, and session and device are as they were; or a fault stopped its reply, and they are as its row says.
   pub data Breaks (old : State L H) (s : S) (d : Dev) (e : declared.Error) (new : State L H) (s' : S) (d' : Dev) : Type 0 where
-    unread : ReadsInPart event request_of allows_handles old e new → s' ≡ s → d' ≡ d → Breaks old s d e new s' d'
-    unanswered : (m : Message R H) (mid : State L H) → Hears event (split request_of allows_handles) old (Ok m) mid
+    unread : ReadsInPart event (request_of s) allows_handles old e new → s' ≡ s → d' ≡ d → Breaks old s d e new s' d'
+    unanswered : (m : Message R H) (mid : State L H) → Hears event (split (request_of s) allows_handles) old (Ok m) mid
         → Interrupted event (Meets s d m) (kept m.request s) mid e new s' d' → Breaks old s d e new s' d'
 
   -- one call of the handler

@@ -10,7 +10,7 @@ use Rattle.vhost_message.specs.MsgHeader.{fields_of, of_fields}
 use Rattle.vhost_message.specs.Records.{config_of}
 use Rattle.vhost_message.specs.Valid.{is_valid_config}
 use Rattle.vhost_protocol.specs.Error.{Error, PartialMessage, InvalidMessage}
-use Rattle.vhost_protocol.specs.ReplySplit.{Received, whole_split, sized_or_none}
+use Rattle.vhost_protocol.specs.ReplySplit.{Received, whole_split, has_size, has_config_size, sized_or_none}
 use Rattle.vhost_protocol.specs.Stream.{Cell, bytes, first_handles}
 use Rattle.vhost_link.specs.Law.{Event}
 use Rattle.vhost_connection.specs.Asking.{is_known_by, Comes, Missing}
@@ -18,12 +18,20 @@ use Rattle.vhost_connection.specs.Calls.{HandsOver}
 use Rattle.vhost_connection.specs.Came.{Came, CutShort, GoesOn, Alone}
 use Rattle.vhost_connection.specs.Hearing.{HearsReply}
 use Rattle.vhost_connection.specs.Talk.{State}
+use Rattle.vhost_connection.specs.declared.endpoint.whole.Sizes.{Sizes}
+use Rattle.vhost_connection.specs.declared.endpoint.whole.Sizes.TheVariants.{Any, One, Config}
 use Rattle.vhost_connection.specs.declared.list.Front.{Front}
 
--- These cells are a whole reply: its header was read from them, and its body lies at the front of the text.
-pub record IsWhole {R H : Type 0} (request_of : ℕ → Option R) (cs : List (Cell H)) (h : VhostUserMsgHeader R) (hs : List H) (text : List ℕ) : Type 0 where
+-- the valid headers that say a size which the reply may have
+abbrev pub sized_by : (Header → Bool) → Sizes → Header → Bool
+sized_by is_known Any = is_known
+sized_by is_known (One front room) = has_size is_known (front + room)
+sized_by is_known (Config room) = has_config_size is_known room
+
+-- These cells are a whole reply: its header was read from them and is awaited, and its body lies at the front of the text.
+pub record IsWhole {R H : Type 0} (is_awaited : Header → Bool) (cs : List (Cell H)) (h : VhostUserMsgHeader R) (hs : List H) (text : List ℕ) : Type 0 where
   pub header : h ≡ of_fields (header_of (take 12 (bytes cs)))
-  pub known : (is_some (request_of (fields_of h).code) && is_valid_header (fields_of h)) ≡ true
+  pub known : is_awaited (fields_of h) ≡ true
   pub size : length cs ≡ 12 + (fields_of h).size
   pub handles : hs ≡ first_handles cs
   pub body : take (fields_of h).size text ≡ drop 12 (bytes cs)
@@ -40,11 +48,12 @@ pub data ReadsNone {A L H : Type 0} (event : L → Event H → L → Type 0) (cu
   refused : {new : State L H} → HearsReply event cut old (Err InvalidMessage) new → new.list ≡ true → ReadsNone event cut old code.InvalidMessage new
   short : {e : declared.Error} {new : State L H} (len : ℕ) (cs : List (Cell H)) → CutShort event old Alone len cs e new → ReadsNone event cut old e new
 
+-- A whole reply comes in, if its header is awaited. The list of handles is given away.
+abbrev pub ReadsWhole : {R L H : Type 0} → (L → Event H → L → Type 0) → (is_awaited : Header → Bool) → State L H → Result (VhostUserMsgHeader R × Front H) declared.Error → List ℕ → State L H → Type 0
+ReadsWhole {H = H} event is_awaited old (Ok x) text new = (cs : List (Cell H)) × Came event old Alone (12 + (fields_of x.0).size) cs false new × IsWhole is_awaited cs x.0 x.1.list.items text
+ReadsWhole event is_awaited old (Err e) text new = ReadsNone event (whole_split is_awaited) old e new
+
 module _ {R L H : Type 0} (event : L → Event H → L → Type 0) (request_of : ℕ → Option R) where
-  -- A whole reply comes in. The list of handles is given away.
-  abbrev pub ReadsWhole : State L H → Result (VhostUserMsgHeader R × Front H) declared.Error → List ℕ → State L H → Type 0
-  ReadsWhole old (Ok x) text new = (cs : List (Cell H)) × Came event old Alone (12 + (fields_of x.0).size) cs false new × IsWhole request_of cs x.0 x.1.list.items text
-  ReadsWhole old (Err e) text new = ReadsNone event (whole_split (is_known_by request_of)) old e new
 
   -- A reply of any size for a request comes in: its handles.
   abbrev pub RecvsAny : State L H → (sent : Header) → Result (Option (Vec H Global)) declared.Error → State L H → Type 0

@@ -91,5 +91,6 @@ fn carries_handles(code: FrontendReq) -> bool
             | FrontendReq::REM_MEM_REG
             | FrontendReq::SET_DEVICE_STATE_FD
             | FrontendReq::GPU_SET_SOCKET
+            | FrontendReq::OTHER(_)
     )
 }

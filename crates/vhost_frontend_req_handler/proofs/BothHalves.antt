@@ -49,7 +49,7 @@ module _ {L H Dev : Type 0} (event : L → Event H → L → Type 0) (gives : De
       let s = server_in old in
       let over = subst (λ (x : Server). Concludes event begun.request (seen_io_result a) (endpoint_of mid) x result (endpoint_of new) (server_in new)) (server ∙ begun.server)
       (subst (λ (x : State L H). Concludes event begun.request (seen_io_result a) x (server_in last) result (endpoint_of new) (server_in new)) endpoint done) in
-      handles-request event backend_request_of backend_allows_handles (λ (t : Server). t.failed) kept (ReverseMeets (fitting gives))
+      handles-request event (λ (_ : Server). backend_request_of) backend_allows_handles (λ (t : Server). t.failed) kept (ReverseMeets (fitting gives))
       (endpoint_of old) (endpoint_of mid) (endpoint_of new) s (server_in new) d d' mid.body.value begun.request begun.handles result begun.reads
       (λ n reads hands ready. subst (λ (x : Message BackendReq H). Answers event (ReverseMeets (fitting gives) s d x) (λ t. t) (endpoint_of mid) result (endpoint_of new) (server_in new) d')
       (same_message mid.body.value begun.request begun.handles begun.reads.message n begun.reads.reads reads begun.reads.hands hands)
@@ -66,7 +66,7 @@ module _ {L H Dev : Type 0} (event : L → Event H → L → Type 0) (gives : De
   pub halves_refuse : HalvesRefuse event gives
   halves_refuse old new d e alive refused =
       let s = server_in old in
-      let once = wider-once event backend_request_of backend_allows_handles (λ (t : Server). t.failed) kept (ReverseMeets (fitting uncalled)) (ReverseMeets (fitting gives)) (λ u. d) (meets-none d)
+      let once = wider-once event (λ (_ : Server). backend_request_of) backend_allows_handles (λ (t : Server). t.failed) kept (ReverseMeets (fitting uncalled)) (ReverseMeets (fitting gives)) (λ u. d) (meets-none d)
       (endpoint_of old) (endpoint_of new) s (server_in new) tt tt (Err e)
-      (subst (λ mark. serving.CallsUnless event backend_request_of backend_allows_handles (λ (t : Server). t.failed) kept (ReverseMeets (fitting uncalled)) mark (endpoint_of old) s tt (Err e) (endpoint_of new) (server_in new) tt) (sym alive) refused) in
-      subst (λ mark. serving.CallsUnless event backend_request_of backend_allows_handles (λ (t : Server). t.failed) kept (ReverseMeets (fitting gives)) mark (endpoint_of old) s d (Err e) (endpoint_of new) (server_in new) d) alive once
+      (subst (λ mark. serving.CallsUnless event (λ (_ : Server). backend_request_of) backend_allows_handles (λ (t : Server). t.failed) kept (ReverseMeets (fitting uncalled)) mark (endpoint_of old) s tt (Err e) (endpoint_of new) (server_in new) tt) (sym alive) refused) in
+      subst (λ mark. serving.CallsUnless event (λ (_ : Server). backend_request_of) backend_allows_handles (λ (t : Server). t.failed) kept (ReverseMeets (fitting gives)) mark (endpoint_of old) s d (Err e) (endpoint_of new) (server_in new) d) alive once

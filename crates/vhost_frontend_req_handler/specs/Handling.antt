@@ -20,12 +20,12 @@ kept r before after = after
 module _ {L H Dev : Type 0} (event : L → Event H → L → Type 0) (gives : Dev → ReverseCall H → Result ℕ IoError → Dev → Type 0) where
   -- one call of the handler
   abbrev pub HandlesOne : State L H → Server → Dev → Result ℕ declared.Error → State L H → Server → Dev → Type 0
-  HandlesOne = serving.HandlesOne event backend_request_of backend_allows_handles (λ (t : Server). t.failed) kept (ReverseMeets (fitting gives))
+  HandlesOne = serving.HandlesOne event (λ (_ : Server). backend_request_of) backend_allows_handles (λ (t : Server). t.failed) kept (ReverseMeets (fitting gives))
 
   -- one call, whether or not it is marked as failed
   abbrev pub CallsOnce : State L H → Server → Dev → Result ℕ declared.Error → State L H → Server → Dev → Type 0
-  CallsOnce = serving.CallsOnce event backend_request_of backend_allows_handles (λ (t : Server). t.failed) kept (ReverseMeets (fitting gives))
+  CallsOnce = serving.CallsOnce event (λ (_ : Server). backend_request_of) backend_allows_handles (λ (t : Server). t.failed) kept (ReverseMeets (fitting gives))
 
   -- so many calls, and their answers behind others
   abbrev pub Runs : State L H → Server → Dev → ℕ → List (Result ℕ declared.Error) → List (Result ℕ declared.Error) → State L H → Server → Dev → Type 0
-  Runs = serving.Runs event backend_request_of backend_allows_handles (λ (t : Server). t.failed) kept (ReverseMeets (fitting gives))
+  Runs = serving.Runs event (λ (_ : Server). backend_request_of) backend_allows_handles (λ (t : Server). t.failed) kept (ReverseMeets (fitting gives))

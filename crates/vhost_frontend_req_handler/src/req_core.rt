@@ -115,7 +115,7 @@ impl<L: Link> FrontendReqCore<L> {
             return Err(Error::SocketBroken(IoCause::Raw(number)));
         }
         self.pending = None;
-        let (request, handles) = self.endpoint.recv_request(&mut self.body[..])?;
+        let (request, handles) = self.endpoint.recv_request(false, &mut self.body[..])?;
         self.answer(device, request, handles)
     }
 

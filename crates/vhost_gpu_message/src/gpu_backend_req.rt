@@ -1,6 +1,6 @@
 //! The requests of a backend to a display.
 
-ghost use Rattle.std.specs.Prelude.{◌≡◌};
+ghost use Rattle.std.specs.Prelude.{◌≡◌, true};
 ghost use Rattle.vhost_gpu_message.specs.GpuBackendReq.{gpu_request_number, gpu_request_of, gpu_request_at, gpu_request_of-number, gpu_request_number-of};
 
 use vhost_message::Req;
@@ -60,15 +60,27 @@ impl Req for GpuBackendReq {
 
     ghost code = { gpu_request_of };
 
-    ghost code_of_number = { gpu_request_of-number };
+    ghost any = { gpu_request_of };
+
+    ghost named = { λ _. true };
+
+    ghost code_of_number = { λ code _. gpu_request_of-number code };
 
     ghost number_of_code = { gpu_request_number-of };
+
+    ghost number_of_any = { gpu_request_number-of };
+
+    ghost any_of_code = { λ _ _ is. is };
 
     fn number(self) -> u32 {
         self.into()
     }
 
     fn code(n: u32) -> Option<GpuBackendReq> {
+        GpuBackendReq::try_from(n).ok()
+    }
+
+    fn any(n: u32) -> Option<GpuBackendReq> {
         GpuBackendReq::try_from(n).ok()
     }
 }

@@ -186,4 +186,13 @@ impl<R: Req> MsgHeader for VhostUserGpuMsgHeader<R> {
     ghost MAX_MSG_SIZE = { MAX_GPU_MSG_SIZE };
 
     ghost size_of_header = { refl };
+
+    ghost heard = { λ _ h. is_some (R.code (gpu_fields_of h).code) && is_valid_gpu_header (gpu_fields_of h) };
+
+    ghost heard_is_valid = { λ h. refl };
+
+    /// Only a valid one is: no display's request has a number without a name.
+    fn is_heard(&self, _: bool) -> bool {
+        self.is_valid()
+    }
 }

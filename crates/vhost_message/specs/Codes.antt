@@ -26,3 +26,7 @@ pub number-find : {R : Type 0} (number : R → ℕ) (n k : ℕ) (rs : List R) (r
 number-find number n k [] r numbered e = absurd (false≢true (ap is_some e))
 number-find number n k (q ∷ rs) r numbered e =
     found number n k q rs r (n == k) (number q == k) refl refl (number-find number n (suc k) rs r) numbered e
+
+-- the code that a number is heard as: that of any number, or of one that has a name alone
+abbrev pub heard_by : {R : Type 0} → (code any : ℕ → Option R) → (any_number : Bool) → ℕ → Option R
+heard_by code any any_number n = if any_number then any n else code n

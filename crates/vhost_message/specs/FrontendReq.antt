@@ -1,8 +1,9 @@
 -- The requests of a frontend and their numbers.
-use Rattle.std.specs.Prelude.{◌≡◌, ℕ, List, [], ◌∷◌, Option, Some, Result, ok_or, refl, ⊤}
+use Rattle.std.specs.Prelude.{◌≡◌, ℕ, Bool, true, false, List, [], ◌∷◌, Option, Some, None, Result, ok_or, unwrap_or, refl, ⊤}
+use Rattle.std.proofs.Common.{ap, sym, ◌∙◌}
 use Rattle.vhost_message.specs.Codes.{find, number-find}
 use Rattle.vhost_message.specs.declared.frontend_req.FrontendReq.{FrontendReq}
-use Rattle.vhost_message.specs.declared.frontend_req.FrontendReq.TheVariants.{GET_FEATURES, SET_FEATURES, SET_OWNER, RESET_OWNER, SET_MEM_TABLE, SET_LOG_BASE, SET_LOG_FD, SET_VRING_NUM, SET_VRING_ADDR, SET_VRING_BASE, GET_VRING_BASE, SET_VRING_KICK, SET_VRING_CALL, SET_VRING_ERR, GET_PROTOCOL_FEATURES, SET_PROTOCOL_FEATURES, GET_QUEUE_NUM, SET_VRING_ENABLE, SEND_RARP, NET_SET_MTU, SET_BACKEND_REQ_FD, IOTLB_MSG, SET_VRING_ENDIAN, GET_CONFIG, SET_CONFIG, CREATE_CRYPTO_SESSION, CLOSE_CRYPTO_SESSION, POSTCOPY_ADVISE, POSTCOPY_LISTEN, POSTCOPY_END, GET_INFLIGHT_FD, SET_INFLIGHT_FD, GPU_SET_SOCKET, RESET_DEVICE, VRING_KICK, GET_MAX_MEM_SLOTS, ADD_MEM_REG, REM_MEM_REG, SET_STATUS, GET_STATUS, GET_SHARED_OBJECT, SET_DEVICE_STATE_FD, CHECK_DEVICE_STATE, GET_SHMEM_CONFIG}
+use Rattle.vhost_message.specs.declared.frontend_req.FrontendReq.TheVariants.{GET_FEATURES, SET_FEATURES, SET_OWNER, RESET_OWNER, SET_MEM_TABLE, SET_LOG_BASE, SET_LOG_FD, SET_VRING_NUM, SET_VRING_ADDR, SET_VRING_BASE, GET_VRING_BASE, SET_VRING_KICK, SET_VRING_CALL, SET_VRING_ERR, GET_PROTOCOL_FEATURES, SET_PROTOCOL_FEATURES, GET_QUEUE_NUM, SET_VRING_ENABLE, SEND_RARP, NET_SET_MTU, SET_BACKEND_REQ_FD, IOTLB_MSG, SET_VRING_ENDIAN, GET_CONFIG, SET_CONFIG, CREATE_CRYPTO_SESSION, CLOSE_CRYPTO_SESSION, POSTCOPY_ADVISE, POSTCOPY_LISTEN, POSTCOPY_END, GET_INFLIGHT_FD, SET_INFLIGHT_FD, GPU_SET_SOCKET, RESET_DEVICE, VRING_KICK, GET_MAX_MEM_SLOTS, ADD_MEM_REG, REM_MEM_REG, SET_STATUS, GET_STATUS, GET_SHARED_OBJECT, SET_DEVICE_STATE_FD, CHECK_DEVICE_STATE, GET_SHMEM_CONFIG, OTHER}
 
 -- the requests in the order of their numbers, from 1 on
 abbrev pub requests : List FrontendReq
@@ -11,6 +12,10 @@ requests = GET_FEATURES ∷ SET_FEATURES ∷ SET_OWNER ∷ RESET_OWNER ∷ SET_M
 -- the request of a number
 abbrev pub request_of : ℕ → Option FrontendReq
 request_of n = find n 1 requests
+
+-- the same where any number is a request's: one that has no name stands for itself
+abbrev pub any_request : ℕ → Option FrontendReq
+any_request n = Some (unwrap_or (request_of n) (OTHER n))
 
 -- the same, or that there is none
 abbrev pub request_at : ℕ → Result FrontendReq ⊤
@@ -62,10 +67,27 @@ request_number GET_SHARED_OBJECT = 41
 request_number SET_DEVICE_STATE_FD = 42
 request_number CHECK_DEVICE_STATE = 43
 request_number GET_SHMEM_CONFIG = 44
+request_number (OTHER n) = n
 
-pub request_of-request_number : (r : FrontendReq) → request_of (request_number r) ≡ Some r
-request_of-request_number GET_FEATURES = refl
-request_of-request_number _ = refl
+-- the request has a name
+abbrev pub is_named : FrontendReq → Bool
+is_named (OTHER n) = false
+is_named _ = true
+
+pub request_of-request_number : (r : FrontendReq) → is_named r ≡ true → request_of (request_number r) ≡ Some r
+request_of-request_number (OTHER n) named = absurd (cc named)
+request_of-request_number _ named = refl
 
 pub request_number-request_of : (n : ℕ) (r : FrontendReq) → request_of n ≡ Some r → request_number r ≡ n
 request_number-request_of n r e = number-find request_number n 1 requests r refl e
+
+-- the request of a number is that also where any number is one
+pub any-is_named : (n : ℕ) (r : FrontendReq) → request_of n ≡ Some r → any_request n ≡ Some r
+any-is_named n r e = ap (λ o. Some (unwrap_or o (OTHER n))) e
+
+pub request_number-any : (n : ℕ) (r : FrontendReq) → any_request n ≡ Some r → request_number r ≡ n
+request_number-any n r e = go (request_of n) refl e
+  where
+    go : (o : Option FrontendReq) → request_of n ≡ o → Some (unwrap_or o (OTHER n)) ≡ Some r → request_number r ≡ n
+    go (Some q) is same = ap request_number (sym (ap (λ x. unwrap_or x q) same)) ∙ request_number-request_of n q is
+    go None is same = ap request_number (sym (ap (λ x. unwrap_or x (OTHER n)) same))

@@ -1,6 +1,6 @@
 //! The requests of a backend.
 
-ghost use Rattle.std.specs.Prelude.{◌≡◌};
+ghost use Rattle.std.specs.Prelude.{◌≡◌, true};
 ghost use Rattle.vhost_message.specs.BackendReq.{backend_request_number, backend_request_of, backend_request_at, backend_request_of-number, backend_request_number-of};
 
 use crate::req::Req;
@@ -56,15 +56,27 @@ impl Req for BackendReq {
 
     ghost code = { backend_request_of };
 
-    ghost code_of_number = { backend_request_of-number };
+    ghost any = { backend_request_of };
+
+    ghost named = { λ _. true };
+
+    ghost code_of_number = { λ code _. backend_request_of-number code };
 
     ghost number_of_code = { backend_request_number-of };
+
+    ghost number_of_any = { backend_request_number-of };
+
+    ghost any_of_code = { λ _ _ is. is };
 
     fn number(self) -> u32 {
         self.into()
     }
 
     fn code(n: u32) -> Option<BackendReq> {
+        BackendReq::try_from(n).ok()
+    }
+
+    fn any(n: u32) -> Option<BackendReq> {
         BackendReq::try_from(n).ok()
     }
 }

@@ -1,64 +1,112 @@
 //! The requests of a frontend.
 
 ghost use Rattle.std.specs.Prelude.{◌≡◌};
-ghost use Rattle.vhost_message.specs.FrontendReq.{request_number, request_of, request_at, request_of-request_number, request_number-request_of};
+ghost use Rattle.vhost_message.specs.FrontendReq.{request_number, request_of, any_request, request_at, is_named, request_of-request_number, request_number-request_of, any-is_named, request_number-any};
 
 use crate::req::Req;
 
 /// What a frontend asks of a backend, by the number in the header of the message.
 #[derive(Clone, Copy, Debug, PartialEq, Eq, PartialOrd, Ord)]
 pub enum FrontendReq {
-    GET_FEATURES = 1,
-    SET_FEATURES = 2,
-    SET_OWNER = 3,
-    RESET_OWNER = 4,
-    SET_MEM_TABLE = 5,
-    SET_LOG_BASE = 6,
-    SET_LOG_FD = 7,
-    SET_VRING_NUM = 8,
-    SET_VRING_ADDR = 9,
-    SET_VRING_BASE = 10,
-    GET_VRING_BASE = 11,
-    SET_VRING_KICK = 12,
-    SET_VRING_CALL = 13,
-    SET_VRING_ERR = 14,
-    GET_PROTOCOL_FEATURES = 15,
-    SET_PROTOCOL_FEATURES = 16,
-    GET_QUEUE_NUM = 17,
-    SET_VRING_ENABLE = 18,
-    SEND_RARP = 19,
-    NET_SET_MTU = 20,
-    SET_BACKEND_REQ_FD = 21,
-    IOTLB_MSG = 22,
-    SET_VRING_ENDIAN = 23,
-    GET_CONFIG = 24,
-    SET_CONFIG = 25,
-    CREATE_CRYPTO_SESSION = 26,
-    CLOSE_CRYPTO_SESSION = 27,
-    POSTCOPY_ADVISE = 28,
-    POSTCOPY_LISTEN = 29,
-    POSTCOPY_END = 30,
-    GET_INFLIGHT_FD = 31,
-    SET_INFLIGHT_FD = 32,
-    GPU_SET_SOCKET = 33,
-    RESET_DEVICE = 34,
-    VRING_KICK = 35,
-    GET_MAX_MEM_SLOTS = 36,
-    ADD_MEM_REG = 37,
-    REM_MEM_REG = 38,
-    SET_STATUS = 39,
-    GET_STATUS = 40,
-    GET_SHARED_OBJECT = 41,
-    SET_DEVICE_STATE_FD = 42,
-    CHECK_DEVICE_STATE = 43,
-    GET_SHMEM_CONFIG = 44,
+    GET_FEATURES,
+    SET_FEATURES,
+    SET_OWNER,
+    RESET_OWNER,
+    SET_MEM_TABLE,
+    SET_LOG_BASE,
+    SET_LOG_FD,
+    SET_VRING_NUM,
+    SET_VRING_ADDR,
+    SET_VRING_BASE,
+    GET_VRING_BASE,
+    SET_VRING_KICK,
+    SET_VRING_CALL,
+    SET_VRING_ERR,
+    GET_PROTOCOL_FEATURES,
+    SET_PROTOCOL_FEATURES,
+    GET_QUEUE_NUM,
+    SET_VRING_ENABLE,
+    SEND_RARP,
+    NET_SET_MTU,
+    SET_BACKEND_REQ_FD,
+    IOTLB_MSG,
+    SET_VRING_ENDIAN,
+    GET_CONFIG,
+    SET_CONFIG,
+    CREATE_CRYPTO_SESSION,
+    CLOSE_CRYPTO_SESSION,
+    POSTCOPY_ADVISE,
+    POSTCOPY_LISTEN,
+    POSTCOPY_END,
+    GET_INFLIGHT_FD,
+    SET_INFLIGHT_FD,
+    GPU_SET_SOCKET,
+    RESET_DEVICE,
+    VRING_KICK,
+    GET_MAX_MEM_SLOTS,
+    ADD_MEM_REG,
+    REM_MEM_REG,
+    SET_STATUS,
+    GET_STATUS,
+    GET_SHARED_OBJECT,
+    SET_DEVICE_STATE_FD,
+    CHECK_DEVICE_STATE,
+    GET_SHMEM_CONFIG,
+    /// A number that is no request's. It is heard under some profiles, and served by nobody.
+    OTHER(u32),
 }
 
 impl From<FrontendReq> for u32 {
     ghost from_gives = { λ code number. number ≡ request_number code };
 
     fn from(code: FrontendReq) -> u32 {
-        code as u32
+        match code {
+            FrontendReq::GET_FEATURES => 1,
+            FrontendReq::SET_FEATURES => 2,
+            FrontendReq::SET_OWNER => 3,
+            FrontendReq::RESET_OWNER => 4,
+            FrontendReq::SET_MEM_TABLE => 5,
+            FrontendReq::SET_LOG_BASE => 6,
+            FrontendReq::SET_LOG_FD => 7,
+            FrontendReq::SET_VRING_NUM => 8,
+            FrontendReq::SET_VRING_ADDR => 9,
+            FrontendReq::SET_VRING_BASE => 10,
+            FrontendReq::GET_VRING_BASE => 11,
+            FrontendReq::SET_VRING_KICK => 12,
+            FrontendReq::SET_VRING_CALL => 13,
+            FrontendReq::SET_VRING_ERR => 14,
+            FrontendReq::GET_PROTOCOL_FEATURES => 15,
+            FrontendReq::SET_PROTOCOL_FEATURES => 16,
+            FrontendReq::GET_QUEUE_NUM => 17,
+            FrontendReq::SET_VRING_ENABLE => 18,
+            FrontendReq::SEND_RARP => 19,
+            FrontendReq::NET_SET_MTU => 20,
+            FrontendReq::SET_BACKEND_REQ_FD => 21,
+            FrontendReq::IOTLB_MSG => 22,
+            FrontendReq::SET_VRING_ENDIAN => 23,
+            FrontendReq::GET_CONFIG => 24,
+            FrontendReq::SET_CONFIG => 25,
+            FrontendReq::CREATE_CRYPTO_SESSION => 26,
+            FrontendReq::CLOSE_CRYPTO_SESSION => 27,
+            FrontendReq::POSTCOPY_ADVISE => 28,
+            FrontendReq::POSTCOPY_LISTEN => 29,
+            FrontendReq::POSTCOPY_END => 30,
+            FrontendReq::GET_INFLIGHT_FD => 31,
+            FrontendReq::SET_INFLIGHT_FD => 32,
+            FrontendReq::GPU_SET_SOCKET => 33,
+            FrontendReq::RESET_DEVICE => 34,
+            FrontendReq::VRING_KICK => 35,
+            FrontendReq::GET_MAX_MEM_SLOTS => 36,
+            FrontendReq::ADD_MEM_REG => 37,
+            FrontendReq::REM_MEM_REG => 38,
+            FrontendReq::SET_STATUS => 39,
+            FrontendReq::GET_STATUS => 40,
+            FrontendReq::GET_SHARED_OBJECT => 41,
+            FrontendReq::SET_DEVICE_STATE_FD => 42,
+            FrontendReq::CHECK_DEVICE_STATE => 43,
+            FrontendReq::GET_SHMEM_CONFIG => 44,
+            FrontendReq::OTHER(number) => number,
+        }
     }
 }
 
@@ -123,9 +171,17 @@ impl Req for FrontendReq {
 
     ghost code = { request_of };
 
+    ghost any = { any_request };
+
+    ghost named = { is_named };
+
     ghost code_of_number = { request_of-request_number };
 
     ghost number_of_code = { request_number-request_of };
+
+    ghost number_of_any = { request_number-any };
+
+    ghost any_of_code = { any-is_named };
 
     fn number(self) -> u32 {
         self.into()
@@ -133,5 +189,9 @@ impl Req for FrontendReq {
 
     fn code(n: u32) -> Option<FrontendReq> {
         FrontendReq::try_from(n).ok()
+    }
+
+    fn any(n: u32) -> Option<FrontendReq> {
+        Some(FrontendReq::try_from(n).unwrap_or(FrontendReq::OTHER(n)))
     }
 }

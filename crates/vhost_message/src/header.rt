@@ -4,6 +4,7 @@ ghost use Rattle.std.specs.Prelude.{◌≡◌, ◌<◌, ◌^◌, ◌+◌, ◌-�
 ghost use Rattle.std.proofs.Common.{rules};
 ghost use Rattle.std.specs.Cmp.Rules.{comparing};
 ghost use Rattle.vhost_message.specs.Bits.{has_bit, with_bit};
+ghost use Rattle.vhost_message.specs.Codes.{heard_by};
 ghost use Rattle.vhost_message.specs.declared.header_bit.TheConstants.{NEED_REPLY, REPLY};
 ghost use Rattle.vhost_message.specs.declared.limits.TheConstants.{MAX_MSG_SIZE, MSG_HEADER_SIZE};
 ghost use Rattle.vhost_message.specs.Header.{header_text, header_of, is_valid_header, with_version, is_reply_for, is_same};
@@ -48,6 +49,13 @@ impl<R: Req> VhostUserMsgHeader<R> {
         ensures { result ≡ ok_or (R.code (fields_of self.now).code) Error.InvalidMessage }
     {
         R::code(self.request).ok_or(Error::InvalidMessage)
+    }
+
+    /// The code of the request, where any number may be one, and where it may not; InvalidMessage where it has none.
+    pub fn get_heard(&self, any_number: bool) -> Result<R>
+        ensures { result ≡ ok_or (heard_by R.code R.any any_number (fields_of self.now).code) Error.InvalidMessage }
+    {
+        heard::<R>(self.request, any_number).ok_or(Error::InvalidMessage)
     }
 
     /// Changes the code, and nothing else.
@@ -137,6 +145,17 @@ impl<R: Req> VhostUserMsgHeader<R> {
     }
 }
 
+/// The code that a number is heard as, where any number may be one, and where it may not.
+fn heard<R: Req>(number: u32, any_number: bool) -> Option<R>
+    ensures { result ≡ heard_by R.code R.any any_number number }
+{
+    if any_number {
+        R::any(number)
+    } else {
+        R::code(number)
+    }
+}
+
 impl<R: Req> Default for VhostUserMsgHeader<R> {
     ghost is_default = { λ h. fields_of h ≡ record { code = 0; flags = 1; size = 0 } };
 
@@ -208,10 +227,7 @@ impl<R: Req> VhostUserMsgValidator for VhostUserMsgHeader<R> {
     ghost valid = { λ h. is_some (R.code (fields_of h).code) && is_valid_header (fields_of h) };
 
     fn is_valid(&self) -> bool {
-        R::code(self.request).is_some()
-            && self.flags & 3 == 1
-            && self.flags < 16
-            && self.size <= MAX_MSG_SIZE as u32
+        self.is_heard(false)
     }
 }
 
@@ -223,4 +239,15 @@ impl<R: Req> MsgHeader for VhostUserMsgHeader<R> {
     ghost MAX_MSG_SIZE = { MAX_MSG_SIZE };
 
     ghost size_of_header = { refl };
+
+    ghost heard = { λ any_number h. is_some (heard_by R.code R.any any_number (fields_of h).code) && is_valid_header (fields_of h) };
+
+    ghost heard_is_valid = { λ h. refl };
+
+    fn is_heard(&self, any_number: bool) -> bool {
+        heard::<R>(self.request, any_number).is_some()
+            && self.flags & 3 == 1
+            && self.flags < 16
+            && self.size <= MAX_MSG_SIZE as u32
+    }
 }

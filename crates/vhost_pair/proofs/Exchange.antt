@@ -74,7 +74,7 @@ module _ {Dev : Type 0} (gives : Gives Dev) (call : FrontendCall PlainHandle) (b
     asked-whole = ask1.request ∙ ap (λ xs. xs ++ written_cells request_number w) sound.no_request
 
     few-asked : length (outgoing fe1) ≤ MAX_MSG_TEXT
-    few-asked = subst (λ cells. length cells ≤ MAX_MSG_TEXT) (sym asked-whole) (few-written w (sendable call good old.frontend w aw1 f1 ask1.asked).size)
+    few-asked = subst (λ cells. length cells ≤ MAX_MSG_TEXT) (sym asked-whole) (few-written w (sendable call good old.frontend w aw1 f1 ask1.asked old.session).size)
 
     module _ (ans : Result (Value PlainHandle) Error) (stop : Option Stop) (new : Parts Dev) (v : Served gives call sent (record old { asking = fe1; frontend = f1; awaited = aw1 }) ans stop new) where
       abbrev he1 : End
@@ -105,7 +105,7 @@ module _ {Dev : Type 0} (gives : Gives Dev) (call : FrontendCall PlainHandle) (b
       served-or-not = by-cases (split-handled gives he1 he2 old.session new.session old.device new.device v.result (v.reached.handled sound.failed) (ap {A = End} (λ e. e.broken) v.reached.there.receiver ∙ sound.serves) (ap {A = End} (λ e. e.list) v.reached.there.receiver ∙ lists.1))
         where
           by-cases : Handled1 gives he1 he2 old.session new.session old.device new.device (seen_result v.result) ⊎ Faults1 → IsServed1 ⊎ Faults1
-          by-cases (inl h) = inl (is-served gives he1 he2 old.session new.session old.device new.device w (seen_result v.result) (sendable call good old.frontend w aw1 f1 ask1.asked) h came clear)
+          by-cases (inl h) = inl (is-served gives he1 he2 old.session new.session old.device new.device w (seen_result v.result) (sendable call good old.frontend w aw1 f1 ask1.asked old.session) h came clear)
           by-cases (inr k) = inr k
 
       abbrev Done1 : Outcome PlainHandle → Type 0

@@ -24,7 +24,7 @@ use Rattle.vhost_pair.specs.Sides.{cuts_of}
 use Rattle.vhost_pair.proofs.OnWay.{cells_in, incoming-cut, incoming-handed, outgoing-taken}
 use Rattle.vhost_pair.proofs.Spent.{End, FaultsReading, faults-reading, passes, all-moved, sent-passes, stops}
 
-module _ {R S A Dev : Type 0} (request_of : ℕ → Option R) (allows_handles : R → ℕ → Bool) (failed : S → Option ℤ) (kept : R → S → S → S)
+module _ {R S A Dev : Type 0} (request_of : S → ℕ → Option R) (allows_handles : R → ℕ → Bool) (failed : S → Option ℤ) (kept : R → S → S → S)
     (Meets : S → Dev → Message R PlainHandle → Result A Error → List (Cell PlainHandle) → S → Dev → Type 0) (he he' : End) (s s' : S) (d d' : Dev) where
   abbrev Handled1 : Result A Error → Type 0
   Handled1 a = Handled event request_of allows_handles failed kept Meets he s d a he' s' d'
@@ -42,7 +42,7 @@ module _ {R S A Dev : Type 0} (request_of : ℕ → Option R) (allows_handles : 
     -- what came was moved by a call where nothing had been heard before, and all of it was read
     pub stopped : (request : List (Cell PlainHandle)) → (has_some request ≡ true → (he.ahead ≡ []) × (incoming he ≡ request) × (incoming he' ≡ [])) → StopsReply he.budget cause request (cuts_of he.link) (cuts_of he'.link)
     pub message : Message R PlainHandle
-    pub first : split request_of allows_handles (incoming he) ≡ (Ok message, incoming he')
+    pub first : split (request_of s) allows_handles (incoming he) ≡ (Ok message, incoming he')
     pub answer : Result A Error
     pub reply : List (Cell PlainHandle)
     pub after : S
@@ -63,11 +63,11 @@ module _ {R S A Dev : Type 0} (request_of : ℕ → Option R) (allows_handles : 
   faulted-so (inr k) = k.faulted
 
   -- what was heard is the first message of all that was coming
-  heard-first : (mid : End) (heard : Result (Message R PlainHandle) Error) → Hears event (split request_of allows_handles) he heard mid → split request_of allows_handles (incoming he) ≡ (heard, incoming mid)
-  heard-first mid heard h = incoming-cut he mid _ h.serves.talks (split request_of allows_handles) h.cells h.ended heard refl h.splits
+  heard-first : (mid : End) (heard : Result (Message R PlainHandle) Error) → Hears event (split (request_of s) allows_handles) he heard mid → split (request_of s) allows_handles (incoming he) ≡ (heard, incoming mid)
+  heard-first mid heard h = incoming-cut he mid _ h.serves.talks (split (request_of s) allows_handles) h.cells h.ended heard refl h.splits
 
   -- the reply was stopped once the request had come in
-  stopped-faults : (e : declared.Error) (m : Message R PlainHandle) (mid : End) → Hears event (split request_of allows_handles) he (Ok m) mid → Interrupted event (Meets s d m) (kept m.request s) mid e he' s' d' → Unanswered
+  stopped-faults : (e : declared.Error) (m : Message R PlainHandle) (mid : End) → Hears event (split (request_of s) allows_handles) he (Ok m) mid → Interrupted event (Meets s d m) (kept m.request s) mid e he' s' d' → Unanswered
   stopped-faults e m mid h i =
       let p : endpoint.Stops event mid i.written e he' = i.stops in
       let part : Move PlainHandle = sends (take p.count i.written) p.retries in
@@ -107,7 +107,7 @@ module _ {R S A Dev : Type 0} (request_of : ℕ → Option R) (allows_handles : 
     kept-coming : incoming h.mid ≡ incoming he'
     kept-coming = incoming-handed h.mid he' _ h.replies.serves.talks
 
-    pub handled-first : split request_of allows_handles (incoming he) ≡ (h.heard, incoming he')
+    pub handled-first : split (request_of s) allows_handles (incoming he) ≡ (h.heard, incoming he')
     handled-first = heard-first h.mid h.heard h.hears ∙ ap (λ xs. (h.heard, xs)) kept-coming
 
     pub handled-written : outgoing he' ≡ outgoing he ++ h.written

@@ -3,11 +3,10 @@ use Rattle.std.proofs.Common.{ℕ, List, None, Result, sym, subst}
 use Rattle.std.specs.Prelude.{◌≡◌, ⊤}
 use Rattle.vhost_message.specs.declared.error.Error as declared
 use Rattle.vhost_message.specs.declared.frontend_req.FrontendReq.{FrontendReq}
-use Rattle.vhost_message.specs.FrontendReq.{request_of}
 use Rattle.vhost_protocol.specs.Codes.{allows_handles}
 use Rattle.vhost_protocol.specs.Error.{Error}
 use Rattle.vhost_protocol.specs.Handler.{Follows, MeetsRow}
-use Rattle.vhost_protocol.specs.Session.{Session}
+use Rattle.vhost_protocol.specs.Session.{Session, heard_in}
 use Rattle.vhost_protocol.specs.Split.{Message}
 use Rattle.vhost_protocol.specs.Step.{Outcome, Step, Refused, Calls, OpensBackend, OpensGpu}
 use Rattle.vhost_protocol.specs.Stream.{Cell}
@@ -40,6 +39,6 @@ module _ {Dev : Type 0} (gives : Gives Dev) (n : ℕ) where
   pub handles-some : (old new : State Ends PlainHandle) (s s' : Session) (d d' : Dev) (result : Result ⊤ declared.Error) → s.failed ≡ None
       → HandlesOne event gives (λ h c. OpensAsBackend opens kinds n h c) (λ h c. OpensAsGpu opens kinds n h c) old s d result new s' d' → HandlesOne event gives opens_backend opens_gpu old s d result new s' d'
   handles-some old new s s' d d' result alive one =
-      subst (λ mark. CallsUnless event request_of allows_handles (λ (t : Session). t.failed) kept_unsent (MeetsRow (fitting gives) opens_backend opens_gpu) mark old s d result new s' d') alive
-      (wider-once event request_of allows_handles (λ (t : Session). t.failed) kept_unsent (MeetsRow (fitting gives) (λ h c. OpensAsBackend opens kinds n h c) (λ h c. OpensAsGpu opens kinds n h c)) (MeetsRow (fitting gives) opens_backend opens_gpu) (λ e. e) meets-some old new s s' d d' result
-      (subst (λ mark. CallsUnless event request_of allows_handles (λ (t : Session). t.failed) kept_unsent (MeetsRow (fitting gives) (λ h c. OpensAsBackend opens kinds n h c) (λ h c. OpensAsGpu opens kinds n h c)) mark old s d result new s' d') (sym alive) one))
+      subst (λ mark. CallsUnless event heard_in allows_handles (λ (t : Session). t.failed) kept_unsent (MeetsRow (fitting gives) opens_backend opens_gpu) mark old s d result new s' d') alive
+      (wider-once event heard_in allows_handles (λ (t : Session). t.failed) kept_unsent (MeetsRow (fitting gives) (λ h c. OpensAsBackend opens kinds n h c) (λ h c. OpensAsGpu opens kinds n h c)) (MeetsRow (fitting gives) opens_backend opens_gpu) (λ e. e) meets-some old new s s' d d' result
+      (subst (λ mark. CallsUnless event heard_in allows_handles (λ (t : Session). t.failed) kept_unsent (MeetsRow (fitting gives) (λ h c. OpensAsBackend opens kinds n h c) (λ h c. OpensAsGpu opens kinds n h c)) mark old s d result new s' d') (sym alive) one))

@@ -62,7 +62,7 @@ module _ {Dev : Type 0} (gives : Gives Dev) (call : FrontendCall PlainHandle) (o
     handled1 = handled gives call old sound lists sent fe1 f1 aw1 ask1 ans stop new v on
 
     served1 : IsServed gives he1 he2 old.session new.session old.device new.device w (seen_result v.result)
-    served1 = is-served gives he1 he2 old.session new.session old.device new.device w (seen_result v.result) (sendable call good old.frontend w aw1 f1 ask1.asked) handled1
+    served1 = is-served gives he1 he2 old.session new.session old.device new.device w (seen_result v.result) (sendable call good old.frontend w aw1 f1 ask1.asked old.session) handled1
         (own-request gives call old sound lists had good sent fe1 f1 aw1 ask1 v.result v.asking_then he2 new.reply new.session new.device v.reached no_request)
         (clear gives call old sound lists had good sent fe1 f1 aw1 ask1 v.result v.asking_then he2 new.reply new.session new.device v.reached)
 

@@ -7,7 +7,7 @@ use Rattle.vhost_message.specs.declared.error.Error as declared
 use Rattle.vhost_message.specs.declared.error.Error.TheVariants as error
 use Rattle.vhost_message.specs.declared.frontend_req.FrontendReq.{FrontendReq}
 use Rattle.vhost_message.specs.declared.limits.TheConstants.{MAX_MSG_TEXT}
-use Rattle.vhost_message.specs.FrontendReq.{request_of, request_number}
+use Rattle.vhost_message.specs.FrontendReq.{request_number}
 use Rattle.vhost_message.specs.MsgHeader.{fields_of}
 use Rattle.vhost_protocol.specs.AnswerTable.{answered}
 use Rattle.vhost_protocol.specs.Ask as ask
@@ -19,7 +19,7 @@ use Rattle.vhost_protocol.specs.FrontendCall.{FrontendCall, SetHdrFlags, Value, 
 use Rattle.vhost_protocol.specs.Handler.{MeetsRow}
 use Rattle.vhost_protocol.specs.Joined.{read_as}
 use Rattle.vhost_protocol.specs.Run as run
-use Rattle.vhost_protocol.specs.Session.{Session}
+use Rattle.vhost_protocol.specs.Session.{Session, heard_in}
 use Rattle.vhost_protocol.specs.Split.{Message, split}
 use Rattle.vhost_protocol.specs.Stream.{Cell, has_some}
 use Rattle.vhost_protocol.specs.Take.{take as answer_in}
@@ -53,8 +53,8 @@ module _ {Dev : Type 0} (gives : Gives Dev) where
   meets-plainly s d m a written s' d' (o, met, answers, writes, keeps) = (o, meets-wider (fitting gives) gives opens_backend opens_gpu (λ old c x new p. p.0) s d m o d' met, answers, writes, keeps)
 
   handles-plainly : (s : Session) (d : Dev) (heard : Result (Message FrontendReq PlainHandle) Error) (a : Result ⊤ Error) (written : List (Cell PlainHandle)) (s' : Session) (d' : Dev)
-      → run.Handles request_of allows_handles (λ (t : Session). t.failed) (MeetsRow (fitting gives) opens_backend opens_gpu) s d heard a written s' d'
-      → run.Handles request_of allows_handles (λ (t : Session). t.failed) (MeetsRow gives opens_backend opens_gpu) s d heard a written s' d'
+      → run.Handles heard_in allows_handles (λ (t : Session). t.failed) (MeetsRow (fitting gives) opens_backend opens_gpu) s d heard a written s' d'
+      → run.Handles heard_in allows_handles (λ (t : Session). t.failed) (MeetsRow gives opens_backend opens_gpu) s d heard a written s' d'
   handles-plainly s d (Err e) a written s' d' h = h
   handles-plainly s d (Ok m) a written s' d' h = meets-plainly s d m a written s' d' h
 
@@ -86,7 +86,7 @@ module _ {Dev : Type 0} (gives : Gives Dev) (call : FrontendCall PlainHandle) (o
     asked-whole = ask1.request ∙ ap (λ xs. xs ++ request_cells w) sound.no_request
 
     pub few-asked : length (outgoing fe1) ≤ MAX_MSG_TEXT
-    few-asked = subst (λ cells. length cells ≤ MAX_MSG_TEXT) (sym asked-whole) (few-written w (sendable call good old.frontend w aw1 f1 ask1.asked).size)
+    few-asked = subst (λ cells. length cells ≤ MAX_MSG_TEXT) (sym asked-whole) (few-written w (sendable call good old.frontend w aw1 f1 ask1.asked old.session).size)
 
     abbrev mid : Parts Dev
     mid = record old { asking = fe1; frontend = f1; awaited = aw1 }
@@ -116,14 +116,14 @@ module _ {Dev : Type 0} (gives : Gives Dev) (call : FrontendCall PlainHandle) (o
       pub own-request : before.to_handler ≡ [] → incoming he1 ≡ request_cells w
       own-request none = sym coming ∙ ap (λ xs. xs ++ request_cells w) none
 
-      own-both : (heard : Result (Message FrontendReq PlainHandle) Error) (left : List (Cell PlainHandle)) → split request_of allows_handles (incoming he1) ≡ (heard, left) → before.to_handler ≡ []
+      own-both : (heard : Result (Message FrontendReq PlainHandle) Error) (left : List (Cell PlainHandle)) → split (heard_in old.session) allows_handles (incoming he1) ≡ (heard, left) → before.to_handler ≡ []
           → ◌≡◌ {A = Result (Message FrontendReq PlainHandle) Error × List (Cell PlainHandle)} (heard, left) (Ok (read_as w), [])
       own-both heard left first none =
-          sym first ∙ ap (λ cells. split request_of allows_handles cells) (own-request none ∙ sym (append-nil (request_cells w)))
-          ∙ written-split request_of allows_handles request_number w [] (sendable call good old.frontend w aw1 f1 ask1.asked)
+          sym first ∙ ap (λ cells. split (heard_in old.session) allows_handles cells) (own-request none ∙ sym (append-nil (request_cells w)))
+          ∙ written-split (heard_in old.session) allows_handles request_number w [] (sendable call good old.frontend w aw1 f1 ask1.asked old.session)
 
       -- and calls its link for it
-      own-unheard : (heard : Result (Message FrontendReq PlainHandle) Error) (way : List (Cell PlainHandle)) → before.to_handler ≡ way → split request_of allows_handles (incoming he1) ≡ (heard, incoming he2)
+      own-unheard : (heard : Result (Message FrontendReq PlainHandle) Error) (way : List (Cell PlainHandle)) → before.to_handler ≡ way → split (heard_in old.session) allows_handles (incoming he1) ≡ (heard, incoming he2)
           → has_some (joined.unheard way (request_cells w)) ≡ true → (he1.ahead ≡ []) × (incoming he1 ≡ joined.unheard way (request_cells w)) × (incoming he2 ≡ [])
       own-unheard heard [] none first some = (
         ap {A = End} (λ e. e.ahead) rc.there.receiver ∙ (both-empty old.serving.ahead old.serving.link.pending (sym to-handler ∙ none)).0,
@@ -138,7 +138,7 @@ module _ {Dev : Type 0} (gives : Gives Dev) (call : FrontendCall PlainHandle) (o
       -- what was written is short, at least where this request was the first
       pub few-served : Handled1 gives he1 he2 old.session s' old.device d' (seen_result result) → before.to_handler ≡ [] → length (outgoing he2) ≤ MAX_MSG_TEXT
       few-served h none =
-          let k : IsServed gives he1 he2 old.session s' old.device d' w (seen_result result) = is-served gives he1 he2 old.session s' old.device d' w (seen_result result) (sendable call good old.frontend w aw1 f1 ask1.asked) h (own-request none) clear in
+          let k : IsServed gives he1 he2 old.session s' old.device d' w (seen_result result) = is-served gives he1 he2 old.session s' old.device d' w (seen_result result) (sendable call good old.frontend w aw1 f1 ask1.asked old.session) h (own-request none) clear in
           subst (λ cells. length cells ≤ MAX_MSG_TEXT) (sym k.written) (few-met call good old.frontend w aw1 f1 ask1.asked gives old.session old.device d' k.outcome k.meets)
 
       few-faulted : ServingFaults gives he1 he2 old.session s' old.device d' → length (outgoing he2) ≤ MAX_MSG_TEXT
@@ -154,9 +154,9 @@ module _ {Dev : Type 0} (gives : Gives Dev) (call : FrontendCall PlainHandle) (o
           by-cases (inr k) = few-faulted k
 
       module _ (new : View Dev) (session : new.session ≡ s') (device : new.device ≡ d') (link : new.serving ≡ cuts_of he2.link) where
-        reads-first : (heard : Result (Message FrontendReq PlainHandle) Error) → split request_of allows_handles (incoming he1) ≡ (heard, incoming he2) → joined.ReadsFirst gives before new w (incoming he2) heard
+        reads-first : (heard : Result (Message FrontendReq PlainHandle) Error) → split (heard_in old.session) allows_handles (incoming he1) ≡ (heard, incoming he2) → joined.ReadsFirst gives before new w (incoming he2) heard
         reads-first heard first = record {
-          first = ap (λ cells. split request_of allows_handles cells) coming ∙ first;
+          first = ap (λ cells. split (heard_in old.session) allows_handles cells) coming ∙ first;
           own = λ none. pair-first (own-both heard (incoming he2) first none);
         }
 
@@ -170,9 +170,9 @@ module _ {Dev : Type 0} (gives : Gives Dev) (call : FrontendCall PlainHandle) (o
             (subst (λ c. joined.PassesBoth old.asking.budget unheard1 h.written c (cuts_of he2.link)) serving-cuts
             (subst (λ n. joined.PassesBoth n unheard1 h.written (cuts_of he1.link) (cuts_of he2.link)) serving-budget passed))))
             (reads-first h.heard (handled-first gives he1 he2 old.session s' old.device d' (seen_result result) h))
-            (subst (λ cells. run.Handles request_of allows_handles (λ (t : Session). t.failed) (MeetsRow gives opens_backend opens_gpu) old.session old.device h.heard (seen_result result) cells new.session new.device) (sym wrote)
-            (subst (λ t. run.Handles request_of allows_handles (λ (t : Session). t.failed) (MeetsRow gives opens_backend opens_gpu) old.session old.device h.heard (seen_result result) h.written t new.device) (sym session)
-            (subst (λ x. run.Handles request_of allows_handles (λ (t : Session). t.failed) (MeetsRow gives opens_backend opens_gpu) old.session old.device h.heard (seen_result result) h.written s' x) (sym device)
+            (subst (λ cells. run.Handles heard_in allows_handles (λ (t : Session). t.failed) (MeetsRow gives opens_backend opens_gpu) old.session old.device h.heard (seen_result result) cells new.session new.device) (sym wrote)
+            (subst (λ t. run.Handles heard_in allows_handles (λ (t : Session). t.failed) (MeetsRow gives opens_backend opens_gpu) old.session old.device h.heard (seen_result result) h.written t new.device) (sym session)
+            (subst (λ x. run.Handles heard_in allows_handles (λ (t : Session). t.failed) (MeetsRow gives opens_backend opens_gpu) old.session old.device h.heard (seen_result result) h.written s' x) (sym device)
             (handles-plainly gives old.session old.device h.heard (seen_result result) h.written s' d' h.handles))))
 
         serves-faulted : ServingFaults gives he1 he2 old.session s' old.device d' → joined.Serves gives before new w (incoming he2) (outgoing he2) None

@@ -6,7 +6,7 @@ use Rattle.vhost_message.specs.declared.frontend_req.FrontendReq.{FrontendReq}
 use Rattle.vhost_message.specs.declared.frontend_req.FrontendReq.TheVariants.{GET_CONFIG, GET_INFLIGHT_FD, GET_SHARED_OBJECT, POSTCOPY_ADVISE, POSTCOPY_END, SET_DEVICE_STATE_FD, CHECK_DEVICE_STATE}
 use Rattle.vhost_message.specs.declared.records.config.VhostUserConfig.{VhostUserConfig}
 use Rattle.vhost_message.specs.declared.records.memory.VhostUserMemoryRegion.{VhostUserMemoryRegion}
-use Rattle.vhost_message.specs.FrontendReq.{request_of, request_number, request_of-request_number}
+use Rattle.vhost_message.specs.FrontendReq.{request_number}
 use Rattle.vhost_message.specs.Header.{header_text}
 use Rattle.vhost_message.specs.LongRecords.{shmem_config-length}
 use Rattle.vhost_message.specs.declared.limits.TheConstants.{MAX_MSG_SIZE, MAX_MSG_TEXT}
@@ -28,14 +28,14 @@ use Rattle.vhost_protocol.specs.Laws.{IsReplyOf, IsTableOf, IsConfigOf, PayloadF
 use Rattle.vhost_protocol.specs.Row.{row}
 use Rattle.vhost_protocol.specs.Served.{Served, Silent, Acknowledged, Replied, reply, cells_of}
 use Rattle.vhost_protocol.specs.Profile.{is_standard}
-use Rattle.vhost_protocol.specs.Session.{Session}
+use Rattle.vhost_protocol.specs.Session.{Session, heard_in}
 use Rattle.vhost_protocol.specs.Settled.{config_asked, inflight_asked, awaits_reply, awaits_ack, is_unanswered, is_fatal, ended, silenced, saying, refused_reply, spoken, settled}
 use Rattle.vhost_protocol.specs.Split.{Message}
 use Rattle.vhost_protocol.specs.Step.{Outcome, Step, Refused, Calls, OpensBackend, OpensGpu}
 use Rattle.vhost_protocol.specs.Take.{take}
 use Rattle.vhost_protocol.specs.Written.{Written, Payload, Empty, U64, Regions, OneRegion, Shmem, RingState, ConfigBytes, InflightArea, LogArea, head_of, payload_text, reply_to, written_cells, written_text}
 use Rattle.vhost_protocol.proofs.FollowLaws.{followed-good, followed-mark, met-known, met-good, met-row}
-use Rattle.vhost_protocol.proofs.HeardLaws.{awaits-shape, hears-answer, replies-well}
+use Rattle.vhost_protocol.proofs.HeardLaws.{awaits-shape, hears-answer, replies-well, heard-named}
 use Rattle.vhost_protocol.proofs.RegionLaws.{regions-length}
 use Rattle.vhost_protocol.proofs.RowLaws.{rows-keep}
 use Rattle.vhost_protocol.proofs.SendLaws.{sends-whole}
@@ -140,10 +140,12 @@ module _ {H B G Dev : Type 0} (gives wider : Dev → (c : Call H B G) → Answer
 -- ---- a call that was sent
 
 module _ (call : FrontendCall PlainHandle) (proper : IsProper call) (f : Frontend) (w : Written FrontendReq PlainHandle) (awaited : Awaited) (g : Frontend) (asked : ask f call ≡ Sends w awaited g) where
-  pub sendable : text.IsSendable request_of allows_handles request_number w
-  sendable =
-      let p : IsSendable w = subst (λ (x : Asked PlainHandle). AsksSendable x) asked (sends-whole PlainHandle f call proper.named) in
-      record { known = request_of-request_number w.request; code = request-small w.request; allowed = p.allowed; size = p.size }
+  whole : IsSendable w
+  whole = subst (λ (x : Asked PlainHandle). AsksSendable x) asked (sends-whole PlainHandle f call proper.named)
+
+  -- whatever the session of the handler
+  pub sendable : (s : Session) → text.IsSendable (heard_in s) allows_handles request_number w
+  sendable s = record { known = heard-named s w.request whole.named; code = request-small w.request whole.named; allowed = whole.allowed; size = whole.size }
 
   -- what the handler wrote for it is short
   pub few-met : {Dev : Type 0} (gives : Gives Dev) (s : Session) (d d' : Dev) (o : Outcome PlainHandle) → Meets (fitting gives) opens_backend opens_gpu s d (read_as w) o d' → length (cells_of request_number (reply w.request o.served)) ≤ MAX_MSG_TEXT
@@ -173,7 +175,7 @@ module _ (call : FrontendCall PlainHandle) (proper : IsProper call) (f : Fronten
         let kept = kept-sent PlainHandle f.header_flags f.profile f call w awaited g asked (refl, refl) in
         record {
           known = known;
-          taken = hears-answer PlainHandle call awaited w g o.served known.to_caller (plainly.1 ∙ plain) plainly.0 good known.known;
+          taken = hears-answer PlainHandle call awaited w g o.served known.to_caller whole.named (plainly.1 ∙ plain) plainly.0 good known.known;
           meets = meets-wider (fitting gives) gives opens_backend opens_gpu (λ old c a new p. p.0) s d (read_as w) o d' met;
           alive = λ none e. ap is_some (followed-mark (fitting gives) opens_backend opens_gpu s d (row s (read_as w)) o d' (rows-keep PlainHandle _ _ w.request s (read_as w)) (met-row (fitting gives) opens_backend opens_gpu s (read_as w) d o d' e met) ∙ none);
           profile = (subst (λ x. IfSome x (λ a. Has PlainHandle f.header_flags f.profile a.session)) known.known (answered-with PlainHandle f.header_flags f.profile call awaited g o.served kept)).1 ∙ agree.profile;

@@ -5,7 +5,7 @@ use Rattle.std.proofs.lemmas.List.{append-nil}
 use Rattle.vhost_message.specs.declared.error.Error as declared
 use Rattle.vhost_message.specs.declared.error.Error.TheVariants as error
 use Rattle.vhost_message.specs.declared.frontend_req.FrontendReq.{FrontendReq}
-use Rattle.vhost_message.specs.FrontendReq.{request_of, request_number}
+use Rattle.vhost_message.specs.FrontendReq.{request_number}
 use Rattle.vhost_protocol.specs.Codes.{allows_handles}
 use Rattle.vhost_protocol.specs.Error.{Error, OutOfMemory, seen, seen_result}
 use Rattle.vhost_protocol.specs.declared.profile.Profile.{Profile}
@@ -16,7 +16,7 @@ use Rattle.vhost_protocol.specs.Joined.{is_silent, is_end, stops, read_as}
 use Rattle.vhost_protocol.specs.Profile.{is_standard}
 use Rattle.vhost_protocol.specs.Run as run
 use Rattle.vhost_protocol.specs.Served.{Served, Silent, Acknowledged, Replied, reply, cells_of}
-use Rattle.vhost_protocol.specs.Session.{Session}
+use Rattle.vhost_protocol.specs.Session.{Session, heard_in}
 use Rattle.vhost_protocol.specs.Split.{split, Message}
 use Rattle.vhost_protocol.specs.Step.{Outcome}
 use Rattle.vhost_protocol.specs.Stream.{Cell, bytes, has_some}
@@ -47,30 +47,30 @@ module _ {Dev : Type 0} (gives : Gives Dev) (he he' : End) (s s' : Session) (d d
   Met = MeetsRow (fitting gives) opens_backend opens_gpu
 
   abbrev pub Handled1 : Result ⊤ Error → Type 0
-  Handled1 a = Handled event request_of allows_handles (λ (t : Session). t.failed) kept_unsent Met he s d a he' s' d'
+  Handled1 a = Handled event heard_in allows_handles (λ (t : Session). t.failed) kept_unsent Met he s d a he' s' d'
 
   -- the handler's link failed
   abbrev pub ServingFaults : Type 0
-  ServingFaults = Faults request_of allows_handles (λ (t : Session). t.failed) kept_unsent Met he he' s s' d d'
+  ServingFaults = Faults heard_in allows_handles (λ (t : Session). t.failed) kept_unsent Met he he' s s' d d'
 
   pub split-handled : (r : Result ⊤ declared.Error) → HandlesOne event gives opens_backend opens_gpu he s d r he' s' d' → he.broken ≡ None → he.list ≡ true → Handled1 (seen_result r) ⊎ ServingFaults
-  split-handled = handling.split-handled request_of allows_handles (λ (t : Session). t.failed) kept_unsent Met he he' s s' d d'
+  split-handled = handling.split-handled heard_in allows_handles (λ (t : Session). t.failed) kept_unsent Met he he' s s' d d'
 
   pub faulted-so : ServingFaults → he'.faulted ≡ true
-  faulted-so = handling.faulted-so request_of allows_handles (λ (t : Session). t.failed) kept_unsent Met he he' s s' d d'
+  faulted-so = handling.faulted-so heard_in allows_handles (λ (t : Session). t.failed) kept_unsent Met he he' s s' d d'
 
   module _ (r : Result ⊤ Error) (h : Handled1 r) where
-    pub handled-first : split request_of allows_handles (incoming he) ≡ (h.heard, incoming he')
-    handled-first = handling.handled-first request_of allows_handles (λ (t : Session). t.failed) kept_unsent Met he he' s s' d d' r h
+    pub handled-first : split (heard_in s) allows_handles (incoming he) ≡ (h.heard, incoming he')
+    handled-first = handling.handled-first heard_in allows_handles (λ (t : Session). t.failed) kept_unsent Met he he' s s' d d' r h
 
     pub handled-written : outgoing he' ≡ outgoing he ++ h.written
-    handled-written = handling.handled-written request_of allows_handles (λ (t : Session). t.failed) kept_unsent Met he he' s s' d d' r h
+    handled-written = handling.handled-written heard_in allows_handles (λ (t : Session). t.failed) kept_unsent Met he he' s s' d d' r h
 
     pub handled-budget : he'.budget ≡ he.budget
-    handled-budget = handling.handled-budget request_of allows_handles (λ (t : Session). t.failed) kept_unsent Met he he' s s' d d' r h
+    handled-budget = handling.handled-budget heard_in allows_handles (λ (t : Session). t.failed) kept_unsent Met he he' s s' d d' r h
 
     pub both-passed : (request : List (Cell PlainHandle)) → (has_some request ≡ true → (he.ahead ≡ []) × (incoming he ≡ request) × (incoming he' ≡ [])) → PassesBoth he.budget request h.written (cuts_of he.link) (cuts_of he'.link)
-    both-passed = handling.both-passed request_of allows_handles (λ (t : Session). t.failed) kept_unsent Met he he' s s' d d' r h
+    both-passed = handling.both-passed heard_in allows_handles (λ (t : Session). t.failed) kept_unsent Met he he' s s' d d' r h
 
   -- The request was served.
   pub record IsServed (w : Written FrontendReq PlainHandle) (r : Result ⊤ Error) : Type 0 where
@@ -84,12 +84,12 @@ module _ {Dev : Type 0} (gives : Gives Dev) (he he' : End) (s s' : Session) (d d
     pub session : s' ≡ outcome.session
     pub nothing : incoming he' ≡ []
 
-  pub is-served : (w : Written FrontendReq PlainHandle) (r : Result ⊤ Error) → IsSendable request_of allows_handles request_number w → Handled1 r → incoming he ≡ written_cells request_number w → outgoing he ≡ [] → IsServed w r
+  pub is-served : (w : Written FrontendReq PlainHandle) (r : Result ⊤ Error) → IsSendable (heard_in s) allows_handles request_number w → Handled1 r → incoming he ≡ written_cells request_number w → outgoing he ≡ [] → IsServed w r
   is-served w r sendable h came clear =
-      let whole = written-split request_of allows_handles request_number w [] sendable in
-      let both = sym (handled-first r h) ∙ ap (λ cells. split request_of allows_handles cells) (came ∙ sym (append-nil (written_cells request_number w))) ∙ whole in
+      let whole = written-split (heard_in s) allows_handles request_number w [] sendable in
+      let both = sym (handled-first r h) ∙ ap (λ cells. split (heard_in s) allows_handles cells) (came ∙ sym (append-nil (written_cells request_number w))) ∙ whole in
       let m : Met s d (read_as w) r h.written s' d' =
-      subst (λ x. run.Handles request_of allows_handles (λ (t : Session). t.failed) Met s d x r h.written s' d') (pair-first both) h.handles in
+      subst (λ x. run.Handles heard_in allows_handles (λ (t : Session). t.failed) Met s d x r h.written s' d') (pair-first both) h.handles in
       record {
         handled = h;
         heard = pair-first both;

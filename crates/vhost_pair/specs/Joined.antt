@@ -2,13 +2,13 @@
 use Rattle.std.specs.Prelude.{◌≡◌, ℕ, ◌+◌, ◌<◌, ◌≤◌, List, [], ◌∷◌, ◌++◌, length, take, drop, sum_by, Option, Some, None, Bool, true, false, not, ◌&&◌, ◌||◌, ◌⊎◌, if◌then◌else◌, Result, Ok, Err, ⊤, is_some, is_err}
 use Rattle.vhost_protocol.specs.Stream.{Cell, has_some}
 use Rattle.vhost_protocol.specs.Error.{Error, OutOfMemory, seen}
-use Rattle.vhost_protocol.specs.Session.{Session}
+use Rattle.vhost_protocol.specs.Session.{Session, heard_in}
 use Rattle.vhost_message.specs.Bits.{has_bit}
 use Rattle.vhost_message.specs.Cause.{is_retry, error_of}
 use Rattle.vhost_message.specs.declared.cause.IoCause.{IoCause}
 use Rattle.vhost_message.specs.declared.frontend_req.FrontendReq.{FrontendReq}
 use Rattle.vhost_message.specs.declared.limits.TheConstants.{MAX_MSG_TEXT}
-use Rattle.vhost_message.specs.FrontendReq.{request_of, request_number}
+use Rattle.vhost_message.specs.FrontendReq.{request_number}
 use Rattle.vhost_protocol.specs.Agreement.{Negotiates}
 use Rattle.vhost_protocol.specs.Codes.{allows_handles}
 use Rattle.vhost_protocol.specs.DeviceCall.{GetFeatures}
@@ -163,7 +163,7 @@ module _ {Dev : Type 0} (gives : Gives Dev) where
   module _ (old new : View Dev) (w : Written FrontendReq PlainHandle) (left : List (Cell PlainHandle)) where
     -- The handler reads the first message of all that comes: of what was on the way, and then of this request, which is the first where nothing was.
     pub record ReadsFirst (heard : Result (Message FrontendReq PlainHandle) Error) : Type 0 where
-      pub first : split request_of allows_handles (old.to_handler ++ request_cells w) ≡ (heard, left)
+      pub first : split (heard_in old.session) allows_handles (old.to_handler ++ request_cells w) ≡ (heard, left)
       pub own : old.to_handler ≡ [] → heard ≡ Ok (read_as w)
 
     -- What the handler answered, and what it wrote. None: it did not come so far.
@@ -180,7 +180,7 @@ module _ {Dev : Type 0} (gives : Gives Dev) where
           → count < length reply → came ≡ take count reply → new.session ≡ kept_unsent m.request old.session after → Serves came None
       -- it served a message by its row, or what came is none
       served : (heard : Result (Message FrontendReq PlainHandle) Error) (answer : Result ⊤ Error) → PassesBoth old.budget (unheard old.to_handler (request_cells w)) came old.serving new.serving → ReadsFirst heard
-          → run.Handles request_of allows_handles (λ (s : Session). s.failed) (MeetsRow gives opens_backend opens_gpu) old.session old.device heard answer came new.session new.device
+          → run.Handles heard_in allows_handles (λ (s : Session). s.failed) (MeetsRow gives opens_backend opens_gpu) old.session old.device heard answer came new.session new.device
           → Serves came (Some answer)
 
   -- What the frontend made of what came back behind what was on the way. true: it did not come so far.

@@ -33,17 +33,17 @@ module _ {Dev : Type 0} (gives : Gives Dev) (he he' : End) (s s' : Server) (d d'
   Met = ReverseMeets (fitting gives)
 
   abbrev pub Handled1 : Result ℕ Error → Type 0
-  Handled1 a = Handled event backend_request_of backend_allows_handles (λ (t : Server). t.failed) kept_all Met he s d a he' s' d'
+  Handled1 a = Handled event (λ (_ : Server). backend_request_of) backend_allows_handles (λ (t : Server). t.failed) kept_all Met he s d a he' s' d'
 
   -- the serving side's link failed
   abbrev pub ServingFaults : Type 0
-  ServingFaults = Faults backend_request_of backend_allows_handles (λ (t : Server). t.failed) kept_all Met he he' s s' d d'
+  ServingFaults = Faults (λ (_ : Server). backend_request_of) backend_allows_handles (λ (t : Server). t.failed) kept_all Met he he' s s' d d'
 
   pub split-handled : (r : Result ℕ declared.Error) → HandlesOne event gives he s d r he' s' d' → he.broken ≡ None → he.list ≡ true → Handled1 (seen_result r) ⊎ ServingFaults
-  split-handled = handling.split-handled backend_request_of backend_allows_handles (λ (t : Server). t.failed) kept_all Met he he' s s' d d'
+  split-handled = handling.split-handled (λ (_ : Server). backend_request_of) backend_allows_handles (λ (t : Server). t.failed) kept_all Met he he' s s' d d'
 
   pub faulted-so : ServingFaults → he'.faulted ≡ true
-  faulted-so = handling.faulted-so backend_request_of backend_allows_handles (λ (t : Server). t.failed) kept_all Met he he' s s' d d'
+  faulted-so = handling.faulted-so (λ (_ : Server). backend_request_of) backend_allows_handles (λ (t : Server). t.failed) kept_all Met he he' s s' d d'
 
   module _ (w : Written BackendReq PlainHandle) (sendable : IsSendable backend_request_of backend_allows_handles backend_request_number w) (came : incoming he ≡ written_cells backend_request_number w) (clear : outgoing he ≡ []) where
     -- what is heard is this request
@@ -66,16 +66,16 @@ module _ {Dev : Type 0} (gives : Gives Dev) (he he' : End) (s s' : Server) (d d'
 
     pub is-served : (r : Result ℕ Error) → Handled1 r → IsServed r
     is-served r h =
-        let both = own h.heard (incoming he') (handling.handled-first backend_request_of backend_allows_handles (λ (t : Server). t.failed) kept_all Met he he' s s' d d' r h) in
+        let both = own h.heard (incoming he') (handling.handled-first (λ (_ : Server). backend_request_of) backend_allows_handles (λ (t : Server). t.failed) kept_all Met he he' s s' d d' r h) in
         let m : Met s d (read_as w) r h.written s' d' =
-        subst (λ x. run.Handles backend_request_of backend_allows_handles (λ (t : Server). t.failed) Met s d x r h.written s' d') (pair-first both) h.handles in
+        subst (λ x. run.Handles (λ (_ : Server). backend_request_of) backend_allows_handles (λ (t : Server). t.failed) Met s d x r h.written s' d') (pair-first both) h.handles in
         record {
           handled = h;
           outcome = m.0;
           follows = m.1;
           answer = m.2;
           wrote = m.3;
-          written = handling.handled-written backend_request_of backend_allows_handles (λ (t : Server). t.failed) kept_all Met he he' s s' d d' r h ∙ ap (λ xs. xs ++ h.written) clear ∙ m.3;
+          written = handling.handled-written (λ (_ : Server). backend_request_of) backend_allows_handles (λ (t : Server). t.failed) kept_all Met he he' s s' d d' r h ∙ ap (λ xs. xs ++ h.written) clear ∙ m.3;
           session = m.4;
           nothing = pair-second both;
         }
@@ -85,10 +85,10 @@ module _ {Dev : Type 0} (gives : Gives Dev) (he he' : End) (s s' : Server) (d d'
         → PassesBoth he.budget (written_cells backend_request_number w) (cells_of backend_request_number (reply w.request k.outcome.served)) (cuts_of he.link) (cuts_of he'.link)
     both-passed r k fresh =
         subst (λ cells. PassesBoth he.budget (written_cells backend_request_number w) cells (cuts_of he.link) (cuts_of he'.link)) k.wrote
-        (handling.both-passed backend_request_of backend_allows_handles (λ (t : Server). t.failed) kept_all Met he he' s s' d d' r k.handled (written_cells backend_request_number w) (λ some. (fresh, came, k.nothing)))
+        (handling.both-passed (λ (_ : Server). backend_request_of) backend_allows_handles (λ (t : Server). t.failed) kept_all Met he he' s s' d d' r k.handled (written_cells backend_request_number w) (λ some. (fresh, came, k.nothing)))
 
     pub served-budget : (r : Result ℕ Error) (k : IsServed r) → he'.budget ≡ he.budget
-    served-budget r k = handling.handled-budget backend_request_of backend_allows_handles (λ (t : Server). t.failed) kept_all Met he he' s s' d d' r k.handled
+    served-budget r k = handling.handled-budget (λ (_ : Server). backend_request_of) backend_allows_handles (λ (t : Server). t.failed) kept_all Met he he' s s' d d' r k.handled
 
     -- It was not: what was written is none, or a front of the row's reply.
     pub data IsUnserved : Type 0 where

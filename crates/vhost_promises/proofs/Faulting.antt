@@ -38,15 +38,15 @@ module _ {L H : Type 0} (event : L → Event H → L → Type 0) where
   troubled old m e new (fault c b f k few spent broken faulted kept) met =
       record { cause = c; answered = refl; before = nothing; moved = m; mid = old; talks = not-yet old; fell = f; spent = spent; broken = broken }
 
-module _ {L R H S A Dev : Type 0} (event : L → Event H → L → Type 0) (request_of : ℕ → Option R) (allows_handles : R → ℕ → Bool) (failed : S → Option ℤ)
+module _ {L R H S A Dev : Type 0} (event : L → Event H → L → Type 0) (request_of : S → ℕ → Option R) (allows_handles : R → ℕ → Bool) (failed : S → Option ℤ)
     (kept : R → S → S → S) (Meets : S → Dev → Message R H → Result A Error → List (Cell H) → S → Dev → Type 0) where
   -- a message was more than nothing
-  some-heard : (cells : List (Cell H)) (ended : Bool) (m : Message R H) (retries : ℕ) → Splits (split request_of allows_handles) cells ended (Ok m) → has_moved (receives (heard cells ended) retries) ≡ true
+  some-heard : (s : S) (cells : List (Cell H)) (ended : Bool) (m : Message R H) (retries : ℕ) → Splits (split (request_of s) allows_handles) cells ended (Ok m) → has_moved (receives (heard cells ended) retries) ≡ true
   unfolding split
-  some-heard [] true m retries s = refl
-  some-heard [] false m retries s = let none : ◌≡◌ {A = Result (Message R H) Error} (Err Disconnected) (Ok m) = ap (λ x. x.0) (s []) in absurd cc
-  some-heard (c ∷ cells) true m retries s = refl
-  some-heard (c ∷ cells) false m retries s = refl
+  some-heard s [] true m retries splits = refl
+  some-heard s [] false m retries splits = let none : ◌≡◌ {A = Result (Message R H) Error} (Err Disconnected) (Ok m) = ap (λ x. x.0) (splits []) in absurd cc
+  some-heard s (c ∷ cells) true m retries splits = refl
+  some-heard s (c ∷ cells) false m retries splits = refl
 
   -- a call that met a fault
   pub met-fault : (old : State L H) (s : S) (d : Dev) (result : Result A declared.Error) (new : State L H) (s' : S) (d' : Dev) → HandlesOne event request_of allows_handles failed kept Meets old s d result new s' d'
@@ -65,7 +65,7 @@ module _ {L R H S A Dev : Type 0} (event : L → Event H → L → Type 0) (requ
         talks = hears.serves.talks;
         fell = stops.fell;
         spent = λ again. stops.spent again ∙ hears.serves.talks.budget;
-        broken = stops.broken ∙ ap (λ x. if x || has_moved (sends (take stops.count i.written) stops.retries) then Some stops.cause else None) (sym (some-heard hears.cells hears.ended m hears.retries hears.splits));
+        broken = stops.broken ∙ ap (λ x. if x || has_moved (sends (take stops.count i.written) stops.retries) then Some stops.cause else None) (sym (some-heard s hears.cells hears.ended m hears.retries hears.splits));
       }
 
   -- each call over a broken endpoint says so

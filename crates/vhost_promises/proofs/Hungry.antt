@@ -5,7 +5,6 @@ use Rattle.vhost_message.specs.declared.cause.IoCause.{IoCause}
 use Rattle.vhost_message.specs.declared.errno.TheConstants.{ENOMEM}
 use Rattle.vhost_message.specs.declared.cause.IoCause.TheVariants.{Raw}
 use Rattle.vhost_message.specs.declared.frontend_req.FrontendReq.{FrontendReq}
-use Rattle.vhost_message.specs.FrontendReq.{request_of}
 use Rattle.vhost_protocol.specs.Codes.{allows_handles}
 use Rattle.vhost_protocol.specs.Error.{Error, OutOfMemory}
 use Rattle.vhost_protocol.specs.FrontendCall as calls
@@ -13,7 +12,7 @@ use Rattle.vhost_protocol.specs.FrontendCall.{Frontend, Value}
 use Rattle.vhost_protocol.specs.Handler.{MeetsRow}
 use Rattle.vhost_protocol.specs.Joined.{read_as}
 use Rattle.vhost_protocol.specs.Run as run
-use Rattle.vhost_protocol.specs.Session.{Session}
+use Rattle.vhost_protocol.specs.Session.{Session, heard_in}
 use Rattle.vhost_protocol.specs.Split.{Message}
 use Rattle.vhost_protocol.specs.Stream.{Cell, has_some}
 use Rattle.vhost_protocol.specs.Written.{Written}
@@ -84,10 +83,10 @@ module _ {Dev : Type 0} (gives : Gives Dev) (bit : Bool) where
 
     -- the handler wanted memory, which its device or a handle's opening answered
     wants-behind : (new : View Dev) (w : Written FrontendReq PlainHandle) (heard : Result (Message FrontendReq PlainHandle) Error) (answer : Result ⊤ Error) (came : List (Cell PlainHandle)) → heard ≡ Ok (read_as w) → answer ≡ Err OutOfMemory
-        → run.Handles request_of allows_handles (λ (s : Session). s.failed) (MeetsRow gives opens_backend opens_gpu) old.session old.device heard answer came new.session new.device → WantsMemory gives new
+        → run.Handles heard_in allows_handles (λ (s : Session). s.failed) (MeetsRow gives opens_backend opens_gpu) old.session old.device heard answer came new.session new.device → WantsMemory gives new
     wants-behind new w heard answer came own is handles =
         let met : MeetsRow gives opens_backend opens_gpu old.session old.device (read_as w) answer came new.session new.device =
-        subst (λ h. run.Handles request_of allows_handles (λ (s : Session). s.failed) (MeetsRow gives opens_backend opens_gpu) old.session old.device h answer came new.session new.device) own handles in
+        subst (λ h. run.Handles heard_in allows_handles (λ (s : Session). s.failed) (MeetsRow gives opens_backend opens_gpu) old.session old.device h answer came new.session new.device) own handles in
         of_handler old w met.0 met.1 (sym met.2 ∙ is)
 
     module _ (new : View Dev) (call : calls.FrontendCall PlainHandle) (result : Result (Value PlainHandle) Error) (premise : new.stopped ≡ Some Premise) (asking : old.asking.script ≡ []) (serving : old.serving.script ≡ []) where

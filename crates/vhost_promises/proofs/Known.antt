@@ -88,14 +88,14 @@ replies-told law old new written r =
 
 -- ---- one call
 
-module _ {R S A Dev : Type 0} (request_of : ℕ → Option R) (allows_handles : R → ℕ → Bool) (failed : S → Option ℤ)
+module _ {R S A Dev : Type 0} (request_of : S → ℕ → Option R) (allows_handles : R → ℕ → Bool) (failed : S → Option ℤ)
     (kept : R → S → S → S) (Meets : S → Dev → Message R PlainHandle → Result A Error → List (Cell PlainHandle) → S → Dev → Type 0) (law : TalksLaw) where
   -- a call that was served found no message where the definitions find none
   finds-none : (old : Near) (s : S) (d : Dev) (result : Result A declared.Error) (new : Near) (s' : S) (d' : Dev) (e : Error) (rest : List (Cell PlainHandle))
-      → split request_of allows_handles (stream old) ≡ (Err e, rest)
+      → split (request_of s) allows_handles (stream old) ≡ (Err e, rest)
       → Handled event request_of allows_handles failed kept Meets old s d (seen_result result) new s' d' → FindsNone e rest old s d result new s' d'
   finds-none old s d result new s' d' e rest none h =
-      let (cut, quiet) = hears-cut law (split request_of allows_handles) old h.mid h.heard h.hears in
+      let (cut, quiet) = hears-cut law (split (request_of s) allows_handles) old h.mid h.heard h.hears in
       let same = sym cut ∙ none in
       let handles : run.Handles request_of allows_handles failed Meets s d (Err e) (seen_result result) h.written s' d' =
       subst (λ o. run.Handles request_of allows_handles failed Meets s d o (seen_result result) h.written s' d') (ap (λ x. x.0) same) h.handles in
@@ -110,7 +110,7 @@ module _ {R S A Dev : Type 0} (request_of : ℕ → Option R) (allows_handles : 
 
   -- so does every call, unless it failed for its link or for want of memory
   pub one-none : (old : Near) (s : S) (d : Dev) (result : Result A declared.Error) (new : Near) (s' : S) (d' : Dev) (e : Error) (rest : List (Cell PlainHandle))
-      → split request_of allows_handles (stream old) ≡ (Err e, rest) → answer_of_link result ≡ false
+      → split (request_of s) allows_handles (stream old) ≡ (Err e, rest) → answer_of_link result ≡ false
       → HandlesOne event request_of allows_handles failed kept Meets old s d result new s' d' → FindsNone e rest old s d result new s' d'
   one-none old s d (Ok a) new s' d' e rest none sound h = finds-none old s d (Ok a) new s' d' e rest none h
   one-none old s d (Err x) new s' d' e rest none sound (inl h) = finds-none old s d (Err x) new s' d' e rest none h

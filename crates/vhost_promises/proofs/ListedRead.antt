@@ -14,7 +14,7 @@ use Rattle.vhost_protocol.specs.Error.{Error, InvalidParam, InvalidMessage, Part
 use Rattle.vhost_protocol.specs.FrontendCall.{Frontend, GetFeatures, Number, Value}
 use Rattle.vhost_protocol.specs.declared.profile.Profile.{Profile}
 use Rattle.vhost_protocol.specs.declared.profile.Profile.TheVariants.{Vhost, Standard}
-use Rattle.vhost_protocol.specs.ReplySplit.{Received, reply_split, received, whole_split, is_right, apart, parted, then_made}
+use Rattle.vhost_protocol.specs.ReplySplit.{Received, reply_split, received, whole_split, is_right, apart, parted, then_made, has_size}
 use Rattle.vhost_protocol.specs.Served.{Replied}
 use Rattle.vhost_protocol.specs.Stream.{Cell, bytes, first_handles, has_some, is_shorter}
 use Rattle.vhost_protocol.specs.Take.{is_known, is_valid_record, answers, understood, take as takes, take_reply, reply_cut}
@@ -103,7 +103,7 @@ unfolding reply_split received whole_split
 fits Standard cells =
     let h = header_of (bytes (take MSG_HEADER_SIZE cells)) in
     let behind = drop MSG_HEADER_SIZE cells in
-    by-header (first_handles cells) (is_shorter MSG_HEADER_SIZE cells) (not (is_known h)) (is_shorter h.size behind) behind (record { header = h; body = bytes (take h.size behind); payload = []; handles = first_handles cells }) (drop h.size behind) refl
+    by-header (first_handles cells) (is_shorter MSG_HEADER_SIZE cells) (not (has_size is_known 8 h)) (is_shorter h.size behind) behind (record { header = h; body = bytes (take h.size behind); payload = []; handles = first_handles cells }) (drop h.size behind) refl
 fits Vhost cells =
     let h = header_of (bytes (take MSG_HEADER_SIZE cells)) in
     let body = bytes (take 8 (drop MSG_HEADER_SIZE cells)) in

@@ -5,7 +5,6 @@ use Rattle.vhost_message.specs.declared.cause.IoCause.{IoCause}
 use Rattle.vhost_message.specs.declared.error.Error as declared
 use Rattle.vhost_message.specs.declared.frontend_req.FrontendReq.{FrontendReq}
 use Rattle.vhost_message.specs.declared.frontend_req.FrontendReq.TheVariants.{SET_BACKEND_REQ_FD}
-use Rattle.vhost_message.specs.FrontendReq.{request_of}
 use Rattle.vhost_protocol.specs.Answered.{calls}
 use Rattle.vhost_protocol.specs.Codes.{allows_handles}
 use Rattle.vhost_protocol.specs.DeviceCall.{Call, Answer, SetBackendReqFd}
@@ -14,7 +13,7 @@ use Rattle.vhost_protocol.specs.Features.{BACKEND_REQ}
 use Rattle.vhost_protocol.specs.Handler.{Follows, MeetsRow}
 use Rattle.vhost_protocol.specs.Row.{channel, only, row_of, session_feature}
 use Rattle.vhost_protocol.specs.Run as run
-use Rattle.vhost_protocol.specs.Session.{Session}
+use Rattle.vhost_protocol.specs.Session.{Session, heard_in}
 use Rattle.vhost_protocol.specs.Split.{Message}
 use Rattle.vhost_protocol.proofs.SettleLaws.{settled-answer}
 use Rattle.vhost_protocol.specs.Step.{Outcome, Refusal, Step, OpensBackend, acknowledged, silently, ◌>>=◌, ◌>>◌}
@@ -55,13 +54,13 @@ module _ {L H Dev : Type 0} (opens : L → H → Result L IoCause → Type 0) (k
 module _ {L H Dev : Type 0} (event : L → Event H → L → Type 0) (opens : L → H → Result L IoCause → Type 0) (kinds : H → Result Kind IoCause → Type 0) (gives : Dev → (c : Call H (Backend L H) (GpuBackend L H)) → Answer c → Dev → Type 0)
     (old new : State L H) (s s' : Session) (d d' : Dev) where
   pub opens-own : (result : Result ⊤ declared.Error) → HandlesOne event gives (λ h c. OpensAsBackend opens kinds old.budget h c) (λ h c. OpensAsGpu opens kinds old.budget h c) old s d result new s' d'
-      → IfOk result (λ u. OpensItsOwn opens kinds gives event old d d')
+      → IfOk result (λ u. OpensItsOwn opens kinds gives event s old d d')
   opens-own (Err e) p = tt
   opens-own (Ok u) h = record {
     heard = h.heard;
     mid = h.mid;
     hears = h.hears;
     own = λ m is asked.
-        let met = subst (λ x. run.Handles request_of allows_handles (λ (t : Session). t.failed) (MeetsRow (fitting gives) (λ h c. OpensAsBackend opens kinds old.budget h c) (λ h c. OpensAsGpu opens kinds old.budget h c)) s d x (Ok u) h.written s' d') is h.handles in
+        let met = subst (λ x. run.Handles heard_in allows_handles (λ (t : Session). t.failed) (MeetsRow (fitting gives) (λ h c. OpensAsBackend opens kinds old.budget h c) (λ h c. OpensAsGpu opens kinds old.budget h c)) s d x (Ok u) h.written s' d') is h.handles in
         given-own opens kinds gives old.budget s m d d' met.1.0 asked u (sym (met.2 ∙ ap (λ (x : Outcome H). x.answer) met.1.2 ∙ settled-answer H s m met.1.0)) met.1.1;
   }

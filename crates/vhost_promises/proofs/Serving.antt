@@ -3,7 +3,7 @@ use Rattle.std.proofs.Common.{◌≡◌, true, false, List, [], ◌∷◌, ◌++
 use Rattle.std.specs.Global.{Global}
 use Rattle.std.specs.List.{list_any}
 use Rattle.std.specs.Prelude.{⊤, IfOk, Vec, not, codes}
-use Rattle.vhost_message.specs.FrontendReq.{request_of, request_number}
+use Rattle.vhost_message.specs.FrontendReq.{request_number}
 use Rattle.vhost_message.specs.declared.error.Error as declared
 use Rattle.vhost_message.specs.declared.frontend_req.FrontendReq.{FrontendReq}
 use Rattle.vhost_message.specs.declared.frontend_req.FrontendReq.TheVariants.{GET_FEATURES, SET_OWNER}
@@ -12,7 +12,7 @@ use Rattle.vhost_protocol.specs.Error.{Error, InvalidOperation, seen_result}
 use Rattle.vhost_protocol.specs.Handler.{MeetsRow}
 use Rattle.vhost_protocol.specs.Run as run
 use Rattle.vhost_protocol.specs.Served.{reply, cells_of}
-use Rattle.vhost_protocol.specs.Session.{Session, fresh}
+use Rattle.vhost_protocol.specs.Session.{Session, fresh, heard_in}
 use Rattle.vhost_protocol.specs.Split.{Message, split, split_after, split_body, body_outcome}
 use Rattle.vhost_protocol.specs.Stream.{Cell, Item, plain}
 use Rattle.vhost_link.specs.Mem.{event, HandsFront}
@@ -83,29 +83,29 @@ module _ {B G : Type 0} (opens_backend : PlainHandle → Result B Error → Type
     pub hands : HandsFront rest later left
 
   pub next : (before left rest : List (Cell PlainHandle)) (m : Message FrontendReq PlainHandle) (s s' : Session) (d d' : Device) (input now later : List (Item PlainHandle)) (answer : Result ⊤ Error) (written : List (Cell PlainHandle))
-      → split request_of allows_handles before ≡ (Ok m, rest) → HandsFront before input left → input ≡ now ++ later
-      → (heard : Result (Message FrontendReq PlainHandle) Error) → run.Hears request_of allows_handles (λ (t : Session). t.failed) Meets now heard
-      → run.Handles request_of allows_handles (λ (t : Session). t.failed) Meets s d heard answer written s' d' → Next s d m answer written s' d' rest later left
+      → split (heard_in s) allows_handles before ≡ (Ok m, rest) → HandsFront before input left → input ≡ now ++ later
+      → (heard : Result (Message FrontendReq PlainHandle) Error) → run.Hears heard_in allows_handles (λ (t : Session). t.failed) Meets s now heard
+      → run.Handles heard_in allows_handles (λ (t : Session). t.failed) Meets s d heard answer written s' d' → Next s d m answer written s' d' rest later left
   next before left rest m s s' d d' input now later answer written is hands parts heard (cells, ended, all, splits) handles =
-      let c = cuts (split request_of allows_handles) cells ended heard before left later splits (subst (λ xs. HandsFront before xs left) (parts ∙ ap (λ xs. xs ++ later) all) hands) in
+      let c = cuts (split (heard_in s) allows_handles) cells ended heard before left later splits (subst (λ xs. HandsFront before xs left) (parts ∙ ap (λ xs. xs ++ later) all) hands) in
       let same = sym c.is ∙ is in
       record {
-        meets = subst (λ h. run.Handles request_of allows_handles (λ (t : Session). t.failed) Meets s d h answer written s' d') (ap (λ x. x.0) same) handles;
+        meets = subst (λ h. run.Handles heard_in allows_handles (λ (t : Session). t.failed) Meets s d h answer written s' d') (ap (λ x. x.0) same) handles;
         hands = subst (λ xs. HandsFront xs later left) (ap (λ x. x.1) same) c.hands;
       }
 
   -- one call of a session that is not marked as failed
   abbrev pub Calls : Session → Device → List (Item PlainHandle) → Result ⊤ Error → List (Cell PlainHandle) → Session → Device → Type 0
-  Calls = run.Serves request_of allows_handles (λ (t : Session). t.failed) Meets
+  Calls = run.Serves heard_in allows_handles (λ (t : Session). t.failed) Meets
 
   -- ---- three of them
 
   three-of : (device now : Device) (s' : Session) (a b c : Result ⊤ Error) (before left : List (Cell PlainHandle)) (input : List (Item PlainHandle)) (written : List (Cell PlainHandle)) → device.owned ≡ false
-      → before ≡ plain three_requests → HandsFront before input left → run.Run request_of allows_handles (λ (t : Session). t.failed) Meets fresh device (a ∷ b ∷ c ∷ []) input written s' now
+      → before ≡ plain three_requests → HandsFront before input left → run.Run heard_in allows_handles (λ (t : Session). t.failed) Meets fresh device (a ∷ b ∷ c ∷ []) input written s' now
       → (a ≡ Ok tt) × (b ≡ Ok tt) × (c ≡ Err (InvalidOperation (codes "already claimed"))) × (written ≡ plain features_reply) × (left ≡ []) × (s' ≡ serving) × (now ≡ record device { owned = true })
   unfolding split split_after split_body body_outcome
   three-of device now s' a b c before left input written free is hands (n1, l1, w1, r1, s1, d1, (h1, hears1, handles1), in1, out1, (n2, l2, w2, r2, s2, d2, serves2, in2, out2, (n3, l3, w3, r3, s3, d3, serves3, in3, out3, (in4, out4, s4, d4)))) =
-      let first = next before left (plain (owner_request ++ owner_request)) (asks GET_FEATURES) fresh s1 device d1 input n1 l1 a w1 (ap (split request_of allows_handles) is) hands in1 h1 hears1 handles1 in
+      let first = next before left (plain (owner_request ++ owner_request)) (asks GET_FEATURES) fresh s1 device d1 input n1 l1 a w1 (ap (split (heard_in fresh) allows_handles) is) hands in1 h1 hears1 handles1 in
       let (is_a, is_w1, is_s1, is_d1) = features-row device d1 a w1 s1 first.meets in
       let (h2, hears2, handles2) = subst (λ s. Calls s device n2 b w2 s2 d2) is_s1 (subst (λ d. Calls s1 d n2 b w2 s2 d2) is_d1 serves2) in
       let second = next (plain (owner_request ++ owner_request)) left (plain owner_request) (asks SET_OWNER) serving s2 device d2 l1 n2 l2 b w2 refl first.hands in2 h2 hears2 handles2 in
@@ -127,7 +127,7 @@ module _ {B G : Type 0} (opens_backend : PlainHandle → Result B Error → Type
   three law old new device now s s' (a ∷ b ∷ c ∷ []) begins free is (count, w) =
       let (front, sent) = law old new w.move w.talks in
       let (is_a, is_b, is_c, is_w, none, is_s, is_d) = three-of device now s' (seen_result a) (seen_result b) (seen_result c) (stream old) (stream new) w.move.handed w.move.taken free is front
-      (subst (λ t. run.Run request_of allows_handles (λ (u : Session). u.failed) Meets t device (seen_result a ∷ seen_result b ∷ seen_result c ∷ []) w.move.handed w.move.taken s' now) begins w.run) in
+      (subst (λ t. run.Run heard_in allows_handles (λ (u : Session). u.failed) Meets t device (seen_result a ∷ seen_result b ∷ seen_result c ∷ []) w.move.handed w.move.taken s' now) begins w.run) in
       record {
         answered = λ i. is_a i ∷ is_b i ∷ is_c i ∷ [];
         written = sent ∙ ap (λ xs. old.link.sent ++ xs) is_w;

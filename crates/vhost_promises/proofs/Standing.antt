@@ -4,7 +4,7 @@ use Rattle.std.proofs.lemmas.List.{append-nil}
 use Rattle.std.specs.Global.{Global}
 use Rattle.std.specs.List.{list_any}
 use Rattle.std.specs.Prelude.{⊤, IfOk, Vec, not, codes}
-use Rattle.vhost_message.specs.FrontendReq.{request_of, request_number}
+use Rattle.vhost_message.specs.FrontendReq.{request_number}
 use Rattle.vhost_message.specs.declared.error.Error as declared
 use Rattle.vhost_message.specs.declared.frontend_req.FrontendReq.{FrontendReq}
 use Rattle.vhost_message.specs.declared.frontend_req.FrontendReq.TheVariants.{SET_OWNER, VRING_KICK}
@@ -13,7 +13,7 @@ use Rattle.vhost_protocol.specs.Codes.{allows_handles}
 use Rattle.vhost_protocol.specs.Error.{Error, InvalidOperation, seen_result}
 use Rattle.vhost_protocol.specs.Run as run
 use Rattle.vhost_protocol.specs.Served.{reply, cells_of}
-use Rattle.vhost_protocol.specs.Session.{Session, fresh}
+use Rattle.vhost_protocol.specs.Session.{Session, fresh, heard_in}
 use Rattle.vhost_protocol.specs.Settled.{settled}
 use Rattle.vhost_protocol.specs.Step.{Outcome}
 use Rattle.vhost_protocol.specs.Split.{Message, split, split_after, split_body, body_outcome}
@@ -57,11 +57,11 @@ module _ {B G : Type 0} (opens_backend : PlainHandle → Result B Error → Type
 
   -- both of them
   two-of : (device now : Device) (s' : Session) (a b : Result ⊤ Error) (before left : List (Cell PlainHandle)) (input : List (Item PlainHandle)) (written : List (Cell PlainHandle)) → device.owned ≡ false
-      → before ≡ plain two_requests → HandsFront before input left → run.Run request_of allows_handles (λ (t : Session). t.failed) (Meets opens_backend opens_gpu) standing device (a ∷ b ∷ []) input written s' now
+      → before ≡ plain two_requests → HandsFront before input left → run.Run heard_in allows_handles (λ (t : Session). t.failed) (Meets opens_backend opens_gpu) standing device (a ∷ b ∷ []) input written s' now
       → (a ≡ Err (InvalidOperation (codes "request not served"))) × (b ≡ Ok tt) × (written ≡ []) × (left ≡ []) × (s' ≡ standing) × (now ≡ record device { owned = true })
   unfolding split split_after split_body body_outcome
   two-of device now s' a b before left input written free is hands (n1, l1, w1, r1, s1, d1, (h1, hears1, handles1), in1, out1, (n2, l2, w2, r2, s2, d2, serves2, in2, out2, (in3, out3, s3, d3))) =
-      let first = next opens_backend opens_gpu before left (plain owner_request) kick standing s1 device d1 input n1 l1 a w1 (ap (split request_of allows_handles) is) hands in1 h1 hears1 handles1 in
+      let first = next opens_backend opens_gpu before left (plain owner_request) kick standing s1 device d1 input n1 l1 a w1 (ap (split (heard_in standing) allows_handles) is) hands in1 h1 hears1 handles1 in
       let (is_a, is_w1, is_s1, is_d1) = unserved-row device d1 a w1 s1 first.meets in
       let (h2, hears2, handles2) = subst (λ s. Calls opens_backend opens_gpu s device n2 b w2 s2 d2) is_s1 (subst (λ d. Calls opens_backend opens_gpu s1 d n2 b w2 s2 d2) is_d1 serves2) in
       let second = next opens_backend opens_gpu (plain owner_request) left [] (asks SET_OWNER) standing s2 device d2 l1 n2 l2 b w2 refl first.hands in2 h2 hears2 handles2 in
@@ -79,7 +79,7 @@ module _ {B G : Type 0} (opens_backend : PlainHandle → Result B Error → Type
   two law old new device now s s' (a ∷ b ∷ []) begins free is (count, w) =
       let (front, sent) = law old new w.move w.talks in
       let (is_a, is_b, is_w, none, is_s, is_d) = two-of device now s' (seen_result a) (seen_result b) (stream old) (stream new) w.move.handed w.move.taken free is front
-      (subst (λ t. run.Run request_of allows_handles (λ (u : Session). u.failed) (Meets opens_backend opens_gpu) t device (seen_result a ∷ seen_result b ∷ []) w.move.handed w.move.taken s' now) begins w.run) in
+      (subst (λ t. run.Run heard_in allows_handles (λ (u : Session). u.failed) (Meets opens_backend opens_gpu) t device (seen_result a ∷ seen_result b ∷ []) w.move.handed w.move.taken s' now) begins w.run) in
       record {
         answered = λ i. is_a i ∷ is_b i ∷ [];
         written = sent ∙ ap (λ xs. old.link.sent ++ xs) is_w ∙ append-nil old.link.sent;

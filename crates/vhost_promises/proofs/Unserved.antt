@@ -30,7 +30,7 @@ pub unserved-listed : {L H S Dev A : Type 0} (old : State L H) (s s' : S) (d d' 
 unserved-listed old s s' d d' c result new listed (inl (is, same), same_s, same_d) = (is, same ∙ ap (λ (x : Bool). record old { list = x; faulted = false }) (sym listed), same_s, same_d)
 unserved-listed old s s' d d' c result new listed (inr (away, is, same), same_s, same_d) = absurd (cc (sym listed ∙ away))
 
-module _ {L R H S A Dev : Type 0} (event : L → Event H → L → Type 0) (request_of : ℕ → Option R) (allows_handles : R → ℕ → Bool) (failed : S → Option ℤ)
+module _ {L R H S A Dev : Type 0} (event : L → Event H → L → Type 0) (request_of : S → ℕ → Option R) (allows_handles : R → ℕ → Bool) (failed : S → Option ℤ)
     (kept : R → S → S → S) (Meets : S → Dev → Message R H → Result A Error → List (Cell H) → S → Dev → Type 0) where
   pub unserved : (old : State L H) (s : S) (d : Dev) (result : Result A declared.Error) (new : State L H) (s' : S) (d' : Dev) (c : IoCause) → old.broken ≡ Some c
       → HandlesOne event request_of allows_handles failed kept Meets old s d result new s' d' → Unserved old s d c result new s' d'

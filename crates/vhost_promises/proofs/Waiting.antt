@@ -2,7 +2,7 @@
 use Rattle.std.proofs.Common.{◌≡◌, ◌∙◌, List, [], ◌∷◌, ◌++◌, Option, Some, None, Result, Ok, Err, refl, sym, ap, subst, ℤ}
 use Rattle.std.specs.Prelude.{⊤}
 use Rattle.vhost_message.specs.declared.frontend_req.FrontendReq.{FrontendReq}
-use Rattle.vhost_message.specs.FrontendReq.{request_of, request_number}
+use Rattle.vhost_message.specs.FrontendReq.{request_number}
 use Rattle.vhost_protocol.specs.Codes.{allows_handles}
 use Rattle.vhost_protocol.specs.declared.profile.Profile.TheVariants.{Standard}
 use Rattle.vhost_protocol.specs.DeviceCall.{Call, Answer}
@@ -10,7 +10,7 @@ use Rattle.vhost_protocol.specs.Error.{Error, SocketBroken, Raw}
 use Rattle.vhost_protocol.specs.Handler.{MeetsRow}
 use Rattle.vhost_protocol.specs.Run as run
 use Rattle.vhost_protocol.specs.Served.{reply, cells_of}
-use Rattle.vhost_protocol.specs.Session.{Session}
+use Rattle.vhost_protocol.specs.Session.{Session, heard_in}
 use Rattle.vhost_protocol.specs.Split.{Message}
 use Rattle.vhost_protocol.specs.Step.{Outcome}
 use Rattle.vhost_protocol.specs.Stream.{Cell, Item}
@@ -22,7 +22,7 @@ module _ {H B G Dev : Type 0} (gives : Dev → (c : Call H B G) → Answer c →
   Meets = MeetsRow gives opens_backend opens_gpu
 
   abbrev Handles : Session → Dev → Result (Message FrontendReq H) Error → Result ⊤ Error → List (Cell H) → Session → Dev → Type 0
-  Handles = run.Handles request_of allows_handles (λ (t : Session). t.failed) Meets
+  Handles = run.Handles heard_in allows_handles (λ (t : Session). t.failed) Meets
 
   -- the calls behind one, from the session that it left
   Behind : Session → List (Result ⊤ Error) → List (Item H) → List (Cell H) → Session → Type 0
@@ -39,7 +39,7 @@ module _ {H B G Dev : Type 0} (gives : Dev → (c : Call H B G) → Answer c →
 
   -- a call that served a message
   met : (s mid s' : Session) (d between : Dev) (m : Message FrontendReq H) (a : Result ⊤ Error) (answers : List (Result ⊤ Error)) (now later : List (Item H)) (first rest : List (Cell H)) → s.profile ≡ Standard
-      → s.failed ≡ None → IsHeard now (Ok m) → Meets s d m a first mid between → Behind mid answers later rest s' → AllAnswered s (a ∷ answers) (now ++ later) (first ++ rest) s'
+      → s.failed ≡ None → IsHeard s now (Ok m) → Meets s d m a first mid between → Behind mid answers later rest s' → AllAnswered s (a ∷ answers) (now ++ later) (first ++ rest) s'
   unfolding Behind
   met s mid s' d between m a answers now later first rest standard sound came (o, meets, is_answer, is_written, is_session) behind =
       let well = met-well gives opens_backend opens_gpu s m d o between standard meets in
@@ -49,7 +49,7 @@ module _ {H B G Dev : Type 0} (gives : Dev → (c : Call H B G) → Answer c →
 
   -- a call of a session that has not ended
   one : (s mid s' : Session) (d between : Dev) (outcome : Result (Message FrontendReq H) Error) (a : Result ⊤ Error) (answers : List (Result ⊤ Error)) (now later : List (Item H)) (first rest : List (Cell H)) → s.profile ≡ Standard
-      → s.failed ≡ None → IsHeard now outcome → Handles s d outcome a first mid between → Behind mid answers later rest s' → AllAnswered s (a ∷ answers) (now ++ later) (first ++ rest) s'
+      → s.failed ≡ None → IsHeard s now outcome → Handles s d outcome a first mid between → Behind mid answers later rest s' → AllAnswered s (a ∷ answers) (now ++ later) (first ++ rest) s'
   one s mid s' d between (Err e) a answers now later first rest standard sound came handles behind =
       unchanged s mid s' d between e a answers now later first rest standard (λ left. not_whole e now sound came left) handles behind
   one s mid s' d between (Ok m) a answers now later first rest standard sound came meets behind =
@@ -57,7 +57,7 @@ module _ {H B G Dev : Type 0} (gives : Dev → (c : Call H B G) → Answer c →
 
   -- a call, by whether the session has ended
   unless : (mark : Option ℤ) (s mid s' : Session) (d between : Dev) (now later : List (Item H)) (a : Result ⊤ Error) (answers : List (Result ⊤ Error)) (first rest : List (Cell H)) → s.profile ≡ Standard → s.failed ≡ mark
-      → run.ServesUnless request_of allows_handles (λ (t : Session). t.failed) Meets mark s d now a first mid between → Behind mid answers later rest s' → AllAnswered s (a ∷ answers) (now ++ later) (first ++ rest) s'
+      → run.ServesUnless heard_in allows_handles (λ (t : Session). t.failed) Meets mark s d now a first mid between → Behind mid answers later rest s' → AllAnswered s (a ∷ answers) (now ++ later) (first ++ rest) s'
   unless (Some n) s mid s' d between now later a answers first rest standard failed (empty, handles) behind =
       unchanged s mid s' d between (SocketBroken (Raw n)) a answers now later first rest standard
       (λ left. subst (λ (items : List (Item H)). AllAnswered s (Err (SocketBroken (Raw n)) ∷ answers) (items ++ later) rest s') (sym empty) (ended n failed left)) handles behind
@@ -65,7 +65,7 @@ module _ {H B G Dev : Type 0} (gives : Dev → (c : Call H B G) → Answer c →
       one s mid s' d between outcome a answers now later first rest standard failed hears handles behind
 
   pub all-answered : (answers : List (Result ⊤ Error)) (s s' : Session) (d d' : Dev) (input : List (Item H)) (written : List (Cell H)) → s.profile ≡ Standard
-      → run.Run request_of allows_handles (λ (t : Session). t.failed) Meets s d answers input written s' d' → AllAnswered s answers input written s'
+      → run.Run heard_in allows_handles (λ (t : Session). t.failed) Meets s d answers input written s' d' → AllAnswered s answers input written s'
   unfolding Behind
   all-answered [] s s' d d' input written standard (is, silent, same, still) =
       subst (λ (t : Session). AllAnswered s [] input written t) (sym same) (subst (λ (cells : List (Cell H)). AllAnswered s [] input cells s) (sym silent)

@@ -43,7 +43,7 @@ one-of-link served later e is =
     or-true true = refl
     or-true false = refl
 
-module _ {L R H S A Dev : Type 0} (event : L → Event H → L → Type 0) (request_of : ℕ → Option R) (allows_handles : R → ℕ → Bool) (failed : S → Option ℤ)
+module _ {L R H S A Dev : Type 0} (event : L → Event H → L → Type 0) (request_of : S → ℕ → Option R) (allows_handles : R → ℕ → Bool) (failed : S → Option ℤ)
     (kept : R → S → S → S) (Meets : S → Dev → Message R H → Result A Error → List (Cell H) → S → Dev → Type 0) where
   -- a call fails only for its link, or for want of memory
   pub breaks-of-link : (old : State L H) (s : S) (d : Dev) (e : declared.Error) (new : State L H) (s' : S) (d' : Dev) → Breaks event request_of allows_handles failed kept Meets old s d e new s' d' → of_link e ≡ true

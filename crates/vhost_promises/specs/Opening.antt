@@ -3,10 +3,10 @@ use Rattle.std.specs.Prelude.{◌≡◌, ℕ, [], ◌∷◌, Result, Ok}
 use Rattle.vhost_message.specs.declared.cause.IoCause.{IoCause}
 use Rattle.vhost_message.specs.declared.frontend_req.FrontendReq.{FrontendReq}
 use Rattle.vhost_message.specs.declared.frontend_req.FrontendReq.TheVariants.{SET_BACKEND_REQ_FD}
-use Rattle.vhost_message.specs.FrontendReq.{request_of}
 use Rattle.vhost_protocol.specs.Codes.{allows_handles}
 use Rattle.vhost_protocol.specs.DeviceCall.{Call, Answer, SetBackendReqFd}
 use Rattle.vhost_protocol.specs.Error.{Error}
+use Rattle.vhost_protocol.specs.Session.{Session, heard_in}
 use Rattle.vhost_protocol.specs.Split.{Message, split}
 use Rattle.vhost_link.specs.Law.{Event}
 use Rattle.vhost_link.specs.declared.handle.Kind.{Kind}
@@ -29,8 +29,8 @@ module _ {L H Dev : Type 0} (opens : L → H → Result L IoCause → Type 0) (k
     pub given : gives d (SetBackendReqFd channel) tt d'
 
   -- So it was where the message that was read asks for a channel, with the session's retry limit.
-  pub record OpensItsOwn (event : L → Event H → L → Type 0) (old : State L H) (d d' : Dev) : Type 0 where
+  pub record OpensItsOwn (event : L → Event H → L → Type 0) (s : Session) (old : State L H) (d d' : Dev) : Type 0 where
     pub heard : Result (Message FrontendReq H) Error
     pub mid : State L H
-    pub hears : Hears event (split request_of allows_handles) old heard mid
+    pub hears : Hears event (split (heard_in s) allows_handles) old heard mid
     pub own : (m : Message FrontendReq H) → heard ≡ Ok m → m.request ≡ SET_BACKEND_REQ_FD → GivenItsOwn old.budget m d d'

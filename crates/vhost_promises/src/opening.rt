@@ -15,7 +15,7 @@ pub fn opens_its_own<L: Link, D: VhostUserBackendReqHandlerMut<Link = L>>(
     core: &mut SessionCore<L>,
     device: &mut D,
 ) -> Result<()>
-    ensures { (session_in core.old).failed ≡ None → IfOk result (λ _. OpensItsOwn L.opens L.Handle.kinds D.gives L.event (endpoint_of core.old) device.old device.new) }
+    ensures { (session_in core.old).failed ≡ None → IfOk result (λ _. OpensItsOwn L.opens L.Handle.kinds D.gives L.event (session_in core.old) (endpoint_of core.old) device.old device.new) }
 {
     core.handle_request(device)
 }

@@ -1,6 +1,6 @@
 //! Records and headers, written and read again.
 
-ghost use Rattle.std.specs.Prelude.{◌≡◌, ◌≤◌, Ok, length};
+ghost use Rattle.std.specs.Prelude.{◌≡◌, ◌≤◌, Ok, length, true};
 ghost use Rattle.vhost_message.specs.Bits.{has_bit};
 ghost use Rattle.vhost_message.specs.declared.header_bit.TheConstants.{NEED_REPLY, REPLY};
 ghost use Rattle.vhost_message.specs.declared.limits.TheConstants.{MAX_MSG_SIZE};
@@ -34,10 +34,11 @@ pub fn back_and_there<T: ByteValued>(room: &mut [u8]) -> T
     value
 }
 
-/// Makes the header of a request, sends it there and back, and reads it: it is valid where the body is not too long, and says the request,
-/// the size of the body in bytes, and of the flags REPLY and NEED_REPLY.
+/// Makes the header of a request that has a name, sends it there and back, and reads it: it is valid where the body is not too long, and
+/// says the request, the size of the body in bytes, and of the flags REPLY and NEED_REPLY.
 pub fn names_request<R: Req>(request: R, flags: u32, size: u32) -> Result<(R, u32, bool, bool)>
-    requires { size ≤ MAX_MSG_SIZE }
+    requires named { R.named request ≡ true }
+    requires short { size ≤ MAX_MSG_SIZE }
     ensures { result ≡ Ok (request, size, has_bit flags REPLY, has_bit flags NEED_REPLY) }
 {
     let header = VhostUserMsgHeader::new(request, flags, size);

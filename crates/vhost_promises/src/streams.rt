@@ -5,10 +5,10 @@ ghost use Rattle.vhost_backend_req_handler.specs.Core.{endpoint_of, session_in};
 ghost use Rattle.vhost_frontend_req_handler.specs.Core.{endpoint_of as endpoint_back, server_in};
 ghost use Rattle.vhost_link.specs.declared.plain.PlainHandle.{PlainHandle};
 ghost use Rattle.vhost_message.specs.BackendReq.{backend_request_of};
-ghost use Rattle.vhost_message.specs.FrontendReq.{request_of};
 ghost use Rattle.vhost_protocol.specs.Codes.{allows_handles};
 ghost use Rattle.vhost_protocol.specs.Error.{Error as Refusal, Disconnected, InvalidMessage, PartialMessage};
 ghost use Rattle.vhost_protocol.specs.Reverse.{backend_allows_handles};
+ghost use Rattle.vhost_protocol.specs.Session.{heard_in};
 ghost use Rattle.vhost_protocol.specs.Split.{split};
 ghost use Rattle.vhost_protocol.specs.Stream.{Cell, plain};
 ghost use Rattle.vhost_connection.specs.Memory.{stream};
@@ -30,7 +30,7 @@ pub fn finds_none<D: VhostUserBackendReqHandlerMut<Link = MemLink>>(
     core: &mut SessionCore<MemLink>,
     device: &mut D,
 ) -> Result<()>
-    ensures known { (e : Refusal) (rest : List (Cell PlainHandle)) → split request_of allows_handles (stream (endpoint_of core.old)) ≡ (Err e, rest)
+    ensures known { (e : Refusal) (rest : List (Cell PlainHandle)) → split (heard_in (session_in core.old)) allows_handles (stream (endpoint_of core.old)) ≡ (Err e, rest)
         → Refuses (session_in core.old).failed e rest (endpoint_of core.old) (session_in core.old) device.old result (endpoint_of core.new) (session_in core.new) device.new }
     ensures body { stream (endpoint_of core.old) ≡ plain in_body
         → Refuses (session_in core.old).failed InvalidMessage [] (endpoint_of core.old) (session_in core.old) device.old result (endpoint_of core.new) (session_in core.new) device.new }

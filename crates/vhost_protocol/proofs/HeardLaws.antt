@@ -22,7 +22,8 @@ use Rattle.vhost_protocol.specs.Ask.{Asked, asks, needs_reply, sends, asks_quiet
 use Rattle.vhost_protocol.specs.declared.asked.Awaited.{Awaited}
 use Rattle.vhost_protocol.specs.declared.asked.Awaited.TheVariants.{Nobody, Ack, Reply}
 use Rattle.vhost_protocol.specs.declared.asked.Shape.TheVariants as shape
-use Rattle.vhost_message.specs.FrontendReq.{request_number}
+use Rattle.vhost_message.specs.Codes.{heard_by}
+use Rattle.vhost_message.specs.FrontendReq.{request_of, any_request, request_number, is_named, request_of-request_number, any-is_named}
 use Rattle.vhost_message.specs.Header.{Header}
 use Rattle.vhost_protocol.specs.AnswerTable.{Answered}
 use Rattle.vhost_protocol.specs.DeviceCall as device
@@ -40,7 +41,8 @@ use Rattle.vhost_protocol.specs.Joined.{read_as}
 use Rattle.vhost_protocol.specs.Answered.{rebased, with_base, with_bases, with_config, with_features, with_handle, with_inflight, with_state, with_check}
 use Rattle.vhost_protocol.specs.Row.{row, is_bare, is_valid_area, mapped_row, table, is_valid_table, channel}
 use Rattle.vhost_protocol.specs.Served.{Silent, Acknowledged, Replied}
-use Rattle.vhost_protocol.specs.Session.{Session, ack_on, is_listen}
+use Rattle.vhost_protocol.specs.Profile.{is_standard}
+use Rattle.vhost_protocol.specs.Session.{Session, ack_on, is_listen, heard_in}
 use Rattle.vhost_protocol.specs.Split.{Message}
 use Rattle.vhost_protocol.specs.Stream.{Cell}
 use Rattle.vhost_protocol.specs.Take.{take}
@@ -50,6 +52,14 @@ use Rattle.vhost_protocol.specs.Written.{header_flags, head_of, Payload, LogArea
 use Rattle.vhost_protocol.proofs.TakeLaws.{take-acknowledged}
 use Rattle.vhost_protocol.proofs.TakeShapes.{take-reply, take-nothing}
 use Rattle.vhost_protocol.proofs.RegionLaws.{head-read, regions-read}
+
+-- a request that has a name is heard in every session
+pub heard-named : (s : Session) (r : FrontendReq) → is_named r ≡ true → heard_in s (request_number r) ≡ Some r
+heard-named s r named = go (is_standard s.profile)
+  where
+    go : (b : Bool) → heard_by request_of any_request b (request_number r) ≡ Some r
+    go true = any-is_named (request_number r) r (request_of-request_number r named)
+    go false = request_of-request_number r named
 
 module _ (H B G : Type 0) where
   abbrev Asks : Session → FrontendCall H → Asked H → Type 0
@@ -450,13 +460,13 @@ module _ (H : Type 0) where
   nothing-more cells x call awaited sent g e = ap (λ y. take call awaited sent g y) (sym (append-nil cells)) ∙ e
 
   pub hears-answer : HearsTheAnswer H
-  hears-answer call awaited w g Silent a plain shape good known =
+  hears-answer call awaited w g Silent a named plain shape good known =
       take-nothing H call awaited (head_of request_number w) g (flags-reply w.reply w.need_reply plain) ∙ ap (λ x. (x, [])) known
-  hears-answer call Ack w g (Acknowledged agreed) a plain shape good known =
-      nothing-more _ _ call Ack (head_of request_number w) g (take-acknowledged H call (head_of request_number w) g w.request agreed [] refl (flags-reply w.reply w.need_reply plain))
+  hears-answer call Ack w g (Acknowledged agreed) a named plain shape good known =
+      nothing-more _ _ call Ack (head_of request_number w) g (take-acknowledged H call (head_of request_number w) g w.request agreed [] refl (flags-reply w.reply w.need_reply plain) named)
       ∙ ap (λ x. (x, [])) known
-  hears-answer call (Reply shape) w g (Replied payload handles) a plain same good known =
+  hears-answer call (Reply shape) w g (Replied payload handles) a named plain same good known =
       nothing-more _ _ call (Reply shape) (head_of request_number w) g
-      (take-reply H call (head_of request_number w) g w.request shape (refl, flags-reply w.reply w.need_reply plain) payload handles (subst (λ x. IsReplyOf call x payload handles) (sym same) good.0) good.1 [])
+      (take-reply H call (head_of request_number w) g w.request shape (refl, flags-reply w.reply w.need_reply plain, named) payload handles (subst (λ x. IsReplyOf call x payload handles) (sym same) good.0) good.1 [])
       ∙ ap (λ x. (x, [])) known
-  hears-answer call _ w g _ a plain shape good known = absurd (cc known)
+  hears-answer call _ w g _ a named plain shape good known = absurd (cc known)

@@ -5,7 +5,7 @@ use Rattle.std.specs.List.{list_all, filter_map}
 use Rattle.std.proofs.lemmas.Bool.{leb-true}
 use Rattle.std.proofs.lemmas.List.{length-map}
 use Rattle.vhost_message.specs.declared.limits.TheConstants.{MAX_ATTACHED_FD_ENTRIES, MAX_MEM_REGIONS, MAX_MSG_SIZE}
-use Rattle.vhost_message.specs.declared.frontend_req.FrontendReq.TheVariants.{SET_MEM_TABLE, GET_CONFIG, SET_CONFIG, GET_SHARED_OBJECT}
+use Rattle.vhost_message.specs.declared.frontend_req.FrontendReq.TheVariants.{SET_MEM_TABLE, ADD_MEM_REG, GET_CONFIG, SET_CONFIG, GET_SHARED_OBJECT}
 use Rattle.vhost_message.specs.declared.records.memory.VhostUserMemoryRegion.{VhostUserMemoryRegion}
 use Rattle.vhost_message.specs.declared.records.shared.VhostUserSharedMsg.{VhostUserSharedMsg}
 use Rattle.vhost_protocol.specs.Ask.{Asked, ask, param, message, config, regions_in, handles_in, is_usable, given, asks, asks_quietly, sends, ◌>>◌, ◌>>=◌}
@@ -17,6 +17,7 @@ use Rattle.vhost_protocol.specs.Heard.{IsSendable, AsksSendable, SendsWhole}
 use Rattle.vhost_protocol.specs.Session.{is_listen}
 use Rattle.vhost_protocol.specs.Written.{ObjectName, Written, Regions, ConfigBytes, payload_text}
 use Rattle.vhost_message.specs.declared.frontend_req.FrontendReq.{FrontendReq}
+use Rattle.vhost_message.specs.FrontendReq.{is_named}
 use Rattle.vhost_protocol.proofs.RegionLaws.{regions-length}
 
 module _ (H : Type 0) where
@@ -33,8 +34,8 @@ module _ (H : Type 0) where
   whole-cond false x y h k = k
 
   -- a message of a fixed length
-  whole : (w : Written FrontendReq H) → allows_handles w.request (length w.handles) ≡ true → nat_le (length (payload_text w.payload)) MAX_MSG_SIZE ≡ true → nat_le (length w.handles) MAX_ATTACHED_FD_ENTRIES ≡ true → IsSendable w
-  whole w wants size few = record { allowed = wants; size = leb-true (length (payload_text w.payload)) MAX_MSG_SIZE size; few = leb-true (length w.handles) MAX_ATTACHED_FD_ENTRIES few }
+  whole : (w : Written FrontendReq H) → is_named w.request ≡ true → allows_handles w.request (length w.handles) ≡ true → nat_le (length (payload_text w.payload)) MAX_MSG_SIZE ≡ true → nat_le (length w.handles) MAX_ATTACHED_FD_ENTRIES ≡ true → IsSendable w
+  whole w named wants size few = record { named = named; allowed = wants; size = leb-true (length (payload_text w.payload)) MAX_MSG_SIZE size; few = leb-true (length w.handles) MAX_ATTACHED_FD_ENTRIES few }
 
   ruleset wholes = (whole-then, whole-given, whole-cond, whole)
 
@@ -97,6 +98,7 @@ module _ (H : Type 0) where
 
       table : (reply need_reply : Bool) → length infos ≤ MAX_MEM_REGIONS → IsSendable {H = H} (record { request = SET_MEM_TABLE; reply = reply; need_reply = need_reply; payload = Regions rs; handles = handles_in infos })
       table reply need_reply most = record {
+        named = refl;
         allowed = any-handles (length (handles_in infos));
         size = omega (arith, regions-length rs, length-map infos (λ info. info.region), most);
         few = omega (arith, handles-few infos, most);
@@ -108,28 +110,28 @@ module _ (H : Type 0) where
           whole-cond (is_listen f.postcopy) _ _ (table _ _ most) (table _ _ most)
 
   -- a record of configuration space and bytes behind it
-  whole-bytes : (w : Written FrontendReq H) → allows_handles w.request (length w.handles) ≡ true → nat_le (length w.handles) MAX_ATTACHED_FD_ENTRIES ≡ true → length (payload_text w.payload) ≤ MAX_MSG_SIZE → IsSendable w
-  whole-bytes w wants few size = record { allowed = wants; size = size; few = leb-true (length w.handles) MAX_ATTACHED_FD_ENTRIES few }
+  whole-bytes : (w : Written FrontendReq H) → is_named w.request ≡ true → allows_handles w.request (length w.handles) ≡ true → nat_le (length w.handles) MAX_ATTACHED_FD_ENTRIES ≡ true → length (payload_text w.payload) ≤ MAX_MSG_SIZE → IsSendable w
+  whole-bytes w named wants few size = record { named = named; allowed = wants; size = size; few = leb-true (length w.handles) MAX_ATTACHED_FD_ENTRIES few }
 
   whole-get_config : (f : Frontend) (o n k : ℕ) (buffer : List ℕ) → AsksSendable {H = H} (ask f (GetConfig o n k buffer))
   whole-get_config f o n k buffer = search (wholes, last) depth 12
     where
       last : AsksSendable {H = H} (param (nat_le (12 + length buffer) MAX_MSG_SIZE) >> asks f GET_CONFIG (ConfigBytes (config o n k) buffer) [] shape.Config)
       last = whole-known (nat_le (12 + length buffer) MAX_MSG_SIZE) (asks f GET_CONFIG (ConfigBytes (config o n k) buffer) [] shape.Config)
-          (λ few. whole-bytes (message f GET_CONFIG (ConfigBytes (config o n k) buffer) []) refl refl (omega (arith, leb-true (12 + length buffer) MAX_MSG_SIZE few)))
+          (λ few. whole-bytes (message f GET_CONFIG (ConfigBytes (config o n k) buffer) []) refl refl refl (omega (arith, leb-true (12 + length buffer) MAX_MSG_SIZE few)))
 
   whole-set_config : (f : Frontend) (o k : ℕ) (buffer : List ℕ) → AsksSendable {H = H} (ask f (SetConfig o k buffer))
   whole-set_config f o k buffer = search (wholes, last) depth 12
     where
       last : AsksSendable {H = H} (param (nat_le (12 + length buffer) MAX_MSG_SIZE) >> sends f SET_CONFIG (ConfigBytes (config o (length buffer) k) buffer) [])
       last = whole-known (nat_le (12 + length buffer) MAX_MSG_SIZE) (sends f SET_CONFIG (ConfigBytes (config o (length buffer) k) buffer) [])
-          (λ few. whole-bytes (message f SET_CONFIG (ConfigBytes (config o (length buffer) k) buffer) []) refl refl (omega (arith, leb-true (12 + length buffer) MAX_MSG_SIZE few)))
+          (λ few. whole-bytes (message f SET_CONFIG (ConfigBytes (config o (length buffer) k) buffer) []) refl refl refl (omega (arith, leb-true (12 + length buffer) MAX_MSG_SIZE few)))
 
   whole-object : (f : Frontend) (name : VhostUserSharedMsg) → length name.uuid ≡ 16 → AsksSendable {H = H} (ask f (GetSharedObject name))
   whole-object f name sixteen = search (wholes, named) depth 12
     where
       named : (r reply : Bool) → IsSendable {H = H} (record { request = GET_SHARED_OBJECT; reply = r; need_reply = reply; payload = ObjectName name; handles = [] })
-      named r reply = record { allowed = refl; size = omega (arith, sixteen); few = omega arith }
+      named r reply = record { named = refl; allowed = refl; size = omega (arith, sixteen); few = omega arith }
 
   -- ---- all calls
 
@@ -138,7 +140,9 @@ module _ (H : Type 0) where
   sends-whole f (GetConfig o n k buffer) named = whole-get_config f o n k buffer
   sends-whole f (SetConfig o k buffer) named = whole-set_config f o k buffer
   sends-whole f (GetSharedObject name) named = whole-object f name named
-  sends-whole f (PostcopyAckMemRegions r) named = search wholes depth 12
+  sends-whole f (PostcopyAckMemRegions SET_MEM_TABLE) named = search wholes depth 12
+  sends-whole f (PostcopyAckMemRegions ADD_MEM_REG) named = search wholes depth 12
+  sends-whole f (PostcopyAckMemRegions _) named = tt
   sends-whole f (SetLogBase base None) named = search wholes depth 12
   sends-whole f (SetLogBase base (Some r)) named = search wholes depth 12
   sends-whole f call named = whole-fixed f call tt

@@ -1,7 +1,7 @@
 -- Worked rows of what becomes of silence under Standard: each holds by computing.
 use Rattle.std.proofs.Common.{◌≡◌, ℕ, Bool, true, false, List, [], ◌∷◌, ◌++◌, replicate, Option, Some, None, Err, refl, pos, ℤ}
 use Rattle.vhost_message.specs.declared.frontend_req.FrontendReq.{FrontendReq}
-use Rattle.vhost_message.specs.declared.frontend_req.FrontendReq.TheVariants.{GET_VRING_BASE, GET_QUEUE_NUM, SET_VRING_ENABLE, NET_SET_MTU, SET_LOG_BASE, POSTCOPY_LISTEN, POSTCOPY_END, GET_INFLIGHT_FD, SET_INFLIGHT_FD, ADD_MEM_REG, GET_SHMEM_CONFIG, GET_STATUS, VRING_KICK}
+use Rattle.vhost_message.specs.declared.frontend_req.FrontendReq.TheVariants.{GET_VRING_BASE, GET_QUEUE_NUM, SET_VRING_ENABLE, NET_SET_MTU, SET_LOG_BASE, POSTCOPY_LISTEN, POSTCOPY_END, GET_INFLIGHT_FD, SET_INFLIGHT_FD, ADD_MEM_REG, GET_SHMEM_CONFIG, GET_STATUS, VRING_KICK, OTHER}
 use Rattle.vhost_message.specs.declared.postcopy.PostcopyState.TheVariants.{Listen}
 use Rattle.vhost_message.specs.Text.{digits}
 use Rattle.vhost_protocol.specs.declared.profile.Profile.{Profile}
@@ -87,6 +87,11 @@ set_inflight = refl
 kick : asks Standard 0xFFFFF VRING_KICK true (replicate 8 0) ≡ denies
 unfolding asks seen session refuses denies
 kick = refl
+
+-- a number that is no request's
+other : asks Standard 0xFFFFF (OTHER 77) true (replicate 5 1) ≡ denies
+unfolding asks seen session refuses denies
+other = refl
 
 -- replies of their own that have no form which refuses
 log : asks Standard 0xFFFFF SET_LOG_BASE true (replicate 16 1) ≡ ends

@@ -1,10 +1,13 @@
 -- Worked rows on how a stream is cut: each holds by computing.
-use Rattle.std.proofs.Common.{◌≡◌, ℕ, false, List, [], ◌∷◌, ◌++◌, replicate, Result, Ok, Err, refl}
+use Rattle.std.proofs.Common.{◌≡◌, ℕ, true, false, List, [], ◌∷◌, ◌++◌, replicate, Result, Ok, Err, refl}
 use Rattle.vhost_message.specs.FrontendReq.{request_of}
 use Rattle.vhost_message.specs.declared.frontend_req.FrontendReq.{FrontendReq}
-use Rattle.vhost_message.specs.declared.frontend_req.FrontendReq.TheVariants.{SET_FEATURES}
+use Rattle.vhost_message.specs.declared.frontend_req.FrontendReq.TheVariants.{SET_FEATURES, OTHER}
 use Rattle.vhost_protocol.specs.Codes.{allows_handles}
 use Rattle.vhost_protocol.specs.Error.{Error, Disconnected, PartialMessage, InvalidMessage}
+use Rattle.vhost_protocol.specs.declared.profile.Profile.{Profile}
+use Rattle.vhost_protocol.specs.declared.profile.Profile.TheVariants.{Vhost, Standard}
+use Rattle.vhost_protocol.specs.Session.{fresh, heard_in}
 use Rattle.vhost_protocol.specs.Split.{Message, split, split_after, split_body, body_outcome}
 use Rattle.vhost_protocol.specs.Stream.{Cell, plain, carrying}
 
@@ -43,3 +46,27 @@ unwanted = refl
 strayed : cut (plain features ++ carrying (7 ∷ []) value) ≡ (Err InvalidMessage, [])
 unfolding cut split split_after split_body body_outcome features value
 strayed = refl
+
+-- ---- a number that is no request's
+
+-- the stream of a session with this behaviour
+cut_by : Profile → List (Cell ℕ) → Result (Message FrontendReq ℕ) Error × List (Cell ℕ)
+cut_by profile = split (heard_in (record fresh { profile = profile })) allows_handles
+
+nameless : List ℕ
+nameless = 45 ∷ 0 ∷ 0 ∷ 0 ∷ 9 ∷ 0 ∷ 0 ∷ 0 ∷ 8 ∷ 0 ∷ 0 ∷ 0 ∷ []
+
+-- it is heard whole, with its handles
+heard_whole : cut_by Standard (carrying (7 ∷ []) (nameless ++ value ++ 7 ∷ [])) ≡ (Ok (record { request = OTHER 45; reply = false; need_reply = true; body = value; handles = 7 ∷ [] }), plain (7 ∷ []))
+unfolding cut_by split split_after split_body body_outcome nameless value
+heard_whole = refl
+
+-- as the crate `vhost` does it, its body stays
+unheard : cut_by Vhost (plain (nameless ++ value)) ≡ (Err InvalidMessage, plain value)
+unfolding cut_by split split_after split_body body_outcome nameless value
+unheard = refl
+
+-- a number that has a name is heard alike
+heard_named : cut_by Standard (plain (features ++ value)) ≡ cut (plain (features ++ value))
+unfolding cut cut_by split split_after split_body body_outcome features value
+heard_named = refl

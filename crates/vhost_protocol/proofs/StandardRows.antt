@@ -116,11 +116,11 @@ unfolding config whole_split header asking
 config_found = refl
 
 -- one byte more than there is room for
-config_longer : config (asking 0) (plain (header_text (header 24 5 17) ++ digits 4 0x100 ++ digits 4 4 ++ digits 4 0 ++ replicate 5 0xa5 ++ 9 ∷ [])) ≡ (Some (answered (asking 0) (Err InvalidMessage)), plain (9 ∷ []))
+config_longer : config (asking 0) (plain (header_text (header 24 5 17) ++ digits 4 0x100 ++ digits 4 4 ++ digits 4 0 ++ replicate 5 0xa5 ++ 9 ∷ [])) ≡ (Some (answered (asking 0) (Err InvalidMessage)), plain (digits 4 0x100 ++ digits 4 4 ++ digits 4 0 ++ replicate 5 0xa5 ++ 9 ∷ []))
 unfolding config whole_split header asking
 config_longer = refl
 
--- ---- a reply of another size is read whole, and refused at its own call
+-- ---- a reply of another size is refused at its header, and what it announces stays
 
 features : Frontend → List (Cell ℕ) → Option (Answered ℕ) × List (Cell ℕ)
 features f cells = take GetFeatures (Reply shape.U64) (header 1 1 0) f cells
@@ -129,7 +129,7 @@ right : features (asking 0) (plain (header_text (header 1 5 8) ++ digits 8 0x400
 unfolding features whole_split header asking
 right = refl
 
-longer : features (asking 0) (plain (header_text (header 1 5 12) ++ digits 8 0x40000003 ++ digits 4 0 ++ 9 ∷ [])) ≡ (Some (answered (asking 0) (Err InvalidMessage)), plain (9 ∷ []))
+longer : features (asking 0) (plain (header_text (header 1 5 12) ++ digits 8 0x40000003 ++ digits 4 0 ++ 9 ∷ [])) ≡ (Some (answered (asking 0) (Err InvalidMessage)), plain (digits 8 0x40000003 ++ digits 4 0 ++ 9 ∷ []))
 unfolding features whole_split header asking
 longer = refl
 
@@ -138,7 +138,7 @@ longer_by_vhost : features (by_vhost 0) (plain (header_text (header 1 5 12) ++ d
 unfolding features reply_split received header asking by_vhost
 longer_by_vhost = refl
 
-shorter : features (asking 0) (plain (header_text (header 1 5 4) ++ digits 4 3 ++ 9 ∷ [])) ≡ (Some (answered (asking 0) (Err InvalidMessage)), plain (9 ∷ []))
+shorter : features (asking 0) (plain (header_text (header 1 5 4) ++ digits 4 3 ++ 9 ∷ [])) ≡ (Some (answered (asking 0) (Err InvalidMessage)), plain (digits 4 3 ++ 9 ∷ []))
 unfolding features whole_split header asking
 shorter = refl
 
@@ -152,6 +152,6 @@ unfolding features whole_split header asking
 not_valid = refl
 
 -- the same of an acknowledgement
-longer_ack : take SetOwner Ack (header 3 9 0) (asking 8) (plain (header_text (header 3 5 9) ++ digits 8 0 ++ 7 ∷ 9 ∷ [])) ≡ (Some (answered {H = ℕ} (asking 8) (Err InvalidMessage)), plain (9 ∷ []))
+longer_ack : take SetOwner Ack (header 3 9 0) (asking 8) (plain (header_text (header 3 5 9) ++ digits 8 0 ++ 7 ∷ 9 ∷ [])) ≡ (Some (answered {H = ℕ} (asking 8) (Err InvalidMessage)), plain (digits 8 0 ++ 7 ∷ 9 ∷ []))
 unfolding whole_split header asking
 longer_ack = refl

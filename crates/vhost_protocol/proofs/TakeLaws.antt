@@ -7,7 +7,7 @@ use Rattle.byteorder.specs.Numbers.{little_number-reads_back}
 use Rattle.vhost_message.specs.declared.limits.TheConstants.{MAX_MSG_SIZE}
 use Rattle.vhost_message.specs.Bits.{has_bit}
 use Rattle.vhost_message.specs.declared.frontend_req.FrontendReq.{FrontendReq}
-use Rattle.vhost_message.specs.FrontendReq.{request_of, request_number, request_of-request_number}
+use Rattle.vhost_message.specs.FrontendReq.{request_of, request_number, is_named, request_of-request_number}
 use Rattle.vhost_message.specs.Header.{Header}
 use Rattle.vhost_message.specs.Records.{u64_at}
 use Rattle.vhost_message.specs.Text.{digits}
@@ -30,17 +30,17 @@ use Rattle.vhost_protocol.proofs.ReplyLaws.{reply-read}
 use Rattle.vhost_protocol.proofs.WholeLaws.{whole-read, sized-read}
 
 -- a reply's header is known
-pub reply-known : {H : Type 0} (r : FrontendReq) (payload : Payload) (handles : List H) → length (payload_text payload) ≤ MAX_MSG_SIZE
+pub reply-known : {H : Type 0} (r : FrontendReq) (payload : Payload) (handles : List H) → is_named r ≡ true → length (payload_text payload) ≤ MAX_MSG_SIZE
     → is_known (head_of request_number (reply_to r payload handles)) ≡ true
-reply-known r payload handles small =
+reply-known r payload handles named small =
     ap (λ b. is_some (cond b (request_of (request_number r)) None)) (sendable-valid true false (request_number r) (length (payload_text payload)) small)
-    ∙ ap (λ x. is_some x) (request_of-request_number r)
+    ∙ ap (λ x. is_some x) (request_of-request_number r named)
 
 -- a reply answers each header of its code that was sent without REPLY
-pub reply-answers : {H : Type 0} (r : FrontendReq) (payload : Payload) (handles : List H) (sent : Header)
+pub reply-answers : {H : Type 0} (r : FrontendReq) (payload : Payload) (handles : List H) (sent : Header) → is_named r ≡ true
     → sent.code ≡ request_number r → has_bit sent.flags 2 ≡ false → answers sent (head_of request_number (reply_to r payload handles)) ≡ true
-reply-answers r payload handles sent code flag =
-    ap (λ x. is_some x && request_number r == sent.code && true && not (has_bit sent.flags 2)) (request_of-request_number r)
+reply-answers r payload handles sent named code flag =
+    ap (λ x. is_some x && request_number r == sent.code && true && not (has_bit sent.flags 2)) (request_of-request_number r named)
     ∙ ap (λ b. b && true && not (has_bit sent.flags 2)) (eq-eqb (request_number r) sent.code (sym code))
     ∙ ap (λ b. not b) flag
 
@@ -56,6 +56,7 @@ module _ (H : Type 0) where
 
   -- A payload that the call's reply may have: a record of the shape, and as much behind it as there is room for.
   pub record IsReadable (call : FrontendCall H) (shape : Shape) (r : FrontendReq) (payload : Payload) (handles : List H) : Type 0 where
+    pub named : is_named r ≡ true
     pub body : List ℕ
     pub more : List ℕ
     pub text : payload_text payload ≡ body ++ more
@@ -75,7 +76,7 @@ module _ (H : Type 0) where
       let w : Written FrontendReq H = reply_to r payload handles in
       ap (λ n. reply_split is_known n (is_valid_record shape) (room call) (written_cells request_number w ++ rest)) (sym k.size)
       ∙ ap (λ n. reply_split is_known (length (k.body)) (is_valid_record shape) n (written_cells request_number w ++ rest)) (sym k.rest)
-      ∙ reply-read request_number is_known (is_valid_record shape) w k.body k.more rest k.text (request-small r) (omega (arith, k.small)) (reply-known r payload handles k.small) k.valid
+      ∙ reply-read request_number is_known (is_valid_record shape) w k.body k.more rest k.text (request-small r k.named) (omega (arith, k.small)) (reply-known r payload handles k.named k.small) k.valid
 
   -- the same by its header
   pub whole-cut : (call : FrontendCall H) (shape : Shape) (r : FrontendReq) (payload : Payload) (handles : List H) (rest : List (Cell H)) (k : IsReadable call shape r payload handles)
@@ -85,13 +86,13 @@ module _ (H : Type 0) where
       let w : Written FrontendReq H = reply_to r payload handles in
       ap (λ n. sized_split is_known n (is_valid_record shape) (room call) (written_cells request_number w ++ rest)) (sym k.size)
       ∙ ap (λ n. sized_split is_known (length (k.body)) (is_valid_record shape) n (written_cells request_number w ++ rest)) (sym k.rest)
-      ∙ sized-read request_number is_known (is_valid_record shape) w k.body k.more rest true k.text (request-small r) (omega (arith, k.small)) (reply-known r payload handles k.small) k.valid
+      ∙ sized-read request_number is_known (is_valid_record shape) w k.body k.more rest true k.text (request-small r k.named) (omega (arith, k.small)) (reply-known r payload handles k.named k.small) k.valid
 
   -- the log's, of whatever size
   log-cut : (call : FrontendCall H) (r : FrontendReq) (payload : Payload) (handles : List H) (rest : List (Cell H)) (k : IsReadable call shape.Log r payload handles)
       → reply_cut shape.Log Standard (room call) (written_cells request_number (reply_to r payload handles) ++ rest) ≡ (Ok (the_reply r payload handles k.body k.more), rest)
   log-cut call r payload handles rest k =
-      whole-read request_number is_known (reply_to r payload handles) rest (request-small r) (omega (arith, k.small)) (reply-known r payload handles k.small)
+      whole-read request_number is_known (reply_to r payload handles) rest (request-small r k.named) (omega (arith, k.small)) (reply-known r payload handles k.named k.small)
       ∙ ap (λ text. (Ok (the_reply r payload handles text []), rest)) (k.text ∙ ap (λ more. k.body ++ more) k.alone ∙ append-nil (k.body))
       ∙ ap (λ more. (Ok (the_reply r payload handles k.body more), rest)) (sym k.alone)
 
@@ -116,7 +117,7 @@ module _ (H : Type 0) where
       → sent.code ≡ request_number r → has_bit sent.flags 2 ≡ false
       → understood call (Reply shape) sent f (Ok (the_reply r payload handles k.body k.more)) ≡ answer call (Reply shape) f (Replied payload handles)
   reply-understood call shape sent f r payload handles k code flag =
-      ap (λ b. cond (b && is_sized call (the_reply r payload handles k.body k.more)) (answer call (Reply shape) f (Replied (payload_of shape k.body k.more) handles)) (Some (answered f (Err InvalidMessage)))) (reply-answers r payload handles sent code flag)
+      ap (λ b. cond (b && is_sized call (the_reply r payload handles k.body k.more)) (answer call (Reply shape) f (Replied (payload_of shape k.body k.more) handles)) (Some (answered f (Err InvalidMessage)))) (reply-answers r payload handles sent k.named code flag)
       ∙ ap (λ b. cond b (answer call (Reply shape) f (Replied (payload_of shape k.body k.more) handles)) (Some (answered f (Err InvalidMessage)))) k.sized
       ∙ ap (λ p. answer call (Reply shape) f (Replied p handles)) k.read
 
@@ -143,14 +144,14 @@ module _ (H : Type 0) where
       ∙ ap (λ x. (x, rest)) (reply-understood call shape sent f r payload handles k code flag)
 
   -- an acknowledgement is cut from the stream as it was written
-  ack-cut : (profile : Profile) (r : FrontendReq) (agreed : Bool) (rest : List (Cell H))
+  ack-cut : (profile : Profile) (r : FrontendReq) (agreed : Bool) (rest : List (Cell H)) → is_named r ≡ true
       → reply_cut shape.U64 profile 0 (cells_of request_number (reply r (Acknowledged agreed)) ++ rest) ≡ (Ok (the_reply r (U64 (if agreed then 0 else 1)) [] (digits 8 (if agreed then 0 else 1)) []), rest)
-  ack-cut Vhost r agreed rest =
+  ack-cut Vhost r agreed rest named =
       let n : ℕ = if agreed then 0 else 1 in
-      reply-read request_number is_known (is_valid_record shape.U64) (reply_to r (U64 n) []) (digits 8 n) [] rest refl (request-small r) (lit< tt) (reply-known {H = H} r (U64 n) [] (omega arith)) refl
-  ack-cut Standard r agreed rest =
+      reply-read request_number is_known (is_valid_record shape.U64) (reply_to r (U64 n) []) (digits 8 n) [] rest refl (request-small r named) (lit< tt) (reply-known {H = H} r (U64 n) [] named (omega arith)) refl
+  ack-cut Standard r agreed rest named =
       let n : ℕ = if agreed then 0 else 1 in
-      sized-read request_number is_known (is_valid_record shape.U64) (reply_to r (U64 n) []) (digits 8 n) [] rest true refl (request-small r) (lit< tt) (reply-known {H = H} r (U64 n) [] (omega arith)) refl
+      sized-read request_number is_known (is_valid_record shape.U64) (reply_to r (U64 n) []) (digits 8 n) [] rest true refl (request-small r named) (lit< tt) (reply-known {H = H} r (U64 n) [] named (omega arith)) refl
 
   ack-told : (call : FrontendCall H) (f : Frontend) (agreed : Bool)
       → answer call Ack f (Acknowledged (u64_at 0 (digits 8 (if agreed then 0 else 1)) == 0)) ≡ answer call Ack f (Acknowledged agreed)
@@ -159,12 +160,12 @@ module _ (H : Type 0) where
 
   -- an acknowledgement is taken, and what follows it is left
   pub take-acknowledged : (call : FrontendCall H) (sent : Header) (f : Frontend) (r : FrontendReq) (agreed : Bool) (rest : List (Cell H))
-      → sent.code ≡ request_number r → has_bit sent.flags 2 ≡ false
+      → sent.code ≡ request_number r → has_bit sent.flags 2 ≡ false → is_named r ≡ true
       → take call Ack sent f (cells_of request_number (reply r (Acknowledged agreed)) ++ rest) ≡ (answer call Ack f (Acknowledged agreed), rest)
-  take-acknowledged call sent f r agreed rest code flag =
+  take-acknowledged call sent f r agreed rest code flag named =
       let n : ℕ = if agreed then 0 else 1 in
-      ap (λ cut. (understood call Ack sent f cut.0, cut.1)) (ack-cut f.profile r agreed rest)
-      ∙ ap (λ b. (cond b (understood_ack call f (the_reply r (U64 n) [] (digits 8 n) [])) (Some (answered f (Err InvalidMessage))), rest)) (reply-answers {H = H} r (U64 n) [] sent code flag)
+      ap (λ cut. (understood call Ack sent f cut.0, cut.1)) (ack-cut f.profile r agreed rest named)
+      ∙ ap (λ b. (cond b (understood_ack call f (the_reply r (U64 n) [] (digits 8 n) [])) (Some (answered f (Err InvalidMessage))), rest)) (reply-answers {H = H} r (U64 n) [] sent named code flag)
       ∙ ap (λ x. (x, rest)) (ack-told call f agreed)
 
   -- ---- replies without payload
@@ -183,8 +184,9 @@ module _ (H : Type 0) where
   short-sized (GetConfig offset size flags buffer) r short = absurd short
   short-sized _ r short = refl
 
-  pub readable-number : (call : FrontendCall H) (r : FrontendReq) (n : ℕ) (handles : List H) → IsShort call → n < 2 ^ 64 → IsReadable call shape.U64 r (U64 n) handles
-  readable-number call r n handles short fits = record {
+  pub readable-number : (call : FrontendCall H) (r : FrontendReq) (n : ℕ) (handles : List H) → IsShort call → n < 2 ^ 64 → is_named r ≡ true → IsReadable call shape.U64 r (U64 n) handles
+  readable-number call r n handles short fits named = record {
+    named = named;
     body = digits 8 n;
     more = [];
     text = refl;
@@ -197,8 +199,9 @@ module _ (H : Type 0) where
     sized = short-sized call (the_reply r (U64 n) handles (digits 8 n) []) short;
   }
 
-  pub readable-empty : (call : FrontendCall H) (r : FrontendReq) (handles : List H) → IsShort call → IsReadable call shape.Empty r Empty handles
-  readable-empty call r handles short = record {
+  pub readable-empty : (call : FrontendCall H) (r : FrontendReq) (handles : List H) → IsShort call → is_named r ≡ true → IsReadable call shape.Empty r Empty handles
+  readable-empty call r handles short named = record {
+    named = named;
     body = [];
     more = [];
     text = refl;
@@ -213,8 +216,8 @@ module _ (H : Type 0) where
 
   pub take-number : TakesNumber H
   take-number call sent f r short of_r n handles fits rest =
-      take-replied call shape.U64 sent f r (U64 n) handles rest (short-plainly call short) (readable-number call r n handles short fits) of_r.0 of_r.1
+      take-replied call shape.U64 sent f r (U64 n) handles rest (short-plainly call short) (readable-number call r n handles short fits of_r.2) of_r.0 of_r.1
 
   pub take-empty : TakesEmpty H
   take-empty call sent f r short of_r handles rest =
-      take-replied call shape.Empty sent f r Empty handles rest (short-plainly call short) (readable-empty call r handles short) of_r.0 of_r.1
+      take-replied call shape.Empty sent f r Empty handles rest (short-plainly call short) (readable-empty call r handles short of_r.2) of_r.0 of_r.1

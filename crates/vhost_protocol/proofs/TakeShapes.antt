@@ -1,5 +1,5 @@
 -- Each reply that a call may have is taken as the answer table says.
-use Rattle.std.proofs.Common.{◌≡◌, ℕ, ◌+◌, ◌*◌, ◌≤◌, inl, inr, ◌<◌, Bool, true, false, cond, not, ◌&&◌, List, [], ◌∷◌, ◌++◌, length, drop, Option, Some, None, Result, Ok, Err, refl, sym, ◌∙◌, ap, subst, arith, lit<}
+use Rattle.std.proofs.Common.{◌≡◌, ℕ, ◌+◌, ◌*◌, ◌≤◌, inl, inr, ◌<◌, Bool, true, false, cond, not, ◌&&◌, List, [], ◌∷◌, ◌++◌, length, drop, Option, Some, None, Result, Ok, Err, refl, sym, ◌∙◌, ap, subst, arith, lit<, length-append}
 use Rattle.std.specs.Prelude.{◌==◌, ◌||◌, flat_map, All}
 use Rattle.std.proofs.lemmas.Bool.{eq-eqb, ne_eqb}
 use Rattle.std.proofs.lemmas.List.{append-nil}
@@ -17,7 +17,7 @@ use Rattle.vhost_message.specs.RecordLaws.{RegionFits, SingleRegionFits, VringSt
 use Rattle.vhost_message.specs.Records.{region_text, regions_of, memory_of, memory_text, single_region_text, shmem_config_text, vring_state_text, config_text, inflight_text, log_text}
 use Rattle.vhost_message.specs.Valid.{is_valid_config, is_valid_inflight, is_valid_log}
 use Rattle.vhost_message.specs.Bits.{has_bit}
-use Rattle.vhost_message.specs.FrontendReq.{request_number}
+use Rattle.vhost_message.specs.FrontendReq.{request_number, is_named}
 use Rattle.vhost_message.specs.Header.{Header, header_of, header_text}
 use Rattle.vhost_protocol.specs.AnswerTable.{answered, answer, inflight_reply, only_if}
 use Rattle.vhost_protocol.specs.declared.asked.Awaited.TheVariants.{Nobody, Ack, Reply}
@@ -28,7 +28,7 @@ use Rattle.vhost_protocol.specs.FrontendCall.{FrontendCall, SetMemTable, GetConf
 use Rattle.vhost_protocol.specs.Laws.{IsShort, IsSentFor, IsTableOf, IsConfigOf, IsInflightOf, TakesReply, TakesNothing}
 use Rattle.vhost_protocol.specs.declared.profile.Profile.{Profile}
 use Rattle.vhost_protocol.specs.declared.profile.Profile.TheVariants.{Vhost, Standard}
-use Rattle.vhost_protocol.specs.ReplySplit.{Received, reply_split, bare_or_reply, not_bare, whole_split, is_right, apart, then_made, parted_or_none}
+use Rattle.vhost_protocol.specs.ReplySplit.{Received, reply_split, bare_or_reply, not_bare, whole_split, has_config_size, is_right, apart, then_made, parted_or_none}
 use Rattle.vhost_message.specs.Text.{number_at}
 use Rattle.vhost_protocol.specs.Served.{Silent, Replied, reply, cells_of}
 use Rattle.vhost_protocol.specs.Stream.{Cell, has_some}
@@ -41,8 +41,9 @@ use Rattle.vhost_protocol.proofs.TextLaws.{request-small, header-read}
 use Rattle.vhost_protocol.proofs.WholeLaws.{the_whole, whole-read, sized-read, right-size, apart-read}
 
 module _ (H : Type 0) where
-  readable-ring : (call : FrontendCall H) (r : FrontendReq) (v : VhostUserVringState) (handles : List H) → IsShort call → VringStateFits v → IsReadable H call shape.VringState r (RingState v) handles
-  readable-ring call r v handles short fits = record {
+  readable-ring : (call : FrontendCall H) (r : FrontendReq) (v : VhostUserVringState) (handles : List H) → IsShort call → VringStateFits v → is_named r ≡ true → IsReadable H call shape.VringState r (RingState v) handles
+  readable-ring call r v handles short fits named = record {
+    named = named;
     body = vring_state_text v;
     more = [];
     text = refl;
@@ -55,8 +56,9 @@ module _ (H : Type 0) where
     sized = short-sized H call (the_reply H r (RingState v) handles (vring_state_text v) []) short;
   }
 
-  readable-region : (call : FrontendCall H) (r : FrontendReq) (v : VhostUserSingleMemoryRegion) (handles : List H) → IsShort call → SingleRegionFits v → IsReadable H call shape.SingleMemoryRegion r (OneRegion v) handles
-  readable-region call r v handles short fits = record {
+  readable-region : (call : FrontendCall H) (r : FrontendReq) (v : VhostUserSingleMemoryRegion) (handles : List H) → IsShort call → SingleRegionFits v → is_named r ≡ true → IsReadable H call shape.SingleMemoryRegion r (OneRegion v) handles
+  readable-region call r v handles short fits named = record {
+    named = named;
     body = single_region_text v;
     more = [];
     text = refl;
@@ -69,8 +71,9 @@ module _ (H : Type 0) where
     sized = short-sized H call (the_reply H r (OneRegion v) handles (single_region_text v) []) short;
   }
 
-  readable-inflight : (call : FrontendCall H) (r : FrontendReq) (i : VhostUserInflight) (handles : List H) → IsShort call → is_valid_inflight i ≡ true → InflightFits i → IsReadable H call shape.Inflight r (InflightArea i) handles
-  readable-inflight call r i handles short valid fits = record {
+  readable-inflight : (call : FrontendCall H) (r : FrontendReq) (i : VhostUserInflight) (handles : List H) → IsShort call → is_valid_inflight i ≡ true → InflightFits i → is_named r ≡ true → IsReadable H call shape.Inflight r (InflightArea i) handles
+  readable-inflight call r i handles short valid fits named = record {
+    named = named;
     body = inflight_text i;
     more = [];
     text = refl;
@@ -83,8 +86,9 @@ module _ (H : Type 0) where
     sized = short-sized H call (the_reply H r (InflightArea i) handles (inflight_text i) []) short;
   }
 
-  readable-log : (call : FrontendCall H) (r : FrontendReq) (l : VhostUserLog) (handles : List H) → IsShort call → is_valid_log l ≡ true → LogFits l → IsReadable H call shape.Log r (LogArea l) handles
-  readable-log call r l handles short valid fits = record {
+  readable-log : (call : FrontendCall H) (r : FrontendReq) (l : VhostUserLog) (handles : List H) → IsShort call → is_valid_log l ≡ true → LogFits l → is_named r ≡ true → IsReadable H call shape.Log r (LogArea l) handles
+  readable-log call r l handles short valid fits named = record {
+    named = named;
     body = log_text l;
     more = [];
     text = refl;
@@ -97,8 +101,9 @@ module _ (H : Type 0) where
     sized = short-sized H call (the_reply H r (LogArea l) handles (log_text l) []) short;
   }
 
-  readable-shmem : (call : FrontendCall H) (r : FrontendReq) (c : VhostUserShMemConfig) (handles : List H) → IsShort call → ShMemConfigFits c → IsReadable H call shape.ShMemConfig r (Shmem c) handles
-  readable-shmem call r c handles short fits = record {
+  readable-shmem : (call : FrontendCall H) (r : FrontendReq) (c : VhostUserShMemConfig) (handles : List H) → IsShort call → ShMemConfigFits c → is_named r ≡ true → IsReadable H call shape.ShMemConfig r (Shmem c) handles
+  readable-shmem call r c handles short fits named = record {
+    named = named;
     body = shmem_config_text c;
     more = [];
     text = sym (append-nil (shmem_config_text c));
@@ -112,9 +117,10 @@ module _ (H : Type 0) where
   }
 
   -- the table of as many regions as were sent
-  readable-table : (infos : List (Info H)) (r : FrontendReq) (rs : List VhostUserMemoryRegion) (handles : List H) → length rs ≡ length infos → 1 ≤ length rs → length rs ≤ MAX_MEM_REGIONS → All RegionFits rs → IsReadable H (SetMemTable infos) shape.Memory r (Regions rs) handles
-  readable-table infos r rs handles same least most fits =
+  readable-table : (infos : List (Info H)) (r : FrontendReq) (rs : List VhostUserMemoryRegion) (handles : List H) → length rs ≡ length infos → 1 ≤ length rs → length rs ≤ MAX_MEM_REGIONS → All RegionFits rs → is_named r ≡ true → IsReadable H (SetMemTable infos) shape.Memory r (Regions rs) handles
+  readable-table infos r rs handles same least most fits named =
       let bytes : length (flat_map region_text rs) ≡ MEMORY_REGION_SIZE * length rs = regions-length rs in record {
+        named = named;
         body = memory_text (table_head (length rs));
         more = flat_map region_text rs;
         text = refl;
@@ -133,21 +139,21 @@ module _ (H : Type 0) where
       }
 
   -- an area that is not valid is read whole
-  invalid-cut : (profile : Profile) (r : FrontendReq) (i : VhostUserInflight) (handles : List H) (rest : List (Cell H)) → is_valid_inflight i ≡ false → InflightFits i
+  invalid-cut : (profile : Profile) (r : FrontendReq) (i : VhostUserInflight) (handles : List H) (rest : List (Cell H)) → is_valid_inflight i ≡ false → InflightFits i → is_named r ≡ true
       → reply_cut shape.Inflight profile 0 (cells_of request_number (reply r (Replied (InflightArea i) handles)) ++ rest) ≡ (Err InvalidMessage, rest)
-  invalid-cut Vhost r i handles rest invalid fits =
-      reply-invalid request_number is_known (is_valid_record shape.Inflight) (reply_to r (InflightArea i) handles) (inflight_text i) [] rest refl (request-small r) (lit< tt) (reply-known r (InflightArea i) handles (lit< tt)) (ap (λ x. is_valid_inflight x) (inflight-reads_back i fits) ∙ invalid)
-  invalid-cut Standard r i handles rest invalid fits =
-      sized-read request_number is_known (is_valid_record shape.Inflight) (reply_to r (InflightArea i) handles) (inflight_text i) [] rest false refl (request-small r) (lit< tt) (reply-known r (InflightArea i) handles (lit< tt)) (ap (λ x. is_valid_inflight x) (inflight-reads_back i fits) ∙ invalid)
+  invalid-cut Vhost r i handles rest invalid fits named =
+      reply-invalid request_number is_known (is_valid_record shape.Inflight) (reply_to r (InflightArea i) handles) (inflight_text i) [] rest refl (request-small r named) (lit< tt) (reply-known r (InflightArea i) handles named (lit< tt)) (ap (λ x. is_valid_inflight x) (inflight-reads_back i fits) ∙ invalid)
+  invalid-cut Standard r i handles rest invalid fits named =
+      sized-read request_number is_known (is_valid_record shape.Inflight) (reply_to r (InflightArea i) handles) (inflight_text i) [] rest false refl (request-small r named) (lit< tt) (reply-known r (InflightArea i) handles named (lit< tt)) (ap (λ x. is_valid_inflight x) (inflight-reads_back i fits) ∙ invalid)
 
   -- it is refused, as the answer table says
-  take-invalid : (asked : VhostUserInflight) (sent : Header) (f : Frontend) (r : FrontendReq) (i : VhostUserInflight) (handles : List H) (rest : List (Cell H)) → has_bit sent.flags 2 ≡ false → is_valid_inflight i ≡ false → InflightFits i
+  take-invalid : (asked : VhostUserInflight) (sent : Header) (f : Frontend) (r : FrontendReq) (i : VhostUserInflight) (handles : List H) (rest : List (Cell H)) → has_bit sent.flags 2 ≡ false → is_valid_inflight i ≡ false → InflightFits i → is_named r ≡ true
       → take (GetInflightFd asked) (Reply shape.Inflight) sent f (cells_of request_number (reply r (Replied (InflightArea i) handles)) ++ rest) ≡ (answer (GetInflightFd asked) (Reply shape.Inflight) f (Replied (InflightArea i) handles), rest)
-  take-invalid asked sent f r i handles rest flag invalid fits =
+  take-invalid asked sent f r i handles rest flag invalid fits named =
       let w : Written FrontendReq H = reply_to r (InflightArea i) handles in
       let cells : List (Cell H) = written_cells request_number w ++ rest in
       ap (λ b. cond b (Some (answered f (Err InvalidParam)), cells) (take_reply (GetInflightFd asked) shape.Inflight sent f cells)) flag
-      ∙ ap (λ cut. (understood (GetInflightFd asked) (Reply shape.Inflight) sent f cut.0, cut.1)) (invalid-cut f.profile r i handles rest invalid fits)
+      ∙ ap (λ cut. (understood (GetInflightFd asked) (Reply shape.Inflight) sent f cut.0, cut.1)) (invalid-cut f.profile r i handles rest invalid fits named)
       ∙ ap (λ b. (Some (answered f (cond b (inflight_reply f i handles) (Err InvalidMessage))), rest)) (sym invalid)
 
   take-inflight : (asked : VhostUserInflight) (sent : Header) (f : Frontend) (r : FrontendReq) (i : VhostUserInflight) (handles : List H) (rest : List (Cell H)) → IsSentFor r sent → InflightFits i
@@ -155,14 +161,15 @@ module _ (H : Type 0) where
   take-inflight asked sent f r i handles rest of_r fits = go (is_valid_inflight i) refl
     where
       go : (b : Bool) → is_valid_inflight i ≡ b → take (GetInflightFd asked) (Reply shape.Inflight) sent f (cells_of request_number (reply r (Replied (InflightArea i) handles)) ++ rest) ≡ (answer (GetInflightFd asked) (Reply shape.Inflight) f (Replied (InflightArea i) handles), rest)
-      go true valid = take-replied H (GetInflightFd asked) shape.Inflight sent f r (InflightArea i) handles rest tt (readable-inflight (GetInflightFd asked) r i handles tt valid fits) of_r.0 of_r.1
-      go false invalid = take-invalid asked sent f r i handles rest of_r.1 invalid fits
+      go true valid = take-replied H (GetInflightFd asked) shape.Inflight sent f r (InflightArea i) handles rest tt (readable-inflight (GetInflightFd asked) r i handles tt valid fits of_r.2) of_r.0 of_r.1
+      go false invalid = take-invalid asked sent f r i handles rest of_r.1 invalid fits of_r.2
 
   -- ---- configuration bytes
 
   readable-config : (o n k : ℕ) (buffer : List ℕ) (r : FrontendReq) (c : VhostUserConfig) (bytes : List ℕ) (handles : List H) → length bytes ≡ length buffer → 12 + length bytes ≤ MAX_MSG_SIZE → is_valid_config c ≡ true → ConfigFits c
-      → IsReadable H (GetConfig o n k buffer) shape.Config r (ConfigBytes c bytes) handles
-  readable-config o n k buffer r c bytes handles same small valid fits = record {
+      → is_named r ≡ true → IsReadable H (GetConfig o n k buffer) shape.Config r (ConfigBytes c bytes) handles
+  readable-config o n k buffer r c bytes handles same small valid fits named = record {
+    named = named;
     body = config_text c;
     more = bytes;
     text = refl;
@@ -187,9 +194,9 @@ module _ (H : Type 0) where
   bare-known sent r c of_r none fits =
       let w : Written FrontendReq H = reply_to r (ConfigBytes c []) [] in
       let h : Header = head_of request_number w in
-      ap (λ x. bare-test sent x false (number_at 4 4 (config_text c))) (header-read h (request-small r) (lit< tt) (lit< tt))
-      ∙ ap (λ b. b && answers sent h && true && true && number_at 4 4 (config_text c) == 0) (reply-known {H = H} r (ConfigBytes c []) [] (lit< tt))
-      ∙ ap (λ b. b && true && true && number_at 4 4 (config_text c) == 0) (reply-answers {H = H} r (ConfigBytes c []) [] sent of_r.0 of_r.1)
+      ap (λ x. bare-test sent x false (number_at 4 4 (config_text c))) (header-read h (request-small r of_r.2) (lit< tt) (lit< tt))
+      ∙ ap (λ b. b && answers sent h && true && true && number_at 4 4 (config_text c) == 0) (reply-known {H = H} r (ConfigBytes c []) [] of_r.2 (lit< tt))
+      ∙ ap (λ b. b && true && true && number_at 4 4 (config_text c) == 0) (reply-answers {H = H} r (ConfigBytes c []) [] sent of_r.2 of_r.0 of_r.1)
       ∙ eq-eqb (number_at 4 4 (config_text c)) 0 (ap (λ x. x.size) (config-reads_back c fits) ∙ none)
 
   -- a bare reply is read whole
@@ -202,8 +209,8 @@ module _ (H : Type 0) where
   bare-cut Standard sent room r c rest of_r none fits =
       let w : Written FrontendReq H = reply_to r (ConfigBytes c []) [] in
       ap (λ cut. then_made is_known (parted_or_none is_known (answers sent) (is_valid_record shape.Config) room) cut)
-      (whole-read request_number is_known w rest (request-small r) (lit< tt) (reply-known {H = H} r (ConfigBytes c []) [] (lit< tt)))
-      ∙ ap (λ b. (cond (b && true && (number_at 4 4 (config_text c) == 0)) (Ok None) (right w), rest)) (reply-answers {H = H} r (ConfigBytes c []) [] sent of_r.0 of_r.1)
+      (whole-read request_number (has_config_size is_known room) w rest (request-small r of_r.2) (lit< tt) (ap (λ b. b && true) (reply-known {H = H} r (ConfigBytes c []) [] of_r.2 (lit< tt))))
+      ∙ ap (λ b. (cond (b && true && (number_at 4 4 (config_text c) == 0)) (Ok None) (right w), rest)) (reply-answers {H = H} r (ConfigBytes c []) [] sent of_r.2 of_r.0 of_r.1)
       ∙ ap (λ b. (cond b (Ok None) (right w), rest)) (eq-eqb (number_at 4 4 (config_text c)) 0 (ap (λ x. x.size) (config-reads_back c fits) ∙ none))
     where
       right : Written FrontendReq H → Result (Option (Received H)) Error
@@ -228,9 +235,9 @@ module _ (H : Type 0) where
       let p : Payload = ConfigBytes c (x ∷ bytes) in
       let w : Written FrontendReq H = reply_to r p handles in
       let h : Header = head_of request_number w in
-      ap (λ y. bare-test sent y brings (number_at 4 4 (config_text c))) (header-read h (request-small r) (lit< tt) (omega (arith, small)))
-      ∙ ap (λ b. b && answers sent h && h.size == 12 && not brings && number_at 4 4 (config_text c) == 0) (reply-known {H = H} r p handles (omega (arith, small)))
-      ∙ ap (λ b. b && h.size == 12 && not brings && number_at 4 4 (config_text c) == 0) (reply-answers {H = H} r p handles sent of_r.0 of_r.1)
+      ap (λ y. bare-test sent y brings (number_at 4 4 (config_text c))) (header-read h (request-small r of_r.2) (lit< tt) (omega (arith, small)))
+      ∙ ap (λ b. b && answers sent h && h.size == 12 && not brings && number_at 4 4 (config_text c) == 0) (reply-known {H = H} r p handles of_r.2 (omega (arith, small)))
+      ∙ ap (λ b. b && h.size == 12 && not brings && number_at 4 4 (config_text c) == 0) (reply-answers {H = H} r p handles sent of_r.2 of_r.0 of_r.1)
       ∙ ap (λ b. b && not brings && number_at 4 4 (config_text c) == 0) (ne_eqb (length (payload_text p)) 12 (λ same. omega (arith, same)))
 
   -- nor is it empty
@@ -240,6 +247,15 @@ module _ (H : Type 0) where
   full-some true true size none large =
       ap (λ b. b || size == 12 && none) (ne_eqb size 0 (λ same. omega (arith, same, large)))
       ∙ ap (λ b. b && none) (ne_eqb size 12 (λ same. omega (arith, same, large)))
+
+  -- but its size is one that it may have
+  full-size : {known : Bool} (size room : ℕ) → size ≡ 12 + room → known ≡ true → (known && (size == 0 || size == 12 || size == 12 + room)) ≡ true
+  full-size size room same known = ap (λ b. b && (size == 0 || size == 12 || size == 12 + room)) known ∙ or-last (size == 0) (size == 12) (size == 12 + room) (eq-eqb size (12 + room) same)
+    where
+      or-last : (a b c : Bool) → c ≡ true → (a || b || c) ≡ true
+      or-last true b c h = refl
+      or-last false true c h = refl
+      or-last false false c h = h
 
   -- it is read with its bytes
   full-cut : (profile : Profile) (o n k b : ℕ) (buffer : List ℕ) (sent : Header) (r : FrontendReq) (c : VhostUserConfig) (x : ℕ) (bytes : List ℕ) (handles : List H) (rest : List (Cell H)) → IsSentFor r sent → 12 + length (x ∷ bytes) ≤ MAX_MSG_SIZE
@@ -253,7 +269,7 @@ module _ (H : Type 0) where
       ∙ ap (λ y. not_bare is_known y) (split-cut H call shape.Config r (ConfigBytes c (x ∷ bytes)) handles rest kept)
   full-cut Standard o n k b buffer sent r c x bytes handles rest of_r small kept =
       ap (λ cut. then_made is_known (parted_or_none is_known (answers sent) valid (length (b ∷ buffer))) cut)
-      (whole-read request_number is_known w rest (request-small r) (omega (arith, small)) (reply-known {H = H} r p handles (omega (arith, small))))
+      (whole-read request_number (has_config_size is_known (length (b ∷ buffer))) w rest (request-small r of_r.2) (omega (arith, small)) (full-size (length (payload_text p)) (length (b ∷ buffer)) (omega (arith, kept.rest, kept.size, ap (λ y. length y) kept.text, length-append kept.body kept.more)) (reply-known {H = H} r p handles of_r.2 (omega (arith, small)))))
       ∙ ap (λ e. (cond e (Ok None) (right 12 (length (b ∷ buffer))), rest)) (full-some (answers sent (head_of request_number w)) (not (has_some handles)) (length (payload_text p)) (number_at 4 4 (payload_text p) == 0) (omega (arith, small)))
       ∙ ap (λ size. (right size (length (b ∷ buffer)), rest)) (sym kept.size)
       ∙ ap (λ room. (right (length (kept.body)) room, rest)) (sym kept.rest)
@@ -285,7 +301,7 @@ module _ (H : Type 0) where
       let call : FrontendCall H = GetConfig o n k (b ∷ buffer) in
       let p : Payload = ConfigBytes c (x ∷ bytes) in
       let cells : List (Cell H) = written_cells request_number (reply_to r p handles) ++ rest in
-      let kept : IsReadable H call shape.Config r p handles = readable-config o n k (b ∷ buffer) r c (x ∷ bytes) handles same small valid fits in
+      let kept : IsReadable H call shape.Config r p handles = readable-config o n k (b ∷ buffer) r c (x ∷ bytes) handles same small valid fits of_r.2 in
       ap (λ y. cond y (Some (answered f (Err InvalidParam)), cells) (take_reply call shape.Config sent f cells)) of_r.1
       ∙ ap (λ cut. (understood_config call sent f cut.0, cut.1)) (full-cut f.profile o n k b buffer sent r c x bytes handles rest of_r small kept)
       ∙ ap (λ y. (y, rest)) (reply-understood H call shape.Config sent f r p handles kept of_r.0 of_r.1)
@@ -307,7 +323,7 @@ module _ (H : Type 0) where
   take-table : (call : FrontendCall H) (sent : Header) (f : Frontend) (r : FrontendReq) (rs : List VhostUserMemoryRegion) (handles : List H) (rest : List (Cell H)) → IsSentFor r sent → IsTableOf call rs → All RegionFits rs
       → take call (Reply shape.Memory) sent f (cells_of request_number (reply r (Replied (Regions rs) handles)) ++ rest) ≡ (answer call (Reply shape.Memory) f (Replied (Regions rs) handles), rest)
   take-table (SetMemTable infos) sent f r rs handles rest of_r is fits =
-      take-replied H (SetMemTable infos) shape.Memory sent f r (Regions rs) handles rest tt (readable-table infos r rs handles is.0 is.1 is.2 fits) of_r.0 of_r.1
+      take-replied H (SetMemTable infos) shape.Memory sent f r (Regions rs) handles rest tt (readable-table infos r rs handles is.0 is.1 is.2 fits of_r.2) of_r.0 of_r.1
   take-table _ sent f r rs handles rest of_r is fits = absurd is
 
   take-area : (call : FrontendCall H) (sent : Header) (f : Frontend) (r : FrontendReq) (i : VhostUserInflight) (handles : List H) (rest : List (Cell H)) → IsSentFor r sent → IsInflightOf call → InflightFits i
@@ -319,14 +335,14 @@ module _ (H : Type 0) where
   take-reply call sent f r shape.Empty of_r Empty handles is fits rest = take-empty H call sent f r is of_r handles rest
   take-reply call sent f r shape.U64 of_r (U64 n) handles is fits rest = take-number H call sent f r is of_r n handles fits rest
   take-reply call sent f r shape.SingleMemoryRegion of_r (OneRegion v) handles is fits rest =
-      take-replied H call shape.SingleMemoryRegion sent f r (OneRegion v) handles rest (short-plainly H call is) (readable-region call r v handles is fits) of_r.0 of_r.1
+      take-replied H call shape.SingleMemoryRegion sent f r (OneRegion v) handles rest (short-plainly H call is) (readable-region call r v handles is fits of_r.2) of_r.0 of_r.1
   take-reply call sent f r shape.ShMemConfig of_r (Shmem c) handles is fits rest =
-      take-replied H call shape.ShMemConfig sent f r (Shmem c) handles rest (short-plainly H call is) (readable-shmem call r c handles is fits) of_r.0 of_r.1
+      take-replied H call shape.ShMemConfig sent f r (Shmem c) handles rest (short-plainly H call is) (readable-shmem call r c handles is fits of_r.2) of_r.0 of_r.1
   take-reply call sent f r shape.VringState of_r (RingState v) handles is fits rest =
-      take-replied H call shape.VringState sent f r (RingState v) handles rest (short-plainly H call is) (readable-ring call r v handles is fits) of_r.0 of_r.1
+      take-replied H call shape.VringState sent f r (RingState v) handles rest (short-plainly H call is) (readable-ring call r v handles is fits of_r.2) of_r.0 of_r.1
   take-reply call sent f r shape.Inflight of_r (InflightArea i) handles is fits rest = take-area call sent f r i handles rest of_r is fits
   take-reply call sent f r shape.Log of_r (LogArea l) handles is fits rest =
-      take-replied H call shape.Log sent f r (LogArea l) handles rest (short-plainly H call is.0) (readable-log call r l handles is.0 is.1 fits) of_r.0 of_r.1
+      take-replied H call shape.Log sent f r (LogArea l) handles rest (short-plainly H call is.0) (readable-log call r l handles is.0 is.1 fits of_r.2) of_r.0 of_r.1
   take-reply call sent f r shape.Memory of_r (Regions rs) handles is fits rest = take-table call sent f r rs handles rest of_r is fits
   take-reply call sent f r shape.Config of_r (ConfigBytes c bytes) handles is fits rest = take-config call sent f r c bytes handles rest of_r is fits
   take-reply call sent f r _ of_r _ handles is fits rest = absurd is

@@ -5,8 +5,8 @@ use Rattle.byteorder.specs.Numbers.{little_number-reads_back}
 use Rattle.vhost_message.specs.declared.limits.TheConstants.{MAX_MSG_SIZE}
 use Rattle.vhost_message.specs.Bits.{has_bit}
 use Rattle.vhost_message.specs.declared.frontend_req.FrontendReq.{FrontendReq}
-use Rattle.vhost_message.specs.declared.frontend_req.FrontendReq.TheVariants.{GET_FEATURES}
-use Rattle.vhost_message.specs.FrontendReq.{request_number}
+use Rattle.vhost_message.specs.declared.frontend_req.FrontendReq.TheVariants.{OTHER}
+use Rattle.vhost_message.specs.FrontendReq.{request_number, is_named}
 use Rattle.vhost_message.specs.Header.{Header, header_of, header_text, is_valid_header}
 use Rattle.vhost_message.specs.Text.{digits}
 use Rattle.vhost_protocol.specs.Stream.{Cell, bytes, plain, brings_handles}
@@ -16,9 +16,10 @@ use Rattle.vhost_protocol.specs.Written.{Written, header_flags, head_of, payload
 use Rattle.vhost_protocol.specs.Joined.{read_as}
 use Rattle.vhost_protocol.proofs.SplitLaws.{body-whole, le-shorter}
 
-pub request-small : (r : FrontendReq) → request_number r < 2 ^ 32
-request-small GET_FEATURES = lit< tt
-request-small _ = lit< tt
+-- the number of a request that has a name
+pub request-small : (r : FrontendReq) → is_named r ≡ true → request_number r < 2 ^ 32
+request-small (OTHER n) named = absurd (cc named)
+request-small _ named = lit< tt
 
 pub bytes-plain : (H : Type 0) (bs : List ℕ) → bytes (plain {H = H} bs) ≡ bs
 bytes-plain H [] = refl

@@ -1,11 +1,12 @@
 -- A reply that is written is read again by its header, whatever follows it.
 use Rattle.std.proofs.Common.{◌≡◌, ℕ, ◌+◌, ◌^◌, ◌≤◌, ◌<◌, Bool, true, not, ◌&&◌, cond, List, [], ◌++◌, length, take, drop, Result, Ok, Err, refl, ◌∙◌, ap, arith}
+use Rattle.std.specs.Prelude.{◌==◌}
 use Rattle.std.proofs.lemmas.Bool.{eq-eqb}
 use Rattle.std.proofs.lemmas.List.{take_at, drop_at, length-append}
 use Rattle.vhost_message.specs.Header.{Header, header_of, header_text}
 use Rattle.vhost_protocol.specs.Stream.{Cell, bytes, plain, is_shorter}
 use Rattle.vhost_protocol.specs.Error.{Error, PartialMessage, InvalidMessage}
-use Rattle.vhost_protocol.specs.ReplySplit.{Received, whole_split, is_right, apart, parted, then_made, sized_split}
+use Rattle.vhost_protocol.specs.ReplySplit.{Received, whole_split, has_size, is_right, apart, parted, then_made, sized_split}
 use Rattle.vhost_protocol.specs.Written.{Written, head_of, payload_text, written_cells}
 use Rattle.vhost_protocol.proofs.SplitLaws.{le-shorter}
 use Rattle.vhost_protocol.proofs.TextLaws.{header-read, flags-small, bytes-plain, length-plain}
@@ -54,31 +55,32 @@ module _ {R H : Type 0} (number_of : R → ℕ) (is_known : Header → Bool) whe
       ∙ ap (λ h. tail h w.handles (plain (payload_text w.payload) ++ rest)) (header-read (head_of number_of w) code (flags-small w.reply w.need_reply) size)
       ∙ whole-behind (head_of number_of w) w.handles (payload_text w.payload) rest known refl
 
-  module _ (is_valid : List ℕ → Bool) where
-    -- a message of this record, and the payload behind it, has the size of both
-    pub right-size : (w : Written R H) (body more : List ℕ) → payload_text w.payload ≡ body ++ more → is_right is_known (length body) is_valid (length more) (the_whole w) ≡ is_valid body
-    right-size w body more text =
-        ap (λ b. b && is_valid (take (length body) (payload_text w.payload))) (eq-eqb (length (payload_text w.payload)) (length body + length more) (ap (λ x. length x) text ∙ length-append body more))
-        ∙ ap (λ x. is_valid (take (length body) x)) text
-        ∙ ap (λ x. is_valid x) (take_at body more (length body) refl)
+module _ {R H : Type 0} (number_of : R → ℕ) (is_known : Header → Bool) (is_valid : List ℕ → Bool) where
+  -- a message of this record, and the payload behind it, has the size of both
+  pub right-size : (w : Written R H) (body more : List ℕ) → payload_text w.payload ≡ body ++ more → is_right is_known (length body) is_valid (length more) (the_whole number_of is_known w) ≡ is_valid body
+  right-size w body more text =
+      ap (λ b. b && is_valid (take (length body) (payload_text w.payload))) (eq-eqb (length (payload_text w.payload)) (length body + length more) (ap (λ x. length x) text ∙ length-append body more))
+      ∙ ap (λ x. is_valid (take (length body) x)) text
+      ∙ ap (λ x. is_valid x) (take_at body more (length body) refl)
 
-    -- and is told apart into them
-    pub apart-read : (w : Written R H) (body more : List ℕ) → payload_text w.payload ≡ body ++ more
-        → apart is_known (length body) (the_whole w) ≡ record { header = head_of number_of w; body = body; payload = more; handles = w.handles }
-    apart-read w body more text =
-        ap (λ x. found (take (length body) x) (drop (length body) x)) text
-        ∙ ap (λ x. found x (drop (length body) (body ++ more))) (take_at body more (length body) refl)
-        ∙ ap (λ x. found body x) (drop_at body more (length body) refl)
-      where
-        found : List ℕ → List ℕ → Received H
-        found front back = record { header = head_of number_of w; body = front; payload = back; handles = w.handles }
+  -- and is told apart into them
+  pub apart-read : (w : Written R H) (body more : List ℕ) → payload_text w.payload ≡ body ++ more
+      → apart is_known (length body) (the_whole number_of is_known w) ≡ record { header = head_of number_of w; body = body; payload = more; handles = w.handles }
+  apart-read w body more text =
+      ap (λ x. found (take (length body) x) (drop (length body) x)) text
+      ∙ ap (λ x. found x (drop (length body) (body ++ more))) (take_at body more (length body) refl)
+      ∙ ap (λ x. found body x) (drop_at body more (length body) refl)
+    where
+      found : List ℕ → List ℕ → Received H
+      found front back = record { header = head_of number_of w; body = front; payload = back; handles = w.handles }
 
-    -- and by its record and the payload behind it, if they have its size; one whose record is not valid is read whole, too
-    pub sized-read : (w : Written R H) (body more : List ℕ) (rest : List (Cell H)) (valid : Bool) → payload_text w.payload ≡ body ++ more
-        → number_of w.request < 2 ^ 32 → length (payload_text w.payload) < 2 ^ 32 → is_known (head_of number_of w) ≡ true → is_valid body ≡ valid
-        → sized_split is_known (length body) is_valid (length more) (written_cells number_of w ++ rest)
-        ≡ (cond valid (Ok (record { header = head_of number_of w; body = body; payload = more; handles = w.handles })) (Err InvalidMessage), rest)
-    sized-read w body more rest valid text code size known is =
-        ap (λ cut. then_made is_known (parted is_known (length body) is_valid (length more)) cut) (whole-read w rest code size known)
-        ∙ ap (λ b. (cond b (Ok (apart is_known (length body) (the_whole w))) (Err InvalidMessage), rest)) (right-size w body more text ∙ is)
-        ∙ ap (λ r. (cond valid (Ok r) (Err InvalidMessage), rest)) (apart-read w body more text)
+  -- and by its record and the payload behind it, if they have its size; one whose record is not valid is read whole, too
+  pub sized-read : (w : Written R H) (body more : List ℕ) (rest : List (Cell H)) (valid : Bool) → payload_text w.payload ≡ body ++ more
+      → number_of w.request < 2 ^ 32 → length (payload_text w.payload) < 2 ^ 32 → is_known (head_of number_of w) ≡ true → is_valid body ≡ valid
+      → sized_split is_known (length body) is_valid (length more) (written_cells number_of w ++ rest)
+      ≡ (cond valid (Ok (record { header = head_of number_of w; body = body; payload = more; handles = w.handles })) (Err InvalidMessage), rest)
+  sized-read w body more rest valid text code size known is =
+      ap (λ cut. then_made is_known (parted is_known (length body) is_valid (length more)) cut)
+      (whole-read number_of (has_size is_known (length body + length more)) w rest code size (ap (λ b. b && length (payload_text w.payload) == length body + length more) known ∙ eq-eqb (length (payload_text w.payload)) (length body + length more) (ap (λ x. length x) text ∙ length-append body more)))
+      ∙ ap (λ b. (cond b (Ok (apart is_known (length body) (the_whole number_of is_known w))) (Err InvalidMessage), rest)) (right-size w body more text ∙ is)
+      ∙ ap (λ r. (cond valid (Ok r) (Err InvalidMessage), rest)) (apart-read w body more text)

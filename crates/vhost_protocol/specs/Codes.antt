@@ -1,7 +1,7 @@
 -- Which requests of a frontend carry handles ("Communication").
 use Rattle.std.specs.Prelude.{ℕ, Bool, true, false, ◌||◌, ◌==◌}
 use Rattle.vhost_message.specs.declared.frontend_req.FrontendReq.{FrontendReq}
-use Rattle.vhost_message.specs.declared.frontend_req.FrontendReq.TheVariants.{SET_MEM_TABLE, SET_LOG_BASE, SET_LOG_FD, SET_VRING_KICK, SET_VRING_CALL, SET_VRING_ERR, SET_BACKEND_REQ_FD, SET_INFLIGHT_FD, GPU_SET_SOCKET, ADD_MEM_REG, REM_MEM_REG, SET_DEVICE_STATE_FD}
+use Rattle.vhost_message.specs.declared.frontend_req.FrontendReq.TheVariants.{SET_MEM_TABLE, SET_LOG_BASE, SET_LOG_FD, SET_VRING_KICK, SET_VRING_CALL, SET_VRING_ERR, SET_BACKEND_REQ_FD, SET_INFLIGHT_FD, GPU_SET_SOCKET, ADD_MEM_REG, REM_MEM_REG, SET_DEVICE_STATE_FD, OTHER}
 
 -- the requests that may come with handles, whatever their number
 abbrev pub carries_handles : FrontendReq → Bool
@@ -17,6 +17,8 @@ carries_handles ADD_MEM_REG = true
 carries_handles REM_MEM_REG = true
 carries_handles SET_DEVICE_STATE_FD = true
 carries_handles GPU_SET_SOCKET = true
+-- nobody knows what one without a name brings
+carries_handles (OTHER n) = true
 carries_handles _ = false
 
 -- a request is allowed to come with that many handles

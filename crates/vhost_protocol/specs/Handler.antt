@@ -1,14 +1,14 @@
 -- The handler of a frontend's requests, over a device.
 use Rattle.std.specs.Prelude.{◌≡◌, List, Result, Err, ⊤}
 use Rattle.vhost_message.specs.declared.frontend_req.FrontendReq.{FrontendReq}
-use Rattle.vhost_message.specs.FrontendReq.{request_of, request_number}
+use Rattle.vhost_message.specs.FrontendReq.{request_number}
 use Rattle.vhost_protocol.specs.Codes.{allows_handles}
 use Rattle.vhost_protocol.specs.DeviceCall.{Call, Answer}
 use Rattle.vhost_protocol.specs.Error.{Error}
 use Rattle.vhost_protocol.specs.Row.{row}
 use Rattle.vhost_protocol.specs.Run.{Serves, Run}
 use Rattle.vhost_protocol.specs.Served.{reply, cells_of}
-use Rattle.vhost_protocol.specs.Session.{Session}
+use Rattle.vhost_protocol.specs.Session.{Session, heard_in}
 use Rattle.vhost_protocol.specs.Settled.{settled}
 use Rattle.vhost_protocol.specs.Split.{Message}
 use Rattle.vhost_protocol.specs.Step.{Outcome, Step, Refused, Calls, OpensBackend, OpensGpu}
@@ -35,8 +35,8 @@ module _ {H B G Dev : Type 0} (gives : Dev → (c : Call H B G) → Answer c →
 
   -- one call of `handle_request`
   abbrev pub HandlesRequest : Session → Dev → List (Item H) → Result ⊤ Error → List (Cell H) → Session → Dev → Type 0
-  HandlesRequest = Serves request_of allows_handles (λ s. s.failed) MeetsRow
+  HandlesRequest = Serves heard_in allows_handles (λ s. s.failed) MeetsRow
 
   -- many calls of it
   abbrev pub HandlesRequests : Session → Dev → List (Result ⊤ Error) → List (Item H) → List (Cell H) → Session → Dev → Type 0
-  HandlesRequests = Run request_of allows_handles (λ s. s.failed) MeetsRow
+  HandlesRequests = Run heard_in allows_handles (λ s. s.failed) MeetsRow

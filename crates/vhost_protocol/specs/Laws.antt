@@ -5,7 +5,7 @@ use Rattle.vhost_message.specs.Bits.{has_bit}
 use Rattle.vhost_message.specs.declared.frontend_req.FrontendReq.{FrontendReq}
 use Rattle.vhost_message.specs.declared.records.config.VhostUserConfig.{VhostUserConfig}
 use Rattle.vhost_message.specs.declared.records.memory.VhostUserMemoryRegion.{VhostUserMemoryRegion}
-use Rattle.vhost_message.specs.FrontendReq.{request_number}
+use Rattle.vhost_message.specs.FrontendReq.{request_number, is_named}
 use Rattle.vhost_message.specs.Header.{Header}
 use Rattle.vhost_message.specs.LongRecords.{ShMemConfigFits}
 use Rattle.vhost_message.specs.RecordLaws.{RegionFits, SingleRegionFits, VringStateFits, ConfigFits, InflightFits, LogFits}
@@ -70,9 +70,9 @@ IsShort (SetMemTable infos) = ⊥
 IsShort (GetConfig offset size flags buffer) = ⊥
 IsShort _ = ⊤
 
--- a header that was sent for a request, without REPLY
+-- a header that was sent for a request which has a name, without REPLY
 abbrev pub IsSentFor : FrontendReq → Header → Type 0
-IsSentFor r sent = (sent.code ≡ request_number r) × (has_bit sent.flags 2 ≡ false)
+IsSentFor r sent = (sent.code ≡ request_number r) × (has_bit sent.flags 2 ≡ false) × (is_named r ≡ true)
 
 -- what a handler served is taken from the stream as the answer table says, and what follows it is left
 abbrev pub IsTaken : {H : Type 0} → FrontendCall H → Awaited → Header → Frontend → FrontendReq → Served H → Type 0

@@ -50,7 +50,7 @@ module _ {H : Type 0} (is_known : Header → Bool) where
 
   -- ---- under Standard a reply is read by its header
 
-  -- A whole reply: a header, and as many bytes as that announces. Behind a header that is not valid nothing is read.
+  -- A whole reply: a header, and as many bytes as that announces. Behind a header that is not known nothing is read.
   unfoldable pub whole_split : List (Cell H) → Result (Received H) Error × List (Cell H)
   whole_split cells =
       let h = header_of (bytes (take MSG_HEADER_SIZE cells)) in
@@ -60,6 +60,16 @@ module _ {H : Type 0} (is_known : Header → Bool) where
       else if is_shorter h.size behind then (Err PartialMessage, [])
       else (Ok (record { header = h; body = bytes (take h.size behind); payload = []; handles = first_handles cells }), drop h.size behind)
 
+-- of the headers that are known those that announce this size
+abbrev pub has_size : (Header → Bool) → ℕ → Header → Bool
+has_size is_known size h = is_known h && h.size == size
+
+-- those that announce nothing, a record of configuration bytes alone, or one with so many bytes behind it
+abbrev pub has_config_size : (Header → Bool) → (room : ℕ) → Header → Bool
+has_config_size is_known room h = is_known h && (h.size == 0 || h.size == 12 || h.size == 12 + room)
+
+-- is_known says which headers are valid
+module _ {H : Type 0} (is_known : Header → Bool) where
   -- it has a valid record of so many bytes, and behind that as much payload as there is room for
   abbrev pub is_right : (size : ℕ) → (List ℕ → Bool) → (room : ℕ) → Received H → Bool
   is_right size is_valid room r = r.header.size == size + room && is_valid (take size r.body)
@@ -68,7 +78,7 @@ module _ {H : Type 0} (is_known : Header → Bool) where
   abbrev pub apart : (size : ℕ) → Received H → Received H
   apart size r = record r { body = take size r.body; payload = drop size r.body }
 
-  -- what is made of a whole reply; of another size, or with a record that is not valid, it is refused
+  -- what is made of a whole reply; with a record that is not valid it is refused
   abbrev pub parted : (size : ℕ) → (List ℕ → Bool) → (room : ℕ) → Received H → Result (Received H) Error
   parted size is_valid room r = if is_right size is_valid room r then Ok (apart size r) else Err InvalidMessage
 
@@ -77,9 +87,9 @@ module _ {H : Type 0} (is_known : Header → Bool) where
   then_made make (Ok r, rest) = (make r, rest)
   then_made make (Err e, rest) = (Err e, rest)
 
-  -- The reply at the front of a stream, read whole: so the next one stands at its place also where this one is refused.
+  -- The reply at the front of a stream, read whole: so the next one stands at its place also where the record of this one is refused. One of another size is refused at its header: what it announces may never come.
   abbrev pub sized_split : (size : ℕ) → (List ℕ → Bool) → (room : ℕ) → List (Cell H) → Result (Received H) Error × List (Cell H)
-  sized_split size is_valid room cells = then_made (parted size is_valid room) (whole_split cells)
+  sized_split size is_valid room cells = then_made (parted size is_valid room) (whole_split (has_size is_known (size + room)) cells)
 
   -- a reply that says that there are no such configuration bytes: without a body, or bare
   abbrev pub is_empty_reply : (Header → Bool) → Received H → Bool
@@ -92,21 +102,21 @@ module _ {H : Type 0} (is_known : Header → Bool) where
 
   -- the same at the front of a stream, read whole
   abbrev pub sized_or_none : (Header → Bool) → (List ℕ → Bool) → (room : ℕ) → List (Cell H) → Result (Option (Received H)) Error × List (Cell H)
-  sized_or_none answers is_valid room cells = then_made (parted_or_none answers is_valid room) (whole_split cells)
+  sized_or_none answers is_valid room cells = then_made (parted_or_none answers is_valid room) (whole_split (has_config_size is_known room) cells)
 
   -- ---- by the profile of the side that asked
 
   -- a reply with a record of so many bytes, and room for so much payload
   abbrev pub split_by : Profile → (size : ℕ) → (List ℕ → Bool) → (room : ℕ) → List (Cell H) → Result (Received H) Error × List (Cell H)
-  split_by Vhost size is_valid room cells = reply_split size is_valid room cells
+  split_by Vhost size is_valid room cells = reply_split is_known size is_valid room cells
   split_by Standard size is_valid room cells = sized_split size is_valid room cells
 
   -- a reply that may have any size under Standard
   abbrev pub any_by : Profile → (size : ℕ) → (List ℕ → Bool) → List (Cell H) → Result (Received H) Error × List (Cell H)
-  any_by Vhost size is_valid cells = reply_split size is_valid 0 cells
-  any_by Standard size is_valid cells = whole_split cells
+  any_by Vhost size is_valid cells = reply_split is_known size is_valid 0 cells
+  any_by Standard size is_valid cells = whole_split is_known cells
 
   -- a reply with configuration bytes, or None for one that has none
   abbrev pub config_by : Profile → (Header → Bool) → (List ℕ → Bool) → (room : ℕ) → List (Cell H) → Result (Option (Received H)) Error × List (Cell H)
-  config_by Vhost answers is_valid room cells = bare_or_reply answers is_valid room cells
+  config_by Vhost answers is_valid room cells = bare_or_reply is_known answers is_valid room cells
   config_by Standard answers is_valid room cells = sized_or_none answers is_valid room cells

@@ -186,11 +186,11 @@ module _ {H Dev : Type 0} (gives : Dev → ReverseCall H → Result ℕ IoError 
 
   -- one call of `handle_request`
   abbrev pub HandlesReverse : Server → Dev → List (Item H) → Result ℕ Error → List (Cell H) → Server → Dev → Type 0
-  HandlesReverse = Serves backend_request_of backend_allows_handles (λ s. s.failed) ReverseMeets
+  HandlesReverse = Serves (λ _. backend_request_of) backend_allows_handles (λ s. s.failed) ReverseMeets
 
   -- many calls of it
   abbrev pub HandlesReverses : Server → Dev → List (Result ℕ Error) → List (Item H) → List (Cell H) → Server → Dev → Type 0
-  HandlesReverses = Run backend_request_of backend_allows_handles (λ s. s.failed) ReverseMeets
+  HandlesReverses = Run (λ _. backend_request_of) backend_allows_handles (λ s. s.failed) ReverseMeets
 
 -- the last step of a joined run: an error in silence
 abbrev pub is_reverse_last : {H : Type 0} → ReverseOutcome H → Bool

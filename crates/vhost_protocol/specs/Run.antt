@@ -4,12 +4,12 @@ use Rattle.vhost_protocol.specs.Error.{Error, SocketBroken, Raw}
 use Rattle.vhost_protocol.specs.Split.{Message, split, Splits}
 use Rattle.vhost_protocol.specs.Stream.{Cell, Item, heard}
 
--- A handler: its requests, with how many handles each may come, what marks a session as failed, and what it does with a message: from session and device to the answer, the cells that it writes, and session and device.
-module _ {R H S A Dev : Type 0} (request_of : ℕ → Option R) (allows_handles : R → ℕ → Bool) (failed : S → Option ℤ)
+-- A handler: its requests in a session, with how many handles each may come, what marks a session as failed, and what it does with a message: from session and device to the answer, the cells that it writes, and session and device.
+module _ {R H S A Dev : Type 0} (request_of : S → ℕ → Option R) (allows_handles : R → ℕ → Bool) (failed : S → Option ℤ)
     (Meets : S → Dev → Message R H → Result A Error → List (Cell H) → S → Dev → Type 0) where
   -- the outcome of what was heard, and of nothing else
-  abbrev pub Hears : List (Item H) → Result (Message R H) Error → Type 0
-  Hears input outcome = (cells : List (Cell H)) × (ended : Bool) × (input ≡ heard cells ended) × Splits (split request_of allows_handles) cells ended outcome
+  abbrev pub Hears : S → List (Item H) → Result (Message R H) Error → Type 0
+  Hears s input outcome = (cells : List (Cell H)) × (ended : Bool) × (input ≡ heard cells ended) × Splits (split (request_of s) allows_handles) cells ended outcome
 
   -- what was read decides: an error changes nothing, a message meets its row
   abbrev pub Handles : S → Dev → Result (Message R H) Error → Result A Error → List (Cell H) → S → Dev → Type 0
@@ -20,7 +20,7 @@ module _ {R H S A Dev : Type 0} (request_of : ℕ → Option R) (allows_handles 
   abbrev pub ServesUnless : Option ℤ → S → Dev → List (Item H) → Result A Error → List (Cell H) → S → Dev → Type 0
   ServesUnless (Some e) s d input answer written s' d' = (input ≡ []) × Handles s d (Err (SocketBroken (Raw e))) answer written s' d'
   ServesUnless None s d input answer written s' d' =
-      (outcome : Result (Message R H) Error) × Hears input outcome × Handles s d outcome answer written s' d'
+      (outcome : Result (Message R H) Error) × Hears s input outcome × Handles s d outcome answer written s' d'
 
   -- one call of the handler
   abbrev pub Serves : S → Dev → List (Item H) → Result A Error → List (Cell H) → S → Dev → Type 0

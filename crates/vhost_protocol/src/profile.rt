@@ -2,7 +2,7 @@
 
 /// Whose behaviour a side of the protocol has, where real peers do otherwise than the crate `vhost`.
 ///
-/// Two sides need not have the same one.
+/// Two sides that stay in step have the same one.
 #[derive(Clone, Copy, Debug, PartialEq, Eq)]
 pub enum Profile {
     /// That of the crate `vhost`.

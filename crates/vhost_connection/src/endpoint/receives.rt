@@ -28,13 +28,14 @@ impl<M: MsgHeader, L: Link> Endpoint<M, L> {
     pub fn recv_header(&mut self) -> Result<(M, Option<Vec<L::Handle>>)>
         ensures { ReadsHeader L.event M.read M.valid (state self.old) result (state self.new) }
     {
-        let (header, front) = self.recv_head()?;
+        let (header, front) = self.recv_head(false)?;
         Ok((header, self.give(front.list)))
     }
 
-    /// Receives a header, with the descriptors of its first byte in a buffer that is not moved out yet.
-    pub(super) fn recv_head(&mut self) -> Result<(M, Front<L::Handle>)>
-        ensures { ReadsHead L.event M.read M.valid (state self.old) result (state self.new) }
+    /// Receives a header, with the descriptors of its first byte in a buffer that is not moved out yet. Its number is one of
+    /// the codes, or it may be any number.
+    pub(super) fn recv_head(&mut self, any_number: bool) -> Result<(M, Front<L::Handle>)>
+        ensures { ReadsHead L.event M.read (λ h. M.heard any_number h) (state self.old) result (state self.new) }
     {
         let len = M::SIZE;
         let front = self.recv_front(len)?;
@@ -47,7 +48,7 @@ impl<M: MsgHeader, L: Link> Endpoint<M, L> {
             return Err(Error::PartialMessage);
         }
         let header = M::decode(&self.text[..len]);
-        if !header.is_valid() {
+        if !header.is_heard(any_number) {
             self.put_back(front.list);
             return Err(Error::InvalidMessage);
         }

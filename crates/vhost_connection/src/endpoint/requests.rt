@@ -2,6 +2,7 @@
 
 ghost use Rattle.std.specs.Prelude.{◌≡◌, ◌≤◌, ◌+◌, ◌++◌, List, length, map, Ok, Some, true, false, is_some, ◌&&◌};
 ghost use Rattle.vhost_message.specs.declared.cause.IoCause.{IoCause};
+ghost use Rattle.vhost_message.specs.Codes.{heard_by};
 ghost use Rattle.vhost_message.specs.Header.{is_valid_header};
 ghost use Rattle.vhost_message.specs.MsgHeader.{fields_of};
 ghost use Rattle.vhost_message.specs.declared.limits.TheConstants.{MAX_ATTACHED_FD_ENTRIES, MAX_MSG_SIZE};
@@ -23,20 +24,25 @@ impl<R: RequestCode, L: Link> Endpoint<VhostUserMsgHeader<R>, L> {
     ghost use Rattle.vhost_connection.specs.Calls.{ByOneCall};
     ghost use Rattle.vhost_connection.specs.Requests.{ReadsRequest, RequestHead, ReadsBehind, Tells, reply_text};
 
-    /// Reads one request: its header and descriptors, and its body whole, however it is split, to the start of `body`.
+    /// Reads one request: its header and descriptors, and its body whole, however it is split, to the start of `body`. Its
+    /// number is one of the codes, or it may be any number.
     ///
     /// Disconnected: the stream ended before the first byte. PartialMessage: it ended within the header. InvalidMessage:
     /// the header is not valid, or its request may not come with these descriptors, and the body is unread; or the stream
     /// ended within the body, or a byte of it brought descriptors. OutOfMemory: the endpoint's descriptor buffer was moved
     /// out, and another could not be allocated, also where the endpoint is poisoned; nothing was received, and nothing changed.
-    pub fn recv_request(&mut self, body: &mut [u8]) -> Result<(Request<R>, Option<Vec<L::Handle>>)>
+    pub fn recv_request(
+        &mut self,
+        any_number: bool,
+        body: &mut [u8],
+    ) -> Result<(Request<R>, Option<Vec<L::Handle>>)>
         requires { MAX_MSG_SIZE ≤ length body.old }
-        ensures { ReadsRequest L.event R.code R.allowed (state self.old) result body.new (state self.new) }
+        ensures { ReadsRequest L.event (heard_by R.code R.any any_number) R.allowed (state self.old) result body.new (state self.new) }
     {
         self.faulted = false;
         self.make_list()?;
-        let (header, front) = self.recv_head()?;
-        match self.recv_request_body(&header, front.list.as_slice().len(), body) {
+        let (header, front) = self.recv_head(any_number)?;
+        match self.recv_request_body(any_number, &header, front.list.as_slice().len(), body) {
             Ok(request) => Ok((request, self.give(front.list))),
             Err(error) => {
                 self.put_back(front.list);
@@ -48,16 +54,17 @@ impl<R: RequestCode, L: Link> Endpoint<VhostUserMsgHeader<R>, L> {
     /// Reads the body of a request, whose header came with so many descriptors.
     fn recv_request_body(
         &mut self,
+        any_number: bool,
         header: &VhostUserMsgHeader<R>,
         handles: usize,
         body: &mut [u8],
     ) -> Result<Request<R>>
         requires room { MAX_MSG_SIZE ≤ length body.old }
-        requires valid { (is_some (R.code (fields_of header.now).code) && is_valid_header (fields_of header.now)) ≡ true }
-        ensures { (before : State L L.Handle) (hs : List L.Handle) → RequestHead L.event R.code before header.now hs (state self.old) → handles ≡ length hs
-            → ReadsBehind L.event R.code R.allowed before hs result body.new (state self.new) }
+        requires valid { (is_some (heard_by R.code R.any any_number (fields_of header.now).code) && is_valid_header (fields_of header.now)) ≡ true }
+        ensures { (before : State L L.Handle) (hs : List L.Handle) → RequestHead L.event (heard_by R.code R.any any_number) before header.now hs (state self.old) → handles ≡ length hs
+            → ReadsBehind L.event (heard_by R.code R.any any_number) R.allowed before hs result body.new (state self.new) }
     {
-        let code = header.get_code()?;
+        let code = header.get_heard(any_number)?;
         if !code.allows_handles(handles) {
             return Err(Error::InvalidMessage);
         }

@@ -5,6 +5,8 @@ ghost use Rattle.vhost_message.specs.declared.limits.TheConstants.{MAX_MSG_SIZE}
 ghost use Rattle.vhost_message.specs.Header.{is_reply_for};
 ghost use Rattle.vhost_message.specs.MsgHeader.{fields_of};
 ghost use Rattle.vhost_protocol.specs.declared.profile.Profile.TheVariants.{Standard};
+ghost use Rattle.vhost_connection.specs.Asking.{is_known_by};
+ghost use Rattle.vhost_connection.specs.Whole.{sized_by};
 
 use crate::endpoint::Endpoint;
 use crate::fault::break_on_fault;
@@ -18,7 +20,7 @@ use vhost_message::{
 
 impl<R: Req, L: Link> Endpoint<VhostUserMsgHeader<R>, L> {
     ghost use Rattle.std.specs.Prelude.{None};
-    ghost use Rattle.vhost_connection.specs.Asking.{RecvsReply, is_known_by};
+    ghost use Rattle.vhost_connection.specs.Asking.{RecvsReply};
     ghost use Rattle.vhost_connection.specs.State.{state};
     ghost use Rattle.vhost_connection.specs.Whole.{ReadsBehind, ReadsWhole, RecvsAny, ReadsOrNone};
 
@@ -26,7 +28,8 @@ impl<R: Req, L: Link> Endpoint<VhostUserMsgHeader<R>, L> {
     /// header says, the record, how many bytes lie in the room now, and the descriptors.
     ///
     /// InvalidMessage: header or record are not valid, or what came is no reply for the request, or has another size. But for
-    /// a header that is not valid it was received whole. PartialMessage: the stream ended before the reply did.
+    /// a header that is not valid, or says another size, it was received whole. PartialMessage: the stream ended before the
+    /// reply did.
     pub(super) fn recv_sized<T: VhostUserMsgValidator + Drop>(
         &mut self,
         request: &VhostUserMsgHeader<R>,
@@ -35,14 +38,10 @@ impl<R: Req, L: Link> Endpoint<VhostUserMsgHeader<R>, L> {
         requires { T.SIZE ≤ MAX_MSG_SIZE }
         ensures { RecvsReply L.event (is_known_by R.code) R.code Standard T.SIZE T.read T.valid (state self.old) (fields_of request.now) room.old result room.new (state self.new) }
     {
-        match self.recv_whole() {
+        let count = room.len();
+        match self.recv_whole(Sizes::One(T::SIZE, count)) {
             Ok((header, front)) => {
                 let size = header.get_size() as usize;
-                let count = room.len();
-                if !is_sum(size, T::SIZE, count) {
-                    self.put_back(front.list);
-                    return Err(Error::InvalidMessage);
-                }
                 let body = T::decode(&self.text[..T::SIZE]);
                 if !body.is_valid() || !header.is_reply_for(request) {
                     self.put_back(front.list);
@@ -69,7 +68,7 @@ impl<R: Req, L: Link> Endpoint<VhostUserMsgHeader<R>, L> {
     ) -> Result<Option<Vec<L::Handle>>>
         ensures { RecvsAny L.event R.code (state self.old) (fields_of request.now) result (state self.new) }
     {
-        match self.recv_whole() {
+        match self.recv_whole(Sizes::Any) {
             Ok((header, front)) => {
                 if !header.is_reply_for(request) {
                     self.put_back(front.list);
@@ -89,8 +88,9 @@ impl<R: Req, L: Link> Endpoint<VhostUserMsgHeader<R>, L> {
     ///
     /// None: the reply answers the request, has no descriptor, and has no body; or it is the record alone, which says 0 bytes.
     ///
-    /// InvalidMessage: header or record are not valid, or the reply has another size. But for a header that is not valid it
-    /// was received whole. PartialMessage: the stream ended before the reply did. OutOfMemory: as in `recv_header`.
+    /// InvalidMessage: header or record are not valid, or the reply has another size. But for a header that is not valid, or
+    /// says another size, it was received whole. PartialMessage: the stream ended before the reply did. OutOfMemory: as in
+    /// `recv_header`.
     pub fn recv_sized_or_none(
         &mut self,
         request: &VhostUserMsgHeader<R>,
@@ -107,14 +107,14 @@ impl<R: Req, L: Link> Endpoint<VhostUserMsgHeader<R>, L> {
     >
         ensures { ReadsOrNone L.event R.code (fields_of request.now) (state self.old) buf.old result buf.new (state self.new) }
     {
-        let (header, front) = self.recv_whole()?;
+        let count = buf.len();
+        let (header, front) = self.recv_whole(Sizes::Config(count))?;
         let size = header.get_size() as usize;
         let part = VhostUserConfig::decode(&self.text[..VhostUserConfig::SIZE]);
         if is_empty(&header, request, &front.list, &part) {
             self.put_back(front.list);
             return Ok(None);
         }
-        let count = buf.len();
         if !is_sum(size, VhostUserConfig::SIZE, count) || !part.is_valid() {
             self.put_back(front.list);
             return Err(Error::InvalidMessage);
@@ -126,9 +126,10 @@ impl<R: Req, L: Link> Endpoint<VhostUserMsgHeader<R>, L> {
     /// Receives a header, and as many bytes as it announces to the start of the buffer, with the descriptors of the first byte
     /// in a buffer that is not moved out yet.
     ///
-    /// PartialMessage: the stream ended first. InvalidMessage: the header was received, and is not valid.
-    fn recv_whole(&mut self) -> Result<(VhostUserMsgHeader<R>, Front<L::Handle>)>
-        ensures { ReadsWhole L.event R.code (state self.old) result self.new.text.value (state self.new) }
+    /// PartialMessage: the stream ended first. InvalidMessage: the header was received, and is not valid, or announces another
+    /// size than it may; for bytes that may never come nobody waits.
+    fn recv_whole(&mut self, sizes: Sizes) -> Result<(VhostUserMsgHeader<R>, Front<L::Handle>)>
+        ensures { ReadsWhole L.event (sized_by (is_known_by R.code) sizes) (state self.old) result self.new.text.value (state self.new) }
     {
         let Front {
             count,
@@ -141,7 +142,7 @@ impl<R: Req, L: Link> Endpoint<VhostUserMsgHeader<R>, L> {
             return Err(Error::PartialMessage);
         }
         let header = VhostUserMsgHeader::decode(&self.text[..MSG_HEADER_SIZE]);
-        if !header.is_valid() {
+        if !is_awaited(&header, sizes) {
             self.put_back(list);
             return Err(Error::InvalidMessage);
         }
@@ -189,6 +190,34 @@ impl<R: Req, L: Link> Endpoint<VhostUserMsgHeader<R>, L> {
         }
         Ok(got.count)
     }
+}
+
+/// The sizes that a reply may have.
+#[derive(Clone, Copy)]
+enum Sizes {
+    /// Any size.
+    Any,
+    /// That of a record and of what is behind it.
+    One(usize, usize),
+    /// None, a record of configuration bytes, or one with so many bytes behind it.
+    Config(usize),
+}
+
+/// Whether a header is valid, and says a size that the reply may have.
+fn is_awaited<R: Req>(header: &VhostUserMsgHeader<R>, sizes: Sizes) -> bool
+    ensures { result ≡ sized_by (is_known_by R.code) sizes (fields_of header.now) }
+{
+    let size = header.get_size() as usize;
+    header.is_valid()
+        && match sizes {
+            Sizes::Any => true,
+            Sizes::One(front, room) => is_sum(size, front, room),
+            Sizes::Config(room) => {
+                size == 0
+                    || size == VhostUserConfig::SIZE
+                    || is_sum(size, VhostUserConfig::SIZE, room)
+            }
+        }
 }
 
 /// Whether this is the size of a record, which is in front, and of what is behind it.

@@ -43,7 +43,7 @@ impl<L: Link> FrontendReqCore<L> {
         if let Some(number) = self.failed {
             return Err(Error::SocketBroken(IoCause::Raw(number)));
         }
-        let (request, handles) = self.endpoint.recv_request(&mut self.body[..])?;
+        let (request, handles) = self.endpoint.recv_request(false, &mut self.body[..])?;
         match self.begun(request, handles) {
             Begun::Calls(call) => {
                 self.pending = Some(request);

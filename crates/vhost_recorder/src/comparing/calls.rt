@@ -4,7 +4,8 @@ ghost use Rattle.std.specs.Prelude.{◌≡◌, ◌↔◌, IsTrue};
 ghost use Rattle.vhost_frontend_core.specs.Values.{call_of};
 
 use crate::comparing::records::{
-    are_same_infos, is_same_inflight, is_same_info, is_same_log_region, is_same_name, is_same_ring,
+    are_same_infos, is_same_inflight, is_same_info, is_same_log_region, is_same_name,
+    is_same_request, is_same_ring,
 };
 use bitflags::Flags;
 use vhost_pair::FrontendCall;
@@ -71,7 +72,7 @@ pub fn is_same_call(a: &FrontendCall, b: &FrontendCall) -> bool
         FrontendCall::PostcopyListen => matches!(b, FrontendCall::PostcopyListen),
         FrontendCall::PostcopyEnd => matches!(b, FrontendCall::PostcopyEnd),
         FrontendCall::PostcopyAckMemRegions(code) =>
-            matches!(b, FrontendCall::PostcopyAckMemRegions(other_code) if code == other_code),
+            matches!(b, FrontendCall::PostcopyAckMemRegions(other_code) if is_same_request(*code, *other_code)),
         FrontendCall::SetMtu(mtu) =>
             matches!(b, FrontendCall::SetMtu(other_mtu) if mtu == other_mtu),
         FrontendCall::SetHdrFlags(flags) =>

@@ -8,5 +8,5 @@ use Rattle.vhost_promises.proofs.faults.meets_fault_back.Goals as goal
 
 pub returns : goal.returns
 returns g c alive met =
-    met-fault g.L.Link.event backend_request_of backend_allows_handles (λ (t : Server). t.failed) kept (ReverseMeets (fitting g.D.VhostUserFrontendReqHandlerMut.gives))
+    met-fault g.L.Link.event (λ (_ : Server). backend_request_of) backend_allows_handles (λ (t : Server). t.failed) kept (ReverseMeets (fitting g.D.VhostUserFrontendReqHandlerMut.gives))
     (endpoint_of c.args.core.now) (server_in c.args.core.now) c.args.device.now _ _ _ _ (c.handle_request.ensures.handled alive) met

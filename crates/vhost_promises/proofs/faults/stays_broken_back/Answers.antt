@@ -8,5 +8,5 @@ use Rattle.vhost_promises.proofs.faults.stays_broken_back.Goals as goal
 
 pub returns : goal.returns
 returns g c alive listed cause broken =
-    run-broken g.L.Link.event backend_request_of backend_allows_handles (λ (t : Server). t.failed) kept (ReverseMeets (fitting g.D.VhostUserFrontendReqHandlerMut.gives)) cause
+    run-broken g.L.Link.event (λ (_ : Server). backend_request_of) backend_allows_handles (λ (t : Server). t.failed) kept (ReverseMeets (fitting g.D.VhostUserFrontendReqHandlerMut.gives)) cause
     (endpoint_of c.args.core.now) (server_in c.args.core.now) c.args.device.now c.args.count _ _ (endpoint_of c.run.new.self) (server_in c.run.new.self) c.run.new.device c.new-answers.ensures.items alive listed broken c.in_ok-run.ensures.run

@@ -8,5 +8,5 @@ use Rattle.vhost_promises.proofs.runs.serves_no_broken_back.Goals as goal
 
 pub returns : goal.returns
 returns g c none cause broken =
-    unserved g.L.Link.event backend_request_of backend_allows_handles (λ (t : Server). t.failed) kept (ReverseMeets (fitting g.D.VhostUserFrontendReqHandlerMut.gives))
+    unserved g.L.Link.event (λ (_ : Server). backend_request_of) backend_allows_handles (λ (t : Server). t.failed) kept (ReverseMeets (fitting g.D.VhostUserFrontendReqHandlerMut.gives))
     (endpoint_of c.args.core.now) (server_in c.args.core.now) c.args.device.now _ _ _ _ cause broken (c.handle_request.ensures.handled none)

@@ -1,8 +1,7 @@
 -- The answers of a run without a fault.
-use Rattle.vhost_message.specs.FrontendReq.{request_of}
 use Rattle.vhost_protocol.specs.Codes.{allows_handles}
 use Rattle.vhost_protocol.specs.Handler.{MeetsRow}
-use Rattle.vhost_protocol.specs.Session.{Session}
+use Rattle.vhost_protocol.specs.Session.{Session, heard_in}
 use Rattle.vhost_backend_req_handler.specs.Core.{endpoint_of, session_in}
 use Rattle.vhost_backend_req_handler.specs.Opening.{OpensAsBackend, OpensAsGpu}
 use Rattle.vhost_backend_req_handler.specs.Serving.{fitting, kept_unsent}
@@ -11,7 +10,7 @@ use Rattle.vhost_promises.proofs.runs.serves_whole.Goals as goal
 
 pub returns : goal.returns
 returns g c none =
-    whole-answers g.L.Link.event request_of allows_handles (λ (t : Session). t.failed) kept_unsent
+    whole-answers g.L.Link.event heard_in allows_handles (λ (t : Session). t.failed) kept_unsent
     (MeetsRow (fitting g.D.VhostUserBackendReqHandlerMut.gives) (λ h o. OpensAsBackend g.L.Link.opens g.L.Handle.Handle.kinds (endpoint_of c.args.core.now).budget h o) (λ h o. OpensAsGpu g.L.Link.opens g.L.Handle.Handle.kinds (endpoint_of c.args.core.now).budget h o))
     (endpoint_of c.args.core.now) (session_in c.args.core.now) c.args.device.now c.args.count _ _ (endpoint_of c.run.new.self) (session_in c.run.new.self) c.run.new.device
     c.in_ok-run.ensures.run c.new-answers.ensures.items none

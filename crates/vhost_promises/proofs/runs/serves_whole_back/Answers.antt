@@ -8,6 +8,6 @@ use Rattle.vhost_promises.proofs.runs.serves_whole_back.Goals as goal
 
 pub returns : goal.returns
 returns g c none =
-    whole-answers g.L.Link.event backend_request_of backend_allows_handles (λ (t : Server). t.failed) kept (ReverseMeets (fitting g.D.VhostUserFrontendReqHandlerMut.gives))
+    whole-answers g.L.Link.event (λ (_ : Server). backend_request_of) backend_allows_handles (λ (t : Server). t.failed) kept (ReverseMeets (fitting g.D.VhostUserFrontendReqHandlerMut.gives))
     (endpoint_of c.args.core.now) (server_in c.args.core.now) c.args.device.now c.args.count _ _ (endpoint_of c.run.new.self) (server_in c.run.new.self) c.run.new.device
     c.in_ok-run.ensures.run c.new-answers.ensures.items none

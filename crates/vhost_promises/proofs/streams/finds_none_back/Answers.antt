@@ -11,7 +11,7 @@ use Rattle.vhost_promises.proofs.streams.finds_none_back.Goals as goal
 
 pub returns-clause-known : goal.returns-clause-known
 returns-clause-known g c e rest none alive sound =
-    one-none backend_request_of backend_allows_handles (λ (t : Server). t.failed) kept (ReverseMeets (fitting g.D.VhostUserFrontendReqHandlerMut.gives)) c.talks_law.ensures.talks
+    one-none (λ (_ : Server). backend_request_of) backend_allows_handles (λ (t : Server). t.failed) kept (ReverseMeets (fitting g.D.VhostUserFrontendReqHandlerMut.gives)) c.talks_law.ensures.talks
     (endpoint_of c.args.core.now) (server_in c.args.core.now) c.args.device.now _ (endpoint_of c.handle_request.new.self) (server_in c.handle_request.new.self) c.handle_request.new.device e rest none sound
     (c.handle_request.ensures.handled alive)
 

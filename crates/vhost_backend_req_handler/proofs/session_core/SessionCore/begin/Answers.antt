@@ -1,11 +1,10 @@
 -- A request was read, and became a call or was refused.
 use Rattle.std.proofs.Common.{◌≡◌, ◌∙◌, Ok, Err, refl, ap, subst, sym}
 use Rattle.vhost_message.specs.declared.frontend_req.FrontendReq.{FrontendReq}
-use Rattle.vhost_message.specs.FrontendReq.{request_of}
 use Rattle.vhost_protocol.specs.Codes.{allows_handles}
 use Rattle.vhost_protocol.specs.Handler.{MeetsRow}
 use Rattle.vhost_protocol.specs.Row.{row_of}
-use Rattle.vhost_protocol.specs.Session.{Session}
+use Rattle.vhost_protocol.specs.Session.{Session, heard_in}
 use Rattle.vhost_protocol.specs.Split.{Message, split}
 use Rattle.vhost_connection.specs.Hearing.{Hears}
 use Rattle.vhost_connection.specs.State.{state}
@@ -30,12 +29,12 @@ returns-in_err-request-clause-refused g c alive =
     let G = GpuBackend g.row.L.Denot g.row.L-Handle.Denot in
     if_error (λ r. HandlesOne g.L.Link.event (uncalled B G) (λ h o. ⊥) (λ h o. ⊥) (endpoint_of c.args.self.now) (session_in c.args.self.now) tt r (state c.recv_request.new.self) (session_in c.args.self.now) tt)
     _ c.from_residual.result c.from_residual.ensures.1
-    (handles-unread g.L.Link.event request_of allows_handles (λ (t : Session). t.failed) kept_unsent (MeetsRow (fitting (uncalled B G)) (λ h o. ⊥) (λ h o. ⊥))
-    (endpoint_of c.args.self.now) _ (session_in c.args.self.now) tt c.recv_request.new.body c.from_residual.result _ c.from_residual.ensures.1 c.in_err-request.ensures)
+    (handles-unread g.L.Link.event heard_in allows_handles (λ (t : Session). t.failed) kept_unsent (MeetsRow (fitting (uncalled B G)) (λ h o. ⊥) (λ h o. ⊥))
+    (endpoint_of c.args.self.now) _ (session_in c.args.self.now) tt c.recv_request.new.body c.from_residual.result _ c.from_residual.ensures.1 (rw c.hears_any_number-any_number.ensures at c.in_err-request.ensures))
 
 pub returns-in-Ok-clause-begun : goal.returns-in-Ok-clause-begun
 returns-in-Ok-clause-begun g c alive =
-    let r = c.in_ok-request.ensures in
+    let r = (rw c.hears_any_number-any_number.ensures at c.in_ok-request.ensures) in
     let i = c.new-message.result in
     let begun = c.in-Ok.ensures.begun (record { broken = r.hears.serves.after; faulted = r.hears.serves.faulted }) in
     let same = message_is _ _ c.in_ok-request.request c.in_ok-request.handles r.message i r.reads r.hands c.new-message.ensures (cc c.deref.ensures) in
@@ -46,7 +45,7 @@ returns-in-Ok-clause-begun g c alive =
         message = r.message;
         reads = r.reads;
         hands = r.hands;
-        hears = subst (λ (x : State g.row.L.Denot g.row.L-Handle.Denot). Hears g.L.Link.event (split request_of allows_handles) (endpoint_of c.args.self.now) (Ok r.message) x) (sym begun.1) r.hears;
+        hears = subst (λ (x : State g.row.L.Denot g.row.L-Handle.Denot). Hears g.L.Link.event (split (heard_in (session_in c.args.self.now)) allows_handles) (endpoint_of c.args.self.now) (Ok r.message) x) (sym begun.1) r.hears;
         list = ap (λ (x : State g.row.L.Denot g.row.L-Handle.Denot). x.list) begun.1 ∙ r.list;
       };
       settles = subst (λ (x : Message FrontendReq g.row.L-Handle.Denot). Settles (session_in c.args.self.now) x c.unanswered-unanswered.result) same (c.unanswered-unanswered.ensures (handles_in c.in_ok-request.handles));
@@ -59,9 +58,9 @@ returns-in-Err-clause-refused g c alive =
     let B = Backend g.row.L.Denot g.row.L-Handle.Denot in
     let G = GpuBackend g.row.L.Denot g.row.L-Handle.Denot in
     let i = c.new-message.result in
-    handles-request g.L.Link.event request_of allows_handles (λ (t : Session). t.failed) kept_unsent
+    handles-request g.L.Link.event heard_in allows_handles (λ (t : Session). t.failed) kept_unsent
     (MeetsRow (fitting (uncalled B G)) (λ h o. ⊥) (λ h o. ⊥))
-    (endpoint_of c.args.self.now) _ _ (session_in c.args.self.now) _ tt tt _ c.in_ok-request.request c.in_ok-request.handles (Err c.in-Err.error) c.in_ok-request.ensures
+    (endpoint_of c.args.self.now) _ _ (session_in c.args.self.now) _ tt tt _ c.in_ok-request.request c.in_ok-request.handles (Err c.in-Err.error) (rw c.hears_any_number-any_number.ensures at c.in_ok-request.ensures)
     (λ m reads over ready.
     let same = message_is _ _ c.in_ok-request.request c.in_ok-request.handles m i reads over c.new-message.ensures (cc c.deref.ensures) in
     meets-row g.L.Link.event (uncalled B G) (λ h o. ⊥) (λ h o. ⊥) m.request _ _ _ _ tt tt m _ refl

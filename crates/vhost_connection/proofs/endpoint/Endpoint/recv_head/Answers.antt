@@ -29,14 +29,14 @@ returns-then-front-len g c =
     let f = front-as twelve p.1.1.front in
     (p.0, inl (header-part m f (omega (arith, twelve, c.if-front-len.true)) c.if-front-eq0.false c.put_back.ensures.state))
 
-pub returns-then-not-is_valid : goal.returns-then-not-is_valid
+pub returns-then-not-is_heard : goal.returns-then-not-is_heard
 unfolding ahead_of
-returns-then-not-is_valid g c =
+returns-then-not-is_heard g c =
     let twelve : c.SIZE-len.result ≡ 12 = search rules in
     let p = c.in_ok-front.ensures in
     let m = came-as (add-zero _ ∙ twelve) p.1.1.begins in
     let f = front-as twelve p.1.1.front in
-    (p.0, inl (header-bad m f g.M.ByteValued.read g.M.VhostUserMsgValidator.valid c.decode-header.result (omega (arith, twelve, c.if-front-len.false)) ((rw c.deref.ensures at c.decode-header.ensures.read) ∙ ap (λ n. g.M.ByteValued.read (take n c.recv_front.new.self.text.value)) twelve) (sym c.is_valid.ensures ∙ c.if-not-is_valid.true) c.put_back-then-not-is_valid.ensures.state))
+    (p.0, inl (header-bad m f g.M.ByteValued.read (g.M.MsgHeader.heard c.args.any_number) c.decode-header.result (omega (arith, twelve, c.if-front-len.false)) ((rw c.deref.ensures at c.decode-header.ensures.read) ∙ ap (λ n. g.M.ByteValued.read (take n c.recv_front.new.self.text.value)) twelve) (sym c.is_heard.ensures ∙ c.if-not-is_heard.true) c.put_back-then-not-is_heard.ensures.state))
 
 pub returns : goal.returns
 unfolding ahead_of
@@ -45,4 +45,4 @@ returns g c =
     let p = c.in_ok-front.ensures in
     let m = came-as (add-zero _ ∙ twelve) p.1.1.begins in
     let f = front-as twelve p.1.1.front in
-    (p.0, (m, head-whole m f g.M.ByteValued.read g.M.VhostUserMsgValidator.valid c.decode-header.result (omega (arith, twelve, c.if-front-len.false)) ((rw c.deref.ensures at c.decode-header.ensures.read) ∙ ap (λ n. g.M.ByteValued.read (take n c.recv_front.new.self.text.value)) twelve) (λ front hs. front.list.items ≡ hs) c.in_ok-front.front (sym c.is_valid.ensures ∙ c.if-not-is_valid.false) p.1.1.front.first))
+    (p.0, (m, head-whole m f g.M.ByteValued.read (g.M.MsgHeader.heard c.args.any_number) c.decode-header.result (omega (arith, twelve, c.if-front-len.false)) ((rw c.deref.ensures at c.decode-header.ensures.read) ∙ ap (λ n. g.M.ByteValued.read (take n c.recv_front.new.self.text.value)) twelve) (λ front hs. front.list.items ≡ hs) c.in_ok-front.front (sym c.is_heard.ensures ∙ c.if-not-is_heard.false) p.1.1.front.first))

@@ -10,7 +10,7 @@ use Rattle.vhost_frontend_req_handler.proofs.handler.FrontendReqHandler.handle_r
 
 pub returns-clause-served : goal.returns-clause-served
 returns-clause-served g c =
-    let once = calls-once g.L.Link.event backend_request_of backend_allows_handles (λ (t : Server). t.failed) kept _ (endpoint_of c.args.self.now.core) (endpoint_of c.handle_request.new.self)
+    let once = calls-once g.L.Link.event (λ (_ : Server). backend_request_of) backend_allows_handles (λ (t : Server). t.failed) kept _ (endpoint_of c.args.self.now.core) (endpoint_of c.handle_request.new.self)
     (server_in c.args.self.now.core) (server_in c.handle_request.new.self) _ _ c.handle_request.result c.handle_request.ensures.failed c.handle_request.ensures.handled in
-    wider-once g.L.Link.event backend_request_of backend_allows_handles (λ (t : Server). t.failed) kept _ (ReverseMeets (fitting any_answer)) unseen (meets-any _)
+    wider-once g.L.Link.event (λ (_ : Server). backend_request_of) backend_allows_handles (λ (t : Server). t.failed) kept _ (ReverseMeets (fitting any_answer)) unseen (meets-any _)
     (endpoint_of c.args.self.now.core) (endpoint_of c.handle_request.new.self) (server_in c.args.self.now.core) (server_in c.handle_request.new.self) _ _ c.handle_request.result once

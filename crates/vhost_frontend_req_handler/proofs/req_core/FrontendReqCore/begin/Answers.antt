@@ -18,7 +18,7 @@ use Rattle.vhost_frontend_req_handler.proofs.req_core.FrontendReqCore.begin.Goal
 pub returns-in_err-request-clause-refused : goal.returns-in_err-request-clause-refused
 returns-in_err-request-clause-refused g c alive =
     if_error _ _ c.from_residual.result c.from_residual.ensures.1
-    (handles-unread g.L.Link.event backend_request_of backend_allows_handles (λ (t : Server). t.failed) kept (ReverseMeets (fitting uncalled))
+    (handles-unread g.L.Link.event (λ (_ : Server). backend_request_of) backend_allows_handles (λ (t : Server). t.failed) kept (ReverseMeets (fitting uncalled))
     (endpoint_of c.args.self.now) _ (server_in c.args.self.now) tt c.recv_request.new.body (Err c.in_err-request.field-0.0) _ refl c.in_err-request.ensures)
 
 pub returns-in-Calls-clause-begun : goal.returns-in-Calls-clause-begun
@@ -38,7 +38,7 @@ pub returns-in_err-acknowledge-in-Unserved-clause-refused : goal.returns-in_err-
 returns-in_err-acknowledge-in-Unserved-clause-refused g c alive =
     let e = c.in_err-acknowledge-in-Unserved.field-0.0 in
     if_error _ e c.from_residual-in_err-acknowledge-in-Unserved.result c.from_residual-in_err-acknowledge-in-Unserved.ensures.1
-    (handles-request g.L.Link.event backend_request_of backend_allows_handles (λ (t : Server). t.failed) kept (ReverseMeets (fitting uncalled))
+    (handles-request g.L.Link.event (λ (_ : Server). backend_request_of) backend_allows_handles (λ (t : Server). t.failed) kept (ReverseMeets (fitting uncalled))
     (endpoint_of c.args.self.now) _ _ (server_in c.args.self.now) _ tt tt _ c.in_ok-request.request c.in_ok-request.handles (Err e) c.in_ok-request.ensures
     (λ m reads over ready.
     unserved-stopped g.L.Link.event uncalled c.in_ok-request.request.code _ _ m tt tt _ _ e reads.code (unserved_answered (c.in-Unserved.ensures m reads over))
@@ -46,7 +46,7 @@ returns-in_err-acknowledge-in-Unserved-clause-refused g c alive =
 
 pub returns-in_ok-acknowledge-in-Unserved-clause-refused : goal.returns-in_ok-acknowledge-in-Unserved-clause-refused
 returns-in_ok-acknowledge-in-Unserved-clause-refused g c alive =
-    handles-request g.L.Link.event backend_request_of backend_allows_handles (λ (t : Server). t.failed) kept (ReverseMeets (fitting uncalled))
+    handles-request g.L.Link.event (λ (_ : Server). backend_request_of) backend_allows_handles (λ (t : Server). t.failed) kept (ReverseMeets (fitting uncalled))
     (endpoint_of c.args.self.now) _ _ (server_in c.args.self.now) _ tt tt _ c.in_ok-request.request c.in_ok-request.handles (Err code.InvalidMessage) c.in_ok-request.ensures
     (λ m reads over ready.
     unserved-told g.L.Link.event uncalled c.in_ok-request.request.code _ _ m tt tt _ _ reads.code (unserved_answered (c.in-Unserved.ensures m reads over))
@@ -54,6 +54,6 @@ returns-in_ok-acknowledge-in-Unserved-clause-refused g c alive =
 
 pub returns-in-BadBody-clause-refused : goal.returns-in-BadBody-clause-refused
 returns-in-BadBody-clause-refused g c alive =
-    handles-request g.L.Link.event backend_request_of backend_allows_handles (λ (t : Server). t.failed) kept (ReverseMeets (fitting uncalled))
+    handles-request g.L.Link.event (λ (_ : Server). backend_request_of) backend_allows_handles (λ (t : Server). t.failed) kept (ReverseMeets (fitting uncalled))
     (endpoint_of c.args.self.now) _ _ (server_in c.args.self.now) _ tt tt _ c.in_ok-request.request c.in_ok-request.handles (Err code.InvalidMessage) c.in_ok-request.ensures
     (λ m reads over ready. bad-refused g.L.Link.event uncalled c.in_ok-request.request.code _ m tt tt _ reads.code (bad_body_answered (c.in-BadBody.ensures m reads over)) ready)

@@ -9,10 +9,10 @@ use Rattle.vhost_frontend_req_handler.proofs.req_core.FrontendReqCore.handle_req
 
 pub returns-in_err-request-clause-handled : goal.returns-in_err-request-clause-handled
 returns-in_err-request-clause-handled g c alive =
-    handles-unread g.L.Link.event backend_request_of backend_allows_handles (λ (t : Server). t.failed) kept (ReverseMeets (fitting g.D.VhostUserFrontendReqHandlerMut.gives))
+    handles-unread g.L.Link.event (λ (_ : Server). backend_request_of) backend_allows_handles (λ (t : Server). t.failed) kept (ReverseMeets (fitting g.D.VhostUserFrontendReqHandlerMut.gives))
     (endpoint_of c.args.self.now) _ (server_in c.args.self.now) _ [] c.from_residual.result _ c.from_residual.ensures.1 c.in_err-request.ensures
 
 pub returns-clause-handled : goal.returns-clause-handled
 returns-clause-handled g c alive =
-    handles-request g.L.Link.event backend_request_of backend_allows_handles (λ (t : Server). t.failed) kept (ReverseMeets (fitting g.D.VhostUserFrontendReqHandlerMut.gives)) (endpoint_of c.args.self.now) _ _
+    handles-request g.L.Link.event (λ (_ : Server). backend_request_of) backend_allows_handles (λ (t : Server). t.failed) kept (ReverseMeets (fitting g.D.VhostUserFrontendReqHandlerMut.gives)) (endpoint_of c.args.self.now) _ _
     (server_in c.args.self.now) _ _ _ _ c.in_ok-request.request c.in_ok-request.handles _ c.in_ok-request.ensures (λ m reads over ready. c.answer.ensures m reads over ready)

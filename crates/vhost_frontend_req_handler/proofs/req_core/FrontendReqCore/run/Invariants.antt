@@ -10,7 +10,7 @@ use Rattle.vhost_frontend_req_handler.proofs.req_core.FrontendReqCore.run.Given 
 
 abbrev pub invariant-calls : goal.invariant-calls
 invariant-calls g l = record {
-  ran : Ran g.L.Link.event backend_request_of backend_allows_handles (λ (t : Server). t.failed) kept (ReverseMeets (fitting g.D.VhostUserFrontendReqHandlerMut.gives))
+  ran : Ran g.L.Link.event (λ (_ : Server). backend_request_of) backend_allows_handles (λ (t : Server). t.failed) kept (ReverseMeets (fitting g.D.VhostUserFrontendReqHandlerMut.gives))
       (endpoint_of l.fn.self) (server_in l.fn.self) l.fn.device l.counter l.fn.out.items l.out.items (endpoint_of l.self) (server_in l.self) l.device;
   room : vec_len l.out + (l.count - l.counter) ≤ vec_capacity l.out;
 }

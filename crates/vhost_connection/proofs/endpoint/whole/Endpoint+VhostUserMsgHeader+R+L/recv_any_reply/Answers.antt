@@ -9,13 +9,13 @@ use Rattle.vhost_connection.proofs.endpoint.whole.Endpoint+VhostUserMsgHeader+R+
 
 pub returns-then-not-is_reply_for : goal.returns-then-not-is_reply_for
 returns-then-not-is_reply_for g c =
-    any-unfit g.L.Link.event g.R.Req.code (state c.args.self.now) (state c.recv_whole.new.self) c.in-Ok.header c.in-Ok.front.list.items c.recv_whole.new.self.text.value c.in-Ok.ensures.1 c.in-Ok.ensures.2
-    (fields_of c.args.request.now) (state c.put_back.new.self) (sym c.is_reply_for.ensures ∙ c.if-not-is_reply_for.true) c.put_back.ensures.state
+    any-unfit g.L.Link.event g.R.Req.code (is_known_by g.R.Req.code) (state c.args.self.now) (state c.recv_whole.new.self) c.in-Ok.header c.in-Ok.front.list.items c.recv_whole.new.self.text.value c.in-Ok.ensures.1 c.in-Ok.ensures.2
+    (fields_of c.args.request.now) (state c.put_back.new.self) refl (sym c.is_reply_for.ensures ∙ c.if-not-is_reply_for.true) c.put_back.ensures.state
 
 pub returns-else-not-is_reply_for : goal.returns-else-not-is_reply_for
 returns-else-not-is_reply_for g c =
-    any-comes g.L.Link.event g.R.Req.code (state c.args.self.now) (state c.recv_whole.new.self) c.in-Ok.header c.in-Ok.front.list.items c.recv_whole.new.self.text.value c.in-Ok.ensures.1 c.in-Ok.ensures.2
-    (fields_of c.args.request.now) (state c.give.new.self) c.in-Ok.front.list.items c.give.result (sym c.is_reply_for.ensures ∙ c.if-not-is_reply_for.false) refl c.give.ensures.state c.give.ensures.given
+    any-comes g.L.Link.event g.R.Req.code (is_known_by g.R.Req.code) (state c.args.self.now) (state c.recv_whole.new.self) c.in-Ok.header c.in-Ok.front.list.items c.recv_whole.new.self.text.value c.in-Ok.ensures.1 c.in-Ok.ensures.2
+    (fields_of c.args.request.now) (state c.give.new.self) c.in-Ok.front.list.items c.give.result refl (sym c.is_reply_for.ensures ∙ c.if-not-is_reply_for.false) refl c.give.ensures.state c.give.ensures.given
 
 pub returns-in-Err : goal.returns-in-Err
 returns-in-Err g c =
