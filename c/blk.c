@@ -5,11 +5,11 @@
  *
  * Listens at PATH and serves one frontend after another until SIGTERM or SIGINT; a second one at a time is hung up on. IMAGE is a raw file,
  * which may grow meanwhile. RINGS is 1 to 8, or else 1; ro: nothing is written; packed: packed rings are offered, too, and no inflight region.
- * Prints a line for each frontend that went or was refused, and for each ring whose requests are done again that a disk before took and did
- * not give back. Status 0; 1 after wrong arguments; 2 where something failed.
+ * Prints a line for each frontend that went or was refused, and for each ring whose requests are done again, which another disk left.
+ * Status 0; 1 after wrong arguments; 2 where something failed.
  *
- * A request is checked as it comes, and done by one of some threads, so that several are under way. Where liburing is there (compile it with
- * -luring then, or with -DBLK_THREADS) the kernel reads and writes, and a thread does again what that did not do whole. */
+ * A request is checked as it comes. What the page cache has is read then; all else is done by one of some threads, or where liburing is there
+ * (compile it with -luring then, or with -DBLK_THREADS) by the kernel, and a thread does again what that did not do whole. */
 #ifndef _GNU_SOURCE
 #define _GNU_SOURCE /* for fallocate and preadv */
 #endif
@@ -26,7 +26,7 @@
 #include <string.h>
 #include <unistd.h>
 
-enum { SECTOR = 512, MOST_RINGS = 8, THREADS = 4, MOST_RANGES = 16, MOST_SECTORS = 1 << 16, IN_KERNEL = 128 };
+enum { SECTOR = 512, MOST_RINGS = 8, THREADS = 16, MOST_RANGES = 16, MOST_SECTORS = 1 << 16, IN_KERNEL = 128, AT_ONCE = 1 << 16 };
 
 /* A request that is under way. Numbers of the guest's are those of a little-endian machine. */
 struct job {
@@ -75,14 +75,19 @@ static bool clear(const struct virtio_blk_discard_write_zeroes *range, bool is_d
     return true;
 }
 
+/* Reads what the page cache has, without waiting for the file. False: more is to be done, or too much for whoever serves the rings. */
+static bool read_at_once(struct job *job)
+{
+    return job->type == VIRTIO_BLK_T_IN && job->left <= AT_ONCE &&
+           preadv2(image, job->data, job->data_count, (off_t)job->at, RWF_NOWAIT) == (ssize_t)job->left;
+}
+
 static bool do_job(struct job *job)
 {
-    if (job->type == VIRTIO_BLK_T_FLUSH)
-        return fdatasync(image) == 0;
-    for (size_t i = 0; i < job->range_count; i++)
-        if (!clear(&job->ranges[i], job->type == VIRTIO_BLK_T_DISCARD))
-            return false;
-    return move(job);
+    bool is_done = job->type != VIRTIO_BLK_T_FLUSH || fdatasync(image) == 0;
+    for (size_t i = 0; is_done && i < job->range_count; i++)
+        is_done = clear(&job->ranges[i], job->type == VIRTIO_BLK_T_DISCARD);
+    return is_done && move(job);
 }
 
 /* Gives a request back: its data were written, and its status; or that alone. */
@@ -188,8 +193,7 @@ static uint8_t take_job(struct job *job, covretin_request *request)
     case VIRTIO_BLK_T_OUT: return is_read_only ? VIRTIO_BLK_S_IOERR : take_data(job, request->segments, request->readable, header.sector);
     case VIRTIO_BLK_T_FLUSH: return VIRTIO_BLK_S_OK;
     case VIRTIO_BLK_T_GET_ID: return covretin_request_write(request, name, job->size = sizeof name) == sizeof name ? VIRTIO_BLK_S_OK : VIRTIO_BLK_S_IOERR;
-    case VIRTIO_BLK_T_DISCARD:
-    case VIRTIO_BLK_T_WRITE_ZEROES: return is_read_only ? VIRTIO_BLK_S_IOERR : take_ranges(job);
+    case VIRTIO_BLK_T_DISCARD: case VIRTIO_BLK_T_WRITE_ZEROES: return is_read_only ? VIRTIO_BLK_S_IOERR : take_ranges(job);
     default: return VIRTIO_BLK_S_UNSUPP;
     }
 }
@@ -211,7 +215,7 @@ static void take(void *none, covretin_request *request)
     job->request = request;
     job->status = (uint8_t *)last->iov_base + --last->iov_len;
     uint8_t status = take_job(job, request);
-    if (status != VIRTIO_BLK_S_OK)
+    if (status != VIRTIO_BLK_S_OK || read_at_once(job))
         finish(job, status);
     else if (!give_to_kernel(job))
         give_to_thread(job);

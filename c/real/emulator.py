@@ -113,9 +113,9 @@ class Disk:
         with open("/proc/net/unix", encoding="utf-8") as it:
             return any(line.split()[-1] == self.path for line in it)
 
-    def told(self, name):
-        """A line that /proc has of it."""
-        with open(f"/proc/{self.process.pid}/{name}", encoding="utf-8") as it:
+    def told(self, name, process=None):
+        """What /proc has of it, or of one that it runs under a shell as."""
+        with open(f"/proc/{process or self.process.pid}/{name}", encoding="utf-8") as it:
             return it.read()
 
     def threads(self):
@@ -124,6 +124,10 @@ class Disk:
     def is_writing(self):
         """Whether a thread of its pauses before it writes to the file, which is slow, by the numbers of nanosleep."""
         return any(self.told(f"{it}/syscall").split()[0] in ("35", "230") for it in self.threads())
+
+    def is_asleep(self):
+        """Whether it has done what it begins with, and waits."""
+        return not any(patience.wants_processor(it) for it in patience.family(self.process.pid))
 
     def is_stopped(self):
         return all(patience.fields_of(f"/proc/{self.process.pid}/{it}")[0] == "T" for it in self.threads())
@@ -147,7 +151,8 @@ class Disk:
 
     def mapped(self):
         """How many regions of guest memory it has mapped."""
-        return sum("/memfd:memory-backend-memfd" in line for line in self.told("maps").splitlines())
+        maps = [self.told("maps", it) for it in patience.family(self.process.pid)]
+        return sum("/memfd:memory-backend-memfd" in line for it in maps for line in it.splitlines())
 
     def descriptors(self):
         """How many it has, with a shell that it may run under."""

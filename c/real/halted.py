@@ -249,6 +249,7 @@ def calls_of(program, refused):
     """Which calls QEMU makes of a disk that refuses one, and whether it goes on."""
     began = os.path.getsize("disk.log") if os.path.exists("disk.log") else 0
     disk = Disk(program, COVRETIN_REFUSES=refused)
+    wait_until(disk.is_asleep, "the disk waits")
     open_then = disk.descriptors()
     ended = ends_over(disk)
     wait_until(lambda: disk.descriptors() == open_then, "the disk has as many descriptors as at first")

@@ -1,8 +1,9 @@
 # SPDX-License-Identifier: Apache-2.0
 """Virtual machines over the example disk: QEMU is the frontend, and Linux drives the virtqueues.
 
-    machine.py TRY DISK BOOT [ANY]    in an empty folder: DISK is the compiled c/blk.c, BOOT the sector of boot.S, ANY the compiled any.c;
-                                      for display DISK is the compiled picture.c, and for entropy ANY the compiled c/rng.c
+    machine.py TRY DISK BOOT [ANY [FRAMES]]    in an empty folder: DISK is the compiled c/blk.c, BOOT the sector of boot.S, ANY the compiled
+                                               any.c; for display DISK is the compiled picture.c, for entropy ANY the compiled c/rng.c; for
+                                               frames ANY is the compiled c/net.c, and FRAMES the compiled frames.c
 
 Prints what is done. Status 0 where all was as it has to be; 1 where something was not, which the last line says. What runs is ended
 by then. The machines' consoles and the disks' lines are kept in the folder.
@@ -416,6 +417,31 @@ def tried_entropy(program):
         check(it.read() == "a frontend went: peer disconnected\n", "the source served one frontend to its end")
 
 
+def tried_frames(program):
+    """A network card that sends each frame back: what a program of the guest sends through Linux's driver comes to it again."""
+    disk = Disk(program)
+    path = f"net-{os.getpid()}.socket"
+    with open("net.said", "wb") as log:
+        card = run([ANY, path], log)
+    wait_until(lambda: os.path.exists(path), "the card listens", 10)
+    machine = boot("machine", disk, "-chardev", f"socket,id=net,path={path}", *DEVICES["net"][0])
+    with open(FRAMES, "rb") as it, open("image", "r+b") as image:
+        frames = it.read()
+        image.seek(SYSTEM_AT * SECTOR)
+        image.write(frames)
+    machine.do(f"head -c {len(frames)} /dev/vda1 >/tmp/frames && chmod +x /tmp/frames")
+    machine.do("for it in failover net_failover virtio_net; do insmod /modules/$it.ko || exit 1; done; ip link set eth0 up")
+    check(machine.do("/tmp/frames eth0") == "1024 frames came back", "the guest has back what it sent")
+    machine.power_off()
+    disk.end()
+    card.terminate()
+    wait_for_end(card, "the card")
+    with open("net.said", encoding="utf-8") as it:
+        found = re.fullmatch(r"a frontend went: peer disconnected; (\d+) frames were sent back, and (\d+) dropped\n", it.read())
+    check(found and int(found[1]) >= 1024, "the card sent them back")
+    tell(f"{found[1]} frames were sent back, {found[2]} dropped")
+
+
 def tried_resized(program):
     """The disk's file grows while the machine runs: the guest is told, and reads what is in the new part."""
     disk = Disk(program)
@@ -481,11 +507,11 @@ def tried_display(program):
 
 
 def main():
-    global ANY
+    global ANY, FRAMES
     tries = {name.removeprefix("tried_"): it for name, it in globals().items() if name.startswith("tried_")}
-    if not 4 <= len(sys.argv) <= 5 or sys.argv[1] not in tries:
-        raise SystemExit(f"usage: machine.py {'|'.join(tries)} DISK BOOT [ANY]")
-    ANY = sys.argv[4] if len(sys.argv) == 5 else None
+    if not 4 <= len(sys.argv) <= 6 or sys.argv[1] not in tries:
+        raise SystemExit(f"usage: machine.py {'|'.join(tries)} DISK BOOT [ANY [FRAMES]]")
+    ANY, FRAMES = (sys.argv[4:] + [None, None])[:2]
     try:
         if sys.argv[1] != "display":  # which needs no disk
             make_image(sys.argv[3])

@@ -3,7 +3,8 @@
 //!
 //! It has as many virtqueues as it is told, one machine at a time, and threads that do requests: reads, writes, flushes, sectors that are
 //! discarded or zeroed, and its name. A sector behind the disk's end makes the request fail; a chain that breaks a rule of virtio ends its
-//! queue until a reset. Where the file grows the guest is told. `blk` is such a disk without the kit, and says how a machine has it.
+//! queue until a reset. Where the file grows the guest is told. A machine has it as `entropy` says, by
+//! `-device vhost-user-blk-pci,chardev=disk,num-queues=2`.
 use std::env;
 use std::ffi::OsString;
 use std::fs::{symlink_metadata, File, OpenOptions};
@@ -29,7 +30,9 @@ const FEATURES: u64 = 1 << 2 | 1 << 9 | 1 << 12 | 1 << 13 | 1 << 14;
 const SEGMENTS: u32 = 126;
 const MOST_ZEROED: u32 = 1 << 16;
 /// How many requests are under way.
-const THREADS: usize = 4;
+const THREADS: usize = 16;
+/// How many bytes are read at once, where the page cache has them: no queue waits long for another.
+const AT_ONCE: u64 = 1 << 16;
 /// How often it is looked at how large the file is.
 const LOOK: Duration = Duration::from_millis(200);
 
@@ -43,13 +46,11 @@ fn main() -> ExitCode {
             return ExitCode::from(1);
         }
     };
-    match ended {
-        Ok(()) => ExitCode::SUCCESS,
-        Err(error) => {
-            eprintln!("disk: {error}");
-            ExitCode::from(2)
-        }
-    }
+    let failed = |error: io::Error| {
+        eprintln!("disk: {error}");
+        ExitCode::from(2)
+    };
+    ended.map_or_else(failed, |()| ExitCode::SUCCESS)
 }
 
 /// Serves one machine after another.
@@ -59,7 +60,11 @@ fn listen(path: &OsString, image: &OsString, queues: usize) -> io::Result<()> {
     let (requests, taken, sectors) = (Mutex::new(requests), Arc::new(Mutex::new(taken)), AtomicU64::new(0));
     let disk = Arc::new(Disk { image, sectors, queues, requests, channel: Mutex::new(None) });
     for (disk, taken) in (0..THREADS).map(|_| (disk.clone(), taken.clone())) {
-        spawn(move || disk.work(&taken));
+        spawn(move || {
+            while let Some((request, head)) = next(&taken) {
+                disk.finish(request, head, true);
+            }
+        });
     }
     let looking = disk.clone();
     spawn(move || loop {
@@ -78,11 +83,18 @@ fn locked<T>(it: &Mutex<T>) -> MutexGuard<'_, T> {
     it.lock().unwrap_or_else(PoisonError::into_inner)
 }
 
+/// A request, and its header, if that is whole.
+type Job = (Request, Option<[u8; 16]>);
+
+fn next(taken: &Mutex<Receiver<Job>>) -> Option<Job> {
+    locked(taken).recv().ok()
+}
+
 struct Disk {
     image: File,
     sectors: AtomicU64,
     queues: usize,
-    requests: Mutex<Sender<Request>>,
+    requests: Mutex<Sender<Job>>,
     channel: Mutex<Option<Backend>>,
 }
 
@@ -99,12 +111,13 @@ impl Device for Disk {
         VhostUserProtocolFeatures::CONFIG | VhostUserProtocolFeatures::BACKEND_REQ
     }
 
-    fn request(&self, request: Request) {
+    fn request(&self, mut request: Request) {
         if request.is_again() {
             eprintln!("disk: a request of queue {} is done again", request.queue());
         }
-        // (where no thread takes it, it is dropped, which gives it back)
-        let _ = locked(&self.requests).send(request);
+        let mut head = [0; 16];
+        let head = request.read_exact(&mut head).ok().map(|()| head);
+        self.finish(request, head, false);
     }
 
     /// How many sectors, how many parts, how many queues, and how much is discarded or zeroed at once.
@@ -117,11 +130,8 @@ impl Device for Disk {
         for (at, value) in [(36, MOST_ZEROED), (40, 1), (44, 1), (48, MOST_ZEROED), (52, 1), (56, 1)] {
             space[at..at + 4].copy_from_slice(&value.to_le_bytes());
         }
-        match space.get(offset as usize..).and_then(|rest| rest.get(..bytes.len())) {
-            Some(part) => bytes.copy_from_slice(part),
-            None => return false,
-        }
-        true
+        let part = space.get(offset as usize..).and_then(|rest| rest.get(..bytes.len()));
+        part.map(|part| bytes.copy_from_slice(part)).is_some()
     }
 
     /// It is not acknowledged, and where it is full it ends: a machine that waits for this disk would not do it.
@@ -132,8 +142,7 @@ impl Device for Disk {
     }
 
     fn refused(&self, request: Option<u32>, error: &Error) {
-        let name = request.map(|number| FrontendReq::try_from(number).map_or(number.to_string(), |name| format!("{name:?}")));
-        eprintln!("disk: {} was refused: {error}", name.as_deref().unwrap_or("no request"));
+        eprintln!("disk: request {:?} was refused: {error}", request.map(FrontendReq::try_from));
     }
 
     fn broken(&self, queue: usize, error: queue::Error) {
@@ -142,42 +151,31 @@ impl Device for Disk {
 
     fn ended(&self, why: &Ended) {
         *locked(&self.channel) = None;
-        if !matches!(why, Ended::Frontend(Error::Disconnected)) {
-            eprintln!("disk: the machine's connection ended: {why}");
-        }
+        eprintln!("disk: a frontend went: {why}");
     }
 }
 
 impl Disk {
-    /// Does requests as they come.
-    fn work(&self, taken: &Mutex<Receiver<Request>>) {
-        loop {
-            let next = locked(taken).recv();
-            match next {
-                Ok(request) => self.finish(request),
-                Err(_) => return,
-            }
-        }
-    }
-
     /// Looks how large the file is. Whether that has changed.
     fn measure(&self) -> bool {
         let sectors = self.image.metadata().map_or(0, |about| about.len() / SECTOR);
         sectors != 0 && sectors != self.sectors.swap(sectors, Ordering::SeqCst)
     }
 
-    /// Does a request, and gives it back. Its last byte is that of its status.
-    fn finish(&self, mut request: Request) {
-        let mut head = [0; 16];
-        let has_head = request.read_exact(&mut head).is_ok();
-        let done = match request.writable_len().checked_sub(1) {
-            None => return request.complete(0),
+    /// Does a request, and gives it back, or where that has to wait, to a thread. Its last byte is that of its status.
+    fn finish(&self, mut request: Request, head: Option<[u8; 16]>, may_wait: bool) {
+        let done = match (request.writable_len().checked_sub(1), head) {
+            (None, _) => return request.complete(0),
+            (Some(room), Some(head)) if !request.is_lost() => self.transfer(&mut request, head, room, may_wait),
             // Zeros that stand for what is gone are no request.
-            Some(_) if !has_head || request.is_lost() => Err(io::ErrorKind::InvalidData.into()),
-            Some(room) => self.transfer(&mut request, head, room),
+            _ => Err(io::ErrorKind::InvalidData.into()),
         };
         let (written, status) = match done {
             Ok(written) => (written, 0),
+            // (where no thread takes it, it is dropped, which gives it back)
+            Err(cause) if cause.kind() == io::ErrorKind::WouldBlock && !may_wait => {
+                return drop(locked(&self.requests).send((request, head)))
+            }
             Err(cause) if cause.kind() == io::ErrorKind::Unsupported => (0, 2),
             Err(_) => (0, 1),
         };
@@ -187,16 +185,22 @@ impl Disk {
         request.complete(written + 1);
     }
 
-    /// Does what the header says (virtio 1.2, 5.2.6), with so much room: how many bytes were written.
-    fn transfer(&self, request: &mut Request, head: [u8; 16], room: u64) -> io::Result<u32> {
+    /// Does what the header says (virtio 1.2, 5.2.6), with so much room: how many bytes were written. WouldBlock: it has to wait, and may not.
+    fn transfer(&self, request: &mut Request, head: [u8; 16], room: u64, may_wait: bool) -> io::Result<u32> {
         let [kind, _, low, high] = words(head);
         let sector = u64::from(low) | u64::from(high) << 32;
         match kind {
             0 => {
-                let place = self.place(sector, room)?;
-                VolatileSlice::read_exact_at(&without_last_byte(request.writable()), &self.image, place)?;
+                let (place, parts) = (self.place(sector, room)?, without_last_byte(request.writable()));
+                if may_wait {
+                    VolatileSlice::read_exact_at(&parts, &self.image, place)?;
+                } else if room > AT_ONCE || VolatileSlice::read_cached_at(&parts, &self.image, place).ok() != Some(room as usize)
+                {
+                    return Err(io::ErrorKind::WouldBlock.into());
+                }
                 u32::try_from(room).map_err(|_| io::ErrorKind::InvalidData.into())
             }
+            _ if !may_wait => Err(io::ErrorKind::WouldBlock.into()),
             1 => {
                 let place = self.place(sector, request.readable_len())?;
                 VolatileSlice::write_all_at(request.readable(), &self.image, place).map(|()| 0)

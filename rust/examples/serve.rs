@@ -11,7 +11,7 @@ use std::thread;
 
 use covretin::vhost_user::message::*;
 use covretin::vhost_user::{
-    BackendListener, BackendReqHandler, Error, GpuBackend, Listener, Result, VhostUserBackendReqHandlerMut,
+    close_at_once, BackendListener, BackendReqHandler, Error, GpuBackend, Listener, Result, VhostUserBackendReqHandlerMut,
 };
 use covretin::VhostUserMemoryRegionBase;
 
@@ -99,10 +99,22 @@ struct Device {
 struct Ring {
     size: u32,
     base: u32,
-    kick: Option<File>,
-    call: Option<File>,
-    err: Option<File>,
+    kick: Given,
+    call: Given,
+    err: Given,
     is_enabled: bool,
+}
+
+/// A descriptor of the frontend's, if it gave one. Where it is a socket that lingers nobody waits for it.
+#[derive(Default)]
+struct Given(Option<File>);
+
+impl Drop for Given {
+    fn drop(&mut self) {
+        if let Some(file) = self.0.take() {
+            close_at_once(file);
+        }
+    }
 }
 
 impl Device {
@@ -180,9 +192,10 @@ impl VhostUserBackendReqHandlerMut for Device {
     fn set_mem_table(
         &mut self,
         regions: &[VhostUserMemoryRegion],
-        _files: Vec<File>,
+        files: Vec<File>,
         _postcopy_listening: Option<bool>,
     ) -> Result<Option<Vec<VhostUserMemoryRegionBase>>> {
+        files.into_iter().for_each(close_at_once);
         Ok(Some(regions.iter().map(|region| region.user_addr).collect()))
     }
 
@@ -193,9 +206,10 @@ impl VhostUserBackendReqHandlerMut for Device {
     fn add_mem_region(
         &mut self,
         region: &VhostUserSingleMemoryRegion,
-        _file: File,
+        file: File,
         _postcopy_listening: Option<bool>,
     ) -> Result<Option<VhostUserMemoryRegionBase>> {
+        close_at_once(file);
         Ok(Some(region.user_addr))
     }
 
@@ -203,7 +217,8 @@ impl VhostUserBackendReqHandlerMut for Device {
         Ok(())
     }
 
-    fn set_log_base(&mut self, _log: &VhostUserLog, _file: File) -> Result<()> {
+    fn set_log_base(&mut self, _log: &VhostUserLog, file: File) -> Result<()> {
+        close_at_once(file);
         Ok(())
     }
 
@@ -236,17 +251,17 @@ impl VhostUserBackendReqHandlerMut for Device {
     }
 
     fn set_vring_kick(&mut self, index: u8, fd: Option<File>) -> Result<()> {
-        self.ring(index)?.kick = fd;
+        self.ring(index)?.kick = Given(fd);
         Ok(())
     }
 
     fn set_vring_call(&mut self, index: u8, fd: Option<File>) -> Result<()> {
-        self.ring(index)?.call = fd;
+        self.ring(index)?.call = Given(fd);
         Ok(())
     }
 
     fn set_vring_err(&mut self, index: u8, fd: Option<File>) -> Result<()> {
-        self.ring(index)?.err = fd;
+        self.ring(index)?.err = Given(fd);
         Ok(())
     }
 
@@ -291,7 +306,8 @@ impl VhostUserBackendReqHandlerMut for Device {
         Ok((region, temporary_file()?))
     }
 
-    fn set_inflight_fd(&mut self, _inflight: &VhostUserInflight, _file: File) -> Result<()> {
+    fn set_inflight_fd(&mut self, _inflight: &VhostUserInflight, file: File) -> Result<()> {
+        close_at_once(file);
         Ok(())
     }
 
@@ -299,8 +315,9 @@ impl VhostUserBackendReqHandlerMut for Device {
         &mut self,
         _direction: VhostTransferStateDirection,
         _phase: VhostTransferStatePhase,
-        _fd: File,
+        fd: File,
     ) -> Result<Option<File>> {
+        close_at_once(fd);
         Err(no_transfer())
     }
 

@@ -34,6 +34,10 @@ fn moves_bytes_of_files() {
         assert_eq!(15, VolatileSlice::write_at(request.readable(), &file, 4).unwrap());
         assert_eq!(15, VolatileSlice::read_at(request.writable(), &file, 4).unwrap());
         assert_eq!(0, VolatileSlice::read_at(request.writable(), &file, 1 << 40).unwrap());
+        match VolatileSlice::read_cached_at(request.writable(), &file, 4) {
+            Ok(count) => assert_eq!(15, count),
+            Err(cause) => assert_eq!(Some(libc::EOPNOTSUPP), cause.raw_os_error()),
+        }
         VolatileSlice::write_all_at(request.readable(), &file, 0x70).unwrap();
         let end = VolatileSlice::read_exact_at(request.writable(), &file, 16).unwrap_err();
         assert_eq!(std::io::ErrorKind::UnexpectedEof, end.kind());

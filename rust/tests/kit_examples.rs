@@ -1,17 +1,20 @@
 // SPDX-License-Identifier: Apache-2.0
-//! The examples over the kit for devices, each a process of its own, and a guest that asks it. Where they are compiled, ./test-rust knows.
+//! The examples over the kit for devices, each a process of its own, and a guest that asks it; and sockets that linger for the one without
+//! the kit. Where they are compiled, ./test-rust knows.
 mod common;
 
 use std::env;
 use std::fs::{read, remove_file, write};
 use std::io::Read;
 use std::os::unix::fs::FileExt;
+use std::os::unix::io::AsRawFd;
 use std::path::PathBuf;
 use std::process::{Child, Command, Stdio};
 
+use common::lingering::*;
 use common::machine::*;
 use common::*;
-use covretin::vhost_user::message::VhostUserConfigFlags;
+use covretin::vhost_user::message::*;
 use covretin::vhost_user::{Frontend, VhostUserFrontend};
 use covretin::VhostBackend;
 
@@ -32,9 +35,10 @@ impl Example {
         write(&image, (0..SECTORS * 512).map(|at| (at / 512) as u8).collect::<Vec<u8>>()).unwrap();
         let mut program = Command::new(PathBuf::from(env::var_os(FOLDER).expect(FOLDER)).join(name));
         program.arg(&socket).stdout(Stdio::piped()).stderr(Stdio::null());
-        if let [rings] = words {
-            program.arg(&image).arg(rings);
+        if name == "disk" {
+            program.arg(&image);
         }
+        program.args(words);
         let process = program.spawn().unwrap();
         wait_until("it listens", || socket.exists());
         Example { process, path: socket, image }
@@ -51,10 +55,19 @@ impl Example {
         (frontend, rings)
     }
 
-    /// It is asked to end: what it printed. None: it ended by the signal.
-    fn end(mut self) -> (Option<i32>, String) {
+    fn send(&self, signal: libc::c_int) {
         // SAFETY: it is a child that was not waited for.
-        assert_eq!(0, unsafe { libc::kill(self.process.id() as libc::pid_t, libc::SIGTERM) });
+        assert_eq!(0, unsafe { libc::kill(self.process.id() as libc::pid_t, signal) });
+    }
+
+    /// It is asked to end: what it printed. None: it ended by the signal.
+    fn end(self) -> (Option<i32>, String) {
+        self.send(libc::SIGTERM);
+        self.ended()
+    }
+
+    /// It ends by itself.
+    fn ended(mut self) -> (Option<i32>, String) {
         let mut said = String::new();
         self.process.stdout.take().unwrap().read_to_string(&mut said).unwrap();
         (self.process.wait().unwrap().code(), said)
@@ -167,5 +180,40 @@ fn disk() {
         assert_eq!((0, 513), done(ring, 0, 0, (512, WRITE)));
         drop(frontend);
         assert_eq!(None, example.end().0);
+    });
+}
+
+/// What it is given is closed without waiting, where it keeps that and where it does not.
+#[test]
+#[ignore = "needs COVRETIN_EXAMPLES"]
+fn serve() {
+    counted(|| {
+        let example = Example::new("serve", &["1"]);
+        let mut frontend = Frontend::connect(&example.path, 8).unwrap();
+        frontend.set_owner().unwrap();
+        let features = frontend.get_features().unwrap();
+        frontend.set_features(features).unwrap();
+        let wanted = VhostUserProtocolFeatures::INFLIGHT_SHMFD | VhostUserProtocolFeatures::CONFIGURE_MEM_SLOTS;
+        frontend.set_protocol_features(wanted).unwrap();
+        let Lingering { files, others } = Lingering::new(8);
+        // The example has the last descriptors.
+        example.send(libc::SIGSTOP);
+        let region = |at: u64| region_of(&files[at as usize], at * 0x1000, 0x1000);
+        frontend.set_mem_table(&[region(0), region(1)]).unwrap();
+        frontend.add_mem_region(&region(2)).unwrap();
+        frontend.set_inflight_fd(&VhostUserInflight::new(0x1000, 0, 1, 8), files[3].as_raw_fd()).unwrap();
+        for at in [4, 5] {
+            frontend.set_vring_kick(0, &files[at]).unwrap();
+        }
+        frontend.set_vring_call(1, &files[6]).unwrap();
+        frontend.set_vring_err(5, &files[7]).unwrap();
+        assert!(files.iter().all(lingers));
+        drop((files, frontend));
+        let (status, said) = at_once(|| {
+            example.send(libc::SIGCONT);
+            example.ended()
+        });
+        assert_eq!((Some(0), "session 1: 11 requests, end Disconnected\n"), (status, &*said));
+        drop(others);
     });
 }

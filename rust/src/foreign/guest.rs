@@ -330,6 +330,15 @@ impl<'a> VolatileSlice<'a> {
         count_of(unsafe { libc::preadv(file.as_raw_fd(), parts.as_ptr(), parts.len() as libc::c_int, offset) })
     }
 
+    /// The same of what the page cache has, by one `preadv2`: the file is not waited for. WouldBlock: it has nothing there; EOPNOTSUPP: the file
+    /// system cannot tell.
+    pub fn read_cached_at(slices: &[VolatileSlice<'_>], file: &impl AsRawFd, offset: u64) -> io::Result<usize> {
+        let (parts, offset) = (VolatileSlice::iovecs(slices), place_of(offset)?);
+        let (count, how) = (parts.len() as libc::c_int, libc::RWF_NOWAIT);
+        // SAFETY: as above.
+        count_of(unsafe { libc::preadv2(file.as_raw_fd(), parts.as_ptr(), count, offset, how) })
+    }
+
     /// Writes to a place in a file, by one `pwritev`: how many bytes. Errors are those of `read_at`.
     pub fn write_at(slices: &[VolatileSlice<'_>], file: &impl AsRawFd, offset: u64) -> io::Result<usize> {
         let (parts, offset) = (VolatileSlice::iovecs(slices), place_of(offset)?);
