@@ -38,7 +38,7 @@ endif
 
 GLUE := covretin_socket covretin_backend_socket covretin_channel_socket covretin_display_socket covretin_serving \
     covretin_transport covretin_text covretin_memory \
-    covretin_device covretin_device_calls covretin_device_channel covretin_device_memory covretin_device_rings
+    covretin_device covretin_device_calls covretin_device_channel covretin_device_inflight covretin_device_memory covretin_device_rings
 # (queues are a proved library of their own)
 OBJECTS := $(BUILD)/proved.o $(BUILD)/proved_queue.o $(GLUE:%=$(BUILD)/%.o)
 # Assembly is told the machine, and wants no debug information, which would name this folder.

@@ -4,7 +4,7 @@
  *     blk PATH IMAGE [RINGS [ro] [packed]]
  *
  * Listens at PATH and serves one frontend after another until SIGTERM or SIGINT; a second one at a time is hung up on. IMAGE is a raw file,
- * which may grow meanwhile. RINGS is 1 to 8, or else 1; ro: nothing is written; packed: packed rings are offered, too, and no inflight region.
+ * which may grow meanwhile. RINGS is 1 to 8, or else 1; ro: nothing is written; packed: packed rings are offered, too.
  * Prints a line for each frontend that went or was refused, and for each ring whose requests are done again, which another disk left.
  * Status 0; 1 after wrong arguments; 2 where something failed.
  *

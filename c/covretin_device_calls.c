@@ -30,7 +30,7 @@ static uint64_t protocol_features_of(const struct covretin_device_calls *calls)
 {
     return calls->protocol_features | COVRETIN_PROTOCOL_MQ | COVRETIN_PROTOCOL_LOG_SHMFD | COVRETIN_PROTOCOL_REPLY_ACK |
            COVRETIN_PROTOCOL_PAGEFAULT | COVRETIN_PROTOCOL_RESET_DEVICE | COVRETIN_PROTOCOL_CONFIGURE_MEM_SLOTS |
-           (calls->features & COVRETIN_DEVICE_RING_PACKED ? 0 : COVRETIN_PROTOCOL_INFLIGHT_SHMFD) |
+           COVRETIN_PROTOCOL_INFLIGHT_SHMFD |
            (calls->read_config != NULL ? COVRETIN_PROTOCOL_CONFIG : 0) |
            (calls->channel != NULL || calls->config_changed != NULL ? COVRETIN_PROTOCOL_BACKEND_REQ : 0);
 }
@@ -372,10 +372,16 @@ static bool take_bell(struct session *session, struct bell *bell, int32_t fd)
     return true;
 }
 
+/* How many bytes of the inflight region a ring has, where all of them have this size. */
+static uint64_t area_size(const struct session *session, uint16_t size)
+{
+    return inflight_size((session->features & COVRETIN_DEVICE_RING_PACKED) != 0, size);
+}
+
 /* Its part of the inflight region, or NULL where it has none. */
 static uint8_t *inflight_of(const struct session *session, uint32_t index)
 {
-    uint64_t size = inflight_size(session->inflight_queue_size);
+    uint64_t size = area_size(session, session->inflight_queue_size);
     if (session->inflight == NULL || session->rings[index].size > session->inflight_queue_size ||
         index >= session->inflight->size / size)
         return NULL;
@@ -426,7 +432,7 @@ static enum covretin_error set_vring_err(struct session *session)
 /* Maps the region for as many rings of a size as it says. Not while a ring runs: it writes to its part of the one that is mapped. */
 static bool map_inflight(struct session *session, const covretin_inflight *told, int fd)
 {
-    uint64_t size = told->num_queues * inflight_size(told->queue_size);
+    uint64_t size = told->num_queues * area_size(session, told->queue_size);
     struct mapping *mapping;
     for (uint32_t i = 0; i < session->calls->queues; i++)
         if (session->rings[i].is_started)
@@ -457,7 +463,7 @@ static enum covretin_error get_inflight_fd(struct session *session)
     int32_t none;
     if (covretin_call_inflight(&session->frontend.backend, &told, &none))
         return reply(session, false);
-    told.mmap_size = told.num_queues * inflight_size(told.queue_size);
+    told.mmap_size = told.num_queues * area_size(session, told.queue_size);
     told.mmap_offset = 0;
     close_inflight_fd(session);
     session->inflight_fd = memfd_create("inflight", MFD_CLOEXEC);

@@ -54,80 +54,6 @@ static void log_ring(const struct session *session, const struct ring *ring, cov
         log_bytes(session, ring->place.log_addr + (range.addr - ring->used), range.len);
 }
 
-/* -- The inflight region -- */
-
-enum { INFLIGHT_HEAD = 16, VERSION_AT = 8, SIZE_AT = 10, LAST_AT = 12, USED_AT = 14 };
-
-uint64_t inflight_size(uint16_t size)
-{
-    return (INFLIGHT_HEAD + (uint64_t)size * 16 + 63) / 64 * 64;
-}
-
-static uint16_t noted16(const struct ring *ring, size_t at)
-{
-    return read16((uint64_t)(uintptr_t)(ring->inflight + at));
-}
-
-static void note16(const struct ring *ring, size_t at, uint16_t value)
-{
-    __atomic_store_n((uint16_t *)(void *)(ring->inflight + at), value, __ATOMIC_RELEASE);
-}
-
-/* Two writes, the second after the first. */
-static void note(const struct ring *ring, const covretin_inflight_write *first, const covretin_inflight_write *second)
-{
-    write_bytes((uint64_t)(uintptr_t)(ring->inflight + first->offset), first->value, first->len);
-    atomic_thread_fence(memory_order_release);
-    write_bytes((uint64_t)(uintptr_t)(ring->inflight + second->offset), second->value, second->len);
-    atomic_thread_fence(memory_order_release);
-}
-
-/* The entries of the area, as they are now. */
-static void read_entries(const struct ring *ring, covretin_inflight_entry *entries)
-{
-    for (size_t i = 0; i < ring->size; i++) {
-        const uint8_t *at = ring->inflight + INFLIGHT_HEAD + i * 16;
-        entries[i].inflight = __atomic_load_n(at, __ATOMIC_RELAXED) != 0;
-        memcpy(&entries[i].next, at + 6, sizeof entries[i].next);
-        memcpy(&entries[i].counter, at + 8, sizeof entries[i].counter);
-    }
-}
-
-/* What is to be taken again, by the entries; and those that were given back are cleared. */
-static bool settle(struct ring *ring, const covretin_inflight_entry *entries, bool *settled, uint16_t used)
-{
-    if (covretin_inflight_recover(entries, ring->size, noted16(ring, LAST_AT), noted16(ring, USED_AT), used, settled, ring->size,
-                                  ring->again, ring->size, &ring->again_count))
-        return false;
-    for (size_t i = 0; i < ring->size; i++)
-        if (settled[i])
-            ring->inflight[INFLIGHT_HEAD + i * 16] = 0;
-    note16(ring, USED_AT, used);
-    return true;
-}
-
-/* Finds what the device before took and did not give back. An area of zeros is a new one. False: it is not this ring's. */
-static bool recover(struct ring *ring, uint16_t used)
-{
-    covretin_inflight_entry *entries = calloc(ring->size, sizeof *entries);
-    bool *settled = calloc(ring->size, sizeof *settled);
-    bool is_found = false;
-    ring->again = calloc(ring->size, sizeof *ring->again);
-    if (entries != NULL && settled != NULL && ring->again != NULL) {
-        if (noted16(ring, VERSION_AT) == 0) {
-            note16(ring, SIZE_AT, ring->size);
-            note16(ring, USED_AT, used);
-            note16(ring, VERSION_AT, 1);
-        }
-        read_entries(ring, entries);
-        is_found = settle(ring, entries, settled, used);
-    }
-    ring->counter = is_found && ring->again_count != 0 ? ring->again[ring->again_count - 1].counter + 1 : 0;
-    free(entries);
-    free(settled);
-    return is_found;
-}
-
 /* -- Their life -- */
 
 bool ring_is_running(const struct session *session, const struct ring *ring)
@@ -160,7 +86,7 @@ static bool start_split(struct session *session, struct ring *ring)
         return false;
     at.next_used = read16(index);
     if (ring->inflight != NULL) {
-        if (!recover(ring, at.next_used))
+        if (!inflight_recover_split(ring, at.next_used))
             return false;
         at.next_avail = (uint16_t)(at.next_used + ring->again_count);
     }
@@ -178,6 +104,11 @@ static bool start_packed(struct session *session, struct ring *ring)
                                .used = (uint16_t)(base >> 16),
                                .event_idx = (session->features & COVRETIN_DEVICE_EVENT_IDX) != 0,
                                .indirect_desc = (session->features & COVRETIN_DEVICE_INDIRECT_DESC) != 0};
+    if (ring->inflight != NULL) {
+        if (!inflight_recover_packed(ring, at.used))
+            return false;
+        at.avail = at.used = ring->used_place; /* what is taken again lies between */
+    }
     return covretin_queue_start_packed(&ring->queue, &at) == COVRETIN_QUEUE_OK;
 }
 
@@ -192,7 +123,9 @@ static void use_space(struct session *session, struct ring *ring)
 static void forget_again(struct ring *ring)
 {
     free(ring->again);
+    free(ring->next);
     ring->again = NULL;
+    ring->next = NULL;
     ring->again_at = ring->again_count = 0;
 }
 
@@ -211,14 +144,17 @@ bool ring_start(struct session *session, struct ring *ring)
     return true;
 }
 
-/* (a packed queue has no such call: it stays where it is mapped, which stays mapped for it) */
 void ring_move(struct session *session, struct ring *ring)
 {
     const covretin_vring *to = &ring->place;
-    if (!ring->is_started || ring->is_packed)
+    if (!ring->is_started)
         return;
-    ring->is_away = covretin_queue_move_split(&ring->queue, to->desc_table_addr, to->avail_ring_addr, to->used_ring_addr) ||
-                    find_used(ring) == 0;
+    if (ring->is_packed) {
+        ring->is_away = covretin_queue_move_packed(&ring->queue, to->desc_table_addr, to->avail_ring_addr, to->used_ring_addr) != 0;
+        ring->available = 0; /* (the chain that was found is none any more) */
+    } else
+        ring->is_away = covretin_queue_move_split(&ring->queue, to->desc_table_addr, to->avail_ring_addr, to->used_ring_addr) ||
+                        find_used(ring) == 0;
     if (!ring->is_away)
         use_space(session, ring);
     ring->is_due = true;
@@ -263,8 +199,18 @@ static enum covretin_queue_error look(struct ring *ring)
     return error ? error : covretin_queue_available(&ring->queue, read16(place.addr), &ring->available);
 }
 
+/* The next descriptor of the chain, which is at this place. A packed ring's is kept in the inflight region, or was before a crash. */
+static enum covretin_queue_error read_descriptor(struct ring *ring, covretin_range place, bool is_kept, bool again,
+                                                 covretin_descriptor *descriptor)
+{
+    if (is_kept && again)
+        return inflight_kept(ring, descriptor) ? COVRETIN_QUEUE_OK : COVRETIN_QUEUE_INVALID_INFLIGHT;
+    memcpy(descriptor, (const void *)(uintptr_t)place.addr, sizeof *descriptor);
+    return !is_kept || inflight_keep(ring, descriptor) ? COVRETIN_QUEUE_OK : COVRETIN_QUEUE_TOO_MANY_AVAILABLE;
+}
+
 /* Reads the descriptors of the chain that is followed, to its end. */
-static enum covretin_queue_error follow(struct session *session, struct ring *ring, uint16_t *id)
+static enum covretin_queue_error follow(struct session *session, struct ring *ring, uint16_t *id, bool again)
 {
     bool is_indirect = false;
     session->segment_count = 0;
@@ -277,7 +223,9 @@ static enum covretin_queue_error follow(struct session *session, struct ring *ri
             return error;
         if (session->segment_count == COVRETIN_DEVICE_MAX_QUEUE_SIZE)
             return COVRETIN_QUEUE_CHAIN_TOO_LONG;
-        memcpy(&descriptor, (const void *)(uintptr_t)place.addr, sizeof descriptor);
+        error = read_descriptor(ring, place, ring->is_packed && ring->inflight != NULL && !is_indirect, again, &descriptor);
+        if (error)
+            return error;
         error = covretin_queue_step(&ring->queue, &descriptor, &session->segments[session->segment_count], &found);
         if (error)
             return error;
@@ -290,18 +238,25 @@ static enum covretin_queue_error follow(struct session *session, struct ring *ri
 
 static enum covretin_queue_error take_head(struct ring *ring, uint16_t *id)
 {
-    covretin_inflight_write first, second;
     covretin_range place;
     enum covretin_queue_error error = covretin_queue_head_place(&ring->queue, &place);
     if (error)
         return error;
     *id = read16(place.addr);
     error = covretin_queue_pop(&ring->queue, *id);
-    if (error || ring->inflight == NULL)
-        return error;
-    covretin_inflight_take(*id, ring->counter++, &first, &second);
-    note(ring, &first, &second);
-    return COVRETIN_QUEUE_OK;
+    if (!error && ring->inflight != NULL)
+        inflight_take_head(ring, *id);
+    return error;
+}
+
+/* A request that the device before had. */
+static enum covretin_queue_error take_again(struct session *session, struct ring *ring, uint16_t *id)
+{
+    enum covretin_queue_error error;
+    *id = ring->again[ring->again_at++].head;
+    ring->kept = (struct kept){.head = *id, .behind = *id};
+    error = ring->is_packed ? covretin_queue_resubmit_packed(&ring->queue) : covretin_queue_resubmit(&ring->queue, *id);
+    return error ? error : follow(session, ring, id, true);
 }
 
 /* The next request, whose segments are the session's then. NOTHING_AVAILABLE: there is none. */
@@ -309,19 +264,21 @@ static enum covretin_queue_error take(struct session *session, struct ring *ring
 {
     enum covretin_queue_error error = COVRETIN_QUEUE_OK;
     *again = ring->again_at < ring->again_count;
-    if (*again) {
-        *id = ring->again[ring->again_at++].head;
-        error = covretin_queue_resubmit(&ring->queue, *id);
-        return error ? error : follow(session, ring, id);
-    }
+    if (*again)
+        return take_again(session, ring, id);
     if (ring->available == 0)
         error = look(ring);
     if (error || ring->available == 0)
         return error ? error : COVRETIN_QUEUE_NOTHING_AVAILABLE;
     ring->available--;
+    ring->kept = (struct kept){.head = ring->free_head, .behind = ring->free_head};
     if (!ring->is_packed)
         error = take_head(ring, id);
-    return error ? error : follow(session, ring, id);
+    if (!error)
+        error = follow(session, ring, id, false);
+    if (!error && ring->is_packed && ring->inflight != NULL)
+        inflight_take_kept(ring);
+    return error;
 }
 
 /* Has the driver tell of more. Whether there is more already. */
@@ -346,8 +303,8 @@ static struct taken *taken_new(struct session *session, struct ring *ring, uint1
     struct taken *taken = malloc(parts_at + count * sizeof(struct part));
     if (taken == NULL)
         return NULL;
-    /* (of the regions as they are now, which a packed ring that began before need not lie in) */
-    *taken = (struct taken){.session = session, .space = session->space, .id = id};
+    /* (of the regions as they are now, which a ring that was not found anew need not lie in) */
+    *taken = (struct taken){.session = session, .space = session->space, .id = id, .kept = ring->kept};
     taken->request = (covretin_request){.segments = taken->segments, .queue = (uint32_t)(ring - session->rings), .again = again};
     taken->parts = (struct part *)(void *)((uint8_t *)taken + parts_at);
     for (size_t i = 0; i < count; i++) {
@@ -491,22 +448,17 @@ static void tell(struct session *session, struct ring *ring)
 
 void ring_give(struct session *session, struct ring *ring, const struct taken *taken, uint32_t written)
 {
-    covretin_inflight_write first, second;
     covretin_used used;
     if (covretin_queue_add_used(&ring->queue, taken->id, written, &used))
         return;
     for (size_t i = 0; i < taken->part_count; i++)
         log_bytes(session, taken->parts[i].guest, taken->parts[i].size);
     write_bytes(used.elem.addr, used.elem_value, used.elem.len);
-    if (ring->inflight != NULL) {
-        covretin_inflight_before_used(taken->id, noted16(ring, LAST_AT), &first, &second);
-        note(ring, &first, &second);
-    }
+    if (ring->inflight != NULL)
+        inflight_before_used(ring, taken);
     __atomic_store_n((uint16_t *)(uintptr_t)used.then.addr, used.then_value, __ATOMIC_RELEASE);
-    if (ring->inflight != NULL) {
-        covretin_inflight_after_used(taken->id, used.then_value, &first, &second);
-        note(ring, &first, &second);
-    }
+    if (ring->inflight != NULL)
+        inflight_after_used(ring, taken, used.then_value);
     log_ring(session, ring, used.elem);
     log_ring(session, ring, used.then);
     tell(session, ring);

@@ -20,6 +20,11 @@ struct bell {
     bool is_pipe;
 };
 
+/* Entries of a packed ring's area of the inflight region that a request has, by their links, and the free list behind them. */
+struct kept {
+    uint16_t head, last, num, behind;
+};
+
 struct ring {
     covretin_queue queue;
     covretin_vring place;
@@ -41,6 +46,10 @@ struct ring {
     uint64_t counter;    /* of what was taken */
     covretin_resubmit *again;
     size_t again_at, again_count; /* those that are still to be taken again */
+    uint16_t *next;               /* the links of a packed ring's entries, as the inflight region has them, */
+    uint16_t free_head;           /* where their free list begins, */
+    uint16_t used_place;          /* and the place that is used next, as in a base */
+    struct kept kept;             /* of the chain that is followed */
 };
 
 /* A request that the device has. */
@@ -49,6 +58,7 @@ struct taken {
     struct session *session;
     struct space *space;
     uint16_t id;
+    struct kept kept;
     size_t part_count;
     struct part {
         uint64_t guest, size;
@@ -95,9 +105,6 @@ struct session {
     size_t segment_count;
 };
 
-/* How many bytes of the inflight region a ring of this size has. */
-uint64_t inflight_size(uint16_t size);
-
 /* Whether requests are taken from it. */
 bool ring_is_running(const struct session *session, const struct ring *ring);
 
@@ -127,6 +134,30 @@ void ring_give(struct session *session, struct ring *ring, const struct taken *t
 
 /* Signals a bell, without waiting. */
 void ring_signal(struct session *session, const struct bell *bell);
+
+/* -- The inflight region -- */
+
+/* How many bytes of it a ring of this size has. */
+uint64_t inflight_size(bool is_packed, uint16_t size);
+
+/* Finds what the device before took and did not give back. An area of zeros is a new one, of a ring whose used ring has this index, or that
+ * begins at this place. False: it is not this ring's. */
+bool inflight_recover_split(struct ring *ring, uint16_t used);
+bool inflight_recover_packed(struct ring *ring, uint16_t used);
+
+/* A split ring's head was taken. */
+void inflight_take_head(struct ring *ring, uint16_t head);
+
+/* A descriptor of a packed ring is kept, for the chain that is followed. False: there is no free entry. And all were: the request is taken. */
+bool inflight_keep(struct ring *ring, const covretin_descriptor *descriptor);
+void inflight_take_kept(struct ring *ring);
+
+/* The next one that was kept, of a request that is taken again. False: there is none. */
+bool inflight_kept(struct ring *ring, covretin_descriptor *descriptor);
+
+/* Before the driver is told that a request was used, by a new index of the used ring or by flags, and after that. */
+void inflight_before_used(struct ring *ring, const struct taken *taken);
+void inflight_after_used(struct ring *ring, const struct taken *taken, uint16_t told);
 
 /* -- The backend channel -- */
 

@@ -179,6 +179,13 @@ typedef struct covretin_inflight_entry {
     uint64_t counter;
 } covretin_inflight_entry;
 
+/* A state of a packed queue's area of the inflight region: where its free list begins, and the place that is used next. */
+typedef struct covretin_packed_inflight_head {
+    uint16_t free_head;
+    uint16_t used_idx;
+    bool used_wrap_counter;
+} covretin_packed_inflight_head;
+
 /* A head that is to be taken again. */
 typedef struct covretin_resubmit {
     uint64_t counter;
@@ -221,10 +228,13 @@ enum covretin_queue_error covretin_queue_translate(covretin_queue *queue, bool u
 enum covretin_queue_error covretin_queue_start_split(covretin_queue *queue, const covretin_split_ring *ring);
 enum covretin_queue_error covretin_queue_start_packed(covretin_queue *queue, const covretin_packed_ring *ring);
 
-/* The rings of a split queue lie elsewhere for the frontend, or are mapped elsewhere, since regions are. What the device has stays
- * the device's; the chain that is followed is none any more. NOT_IN_GUEST, UNALIGNED, NOT_STARTED, OTHER_LAYOUT. */
+/* The rings of a split or of a packed queue lie elsewhere for the frontend, or are mapped elsewhere, since regions are. What the device has
+ * stays the device's; the chain that is followed is none any more: what is available in a packed queue is to be read again. NOT_IN_GUEST,
+ * UNALIGNED, NOT_STARTED, OTHER_LAYOUT. */
 enum covretin_queue_error covretin_queue_move_split(covretin_queue *queue, uint64_t desc_table, uint64_t avail_ring,
                                                     uint64_t used_ring);
+enum covretin_queue_error covretin_queue_move_packed(covretin_queue *queue, uint64_t desc_ring, uint64_t driver_event,
+                                                     uint64_t device_event);
 
 /* The queue has no rings any more. */
 enum covretin_queue_error covretin_queue_stop(covretin_queue *queue);
@@ -250,6 +260,10 @@ enum covretin_queue_error covretin_queue_pop(covretin_queue *queue, uint16_t hea
 
 /* A split queue's head was the device's before a crash, and its chain is followed again. Errors are those of covretin_queue_pop. */
 enum covretin_queue_error covretin_queue_resubmit(covretin_queue *queue, uint16_t head);
+
+/* A chain was a packed queue's before a crash, and is followed again: until it has left the ring, its descriptors are those that the inflight
+ * region has, and none is read at its place. OTHER_LAYOUT, NEEDS_RESET. */
+enum covretin_queue_error covretin_queue_resubmit_packed(covretin_queue *queue);
 
 /* The descriptor that is to be read next, 16 bytes, if the chain that is followed goes on; and that it was read as this: its
  * segment, or none where it names an indirect table, in which the chain goes on. CHAIN_ENDED, NEEDS_RESET; NOT_IN_GUEST to
@@ -286,6 +300,33 @@ void covretin_inflight_after_used(uint16_t head, uint16_t idx, covretin_inflight
 enum covretin_queue_error covretin_inflight_recover(const covretin_inflight_entry *entries, size_t entries_len,
                                                     uint16_t last_batch_head, uint16_t used_idx, uint16_t ring_idx, bool *settled,
                                                     size_t settled_len, covretin_resubmit *again, size_t again_len, size_t *count);
+
+/* -- The inflight region of a packed queue ----------------------------------------------------------------------------
+ * A queue's area has 32 bytes, and 32 for each descriptor: an entry. Each write is at a multiple of its length, and is one access.
+ *
+ * A new area has the entries linked, each with the next; all are free, from 0 on. A request takes as many as it has descriptors in the
+ * ring, from free_head on by their links: each keeps a descriptor as it is read; and once all are, four writes, in this order, with a
+ * counter that goes on by one each time, and the free list behind them. */
+void covretin_inflight_keep_packed(uint16_t index, const covretin_descriptor *descriptor, covretin_inflight_write *first,
+                                   covretin_inflight_write *second);
+void covretin_inflight_take_packed(uint16_t head, uint16_t last, uint16_t num, uint64_t counter, uint16_t free_head,
+                                   covretin_inflight_write writes[4]);
+
+/* Three writes, in this order: before the flags of what was used are written, where the place that is used next went from old_used to used
+ * (the upper 16 bits of the base), and the free list begins at free_head; and after they were. The list begins at head then. */
+void covretin_inflight_before_used_packed(uint16_t head, uint16_t last, uint16_t free_head, uint16_t used, uint16_t old_used,
+                                          covretin_inflight_write writes[3]);
+void covretin_inflight_after_used_packed(uint16_t head, uint16_t used, covretin_inflight_write writes[3]);
+
+/* What a crash left, by the entries of a queue, the state of its area now and the old one, and the flags of the ring's descriptor at
+ * old->used_idx: which state holds, which entries are free and are to be cleared (free_len is entries_len), and which *count requests are to
+ * be taken again, in order, by their first entry. The queue goes on at used_idx in both respects: what is taken again advances it.
+ * INVALID_INFLIGHT, NO_ROOM, OUT_OF_MEMORY. */
+enum covretin_queue_error covretin_inflight_recover_packed(const covretin_inflight_entry *entries, size_t entries_len,
+                                                           const covretin_packed_inflight_head *now,
+                                                           const covretin_packed_inflight_head *old, uint16_t flags,
+                                                           covretin_packed_inflight_head *head, bool *free, size_t free_len,
+                                                           covretin_resubmit *again, size_t again_len, size_t *count);
 
 /* -- The dirty log ---------------------------------------------------------------------------------------------------
  * The pages of a range of guest addresses that a log of so many bytes has bits for, from *first up to *end, which is none of them.

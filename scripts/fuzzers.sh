@@ -15,7 +15,7 @@ fuzzer_sources() {
     channel_asking) names='run channel_asking channel_asks' ;;
     channel_serving) names='run channel_serving channel_serves' ;;
     channel_joined) names='run channel_joined channel_asks channel_serves' ;;
-    queue) names='run queue queue_calls queue_crash queue_guest queue_model' ;;
+    queue) names='run queue queue_calls queue_crash queue_crash_packed queue_guest queue_model' ;;
     sockets)
         names='sockets asks serves'
         for glue in socket backend_socket channel_socket display_socket serving transport text; do echo "$top/c/covretin_$glue.c"; done

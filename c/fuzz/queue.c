@@ -43,9 +43,13 @@ static void change_regions(void)
 
 static void move(void)
 {
+    enum layout layout = next_byte() % 8 == 0 ? SPLIT + PACKED - model.layout : model.layout;
     uint64_t parts[3];
-    next_parts(SPLIT, model.size, parts);
-    DOES(MOVE, covretin_queue_move_split(&queue, parts[0], parts[1], parts[2]), model_move(parts));
+    next_parts(layout == PACKED ? PACKED : SPLIT, model.size, parts);
+    if (layout == PACKED)
+        DOES(MOVE, covretin_queue_move_packed(&queue, parts[0], parts[1], parts[2]), model_move(PACKED, parts));
+    else
+        DOES(MOVE, covretin_queue_move_split(&queue, parts[0], parts[1], parts[2]), model_move(SPLIT, parts));
 }
 
 /* How many chains are available. */
@@ -72,7 +76,9 @@ static void pop(void)
 static void resubmit(void)
 {
     uint16_t head = next_head();
-    if (DOES(RESUBMIT, covretin_queue_resubmit(&queue, head), model_take(head, true)))
+    if (head % 2 == 0 && model.layout != SPLIT)
+        DOES(RESUBMIT, covretin_queue_resubmit_packed(&queue), model_take_packed());
+    else if (DOES(RESUBMIT, covretin_queue_resubmit(&queue, head), model_take(head, true)))
         held[held_count++] = head;
 }
 
@@ -164,8 +170,8 @@ static void any_step(void)
     case 0: next_start(&it), start(&it); break;
     case 1: case 2: change_regions(); break;
     case 3: which < 128 ? move() : stop(next_byte()); break;
-    case 4: which < 128 ? recover_any() : log_range(); break;
-    case 5: which < 64 ? crash() : resubmit(); break;
+    case 4: which < 64 ? recover_any() : which < 128 ? recover_packed_any() : log_range(); break;
+    case 5: which < 32 ? crash_packed() : which < 64 ? crash() : resubmit(); break;
     case 6: case 7: case 8: case 9: case 10: look(); break;
     case 11: case 12: case 13: case 14: case 15: which < 16 || model.layout == SPLIT ? pop() : look(), follow(); break;
     case 16: case 17: case 18: step(); break;

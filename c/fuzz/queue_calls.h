@@ -46,7 +46,27 @@ bool has_starved(void);
         ends(what, reasons);                                                                                                               \
     }))
 
-enum { OPEN, SET, ADD, REMOVE, TRANSLATE, START, MOVE, STOP, LOOKED, POP, RESUBMIT, STEP, GIVE, TELL_OF, RECOVER, LOG, INDIRECT_STEP, CUT };
+enum {
+    OPEN,
+    SET,
+    ADD,
+    REMOVE,
+    TRANSLATE,
+    START,
+    MOVE,
+    STOP,
+    LOOKED,
+    POP,
+    RESUBMIT,
+    STEP,
+    GIVE,
+    TELL_OF,
+    RECOVER,
+    LOG,
+    INDIRECT_STEP,
+    CUT,
+    RECOVER_PACKED
+};
 
 /* Whether it ended without a reason to be refused, and did something. */
 bool ends(uint32_t what, uint64_t reasons);
@@ -62,5 +82,12 @@ void give(size_t which, uint16_t id, uint32_t len);
 void recover_any(void);
 void log_range(void);
 void crash(void);
+
+/* The same of a packed queue. */
+void recover_packed_any(void);
+void crash_packed(void);
+
+/* Whether what is taken again are the heads that are in flight and not settled, each once, in the order of their counters. */
+bool are_taken_again(const covretin_inflight_entry *entries, const bool *settled, size_t size, const covretin_resubmit *again, size_t count);
 
 #endif

@@ -4,9 +4,8 @@
 
 /* -- What needs no queue -- */
 
-/* Whether the heads that are taken again are those that are in flight, each once, in the order of their counters. */
-static bool are_taken_again(const covretin_inflight_entry *entries, const bool *settled, size_t size, const covretin_resubmit *again,
-                            size_t count)
+bool are_taken_again(const covretin_inflight_entry *entries, const bool *settled, size_t size, const covretin_resubmit *again,
+                     size_t count)
 {
     static bool is_again[MOST_SIZE];
     bool holds = true;

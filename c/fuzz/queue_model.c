@@ -185,11 +185,13 @@ static uint64_t not_split(void)
     return no_rings() | WHY(OTHER_LAYOUT, model.layout == PACKED);
 }
 
-uint64_t model_move(const uint64_t parts[3])
+uint64_t model_move(enum layout layout, const uint64_t parts[3])
 {
-    uint64_t mapped[3], reasons = not_split();
+    uint64_t mapped[3], reasons = no_rings();
     if (reasons == 0)
-        reasons = map(SPLIT, model.size, parts, mapped);
+        reasons = WHY(OTHER_LAYOUT, model.layout != layout);
+    if (reasons == 0)
+        reasons = map(layout, model.size, parts, mapped);
     if (reasons != 0)
         return reasons;
     memcpy(model.parts, mapped, sizeof mapped);
@@ -331,6 +333,17 @@ uint64_t model_take(uint16_t head, bool is_again)
     return 0;
 }
 
+/* A chain is taken again, at the place that is available next. */
+uint64_t model_take_packed(void)
+{
+    uint64_t reasons = no_rings();
+    if (reasons == 0)
+        reasons = model.layout == SPLIT ? REASON(COVRETIN_QUEUE_OTHER_LAYOUT) : WHY(NEEDS_RESET, model.needs_reset);
+    if (reasons == 0)
+        begin(model.avail % model.size);
+    return reasons;
+}
+
 /* A descriptor as it is followed: what its flags are, and which comes behind it. */
 struct link {
     uint16_t flags;
@@ -469,6 +482,15 @@ uint64_t model_settled(const covretin_inflight_entry *entries, size_t count, uin
         last = entries[last].next;
     }
     return 0;
+}
+
+uint64_t model_free(const covretin_inflight_entry *entries, size_t count, const covretin_packed_inflight_head *head, bool *is_free)
+{
+    uint16_t at = head->free_head;
+    memset(is_free, 0, count);
+    for (; at < count && !is_free[at]; at = entries[at].next)
+        is_free[at] = true;
+    return WHY(INVALID_INFLIGHT, count > MOST_SIZE || head->used_idx >= count || at < count);
 }
 
 bool model_is_dirty(uint64_t addr, uint64_t len, uint64_t log_size, uint64_t page)

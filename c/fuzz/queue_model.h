@@ -58,7 +58,7 @@ uint64_t model_remove_region(uint64_t guest_addr, uint64_t size, uint64_t user_a
 uint64_t model_translate(bool user, uint64_t addr, uint64_t len, covretin_range *range);
 
 uint64_t model_start(const struct start *start);
-uint64_t model_move(const uint64_t parts[3]);
+uint64_t model_move(enum layout layout, const uint64_t parts[3]);
 uint64_t model_stop(void);
 uint64_t model_base(uint32_t *base);
 
@@ -70,6 +70,7 @@ uint64_t model_set_notification(bool enable, covretin_event_write *write);
 
 uint64_t model_available(uint16_t value, uint16_t *count);
 uint64_t model_take(uint16_t head, bool is_again);
+uint64_t model_take_packed(void);
 uint64_t model_step(const covretin_descriptor *descriptor, covretin_segment *segment, bool *found);
 uint64_t model_add_used(uint16_t id, uint32_t len, covretin_used *used);
 uint64_t model_needs_notification(uint16_t value, uint16_t flags, bool *needed);
@@ -77,6 +78,9 @@ uint64_t model_needs_notification(uint16_t value, uint16_t flags, bool *needed);
 /* What the inflight region says: which entries are of the last batch, and whether a head is to be taken again then. */
 uint64_t model_settled(const covretin_inflight_entry *entries, size_t count, uint16_t last, uint16_t used_idx, uint16_t ring_idx,
                        bool *settled);
+
+/* The same of a packed queue: which entries are free, in this state. */
+uint64_t model_free(const covretin_inflight_entry *entries, size_t count, const covretin_packed_inflight_head *head, bool *is_free);
 
 /* Whether the dirty log, of so many bytes, has a bit of this page, and the range a byte of it. */
 bool model_is_dirty(uint64_t addr, uint64_t len, uint64_t log_size, uint64_t page);

@@ -175,9 +175,6 @@ static const covretin_device_calls calls = {.features = COVRETIN_DEVICE_RING_PAC
                                             .turned_away = on_turned_away,
                                             .ended = on_ended};
 
-/* The same without packed rings, so that there is an inflight region. */
-static covretin_device_calls split_calls;
-
 static size_t count_of(const size_t *count)
 {
     size_t value;
@@ -1063,7 +1060,7 @@ static void goes_on_by_the_inflight_region(void)
 {
     covretin_inflight region = {.num_queues = 1, .queue_size = QUEUE_SIZE};
     int32_t fd;
-    begin(&split_calls);
+    begin(&calls);
     negotiate(0);
     make_memory();
     give_memory();
@@ -1089,7 +1086,7 @@ static void goes_on_by_the_inflight_region(void)
     end_as(COVRETIN_STOPPED);
     EXPECT(1, *word_at(&queue, 2, 2));
 
-    begin(&split_calls);
+    begin(&calls);
     negotiate(0);
     give_memory();
     DONE(covretin_ask_set_inflight_fd(&vmm.session, &region, fd));
@@ -1108,6 +1105,135 @@ static void goes_on_by_the_inflight_region(void)
     EXPECT(4, number(covretin_ask_get_vring_base(&vmm.session, 0)));
     end();
     close(fd);
+    free_queue(&queue);
+    free_memory();
+}
+
+/* A packed ring of eight, in its first round. */
+static void start_packed(const struct queue *queue)
+{
+    covretin_vring place = place_of(queue, 0);
+    DONE(covretin_ask_set_vring_num(&vmm.session, queue->index, 8));
+    DONE(covretin_ask_set_vring_addr(&vmm.session, queue->index, &place));
+    DONE(covretin_ask_set_vring_call(&vmm.session, queue->index, queue->call));
+    DONE(covretin_ask_set_vring_kick(&vmm.session, queue->index, queue->kick));
+    DONE(covretin_ask_set_vring_enable(&vmm.session, queue->index, true));
+}
+
+/* A request of two descriptors from a place on: a text, and room for it. */
+static void post_packed(const struct queue *queue, uint16_t at, uint16_t id)
+{
+    uint64_t buffer = BUFFERS + at * 0x100u;
+    memcpy(memory + buffer, "packed", 6);
+    memset(memory + buffer + 0x80, 0, 0x80);
+    put(queue, at + 1u, GUEST + buffer + 0x80, 64, id, 0x80 | WRITE);
+    put(queue, at, GUEST + buffer, 6, id, 0);
+    __atomic_store_n(word_at(queue, 0, at * 16u + 14), (uint16_t)(0x80 | NEXT), __ATOMIC_SEQ_CST);
+    if (eventfd_write(queue->kick, 1))
+        give_up("kick");
+}
+
+/* This id was used at this place, whose request began at another. */
+static void expect_packed(const struct queue *queue, uint16_t at, uint16_t id, uint16_t from)
+{
+    const uint16_t *flags = word_at(queue, 0, at * 16u + 14);
+    for (int i = 0; i < LIMIT && (__atomic_load_n(flags, __ATOMIC_ACQUIRE) & 0x8080) != 0x8080; i++)
+        usleep(1000);
+    EXPECT(0x8080, __atomic_load_n(flags, __ATOMIC_ACQUIRE) & 0x8080);
+    EXPECT(id, *word_at(queue, 0, at * 16u + 12));
+    EXPECT(6, *word_at(queue, 0, at * 16u + 8));
+    EXPECT(0, memcmp(memory + BUFFERS + from * 0x100u + 0x80, "PACKED", 6));
+}
+
+/* The same of a packed ring, in which the request that was used first has overwritten a descriptor of one that is under way. Then a device
+ * ends before it told of what it used, in the middle of the region's writes. */
+static void goes_on_in_a_packed_ring(void)
+{
+    covretin_inflight region = {.num_queues = 1, .queue_size = 8};
+    int32_t fd;
+    begin(&calls);
+    negotiate(COVRETIN_DEVICE_RING_PACKED);
+    make_memory();
+    give_memory();
+    struct queue queue = make_queue(0);
+    DONE(covretin_ask_get_inflight_fd(&vmm.session, &region));
+    EXPECT(COVRETIN_OK, covretin_answer_inflight(&vmm.session, &region, &fd));
+    EXPECT(COVRETIN_OK, covretin_claim_fd(&vmm, &fd));
+    EXPECT(320, region.mmap_size); /* 32 bytes, and 32 for each descriptor, up to a multiple of 64 */
+    DONE(covretin_ask_set_inflight_fd(&vmm.session, &region, fd));
+    start_packed(&queue);
+    its.keeps = true;
+    for (uint16_t at = 0; at < 6; at += 2)
+        post_packed(&queue, at, (uint16_t)(7 - at / 2));
+    wait_for(&its.kept_count, 3);
+    answer(its.kept[1]);
+    expect_packed(&queue, 0, 6, 2);
+    covretin_device_stop(&device);
+    usleep(50000);
+    answer(its.kept[0]);
+    answer(its.kept[2]);
+    end_as(COVRETIN_STOPPED);
+    EXPECT(0x80, *word_at(&queue, 0, 2 * 16 + 14) & 0x8080);
+
+    uint8_t *area = mmap(NULL, 320, PROT_READ | PROT_WRITE, MAP_SHARED, fd, 0);
+    EXPECT(1, area[8]);
+    EXPECT(2, area[16]);            /* used_idx */
+    EXPECT(1, area[32]);            /* the first and the third request are in flight */
+    EXPECT(0, area[32 + 2 * 32]);
+    EXPECT(1, area[32 + 4 * 32]);
+    area[32 + 32 + 2] = area[12];   /* the first is given back, */
+    area[12] = 0;
+    area[16] = 4;                   /* and nobody was told */
+    begin(&calls);
+    negotiate(COVRETIN_DEVICE_RING_PACKED);
+    give_memory();
+    DONE(covretin_ask_set_inflight_fd(&vmm.session, &region, fd));
+    its.keeps = true;
+    start_packed(&queue);
+    wait_for(&its.kept_count, 2);
+    EXPECT(true, its.kept[0]->again && its.kept[1]->again);
+    EXPECT(2, area[16]);
+    answer(its.kept[1]);
+    expect_packed(&queue, 2, 5, 4);
+    answer(its.kept[0]);
+    expect_packed(&queue, 4, 7, 0);
+    its.keeps = false;
+    post_packed(&queue, 6, 3);
+    expect_packed(&queue, 6, 3, 6);
+    EXPECT(false, its.again);
+    EXPECT(0, number(covretin_ask_get_vring_base(&vmm.session, 0))); /* the second round's first place */
+    EXPECT(true, area[16] == 0 && area[18] == 0 && area[20] == 0 && area[21] == 0);
+    end();
+    munmap(area, 320);
+    close(fd);
+    free_queue(&queue);
+    free_memory();
+}
+
+/* A packed ring is found anew where its regions are mapped anew, and lies in none meanwhile; what was found in it before is found again. */
+static void a_packed_ring_moves(void)
+{
+    begin(&calls);
+    negotiate(COVRETIN_DEVICE_RING_PACKED);
+    make_memory();
+    covretin_region rings = region_of(0, BUFFERS), buffers = region_of(BUFFERS, SIZE - BUFFERS);
+    struct queue queue = make_queue(0);
+    DONE(covretin_ask_add_mem_region(&vmm.session, &rings));
+    DONE(covretin_ask_add_mem_region(&vmm.session, &buffers));
+    start_packed(&queue);
+    post_packed(&queue, 0, 1);
+    expect_packed(&queue, 0, 1, 0);
+    DONE(covretin_ask_remove_mem_region(&vmm.session, &rings));
+    post_packed(&queue, 2, 2);
+    usleep(50000);
+    EXPECT(1, its.served);
+    DONE(covretin_ask_add_mem_region(&vmm.session, &rings));
+    expect_packed(&queue, 2, 2, 2);
+    give_memory();
+    post_packed(&queue, 4, 3);
+    expect_packed(&queue, 4, 3, 4);
+    EXPECT(0x80068006, number(covretin_ask_get_vring_base(&vmm.session, 0)));
+    end();
     free_queue(&queue);
     free_memory();
 }
@@ -1143,7 +1269,7 @@ static void regions_come_and_go(void)
     free_memory();
 }
 
-/* A packed queue stays where it was mapped: what its requests point to came after it, and goes meanwhile. */
+/* What a packed queue's requests point to came after it, and goes meanwhile. */
 static void a_packed_queue_keeps_what_it_has(void)
 {
     begin(&calls);
@@ -1527,8 +1653,6 @@ static void hand_on(int number)
 int main(void)
 {
     signal(SIGBUS, hand_on);
-    split_calls = calls;
-    split_calls.features = 1;
     RUN(serves_requests);
     RUN(serves_several_queues);
     RUN(serves_indirect_and_event_index);
@@ -1552,6 +1676,8 @@ int main(void)
     RUN(frontend_dies_amid_a_request);
     RUN(frontend_dies_as_it_waits);
     RUN(goes_on_by_the_inflight_region);
+    RUN(goes_on_in_a_packed_ring);
+    RUN(a_packed_ring_moves);
     RUN(regions_come_and_go);
     RUN(a_packed_queue_keeps_what_it_has);
     RUN(logs_what_it_writes);

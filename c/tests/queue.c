@@ -213,7 +213,79 @@ static void packed_queue(void)
     HOLDS(covretin_queue_base(&queue, &base) == 0 && base == 0x80020000);
     HOLDS(covretin_queue_add_used(&queue, 2, 0, &used) == 0 && used.then_value == 0x8080);
     HOLDS(covretin_queue_base(&queue, &base) == 0 && base == 0);
+    HOLDS(covretin_queue_move_split(&queue, USER, USER + 0x100, USER + 0x200) == COVRETIN_QUEUE_OTHER_LAYOUT);
+    HOLDS(covretin_queue_move_packed(&queue, USER + 0x8000, USER + 0x8100, USER + 0x8102) == COVRETIN_QUEUE_UNALIGNED);
+    HOLDS(covretin_queue_available_place(&queue, &place) == 0 && place.addr == (uint64_t)(uintptr_t)(memory + 14));
+    HOLDS(covretin_queue_move_packed(&queue, USER + 0x8000, USER + 0x8100, USER + 0x8104) == 0);
+    HOLDS(covretin_queue_available_place(&queue, &place) == 0 && place.addr == (uint64_t)(uintptr_t)(memory + 0x800e));
+    HOLDS(covretin_queue_base(&queue, &base) == 0 && base == 0);
     covretin_queue_close(&queue);
+    HOLDS(covretin_queue_move_packed(&queue, USER, USER, USER) == COVRETIN_QUEUE_NO_QUEUE);
+}
+
+/* A request that was taken before a crash is followed by what was kept of it, and the ring has something else. */
+static void taken_again(void)
+{
+    covretin_queue queue = opened();
+    covretin_packed_ring ring = {USER, USER + 0x100, USER + 0x104, 3, 0x8002, 0x8002, false, false};
+    covretin_descriptor first = {GUEST + 0x1000, 16, 1, 0x81}, last = {GUEST + 0x2000, 512, 1, 0x82};
+    covretin_segment segment;
+    covretin_used used;
+    uint32_t base;
+    bool found;
+
+    HOLDS(covretin_queue_resubmit_packed(&queue) == COVRETIN_QUEUE_NOT_STARTED);
+    HOLDS(covretin_queue_start_packed(&queue, &ring) == 0);
+    HOLDS(covretin_queue_resubmit(&queue, 0) == COVRETIN_QUEUE_OTHER_LAYOUT);
+    HOLDS(covretin_queue_resubmit_packed(&queue) == 0);
+    HOLDS(covretin_queue_step(&queue, &first, &segment, &found) == 0 && found && segment.guest_addr == GUEST + 0x1000);
+    HOLDS(covretin_queue_step(&queue, &last, &segment, &found) == 0 && found && segment.writable);
+    HOLDS(covretin_queue_step(&queue, &last, &segment, &found) == COVRETIN_QUEUE_CHAIN_ENDED);
+    HOLDS(covretin_queue_base(&queue, &base) == 0 && base == 0x80020001);
+    HOLDS(covretin_queue_add_used(&queue, 1, 512, &used) == 0 && used.then_value == 0x8082);
+    HOLDS(used.then.addr == (uint64_t)(uintptr_t)(memory + 46));
+    HOLDS(covretin_queue_base(&queue, &base) == 0 && base == 0x00010001);
+    covretin_queue_close(&queue);
+}
+
+/* A ring of four, of which 2 to the end, 0 and 1 were taken by two requests: the entries 0 and 1, and 2. */
+static void packed_inflight(void)
+{
+    covretin_descriptor descriptor = {GUEST + 0x1000, 0x12345678, 0x9abc, 0xdef0};
+    covretin_inflight_entry entries[4] = {{true, 1, 9}, {false, 3, 0}, {true, 3, 5}, {false, 4, 0}};
+    covretin_packed_inflight_head now = {0, 1, false}, old = {3, 3, true}, head;
+    covretin_inflight_write first, second, writes[4];
+    covretin_resubmit again[4];
+    bool is_free[4];
+    size_t count;
+
+    covretin_inflight_keep_packed(3, &descriptor, &first, &second);
+    HOLDS(first.offset == 144 && first.len == 8 && first.value == 0x12345678def09abc);
+    HOLDS(second.offset == 152 && second.len == 8 && second.value == GUEST + 0x1000);
+    covretin_inflight_take_packed(1, 2, 3, 42, 7, writes);
+    HOLDS(writes[0].offset == 68 && writes[0].len == 4 && writes[0].value == 0x30002);
+    HOLDS(writes[1].offset == 72 && writes[1].len == 8 && writes[1].value == 42);
+    HOLDS(writes[2].offset == 64 && writes[2].len == 1 && writes[2].value == 1);
+    HOLDS(writes[3].offset == 12 && writes[3].len == 4 && writes[3].value == 0x70007);
+    covretin_inflight_before_used_packed(1, 2, 7, 0x0001, 0x8003, writes);
+    HOLDS(writes[0].offset == 98 && writes[0].len == 2 && writes[0].value == 7);
+    HOLDS(writes[1].offset == 12 && writes[1].len == 2 && writes[1].value == 1);
+    HOLDS(writes[2].offset == 16 && writes[2].len == 8 && writes[2].value == 0x10000030001);
+    covretin_inflight_after_used_packed(1, 0x8002, writes);
+    HOLDS(writes[0].offset == 64 && writes[0].len == 1 && writes[0].value == 0);
+    HOLDS(writes[1].offset == 12 && writes[1].len == 4 && writes[1].value == 0x10001);
+    HOLDS(writes[2].offset == 16 && writes[2].len == 8 && writes[2].value == 0x10100020002);
+    /* the first of them was used, and the driver was not told; or it was */
+    HOLDS(covretin_inflight_recover_packed(entries, 4, &now, &old, 0x80, &head, is_free, 4, again, 4, &count) == 0 && count == 2);
+    HOLDS(again[0].head == 2 && again[1].head == 0 && is_free[3] && !is_free[0] && !is_free[1] && !is_free[2]);
+    HOLDS(head.free_head == 3 && head.used_idx == 3 && head.used_wrap_counter);
+    HOLDS(covretin_inflight_recover_packed(entries, 4, &now, &old, 0x8080, &head, is_free, 4, again, 4, &count) == 0 && count == 1);
+    HOLDS(again[0].head == 2 && is_free[0] && is_free[1] && !is_free[2] && is_free[3]);
+    HOLDS(head.free_head == 0 && head.used_idx == 1 && !head.used_wrap_counter);
+    HOLDS(covretin_inflight_recover_packed(entries, 4, &now, &old, 0x80, &head, is_free, 3, again, 4, &count) == COVRETIN_QUEUE_NO_ROOM);
+    old.used_idx = 4;
+    HOLDS(covretin_inflight_recover_packed(entries, 4, &now, &old, 0x80, &head, is_free, 4, again, 4, &count) ==
+          COVRETIN_QUEUE_INVALID_INFLIGHT);
 }
 
 static void inflight_and_log(void)
@@ -248,6 +320,8 @@ int main(void)
     RUN(split_queue);
     RUN(refused_chains);
     RUN(packed_queue);
+    RUN(taken_again);
+    RUN(packed_inflight);
     RUN(inflight_and_log);
     return status();
 }

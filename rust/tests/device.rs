@@ -106,12 +106,7 @@ fn serves_a_packed_queue() {
         let mut machine = Machine::of(RING_PACKED);
         machine.negotiate(RING_PACKED);
         let ring = Ring::of(&machine, 2);
-        let it = &mut machine.frontend;
-        it.set_vring_num(2, 4).unwrap();
-        it.set_vring_addr(2, &ring.config(None)).unwrap();
-        it.set_vring_call(2, &ring.call).unwrap();
-        it.set_vring_kick(2, &ring.kick).unwrap();
-        it.set_vring_enable(2, true).unwrap();
+        ring.start_packed(&mut machine.frontend, 4);
         for round in 0..3u16 {
             let (at, is_first) = (round * 2 % 4, round < 2);
             let (available, used) = if is_first { (0x80, 0x8080) } else { (0x8000, 0) };

@@ -174,6 +174,57 @@ fn goes_on_by_the_inflight_region() {
     });
 }
 
+/// The same of a packed ring, in which the request that was used first has overwritten a descriptor of one that is under way.
+#[test]
+fn goes_on_in_a_packed_ring() {
+    counted(|| {
+        let mut machine = Machine::of(RING_PACKED);
+        machine.negotiate(RING_PACKED);
+        let ring = Ring::of(&machine, 0);
+        let (told, region) = machine.frontend.get_inflight_fd(&VhostUserInflight::new(0, 0, 1, 8)).unwrap();
+        assert_eq!(320, told.mmap_size); // 32 bytes, and 32 for each descriptor, up to a multiple of 64
+        machine.frontend.set_inflight_fd(&told, region.as_raw_fd()).unwrap();
+        ring.start_packed(&mut machine.frontend, 8);
+        machine.device.has(|its| its.keeps = true);
+        machine.memory.write_all_at(b"packed", BUFFERS).unwrap();
+        for (at, id) in [(0, 7), (2, 6), (4, 5)] {
+            ring.describe(at + 1, (GUEST + BUFFERS + 0x100 + u64::from(at) * 0x10, 16, id, 0x80 | WRITE));
+            ring.describe(at, (GUEST + BUFFERS, 6, id, 0x80 | NEXT));
+        }
+        ring.kick();
+        machine.device.wait_until("it has three", |its| its.kept.len() == 3);
+        answer(machine.device.has(|its| its.kept.remove(1)));
+        assert!(is_signalled(&ring.call, LIMIT as i32));
+        machine.stopper.stop();
+        sleep(Duration::from_millis(50));
+        let device = machine.device.clone();
+        let kept = device.has(|its| std::mem::take(&mut its.kept));
+        kept.into_iter().for_each(answer);
+        let memory = machine.memory.try_clone().unwrap();
+        machine.ends_by("Stopped");
+        assert_eq!([6, 0x8082, 7, 0x82], [12, 14, 28, 30].map(|at| ring.get16(0, at)));
+
+        let mut machine = Machine::with(Capitals::new(RING_PACKED), memory);
+        machine.negotiate(RING_PACKED);
+        machine.frontend.set_inflight_fd(&told, region.as_raw_fd()).unwrap();
+        machine.device.has(|its| its.keeps = true);
+        ring.start_packed(&mut machine.frontend, 8);
+        machine.device.wait_until("it has two", |its| its.kept.len() == 2);
+        assert!(machine.device.has(|its| its.kept.iter().all(|it| it.is_again())));
+        let mut kept = machine.device.has(|its| std::mem::take(&mut its.kept));
+        kept.drain(..).rev().for_each(answer);
+        assert!(is_signalled(&ring.call, LIMIT as i32));
+        assert_eq!(0x8006_8006, machine.frontend.get_vring_base(0).unwrap());
+        assert_eq!([5, 0x8082, 7, 0x8082], [44, 46, 76, 78].map(|at| ring.get16(0, at)));
+        let mut text = [0; 6];
+        for at in [0x100, 0x120, 0x140] {
+            machine.memory.read_exact_at(&mut text, BUFFERS + at).unwrap();
+            assert_eq!(b"PACKED", &text);
+        }
+        machine.end();
+    });
+}
+
 /// Regions come and go while a request is under way, whose bytes stay; one that lies nowhere breaks its queue, until a reset.
 #[test]
 fn regions_come_and_go() {
@@ -204,7 +255,7 @@ fn regions_come_and_go() {
     });
 }
 
-/// The same of a packed queue, which stays where it was mapped: what its requests point to came behind it.
+/// The same of a packed queue: what its requests point to came behind it.
 #[test]
 fn a_packed_queue_keeps_what_it_has() {
     counted(|| {
@@ -212,14 +263,9 @@ fn a_packed_queue_keeps_what_it_has() {
         machine.negotiate_without_memory(RING_PACKED);
         let (rings, buffers) = (machine.region(0, BUFFERS), machine.region(BUFFERS, MEMORY - BUFFERS));
         let ring = Ring::of(&machine, 0);
-        let it = &mut machine.frontend;
-        it.add_mem_region(&rings).unwrap();
-        it.set_vring_num(0, 4).unwrap();
-        it.set_vring_addr(0, &ring.config(None)).unwrap();
-        it.set_vring_call(0, &ring.call).unwrap();
-        it.set_vring_kick(0, &ring.kick).unwrap();
-        it.set_vring_enable(0, true).unwrap();
-        it.add_mem_region(&buffers).unwrap();
+        machine.frontend.add_mem_region(&rings).unwrap();
+        ring.start_packed(&mut machine.frontend, 4);
+        machine.frontend.add_mem_region(&buffers).unwrap();
         machine.device.has(|its| its.keeps = true);
         machine.memory.write_all_at(b"packed", BUFFERS).unwrap();
         ring.describe(1, (GUEST + BUFFERS + 0x100, 64, 3, 0x80 | WRITE));

@@ -291,3 +291,77 @@ fn a_log_and_an_inflight_region() {
         assert!(InflightRegion::map(&small, &kept).is_err());
     });
 }
+
+/// A packed queue has three requests in a ring of six, of which the second is used first: that overwrites a descriptor of the first. A device
+/// ends amid the use of the first, before it told of it; and the next one takes the first and the third again, by what was kept of them.
+#[test]
+fn what_is_left_in_a_packed_ring() {
+    counted(|| {
+        let mut it = Played::new(true);
+        it.queue.set_size(6).unwrap();
+        let (about, kept) = InflightRegion::create_packed(2, 6).unwrap();
+        assert_eq!((512, 2, 6), (about.mmap_size, about.num_queues, about.queue_size));
+        it.queue.start_with(&InflightRegion::map_packed(&about, &kept).unwrap(), 1).unwrap();
+        for (at, id) in [(0, 5), (2, 1), (4, 3)] {
+            it.describe(at * 16, (GUEST + 0x1000, 16 + at as u32, id, 0x80 | NEXT));
+            it.describe(at * 16 + 16, (GUEST + 0x2000, 512, id, 0x80 | WRITE));
+        }
+        let chains: Vec<_> = it.queue.iter().map(Result::unwrap).collect();
+        it.queue.add_used(&chains[1], 512).unwrap();
+        assert_eq!((512, 1, 0x8082), (it.get16(8), it.get16(12), it.get16(14)));
+        drop(chains);
+        // The first is given back: its last entry links to the free list, which begins with it, and the place has gone on. Nobody was told.
+        kept.write_all_at(&2u16.to_le_bytes(), 256 + 32 + 32 + 2).unwrap();
+        kept.write_all_at(&0u16.to_le_bytes(), 256 + 12).unwrap();
+        kept.write_all_at(&4u16.to_le_bytes(), 256 + 16).unwrap();
+
+        let mut next = Played::new(true);
+        next.file.write_all_at(&[0; 16], 0).unwrap();
+        let mut ring = [0; 96];
+        it.file.read_exact_at(&mut ring, 0).unwrap();
+        next.put(0, &ring);
+        next.queue.set_size(6).unwrap();
+        assert!(InflightRegion::map_packed(&VhostUserInflight { mmap_size: 511, ..about }, &kept).is_err());
+        let inflight = InflightRegion::map_packed(&about, &kept).unwrap();
+        next.queue.start_with(&inflight, 1).unwrap();
+        let again: Vec<_> = next.queue.iter().map(Result::unwrap).collect();
+        let found: Vec<_> =
+            again.iter().map(|it| (it.head_index(), it.is_again(), lengths(it.readable()), it.writable_len())).collect();
+        assert_eq!(vec![(5, true, vec![16], 512), (3, true, vec![20], 512)], found);
+        next.queue.add_used(&again[1], 1).unwrap();
+        next.queue.add_used(&again[0], 1).unwrap();
+        assert_eq!([3, 0x8082, 5, 0x8082], [44, 46, 76, 78].map(|at| next.get16(at)));
+        next.queue.set_ready(false).unwrap();
+        assert_eq!(0, next.queue.base());
+        // All is free, so there is nothing to be taken again. The region of another layout has no part of it.
+        next.queue.start_with(&inflight, 1).unwrap();
+        assert_eq!((0, true), (next.queue.base(), next.queue.pop().unwrap().is_none()));
+        kept.write_all_at(&6u16.to_le_bytes(), 256 + 16).unwrap();
+        kept.write_all_at(&6u16.to_le_bytes(), 256 + 18).unwrap();
+        assert_eq!(Err(Error::InvalidInflight), next.queue.start_with(&inflight, 1));
+        next.queue.start_with(&InflightRegion::map(&about, &kept).unwrap(), 1).unwrap();
+    });
+}
+
+/// A packed queue goes on elsewhere, or nowhere, and there again; a chain that was found and not taken is found again.
+#[test]
+fn a_packed_queue_moves() {
+    counted(|| {
+        let mut it = Played::new(true);
+        it.queue.set_ready(true).unwrap();
+        it.describe(0, (GUEST + 0x1000, 16, 2, 0x80));
+        assert!(it.queue.enable_notification().unwrap());
+        it.describe(0x8000, (GUEST + 0x1000, 17, 1, 0x80));
+        it.queue.set_desc_table_address(USER + 0x8000);
+        it.queue.find_rings();
+        let chain = it.queue.pop().unwrap().unwrap();
+        assert_eq!((1, vec![17]), (chain.head_index(), lengths(chain.readable())));
+        it.queue.set_memory(&GuestMemory::from_regions([]).unwrap()).unwrap();
+        it.describe(0x8010, (GUEST + 0x1000, 18, 2, 0x80));
+        assert!(it.queue.pop().unwrap().is_none());
+        it.queue.set_memory(&it.memory).unwrap();
+        assert_eq!(vec![18], lengths(it.queue.pop().unwrap().unwrap().readable()));
+        it.queue.add_used(&chain, 0).unwrap();
+        assert_eq!((1, 0x8080), (it.get16(0x800c), it.get16(0x800e)));
+    });
+}

@@ -1,13 +1,13 @@
 -- What the calls of a program in C do to a queue of either layout.
-use Rattle.std.specs.Prelude.{◌≡◌, ◌≢◌, ◌↔◌, ℕ, ◌+◌, ◌*◌, ◌/◌, ◌%◌, ◌^◌, ◌==◌, IfOk, IsOk, IsTrue, bit_and, Bool, true, false, List, Option, Some, None, Result, Ok, Err, MatchResult, if◌then◌else◌, ⊤, nat_lt}
+use Rattle.std.specs.Prelude.{◌≡◌, ◌≢◌, ◌↔◌, ℕ, ◌+◌, ◌*◌, ◌%◌, ◌^◌, ◌==◌, IsTrue, bit_and, Bool, true, false, List, Option, Some, None, Result, Ok, Err, MatchResult, if◌then◌else◌, ⊤, nat_lt}
 use Rattle.vhost_queue.specs.Chain.{place_of}
 use Rattle.vhost_queue.specs.Memory.{LiesIn}
 use Rattle.vhost_queue.specs.Notification.{moved}
 use Rattle.vhost_queue.specs.Packed as packed
-use Rattle.vhost_queue.specs.PackedRings.{ring_range, driver_range, device_range}
+use Rattle.vhost_queue.specs.PackedRings.{ring_range, driver_range, device_range, AreAt as ArePackedAt}
 use Rattle.vhost_queue.specs.Places.{at}
 use Rattle.vhost_queue.specs.Queue as split
-use Rattle.vhost_queue.specs.Rings.{table_range, avail_range, used_range}
+use Rattle.vhost_queue.specs.Rings.{table_range, avail_range, used_range, AreAt}
 use Rattle.vhost_queue.specs.Wrap.{number_of, position_of}
 use Rattle.vhost_queue.specs.declared.descriptor.Descriptor.{Descriptor}
 use Rattle.vhost_queue.specs.declared.descriptor.Segment.{Segment}
@@ -66,6 +66,10 @@ HearsPacked value r q p = MatchResult r (λ n. packed.popped q (packed.state q) 
 -- a head was read from the available ring, or is taken again; and what a refusal leaves
 abbrev pub Takes : (Queue → split.State → ℕ → Result split.State Error) → (split.State → split.State) → ℕ → Result ⊤ Refusal → Queue → Queue → Type 0
 Takes by refused head r q p = MatchResult r (λ _. by q (split.state q) head ≡ Ok (split.state p)) (Because (λ e. (by q (split.state q) head ≡ Err e) × (split.state p ≡ refused (split.state q))))
+
+-- .. of a packed queue
+abbrev pub TakesAgain : Result ⊤ Refusal → PackedQueue → PackedQueue → Type 0
+TakesAgain r q p = MatchResult r (λ _. packed.resubmitted q (packed.state q) ≡ Ok (true, packed.state p)) (Because (λ e. (packed.resubmitted q (packed.state q) ≡ Err e) × (packed.state p ≡ packed.state q)))
 
 -- the device is done with a chain: what is to be written
 abbrev pub UsesSplit : ℕ → ℕ → Result Used Refusal → Queue → Queue → Type 0
@@ -151,14 +155,28 @@ needs_reset (Packed q) = q.needs_reset
 -- a split queue was started: its parts lie in regions, and it begins where it was told to
 abbrev pub StartsSplit : List GuestRegion → SplitRing → Queue → Type 0
 StartsSplit rs c q =
-    (r : Rings) × (r.size ≡ c.size) × LiesIn rs (table_range r) × LiesIn rs (avail_range r) × LiesIn rs (used_range r)
+    (r : Rings) × (r.size ≡ c.size) × AreAt rs r c.desc_table c.avail_ring c.used_ring × LiesIn rs (table_range r) × LiesIn rs (avail_range r) × LiesIn rs (used_range r)
     × split.IsNew r (record { event_idx = c.event_idx; indirect_desc = c.indirect_desc; next_avail = c.next_avail; next_used = c.next_used }) q
 
 -- .. or a packed one
 abbrev pub StartsPacked : List GuestRegion → PackedRing → PackedQueue → Type 0
 StartsPacked rs c q =
-    (r : PackedRings) × (r.size ≡ c.size) × LiesIn rs (ring_range r) × LiesIn rs (driver_range r) × LiesIn rs (device_range r)
+    (r : PackedRings) × (r.size ≡ c.size) × ArePackedAt rs r c.desc_ring c.driver_event c.device_event × LiesIn rs (ring_range r) × LiesIn rs (driver_range r) × LiesIn rs (device_range r)
     × packed.IsNew r (record { event_idx = c.event_idx; indirect_desc = c.indirect_desc; avail = position_of c.avail; used = position_of c.used }) q
+
+-- the parts of a split queue were found at these addresses, in regions: all else stays, but the chain that was followed is none any more
+abbrev pub MovesSplit : List GuestRegion → ℕ → ℕ → ℕ → Queue → Queue → Type 0
+MovesSplit rs table avail used q p =
+    AreAt rs p.rings table avail used × LiesIn rs (table_range p.rings) × LiesIn rs (avail_range p.rings) × LiesIn rs (used_range p.rings)
+    × (p.rings.size ≡ q.rings.size) × (p.event_idx ≡ q.event_idx) × (p.indirect_desc ≡ q.indirect_desc)
+    × (split.state p ≡ record (split.state q) { chain = record (split.state q).chain { next = None } })
+
+-- .. or of a packed one
+abbrev pub MovesPacked : List GuestRegion → ℕ → ℕ → ℕ → PackedQueue → PackedQueue → Type 0
+MovesPacked rs ring driver device q p =
+    ArePackedAt rs p.rings ring driver device × LiesIn rs (ring_range p.rings) × LiesIn rs (driver_range p.rings) × LiesIn rs (device_range p.rings)
+    × (p.rings.size ≡ q.rings.size) × (p.event_idx ≡ q.event_idx) × (p.indirect_desc ≡ q.indirect_desc)
+    × (packed.state p ≡ record (packed.state q) { chain = record (packed.state q).chain { next = None } })
 
 abbrev pub IsSplit : (Queue → Type 0) → Ring → Type 0
 IsSplit P (Split q) = P q

@@ -6,7 +6,7 @@ ghost use Rattle.vhost_c_queue.specs.DeviceQueue.{as_packed};
 use vhost_queue::{Descriptor, PackedDescriptor};
 
 /// The 16 bytes as a descriptor of a packed queue.
-pub(crate) fn as_packed(descriptor: Descriptor) -> PackedDescriptor
+pub fn as_packed(descriptor: Descriptor) -> PackedDescriptor
     ensures { result ≡ as_packed descriptor }
 {
     PackedDescriptor {

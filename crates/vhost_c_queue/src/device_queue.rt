@@ -31,11 +31,10 @@ pub struct DeviceQueue {
 
 impl DeviceQueue {
     ghost use Rattle.std.specs.Prelude.{ℕ, ◌<◌, length, remove, slice_index_or, All, true, false};
-    ghost use Rattle.vhost_queue.specs.Memory.{is_at, translated, LiesIn};
+    ghost use Rattle.vhost_queue.specs.Memory.{is_at, translated};
     ghost use Rattle.vhost_queue.specs.Queue.{broken, popped, refused_pop, resubmitted};
-    ghost use Rattle.vhost_queue.specs.Rings.{table_range, avail_range, used_range};
     ghost use Rattle.vhost_queue.specs.declared.memory.GuestRegion.{GuestRegion};
-    ghost use Rattle.vhost_c_queue.specs.DeviceQueue.{Answers, ByLayout, HearsPacked, HearsSplit, StepsPacked, StepsSplit, Takes, Because, IsPacked, IsSplit, StartsPacked, StartsSplit, TellsPacked, TellsSplit, UsesPacked, UsesSplit, available_place, base, descriptor_place, event_write, head_place, needs_reset, notification_place, regions};
+    ghost use Rattle.vhost_c_queue.specs.DeviceQueue.{Answers, ByLayout, HearsPacked, HearsSplit, StepsPacked, StepsSplit, Takes, TakesAgain, Because, IsPacked, IsSplit, MovesPacked, MovesSplit, StartsPacked, StartsSplit, TellsPacked, TellsSplit, UsesPacked, UsesSplit, available_place, base, descriptor_place, event_write, head_place, needs_reset, notification_place, regions};
     ghost use Rattle.vhost_c_queue.specs.declared.device_queue.Ring.TheVariants.{Stopped};
     ghost use Rattle.vhost_c_queue.specs.declared.refusal.Refusal.TheVariants.{NotStarted, OtherLayout};
 
@@ -186,7 +185,7 @@ impl DeviceQueue {
         avail_ring: u64,
         used_ring: u64,
     ) -> Result<(), Refusal>
-        ensures ok { OnOk result (IsSplit (λ q. LiesIn (regions self.old) (table_range q.rings) × LiesIn (regions self.old) (avail_range q.rings) × LiesIn (regions self.old) (used_range q.rings)) self.new.ring) }
+        ensures ok { OnOk result (ByLayout (MovesSplit (regions self.old) desc_table avail_ring used_ring) (λ q p. ⊥) ⊥ self.old.ring self.new.ring) }
         ensures err { OnErr result (self.new.ring ≡ self.old.ring) }
         ensures memory { regions self.new ≡ regions self.old }
     {
@@ -196,6 +195,35 @@ impl DeviceQueue {
             Ring::Split(queue) => {
                 let size = queue.rings().size();
                 let rings = Rings::map(&mut self.memory, size, desc_table, avail_ring, used_ring)?;
+                queue.set_rings(rings)?;
+                Ok(())
+            }
+        }
+    }
+
+    /// The same of a packed queue.
+    pub fn move_packed(
+        &mut self,
+        desc_ring: u64,
+        driver_event: u64,
+        device_event: u64,
+    ) -> Result<(), Refusal>
+        ensures ok { OnOk result (ByLayout (λ q p. ⊥) (MovesPacked (regions self.old) desc_ring driver_event device_event) ⊥ self.old.ring self.new.ring) }
+        ensures err { OnErr result (self.new.ring ≡ self.old.ring) }
+        ensures memory { regions self.new ≡ regions self.old }
+    {
+        match &mut self.ring {
+            Ring::Stopped => Err(Refusal::NotStarted),
+            Ring::Split(_) => Err(Refusal::OtherLayout),
+            Ring::Packed(queue) => {
+                let size = queue.rings().size();
+                let rings = PackedRings::map(
+                    &mut self.memory,
+                    size,
+                    desc_ring,
+                    driver_event,
+                    device_event,
+                )?;
                 queue.set_rings(rings)?;
                 Ok(())
             }
@@ -270,6 +298,22 @@ impl DeviceQueue {
             Ring::Stopped => Err(Refusal::NotStarted),
             Ring::Packed(_) => Err(Refusal::OtherLayout),
             Ring::Split(queue) => match queue.resubmit(head) {
+                Ok(()) => Ok(()),
+                Err(error) => Err(Refusal::Queue(error)),
+            },
+        }
+    }
+
+    /// A chain was a packed queue's before a crash, and is followed again. Until it has left the ring its descriptors are those that
+    /// the inflight region has.
+    pub fn resubmit_packed(&mut self) -> Result<(), Refusal>
+        ensures takes { ByLayout (λ q p. (result ≡ Err OtherLayout) × (p ≡ q)) (TakesAgain result) (result ≡ Err NotStarted) self.old.ring self.new.ring }
+        ensures memory { regions self.new ≡ regions self.old }
+    {
+        match &mut self.ring {
+            Ring::Stopped => Err(Refusal::NotStarted),
+            Ring::Split(_) => Err(Refusal::OtherLayout),
+            Ring::Packed(queue) => match queue.resubmit() {
                 Ok(()) => Ok(()),
                 Err(error) => Err(Refusal::Queue(error)),
             },

@@ -7,6 +7,7 @@ mod memory;
 mod opening;
 mod places;
 mod plain;
+mod plain_packed;
 mod rings;
 mod stepping;
 mod told;

@@ -1,9 +1,7 @@
 //! The rings of a queue.
 
 ghost use Rattle.std.specs.Prelude.{◌≡◌, ℕ, Bool, Result, Ok, ⊤, OnOk, OnErr};
-ghost use Rattle.vhost_queue.specs.Memory.{LiesIn};
-ghost use Rattle.vhost_queue.specs.Rings.{table_range, avail_range, used_range};
-ghost use Rattle.vhost_c_queue.specs.DeviceQueue.{IsPacked, IsSplit, StartsPacked, StartsSplit, base, needs_reset, regions};
+ghost use Rattle.vhost_c_queue.specs.DeviceQueue.{ByLayout, IsPacked, IsSplit, MovesPacked, MovesSplit, StartsPacked, StartsSplit, base, needs_reset, regions};
 ghost use Rattle.vhost_c_queue.specs.Number.{outcome_number};
 ghost use Rattle.vhost_c_queue.specs.declared.device_queue.Ring.TheVariants.{Stopped};
 ghost use Rattle.vhost_c_queue.specs.declared.refusal.Refusal.{Refusal};
@@ -61,12 +59,33 @@ pub extern "C" fn covretin_queue_move_split(
     avail_ring: u64,
     used_ring: u64,
 ) -> u32
-    ensures { Calls (λ s t. (r : Result ⊤ Refusal) × (result ≡ outcome_number r) × OnOk r (IsSplit (λ q. LiesIn (regions s) (table_range q.rings) × LiesIn (regions s) (avail_range q.rings) × LiesIn (regions s) (used_range q.rings)) t.ring) × OnErr r (t.ring ≡ s.ring) × (regions t ≡ regions s)) queue.old.session result queue.new.session }
+    ensures { Calls (λ s t. (r : Result ⊤ Refusal) × (result ≡ outcome_number r) × OnOk r (ByLayout (MovesSplit (regions s) desc_table avail_ring used_ring) (λ q p. ⊥) ⊥ s.ring t.ring) × OnErr r (t.ring ≡ s.ring) × (regions t ≡ regions s)) queue.old.session result queue.new.session }
 {
     match queue.take(alloc) {
         None => number_of(Err(Refusal::NoQueue)),
         Some(mut held) => {
             let outcome = held.move_split(desc_table, avail_ring, used_ring);
+            queue.put(held);
+            number_of(outcome)
+        }
+    }
+}
+
+/// The rings of a packed queue are mapped elsewhere, since regions are.
+#[unsafe(no_mangle)]
+pub extern "C" fn covretin_queue_move_packed(
+    alloc: Global,
+    queue: &mut QueueHolder,
+    desc_ring: u64,
+    driver_event: u64,
+    device_event: u64,
+) -> u32
+    ensures { Calls (λ s t. (r : Result ⊤ Refusal) × (result ≡ outcome_number r) × OnOk r (ByLayout (λ q p. ⊥) (MovesPacked (regions s) desc_ring driver_event device_event) ⊥ s.ring t.ring) × OnErr r (t.ring ≡ s.ring) × (regions t ≡ regions s)) queue.old.session result queue.new.session }
+{
+    match queue.take(alloc) {
+        None => number_of(Err(Refusal::NoQueue)),
+        Some(mut held) => {
+            let outcome = held.move_packed(desc_ring, driver_event, device_event);
             queue.put(held);
             number_of(outcome)
         }

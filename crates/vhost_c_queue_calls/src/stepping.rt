@@ -3,7 +3,7 @@
 ghost use Rattle.std.specs.Prelude.{◌≡◌, ℕ, Bool, Option, Result, Err, ⊤};
 ghost use Rattle.vhost_queue.specs.Queue.{broken, popped, refused_pop, resubmitted};
 ghost use Rattle.vhost_queue.specs.declared.descriptor.Segment.{Segment as Part};
-ghost use Rattle.vhost_c_queue.specs.DeviceQueue.{Answers, ByLayout, HearsPacked, HearsSplit, StepsPacked, StepsSplit, Takes, TellsPacked, TellsSplit, UsesPacked, UsesSplit, regions};
+ghost use Rattle.vhost_c_queue.specs.DeviceQueue.{Answers, ByLayout, HearsPacked, HearsSplit, StepsPacked, StepsSplit, Takes, TakesAgain, TellsPacked, TellsSplit, UsesPacked, UsesSplit, regions};
 ghost use Rattle.vhost_c_queue.specs.Number.{outcome_number};
 ghost use Rattle.vhost_c_queue.specs.declared.records.Used.{Used as Elem};
 ghost use Rattle.vhost_c_queue.specs.declared.refusal.Refusal.{Refusal};
@@ -60,6 +60,21 @@ pub extern "C" fn covretin_queue_resubmit(alloc: Global, queue: &mut QueueHolder
         None => number_of(Err(Refusal::NoQueue)),
         Some(mut held) => {
             let outcome = held.resubmit(head);
+            queue.put(held);
+            number_of(outcome)
+        }
+    }
+}
+
+/// A chain was a packed queue's before a crash, and is followed again.
+#[unsafe(no_mangle)]
+pub extern "C" fn covretin_queue_resubmit_packed(alloc: Global, queue: &mut QueueHolder) -> u32
+    ensures { Calls (λ s t. (r : Result ⊤ Refusal) × (result ≡ outcome_number r) × ByLayout (λ q p. (r ≡ Err OtherLayout) × (p ≡ q)) (TakesAgain r) (r ≡ Err NotStarted) s.ring t.ring × (regions t ≡ regions s)) queue.old.session result queue.new.session }
+{
+    match queue.take(alloc) {
+        None => number_of(Err(Refusal::NoQueue)),
+        Some(mut held) => {
+            let outcome = held.resubmit_packed();
             queue.put(held);
             number_of(outcome)
         }

@@ -1,20 +1,18 @@
 -- Worked examples, by computing.
-use Rattle.std.proofs.Common.{◌≡◌, ℕ, true, false, Some, None, Ok, Err, List, [], ◌∷◌, refl}
-use Rattle.std.specs.Prelude.{Option, Result}
+use Rattle.std.proofs.Common.{◌≡◌, true, false, Some, Ok, Err, List, [], ◌∷◌, refl}
 use Rattle.vhost_queue.specs.Chain.{Following, step}
 use Rattle.vhost_queue.specs.Inflight.{pending, settled}
 use Rattle.vhost_queue.specs.Memory.{translated}
 use Rattle.vhost_queue.specs.Notification.{moved, next_index}
+use Rattle.vhost_queue.specs.PackedInflight.{free_in, holding, places}
 use Rattle.vhost_queue.specs.Segment.{table_entries}
 use Rattle.vhost_queue.specs.Wrap.{advanced, is_available, position_of, number_of}
 use Rattle.vhost_queue.specs.declared.descriptor.Descriptor.{Descriptor}
-use Rattle.vhost_queue.specs.declared.descriptor.Segment.{Segment}
-use Rattle.vhost_queue.specs.declared.error.Error.{Error}
 use Rattle.vhost_queue.specs.declared.error.Error.TheVariants.{NotInGuest, DescriptorLoop, NotInTable, ChainTooLong, ReadableAfterWritable, UnexpectedIndirect, InvalidIndirectLength, InvalidInflight}
 use Rattle.vhost_queue.specs.declared.inflight.InflightEntry.{InflightEntry}
 use Rattle.vhost_queue.specs.declared.memory.AddressSpace.TheVariants.{Guest, User}
 use Rattle.vhost_queue.specs.declared.memory.GuestRegion.{GuestRegion}
-use Rattle.vhost_queue.specs.declared.wrap.Position.{Position}
+use Rattle.vhost_queue.specs.declared.packed_inflight.PackedInflightHead.{PackedInflightHead}
 
 -- a region of a guest
 abbrev high : GuestRegion
@@ -109,3 +107,41 @@ more_than_there_are = refl
 
 two_again : pending entries (false ∷ false ∷ true ∷ []) 0 ≡ record { counter = 9; head = 0 } ∷ record { counter = 5; head = 1 } ∷ []
 two_again = refl
+
+-- Of a packed queue of four, requests of two entries and of one are in flight, which begin at 0 and at 2; 3 is free. The later state says
+-- that the first of them was used.
+abbrev packed_entries : List InflightEntry
+packed_entries = record { inflight = true; next = 1; counter = 8 } ∷ record { inflight = false; next = 3; counter = 0 } ∷ record { inflight = true; next = 3; counter = 6 } ∷ record { inflight = false; next = 4; counter = 0 } ∷ []
+
+abbrev before : PackedInflightHead
+before = record { free_head = 3; used_idx = 3; used_wrap_counter = true }
+
+abbrev later : PackedInflightHead
+later = record { free_head = 0; used_idx = 1; used_wrap_counter = false }
+
+-- the driver was told of that, or else its descriptor is as it was made available
+told_of : holding later before 0x8080 ≡ later
+told_of = refl
+
+not_told_of : holding later before 0x0080 ≡ before
+not_told_of = refl
+
+-- .. and made the descriptor available again, a round later
+available_again : holding later before 0x8000 ≡ later
+available_again = refl
+
+one_free : free_in packed_entries before ≡ Ok (false ∷ false ∷ false ∷ true ∷ [])
+one_free = refl
+
+three_free : free_in packed_entries later ≡ Ok (true ∷ true ∷ false ∷ true ∷ [])
+three_free = refl
+
+free_in_a_ring : free_in (record { inflight = false; next = 0; counter = 0 } ∷ []) (record { free_head = 0; used_idx = 0; used_wrap_counter = true }) ≡ Err InvalidInflight
+free_in_a_ring = refl
+
+place_behind_the_ring : free_in packed_entries (record before { used_idx = 4 }) ≡ Err InvalidInflight
+place_behind_the_ring = refl
+
+-- the place 0 of the second round, where 3 of the first was
+places_of_both : places (record { index = 0; wrap = false }) (record { index = 3; wrap = true }) ≡ 0x10000030000
+places_of_both = refl

@@ -1,5 +1,6 @@
 mod Examples
 pub mod Followed
+pub mod Freed
 pub mod Marked
 pub mod Refused
 pub mod Touching

@@ -5,7 +5,7 @@ use Rattle.vhost_queue.specs.Inflight.{entry_of, marked}
 use Rattle.vhost_queue.specs.declared.error.Error.TheVariants.{InvalidInflight}
 use Rattle.vhost_queue.specs.declared.inflight.InflightEntry.{InflightEntry}
 
-is_below : (a b : ℕ) → a < b → nat_lt a b ≡ true
+pub is_below : (a b : ℕ) → a < b → nat_lt a b ≡ true
 is_below a b h = grind (arith, nat_tests)
 
 not_below : (a b : ℕ) → b ≤ a → nat_lt a b ≡ false

@@ -4,6 +4,7 @@ pub mod Log
 pub mod Memory
 pub mod Notification
 pub mod Packed
+pub mod PackedInflight
 pub mod PackedRings
 pub mod Places
 pub mod Queue

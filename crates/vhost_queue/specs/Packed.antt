@@ -1,5 +1,5 @@
 -- Where a device stands in a packed queue, and what its steps make of it: virtio 1.2, 2.8.
-use Rattle.std.specs.Prelude.{◌≡◌, ℕ, ◌+◌, ◌-◌, ◌*◌, ◌/◌, ◌%◌, ◌<◌, ◌≤◌, Bool, true, false, not, ◌&&◌, ◌||◌, ◌⊎◌, List, ◌==◌, nat_lt, nat_le, bit_and, bit_or, length, Option, Some, None, Result, Ok, Err, if◌then◌else◌, is_some, slice_index_or, slice_set, replicate}
+use Rattle.std.specs.Prelude.{◌≡◌, ℕ, ◌+◌, ◌≤◌, Bool, true, false, not, ◌&&◌, ◌||◌, ◌⊎◌, List, ◌==◌, nat_lt, nat_le, bit_and, bit_or, length, Option, Some, None, Result, Ok, Err, if◌then◌else◌, is_some, slice_index_or, slice_set, replicate}
 use Rattle.vhost_queue.specs.Chain.{Following, begun, following, segment_limit, step}
 use Rattle.vhost_queue.specs.declared.descriptor.Descriptor.{Descriptor}
 use Rattle.vhost_queue.specs.declared.descriptor.Segment.{Segment}
@@ -47,6 +47,12 @@ abbrev pub popped : PackedQueue → State → ℕ → Result (Bool × State) Err
 popped q s flags =
     if s.needs_reset then Err NeedsReset
     else if not (is_available s.avail.wrap flags) then Ok (false, s)
+    else beginning s (begun q.rings.desc_ring q.rings.size (segment_limit q.rings.size q.indirect_desc) q.indirect_desc s.avail.index)
+
+-- a chain that was not used before a crash is followed again, at the next place, by what the inflight region has of its descriptors
+abbrev pub resubmitted : PackedQueue → State → Result (Bool × State) Error
+resubmitted q s =
+    if s.needs_reset then Err NeedsReset
     else beginning s (begun q.rings.desc_ring q.rings.size (segment_limit q.rings.size q.indirect_desc) q.indirect_desc s.avail.index)
 
 -- the place behind the i-th

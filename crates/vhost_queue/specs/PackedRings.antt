@@ -1,6 +1,8 @@
 -- The three parts of a packed queue: virtio 1.2, 2.8.
-use Rattle.std.specs.Prelude.{◌*◌}
+use Rattle.std.specs.Prelude.{◌≡◌, ℕ, ◌*◌, List, Ok}
+use Rattle.vhost_queue.specs.Memory.{part_of}
 use Rattle.vhost_queue.specs.Places.{at}
+use Rattle.vhost_queue.specs.declared.memory.GuestRegion.{GuestRegion}
 use Rattle.vhost_queue.specs.declared.memory.HostRange.{HostRange}
 use Rattle.vhost_queue.specs.declared.packed_rings.PackedRings.{PackedRings}
 
@@ -12,3 +14,8 @@ driver_range r = at r.driver_event 4
 
 abbrev pub device_range : PackedRings → HostRange
 device_range r = at r.device_event 4
+
+-- they are mapped where the frontend has them, at these addresses
+abbrev pub AreAt : List GuestRegion → PackedRings → ℕ → ℕ → ℕ → Type 0
+AreAt rs r ring driver device =
+    (part_of rs ring (16 * r.size) 16 ≡ Ok (ring_range r)) × (part_of rs driver 4 4 ≡ Ok (driver_range r)) × (part_of rs device 4 4 ≡ Ok (device_range r))

@@ -1,6 +1,8 @@
 -- The three parts of a split queue, and where the fields of its rings lie: virtio 1.2, 2.7.
-use Rattle.std.specs.Prelude.{◌+◌, ◌*◌}
+use Rattle.std.specs.Prelude.{◌≡◌, ℕ, ◌+◌, ◌*◌, List, Ok}
+use Rattle.vhost_queue.specs.Memory.{part_of}
 use Rattle.vhost_queue.specs.Places.{at}
+use Rattle.vhost_queue.specs.declared.memory.GuestRegion.{GuestRegion}
 use Rattle.vhost_queue.specs.declared.memory.HostRange.{HostRange}
 use Rattle.vhost_queue.specs.declared.rings.Rings.{Rings}
 
@@ -12,3 +14,8 @@ avail_range r = at r.avail_ring (6 + 2 * r.size)
 
 abbrev pub used_range : Rings → HostRange
 used_range r = at r.used_ring (6 + 8 * r.size)
+
+-- they are mapped where the frontend has them, at these addresses
+abbrev pub AreAt : List GuestRegion → Rings → ℕ → ℕ → ℕ → Type 0
+AreAt rs r table avail used =
+    (part_of rs table (16 * r.size) 16 ≡ Ok (table_range r)) × (part_of rs avail (6 + 2 * r.size) 2 ≡ Ok (avail_range r)) × (part_of rs used (6 + 8 * r.size) 4 ≡ Ok (used_range r))

@@ -85,7 +85,7 @@ pub fn inflight_after_used(head: u16, idx: u16) -> [InflightWrite; 2]
     [write(entry, 1, 0), write(USED_IDX, 2, u64::from(idx))]
 }
 
-fn write(offset: u64, len: u64, value: u64) -> InflightWrite
+pub(crate) fn write(offset: u64, len: u64, value: u64) -> InflightWrite
     ensures { result ≡ at offset len value }
 {
     InflightWrite { offset, len, value }
@@ -134,7 +134,11 @@ fn mark_batch(alloc: Global, entries: &[InflightEntry], first: u16, count: u16) 
 }
 
 // The heads in flight, but for those that are marked.
-fn in_flight(alloc: Global, entries: &[InflightEntry], marks: &[bool]) -> Result<Vec<Resubmit>>
+pub(crate) fn in_flight(
+    alloc: Global,
+    entries: &[InflightEntry],
+    marks: &[bool],
+) -> Result<Vec<Resubmit>>
     requires few { length entries.now ≤ 32768 }
     requires same { length marks.now ≡ length entries.now }
     ensures ok { IfOk result (λ again. again.items ≡ pending entries.now marks.now 0) }

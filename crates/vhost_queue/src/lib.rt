@@ -9,6 +9,7 @@ mod log;
 mod memory;
 mod notification;
 mod packed;
+mod packed_inflight;
 mod packed_rings;
 mod packed_serving;
 mod part;
@@ -30,6 +31,10 @@ pub use log::{DirtyPages, LOG_PAGE_SIZE, LogBit, dirty_pages, log_bit};
 pub use memory::{AddressSpace, GuestMemory, GuestRegion, HostRange, MAX_REGIONS};
 pub use notification::vring_need_event;
 pub use packed::{EventSuppression, PackedConfig, PackedDescriptor, PackedQueue, PackedUsed};
+pub use packed_inflight::{
+    PackedInflightHead, PackedRecovered, packed_inflight_after_used, packed_inflight_before_used,
+    packed_inflight_keep, packed_inflight_take, packed_recover,
+};
 pub use packed_rings::PackedRings;
 pub use packed_serving::{PackedShared, follow_packed, serve_next_packed, serve_packed};
 pub use queue::{MIN_INDIRECT_LIMIT, Queue, QueueConfig, RingWrite, UsedElem};

@@ -89,8 +89,8 @@ pub struct PackedQueue {
 
 impl PackedQueue {
     ghost use Rattle.std.specs.Prelude.{◌⊎◌, replicate, slice_index_or, slice_set, if◌then◌else◌, IfSome, IsSome};
-    ghost use Rattle.vhost_queue.specs.Chain.{place_of, table_of, Begins, FollowsOnce, GoesOn};
-    ghost use Rattle.vhost_queue.specs.Packed.{IsNew, IsSameQueue, IsToldOf, as_split, refused_step, fault_of, gone_on, is_last, popped, state, stepped, used, used_flags};
+    ghost use Rattle.vhost_queue.specs.Chain.{begun, place_of, table_of, Begins, FollowsOnce, GoesOn};
+    ghost use Rattle.vhost_queue.specs.Packed.{IsNew, IsSameQueue, IsToldOf, as_split, beginning, resubmitted, refused_step, fault_of, gone_on, is_last, popped, state, stepped, used, used_flags};
     ghost use Rattle.vhost_queue.specs.PackedRings.{ring_range, driver_range, device_range};
     ghost use Rattle.vhost_queue.specs.Places.{at, Within};
     ghost use Rattle.vhost_queue.specs.Wrap.{number_of, position_of, is_available};
@@ -151,6 +151,7 @@ impl PackedQueue {
     /// would have another size, and nothing changes.
     pub fn set_rings(&mut self, rings: PackedRings) -> Result<()>
         ensures ok { OnOk result ((self.new.rings ≡ rings) × (state self.new ≡ record (state self.old) { chain = record (state self.old).chain { next = None } })) }
+        ensures negotiated { (self.new.event_idx ≡ self.old.event_idx) × (self.new.indirect_desc ≡ self.old.indirect_desc) }
         ensures err { IfErr result (λ e. (e ≡ InvalidSize) × (rings.size ≢ self.old.rings.size)) }
         ensures kept { OnErr result (self.new ≡ self.old) }
     {
@@ -184,12 +185,39 @@ impl PackedQueue {
         if !self.avail.is_available(flags) {
             return Ok(false);
         }
+        self.begin()?;
+        Ok(true)
+    }
+
+    /// A chain that was the device's before a crash is again, and is followed. Until it has left the ring its descriptors are those that
+    /// the inflight region has, and none is read at its place. NeedsReset.
+    pub fn resubmit(&mut self) -> Result<()>
+        ensures ok { OnOk result (resubmitted self.old (state self.old) ≡ Ok (true, state self.new)) }
+        ensures begins { OnOk result (Begins (ring_range self.old.rings) (segment_limit self.old.rings.size self.old.indirect_desc) (state self.new).chain) }
+        ensures err { IfErr result (λ e. resubmitted self.old (state self.old) ≡ Err e) }
+        ensures kept { OnErr result (state self.new ≡ state self.old) }
+        ensures rings { IsSameQueue self.old self.new }
+    {
+        if self.needs_reset {
+            return Err(Error::NeedsReset);
+        }
+        self.begin()
+    }
+
+    // The chain at the next place is followed.
+    fn begin(&mut self) -> Result<()>
+        ensures ok { OnOk result (beginning (state self.old) (begun self.old.rings.desc_ring self.old.rings.size (segment_limit self.old.rings.size self.old.indirect_desc) self.old.indirect_desc (state self.old).avail.index) ≡ Ok (true, state self.new)) }
+        ensures begins { OnOk result (Begins (ring_range self.old.rings) (segment_limit self.old.rings.size self.old.indirect_desc) (state self.new).chain) }
+        ensures err { IfErr result (λ e. beginning (state self.old) (begun self.old.rings.desc_ring self.old.rings.size (segment_limit self.old.rings.size self.old.indirect_desc) self.old.indirect_desc (state self.old).avail.index) ≡ Err e) }
+        ensures kept { OnErr result (state self.new ≡ state self.old) }
+        ensures rings { IsSameQueue self.old self.new }
+    {
         let (ring, size) = (self.rings.desc_ring(), self.rings.size());
         self.chain
             .begin(ring, size, self.indirect_desc, self.avail.index)?;
         self.slots = 0;
         self.in_ring = true;
-        Ok(true)
+        Ok(())
     }
 
     /// Whether the descriptor that is to be read next is in the ring, so that its id may be the chain's.

@@ -26,7 +26,7 @@ impl PackedRings {
     ghost use Rattle.std.specs.Prelude.{◌⊎◌, IfErr, Err};
     ghost use Rattle.vhost_queue.specs.Memory.{part_of, LiesIn};
     ghost use Rattle.vhost_queue.specs.declared.error.Error.TheVariants.{InvalidSize};
-    ghost use Rattle.vhost_queue.specs.PackedRings.{ring_range, driver_range, device_range};
+    ghost use Rattle.vhost_queue.specs.PackedRings.{ring_range, driver_range, device_range, AreAt};
     ghost use Rattle.vhost_queue.specs.Places.{at, Within};
 
     /// Translates the frontend's addresses of a queue of this size. InvalidSize: it is 0 or above 32768. NotInGuest: a part does
@@ -39,6 +39,7 @@ impl PackedRings {
         device_event: u64,
     ) -> Result<PackedRings>
         ensures size { IfOk result (λ rings. rings.size ≡ size) }
+        ensures found { IfOk result (λ rings. AreAt memory.old.regions.items rings desc_ring driver_event device_event) }
         ensures ring { IfOk result (λ rings. LiesIn memory.old.regions.items (ring_range rings)) }
         ensures driver { IfOk result (λ rings. LiesIn memory.old.regions.items (driver_range rings)) }
         ensures device { IfOk result (λ rings. LiesIn memory.old.regions.items (device_range rings)) }

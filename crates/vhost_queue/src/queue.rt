@@ -136,6 +136,7 @@ impl Queue {
     /// would have another size, and nothing changes.
     pub fn set_rings(&mut self, rings: Rings) -> Result<()>
         ensures ok { OnOk result ((self.new.rings ≡ rings) × (state self.new ≡ record (state self.old) { chain = record (state self.old).chain { next = None } })) }
+        ensures negotiated { (self.new.event_idx ≡ self.old.event_idx) × (self.new.indirect_desc ≡ self.old.indirect_desc) }
         ensures err { IfErr result (λ e. (e ≡ InvalidSize) × (rings.size ≢ self.old.rings.size)) }
         ensures kept { OnErr result (self.new ≡ self.old) }
     {

@@ -30,7 +30,7 @@ impl Rings {
     ghost use Rattle.std.specs.Int.{is_power_of_two};
     ghost use Rattle.vhost_queue.specs.Memory.{part_of, LiesIn};
     ghost use Rattle.vhost_queue.specs.declared.error.Error.TheVariants.{InvalidSize};
-    ghost use Rattle.vhost_queue.specs.Rings.{table_range, avail_range, used_range};
+    ghost use Rattle.vhost_queue.specs.Rings.{table_range, avail_range, used_range, AreAt};
     ghost use Rattle.vhost_queue.specs.Places.{at, Within};
 
     /// Translates the frontend's addresses of a queue of this size. InvalidSize: it is 0, no power of two or above 32768.
@@ -43,6 +43,7 @@ impl Rings {
         used_ring: u64,
     ) -> Result<Rings>
         ensures size { IfOk result (λ rings. rings.size ≡ size) }
+        ensures found { IfOk result (λ rings. AreAt memory.old.regions.items rings desc_table avail_ring used_ring) }
         ensures table { IfOk result (λ rings. LiesIn memory.old.regions.items (table_range rings)) }
         ensures avail { IfOk result (λ rings. LiesIn memory.old.regions.items (avail_range rings)) }
         ensures used { IfOk result (λ rings. LiesIn memory.old.regions.items (used_range rings)) }

@@ -9,7 +9,7 @@ use std::sync::{Arc, MutexGuard};
 
 use super::arrival::Arrival;
 use super::shared::{Shared, State};
-use super::{features_of, protocol_features_of, Device, MAX_QUEUE_SIZE, MAX_REGIONS};
+use super::{features_of, protocol_features_of, Device, MAX_QUEUE_SIZE, MAX_REGIONS, RING_PACKED};
 use crate::foreign::{Bell, Kick, PeerFd};
 use crate::queue::{DirtyLog, GuestAddress, GuestMemory, GuestRegion, InflightRegion};
 use crate::vhost_user::message::*;
@@ -364,7 +364,9 @@ impl<D: Device> VhostUserBackendReqHandler for Calls<D> {
     // -- The inflight region --
 
     fn get_inflight_fd(&self, wanted: &VhostUserInflight) -> Result<(VhostUserInflight, File)> {
-        let (made, file) = InflightRegion::create(wanted.num_queues, wanted.queue_size).map_err(|_| Error::MemFdCreateError)?;
+        let is_packed = self.shared.lock().features & RING_PACKED != 0;
+        let (made, file) =
+            InflightRegion::create_of(is_packed, wanted.num_queues, wanted.queue_size).map_err(|_| Error::MemFdCreateError)?;
         self.set_inflight_fd(&made, file.try_clone().map_err(failed)?)?;
         Ok((made, file))
     }
@@ -379,7 +381,8 @@ impl<D: Device> VhostUserBackendReqHandler for Calls<D> {
         if usize::from(told.num_queues) > state.rings.len() || told.queue_size > MAX_QUEUE_SIZE {
             return Err(Error::InvalidParam);
         }
-        let region = InflightRegion::map_for(&self.shared.holder, told, &file).map_err(failed)?;
+        let is_packed = state.features & RING_PACKED != 0;
+        let region = InflightRegion::map_for(&self.shared.holder, is_packed, told, &file).map_err(failed)?;
         state.inflight = Some(region);
         Ok(())
     }

@@ -26,7 +26,7 @@
 //! Or, in an event loop of one's own, which may have many, a [`Session`]: once its descriptor is readable, `handle_events`.
 //!
 //! *What it does by itself*: memory regions and their hot plug, rings, kicks and calls, EVENT_IDX and INDIRECT_DESC, the dirty log, the
-//! inflight region of split queues, postcopy, reset. Rings that a device before left with requests under way are gone on with, and these
+//! inflight region, postcopy, reset. Rings that a device before left with requests under way are gone on with, and these
 //! are handed out again ([`is_again`](crate::queue::DescriptorChain::is_again)).
 //!
 //! *The frontend is not trusted.* Only memory files are mapped (memfd, tmpfs, hugetlbfs), since the pages of another may be kept back by
@@ -86,8 +86,7 @@ pub trait Device: Send + Sync {
         1
     }
 
-    /// What is offered, beside what is offered in any case: VERSION_1, EVENT_IDX, INDIRECT_DESC, LOG_ALL and PROTOCOL_FEATURES. With
-    /// [`RING_PACKED`] no inflight region is offered.
+    /// What is offered, beside what is offered in any case: VERSION_1, EVENT_IDX, INDIRECT_DESC, LOG_ALL and PROTOCOL_FEATURES.
     fn features(&self) -> u64 {
         0
     }
@@ -208,13 +207,11 @@ fn protocol_features_of(device: &impl Device) -> VhostUserProtocolFeatures {
         | VhostUserProtocolFeatures::MQ
         | VhostUserProtocolFeatures::LOG_SHMFD
         | VhostUserProtocolFeatures::REPLY_ACK
+        | VhostUserProtocolFeatures::INFLIGHT_SHMFD
         | VhostUserProtocolFeatures::RESET_DEVICE
         | VhostUserProtocolFeatures::CONFIGURE_MEM_SLOTS;
     if cfg!(not(feature = "compat-0_17")) {
         features |= VhostUserProtocolFeatures::PAGEFAULT;
-    }
-    if device.features() & RING_PACKED == 0 {
-        features |= VhostUserProtocolFeatures::INFLIGHT_SHMFD;
     }
     features
 }

@@ -177,8 +177,8 @@ impl State {
         ring.queue.set_event_idx(features & EVENT_IDX != 0);
         ring.queue.set_indirect(features & INDIRECT_DESC != 0);
         match &self.inflight {
-            Some(region) if features & RING_PACKED == 0 => ring.queue.start_with(region, index)?,
-            _ => ring.queue.set_ready(true)?,
+            Some(region) => ring.queue.start_with(region, index)?,
+            None => ring.queue.set_ready(true)?,
         }
         (ring.is_due, ring.is_broken, ring.is_ending) = (true, false, false);
         self.set_log(index);

@@ -7,7 +7,7 @@ use std::mem::zeroed;
 use std::ops::Deref;
 use std::os::unix::io::AsRawFd;
 use std::ptr::null_mut;
-use std::sync::atomic::{AtomicBool, AtomicU16, AtomicU64, AtomicU8, Ordering};
+use std::sync::atomic::{AtomicBool, AtomicU16, AtomicU32, AtomicU64, AtomicU8, Ordering};
 use std::sync::Arc;
 
 use super::guard::{Holder, Place};
@@ -114,6 +114,13 @@ impl Mapping {
     pub(crate) fn store16(&self, offset: usize, value: u16) {
         let at = self.at::<AtomicU16>(offset, 2);
         assert!(at as usize % 2 == 0);
+        // SAFETY: as above.
+        unsafe { &*at }.store(value.to_le(), Ordering::Release);
+    }
+
+    pub(crate) fn store32(&self, offset: usize, value: u32) {
+        let at = self.at::<AtomicU32>(offset, 4);
+        assert!(at as usize % 4 == 0);
         // SAFETY: as above.
         unsafe { &*at }.store(value.to_le(), Ordering::Release);
     }

@@ -30,8 +30,9 @@ pub use guest::VolatileSlice;
 pub(crate) use guest::{Mapping, Region as GuestRegion, Regions, Slices};
 pub(crate) use moving::{Asks, Code, Moves, Outcome, Serves, MAX_FDS, MAX_MESSAGE};
 pub(crate) use queue::{
-    inflight_after_used, inflight_before_used, inflight_recover, inflight_take, log_bit_of, log_pages, Chain, CoreQueue,
-    InflightEntry, Notes, PackedRing, Range, Resubmit, SplitRing,
+    inflight_after_used, inflight_after_used_packed, inflight_before_used, inflight_before_used_packed, inflight_keep_packed,
+    inflight_recover, inflight_recover_packed, inflight_take, inflight_take_packed, log_bit_of, log_pages, Chain, CoreQueue,
+    Descriptor, InflightEntry, InflightWrite, PackedInflightHead, PackedRing, Range, Resubmit, SplitRing,
 };
 pub(crate) use session::{Inflight, Region, Session, Vring};
 pub(crate) use signals::EndSignals;

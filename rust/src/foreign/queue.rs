@@ -63,11 +63,12 @@ pub(crate) struct PackedRing {
 
 /// `covretin_descriptor`.
 #[repr(C)]
-struct Descriptor {
-    addr: u64,
-    len: u32,
-    third: u16,
-    fourth: u16,
+#[derive(Clone, Copy)]
+pub(crate) struct Descriptor {
+    pub(crate) addr: u64,
+    pub(crate) len: u32,
+    pub(crate) third: u16,
+    pub(crate) fourth: u16,
 }
 
 /// `covretin_segment`.
@@ -115,6 +116,15 @@ pub(crate) struct InflightEntry {
     pub(crate) counter: u64,
 }
 
+/// `covretin_packed_inflight_head`.
+#[repr(C)]
+#[derive(Clone, Copy, Default)]
+pub(crate) struct PackedInflightHead {
+    pub(crate) free_head: u16,
+    pub(crate) used_idx: u16,
+    pub(crate) used_wrap_counter: bool,
+}
+
 /// `covretin_resubmit`.
 #[repr(C)]
 #[derive(Clone, Copy, Default)]
@@ -139,6 +149,7 @@ extern "C" {
     fn covretin_queue_start_split(queue: &mut Raw, ring: &SplitRing) -> u32;
     fn covretin_queue_start_packed(queue: &mut Raw, ring: &PackedRing) -> u32;
     fn covretin_queue_move_split(queue: &mut Raw, desc_table: u64, avail_ring: u64, used_ring: u64) -> u32;
+    fn covretin_queue_move_packed(queue: &mut Raw, desc_ring: u64, driver_event: u64, device_event: u64) -> u32;
     fn covretin_queue_stop(queue: &mut Raw) -> u32;
     fn covretin_queue_base(queue: &mut Raw, base: &mut u32) -> u32;
     fn covretin_queue_needs_reset(queue: &mut Raw, needs_reset: &mut bool) -> u32;
@@ -147,6 +158,7 @@ extern "C" {
     fn covretin_queue_head_place(queue: &mut Raw, place: &mut Range) -> u32;
     fn covretin_queue_pop(queue: &mut Raw, head: u16) -> u32;
     fn covretin_queue_resubmit(queue: &mut Raw, head: u16) -> u32;
+    fn covretin_queue_resubmit_packed(queue: &mut Raw) -> u32;
     fn covretin_queue_descriptor_place(queue: &mut Raw, place: &mut Range, found: &mut bool) -> u32;
     fn covretin_queue_step(queue: &mut Raw, descriptor: &Descriptor, segment: &mut Segment, found: &mut bool) -> u32;
     fn covretin_queue_add_used(queue: &mut Raw, id: u16, len: u32, used: &mut RawUsed) -> u32;
@@ -164,6 +176,37 @@ extern "C" {
         ring_idx: u16,
         settled: *mut bool,
         settled_len: usize,
+        again: *mut Resubmit,
+        again_len: usize,
+        count: &mut usize,
+    ) -> u32;
+    fn covretin_inflight_keep_packed(index: u16, descriptor: &Descriptor, first: &mut InflightWrite, second: &mut InflightWrite);
+    fn covretin_inflight_take_packed(
+        head: u16,
+        last: u16,
+        num: u16,
+        counter: u64,
+        free_head: u16,
+        writes: &mut [InflightWrite; 4],
+    );
+    fn covretin_inflight_before_used_packed(
+        head: u16,
+        last: u16,
+        free_head: u16,
+        used: u16,
+        old_used: u16,
+        writes: &mut [InflightWrite; 3],
+    );
+    fn covretin_inflight_after_used_packed(head: u16, used: u16, writes: &mut [InflightWrite; 3]);
+    fn covretin_inflight_recover_packed(
+        entries: *const InflightEntry,
+        entries_len: usize,
+        now: &PackedInflightHead,
+        old: &PackedInflightHead,
+        flags: u16,
+        head: &mut PackedInflightHead,
+        free: *mut bool,
+        free_len: usize,
         again: *mut Resubmit,
         again_len: usize,
         count: &mut usize,
@@ -269,6 +312,16 @@ impl CoreQueue {
         Ok((range.addr, unsafe { load(range.addr + 2) }))
     }
 
+    /// The flags of the descriptor at this index of a packed ring, at this address of the frontend. Unaligned.
+    pub(crate) fn packed_flags(&mut self, desc_ring: u64, index: u16) -> Result<u16, Error> {
+        let range = self.translate(true, desc_ring.wrapping_add(16 * u64::from(index) + 14), 2)?;
+        if range.addr % 2 != 0 {
+            return Err(Error::Unaligned);
+        }
+        // SAFETY: as above, of `seen`; it is aligned.
+        Ok(unsafe { load(range.addr) })
+    }
+
     pub(crate) fn start_split(&mut self, ring: &SplitRing) -> Result<(), Error> {
         // SAFETY: as above.
         outcome(unsafe { covretin_queue_start_split(&mut self.raw, ring) })?;
@@ -286,6 +339,13 @@ impl CoreQueue {
     pub(crate) fn move_split(&mut self, desc_table: u64, avail_ring: u64, used_ring: u64) -> Result<(), Error> {
         // SAFETY: as above.
         outcome(unsafe { covretin_queue_move_split(&mut self.raw, desc_table, avail_ring, used_ring) })?;
+        self.rings = self.seen.clone();
+        Ok(())
+    }
+
+    pub(crate) fn move_packed(&mut self, desc_ring: u64, driver_event: u64, device_event: u64) -> Result<(), Error> {
+        // SAFETY: as above.
+        outcome(unsafe { covretin_queue_move_packed(&mut self.raw, desc_ring, driver_event, device_event) })?;
         self.rings = self.seen.clone();
         Ok(())
     }
@@ -338,8 +398,19 @@ impl CoreQueue {
         outcome(unsafe { covretin_queue_resubmit(&mut self.raw, head) })
     }
 
-    /// Follows a chain to its end. ChainTooLong: it has more than so many parts.
-    pub(crate) fn follow(&mut self, most: usize) -> Result<Chain, Error> {
+    /// Begins with a chain of a packed queue that was taken before a crash.
+    pub(crate) fn resubmit_packed(&mut self) -> Result<(), Error> {
+        // SAFETY: as above.
+        outcome(unsafe { covretin_queue_resubmit_packed(&mut self.raw) })
+    }
+
+    /// Follows a chain to its end. `in_ring` is told each descriptor that is in no indirect table, and says which one is followed. ChainTooLong:
+    /// it has more than so many parts.
+    pub(crate) fn follow(
+        &mut self,
+        most: usize,
+        mut in_ring: impl FnMut(Descriptor) -> Result<Descriptor, Error>,
+    ) -> Result<Chain, Error> {
         let mut chain = Chain { slices: Slices::of(self.seen.clone()), readable: 0, written: Vec::new(), id: 0 };
         let mut is_indirect = false;
         loop {
@@ -353,7 +424,10 @@ impl CoreQueue {
                 return Err(Error::ChainTooLong);
             }
             // SAFETY: as above.
-            let descriptor = unsafe { load_descriptor(place.addr) };
+            let mut descriptor = unsafe { load_descriptor(place.addr) };
+            if !is_indirect {
+                descriptor = in_ring(descriptor)?;
+            }
             // SAFETY: as above.
             outcome(unsafe { covretin_queue_step(&mut self.raw, &descriptor, &mut segment, &mut found) })?;
             if !is_indirect {
@@ -372,13 +446,13 @@ impl CoreQueue {
     }
 
     /// Gives a chain back; `between` is done once its element was written, and before the driver is told of it.
-    pub(crate) fn add_used(&mut self, id: u16, len: u32, between: impl FnOnce()) -> Result<Used, Error> {
+    pub(crate) fn add_used(&mut self, id: u16, len: u32, between: impl FnOnce(&mut Self)) -> Result<Used, Error> {
         let mut used = RawUsed::default();
         // SAFETY: as above; the places are of `rings`.
         outcome(unsafe { covretin_queue_add_used(&mut self.raw, id, len, &mut used) })?;
         // SAFETY: as above.
         unsafe { store(used.elem, used.elem_value) };
-        between();
+        between(self);
         // SAFETY: as above.
         unsafe { atomic(used.then.addr) }.store(used.then_value.to_le(), Ordering::Release);
         Ok(Used { elem: used.elem, then: used.then, then_value: used.then_value })
@@ -525,6 +599,61 @@ pub(crate) fn inflight_recover(
     })?;
     again.truncate(count);
     Ok((settled, again))
+}
+
+pub(crate) fn inflight_keep_packed(index: u16, descriptor: &Descriptor) -> Notes {
+    // SAFETY: as above.
+    notes(|first, second| unsafe { covretin_inflight_keep_packed(index, descriptor, first, second) })
+}
+
+pub(crate) fn inflight_take_packed(head: u16, last: u16, num: u16, counter: u64, free_head: u16) -> [InflightWrite; 4] {
+    let mut writes = [InflightWrite::default(); 4];
+    // SAFETY: as above.
+    unsafe { covretin_inflight_take_packed(head, last, num, counter, free_head, &mut writes) };
+    writes
+}
+
+pub(crate) fn inflight_before_used_packed(head: u16, last: u16, free_head: u16, used: u16, old_used: u16) -> [InflightWrite; 3] {
+    let mut writes = [InflightWrite::default(); 3];
+    // SAFETY: as above.
+    unsafe { covretin_inflight_before_used_packed(head, last, free_head, used, old_used, &mut writes) };
+    writes
+}
+
+pub(crate) fn inflight_after_used_packed(head: u16, used: u16) -> [InflightWrite; 3] {
+    let mut writes = [InflightWrite::default(); 3];
+    // SAFETY: as above.
+    unsafe { covretin_inflight_after_used_packed(head, used, &mut writes) };
+    writes
+}
+
+/// What a crash left of a packed queue: which state of its area holds, which entries are free, and which are to be taken again.
+pub(crate) fn inflight_recover_packed(
+    entries: &[InflightEntry],
+    now: &PackedInflightHead,
+    old: &PackedInflightHead,
+    flags: u16,
+) -> Result<(PackedInflightHead, Vec<bool>, Vec<Resubmit>), Error> {
+    let (mut free, mut again) = (vec![false; entries.len()], vec![Resubmit::default(); entries.len()]);
+    let (mut head, mut count) = (PackedInflightHead::default(), 0);
+    // SAFETY: as above.
+    outcome(unsafe {
+        covretin_inflight_recover_packed(
+            entries.as_ptr(),
+            entries.len(),
+            now,
+            old,
+            flags,
+            &mut head,
+            free.as_mut_ptr(),
+            free.len(),
+            again.as_mut_ptr(),
+            again.len(),
+            &mut count,
+        )
+    })?;
+    again.truncate(count);
+    Ok((head, free, again))
 }
 
 /// The pages of a range that a log of so many bytes has bits for.

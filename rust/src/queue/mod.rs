@@ -41,6 +41,7 @@ use std::{error, fmt, io};
 mod chain;
 mod files;
 mod inflight;
+mod inflight_packed;
 mod memory;
 mod ring;
 

@@ -3,6 +3,7 @@
 use std::collections::VecDeque;
 
 use super::inflight::Area;
+use super::inflight_packed::PackedArea;
 use super::{DescriptorChain, DirtyLog, Error, GuestAddress, GuestMemory, InflightRegion, Result, MAX_PARTS};
 use crate::foreign::{Chain, CoreQueue, PackedRing, Range, SplitRing};
 
@@ -35,6 +36,7 @@ pub struct Queue {
     log: Option<DirtyLog>,
     log_addr: Option<GuestAddress>,
     inflight: Option<Area>,
+    packed_inflight: Option<PackedArea>,
     /// What is to be taken again.
     again: VecDeque<u16>,
 }
@@ -64,14 +66,15 @@ impl Queue {
             log: None,
             log_addr: None,
             inflight: None,
+            packed_inflight: None,
             again: VecDeque::new(),
         })
     }
 
     // -- Where it lies --
 
-    /// It sees this memory from now on. A split queue that is ready is found there; where it lies in none of it, nothing is taken until it
-    /// does, and what it has stays mapped. A packed one stays where it is mapped. OutOfMemory: nothing changed.
+    /// It sees this memory from now on. A queue that is ready is found there; where it lies in none of it, nothing is taken until it does, and
+    /// what it has stays mapped. OutOfMemory: nothing changed.
     pub fn set_memory(&mut self, memory: &GuestMemory) -> Result<()> {
         self.core.set_regions(memory.regions())?;
         self.find_rings();
@@ -112,9 +115,14 @@ impl Queue {
         self.used_ring = user_addr;
     }
 
-    /// Finds the rings anew where they were told to lie: by a split queue that is ready, whose addresses changed.
+    /// Finds the rings anew where they were told to lie: by a queue that is ready, whose addresses changed.
     pub fn find_rings(&mut self) {
-        if !self.is_ready || self.is_packed {
+        if !self.is_ready {
+            return;
+        }
+        if self.is_packed {
+            self.is_away = self.core.move_packed(self.desc_table, self.avail_ring, self.used_ring).is_err();
+            self.available = 0; // (the chain that was found is none any more)
             return;
         }
         let is_there = self.core.move_split(self.desc_table, self.avail_ring, self.used_ring).is_ok();
@@ -191,7 +199,7 @@ impl Queue {
     /// Starts it at its base, or stops it. InvalidSize, NotInGuest, Unaligned, InvalidBase, OutOfMemory: it is not started.
     pub fn set_ready(&mut self, ready: bool) -> Result<()> {
         match ready {
-            true => self.start(None),
+            true => self.start(None, None),
             false => {
                 self.stop();
                 Ok(())
@@ -199,18 +207,20 @@ impl Queue {
         }
     }
 
-    /// Starts a split queue with the part of an inflight region that the queue of this number has, if it has one: where the device before
-    /// was stopped. What that had not given back is handed out again, in its order. InvalidInflight: the part is another queue's; others
-    /// are those of `set_ready`.
+    /// Starts it with the part of an inflight region that the queue of this number has, if it has one: where the device before was stopped.
+    /// What that had not given back is handed out again, in its order. InvalidInflight: the part is another queue's; others are those of
+    /// `set_ready`.
     pub fn start_with(&mut self, inflight: &InflightRegion, queue: usize) -> Result<()> {
-        let area = inflight.area(queue, self.size);
-        self.start(area)
+        match self.is_packed {
+            true => self.start(None, inflight.packed_area(queue, self.size)),
+            false => self.start(inflight.area(queue, self.size), None),
+        }
     }
 
-    fn start(&mut self, inflight: Option<Area>) -> Result<()> {
+    fn start(&mut self, inflight: Option<Area>, packed: Option<PackedArea>) -> Result<()> {
         self.stop();
         match self.is_packed {
-            true => self.start_packed()?,
+            true => self.start_packed(packed)?,
             false => self.start_split(inflight)?,
         }
         self.is_ready = true;
@@ -238,8 +248,14 @@ impl Queue {
         Ok(())
     }
 
-    fn start_packed(&mut self) -> Result<()> {
-        let base = self.base();
+    fn start_packed(&mut self, mut inflight: Option<PackedArea>) -> Result<()> {
+        let (mut base, mut again) = (self.base(), VecDeque::new());
+        if let Some(inflight) = &mut inflight {
+            let (core, ring) = (&mut self.core, self.desc_table);
+            let (used, heads) = inflight.recover((base >> 16) as u16, |index| core.packed_flags(ring, index))?;
+            again = heads.iter().map(|it| it.head).collect();
+            base = u32::from(used) << 16 | u32::from(used); // (what is taken again lies between)
+        }
         self.core.start_packed(&PackedRing {
             desc_ring: self.desc_table,
             driver_event: self.avail_ring,
@@ -249,7 +265,9 @@ impl Queue {
             used: (base >> 16) as u16,
             event_idx: self.has_event_idx,
             indirect_desc: self.has_indirect,
-        })
+        })?;
+        (self.packed_inflight, self.again) = (inflight, again);
+        Ok(())
     }
 
     fn stop(&mut self) {
@@ -259,7 +277,7 @@ impl Queue {
         self.core.stop();
         (self.is_ready, self.is_away, self.is_broken) = (false, false, false);
         self.available = 0;
-        self.inflight = None;
+        (self.inflight, self.packed_inflight) = (None, None);
         self.again.clear();
     }
 
@@ -315,8 +333,7 @@ impl Queue {
             return Ok(None);
         }
         if let Some(head) = self.again.pop_front() {
-            self.core.resubmit(head)?;
-            return Ok(Some(DescriptorChain::of(self.follow()?, head, true)));
+            return self.take_again(head).map(Some);
         }
         if self.available == 0 {
             self.available = self.core.available()?;
@@ -326,9 +343,7 @@ impl Queue {
         }
         self.available -= 1;
         if self.is_packed {
-            let chain = self.follow()?;
-            let id = chain.id;
-            return Ok(Some(DescriptorChain::of(chain, id, false)));
+            return self.take_packed().map(Some);
         }
         let head = self.core.pop()?;
         if let Some(inflight) = &mut self.inflight {
@@ -337,20 +352,62 @@ impl Queue {
         Ok(Some(DescriptorChain::of(self.follow()?, head, false)))
     }
 
+    /// A request that the device before had: of a packed queue by its first entry.
+    fn take_again(&mut self, head: u16) -> Result<DescriptorChain> {
+        let most = self.most_parts();
+        if let Some(inflight) = &mut self.packed_inflight {
+            let mut kept = PackedArea::begin_again(head);
+            self.core.resubmit_packed()?;
+            let chain = self.core.follow(most, |_| inflight.kept(&mut kept))?;
+            let id = chain.id;
+            inflight.take_again(id, kept);
+            return Ok(DescriptorChain::of(chain, id, true));
+        }
+        self.core.resubmit(head)?;
+        Ok(DescriptorChain::of(self.follow()?, head, true))
+    }
+
+    fn take_packed(&mut self) -> Result<DescriptorChain> {
+        let most = self.most_parts();
+        let chain = match &mut self.packed_inflight {
+            None => self.core.follow(most, Ok)?,
+            Some(inflight) => {
+                let mut kept = inflight.begin();
+                let chain = self.core.follow(most, |descriptor| inflight.keep(&mut kept, descriptor))?;
+                inflight.take(chain.id, kept);
+                chain
+            }
+        };
+        let id = chain.id;
+        Ok(DescriptorChain::of(chain, id, false))
+    }
+
+    fn most_parts(&self) -> usize {
+        MAX_PARTS.max(self.size.into())
+    }
+
     fn follow(&mut self) -> Result<Chain> {
-        self.core.follow(MAX_PARTS.max(self.size.into()))
+        self.core.follow(self.most_parts(), Ok)
     }
 
     /// Gives a request back, of which so many bytes were written, from the first that is to be written on. In any order. All that was to be
     /// written is logged, whatever of it was. NotStarted; NotHandedOut: the device has no such request.
     pub fn add_used(&mut self, chain: &DescriptorChain, len: u32) -> Result<()> {
-        let (id, inflight) = (chain.id, &self.inflight);
+        let (id, inflight, packed) = (chain.id, &self.inflight, &mut self.packed_inflight);
         if let Some(log) = &self.log {
             chain.written.iter().for_each(|(guest, size)| log.mark(GuestAddress(*guest), *size));
         }
-        let used = self.core.add_used(id, len, || inflight.iter().for_each(|inflight| inflight.before_used(id)))?;
+        let used = self.core.add_used(id, len, |core| {
+            inflight.iter().for_each(|inflight| inflight.before_used(id));
+            if let (Some(packed), Ok(base)) = (packed, core.base()) {
+                packed.before_used(id, (base >> 16) as u16);
+            }
+        })?;
         if let Some(inflight) = &self.inflight {
             inflight.after_used(id, used.then_value);
+        }
+        if let Some(inflight) = &self.packed_inflight {
+            inflight.after_used(id);
         }
         self.log_ring(used.elem);
         self.log_ring(used.then);

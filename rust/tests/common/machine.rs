@@ -354,6 +354,16 @@ impl Ring {
         (self.posted, self.seen) = (base, base);
     }
 
+    /// A packed ring of so many descriptors, at its first place, or where an inflight region has it.
+    pub fn start_packed(&self, it: &mut Frontend, size: u16) {
+        let index = self.index as usize;
+        it.set_vring_num(index, size).unwrap();
+        it.set_vring_addr(index, &self.config(None)).unwrap();
+        it.set_vring_call(index, &self.call).unwrap();
+        it.set_vring_kick(index, &self.kick).unwrap();
+        it.set_vring_enable(index, true).unwrap();
+    }
+
     /// It was stopped, and goes on there.
     pub fn start_again(&mut self, it: &mut Frontend, base: u16) {
         let (posted, seen) = (self.posted, self.seen);
