@@ -2,9 +2,10 @@
 # The library for programs in C: the proved part as assembly (generated/) and the C of c/. It needs make and a C compiler.
 #
 #   make                  build/: libcovretin.a, libcovretin.so, covretin.pc
-#   make programs         build/vhost-run, build/vhost-daemon: proved programs, for x86-64
+#   make programs         build/covretin-ask; and for x86-64 build/vhost-run and build/vhost-daemon, which are proved
 #   make check            the tests in C
-#   make install          to PREFIX, or LIBDIR, INCLUDEDIR, DATADIR, MANDIR; below DESTDIR
+#   make install          all of these, and covretin, which runs them, to PREFIX, or BINDIR, LIBDIR, INCLUDEDIR, DATADIR, MANDIR; below
+#                         DESTDIR; also build/covretin-tap, where cargo's was put there
 #   make uninstall        removes what that put there
 #   make dist             covretin-VERSION.tar.xz, the same bytes wherever it is made, and SHA256SUMS
 #   make crate            the package for Rust as cargo packs it, in rust/target/package; CARGO names another cargo, with its options
@@ -88,7 +89,13 @@ $(BUILD)/covretin.pc: FORCE
 	    'Description: both sides of vhost-user, with proofs' 'Version: $(VERSION)' 'Cflags: -I$${includedir}' \
 	    'Libs: -L$${libdir} -lcovretin' 'Libs.private: -pthread' >$@
 
-programs: $(BUILD)/vhost-run $(BUILD)/vhost-daemon
+PROGRAMS := covretin-ask $(notdir $(basename $(wildcard $(GENERATED)/vhost-*.s)))
+programs: $(PROGRAMS:%=$(BUILD)/%)
+
+# It notes the bytes that go through the glue, so it is linked with its objects.
+ASKING := $(BUILD)/proved.o $(BUILD)/covretin_transport.o $(BUILD)/covretin_text.o $(BUILD)/covretin_memory.o
+$(BUILD)/covretin-ask: $(BUILD)/ask.o $(BUILD)/ask_calls.o $(ASKING)
+	$(CC) $(CFLAGS) $(LDFLAGS) -pthread -o $@ $^
 
 $(BUILD)/vhost-%: $(GENERATED)/vhost-%.s $(BUILD)/covretin_program.o $(BUILD)/covretin_memory.o
 	$(CC) $(OF_MACHINE) -c -o $@.o $<
@@ -98,19 +105,23 @@ $(BUILD)/vhost-%: $(GENERATED)/vhost-%.s $(BUILD)/covretin_program.o $(BUILD)/co
 check: all
 	CC='$(CC)' AR='$(AR)' ./test-c
 
-FOLDERS = $(LIBDIR)/pkgconfig $(INCLUDEDIR) $(DATADIR)/covretin $(DOCDIR)/examples $(MANDIR)/man1 $(MANDIR)/man7
+FOLDERS = $(BINDIR) $(LIBDIR)/pkgconfig $(INCLUDEDIR) $(DATADIR)/covretin $(DOCDIR)/examples $(MANDIR)/man1 $(MANDIR)/man7
 HEADERS := $(wildcard include/*.h)
 EXAMPLES := c/frontend.c c/rng.c c/blk.c c/net.c c/covretin_transport.h
 PAGES1 := $(notdir $(wildcard man/*.1))
 PAGES7 := $(notdir $(wildcard man/*.7))
 
-install: all
+# (what was built, and cargo's)
+INSTALLED = covretin $(PROGRAMS:%=$(BUILD)/%) $(wildcard $(BUILD)/covretin-tap)
+
+install: all programs
 	$(INSTALL) -d -m 755 $(FOLDERS:%=$(DESTDIR)%)
 	$(INSTALL) -m 644 $(BUILD)/libcovretin.a $(DESTDIR)$(LIBDIR)
 	$(INSTALL) -m 755 $(BUILD)/$(SHARED) $(DESTDIR)$(LIBDIR)
 	ln -sf $(SHARED) $(DESTDIR)$(LIBDIR)/$(SONAME)
 	ln -sf $(SHARED) $(DESTDIR)$(LIBDIR)/libcovretin.so
 	$(INSTALL) -m 644 $(BUILD)/covretin.pc $(DESTDIR)$(LIBDIR)/pkgconfig
+	$(INSTALL) -m 755 $(INSTALLED) $(DESTDIR)$(BINDIR)
 	$(INSTALL) -m 644 $(HEADERS) $(DESTDIR)$(INCLUDEDIR)
 	$(INSTALL) -m 644 $(sort $(wildcard $(GENERATED)/covretin*.verdict $(GENERATED)/covretin*.sources)) $(DESTDIR)$(DATADIR)/covretin
 	$(INSTALL) -m 644 $(EXAMPLES) $(DESTDIR)$(DOCDIR)/examples
@@ -118,6 +129,7 @@ install: all
 	$(INSTALL) -m 644 $(PAGES7:%=man/%) $(DESTDIR)$(MANDIR)/man7
 
 uninstall:
+	cd $(DESTDIR)$(BINDIR) && rm -f covretin covretin-tap $(PROGRAMS)
 	cd $(DESTDIR)$(LIBDIR) && rm -f libcovretin.a $(SHARED) $(SONAME) libcovretin.so pkgconfig/covretin.pc
 	cd $(DESTDIR)$(INCLUDEDIR) && rm -f $(notdir $(HEADERS))
 	rm -rf $(DESTDIR)$(DATADIR)/covretin $(DESTDIR)$(DOCDIR)

@@ -13,7 +13,7 @@ def figures(program):
     ran = subprocess.run([program], stdout=subprocess.PIPE, text=True, check=False)
     if ran.returncode:
         print(f"bench: {program} ended with status {ran.returncode}", file=sys.stderr)
-        sys.exit(2)
+        sys.exit(4)
     found = {}
     for line in ran.stdout.splitlines():
         words = line.split()
@@ -21,7 +21,7 @@ def figures(program):
             found[words[0]] = float(words[1])
         except (IndexError, ValueError):
             print(f"bench: {program} printed no figure: {line}", file=sys.stderr)
-            sys.exit(2)
+            sys.exit(4)
     return found
 
 

@@ -1,8 +1,8 @@
 #!/usr/bin/env python3
 # SPDX-License-Identifier: Apache-2.0
-"""scripts/headers.py: whether each constant of the headers for C, and of the foreign calls in Rust, is that of the code; whether the
-library for C calls each request by its name; and whether the feature that a frontend's call needs is the same in the header, in the
-package for Rust and in docs/protocol/asking.md.
+"""scripts/headers.py: whether each constant of the headers for C, and of the foreign calls in Rust, is that of the code; and whether the
+feature that a frontend's call needs is the same in the header, in the package for Rust and in docs/protocol/asking.md. Names and forms of
+requests are compared by scripts/requests.py.
 
 Status 0 where all are; 1 where some are not: each is printed, with what stands there and what is wanted.
 """
@@ -148,16 +148,6 @@ def wrong_needs(bits):
     return wrong
 
 
-def wrong_names():
-    """Where the library for C calls a request otherwise than the code."""
-    text = read("c/covretin_text.c")
-    for table, path in (("frontend_requests", "frontend_req.rt"), ("backend_requests", "backend_req.rt")):
-        named = re.search(rf"\b{table}\[\] = {{(.*?)}};", text, re.DOTALL)[1]
-        named = {name: int(number) for number, name in re.findall(r'\[(\d+)\] = "(\w+)"', named)}
-        if named != codes(f"{MESSAGE}/{path}"):
-            yield f"c/covretin_text.c: {table} are not those of {MESSAGE}/{path}"
-
-
 def wrong_queue_errors():
     """Where the package for Rust has another number for an error of a queue than the header."""
     header = dict(re.findall(r"COVRETIN_QUEUE_(\w+) = (\d+)", read("include/covretin_queue.h")))
@@ -183,7 +173,6 @@ def main():
         for name, value in re.findall(r"const (\w+): usize = (\d+);", read(path)):
             if name in glue and int(value) != code[glue[name]]:
                 wrong.append(f"{path}: {name} is {value}, and of the code {code[glue[name]]}")
-    wrong += wrong_names()
     wrong += wrong_queue_errors()
     wrong += wrong_needs(constants(f"{MESSAGE}/protocol_bit.rt"))
     print("\n".join(wrong + [f"headers: {len(met)} constants, {len(wrong)} wrong"]))

@@ -892,7 +892,7 @@ def before_the_first_build(path):
 
 def commands_of_pages(_):
     """The page on the daemon, and the guide for Rattle where its kit is there, as a new user follows them."""
-    pages = ["docs/DAEMON.md", *(["docs/guide/rattle.md"] if shutil.which("rt") else [])]
+    pages = ["docs/DAEMON.md", "docs/COMMANDS.md", *(["docs/guide/rattle.md"] if shutil.which("rt") else [])]
     ran = subprocess.run([sys.executable, TOP / "scripts/try_pages.py", TOP, *pages], stdout=subprocess.PIPE, text=True, check=False)
     assert ran.returncode == 0, ran.stdout
     return ", ".join(ran.stdout.splitlines()[:-1])

@@ -33,6 +33,7 @@ PLAYED = {
     "docs/guide/rust.md": "test-release",
     "docs/guide/rattle.md": "scripts/try_daemon.py",
     "docs/DAEMON.md": "scripts/try_daemon.py",
+    "docs/COMMANDS.md": "scripts/try_daemon.py",
 }
 GUIDES = "docs/guide/"
 

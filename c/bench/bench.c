@@ -61,7 +61,7 @@ enum { FIGURES_AT = sizeof figures_at / sizeof figures_at[0] };
 void fail(const char *what)
 {
     fprintf(stderr, "bench: %s failed\n", what);
-    exit(1);
+    exit(4);
 }
 
 double now(void)

@@ -453,7 +453,7 @@ fn output_that_nobody_reads() {
         assert!(said.lines().count() > 1000);
         tap.child.stderr.take().unwrap().read_to_string(&mut said).unwrap();
         assert!(said.ends_with("covretin-tap: not all could be shown and judged\n"));
-        assert_eq!(Some(2), tap.child.wait().unwrap().code());
+        assert_eq!(Some(4), tap.child.wait().unwrap().code());
         remove_dir_all(&tap.folder).unwrap();
     });
 }
@@ -532,10 +532,10 @@ fn its_socket() {
         };
         // (with the recording of the first, which is whole all the same)
         let refused = second(["record", "frontend", "backend"]);
-        assert_eq!(Some(2), refused.status.code());
+        assert_eq!(Some(4), refused.status.code());
         assert!(String::from_utf8_lossy(&refused.stderr).contains("frontend: Address already in use"));
         let refused = second(["no folder/record", "other", "backend"]);
-        assert_eq!(Some(2), refused.status.code());
+        assert_eq!(Some(4), refused.status.code());
         assert!(String::from_utf8_lossy(&refused.stderr).contains("no folder/record: No such file or directory"));
         assert!(!tap.folder.join("other").exists());
         // (that looked at the socket was a session, without a message)
@@ -681,7 +681,7 @@ fn a_session_without_an_output() {
         let Tap { child, folder, .. } = tap;
         let output = child.wait_with_output().unwrap();
         assert_eq!("covretin-tap: Bad file descriptor (os error 9)\n", String::from_utf8_lossy(&output.stderr));
-        assert_eq!(Some(2), output.status.code());
+        assert_eq!(Some(4), output.status.code());
         assert_eq!(4, std::fs::read_to_string(folder.join("record")).unwrap().lines().count());
         remove_dir_all(&folder).unwrap();
     });

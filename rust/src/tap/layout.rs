@@ -2,7 +2,7 @@
 //! Which fields a message's body has, by the request that it is or replies to: for the eye, and not to judge by.
 use super::event::{number_at, u32_at, Channel, Message, Side, Way};
 use crate::vhost_user::message::{
-    FrontendReq, VhostUserConfigFlags, VhostUserHeaderFlag, VhostUserProtocolFeatures, VhostUserVringAddrFlags,
+    BackendReq, FrontendReq, VhostUserConfigFlags, VhostUserHeaderFlag, VhostUserProtocolFeatures, VhostUserVringAddrFlags,
 };
 
 /// What a number of a body means.
@@ -109,7 +109,15 @@ fn request_layout(request: FrontendReq) -> (&'static [Field], Tail) {
         GET_CONFIG | SET_CONFIG => return (CONFIG, Tail::Bytes),
         GET_INFLIGHT_FD | SET_INFLIGHT_FD => INFLIGHT,
         SET_DEVICE_STATE_FD => &[("direction", 4, Form::Direction), ("phase", 4, Form::Number)],
-        _ => return (&[], Tail::Bytes),
+        GET_SHARED_OBJECT | SEND_RARP | IOTLB_MSG | CREATE_CRYPTO_SESSION | CLOSE_CRYPTO_SESSION => return (NONE, Tail::Bytes),
+        // These have no body: one that came is shown all the same.
+        GET_FEATURES | SET_OWNER | RESET_OWNER | SET_LOG_FD | GET_PROTOCOL_FEATURES | GET_QUEUE_NUM | SET_BACKEND_REQ_FD => {
+            return (NONE, Tail::Bytes)
+        }
+        POSTCOPY_ADVISE | POSTCOPY_LISTEN | POSTCOPY_END | GPU_SET_SOCKET | RESET_DEVICE | GET_MAX_MEM_SLOTS | GET_STATUS => {
+            return (NONE, Tail::Bytes)
+        }
+        CHECK_DEVICE_STATE | GET_SHMEM_CONFIG => return (NONE, Tail::Bytes),
     };
     (fields, Tail::End)
 }
@@ -130,17 +138,28 @@ fn reply_layout(request: FrontendReq, size: usize) -> (&'static [Field], Tail) {
         SET_MEM_TABLE | ADD_MEM_REG | REM_MEM_REG | GET_CONFIG | GET_INFLIGHT_FD if size > 8 => return request_layout(request),
         SET_LOG_BASE if size != 8 => LOG,
         SET_LOG_BASE => SIZE,
-        _ => RESULT,
+        // Whether it was done. Of another size, it is shown as bytes.
+        SET_FEATURES | SET_OWNER | RESET_OWNER | SET_MEM_TABLE | SET_LOG_FD | SET_VRING_NUM | SET_VRING_ADDR => RESULT,
+        SET_VRING_BASE | SET_VRING_KICK | SET_VRING_CALL | SET_VRING_ERR | SET_PROTOCOL_FEATURES => RESULT,
+        SET_VRING_ENABLE | SEND_RARP | NET_SET_MTU => RESULT,
+        SET_BACKEND_REQ_FD | IOTLB_MSG | SET_VRING_ENDIAN | GET_CONFIG | SET_CONFIG | CREATE_CRYPTO_SESSION => RESULT,
+        CLOSE_CRYPTO_SESSION | POSTCOPY_ADVISE | POSTCOPY_LISTEN | POSTCOPY_END | GET_INFLIGHT_FD | SET_INFLIGHT_FD => RESULT,
+        GPU_SET_SOCKET | RESET_DEVICE | VRING_KICK | ADD_MEM_REG | REM_MEM_REG | SET_STATUS | GET_SHARED_OBJECT => RESULT,
+        CHECK_DEVICE_STATE => RESULT,
     };
     (fields, Tail::End)
 }
 
 /// The fields of the body of a backend's own request, by its code.
 fn backend_layout(code: u32) -> (&'static [Field], Tail) {
-    match code {
-        3 => (&[("ring", 8, Form::Address), ("size", 8, Form::Address), ("offset", 8, Form::Address)], Tail::End),
-        9 | 10 => (MAPPING, Tail::End),
-        _ => (NONE, Tail::Bytes),
+    use BackendReq::*;
+    match BackendReq::try_from(code) {
+        Ok(VRING_HOST_NOTIFIER_MSG) => {
+            (&[("ring", 8, Form::Address), ("size", 8, Form::Address), ("offset", 8, Form::Address)], Tail::End)
+        }
+        Ok(SHMEM_MAP | SHMEM_UNMAP) => (MAPPING, Tail::End),
+        Ok(IOTLB_MSG | CONFIG_CHANGE_MSG | VRING_CALL | VRING_ERR) => (NONE, Tail::Bytes),
+        Ok(SHARED_OBJECT_ADD | SHARED_OBJECT_REMOVE | SHARED_OBJECT_LOOKUP) | Err(_) => (NONE, Tail::Bytes),
     }
 }
 
@@ -252,26 +271,12 @@ fn virtio_names(features: u64) -> Vec<String> {
     (0..64).filter(|bit| features >> bit & 1 != 0).map(name).collect()
 }
 
-/// The requests of a backend, over its channel.
-const BACKEND_REQUESTS: [(u32, &str); 10] = [
-    (1, "IOTLB_MSG"),
-    (2, "CONFIG_CHANGE_MSG"),
-    (3, "VRING_HOST_NOTIFIER_MSG"),
-    (4, "VRING_CALL"),
-    (5, "VRING_ERR"),
-    (6, "SHARED_OBJECT_ADD"),
-    (7, "SHARED_OBJECT_REMOVE"),
-    (8, "SHARED_OBJECT_LOOKUP"),
-    (9, "SHMEM_MAP"),
-    (10, "SHMEM_UNMAP"),
-];
-
 /// The name of what a message asks, or replies to.
 pub(super) fn name_of(way: Way, message: &Message) -> String {
     let code = message.code();
     let name = match way.channel {
         Channel::Device => message.request().map(|request| format!("{request:?}")),
-        Channel::Backend => BACKEND_REQUESTS.iter().find(|(it, _)| *it == code).map(|(_, name)| name.to_string()),
+        Channel::Backend => BackendReq::try_from(code).ok().map(|request| format!("{request:?}")),
     };
     name.unwrap_or_else(|| format!("request {code}"))
 }

@@ -34,8 +34,10 @@ use crate::foreign::EndSignals;
 
 /// Something is wrong with a session.
 const WRONG: u8 = 1;
-/// Wrong arguments, or a path that can't be used.
-const TROUBLE: u8 = 2;
+/// Wrong arguments.
+const REFUSED: u8 = 2;
+/// A path can't be used, or not all could be shown.
+const FAILED: u8 = 4;
 
 /// Runs the program, called by these words behind its name, with this standard output: its status.
 pub fn run(words: impl IntoIterator<Item = OsString>, mut output: impl Write + Send + 'static) -> ExitCode {
@@ -45,7 +47,7 @@ pub fn run(words: impl IntoIterator<Item = OsString>, mut output: impl Write + S
         Ok(Asked::Version) => say(&mut output, &format!("covretin-tap {}", env!("CARGO_PKG_VERSION"))),
         Err(wrong) => {
             eprintln!("covretin-tap: {wrong}\n{}", options::USAGE);
-            return ExitCode::from(TROUBLE);
+            return ExitCode::from(REFUSED);
         }
     };
     match said {
@@ -53,7 +55,7 @@ pub fn run(words: impl IntoIterator<Item = OsString>, mut output: impl Write + S
         Ok(Verdict { failed: None, .. }) => ExitCode::from(WRONG),
         Ok(Verdict { failed: Some(cause), .. }) | Err(cause) => {
             eprintln!("covretin-tap: {cause}");
-            ExitCode::from(TROUBLE)
+            ExitCode::from(FAILED)
         }
     }
 }

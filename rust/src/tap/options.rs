@@ -23,8 +23,8 @@ says behind '!' where one of them is none that the protocol's table has.
   --count=N      ends with the Nth session; without it the tap ends by SIGINT or SIGTERM, and with it all sessions
   --replay FILE  shows and judges what was recorded, in place of a session
 
-Status: 0 where nothing is wrong; 1 where something is; 2 after wrong arguments, where a path can't be used, or where not
-all could be shown.";
+Status: 0 where nothing is wrong; 1 where something is; 2 after wrong arguments; 4 where a path can't be used, or not all
+could be shown.";
 
 /// How events are shown.
 #[derive(Clone, Copy, Debug, PartialEq, Eq)]
