@@ -197,7 +197,7 @@ ONE(set_backend_request_fd, int32_t)
 ONE(postcopy_ack_mem_regions, uint32_t)
 ONE(set_mtu, uint16_t)
 RING(set_vring_num, uint16_t)
-RING(set_vring_base, uint16_t)
+RING(set_vring_base, uint32_t)
 RING(set_vring_call, int32_t)
 RING(set_vring_kick, int32_t)
 RING(set_vring_err, int32_t)
@@ -426,7 +426,7 @@ static const struct call calls[] = {
     {"set_backend_request_fd", "h", 0, set_backend_request_fd, PLAIN},
     {"set_vring_num", "ls", 0, set_vring_num, PLAIN},
     {"set_vring_addr", "lillll", 1, set_vring_addr, PLAIN},
-    {"set_vring_base", "ls", 0, set_vring_base, PLAIN},
+    {"set_vring_base", "li", 0, set_vring_base, PLAIN},
     {"get_vring_base", "l", 0, get_vring_base, NUMBER},
     {"set_vring_call", "lh", 0, set_vring_call, PLAIN},
     {"set_vring_kick", "lh", 0, set_vring_kick, PLAIN},

@@ -40,8 +40,8 @@ def constants(path, names=None):
 
 
 def codes(path):
-    """The numbers of an enum of requests."""
-    return {name: int(number) for name, number in re.findall(r"^    ([A-Z]\w+) = (\d+),", read(path), re.MULTILINE)}
+    """The numbers of an enum of requests, as they are read."""
+    return {name: int(number) for number, name in re.findall(r"^ +(\d+) => Ok\(\w+::(\w+)\),", read(path), re.MULTILINE)}
 
 
 def sizes(path):

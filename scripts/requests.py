@@ -70,6 +70,11 @@ class Told:
             self.same(where, f"{what} {key}", said.get(key), wanted.get(key))
 
 
+def matched(text):
+    """The numbers of an enum of requests, as they are read."""
+    return {name: int(code) for code, name in re.findall(r"^ +(\d+) => Ok\(\w+::(\w+)\),", text, re.MULTILINE)}
+
+
 def numbered(text):
     return {name: int(code) for name, code in re.findall(r"^ {4,8}([A-Z][A-Z0-9_]+) = (\d+),", text, re.MULTILINE)}
 
@@ -82,7 +87,7 @@ def block(text, begins, ends="\n    }"):
 def codes(kinds, told):
     wanted = {kind: {it["name"]: it["code"] for it in kinds[kind]} for kind in ("frontend", "backend", "display")}
     for kind, path in (("frontend", "vhost_message/src/frontend_req"), ("backend", "vhost_message/src/backend_req"), ("display", "vhost_gpu_message/src/gpu_backend_req")):
-        told.all(f"crates/{path}.rt", "the code of", numbered(read(f"crates/{path}.rt")), wanted[kind])
+        told.all(f"crates/{path}.rt", "the code of", matched(read(f"crates/{path}.rt")), wanted[kind])
     rust = read("rust/src/vhost_user/message.rs")
     told.all("rust/src/vhost_user/message.rs", "the code of", numbered(block(rust, "pub enum FrontendReq")), wanted["frontend"])
     told.all("rust/src/vhost_user/message.rs", "the code of", numbered(block(rust, "pub enum BackendReq")), wanted["backend"])

@@ -20,7 +20,9 @@ use vhost_c_common::{
 use vhost_connection::talks_law;
 use vhost_gpu_backend_req::GpuBackend;
 use vhost_link::{MemLink, PlainHandle};
-use vhost_message::{FrontendReq, Error, MAX_ATTACHED_FD_ENTRIES, MSG_HEADER_SIZE, VhostUserShMemConfig};
+use vhost_message::{
+    Error, FrontendReq, MAX_ATTACHED_FD_ENTRIES, MSG_HEADER_SIZE, VhostUserShMemConfig,
+};
 use vhost_protocol::Profile;
 
 type Outcome<T> = std::result::Result<T, Refusal>;

@@ -54,7 +54,6 @@ ReadsWhole {H = H} event is_awaited old (Ok x) text new = (cs : List (Cell H)) �
 ReadsWhole event is_awaited old (Err e) text new = ReadsNone event (whole_split is_awaited) old e new
 
 module _ {R L H : Type 0} (event : L → Event H → L → Type 0) (request_of : ℕ → Option R) where
-
   -- A reply of any size for a request comes in: its handles.
   abbrev pub RecvsAny : State L H → (sent : Header) → Result (Option (Vec H Global)) declared.Error → State L H → Type 0
   RecvsAny old sent (Ok hs) new = (reply : Received H) × Comes event request_of (whole_split (is_known_by request_of)) old sent reply new × HandsOver hs reply.handles

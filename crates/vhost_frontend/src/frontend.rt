@@ -78,12 +78,7 @@ impl<L: Link> Frontend<L> {
     /// Sets where a packed ring goes on: both its indices with their wrap counters, in 32 bits as the specification has them.
     /// The errors are those of `set_vring_base`.
     #[tactic(auto, using(crate::proofs::Turns::turned, crate::proofs::Turns::turned_with_room))]
-    pub fn set_packed_vring_base(
-        &self,
-        rt: &impl Wait,
-        queue_index: usize,
-        base: u32,
-    ) -> Result<()>
+    pub fn set_packed_vring_base(&self, rt: &impl Wait, queue_index: usize, base: u32) -> Result<()>
         ensures { Turn L.event (Whole L.event (call.SetVringBase queue_index base) (λ _. call.Nothing)) result }
     {
         within(

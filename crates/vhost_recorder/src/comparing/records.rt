@@ -7,7 +7,8 @@ ghost use Rattle.vhost_frontend_core.specs.Values.{log_region_of};
 
 use vhost_link::PlainHandle;
 use vhost_message::{
-    FrontendReq, VhostUserConfig, VhostUserInflight, VhostUserMemoryRegion, VhostUserSharedMsg, VringConfigData,
+    FrontendReq, VhostUserConfig, VhostUserInflight, VhostUserMemoryRegion, VhostUserSharedMsg,
+    VringConfigData,
 };
 use vhost_pair::{LogRegion, RegionInfo};
 
