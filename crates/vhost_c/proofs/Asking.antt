@@ -26,7 +26,9 @@ use Rattle.vhost_frontend_core.specs.ValueHalves.{AsksCall, MayWant, half, refus
 use Rattle.vhost_c.specs.Session.{Asks, sent, Stays, Rests, Fails, queued, remembers}
 use Rattle.vhost_c.specs.declared.session.Session.{Session}
 use Rattle.vhost_c.specs.Session as session
-use Rattle.vhost_c.proofs.Wants.{IsUncut, IsWant, list_away, by_link, broke_before, failed}
+use Rattle.vhost_c_common.specs.View.{IsUncut, Lasts, StaysSound, bare}
+use Rattle.vhost_c_common.proofs.OnWay.{sound-since}
+use Rattle.vhost_c_common.proofs.Wants.{IsWant, list_away, by_link, broke_before, failed, lasts, sound, stays}
 
 abbrev pub Front : Type 0
 Front = FrontendInternal Ends PlainHandle
@@ -41,6 +43,7 @@ pub record Went (call : FrontendCall PlainHandle) (f : Frontend) (s : Sent) (old
   pub text : new.link.sent ≡ old.link.sent ++ cells w
   pub header : fields_of s.request ≡ head_of request_number w
   pub awaited : s.awaited ≡ after
+  pub sound : StaysSound old new
 
 -- where nothing was handed on, all is left
 none-handed : (before left : List (Cell PlainHandle)) → HandsFront before [] left → left ≡ before
@@ -61,6 +64,7 @@ went law call old new f f' before after s (roomy (goes {w = w} is g)) = let t = 
   text = (law old.link new.link t.below t.moved).taken ∙ ap (λ xs. old.link.sent ++ xs) t.taken;
   header = g.header;
   awaited = g.awaits;
+  sound = sound old new g.serves;
 }
 
 module _ (law : StreamLaw) (call : FrontendCall PlainHandle) (old new : Front) (s : Sent) (half : AsksHalfWithRoom event call old (Ok s) new) where
@@ -87,13 +91,19 @@ module _ (call : FrontendCall PlainHandle) (s : Session) where
       → ((w : Written FrontendReq PlainHandle) (awaited : Awaited) (f : Frontend) → ask (remembers s) call ≡ Sends w awaited f → IsWant old e → Fails call s e)
       → AsksWithRoom event (ask (remembers s) call) old (remembers s) before (Err e) new f' after → Fails call s e
   by-cause law old new f' before after e uncut wants by (roomy (core.refuses is)) = session.refused is
-  by-cause law old new f' before after e uncut wants by (roomy (fails is why)) = by _ _ _ is (failed law old new false e why uncut).1
+  by-cause law old new f' before after e uncut wants by (roomy (fails is why)) = by _ _ _ is (failed old new false e why uncut).1
   by-cause law old new f' before after e uncut wants by (no_room is) = wants refl
 
   -- and this is why
   pub reason : StreamLaw → (new : Front) (f' : Frontend) (before after : Awaited) (e : declared.Error) → IsUncut (endpoint_of s.frontend) → (e ≡ OutOfMemory → MayWant call s.frontend new)
       → AsksWithRoom event (ask (remembers s) call) (endpoint_of s.frontend) (remembers s) before (Err e) (endpoint_of new) f' after → Fails call s e
   reason law new f' before after e uncut wants asks = by-cause law (endpoint_of s.frontend) (endpoint_of new) f' before after e uncut (λ is. may-want new (wants is)) (λ w awaited f is want. wanted e is want) asks
+
+-- what it leaves of the end's soundness
+pub left-sound : (call : FrontendCall PlainHandle) (old new : State Ends PlainHandle) (f f' : Frontend) (before after : Awaited) (e : declared.Error) → IsUncut old → AsksWithRoom event (ask f call) old f before (Err e) new f' after → Lasts e old new
+left-sound call old new f f' before after e uncut (roomy (core.refuses is)) = stays e old
+left-sound call old new f f' before after e uncut (roomy (fails is why)) = lasts old new false e why uncut
+left-sound call old new f f' before after e uncut (no_room is) = refl
 
 -- there is something where there is something in front
 pub some-first : {A : Type 0} (xs ys : List A) → (xs ≡ [] → ⊥) → has_some (xs ++ ys) ≡ true
@@ -135,10 +145,11 @@ pub collected : (before taken pending now : List (Cell PlainHandle)) → pending
 collected before taken pending now is gone = ap (λ xs. pending ++ xs) gone ∙ append-nil pending ∙ is
 
 -- what was asked of a session in between was asked of the one before, where nothing but its places changed
-pub asks-since : (call : FrontendCall PlainHandle) (old mid new : Session) → queued mid ≡ queued old → Rests old mid → Asks call mid new → Asks call old new
-asks-since call old mid new queue rest (sent w is text keeps answer) = sent w (subst (λ f. ask f call ≡ Sends w (awaits new.frontend) (remembers new)) rest.memory is) (text ∙ ap (λ xs. xs ++ cells w) queue) keeps (answer ∙ rest.answer)
-asks-since call old mid new queue rest (session.at_once flags is f q at came answer) =
-    session.at_once flags is (f ∙ ap {A = Frontend} (λ g. record g { header_flags = flags }) rest.memory) (q ∙ queue) (at ∙ rest.asked) (came ∙ rest.incoming) (answer ∙ rest.answer)
+pub asks-since : (call : FrontendCall PlainHandle) (old mid new : Session) → queued mid ≡ queued old → Rests old mid → endpoint_of mid.frontend ≡ bare (endpoint_of old.frontend) → Asks call mid new → Asks call old new
+asks-since call old mid new queue rest end (sent w is text keeps answer sound) = sent w (subst (λ f. ask f call ≡ Sends w (awaits new.frontend) (remembers new)) rest.memory is) (text ∙ ap (λ xs. xs ++ cells w) queue) keeps (answer ∙ rest.answer)
+    (sound-since (ap {A = State Ends PlainHandle} (λ e. e.broken) end) (ap {A = State Ends PlainHandle} (λ e. e.link.script) end) sound)
+asks-since call old mid new queue rest end (session.at_once flags is f q at came answer same) =
+    session.at_once flags is (f ∙ ap {A = Frontend} (λ g. record g { header_flags = flags }) rest.memory) (q ∙ queue) (at ∙ rest.asked) (came ∙ rest.incoming) (answer ∙ rest.answer) (same ∙ ap bare end)
 
 pub rests-since : (old mid new : Session) → Rests old mid → Rests mid new → Rests old new
 rests-since old mid new r s = record { memory = s.memory ∙ r.memory; asked = s.asked ∙ r.asked; incoming = s.incoming ∙ r.incoming; answer = s.answer ∙ r.answer }

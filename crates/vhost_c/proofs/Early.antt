@@ -23,9 +23,9 @@ whole Standard call a i is none = rw (is, none) refl
 
 -- so it is of the features that were asked for
 pub all-missing : (old new : Session) → Asks GetFeatures old new → missing_of new ≡ 12
-all-missing old new (sent w is queue keeps same) =
+all-missing old new (sent w is queue keeps same sound) =
     ap (λ a. missing_for (remembers new).profile a new.incoming) keeps.is ∙ whole (remembers new).profile _ keeps.kept.sent.awaited new.incoming (keeps.awaited ∙ cc is) keeps.nothing_came
-all-missing old new (at_once flags is memory queue asked incoming answer) = absurd (cc is)
+all-missing old new (at_once flags is memory queue asked incoming answer end) = absurd (cc is)
 
 -- and then it is too early
 pub too-early : (s s' : Session) (outcome : Result ⊤ Refusal) → missing_of s ≡ 12 → Takes s s' outcome → outcome_number outcome ≡ 105

@@ -17,6 +17,7 @@ use Rattle.vhost_protocol.specs.Written.{U64}
 use Rattle.vhost_link.specs.Ends.{Ends}
 use Rattle.vhost_link.specs.declared.plain.PlainHandle.{PlainHandle}
 use Rattle.vhost_connection.specs.Memory.{stream}
+use Rattle.vhost_connection.specs.declared.request.Request as code
 use Rattle.vhost_connection.specs.Talk.{State}
 use Rattle.vhost_frontend_req_handler.specs.Calling.{call_in}
 use Rattle.vhost_frontend_req_handler.specs.Core.{number_cells}
@@ -63,14 +64,18 @@ record IsListening (s : ChannelServer) : Type 0 where
 
 agreed : (s t : ChannelServer) → IsNew s → Acknowledges true s t → IsListening t
 agreed s t fresh says = record {
-  came = ap {A = State Ends PlainHandle} stream says.end ∙ fresh.came;
+  came = ap {A = State Ends PlainHandle} stream says.end ∙ fresh.empty.came;
   memory = says.memory ∙ ap {A = Server} (λ m. record m { reply_ack = true }) fresh.memory;
-  queue = (λ i. (says.outgoing i).link.pending ++ (says.end i).link.sent) ∙ fresh.queue;
+  queue = (λ i. (says.outgoing i).link.pending ++ (says.end i).link.sent) ∙ fresh.empty.queue;
 }
 
 bare : (hs : List PlainHandle) → map handle_in [] ≡ map Some hs → hs ≡ []
 bare [] is = refl
 bare (h ∷ hs) is = absurd cc
+
+-- what a session keeps between two calls
+abbrev Kept : Type 0
+Kept = Server × Option (code.Request BackendReq) × List ℕ × Option (FrontendSideCall PlainHandle)
 
 -- The report came whole, and is still to be read.
 record HasCome (s : ChannelServer) : Type 0 where
@@ -80,11 +85,11 @@ record HasCome (s : ChannelServer) : Type 0 where
 
 received : (s t : ChannelServer) → IsListening s → Receiving report [] s (Ok tt) t → HasCome t
 received s t listens got =
-    let x : TakesIn report [] (arrived s) (arrived t) = got.1 in
+    let x : TakesIn report [] (arrived s) (arrived t) = got.0.1 in
     record {
       came = x.got ∙ ap (λ cs. cs ++ carrying x.handles report) listens.came ∙ ap (λ hs. carrying hs report) (bare x.handles x.of_fds);
-      memory = got.3.rest.memory ∙ listens.memory;
-      queue = got.3.queue ∙ listens.queue;
+      memory = ap (λ (r : Kept). r.0) got.0.3.rest ∙ listens.memory;
+      queue = got.0.3.queue ∙ listens.queue;
     }
 
 -- ---- it is read
@@ -141,7 +146,7 @@ answered : (s t : ChannelServer) (number : ℕ) (read : HasRead number s) → Re
 answered s t number read replies = by replies.result replies.concludes replies.is_told
   where
     by : (r : _) → Concludes read.served.request (Ok 0) s t r → Ok tt ≡ told r → queued t ≡ plain done
-    by r (concluded is queue) fine =
+    by r (concluded is queue came sound) fine =
         queue ∙ (λ i. read.queue i ++ number_cells (read.memory i) read.served.request (Ok 0)) ∙ (λ i. acknowledged (read.served.code i) (read.served.need_reply i))
     by r (stopped {e = e} stops) fine = absurd (is-none e (ap is_handed stops.error ∙ unhanded stops.cause) (sym fine))
 

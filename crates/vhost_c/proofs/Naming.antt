@@ -70,14 +70,14 @@ take-step fds named text handles s of waits (some {outcome = Err r} takes) reads
 receive-step : (fds : List ℤ) (named : ℤ) (text : List ℕ) (s : Session) {r t n : ℕ} {o p new : Option Session} → arrived s ≡ [] → By (Receiving text fds) (Some s) r o → By (λ s o s'. Takes s s' o) o t p → By (Reading (ReadsFd named)) p n new
     → r ≡ 0 → t ≡ 0 → n ≡ 0 → IsAll fds named
 receive-step fds named text s empty (some {s' = s'} {outcome = Ok done} got) takes reads first second third =
-    let x : TakesIn text fds (arrived s) (arrived s') = got.1 in
+    let x : TakesIn text fds (arrived s) (arrived s') = got.0.1 in
     take-step fds named text x.handles s' x.of_fds (x.got ∙ ap (λ cs. cs ++ carrying x.handles text) empty) takes reads second third
 receive-step fds named text s empty (some {outcome = Err r} got) takes reads first second third = absurd (never r first)
 
 asked-step : (fds : List ℤ) (named : ℤ) (text : List ℕ) (s s' : Session) {r t n : ℕ} {o p new : Option Session} → Asks PostcopyAdvise s s' → By (Receiving text fds) (Some s') r o → By (λ s o s'. Takes s s' o) o t p → By (Reading (ReadsFd named)) p n new
     → r ≡ 0 → t ≡ 0 → n ≡ 0 → IsAll fds named
-asked-step fds named text s s' (sent w is queue keeps same) = receive-step fds named text s' keeps.nothing_waits
-asked-step fds named text s s' (at_once flags is memory queue asked incoming answer) = absurd (cc is)
+asked-step fds named text s s' (sent w is queue keeps same sound) = receive-step fds named text s' keeps.nothing_waits
+asked-step fds named text s s' (at_once flags is memory queue asked incoming answer end) = absurd (cc is)
 
 pub naming : (fds : List ℤ) (named : ℤ) (text : List ℕ) {a r t n : ℕ} {old o p q new : Option Session} → By (Asking PostcopyAdvise) old a o → By (Receiving text fds) o r p → By (λ s o s'. Takes s s' o) p t q → By (Reading (ReadsFd named)) q n new
     → a ≡ 0 → r ≡ 0 → t ≡ 0 → n ≡ 0 → IsAll fds named

@@ -7,6 +7,6 @@ use Rattle.vhost_c_backend.specs.declared.served.Served.{Served}
 use Rattle.vhost_c.specs.Backend.{OpensBackend, opened, was_open, no_room}
 
 pub waits : {old new : Option Served} {n : ℕ} → old ≡ None → OpensBackend old n new → n ≡ 0 → IsSomeAnd new (IsWaiting new_session [])
-waits none (opened is) zero = record { came = is.came; memory = is.memory; queue = is.queue }
+waits none (opened is) zero = record { came = is.empty.came; memory = is.memory; queue = is.empty.queue }
 waits none was_open zero = absurd (cc none)
 waits none no_room zero = absurd (cc zero)

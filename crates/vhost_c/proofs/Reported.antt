@@ -33,7 +33,7 @@ is-change w b awaited is asked =
 told : (s t u : Channel) → IsNew s → Agrees ConfigChange true s t → Asks HandleConfigChange t u → bytes (queued u) ≡ 2 ∷ 0 ∷ 0 ∷ 0 ∷ 1 ∷ 0 ∷ 0 ∷ 0 ∷ 0 ∷ 0 ∷ 0 ∷ 0 ∷ []
 told s t u fresh agrees asks =
     let flag : remembers t ≡ agreed = ap {A = link.Channel Ends PlainHandle} backend_of agrees.flag ∙ ap {A = Backend} (λ b. record b { config_change = true }) fresh.memory in
-    let none : queued t ≡ [] = (λ i. (agrees.outgoing i).link.pending ++ (agrees.flag i).endpoint.link.sent) ∙ fresh.queue in
+    let none : queued t ≡ [] = (λ i. (agrees.outgoing i).link.pending ++ (agrees.flag i).endpoint.link.sent) ∙ fresh.empty.queue in
     let w : change ≡ asks.w = is-change asks.w (remembers t) asks.awaited flag asks.is in
     ap {A = List (Cell PlainHandle)} bytes (asks.queue ∙ (λ i. none i ++ written_cells backend_request_number (sym w i)))
 

@@ -1,5 +1,5 @@
 -- A session with a display shows a rectangle, and learns the display's features.
-use Rattle.std.proofs.Common.{◌≡◌, ℕ, ◌+◌, List, [], ◌∷◌, ◌++◌, length, map, replicate, Option, None, Some, Result, Ok, Err, refl, sym, ap, subst, ◌∙◌, arith}
+use Rattle.std.proofs.Common.{◌≡◌, ℕ, ℤ, ◌+◌, List, [], ◌∷◌, ◌++◌, length, map, replicate, Option, None, Some, Result, Ok, Err, refl, sym, ap, subst, ◌∙◌, arith}
 use Rattle.std.specs.Option.{IsSomeAnd}
 use Rattle.std.proofs.lemmas.List.{append-nil, map-append}
 use Rattle.vhost_message.specs.Header.{Header, header_text}
@@ -72,12 +72,12 @@ unawaited (Some a) keeps = absurd (cc (keeps.0))
 
 -- and taking that changes nothing of what is to be sent
 settled : (s t : Display) → s.asked ≡ Some None → Takes s t (Ok tt) → queued t ≡ queued s
-settled s t none (not_awaited asked comes queue end settles) = queue
+settled s t none (not_awaited asked end queue settles) = queue
 settled s t none (takes awaited took) = absurd (awaited none)
 
 -- a call's message in a queue that had nothing
 alone : (c : GpuCall PlainHandle) (s t : Display) → IsNew s → Asks c s t → (gpu_row c).payload ≡ [] → queued t ≡ gpu_cells (gpu_row c)
-alone c s t fresh asks none = sym (append-nil (queued t)) ∙ ap (λ bs. queued t ++ plain bs) (sym none) ∙ asks.queue ∙ ap (λ xs. xs ++ gpu_cells (gpu_row c)) fresh.queue
+alone c s t fresh asks none = sym (append-nil (queued t)) ∙ ap (λ bs. queued t ++ plain bs) (sym none) ∙ asks.queue ∙ ap (λ xs. xs ++ gpu_cells (gpu_row c)) fresh.empty.queue
 
 -- the second message is behind the first
 both : (s t : Display) (pixels : List ℕ) → queued s ≡ gpu_cells (gpu_row (SetScanout size)) → Asks (UpdateScanout rectangle pixels) s t → length pixels ≡ 16 → bytes (queued t) ++ pixels ≡ sized_and_shown pixels
@@ -123,6 +123,10 @@ no-handles (h ∷ hs) is = absurd cc
 came : (bs : List ℕ) (before after : List (Cell PlainHandle)) → TakesIn bs [] before after → after ≡ before ++ carrying [] bs
 came bs before after t = t.got ∙ ap (λ hs. before ++ carrying hs bs) (no-handles t.handles t.of_fds)
 
+-- the call whose reply is to be taken is among the rest
+asked-of-rest : {old new : Option ℤ × Option (Option Awaited)} → new ≡ old → new.1 ≡ old.1
+asked-of-rest same = ap (λ (r : Option ℤ × Option (Option Awaited)). r.1) same
+
 -- what the definitions make of that reply
 understood : gpu_take {H = PlainHandle} (Some TheFeatures) (gpu_head {H = PlainHandle} (gpu_row GetProtocolFeatures)) (plain (header ++ three)) ≡ (Ok three, [])
 unfolding reply_split received
@@ -155,12 +159,12 @@ learnt {b = b} {d = d} {e = e} {before = before} {after = after} {r = r} {v = v}
     let two = received-of (subst {A = Option Display} (λ o. By (Receiving header []) o b r) one.is first) zb in
     let six = received-of (subst {A = Option Display} (λ o. By (Receiving three []) o d v) two.is second) zd in
     let last = number-of (subst {A = Option Display} (λ o. By (TakesNumber before after) o e new) six.is number) ze in
-    let came-first = came header (arrived one.session) (arrived two.session) two.made.1 ∙ ap (λ xs. xs ++ carrying [] header) one.made.nothing_waits in
-    let came-all : arrived six.session ≡ plain (header ++ three) = came three (arrived two.session) (arrived six.session) six.made.1 ∙ ap (λ xs. xs ++ carrying [] three) came-first in
-    let x = number-read six.session last.session (Ok after) after last.made refl one.made.kept (six.made.3.asked ∙ two.made.3.asked ∙ one.made.asked) one.made.keeps came-all in (
+    let came-first = came header (arrived one.session) (arrived two.session) two.made.0.1 ∙ ap (λ xs. xs ++ carrying [] header) one.made.nothing_waits in
+    let came-all : arrived six.session ≡ plain (header ++ three) = came three (arrived two.session) (arrived six.session) six.made.0.1 ∙ ap (λ xs. xs ++ carrying [] three) came-first in
+    let x = number-read six.session last.session (Ok after) after last.made refl one.made.kept (asked-of-rest six.made.0.3.rest ∙ asked-of-rest two.made.0.3.rest ∙ one.made.asked) one.made.keeps came-all in (
       x.0,
       subst {A = Option Display} (λ o. IsSomeAnd o (λ s. bytes (queued s) ≡ 1 ∷ 0 ∷ 0 ∷ 0 ∷ 0 ∷ 0 ∷ 0 ∷ 0 ∷ 0 ∷ 0 ∷ 0 ∷ 0 ∷ [])) (sym last.is)
-          (ap (λ cs. bytes cs) (x.1 ∙ six.made.3.queue ∙ two.made.3.queue ∙ alone GetProtocolFeatures s one.session fresh one.made refl)),
+          (ap (λ cs. bytes cs) (x.1 ∙ six.made.0.3.queue ∙ two.made.0.3.queue ∙ alone GetProtocolFeatures s one.session fresh one.made refl)),
     )
 learnt was_open asked first second number shut zq za zb zd ze = absurd (cc shut)
 learnt no_room asked first second number shut zq za zb zd ze = absurd (cc zq)

@@ -33,11 +33,11 @@ use Rattle.vhost_frontend_core.specs.declared.values.answer.FrontendAnswer.{Fron
 use Rattle.vhost_frontend_core.specs.declared.values.answer.FrontendAnswer.TheVariants.{Done, Failed}
 use Rattle.vhost_c_common.specs.ByNumber.{By}
 use Rattle.vhost_c_common.specs.Carrying.{emptied}
-use Rattle.vhost_c_common.specs.Incoming.{Adds}
 use Rattle.vhost_c.specs.Incoming.{missing_from, is_sized}
 use Rattle.vhost_c.specs.Names.{Names}
 use Rattle.vhost_c_common.specs.Number.{inactive_in}
-use Rattle.vhost_c_common.specs.Moving.{HandsOut, TakesIn}
+use Rattle.vhost_c_common.specs.View as session
+use Rattle.vhost_c_common.specs.View.{View, IsEmpty, Lasts, StaysSound, bare, view_of}
 use Rattle.vhost_c_common.specs.declared.incoming.Incoming.{Incoming}
 use Rattle.vhost_c_common.specs.declared.refusal.Refusal.{Refusal}
 use Rattle.vhost_c_common.specs.declared.refusal.Refusal.TheVariants.{NotTaken, Protocol, NothingAsked, NotYet}
@@ -52,13 +52,13 @@ queued s = s.outgoing.link.pending ++ (endpoint_of s.frontend).link.sent
 abbrev pub arrived : Session → List (Cell PlainHandle)
 arrived s = stream (endpoint_of s.frontend)
 
--- the frontend's end of the connection, but for what is to be sent and what came
-abbrev pub end_of : Session → State Ends PlainHandle
-end_of s = record (endpoint_of s.frontend) { link = record (endpoint_of s.frontend).link { pending = []; sent = [] }; ahead = [] }
-
 -- what is remembered of the device
 abbrev pub remembers : Session → Frontend
 remembers s = session_of s.frontend
+
+-- it, as the contracts of all sessions see one: with what is remembered, the call whose answer is to be decoded, the answer that was decoded last, and which feature the last ask lacked
+abbrev pub view : Session → View (Frontend × Option CallAsked × FrontendAnswer × ℕ)
+view s = view_of s.outgoing (endpoint_of s.frontend) s.incoming (remembers s, s.asked, s.answer, s.inactive)
 
 -- how many bytes can be told to be missing of an answer: none where nothing is asked
 abbrev pub missing_for : Profile → Option CallAsked → Incoming → ℕ
@@ -96,9 +96,9 @@ pub record Keeps (call : FrontendCall PlainHandle) (w : Written FrontendReq Plai
 -- A call was asked: its request is behind what was to be sent before, what is remembered and awaited is the definitions', and it is the call that is kept; or nothing is sent for it, and it was done.
 pub data Asks (call : FrontendCall PlainHandle) (old new : Session) : Type 0 where
   sent : (w : Written FrontendReq PlainHandle) → ask (remembers old) call ≡ Sends w (awaits new.frontend) (remembers new)
-      → queued new ≡ queued old ++ written_cells request_number w → Keeps call w new → new.answer ≡ old.answer → Asks call old new
+      → queued new ≡ queued old ++ written_cells request_number w → Keeps call w new → new.answer ≡ old.answer → StaysSound (endpoint_of old.frontend) (endpoint_of new.frontend) → Asks call old new
   at_once : (flags : ℕ) → call ≡ SetHdrFlags flags → remembers new ≡ record (remembers old) { header_flags = flags } → queued new ≡ queued old → new.asked ≡ old.asked → new.incoming ≡ old.incoming → new.answer ≡ old.answer
-      → Asks call old new
+      → bare (endpoint_of new.frontend) ≡ bare (endpoint_of old.frontend) → Asks call old new
 
 -- Why a call was not asked: its own tests say so; or memory was refused.
 pub data Fails (call : FrontendCall PlainHandle) (s : Session) : declared.Error → Type 0 where
@@ -126,15 +126,23 @@ pub record Stays (old new : Session) : Type 0 where
   pub queue : queued new ≡ queued old
   pub rest : Rests old new
 
--- Why a session refused to ask: the answer before is still to be taken; or the call failed.
-pub data Refused (call : FrontendCall PlainHandle) (s : Session) : Refusal → Type 0 where
-  busy : is_some s.asked ≡ true → Refused call s NotTaken
-  fails : {e : declared.Error} → Fails call s e → Refused call s (Protocol e)
+-- Nothing changed but which feature was not active.
+pub record KeepsAll (old new : Session) : Type 0 where
+  pub frontend : new.frontend ≡ old.frontend
+  pub outgoing : new.outgoing ≡ old.outgoing
+  pub asked : new.asked ≡ old.asked
+  pub incoming : new.incoming ≡ old.incoming
+  pub answer : new.answer ≡ old.answer
+
+-- Why a session refused to ask: the answer before is still to be taken, and nothing changed; or the call failed, and the session is broken only if that is why.
+pub data Refused (call : FrontendCall PlainHandle) (old new : Session) : Refusal → Type 0 where
+  busy : is_some old.asked ≡ true → KeepsAll old new → Refused call old new NotTaken
+  fails : {e : declared.Error} → Fails call old e → Lasts e (endpoint_of old.frontend) (endpoint_of new.frontend) → Refused call old new (Protocol e)
 
 -- What becomes of a call.
 abbrev pub Becomes : FrontendCall PlainHandle → Session → Result ⊤ Refusal → Session → Type 0
 Becomes call s (Ok done) s' = Asks call s s'
-Becomes call s (Err r) s' = Refused call s r × Stays s s'
+Becomes call s (Err r) s' = Refused call s s' r × Stays s s'
 
 -- Of the last ask it is kept which feature was not active, where it was refused for that; else 0.
 abbrev pub Notes : Result ⊤ Refusal → Session → Type 0
@@ -147,14 +155,6 @@ Asking call s outcome s' = Becomes call s outcome s' × Notes outcome s'
 -- an ask of C
 abbrev pub AsksBy : FrontendCall PlainHandle → Option Session → ℕ → Option Session → Type 0
 AsksBy call = By (Asking call)
-
--- Nothing changed but which feature was not active.
-pub record KeepsAll (old new : Session) : Type 0 where
-  pub frontend : new.frontend ≡ old.frontend
-  pub outgoing : new.outgoing ≡ old.outgoing
-  pub asked : new.asked ≡ old.asked
-  pub incoming : new.incoming ≡ old.incoming
-  pub answer : new.answer ≡ old.answer
 
 -- what it answers to an ask of whose arguments no call can be made
 abbrev pub Rejecting : declared.Error → Session → Result ⊤ Refusal → Session → Type 0
@@ -205,31 +205,13 @@ pub data Takes (old new : Session) : Result ⊤ Refusal → Type 0 where
   nothing_asked : old.asked ≡ None → new ≡ old → Takes old new (Err NothingAsked)
   not_yet : 0 < missing_of old → new ≡ old → Takes old new (Err NotYet)
 
--- A part of the answer came, or nothing did; nothing else changed.
-pub record Waits (old new : Session) : Type 0 where
-  pub queue : queued new ≡ queued old
-  pub end : end_of new ≡ end_of old
-  pub memory : remembers new ≡ remembers old
-  pub asked : new.asked ≡ old.asked
-  pub answer : new.answer ≡ old.answer
-  pub inactive : new.inactive ≡ old.inactive
-
 -- what a session answers to bytes of its answer: no more may come than are missing
 abbrev pub Receiving : List ℕ → List ℤ → Session → Result ⊤ Refusal → Session → Type 0
-Receiving bytes fds s (Ok done) s' = (length bytes ≤ missing_of s) × TakesIn bytes fds (arrived s) (arrived s') × Adds bytes s.incoming s'.incoming × Waits s s'
-Receiving bytes fds s (Err r) s' = (arrived s' ≡ arrived s) × (s'.incoming ≡ s.incoming) × Waits s s'
-
--- A piece of what is to be sent went out, or nothing did; nothing else changed.
-pub record Hands (old new : Session) : Type 0 where
-  pub came : arrived new ≡ arrived old
-  pub end : end_of new ≡ end_of old
-  pub rest : Rests old new
-  pub inactive : new.inactive ≡ old.inactive
+Receiving bytes fds s outcome s' = session.Receiving (missing_of s) bytes fds (view s) outcome (view s')
 
 -- what it answers where it is to hand out what is to be sent
 abbrev pub Sending : List ℕ → List ℤ → ℕ × ℕ → Session → Result ⊤ Refusal → Session → Type 0
-Sending bytes fds count s (Ok done) s' = HandsOut (queued s) (queued s') bytes fds count × Hands s s'
-Sending bytes fds count s (Err r) s' = (queued s' ≡ queued s) × Hands s s'
+Sending bytes fds count s outcome s' = session.Sending bytes fds count (view s) outcome (view s')
 
 -- An ask of C whose arguments may be such that no call can be made of them: then it is refused. Else it is asked; or memory was refused before.
 pub data AsksUnless (bad : Type 0) (call : FrontendCall PlainHandle) (old : Option Session) (n : ℕ) (new : Option Session) : Type 0 where
@@ -237,10 +219,9 @@ pub data AsksUnless (bad : Type 0) (call : FrontendCall PlainHandle) (old : Opti
   refuses : bad → RejectsBy InvalidParam old n new → AsksUnless bad call old n new
   wants : RejectsBy OutOfMemory old n new → AsksUnless bad call old n new
 
--- A new session: nothing is to be sent, nothing came, nothing is asked, no ask lacked a feature. It has the profile Standard, since a program in C speaks with real backends.
+-- A new session: it is sound and empty, nothing is asked, no ask lacked a feature. It has the profile Standard, since a program in C speaks with real backends.
 pub record IsNew (max_queue_num : ℕ) (s : Session) : Type 0 where
-  pub queue : queued s ≡ []
-  pub came : arrived s ≡ []
+  pub empty : IsEmpty (view s)
   pub memory : remembers s ≡ record (new_frontend max_queue_num) { profile = Standard }
   pub asked : s.asked ≡ None
   pub inactive : s.inactive ≡ 0
@@ -249,8 +230,7 @@ pub record IsNew (max_queue_num : ℕ) (s : Session) : Type 0 where
 pub record Changes (profile : Profile) (old new : Session) : Type 0 where
   pub memory : remembers new ≡ record (remembers old) { profile = profile }
   pub queue : queued new ≡ queued old
-  pub end : end_of new ≡ end_of old
-  pub came : arrived new ≡ arrived old
+  pub end : endpoint_of new.frontend ≡ endpoint_of old.frontend
   pub asked : new.asked ≡ old.asked
   pub incoming : new.incoming ≡ old.incoming
   pub answer : new.answer ≡ old.answer

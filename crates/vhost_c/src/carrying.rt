@@ -58,6 +58,7 @@ pub(crate) fn give(
     requires { length handles.now ≤ MAX_ATTACHED_FD_ENTRIES }
     ensures given { OnOk result (endpoint_of frontend.new ≡ record (endpoint_of frontend.old) { link = record (endpoint_of frontend.old).link { pending = (endpoint_of frontend.old).link.pending ++ carrying handles.now bytes.now } }) }
     ensures refused { OnErr result (endpoint_of frontend.new ≡ endpoint_of frontend.old) }
+    ensures memory { IfErr result (λ e. e ≡ OutOfMemory) }
     ensures rest { (session_of frontend.new ≡ session_of frontend.old) × (awaits frontend.new ≡ awaits frontend.old) }
 {
     push(frontend.endpoint_mut(), bytes, handles)

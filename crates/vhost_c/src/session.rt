@@ -56,7 +56,8 @@ pub struct Session {
 impl Session {
     ghost use Rattle.vhost_message.specs.declared.limits.TheConstants.{MAX_MSG_TEXT};
     ghost use Rattle.vhost_c_common.specs.Moving.{HandsOut};
-    ghost use Rattle.vhost_c.specs.Session.{IsNew, Changes, Asks, Asking, Rejecting, Becomes, Stays, Hands, Fails, Receiving, Takes, queued, remembers, missing_of};
+    ghost use Rattle.vhost_c.specs.Session.{IsNew, Changes, Asks, Asking, Rejecting, Becomes, Stays, Fails, Takes, queued, view, missing_of};
+    ghost use Rattle.vhost_c_common.specs.View.{Hands, HandsNone, Lasts, Receives, TakesNone};
 
     /// A new session with a backend of at most so many queues, of the profile `Standard`.
     ///
@@ -140,6 +141,7 @@ impl Session {
         ensures asked { IfOk result (λ _. Asks (call_of call) self.old self.new) }
         ensures refused { IfErr result (λ _. Stays self.old self.new) }
         ensures reason { IfErr result (λ e. Fails (call_of call) self.old e) }
+        ensures sound { IfErr result (λ e. Lasts e (endpoint_of self.old.frontend) (endpoint_of self.new.frontend)) }
     {
         stream_law();
         talks_law();
@@ -165,8 +167,9 @@ impl Session {
     /// failed. After each, nothing changed.
     pub(crate) fn hand_out(&mut self, bytes: &mut [u8], fds: &mut [i32]) -> Outcome<(usize, usize)>
         ensures out { IfOk result (λ n. HandsOut (queued self.old) (queued self.new) bytes.new fds.new n) }
+        ensures reason { IfErr result (λ r. HandsNone bytes.new fds.new r) }
         ensures refused { IfErr result (λ _. queued self.new ≡ queued self.old) }
-        ensures rest { Hands self.old self.new }
+        ensures rest { Hands (view self.old) (view self.new) }
     {
         if bytes.is_empty() || fds.len() < MAX_ATTACHED_FD_ENTRIES {
             return Err(Refusal::NoRoom);
@@ -201,7 +204,8 @@ impl Session {
     /// TooManyBytes: they are more than are missing. InvalidParam: descriptors without a byte, more than a message may
     /// have, or a negative one. OutOfMemory: an allocation failed. After each, nothing changed.
     pub(crate) fn receive(&mut self, bytes: &[u8], fds: &[i32]) -> Outcome<()>
-        ensures { Receiving bytes.now fds.now self.old result self.new }
+        ensures received { Receives (missing_of self.old) bytes.now fds.now (view self.old) result (view self.new) }
+        ensures reason { IfErr result (λ r. TakesNone (missing_of self.old) bytes.now fds.now r) }
     {
         if bytes.len() > self.missing() {
             return Err(Refusal::TooManyBytes);

@@ -30,6 +30,7 @@ use Rattle.vhost_backend_req_handler.specs.Serving.{Finishes, finished, stopped,
 use Rattle.vhost_backend_req_handler.specs.declared.halves.Pending.{Pending}
 use Rattle.vhost_backend_req_handler.specs.declared.session_core.SessionCore.{SessionCore}
 use Rattle.vhost_c_common.proofs.Hearing.{hears-cut, replies-told}
+use Rattle.vhost_c_common.proofs.Wants.{sound}
 use Rattle.vhost_c_common.specs.declared.outgoing.Outgoing.{Outgoing}
 use Rattle.vhost_c_common.specs.declared.refusal.Refusal.{Refusal}
 use Rattle.vhost_c_common.specs.declared.refusal.Refusal.TheVariants.{Protocol, NothingAsked, OtherCall}
@@ -173,6 +174,7 @@ begins law old new number c b outgoing count inactive is lends due =
       queue = ap {A = Outgoing} (λ q. q.link.pending ++ (endpoint_of new.core).link.sent) outgoing ∙ ap (λ xs. old.outgoing.link.pending ++ xs) cut.1;
       nothing_came = count;
       inactive = inactive;
+      sound = sound (endpoint_of old.core) (endpoint_of new.core) b.reads.hears.serves;
     }
 
 -- ---- what follows
@@ -210,7 +212,7 @@ concludes talks law m a old new result finishes outgoing x =
         (ap {A = Outgoing} (λ q. q.link.pending ++ (endpoint_of new.core).link.sent) outgoing ∙ ap (λ xs. old.outgoing.link.pending ++ xs) ((replies-told talks (endpoint_of old.core) (endpoint_of new.core) cells replies).1 ∙ ap (λ xs. (endpoint_of old.core).link.sent ++ xs) coded)
         ∙ sym (append_assoc old.outgoing.link.pending (endpoint_of old.core).link.sent (reply_cells m.request (settled s m o).served)))
         (replies-told talks (endpoint_of old.core) (endpoint_of new.core) cells replies).0
-        session
+        session (sound (endpoint_of old.core) (endpoint_of new.core) replies.serves)
     by (Err e) (stopped stops session) = serving.stopped (regions_for x.pending.then old.core.server.regions) o follows (subst (λ cs. Stops event (endpoint_of old.core) cs e (endpoint_of new.core)) coded stops) (session ∙ ap (λ r. kept_unsent r s (settled s m o).session) x.reads.code)
 
 -- ---- replies
@@ -250,5 +252,5 @@ concludes-placed old new config core a result is concluded m x =
     (record { pending = x.pending; is = x.is; reads = x.reads; hands = x.hands; prepares = x.prepares; settles = x.settles; ready = x.ready }))
   where
     again : {r : Result ⊤ declared.Error} → Concludes m config a (placed old config) new r → Concludes m config a old new r
-    again (told rs o follows is queue came memory) = told rs o follows is queue came memory
+    again (told rs o follows is queue came memory sound) = told rs o follows is queue came memory sound
     again (serving.stopped rs o follows stops memory) = serving.stopped rs o follows stops memory

@@ -9,7 +9,7 @@ use Rattle.vhost_message.specs.declared.records.memory.VhostUserMemoryRegion.{Vh
 use Rattle.vhost_message.specs.declared.records.shmem.VhostUserShMemConfig.{VhostUserShMemConfig}
 use Rattle.vhost_protocol.specs.Codes.{allows_handles}
 use Rattle.vhost_protocol.specs.Error.{Error, BackendInternalError}
-use Rattle.vhost_protocol.specs.Served.{Served as Told, Silent, Acknowledged, Replied}
+use Rattle.vhost_protocol.specs.Served.{Silent, Acknowledged, Replied}
 use Rattle.vhost_protocol.specs.Profile.{is_standard}
 use Rattle.vhost_protocol.proofs.SettleLaws.{settled-answer}
 use Rattle.vhost_protocol.specs.Settled.{awaits_reply, ended, refused_reply, saying, settled}
@@ -34,6 +34,7 @@ use Rattle.vhost_c_common.specs.Records.{handle_in}
 use Rattle.vhost_c_common.specs.declared.refusal.Refusal.{Refusal}
 use Rattle.vhost_c_backend.specs.Calls.{asked_number}
 use Rattle.vhost_c_backend.specs.Replies.{form_in, Gives, Rejects}
+use Rattle.vhost_backend_req_handler.specs.declared.halves.Pending.{Pending}
 use Rattle.vhost_c_backend.specs.Served.{arrived, new_session, queued, remembers, Receiving}
 use Rattle.vhost_c_backend.specs.Serving.{Request, Channel, Display, row, IsServed, Begins, Beginning, Answering, Replying, done, Concludes, told}
 use Rattle.vhost_c_backend.specs.Waiting.{IsWaiting, HasRead, bare_request, features_reply}
@@ -51,6 +52,10 @@ never r zero = grind arith
 bare : (hs : List PlainHandle) → map handle_in [] ≡ map Some hs → hs ≡ []
 bare [] is = refl
 bare (h ∷ hs) is = absurd cc
+
+-- what a session keeps between two calls
+abbrev Kept : Type 0
+Kept = Option (Pending PlainHandle) × List ℕ × Server × ℕ
 
 plain-text : (text : List ℕ) → carrying {H = PlainHandle} [] text ≡ plain text
 plain-text [] = refl
@@ -72,9 +77,9 @@ module _ (text : List ℕ) (m : Request) (memory : Session) (queue : List (Cell 
   pub coming : {old mid new : Option Served} {r n : ℕ} → IsSomeAnd old (IsWaiting memory queue) → By (Receiving text []) old r mid → By (Beginning number) mid n new → r ≡ 0 → n ≡ 0 → IsSomeAnd new (HasRead m memory queue number)
   coming waits none next zero = absurd (cc zero)
   coming waits (some {s = s} {s' = t} {outcome = Ok u} got) next zero =
-      let x : TakesIn text [] (arrived s) (arrived t) = got.1 in
+      let x : TakesIn text [] (arrived s) (arrived t) = got.0.1 in
       read t (x.got ∙ ap (λ cs. cs ++ carrying x.handles text) waits.came ∙ ap (λ hs. carrying hs text) (bare x.handles x.of_fds) ∙ plain-text text)
-      (ap {A = Server} (λ v. session_of v.session) got.3.rest.server ∙ waits.memory) (got.3.queue ∙ waits.queue) next
+      (ap {A = Kept} (λ k. session_of k.2.session) got.0.3.rest ∙ waits.memory) (got.0.3.queue ∙ waits.queue) next
   coming waits (some {outcome = Err r} got) next zero = absurd (never r zero)
 
 -- ---- it is replied to
@@ -93,7 +98,7 @@ record Went (m : Request) (r : Reply) (memory : Session) (queue : List (Cell Pla
 
 module _ (m : Request) (r : Reply) (memory : Session) (queue : List (Cell PlainHandle)) where
   concluded : (place : VhostUserShMemConfig) (a : DeviceAnswer PlainHandle) (f : Form) (s t : Served) → IsWaiting memory queue s → Gives f r a → Concludes m place a s t (Ok tt) → Went m r memory queue t
-  concluded place a f s t waits gives (told rs o follows is queued-is came-is memory-is) =
+  concluded place a f s t waits gives (told rs o follows is queued-is came-is memory-is sound) =
       let same : settled (remembers s) m o ≡ settled memory m o = ap {A = Session} (λ k. settled k m o) waits.memory in
       record {
         form = f;

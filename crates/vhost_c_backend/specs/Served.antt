@@ -1,19 +1,20 @@
 -- What the calls of a session do that serves.
-use Rattle.std.specs.Prelude.{◌≡◌, ◌≤◌, ℕ, ℤ, Bool, true, false, ◌||◌, ◌==◌, nat_lt, List, [], ◌++◌, length, Option, Some, None, Result, Ok, Err, ⊤, is_some, if◌then◌else◌}
+use Rattle.std.specs.Prelude.{◌≡◌, ℕ, ℤ, Bool, true, false, ◌||◌, ◌==◌, nat_lt, List, ◌++◌, Option, Some, None, Result, Ok, Err, ⊤, is_some, if◌then◌else◌}
 use Rattle.vhost_message.specs.declared.limits.TheConstants.{MSG_HEADER_SIZE}
 use Rattle.vhost_message.specs.declared.error.Error.TheVariants.{InvalidParam}
 use Rattle.vhost_protocol.specs.declared.profile.Profile.{Profile}
 use Rattle.vhost_protocol.specs.declared.profile.Profile.TheVariants.{Standard}
 use Rattle.vhost_protocol.specs.Session.{Session, fresh, heard_in}
 use Rattle.vhost_protocol.specs.Stream.{Cell}
-use Rattle.vhost_link.specs.Ends.{Ends}
 use Rattle.vhost_link.specs.declared.plain.PlainHandle.{PlainHandle}
 use Rattle.vhost_connection.specs.Memory.{stream}
-use Rattle.vhost_connection.specs.Talk.{State}
 use Rattle.vhost_backend_req_handler.specs.Core.{endpoint_of, session_in}
-use Rattle.vhost_c_common.specs.Incoming.{missing_by, Adds}
-use Rattle.vhost_c_common.specs.Moving.{HandsOut, TakesIn}
+use Rattle.vhost_backend_req_handler.specs.declared.halves.Pending.{Pending}
+use Rattle.vhost_backend_req_handler.specs.declared.server.Server.{Server}
+use Rattle.vhost_c_common.specs.Incoming.{missing_by}
 use Rattle.vhost_c_common.specs.Number.{error_number}
+use Rattle.vhost_c_common.specs.View as session
+use Rattle.vhost_c_common.specs.View.{View, IsEmpty, view_of}
 use Rattle.vhost_c_common.specs.declared.refusal.Refusal.{Refusal}
 use Rattle.vhost_c_common.specs.declared.refusal.Refusal.TheVariants.{Protocol, NotReplied}
 use Rattle.vhost_c_backend.specs.declared.served.Served.{Served}
@@ -25,10 +26,6 @@ queued s = s.outgoing.link.pending ++ (endpoint_of s.core).link.sent
 -- what came, and was not read
 abbrev pub arrived : Served → List (Cell PlainHandle)
 arrived s = stream (endpoint_of s.core)
-
--- the backend's end of the connection, but for what is to be sent and what came
-abbrev pub end_of : Served → State Ends PlainHandle
-end_of s = record (endpoint_of s.core) { link = record (endpoint_of s.core).link { pending = []; sent = [] }; ahead = [] }
 
 -- what is remembered of the frontend
 abbrev pub remembers : Served → Session
@@ -46,35 +43,17 @@ missing_of_request s = missing_by (heard_in (remembers s)) s.incoming
 abbrev pub missing_of : Served → ℕ
 missing_of s = if has_call s then 0 else missing_of_request s
 
--- The call that is to be replied to, and what is remembered, are as before.
-pub record Rests (old new : Served) : Type 0 where
-  pub pending : new.core.pending ≡ old.core.pending
-  pub body : new.core.body.value ≡ old.core.body.value
-  pub server : new.core.server ≡ old.core.server
-  pub inactive : new.inactive ≡ old.inactive
-
--- A part of the request came, or nothing did; nothing else changed.
-pub record Waits (old new : Served) : Type 0 where
-  pub queue : queued new ≡ queued old
-  pub end : end_of new ≡ end_of old
-  pub rest : Rests old new
+-- it, as the contracts of all sessions see one: with the call that is to be replied to, its body, what is remembered, and which feature the last request lacked
+abbrev pub view : Served → View (Option (Pending PlainHandle) × List ℕ × Server × ℕ)
+view s = view_of s.outgoing (endpoint_of s.core) s.incoming (s.core.pending, s.core.body.value, s.core.server, s.inactive)
 
 -- what a session answers to bytes of a request: no more may come than are missing
 abbrev pub Receiving : List ℕ → List ℤ → Served → Result ⊤ Refusal → Served → Type 0
-Receiving bytes fds s (Ok done) s' = (length bytes ≤ missing_of s) × TakesIn bytes fds (arrived s) (arrived s') × Adds bytes s.incoming s'.incoming × Waits s s'
-Receiving bytes fds s (Err r) s' = (arrived s' ≡ arrived s) × (s'.incoming ≡ s.incoming) × Waits s s'
-
--- A piece of what is to be sent went out, or nothing did; nothing else changed.
-pub record Hands (old new : Served) : Type 0 where
-  pub came : arrived new ≡ arrived old
-  pub incoming : new.incoming ≡ old.incoming
-  pub end : end_of new ≡ end_of old
-  pub rest : Rests old new
+Receiving bytes fds s outcome s' = session.Receiving (missing_of s) bytes fds (view s) outcome (view s')
 
 -- what it answers where it is to hand out what is to be sent
 abbrev pub Sending : List ℕ → List ℤ → ℕ × ℕ → Served → Result ⊤ Refusal → Served → Type 0
-Sending bytes fds count s (Ok done) s' = HandsOut (queued s) (queued s') bytes fds count × Hands s s'
-Sending bytes fds count s (Err r) s' = (queued s' ≡ queued s) × Hands s s'
+Sending bytes fds count s outcome s' = session.Sending bytes fds count (view s) outcome (view s')
 
 -- what it means that the stream ended: between two requests, in a header, in a body
 abbrev pub end_number : Served → ℕ
@@ -84,11 +63,9 @@ end_number s = if s.incoming.count == 0 || missing_of s == 0 then 10 else if nat
 abbrev pub new_session : Session
 new_session = record fresh { profile = Standard }
 
--- A new session: nothing is to be sent, nothing came, no call is to be replied to, no request lacked a feature.
+-- A new session: it is sound and empty, no call is to be replied to, no request lacked a feature.
 pub record IsNew (s : Served) : Type 0 where
-  pub queue : queued s ≡ []
-  pub came : arrived s ≡ []
-  pub count : s.incoming.count ≡ 0
+  pub empty : IsEmpty (view s)
   pub memory : remembers s ≡ new_session
   pub idle : has_call s ≡ false
   pub inactive : s.inactive ≡ 0
@@ -96,6 +73,7 @@ pub record IsNew (s : Served) : Type 0 where
 -- It has this profile from now on; nothing else changed.
 pub record Chose (profile : Profile) (old new : Served) : Type 0 where
   pub memory : remembers new ≡ record (remembers old) { profile = profile }
+  pub end : endpoint_of new.core ≡ endpoint_of old.core
   pub queue : queued new ≡ queued old
   pub came : arrived new ≡ arrived old
   pub incoming : new.incoming ≡ old.incoming

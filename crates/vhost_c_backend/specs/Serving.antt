@@ -34,6 +34,7 @@ use Rattle.vhost_backend_req_handler.specs.declared.halves.Pending.{Pending}
 use Rattle.vhost_backend_req_handler.specs.declared.session_core.SessionCore.{SessionCore}
 use Rattle.vhost_c_common.specs.Carrying.{emptied}
 use Rattle.vhost_c_common.specs.Number.{feature_in}
+use Rattle.vhost_c_common.specs.View.{StaysSound}
 use Rattle.vhost_c_common.specs.declared.refusal.Refusal.{Refusal}
 use Rattle.vhost_c_common.specs.declared.refusal.Refusal.TheVariants.{Protocol, NotYet, NotReplied, NothingAsked, OtherCall}
 use Rattle.vhost_c_backend.specs.Calls.{asked_number}
@@ -110,6 +111,7 @@ pub record Begins (number : ℕ) (old new : Served) : Type 0 where
   pub queue : queued new ≡ queued old
   pub nothing_came : new.incoming.count ≡ 0
   pub inactive : new.inactive ≡ 0
+  pub sound : StaysSound (endpoint_of old.core) (endpoint_of new.core)
 
 -- It was refused, or trouble came first; the device is asked nothing, and nothing of the request is left. Which feature it lacks is kept, if that is why.
 pub record Denies (e : declared.Error) (old new : Served) : Type 0 where
@@ -123,12 +125,14 @@ pub record Denies (e : declared.Error) (old new : Served) : Type 0 where
   pub nothing_came : new.incoming.count ≡ 0
   pub inactive : new.inactive ≡ feature_in e
 
--- The session has ended, which it says; it reads nothing more.
+-- The session has ended, which it says; it reads nothing more, and what came is forgotten.
 pub record Ended (n : ℤ) (e : declared.Error) (old new : Served) : Type 0 where
   pub is : e ≡ SocketBroken (Raw n)
+  pub end : endpoint_of new.core ≡ emptied (endpoint_of old.core)
   pub memory : remembers new ≡ remembers old
   pub outgoing : new.outgoing ≡ old.outgoing
   pub idle : has_call new ≡ false
+  pub nothing_came : new.incoming.count ≡ 0
 
 -- What a session answers where it is to read the next request: the number of a call, or why not. One that has ended says so.
 abbrev pub Nexts : Served → Result ℕ Refusal → Served → Type 0
@@ -149,7 +153,7 @@ Beginning number s (Err r) s' = Nexts s (Err r) s'
 pub data Concludes (m : Request) (place : VhostUserShMemConfig) (a : DeviceAnswer PlainHandle) (old new : Served) : Result ⊤ declared.Error → Type 0 where
   told : {result : Result ⊤ declared.Error} (rs : List VhostUserMemoryRegion) (o : Outcome PlainHandle) → FollowsFrom (remembers old) (beside rs place) a (row (remembers old) m) o
       → (settled (remembers old) m o).answer ≡ seen_result result → queued new ≡ queued old ++ reply_cells m.request (settled (remembers old) m o).served → arrived new ≡ arrived old
-      → remembers new ≡ (settled (remembers old) m o).session → Concludes m place a old new result
+      → remembers new ≡ (settled (remembers old) m o).session → StaysSound (endpoint_of old.core) (endpoint_of new.core) → Concludes m place a old new result
   stopped : {e : declared.Error} (rs : List VhostUserMemoryRegion) (o : Outcome PlainHandle) → FollowsFrom (remembers old) (beside rs place) a (row (remembers old) m) o
       → Stops event (endpoint_of old.core) (reply_cells m.request (settled (remembers old) m o).served) e (endpoint_of new.core)
       → remembers new ≡ kept_unsent m.request (remembers old) (settled (remembers old) m o).session → Concludes m place a old new (Err e)

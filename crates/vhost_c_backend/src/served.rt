@@ -44,7 +44,8 @@ pub struct Served {
 impl Served {
     ghost use Rattle.vhost_message.specs.declared.limits.TheConstants.{MAX_MSG_TEXT};
     ghost use Rattle.vhost_c_common.specs.Moving.{HandsOut};
-    ghost use Rattle.vhost_c_backend.specs.Served.{IsNew, Choosing, missing_of, missing_of_request, Receiving, end_number, queued, Hands, remembers, has_call};
+    ghost use Rattle.vhost_c_common.specs.View.{Hands, HandsNone, Receives, TakesNone};
+    ghost use Rattle.vhost_c_backend.specs.Served.{IsNew, Choosing, missing_of, missing_of_request, end_number, queued, view, remembers, has_call};
     ghost use Rattle.vhost_c_backend.specs.Replies.{form_in};
     ghost use Rattle.vhost_c_backend.specs.Serving.{Request, IsServed, IsCall, Nexts, Answering, AnsweringShmem, Concludes, Rests};
     ghost use Rattle.vhost_backend_core.specs.declared.call.DeviceCall.{DeviceCall};
@@ -107,7 +108,8 @@ impl Served {
     /// TooManyBytes: they are more than are missing. InvalidParam: descriptors without a byte, more than a message may
     /// have, or a negative one. OutOfMemory: an allocation failed. After each, nothing changed.
     pub fn receive(&mut self, bytes: &[u8], fds: &[i32]) -> Outcome<()>
-        ensures { Receiving bytes.now fds.now self.old result self.new }
+        ensures received { Receives (missing_of self.old) bytes.now fds.now (view self.old) result (view self.new) }
+        ensures reason { IfErr result (λ r. TakesNone (missing_of self.old) bytes.now fds.now r) }
     {
         if bytes.len() > self.missing() {
             return Err(Refusal::TooManyBytes);
@@ -149,8 +151,9 @@ impl Served {
     /// failed. After each, nothing changed.
     pub fn hand_out(&mut self, bytes: &mut [u8], fds: &mut [i32]) -> Outcome<(usize, usize)>
         ensures out { IfOk result (λ n. HandsOut (queued self.old) (queued self.new) bytes.new fds.new n) }
+        ensures reason { IfErr result (λ r. HandsNone bytes.new fds.new r) }
         ensures refused { IfErr result (λ _. queued self.new ≡ queued self.old) }
-        ensures rest { Hands self.old self.new }
+        ensures rest { Hands (view self.old) (view self.new) }
     {
         if bytes.is_empty() || fds.len() < MAX_ATTACHED_FD_ENTRIES {
             return Err(Refusal::NoRoom);

@@ -1,18 +1,18 @@
 -- What became of a call of a device's session, and of its reply.
 use Rattle.std.proofs.Common.{◌≡◌, ℕ, ◌<◌, ◌≤◌, arith, Bool, true, false, List, [], ◌++◌, append_assoc, Option, Some, None, Result, Ok, Err, refl, sym, ap, subst, ◌∙◌}
 use Rattle.std.proofs.lemmas.List.{append-nil}
-use Rattle.std.specs.Prelude.{⊤, is_some, if◌then◌else◌}
+use Rattle.std.specs.Prelude.{⊤, if◌then◌else◌}
 use Rattle.vhost_message.specs.BackendReq.{backend_request_number}
 use Rattle.vhost_message.specs.MsgHeader.{fields_of}
 use Rattle.vhost_message.specs.declared.backend_req.BackendReq.{BackendReq}
 use Rattle.vhost_message.specs.declared.error.Error as declared
-use Rattle.vhost_message.specs.declared.error.Error.TheVariants.{InactiveOperation, InvalidMessage}
+use Rattle.vhost_message.specs.declared.error.Error.TheVariants.{InactiveOperation, InvalidMessage, OutOfMemory}
 use Rattle.vhost_message.specs.declared.io_error.IoError as io
 use Rattle.vhost_protocol.specs.IoError.{seen_io, seen_io_result}
 use Rattle.vhost_protocol.specs.JoinedReverse as input
 use Rattle.vhost_protocol.specs.JoinedReverse.{ReverseInput}
 use Rattle.vhost_protocol.specs.Reverse.{ReverseCall, ReverseAsked, Backend, Sends, Refuses, reverse_ask, reverse_take}
-use Rattle.vhost_protocol.specs.Stream.{Cell}
+use Rattle.vhost_protocol.specs.Stream.{Cell, has_some}
 use Rattle.vhost_protocol.specs.Written.{Written, written_cells, head_of}
 use Rattle.vhost_link.specs.Ends.{Ends}
 use Rattle.vhost_link.specs.Mem.{event}
@@ -25,12 +25,16 @@ use Rattle.vhost_backend_req.specs.Channel as link
 use Rattle.vhost_backend_req.specs.Channel.{channel, backend_of}
 use Rattle.vhost_backend_req.specs.Halves.{AsksHalf, AsksHalfFor, AsksValue, goes, refuses, fails}
 use Rattle.vhost_backend_req.specs.declared.call.Asked.TheVariants.{Sent}
+use Rattle.vhost_connection.specs.Hearing.{Fails}
 use Rattle.vhost_c_common.proofs.Hearing.{none-handed, hears-cut}
+use Rattle.vhost_c_common.proofs.OnWay.{empty-parts, sound-since}
+use Rattle.vhost_c_common.proofs.Wants.{sound}
+use Rattle.vhost_c_common.specs.View.{End, StaysSound, bare, unsent}
 use Rattle.vhost_c_common.specs.declared.outgoing.Outgoing.{Outgoing}
 use Rattle.vhost_c_common.specs.declared.refusal.Refusal.{Refusal}
 use Rattle.vhost_c_common.specs.declared.refusal.Refusal.TheVariants.{Protocol}
 use Rattle.vhost_c_channel.specs.Asking as session
-use Rattle.vhost_c_channel.specs.Asking.{Head, Asks, Asking, Refused, Stays, Keeps, Hears, Takes, error_in, lacks, endpoint_of, queued, arrived, remembers}
+use Rattle.vhost_c_channel.specs.Asking.{Head, Asks, Asking, AskingNow, Refused, Unasked, Stays, Keeps, Hears, Takes, error_in, lacks, endpoint_of, queued, arrived, remembers}
 use Rattle.vhost_c_channel.specs.declared.asking.Channel.{Channel}
 
 -- ---- a request that went out
@@ -47,6 +51,7 @@ record Went (asked : ReverseAsked PlainHandle) (head : Option Head) (old new : S
   keeps : Keeps w awaited (Some head)
   text : new.link.sent ≡ old.link.sent ++ written_cells backend_request_number w
   came : stream new ≡ stream old
+  sound : StaysSound old new
 
 went : TalksLaw → (asked : ReverseAsked PlainHandle) (head : Option Head) (old new : State Ends PlainHandle) → AsksHalf event asked old (Ok head) new → Went asked head old new
 went law asked _ old new (goes {w = w} {awaited = awaited} head is out) = let t = law old new _ out.serves.talks in record {
@@ -56,6 +61,7 @@ went law asked _ old new (goes {w = w} {awaited = awaited} head is out) = let t 
   keeps = kept w awaited head out.header;
   text = t.1;
   came = none-handed (stream old) (stream new) t.0;
+  sound = sound old new out.serves;
 }
 
 pub asks : TalksLaw → (i : ReverseInput PlainHandle) (k : ReverseCall PlainHandle) → i ≡ input.Asks k → (old new : Channel) (head : Option Head) → AsksValue event i (channel old.channel) (Ok (Sent head)) (channel new.channel)
@@ -72,32 +78,47 @@ asks law i k is old new head asked outgoing kept count none =
       memory = ap {A = link.Channel Ends PlainHandle} backend_of half.1;
       nothing_came = count;
       nothing_waits = x.came ∙ none;
+      sound = x.sound;
     }
 
 -- ---- a call that was not asked
 
-why : (k : ReverseCall PlainHandle) (old : Channel) (e : io.IoError) (new : State Ends PlainHandle) → AsksHalf event (reverse_ask (remembers old) k) (endpoint_of old) (Err e) new → Refused k old (Protocol (error_in e (InactiveOperation (lacks (input.Asks k)))))
-why k old e new (refuses is) = session.refuses e is
-why k old e new (fails is f) = session.fails (endpoint_of old) new is f
+-- an end for which nothing came or is to be sent
+pub is-bare : (e : End) → e.link.sent ≡ [] → stream e ≡ [] → e ≡ bare e
+is-bare e sent came =
+    let none = empty-parts e.ahead e.link.pending came in
+    λ i. record e { link = record e.link { pending = none.1 i; sent = sent i }; ahead = none.0 i }
 
-pub refused : (i : ReverseInput PlainHandle) (k : ReverseCall PlainHandle) → i ≡ input.Asks k → (old : Channel) (e : io.IoError) (mid : link.Channel Ends PlainHandle) → AsksValue event i (channel old.channel) (Err e) mid
-    → Refused k old (Protocol (error_in e (InactiveOperation (lacks i)))) × (backend_of mid ≡ remembers old)
-refused i k is old e mid asked =
-    let half : AsksHalfFor event (reverse_ask (remembers old) k) (channel old.channel) (Err e) mid = subst (λ (j : ReverseInput PlainHandle). AsksValue event j (channel old.channel) (Err e) mid) is asked in (
-      subst (λ (j : ReverseInput PlainHandle). Refused k old (Protocol (error_in e (InactiveOperation (lacks j))))) (sym is) (why k old e mid.endpoint half.0),
-      ap {A = link.Channel Ends PlainHandle} backend_of half.1,
-    )
+why : (k : ReverseCall PlainHandle) (old new : Channel) (start after : End) → start ≡ bare (endpoint_of old) → endpoint_of new ≡ unsent after → (e : io.IoError) → AsksHalf event (reverse_ask (remembers old) k) start (Err e) after
+    → Unasked k old new (Protocol (error_in e (InactiveOperation (lacks (input.Asks k)))))
+why k old new start _ plain left e (refuses is) = session.refuses e is (left ∙ ap unsent plain)
+why k old new start after plain left e (fails {e = d} is f) = session.fails after is (subst (λ (x : End). Fails event x false d after) plain f) left
+
+module _ (i : ReverseInput PlainHandle) (k : ReverseCall PlainHandle) (is : i ≡ input.Asks k) (old : Channel) (e : io.IoError) (mid : link.Channel Ends PlainHandle) (asked : AsksValue event i (channel old.channel) (Err e) mid) where
+  half : AsksHalfFor event (reverse_ask (remembers old) k) (channel old.channel) (Err e) mid
+  half = subst (λ (j : ReverseInput PlainHandle). AsksValue event j (channel old.channel) (Err e) mid) is asked
+
+  pub refused : (new : Channel) (d : declared.Error) → d ≡ error_in e (InactiveOperation (lacks i)) → endpoint_of old ≡ bare (endpoint_of old) → endpoint_of new ≡ unsent mid.endpoint → Unasked k old new (Protocol d)
+  refused new d told plain left =
+      subst {A = declared.Error} (λ x. Unasked k old new (Protocol x)) (sym (told ∙ ap (λ (j : ReverseInput PlainHandle). error_in e (InactiveOperation (lacks j))) is))
+      (why k old new (endpoint_of old) mid.endpoint plain left e half.0)
+
+  pub forgot-nothing : backend_of mid ≡ remembers old
+  forgot-nothing = ap {A = link.Channel Ends PlainHandle} backend_of half.1
+
+pub no-memory : (k : ReverseCall PlainHandle) (old new : Channel) (d : declared.Error) → d ≡ OutOfMemory → has_some old.outgoing.link.pending ≡ true → endpoint_of new ≡ endpoint_of old → Refused k old new (Protocol d)
+no-memory k old new d is some same = subst {A = declared.Error} (λ x. Refused k old new (Protocol x)) (sym is) (session.no_memory some same)
 
 -- ---- what was asked in between was asked of the session before, where nothing but its places changed
 
-module _ (k : ReverseCall PlainHandle) (old mid new : Channel) (queue : queued mid ≡ queued old) (memory : remembers mid ≡ remembers old) (asked : mid.asked ≡ old.asked) (incoming : mid.incoming ≡ old.incoming) where
-  refused-since : (r : Refusal) → Refused k mid r → Refused k old r
-  refused-since _ (session.busy is) = session.busy (sym (ap is_some asked) ∙ is)
-  refused-since _ (session.refuses e is) = session.refuses e (subst {A = Backend} (λ b. reverse_ask b k ≡ Refuses (seen_io e)) memory is)
-  refused-since _ session.no_memory = session.no_memory
-  refused-since _ (session.fails {w = w} {awaited = awaited} before after is f) = session.fails before after (subst {A = Backend} (λ b. reverse_ask b k ≡ Sends w awaited) memory is) f
+module _ (k : ReverseCall PlainHandle) (old mid new : Channel) (queue : queued mid ≡ queued old) (memory : remembers mid ≡ remembers old) (asked : mid.asked ≡ old.asked) (incoming : mid.incoming ≡ old.incoming)
+    (end : endpoint_of mid ≡ bare (endpoint_of old)) where
+  unasked-since : (r : Refusal) → Unasked k mid new r → Unasked k old new r
+  unasked-since _ (session.refuses e is left) = session.refuses e (subst {A = Backend} (λ b. reverse_ask b k ≡ Refuses (seen_io e)) memory is) (left ∙ ap bare end)
+  unasked-since _ (session.fails {w = w} {awaited = awaited} {e = e} after is f left) =
+      session.fails after (subst {A = Backend} (λ b. reverse_ask b k ≡ Sends w awaited) memory is) (subst (λ (x : End). Fails event x false e after) (ap bare end) f) left
 
-  pub asking-since : (outcome : Result ⊤ Refusal) → Asking k mid outcome new → Asking k old outcome new
+  pub asking-since : (outcome : Result ⊤ Refusal) → AskingNow k mid outcome new → Asking k old outcome new
   asking-since (Ok done) a = record {
     w = a.w;
     awaited = a.awaited;
@@ -107,8 +128,9 @@ module _ (k : ReverseCall PlainHandle) (old mid new : Channel) (queue : queued m
     memory = a.memory ∙ memory;
     nothing_came = a.nothing_came;
     nothing_waits = a.nothing_waits;
+    sound = sound-since (ap (λ (e : End). e.broken) end) (ap (λ (e : End). e.link.script) end) a.sound;
   }
-  asking-since (Err r) (why, stays) = (refused-since r why, record { queue = stays.queue ∙ queue; memory = stays.memory ∙ memory; asked = stays.asked ∙ asked; incoming = stays.incoming ∙ incoming })
+  asking-since (Err r) (why, stays) = (session.unasked (unasked-since r why), record { queue = stays.queue ∙ queue; memory = stays.memory ∙ memory; asked = stays.asked ∙ asked; incoming = stays.incoming ∙ incoming })
 
 -- what is to be sent is the same once it was collected
 pub collected : (before taken pending now : List (Cell PlainHandle)) → pending ≡ before ++ taken → now ≡ [] → pending ++ now ≡ before ++ taken
@@ -120,7 +142,7 @@ collected before taken pending now is gone = ap (λ xs. pending ++ xs) gone ∙ 
 pub received : TalksLaw → (head : Head) (old new : Channel) (result : Result ℕ io.IoError) → RecvsNumber event (fields_of head) (endpoint_of old) result (endpoint_of new) → new.outgoing ≡ old.outgoing → Hears head old new result
 received law head old new result (asking.heard h listed) outgoing =
     let cut = hears-cut law (reverse_take true (fields_of head)) (endpoint_of old) (endpoint_of new) (seen_io_result result) h.hears in
-    session.heard cut.0 (ap {A = Outgoing} (λ q. q.link.pending ++ (endpoint_of new).link.sent) outgoing ∙ ap (λ xs. old.outgoing.link.pending ++ xs) cut.1)
+    session.heard cut.0 (ap {A = Outgoing} (λ q. q.link.pending ++ (endpoint_of new).link.sent) outgoing ∙ ap (λ xs. old.outgoing.link.pending ++ xs) cut.1) (sound (endpoint_of old) (endpoint_of new) h.hears.serves)
 received law head old new result (asking.stopped f) outgoing = session.fails f
 
 -- the same by the error that is answered

@@ -1,13 +1,14 @@
 -- What became of a call of a session with a display, and of its reply.
 use Rattle.std.proofs.Common.{◌≡◌, ℕ, ◌<◌, arith, true, false, List, [], ◌∷◌, ◌++◌, length, append_assoc, Option, Some, None, Result, Ok, Err, refl, sym, ap, subst, ◌∙◌}
-use Rattle.std.specs.Prelude.{⊤, is_some}
+use Rattle.std.specs.Prelude.{⊤}
 use Rattle.std.proofs.lemmas.List.{map-append}
 use Rattle.vhost_message.specs.Header.{Header, header_text}
 use Rattle.vhost_message.specs.declared.error.Error as declared
+use Rattle.vhost_message.specs.declared.error.Error.TheVariants.{OutOfMemory}
 use Rattle.vhost_message.specs.declared.io_error.IoError as io
 use Rattle.vhost_protocol.specs.Gpu.{GpuCall, GpuReply, GpuSent, TheFeatures, TheDisplayInfo, TheEdid, TheEmpty, gpu_row, gpu_head, gpu_cells, gpu_record_size, gpu_take}
 use Rattle.vhost_protocol.specs.IoError.{IoError, seen_io_result}
-use Rattle.vhost_protocol.specs.Stream.{cell, carrying, plain}
+use Rattle.vhost_protocol.specs.Stream.{cell, carrying, has_some, plain}
 use Rattle.vhost_link.specs.Ends.{Ends}
 use Rattle.vhost_link.specs.Mem.{event}
 use Rattle.vhost_link.specs.declared.plain.PlainHandle.{PlainHandle}
@@ -20,11 +21,14 @@ use Rattle.vhost_gpu_backend_req.specs.Channel.{channel}
 use Rattle.vhost_gpu_backend_req.specs.Halves.{AsksHalf, FrontGoes, FrontUnsent, NotReady, gpu_front, not_ready, stopped, refused, no_memory, too_long}
 use Rattle.vhost_gpu_backend_req.specs.declared.call.Awaited.{Awaited}
 use Rattle.vhost_c_common.proofs.Hearing.{none-handed, hears-cut}
+use Rattle.vhost_c_common.proofs.OnWay.{sound-since}
+use Rattle.vhost_c_common.proofs.Wants.{sound}
+use Rattle.vhost_c_common.specs.View.{StaysSound, bare, unsent}
 use Rattle.vhost_c_common.specs.declared.outgoing.Outgoing.{Outgoing}
 use Rattle.vhost_c_common.specs.declared.refusal.Refusal.{Refusal}
 use Rattle.vhost_c_common.specs.declared.refusal.Refusal.TheVariants.{Protocol}
 use Rattle.vhost_c_channel.specs.Display as session
-use Rattle.vhost_c_channel.specs.Display.{Asks, Asking, Refused, Stays, Hears, TakesRecord, awaits_none, error_in, end_of, endpoint_of, queued, arrived, mark_of}
+use Rattle.vhost_c_channel.specs.Display.{Asks, Asking, AskingNow, Refused, Unasked, Stays, Hears, TakesRecord, awaits_none, error_in, endpoint_of, queued, arrived, mark_of}
 use Rattle.vhost_c_channel.specs.declared.display.Display.{Display}
 
 -- ---- a request that went out
@@ -41,10 +45,10 @@ whole sent =
 
 -- it is behind what was sent before, and what came is as before
 went : TalksLaw → (sent : GpuSent PlainHandle) (old : link.Channel Ends PlainHandle) (new : State Ends PlainHandle) → FrontGoes event sent old new
-    → (new.link.sent ≡ old.endpoint.link.sent ++ gpu_front sent) × (stream new ≡ stream old.endpoint) × (new.broken ≡ None)
+    → (new.link.sent ≡ old.endpoint.link.sent ++ gpu_front sent) × (stream new ≡ stream old.endpoint) × StaysSound old.endpoint new
 went law sent old new out =
     let (retries, serves, listed, left) = out.sends in
-    let t = law (record old.endpoint { list = true }) new _ serves.talks in (t.1, none-handed (stream old.endpoint) (stream new) t.0, serves.after)
+    let t = law (record old.endpoint { list = true }) new _ serves.talks in (t.1, none-handed (stream old.endpoint) (stream new) t.0, sound-since refl refl (sound (record old.endpoint { list = true }) new serves))
 
 pub asks : TalksLaw → (c : GpuCall PlainHandle) (old new : Display) (kept : Option Awaited) → AsksHalf event c (channel old.channel) (Ok kept) (channel new.channel)
     → new.outgoing ≡ old.outgoing → new.asked ≡ Some kept → new.incoming.count ≡ 0 → arrived old ≡ [] → Asks c old new
@@ -76,19 +80,27 @@ mark-unsent : {place : List ℕ} {sent : GpuSent PlainHandle} {e : IoError} (old
 mark-unsent old new (not_ready n) = mark-unready old new n
 mark-unsent old new (stopped alive fits sends is) = ap {A = link.Channel Ends PlainHandle} (λ x. x.failed) is
 
-pub unsent : (c : GpuCall PlainHandle) (old : Display) (e : io.IoError) (mid : link.Channel Ends PlainHandle) → AsksHalf event c (channel old.channel) (Err e) mid
-    → Refused c old (Protocol (error_in e)) × (mid.failed ≡ mark_of old)
-unsent c old e mid asked = (session.unsent e (channel old.channel) mid refl refl asked, mark-unsent (channel old.channel) mid asked)
+pub not-asked : (c : GpuCall PlainHandle) (old new : Display) (e : io.IoError) (mid : link.Channel Ends PlainHandle) (d : declared.Error) → d ≡ error_in e → endpoint_of old ≡ bare (endpoint_of old) → endpoint_of new ≡ unsent mid.endpoint
+    → AsksHalf event c (channel old.channel) (Err e) mid → Unasked c old new (Protocol d)
+not-asked c old new e mid d is plain left asked =
+    subst {A = declared.Error} (λ x. Unasked c old new (Protocol x)) (sym is)
+    (session.not_sent e mid (subst {A = State Ends PlainHandle} (λ x. AsksHalf event c (record { endpoint = x; failed = mark_of old }) (Err e) mid) plain asked) left)
+
+pub mark-kept : (c : GpuCall PlainHandle) (old : Display) (e : io.IoError) (mid : link.Channel Ends PlainHandle) → AsksHalf event c (channel old.channel) (Err e) mid → mid.failed ≡ mark_of old
+mark-kept c old e mid asked = mark-unsent (channel old.channel) mid asked
+
+pub no-memory : (c : GpuCall PlainHandle) (old new : Display) (d : declared.Error) → d ≡ OutOfMemory → has_some old.outgoing.link.pending ≡ true → endpoint_of new ≡ endpoint_of old → Refused c old new (Protocol d)
+no-memory c old new d is some same = subst {A = declared.Error} (λ x. Refused c old new (Protocol x)) (sym is) (session.no_memory some same)
 
 -- ---- what was asked in between was asked of the session before, where nothing but its places changed
 
-module _ (c : GpuCall PlainHandle) (old mid new : Display) (queue : queued mid ≡ queued old) (mark : mark_of mid ≡ mark_of old) (asked : mid.asked ≡ old.asked) (incoming : mid.incoming ≡ old.incoming) (end : end_of mid ≡ end_of old) where
-  refused-since : (r : Refusal) → Refused c mid r → Refused c old r
-  refused-since _ (session.busy is) = session.busy (sym (ap is_some asked) ∙ is)
-  refused-since _ session.no_memory = session.no_memory
-  refused-since _ (session.unsent e before after same at why) = session.unsent e before after (same ∙ mark) (at ∙ end) why
+module _ (c : GpuCall PlainHandle) (old mid new : Display) (queue : queued mid ≡ queued old) (mark : mark_of mid ≡ mark_of old) (asked : mid.asked ≡ old.asked) (incoming : mid.incoming ≡ old.incoming)
+    (end : endpoint_of mid ≡ bare (endpoint_of old)) where
+  unasked-since : (r : Refusal) → Unasked c mid new r → Unasked c old new r
+  unasked-since _ (session.not_sent e after why left) =
+      session.not_sent e after (subst {A = link.Channel Ends PlainHandle} (λ x. AsksHalf event c x (Err e) after) (λ i. record { endpoint = bare (end i); failed = mark i }) why) left
 
-  pub asking-since : (outcome : Result ⊤ Refusal) → Asking c mid outcome new → Asking c old outcome new
+  pub asking-since : (outcome : Result ⊤ Refusal) → AskingNow c mid outcome new → Asking c old outcome new
   asking-since (Ok done) a = record {
     queue = a.queue ∙ ap (λ xs. xs ++ gpu_cells (gpu_row c)) queue;
     fits = a.fits;
@@ -98,9 +110,9 @@ module _ (c : GpuCall PlainHandle) (old mid new : Display) (queue : queued mid �
     mark = a.mark ∙ mark;
     nothing_came = a.nothing_came;
     nothing_waits = a.nothing_waits;
-    sound = a.sound;
+    sound = sound-since (ap {A = State Ends PlainHandle} (λ e. e.broken) end) (ap {A = State Ends PlainHandle} (λ e. e.link.script) end) a.sound;
   }
-  asking-since (Err r) (why, stays) = (refused-since r why, record { queue = stays.queue ∙ queue; mark = stays.mark ∙ mark; asked = stays.asked ∙ asked; incoming = stays.incoming ∙ incoming })
+  asking-since (Err r) (why, stays) = (session.unasked (unasked-since r why), record { queue = stays.queue ∙ queue; mark = stays.mark ∙ mark; asked = stays.asked ∙ asked; incoming = stays.incoming ∙ incoming })
 
 -- ---- replies
 
@@ -138,7 +150,7 @@ module _ {T : Type 0} (reply : GpuReply) (read : List ℕ → T) where
       → RecvsRecord event read (gpu_take (Some reply) head) (endpoint_of old) r (endpoint_of new) → new.outgoing ≡ old.outgoing → Hears reply read head old new result
   heard-as law head old new result _ is (asking.heard {answer = answer} h reads listed) outgoing =
       let cut = hears-cut law (gpu_take (Some reply) head) (endpoint_of old) (endpoint_of new) answer h in
-      session.heard cut.0 (is ∙ reads) (ap {A = Outgoing} (λ q. q.link.pending ++ (endpoint_of new).link.sent) outgoing ∙ ap (λ xs. old.outgoing.link.pending ++ xs) cut.1) h.serves.after
+      session.heard cut.0 (is ∙ reads) (ap {A = Outgoing} (λ q. q.link.pending ++ (endpoint_of new).link.sent) outgoing ∙ ap (λ xs. old.outgoing.link.pending ++ xs) cut.1) (sound (endpoint_of old) (endpoint_of new) h.serves)
   heard-as law head old new (Ok t) _ is (asking.stopped f) outgoing = absurd (cc is)
   heard-as law head old new (Err e) _ is (asking.stopped {e = d} f) outgoing = session.fails d f (cc is)
 

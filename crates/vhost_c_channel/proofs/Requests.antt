@@ -17,6 +17,7 @@ use Rattle.vhost_frontend_req_handler.specs.Core.{endpoint_of, server_in, number
 use Rattle.vhost_frontend_req_handler.specs.Halves as halves
 use Rattle.vhost_frontend_req_handler.specs.declared.call.FrontendSideCall.{FrontendSideCall}
 use Rattle.vhost_c_common.proofs.Hearing.{hears-cut, replies-told}
+use Rattle.vhost_c_common.proofs.Wants.{sound}
 use Rattle.vhost_c_common.specs.declared.outgoing.Outgoing.{Outgoing}
 use Rattle.vhost_c_common.specs.declared.refusal.Refusal.{Refusal}
 use Rattle.vhost_c_common.specs.declared.refusal.Refusal.TheVariants.{OtherCall}
@@ -66,6 +67,7 @@ begins law old new number c b outgoing count is call =
       memory = b.server;
       queue = ap {A = Outgoing} (λ q. q.link.pending ++ (endpoint_of new.core).link.sent) outgoing ∙ ap (λ xs. old.outgoing.link.pending ++ xs) cut.1;
       nothing_came = count;
+      sound = sound (endpoint_of old.core) (endpoint_of new.core) b.reads.hears.serves;
     }
 
 -- ---- replies
@@ -75,11 +77,12 @@ pub concludes : TalksLaw → (request : code.Request BackendReq) (a : Result ℕ
     → halves.Concludes event request a (endpoint_of old.core) (server_in old.core) result (endpoint_of new.core) (server_in new.core) → new.outgoing ≡ old.outgoing → Concludes request a old new result
 concludes law request a old new result (halves.concluded is replies same) outgoing =
     let cells = number_cells (remembers old) request a in
+    let went = replies-told law (endpoint_of old.core) (endpoint_of new.core) cells replies in
     concluded is (
     ap {A = Outgoing} (λ q. q.link.pending ++ (endpoint_of new.core).link.sent) outgoing
-    ∙ ap (λ xs. old.outgoing.link.pending ++ xs) (replies-told law (endpoint_of old.core) (endpoint_of new.core) cells replies).1
+    ∙ ap (λ xs. old.outgoing.link.pending ++ xs) went.1
     ∙ sym (append_assoc old.outgoing.link.pending (endpoint_of old.core).link.sent cells)
-    )
+    ) went.0 (sound (endpoint_of old.core) (endpoint_of new.core) replies.serves)
 concludes law request a old new result (halves.stopped stops same) outgoing = serving.stopped stops
 
 pub keeps : (request : code.Request BackendReq) (a : Result ℕ IoError) (old new : ChannelServer) (result : Result ℕ declared.Error)
@@ -90,14 +93,15 @@ keeps request a old new result (halves.stopped stops same) = same
 -- what is answered to a reply where a call is to be replied to
 pub answers : TalksLaw → (a : Result ℕ IoError) (old new : ChannelServer) (result : Result ℕ declared.Error) (outcome : Result ⊤ Refusal)
     → ((request : code.Request BackendReq) → old.core.pending ≡ Some request → IsReady (endpoint_of old.core) → halves.Concludes event request a (endpoint_of old.core) (server_in old.core) result (endpoint_of new.core) (server_in new.core))
-    → new.outgoing ≡ old.outgoing → outcome ≡ told result → has_call new ≡ false → has_call old ≡ true → Answering a old outcome new
-answers law a old new result outcome goes outgoing is idle some = record {
+    → new.outgoing ≡ old.outgoing → new.incoming ≡ old.incoming → outcome ≡ told result → has_call new ≡ false → has_call old ≡ true → Answering a old outcome new
+answers law a old new result outcome goes outgoing incoming is idle some = record {
   one = λ m c x. let d = goes x.request x.is x.ready in record {
     result = result;
     concludes = concludes law x.request a old new result d outgoing;
     is_told = is;
     memory = keeps x.request a old new result d;
     idle = idle;
+    incoming = incoming;
   };
   none = λ none. cc (sym some ∙ none);
 }

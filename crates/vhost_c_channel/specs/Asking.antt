@@ -1,5 +1,5 @@
 -- What the calls of a device's session do.
-use Rattle.std.specs.Prelude.{◌≡◌, ◌<◌, ◌≤◌, ◌^◌, ℕ, ℤ, Bool, true, false, List, [], ◌++◌, length, Option, Some, None, Result, Ok, Err, ⊤, is_some}
+use Rattle.std.specs.Prelude.{◌≡◌, ◌<◌, ◌^◌, ℕ, ℤ, Bool, true, false, List, [], ◌++◌, Option, Some, None, Result, Ok, Err, ⊤, is_some}
 use Rattle.vhost_message.specs.BackendReq.{backend_request_number}
 use Rattle.vhost_message.specs.Header.{header_of}
 use Rattle.vhost_message.specs.MsgHeader.{fields_of}
@@ -15,7 +15,7 @@ use Rattle.vhost_protocol.specs.IoError.{seen_io, seen_io_result}
 use Rattle.vhost_protocol.specs.JoinedReverse as input
 use Rattle.vhost_protocol.specs.JoinedReverse.{ReverseInput}
 use Rattle.vhost_protocol.specs.Reverse.{ReverseCall, ShmemMap, ShmemUnmap, HandleConfigChange, Backend, Sends, Refuses, reverse_ask, reverse_take}
-use Rattle.vhost_protocol.specs.Stream.{Cell}
+use Rattle.vhost_protocol.specs.Stream.{Cell, has_some}
 use Rattle.vhost_protocol.specs.Written.{Written, written_cells, head_of}
 use Rattle.vhost_link.specs.Ends.{Ends}
 use Rattle.vhost_link.specs.Mem.{event}
@@ -25,8 +25,9 @@ use Rattle.vhost_connection.specs.Memory.{stream}
 use Rattle.vhost_connection.specs.Talk.{State}
 use Rattle.vhost_backend_req.specs.Channel.{channel, backend_of}
 use Rattle.vhost_backend_req.specs.Halves.{with_flag}
-use Rattle.vhost_c_common.specs.Incoming.{missing_in, Adds}
-use Rattle.vhost_c_common.specs.Moving.{HandsOut, TakesIn}
+use Rattle.vhost_c_common.specs.Incoming.{missing_in}
+use Rattle.vhost_c_common.specs.View as session
+use Rattle.vhost_c_common.specs.View.{End, View, IsEmpty, StaysSound, bare, unsent, view_of}
 use Rattle.vhost_c_common.specs.declared.incoming.Incoming.{Incoming}
 use Rattle.vhost_c_common.specs.declared.refusal.Refusal.{Refusal}
 use Rattle.vhost_c_common.specs.declared.refusal.Refusal.TheVariants.{NotTaken, NothingAsked, NotYet, Protocol}
@@ -52,13 +53,13 @@ queued s = s.outgoing.link.pending ++ (endpoint_of s).link.sent
 abbrev pub arrived : Channel → List (Cell PlainHandle)
 arrived s = stream (endpoint_of s)
 
--- its end of the connection, but for what is to be sent and what came
-abbrev pub end_of : Channel → State Ends PlainHandle
-end_of s = record (endpoint_of s) { link = record (endpoint_of s).link { pending = []; sent = [] }; ahead = [] }
-
 -- what it remembers
 abbrev pub remembers : Channel → Backend
 remembers s = backend_of (channel s.channel)
+
+-- it, as the contracts of all sessions see one: with what it remembers, and the call whose reply is to be taken
+abbrev pub view : Channel → View (Backend × Option (Option Head))
+view s = view_of s.outgoing (endpoint_of s) s.incoming (remembers s, s.asked)
 
 -- how many bytes can be told to be missing of a reply: none where none is awaited
 abbrev pub missing_for : Option (Option Head) → Incoming → ℕ
@@ -68,10 +69,9 @@ missing_for _ i = 0
 abbrev pub missing_of : Channel → ℕ
 missing_of s = missing_for s.asked s.incoming
 
--- A new session: nothing was agreed on, nothing is to be sent, nothing came, nothing is asked.
+-- A new session: it is sound and empty, nothing was agreed on, nothing is asked.
 pub record IsNew (s : Channel) : Type 0 where
-  pub queue : queued s ≡ []
-  pub came : arrived s ≡ []
+  pub empty : IsEmpty (view s)
   pub asked : s.asked ≡ None
   pub memory : remembers s ≡ record { reply_ack = false; shared_object = false; shmem = false; config_change = false; failed = None }
 
@@ -120,13 +120,18 @@ pub record Asks (c : ReverseCall PlainHandle) (old new : Channel) : Type 0 where
   pub memory : remembers new ≡ remembers old
   pub nothing_came : new.incoming.count ≡ 0
   pub nothing_waits : arrived new ≡ []
+  pub sound : StaysSound (endpoint_of old) (endpoint_of new)
 
--- Why a call was not asked: the reply before is still to be taken; its feature was not agreed on; memory was refused; or the link failed, whose calls fail for want of memory alone.
-pub data Refused (c : ReverseCall PlainHandle) (old : Channel) : Refusal → Type 0 where
-  busy : is_some old.asked ≡ true → Refused c old NotTaken
-  refuses : (e : io.IoError) → reverse_ask (remembers old) c ≡ Refuses (seen_io e) → Refused c old (Protocol (error_in e (InactiveOperation (lacks (input.Asks c)))))
-  no_memory : Refused c old (Protocol OutOfMemory)
-  fails : {w : Written BackendReq PlainHandle} {awaited : Bool} {e : declared.Error} (before after : State Ends PlainHandle) → reverse_ask (remembers old) c ≡ Sends w awaited → Fails event before false e after → Refused c old (Protocol e)
+-- Why the channel did not ask, and what that left of its end: its feature was not agreed on, and nothing that came before waits; or so the link failed of an end for which nothing came or is to be sent, whose calls fail for want of memory alone.
+pub data Unasked (c : ReverseCall PlainHandle) (old new : Channel) : Refusal → Type 0 where
+  refuses : (e : io.IoError) → reverse_ask (remembers old) c ≡ Refuses (seen_io e) → endpoint_of new ≡ bare (endpoint_of old) → Unasked c old new (Protocol (error_in e (InactiveOperation (lacks (input.Asks c)))))
+  fails : {w : Written BackendReq PlainHandle} {awaited : Bool} {e : declared.Error} (after : End) → reverse_ask (remembers old) c ≡ Sends w awaited → Fails event (bare (endpoint_of old)) false e after → endpoint_of new ≡ unsent after → Unasked c old new (Protocol e)
+
+-- Why a call was not asked: the reply before is still to be taken, and nothing changed; memory was refused for what still waits to be sent, and its end is as before; or the channel did not ask.
+pub data Refused (c : ReverseCall PlainHandle) (old new : Channel) : Refusal → Type 0 where
+  busy : is_some old.asked ≡ true → new ≡ old → Refused c old new NotTaken
+  no_memory : has_some old.outgoing.link.pending ≡ true → endpoint_of new ≡ endpoint_of old → Refused c old new (Protocol OutOfMemory)
+  unasked : {r : Refusal} → Unasked c old new r → Refused c old new r
 
 -- It was not asked: nothing more is to be sent, and the rest is as before.
 pub record Stays (old new : Channel) : Type 0 where
@@ -138,40 +143,28 @@ pub record Stays (old new : Channel) : Type 0 where
 -- what a session answers to an ask
 abbrev pub Asking : ReverseCall PlainHandle → Channel → Result ⊤ Refusal → Channel → Type 0
 Asking c s (Ok done) s' = Asks c s s'
-Asking c s (Err r) s' = Refused c s r × Stays s s'
+Asking c s (Err r) s' = Refused c s s' r × Stays s s'
+
+-- the same where nothing is asked, nothing that came waits, and its end has nothing that is to be sent
+abbrev pub AskingNow : ReverseCall PlainHandle → Channel → Result ⊤ Refusal → Channel → Type 0
+AskingNow c s (Ok done) s' = Asks c s s'
+AskingNow c s (Err r) s' = Unasked c s s' r × Stays s s'
 
 -- ---- bytes out and in
 
--- A piece of what is to be sent went out, or nothing did; nothing else changed.
-pub record Hands (old new : Channel) : Type 0 where
-  pub came : arrived new ≡ arrived old
-  pub end : end_of new ≡ end_of old
-  pub memory : remembers new ≡ remembers old
-  pub asked : new.asked ≡ old.asked
-  pub incoming : new.incoming ≡ old.incoming
-
 -- what a session answers where it is to hand out what is to be sent
 abbrev pub Sending : List ℕ → List ℤ → ℕ × ℕ → Channel → Result ⊤ Refusal → Channel → Type 0
-Sending bytes fds count s (Ok done) s' = HandsOut (queued s) (queued s') bytes fds count × Hands s s'
-Sending bytes fds count s (Err r) s' = (queued s' ≡ queued s) × Hands s s'
-
--- A part of the reply came, or nothing did; nothing else changed.
-pub record Waits (old new : Channel) : Type 0 where
-  pub queue : queued new ≡ queued old
-  pub end : end_of new ≡ end_of old
-  pub memory : remembers new ≡ remembers old
-  pub asked : new.asked ≡ old.asked
+Sending bytes fds count s outcome s' = session.Sending bytes fds count (view s) outcome (view s')
 
 -- what a session answers to bytes of its reply: no more may come than are missing
 abbrev pub Receiving : List ℕ → List ℤ → Channel → Result ⊤ Refusal → Channel → Type 0
-Receiving bytes fds s (Ok done) s' = (length bytes ≤ missing_of s) × TakesIn bytes fds (arrived s) (arrived s') × Adds bytes s.incoming s'.incoming × Waits s s'
-Receiving bytes fds s (Err r) s' = (arrived s' ≡ arrived s) × (s'.incoming ≡ s.incoming) × Waits s s'
+Receiving bytes fds s outcome s' = session.Receiving (missing_of s) bytes fds (view s) outcome (view s')
 
 -- ---- replies
 
 -- What came is what the definitions make of it, and the rest is left; or the link failed, whose calls fail for want of memory alone.
 pub data Hears (head : Head) (old new : Channel) : Result ℕ io.IoError → Type 0 where
-  heard : {result : Result ℕ io.IoError} → reverse_take true (fields_of head) (arrived old) ≡ (seen_io_result result, arrived new) → queued new ≡ queued old → Hears head old new result
+  heard : {result : Result ℕ io.IoError} → reverse_take true (fields_of head) (arrived old) ≡ (seen_io_result result, arrived new) → queued new ≡ queued old → StaysSound (endpoint_of old) (endpoint_of new) → Hears head old new result
   fails : {e : declared.Error} → Fails event (endpoint_of old) true e (endpoint_of new) → Hears head old new (Err (Of e))
 
 -- what a session answers for that
@@ -187,7 +180,7 @@ pub record Settles (old new : Channel) : Type 0 where
 -- What taking answers: a reply that came whole was read; or it announces another size than one has, and nothing of it is left; or none was awaited; or nothing was asked, or bytes of the reply are missing, and nothing changed.
 pub data Takes (old new : Channel) : Result ⊤ Refusal → Type 0 where
   read : (head : Head) (result : Result ℕ io.IoError) → missing_of old ≡ 0 → old.asked ≡ Some (Some head) → (header_of old.incoming.head).size ≡ 8 → Hears head old new result → Settles old new → Takes old new (told result)
-  other_size : (head : Head) → missing_of old ≡ 0 → old.asked ≡ Some (Some head) → ¬ ((header_of old.incoming.head).size ≡ 8) → arrived new ≡ [] → queued new ≡ queued old → Settles old new → Takes old new (Err (Protocol InvalidMessage))
-  not_awaited : old.asked ≡ Some None → arrived new ≡ arrived old → queued new ≡ queued old → Settles old new → Takes old new (Ok tt)
+  other_size : (head : Head) → missing_of old ≡ 0 → old.asked ≡ Some (Some head) → ¬ ((header_of old.incoming.head).size ≡ 8) → arrived new ≡ [] → queued new ≡ queued old → bare (endpoint_of new) ≡ bare (endpoint_of old) → Settles old new → Takes old new (Err (Protocol InvalidMessage))
+  not_awaited : old.asked ≡ Some None → endpoint_of new ≡ endpoint_of old → queued new ≡ queued old → Settles old new → Takes old new (Ok tt)
   nothing_asked : old.asked ≡ None → new ≡ old → Takes old new (Err NothingAsked)
   not_yet : 0 < missing_of old → new ≡ old → Takes old new (Err NotYet)

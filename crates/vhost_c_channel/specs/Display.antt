@@ -12,7 +12,7 @@ use Rattle.vhost_protocol.specs.Error.{seen}
 use Rattle.vhost_protocol.specs.Gpu.{GpuCall, GpuReply, TheEmpty, gpu_row, gpu_head, gpu_cells, gpu_record_size, gpu_take, sent_by}
 use Rattle.vhost_protocol.specs.IoError as seen_error
 use Rattle.vhost_protocol.specs.IoError.{seen_io, seen_io_result}
-use Rattle.vhost_protocol.specs.Stream.{Cell, plain}
+use Rattle.vhost_protocol.specs.Stream.{Cell, has_some, plain}
 use Rattle.vhost_link.specs.Ends.{Ends}
 use Rattle.vhost_link.specs.Mem.{event}
 use Rattle.vhost_link.specs.declared.plain.PlainHandle.{PlainHandle}
@@ -24,8 +24,9 @@ use Rattle.vhost_gpu_backend_req.specs.Channel as link
 use Rattle.vhost_gpu_backend_req.specs.Channel.{channel}
 use Rattle.vhost_gpu_backend_req.specs.Halves.{FrontUnsent, Keeps, reply_in}
 use Rattle.vhost_gpu_backend_req.specs.declared.call.Awaited.{Awaited}
-use Rattle.vhost_c_common.specs.Incoming.{missing_in, Adds}
-use Rattle.vhost_c_common.specs.Moving.{HandsOut, TakesIn}
+use Rattle.vhost_c_common.specs.Incoming.{missing_in}
+use Rattle.vhost_c_common.specs.View as session
+use Rattle.vhost_c_common.specs.View.{View, IsEmpty, StaysSound, bare, unsent, view_of}
 use Rattle.vhost_c_common.specs.declared.incoming.Incoming.{Incoming}
 use Rattle.vhost_c_common.specs.declared.refusal.Refusal.{Refusal}
 use Rattle.vhost_c_common.specs.declared.refusal.Refusal.TheVariants.{NotTaken, NothingAsked, NotYet, NoRoom, OtherAnswer, Protocol}
@@ -45,17 +46,6 @@ queued s = s.outgoing.link.pending ++ (endpoint_of s).link.sent
 abbrev pub arrived : Display → List (Cell PlainHandle)
 arrived s = stream (endpoint_of s)
 
--- an end of the connection, but for what is to be sent and what came
-abbrev pub bare : State Ends PlainHandle → State Ends PlainHandle
-bare e = record e { link = record e.link { pending = []; sent = [] }; ahead = [] }
-
-abbrev pub end_of : Display → State Ends PlainHandle
-end_of s = bare (endpoint_of s)
-
--- it is not poisoned
-abbrev pub IsSound : Display → Type 0
-IsSound s = (endpoint_of s).broken ≡ None
-
 -- the number of the error with which it was marked as failed
 abbrev pub mark_of : Display → Option ℤ
 mark_of s = (channel s.channel).failed
@@ -73,13 +63,15 @@ abbrev pub awaits_none : Option (Option Awaited) → Bool
 awaits_none (Some None) = true
 awaits_none _ = false
 
--- A new session: nothing is to be sent, nothing came, nothing is asked, and its end of the connection is not poisoned.
+-- it, as the contracts of all sessions see one: with its mark, and the call whose reply is to be taken
+abbrev pub view : Display → View (Option ℤ × Option (Option Awaited))
+view s = view_of s.outgoing (endpoint_of s) s.incoming (mark_of s, s.asked)
+
+-- A new session: it is sound and empty, and nothing is asked.
 pub record IsNew (s : Display) : Type 0 where
-  pub queue : queued s ≡ []
-  pub came : arrived s ≡ []
+  pub empty : IsEmpty (view s)
   pub asked : s.asked ≡ None
   pub mark : mark_of s ≡ None
-  pub sound : IsSound s
 
 -- ---- asks
 
@@ -99,13 +91,18 @@ pub record Asks (c : GpuCall PlainHandle) (old new : Display) : Type 0 where
   pub mark : mark_of new ≡ mark_of old
   pub nothing_came : new.incoming.count ≡ 0
   pub nothing_waits : arrived new ≡ []
-  pub sound : IsSound new
+  pub sound : StaysSound (endpoint_of old) (endpoint_of new)
 
--- Why a call was not asked: the reply before is still to be taken; memory was refused; or the channel, by this end of the connection, did not send it.
-pub data Refused (c : GpuCall PlainHandle) (old : Display) : Refusal → Type 0 where
-  busy : is_some old.asked ≡ true → Refused c old NotTaken
-  no_memory : Refused c old (Protocol OutOfMemory)
-  unsent : (e : io.IoError) (before after : link.Channel Ends PlainHandle) → before.failed ≡ mark_of old → bare before.endpoint ≡ end_of old → FrontUnsent event (sent_by c) (gpu_row c) before (seen_io e) after → Refused c old (Protocol (error_in e))
+-- So the channel did not ask, of an end for which nothing came or is to be sent, and this is what that left of its end.
+pub data Unasked (c : GpuCall PlainHandle) (old new : Display) : Refusal → Type 0 where
+  not_sent : (e : io.IoError) (after : link.Channel Ends PlainHandle) → FrontUnsent event (sent_by c) (gpu_row c) (record { endpoint = bare (endpoint_of old); failed = mark_of old }) (seen_io e) after → endpoint_of new ≡ unsent after.endpoint
+      → Unasked c old new (Protocol (error_in e))
+
+-- Why a call was not asked: the reply before is still to be taken, and nothing changed; memory was refused for what still waits to be sent, and its end is as before; or the channel did not ask.
+pub data Refused (c : GpuCall PlainHandle) (old new : Display) : Refusal → Type 0 where
+  busy : is_some old.asked ≡ true → new ≡ old → Refused c old new NotTaken
+  no_memory : has_some old.outgoing.link.pending ≡ true → endpoint_of new ≡ endpoint_of old → Refused c old new (Protocol OutOfMemory)
+  unasked : {r : Refusal} → Unasked c old new r → Refused c old new r
 
 -- It was not asked: nothing more is to be sent, and the rest is as before.
 pub record Stays (old new : Display) : Type 0 where
@@ -117,34 +114,22 @@ pub record Stays (old new : Display) : Type 0 where
 -- what a session answers to an ask
 abbrev pub Asking : GpuCall PlainHandle → Display → Result ⊤ Refusal → Display → Type 0
 Asking c s (Ok done) s' = Asks c s s'
-Asking c s (Err r) s' = Refused c s r × Stays s s'
+Asking c s (Err r) s' = Refused c s s' r × Stays s s'
+
+-- the same where nothing is asked, nothing that came waits, and its end has nothing that is to be sent
+abbrev pub AskingNow : GpuCall PlainHandle → Display → Result ⊤ Refusal → Display → Type 0
+AskingNow c s (Ok done) s' = Asks c s s'
+AskingNow c s (Err r) s' = Unasked c s s' r × Stays s s'
 
 -- ---- bytes out and in
 
--- A piece of what is to be sent went out, or nothing did; nothing else changed.
-pub record Hands (old new : Display) : Type 0 where
-  pub came : arrived new ≡ arrived old
-  pub end : end_of new ≡ end_of old
-  pub mark : mark_of new ≡ mark_of old
-  pub asked : new.asked ≡ old.asked
-  pub incoming : new.incoming ≡ old.incoming
-
 -- what a session answers where it is to hand out what is to be sent
 abbrev pub Sending : List ℕ → List ℤ → ℕ × ℕ → Display → Result ⊤ Refusal → Display → Type 0
-Sending bytes fds count s (Ok done) s' = HandsOut (queued s) (queued s') bytes fds count × Hands s s'
-Sending bytes fds count s (Err r) s' = (queued s' ≡ queued s) × Hands s s'
-
--- A part of the reply came, or nothing did; nothing else changed.
-pub record Waits (old new : Display) : Type 0 where
-  pub queue : queued new ≡ queued old
-  pub end : end_of new ≡ end_of old
-  pub mark : mark_of new ≡ mark_of old
-  pub asked : new.asked ≡ old.asked
+Sending bytes fds count s outcome s' = session.Sending bytes fds count (view s) outcome (view s')
 
 -- what a session answers to bytes of its reply: no more may come than are missing
 abbrev pub Receiving : List ℕ → List ℤ → Display → Result ⊤ Refusal → Display → Type 0
-Receiving bytes fds s (Ok done) s' = (length bytes ≤ missing_of s) × TakesIn bytes fds (arrived s) (arrived s') × Adds bytes s.incoming s'.incoming × Waits s s'
-Receiving bytes fds s (Err r) s' = (arrived s' ≡ arrived s) × (s'.incoming ≡ s.incoming) × Waits s s'
+Receiving bytes fds s outcome s' = session.Receiving (missing_of s) bytes fds (view s) outcome (view s')
 
 -- ---- replies
 
@@ -161,7 +146,7 @@ told (Err e) = Err (Protocol (error_in e))
 module _ {T : Type 0} (reply : GpuReply) (read : List ℕ → T) where
   -- What came is what the definitions make of it, and the rest is left; or the link failed, whose calls fail for want of memory alone.
   pub data Hears (head : Header) (old new : Display) : Result T io.IoError → Type 0 where
-    heard : {answer : Result (List ℕ) seen_error.IoError} {result : Result T io.IoError} → gpu_take (Some reply) head (arrived old) ≡ (answer, arrived new) → seen_io_result result ≡ read_as read answer → queued new ≡ queued old → IsSound new
+    heard : {answer : Result (List ℕ) seen_error.IoError} {result : Result T io.IoError} → gpu_take (Some reply) head (arrived old) ≡ (answer, arrived new) → seen_io_result result ≡ read_as read answer → queued new ≡ queued old → StaysSound (endpoint_of old) (endpoint_of new)
         → Hears head old new result
     fails : {e : io.IoError} (d : declared.Error) → Fails event (endpoint_of old) true d (endpoint_of new) → seen_io e ≡ seen_error.In (codes "recv_body") (seen d) → Hears head old new (Err e)
 
@@ -170,7 +155,7 @@ module _ {T : Type 0} (reply : GpuReply) (read : List ℕ → T) where
     reads : (a : Awaited) (result : Result T io.IoError) → missing_of old ≡ 0 → old.asked ≡ Some (Some a) → reply_in a.reply ≡ reply → (header_of old.incoming.head).size ≡ gpu_record_size reply
         → Hears (gpu_fields_of a.request) old new result → Settles old new → TakesRecord old new (told result)
     other_size : (a : Awaited) → missing_of old ≡ 0 → old.asked ≡ Some (Some a) → reply_in a.reply ≡ reply → ¬ ((header_of old.incoming.head).size ≡ gpu_record_size reply)
-        → arrived new ≡ [] → queued new ≡ queued old → end_of new ≡ end_of old → Settles old new → TakesRecord old new (Err (Protocol InvalidMessage))
+        → arrived new ≡ [] → queued new ≡ queued old → bare (endpoint_of new) ≡ bare (endpoint_of old) → Settles old new → TakesRecord old new (Err (Protocol InvalidMessage))
     other_form : (kept : Option Awaited) → old.asked ≡ Some kept → ¬ (option_map (λ a. reply_in a.reply) kept ≡ Some reply) → new ≡ old → TakesRecord old new (Err OtherAnswer)
     nothing_asked : old.asked ≡ None → new ≡ old → TakesRecord old new (Err NothingAsked)
     not_yet : 0 < missing_of old → new ≡ old → TakesRecord old new (Err NotYet)
@@ -183,5 +168,5 @@ pub data TakesTo {T : Type 0} (reply : GpuReply) (read : List ℕ → T) (text :
 
 -- What taking a reply without a value answers: none was awaited; or it was taken as an empty record.
 pub data Takes (old new : Display) : Result ⊤ Refusal → Type 0 where
-  not_awaited : old.asked ≡ Some None → arrived new ≡ arrived old → queued new ≡ queued old → end_of new ≡ end_of old → Settles old new → Takes old new (Ok tt)
+  not_awaited : old.asked ≡ Some None → endpoint_of new ≡ endpoint_of old → queued new ≡ queued old → Settles old new → Takes old new (Ok tt)
   takes : {result : Result ⊤ Refusal} → ¬ (old.asked ≡ Some None) → TakesRecord TheEmpty (λ bs. tt) old new result → Takes old new result

@@ -1,5 +1,5 @@
 -- What the calls of a frontend's session do: requests that it reads, the calls that they become, and what is replied.
-use Rattle.std.specs.Prelude.{◌≡◌, ◌<◌, ◌≤◌, ◌==◌, ◌||◌, nat_lt, ℕ, ℤ, Bool, true, false, List, [], ◌++◌, length, Option, Some, None, Result, Ok, Err, ⊤, is_some, ok_or, if◌then◌else◌}
+use Rattle.std.specs.Prelude.{◌≡◌, ◌<◌, ◌==◌, ◌||◌, nat_lt, ℕ, ℤ, Bool, true, false, List, ◌++◌, Option, Some, None, Result, Ok, Err, ⊤, is_some, ok_or, if◌then◌else◌}
 use Rattle.vhost_message.specs.BackendReq.{backend_request_of}
 use Rattle.vhost_message.specs.declared.backend_req.BackendReq.{BackendReq}
 use Rattle.vhost_message.specs.declared.error.Error as declared
@@ -15,7 +15,6 @@ use Rattle.vhost_link.specs.Mem.{event}
 use Rattle.vhost_link.specs.declared.plain.PlainHandle.{PlainHandle}
 use Rattle.vhost_connection.specs.Memory.{stream}
 use Rattle.vhost_connection.specs.Requests.{IsReady, Stops}
-use Rattle.vhost_connection.specs.Talk.{State}
 use Rattle.vhost_connection.specs.declared.request.Request as code
 use Rattle.vhost_frontend_req_handler.specs.Calling.{call_in}
 use Rattle.vhost_frontend_req_handler.specs.Core.{endpoint_of, server_in, number_cells}
@@ -23,9 +22,10 @@ use Rattle.vhost_frontend_req_handler.specs.Halves.{Refuses}
 use Rattle.vhost_frontend_req_handler.specs.declared.call.FrontendSideCall.{FrontendSideCall}
 use Rattle.vhost_frontend_req_handler.specs.declared.req_core.FrontendReqCore.{FrontendReqCore}
 use Rattle.vhost_c_common.specs.Carrying.{emptied}
-use Rattle.vhost_c_common.specs.Incoming.{missing_by, Adds}
-use Rattle.vhost_c_common.specs.Moving.{HandsOut, TakesIn}
+use Rattle.vhost_c_common.specs.Incoming.{missing_by}
 use Rattle.vhost_c_common.specs.Number.{error_number}
+use Rattle.vhost_c_common.specs.View as session
+use Rattle.vhost_c_common.specs.View.{View, IsEmpty, StaysSound, view_of}
 use Rattle.vhost_c_common.specs.declared.refusal.Refusal.{Refusal}
 use Rattle.vhost_c_common.specs.declared.refusal.Refusal.TheVariants.{Protocol, NotYet, NotReplied, NothingAsked, OtherCall}
 use Rattle.vhost_c_channel.specs.Arguments.{call_number, PutsName}
@@ -45,10 +45,6 @@ queued s = s.outgoing.link.pending ++ (endpoint_of s.core).link.sent
 abbrev pub arrived : ChannelServer → List (Cell PlainHandle)
 arrived s = stream (endpoint_of s.core)
 
--- its end of the connection, but for what is to be sent and what came
-abbrev pub end_of : ChannelServer → State Ends PlainHandle
-end_of s = record (endpoint_of s.core) { link = record (endpoint_of s.core).link { pending = []; sent = [] }; ahead = [] }
-
 -- what it remembers
 abbrev pub remembers : ChannelServer → Server
 remembers s = server_in s.core
@@ -65,20 +61,15 @@ missing_of s = if has_call s then 0 else missing_by backend_request_of s.incomin
 abbrev pub end_number : ChannelServer → ℕ
 end_number s = if s.incoming.count == 0 || missing_of s == 0 then 10 else if nat_lt s.incoming.count MSG_HEADER_SIZE then 9 else 5
 
--- A new session: nothing is to be sent, nothing came, no call is to be replied to.
+-- it, as the contracts of all sessions see one: with what it remembers, the request whose call is to be replied to with its body, and that call
+abbrev pub view : ChannelServer → View (Server × Option (code.Request BackendReq) × List ℕ × Option (FrontendSideCall PlainHandle))
+view s = view_of s.outgoing (endpoint_of s.core) s.incoming (remembers s, s.core.pending, s.core.body.value, s.call)
+
+-- A new session: it is sound and empty, and no call is to be replied to.
 pub record IsNew (s : ChannelServer) : Type 0 where
-  pub queue : queued s ≡ []
-  pub came : arrived s ≡ []
-  pub count : s.incoming.count ≡ 0
+  pub empty : IsEmpty (view s)
   pub memory : remembers s ≡ record { reply_ack = false; failed = None }
   pub idle : has_call s ≡ false
-
--- The call that is to be replied to, and what is remembered, are as before.
-pub record Rests (old new : ChannelServer) : Type 0 where
-  pub pending : new.core.pending ≡ old.core.pending
-  pub call : new.call ≡ old.call
-  pub body : new.core.body.value ≡ old.core.body.value
-  pub memory : remembers new ≡ remembers old
 
 -- Whether requests are replied to is set, and nothing else changes.
 pub record Acknowledges (on : Bool) (old new : ChannelServer) : Type 0 where
@@ -91,28 +82,13 @@ pub record Acknowledges (on : Bool) (old new : ChannelServer) : Type 0 where
 
 -- ---- bytes in and out
 
--- A part of the request came, or nothing did; nothing else changed.
-pub record Waits (old new : ChannelServer) : Type 0 where
-  pub queue : queued new ≡ queued old
-  pub end : end_of new ≡ end_of old
-  pub rest : Rests old new
-
 -- what a session answers to bytes of a request: no more may come than are missing
 abbrev pub Receiving : List ℕ → List ℤ → ChannelServer → Result ⊤ Refusal → ChannelServer → Type 0
-Receiving bytes fds s (Ok done) s' = (length bytes ≤ missing_of s) × TakesIn bytes fds (arrived s) (arrived s') × Adds bytes s.incoming s'.incoming × Waits s s'
-Receiving bytes fds s (Err r) s' = (arrived s' ≡ arrived s) × (s'.incoming ≡ s.incoming) × Waits s s'
-
--- A piece of what is to be sent went out, or nothing did; nothing else changed.
-pub record Hands (old new : ChannelServer) : Type 0 where
-  pub came : arrived new ≡ arrived old
-  pub incoming : new.incoming ≡ old.incoming
-  pub end : end_of new ≡ end_of old
-  pub rest : Rests old new
+Receiving bytes fds s outcome s' = session.Receiving (missing_of s) bytes fds (view s) outcome (view s')
 
 -- what it answers where it is to hand out what is to be sent
 abbrev pub Sending : List ℕ → List ℤ → ℕ × ℕ → ChannelServer → Result ⊤ Refusal → ChannelServer → Type 0
-Sending bytes fds count s (Ok done) s' = HandsOut (queued s) (queued s') bytes fds count × Hands s s'
-Sending bytes fds count s (Err r) s' = (queued s' ≡ queued s) × Hands s s'
+Sending bytes fds count s outcome s' = session.Sending bytes fds count (view s) outcome (view s')
 
 -- what is answered to the end of the stream
 abbrev pub Ending : ChannelServer → Result ⊤ Refusal → ChannelServer → Type 0
@@ -141,6 +117,7 @@ pub record Begins (number : ℕ) (old new : ChannelServer) : Type 0 where
   pub memory : remembers new ≡ remembers old
   pub queue : queued new ≡ queued old
   pub nothing_came : new.incoming.count ≡ 0
+  pub sound : StaysSound (endpoint_of old.core) (endpoint_of new.core)
 
 -- It was refused, or trouble came first; nobody is asked, and nothing of the request is left.
 pub record Denies (e : declared.Error) (old new : ChannelServer) : Type 0 where
@@ -187,9 +164,10 @@ Putting before after s outcome s' = PutsInto s before after outcome × (s' ≡ s
 
 -- ---- replies
 
--- The number of an answer was replied, where the request wants it, and the answer is handed on; or a fault stopped the reply, whose link fails for want of memory alone.
+-- The number of an answer was replied, where the request wants it, the answer is handed on, and what came is as before; or a fault stopped the reply, whose link fails for want of memory alone.
 pub data Concludes (request : code.Request BackendReq) (a : Result ℕ IoError) (old new : ChannelServer) : Result ℕ declared.Error → Type 0 where
-  concluded : {result : Result ℕ declared.Error} → seen_result result ≡ handed_on a → queued new ≡ queued old ++ number_cells (remembers old) request a → Concludes request a old new result
+  concluded : {result : Result ℕ declared.Error} → seen_result result ≡ handed_on a → queued new ≡ queued old ++ number_cells (remembers old) request a → arrived new ≡ arrived old
+      → StaysSound (endpoint_of old.core) (endpoint_of new.core) → Concludes request a old new result
   stopped : {e : declared.Error} → Stops event (endpoint_of old.core) (number_cells (remembers old) request a) e (endpoint_of new.core) → Concludes request a old new (Err e)
 
 -- whether an error is that of an answer, which is handed on to the one who gave it
@@ -209,6 +187,7 @@ pub record Replies (request : code.Request BackendReq) (a : Result ℕ IoError) 
   pub is_told : outcome ≡ told result
   pub memory : remembers new ≡ remembers old
   pub idle : has_call new ≡ false
+  pub incoming : new.incoming ≡ old.incoming
 
 -- What a session answers to a reply: one goes to the call of the message that was read, and none where there is none.
 pub record Answering (a : Result ℕ IoError) (old : ChannelServer) (outcome : Result ⊤ Refusal) (new : ChannelServer) : Type 0 where

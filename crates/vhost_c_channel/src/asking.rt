@@ -56,7 +56,8 @@ impl Channel {
     ghost use Rattle.vhost_protocol.specs.Reverse as reverse;
     ghost use Rattle.vhost_link.specs.declared.plain.PlainHandle.{PlainHandle};
     ghost use Rattle.vhost_c_common.specs.Moving.{HandsOut};
-    ghost use Rattle.vhost_c_channel.specs.Asking.{IsNew, Agrees, Asking, endpoint_of, arrived, queued, Hands, missing_of, Receiving, Takes};
+    ghost use Rattle.vhost_c_common.specs.View.{Hands, HandsNone, Receives, TakesNone};
+    ghost use Rattle.vhost_c_channel.specs.Asking.{IsNew, Agrees, Asking, AskingNow, endpoint_of, arrived, queued, view, missing_of, Takes};
 
     /// A new session, with nothing agreed on.
     ///
@@ -117,7 +118,7 @@ impl Channel {
         requires free { self.old.asked ≡ None }
         requires unsent { (endpoint_of self.old).link.sent ≡ [] }
         requires empty { arrived self.old ≡ [] }
-        ensures { (c : reverse.ReverseCall PlainHandle) → input_of call.now ≡ Asks c → Asking c self.old result self.new }
+        ensures { (c : reverse.ReverseCall PlainHandle) → input_of call.now ≡ Asks c → AskingNow c self.old result self.new }
     {
         talks_law();
         match self.channel.ask_half(call) {
@@ -142,8 +143,9 @@ impl Channel {
     /// failed. After each, nothing changed.
     pub fn hand_out(&mut self, bytes: &mut [u8], fds: &mut [i32]) -> Outcome<(usize, usize)>
         ensures out { IfOk result (λ n. HandsOut (queued self.old) (queued self.new) bytes.new fds.new n) }
+        ensures reason { IfErr result (λ r. HandsNone bytes.new fds.new r) }
         ensures refused { IfErr result (λ _. queued self.new ≡ queued self.old) }
-        ensures rest { Hands self.old self.new }
+        ensures rest { Hands (view self.old) (view self.new) }
     {
         if bytes.is_empty() || fds.len() < MAX_ATTACHED_FD_ENTRIES {
             return Err(Refusal::NoRoom);
@@ -173,7 +175,8 @@ impl Channel {
     /// TooManyBytes: they are more than are missing. InvalidParam: descriptors without a byte, more than a message may
     /// have, or a negative one. OutOfMemory: an allocation failed. After each, nothing changed.
     pub fn receive(&mut self, bytes: &[u8], fds: &[i32]) -> Outcome<()>
-        ensures { Receiving bytes.now fds.now self.old result self.new }
+        ensures received { Receives (missing_of self.old) bytes.now fds.now (view self.old) result (view self.new) }
+        ensures reason { IfErr result (λ r. TakesNone (missing_of self.old) bytes.now fds.now r) }
     {
         if bytes.len() > self.missing() {
             return Err(Refusal::TooManyBytes);

@@ -39,7 +39,8 @@ impl Display {
     ghost use Rattle.vhost_message.specs.declared.limits.TheConstants.{MAX_MSG_TEXT};
     ghost use Rattle.vhost_protocol.specs.Gpu.{GpuReply, TheFeatures, TheDisplayInfo, TheEdid, gpu_record_size};
     ghost use Rattle.vhost_c_common.specs.Moving.{HandsOut};
-    ghost use Rattle.vhost_c_channel.specs.Display.{IsNew, Asking, endpoint_of, arrived, awaits_none, queued, Hands, missing_of, Receiving, Takes, TakesRecord, TakesTo};
+    ghost use Rattle.vhost_c_common.specs.View.{Hands, HandsNone, Receives, TakesNone};
+    ghost use Rattle.vhost_c_channel.specs.Display.{IsNew, Asking, AskingNow, endpoint_of, arrived, awaits_none, queued, view, missing_of, Takes, TakesRecord, TakesTo};
 
     /// A new session.
     ///
@@ -88,7 +89,7 @@ impl Display {
         requires free { self.old.asked ≡ None }
         requires unsent { (endpoint_of self.old).link.sent ≡ [] }
         requires empty { arrived self.old ≡ [] }
-        ensures { (pixels : List ℕ) → length pixels ≡ pixels_of call.now → Asking (call_in call.now pixels) self.old result self.new }
+        ensures { (pixels : List ℕ) → length pixels ≡ pixels_of call.now → AskingNow (call_in call.now pixels) self.old result self.new }
     {
         talks_law();
         match self.channel.ask_half(call) {
@@ -111,8 +112,9 @@ impl Display {
     /// failed. After each, nothing changed.
     pub fn hand_out(&mut self, bytes: &mut [u8], fds: &mut [i32]) -> Outcome<(usize, usize)>
         ensures out { IfOk result (λ n. HandsOut (queued self.old) (queued self.new) bytes.new fds.new n) }
+        ensures reason { IfErr result (λ r. HandsNone bytes.new fds.new r) }
         ensures refused { IfErr result (λ _. queued self.new ≡ queued self.old) }
-        ensures rest { Hands self.old self.new }
+        ensures rest { Hands (view self.old) (view self.new) }
     {
         if bytes.is_empty() || fds.len() < MAX_ATTACHED_FD_ENTRIES {
             return Err(Refusal::NoRoom);
@@ -142,7 +144,8 @@ impl Display {
     /// TooManyBytes: they are more than are missing. InvalidParam: descriptors without a byte, more than a message may
     /// have, or a negative one. OutOfMemory: an allocation failed. After each, nothing changed.
     pub fn receive(&mut self, bytes: &[u8], fds: &[i32]) -> Outcome<()>
-        ensures { Receiving bytes.now fds.now self.old result self.new }
+        ensures received { Receives (missing_of self.old) bytes.now fds.now (view self.old) result (view self.new) }
+        ensures reason { IfErr result (λ r. TakesNone (missing_of self.old) bytes.now fds.now r) }
     {
         if bytes.len() > self.missing() {
             return Err(Refusal::TooManyBytes);

@@ -37,7 +37,8 @@ impl ChannelServer {
     ghost use Rattle.vhost_frontend_req_handler.specs.declared.call.FrontendSideCall.{FrontendSideCall};
     ghost use Rattle.vhost_c_common.specs.Moving.{HandsOut};
     ghost use Rattle.vhost_c_channel.specs.Arguments.{mmap_arg, fd_arg, PutsName};
-    ghost use Rattle.vhost_c_channel.specs.Serving.{Request, IsServed, IsNew, Acknowledges, missing_of, Receiving, end_number, queued, Hands, Nexts, Tells, PutsInto, Answering, has_call};
+    ghost use Rattle.vhost_c_common.specs.View.{Hands, HandsNone, Receives, TakesNone};
+    ghost use Rattle.vhost_c_channel.specs.Serving.{Request, IsServed, IsNew, Acknowledges, missing_of, end_number, queued, view, Nexts, Tells, PutsInto, Answering, has_call};
 
     /// A new session, without acknowledgements.
     ///
@@ -84,7 +85,8 @@ impl ChannelServer {
     /// TooManyBytes: they are more than are missing. InvalidParam: descriptors without a byte, more than a message may
     /// have, or a negative one. OutOfMemory: an allocation failed. After each, nothing changed.
     pub fn receive(&mut self, bytes: &[u8], fds: &[i32]) -> Outcome<()>
-        ensures { Receiving bytes.now fds.now self.old result self.new }
+        ensures received { Receives (missing_of self.old) bytes.now fds.now (view self.old) result (view self.new) }
+        ensures reason { IfErr result (λ r. TakesNone (missing_of self.old) bytes.now fds.now r) }
     {
         if bytes.len() > self.missing() {
             return Err(Refusal::TooManyBytes);
@@ -126,8 +128,9 @@ impl ChannelServer {
     /// failed. After each, nothing changed.
     pub fn hand_out(&mut self, bytes: &mut [u8], fds: &mut [i32]) -> Outcome<(usize, usize)>
         ensures out { IfOk result (λ n. HandsOut (queued self.old) (queued self.new) bytes.new fds.new n) }
+        ensures reason { IfErr result (λ r. HandsNone bytes.new fds.new r) }
         ensures refused { IfErr result (λ _. queued self.new ≡ queued self.old) }
-        ensures rest { Hands self.old self.new }
+        ensures rest { Hands (view self.old) (view self.new) }
     {
         if bytes.is_empty() || fds.len() < MAX_ATTACHED_FD_ENTRIES {
             return Err(Refusal::NoRoom);

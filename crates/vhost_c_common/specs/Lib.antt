@@ -5,3 +5,4 @@ pub mod Moving
 pub mod Number
 pub mod Profile
 pub mod Records
+pub mod View

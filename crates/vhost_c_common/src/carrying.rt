@@ -54,6 +54,7 @@ pub fn push<M: MsgHeader>(
     requires { length handles.now ≤ MAX_ATTACHED_FD_ENTRIES }
     ensures given { OnOk result (state end.new ≡ record (state end.old) { link = record (state end.old).link { pending = (state end.old).link.pending ++ carrying handles.now bytes.now } }) }
     ensures refused { OnErr result (state end.new ≡ state end.old) }
+    ensures memory { IfErr result (λ e. e ≡ OutOfMemory) }
 {
     match end.link().push(bytes, handles) {
         Ok(()) => Ok(()),

@@ -1,6 +1,7 @@
 //! What is to be sent.
 
 ghost use Rattle.std.specs.Prelude.{◌≤◌, vec_capacity};
+ghost use Rattle.vhost_message.specs.declared.error.Error.TheVariants.{OutOfMemory};
 ghost use Rattle.vhost_message.specs.declared.limits.TheConstants.{MAX_ATTACHED_FD_ENTRIES};
 
 use crate::records::put_fds;
@@ -39,6 +40,7 @@ impl Outgoing {
         requires fds { MAX_ATTACHED_FD_ENTRIES ≤ length fds.old }
         ensures out { IfOk result (λ n. HandsOut self.old.link.pending self.new.link.pending bytes.new fds.new n) }
         ensures refused { IfErr result (λ e. self.new.link.pending ≡ self.old.link.pending) }
+        ensures memory { IfErr result (λ e. e ≡ OutOfMemory) }
     {
         self.list.clear();
         match self.link.recv(bytes, &mut self.list) {

@@ -1,6 +1,7 @@
 //! Records as a program in C writes them.
 
-ghost use Rattle.std.specs.Prelude.{◌≡◌, ◌≤◌, length, take, map, Some, IfOk};
+ghost use Rattle.std.specs.Prelude.{◌≡◌, ◌≤◌, ◌⊎◌, length, take, map, Contains, None, Some, IfOk, IfErr};
+ghost use Rattle.vhost_message.specs.declared.error.Error.TheVariants.{InvalidParam, OutOfMemory};
 ghost use Rattle.vhost_c_common.specs.Records.{handle_in, fd_in, vring_in, inflight_in};
 
 use std::alloc::Global;
@@ -127,7 +128,8 @@ pub fn handle_of(fd: i32) -> Option<PlainHandle>
 ///
 /// InvalidParam: one is negative. OutOfMemory: an allocation failed.
 pub fn handles_of(alloc: Global, fds: &[i32]) -> Result<Vec<PlainHandle>>
-    ensures { IfOk result (λ handles. map handle_in fds.now ≡ map Some handles.items) }
+    ensures handles { IfOk result (λ handles. map handle_in fds.now ≡ map Some handles.items) }
+    ensures refused { IfErr result (λ e. ((e ≡ InvalidParam) × Contains (map handle_in fds.now) None) ⊎ (e ≡ OutOfMemory)) }
 {
     let mut handles = Vec::new(alloc);
     'fds: for fd in fds {

@@ -12,4 +12,4 @@ returns-in-Ok c = by-some _ _ _ _ c.deref_mut.result.now c.hand_out-outcome.new.
 
 pub returns-in-Err : goal.returns-in-Err
 returns-in-Err c = by-some _ _ _ _ c.deref_mut.result.now c.hand_out-outcome.new.self (Err c.in-Err.refusal)
-    (c.in-Some.ensures.taken ∙ ap {A = ChannelServer} Some (sym c.deref_mut.ensures.value)) c.put.ensures c.number_of-in-Err.ensures (c.in-Err.ensures.refused, c.in-Err.ensures.rest)
+    (c.in-Some.ensures.taken ∙ ap {A = ChannelServer} Some (sym c.deref_mut.ensures.value)) c.put.ensures c.number_of-in-Err.ensures (c.in-Err.ensures.reason, c.in-Err.ensures.refused, c.in-Err.ensures.rest)

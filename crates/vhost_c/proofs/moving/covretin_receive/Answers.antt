@@ -8,4 +8,4 @@ returns-in-None c = by-none _ _ _ _ c.in-None.ensures.taken c.in-None.ensures.le
 
 pub returns-in-Some : goal.returns-in-Some
 returns-in-Some c = by-some _ _ _ _ c.deref_mut.result.now c.receive-outcome.new.self c.receive-outcome.result
-    (c.in-Some.ensures.taken ∙ ap {A = Session} Some (sym c.deref_mut.ensures.value)) c.put.ensures c.number_of-in-Some.ensures c.receive-outcome.ensures
+    (c.in-Some.ensures.taken ∙ ap {A = Session} Some (sym c.deref_mut.ensures.value)) c.put.ensures c.number_of-in-Some.ensures (c.receive-outcome.ensures.received, c.receive-outcome.ensures.reason)

@@ -8,6 +8,7 @@ use Rattle.vhost_link.specs.declared.plain.PlainHandle.{PlainHandle}
 use Rattle.vhost_connection.specs.Talk.{State}
 use Rattle.vhost_c_common.specs.Carrying.{emptied}
 use Rattle.vhost_c.specs.Session.{Fails, no_queue, busy, fails}
+use Rattle.vhost_c_common.proofs.Wants.{lasts-since, no-memory-lasts}
 use Rattle.vhost_c.proofs.Asking.{asks-since, stays-since, some-first, fails-since, collected}
 use Rattle.vhost_c.proofs.session.Session.ask_in_turn.Goals as goal
 
@@ -20,19 +21,21 @@ pub ask_now-requires-clause-free : goal.ask_now-requires-clause-free
 ask_now-requires-clause-free c = none-of c.args.self.now.asked (sym c.is_some.ensures ∙ c.if-is_some.false)
 
 pub returns-then-is_some : goal.returns-then-is_some
-returns-then-is_some c = (busy (sym c.is_some.ensures ∙ c.if-is_some.true), record { queue = refl; rest = record { memory = refl; asked = refl; incoming = refl; answer = refl } })
+returns-then-is_some c = (busy (sym c.is_some.ensures ∙ c.if-is_some.true) (record { frontend = refl; outgoing = refl; asked = refl; incoming = refl; answer = refl }), record { queue = refl; rest = record { memory = refl; asked = refl; incoming = refl; answer = refl } })
 
 pub returns-in-Err : goal.returns-in-Err
 returns-in-Err c = (
   fails (subst {A = declared.Error} (λ e. Fails (call_of c.args.call) c.args.self.now e) (sym c.in-Err.ensures.memory)
-      (no_queue (some-first c.args.self.now.outgoing.link.pending (endpoint_of c.args.self.now.frontend).link.sent (λ none. cc (c.in-Err.ensures.succeeds none))))),
+      (no_queue (some-first c.args.self.now.outgoing.link.pending (endpoint_of c.args.self.now.frontend).link.sent (λ none. cc (c.in-Err.ensures.succeeds none)))))
+      (no-memory-lasts _ _ _ c.in-Err.ensures.memory (ap {A = State Ends PlainHandle} (λ e. e.broken) c.in-Err.ensures.refused.0)),
   record { queue = λ i. (c.in-Err.ensures.refused.1 i).pending ++ (c.in-Err.ensures.refused.0 i).link.sent; rest = record { memory = c.in-Err.ensures.rest.0; asked = refl; incoming = refl; answer = refl } },
 )
 
 pub returns-in-Ok-ask_now : goal.returns-in-Ok-ask_now
 returns-in-Ok-ask_now c =
     asks-since _ _ _ _ (collected c.args.self.now.outgoing.link.pending (endpoint_of c.args.self.now.frontend).link.sent _ _ c.in-Ok.ensures.collected.got (ap {A = State Ends PlainHandle} (λ e. e.link.sent) (c.forget_arrived.ensures.forgotten ∙ ap {A = State Ends PlainHandle} emptied c.in-Ok.ensures.collected.given)))
-    (record { memory = c.forget_arrived.ensures.rest.0 ∙ c.in-Ok.ensures.rest.0; asked = refl; incoming = refl; answer = refl }) c.in-Ok-ask_now.ensures.asked
+    (record { memory = c.forget_arrived.ensures.rest.0 ∙ c.in-Ok.ensures.rest.0; asked = refl; incoming = refl; answer = refl })
+    (c.forget_arrived.ensures.forgotten ∙ ap {A = State Ends PlainHandle} emptied c.in-Ok.ensures.collected.given) c.in-Ok-ask_now.ensures.asked
 
 pub returns-in-Err-ask_now : goal.returns-in-Err-ask_now
 returns-in-Err-ask_now c = (
@@ -40,7 +43,8 @@ returns-in-Err-ask_now c = (
       (collected c.args.self.now.outgoing.link.pending (endpoint_of c.args.self.now.frontend).link.sent _ _ c.in-Ok.ensures.collected.got (ap {A = State Ends PlainHandle} (λ e. e.link.sent) (c.forget_arrived.ensures.forgotten ∙ ap {A = State Ends PlainHandle} emptied c.in-Ok.ensures.collected.given)))
       (c.forget_arrived.ensures.rest.0 ∙ c.in-Ok.ensures.rest.0)
       (ap {A = State Ends PlainHandle} (λ e. e.list) (c.forget_arrived.ensures.forgotten ∙ ap {A = State Ends PlainHandle} emptied c.in-Ok.ensures.collected.given))
-      (ap {A = State Ends PlainHandle} (λ e. e.broken) (c.forget_arrived.ensures.forgotten ∙ ap {A = State Ends PlainHandle} emptied c.in-Ok.ensures.collected.given)) c.in-Err-ask_now.ensures.reason),
+      (ap {A = State Ends PlainHandle} (λ e. e.broken) (c.forget_arrived.ensures.forgotten ∙ ap {A = State Ends PlainHandle} emptied c.in-Ok.ensures.collected.given)) c.in-Err-ask_now.ensures.reason)
+      (lasts-since _ _ _ c.in-Err-ask_now.error (ap {A = State Ends PlainHandle} (λ e. e.broken) (c.forget_arrived.ensures.forgotten ∙ ap {A = State Ends PlainHandle} emptied c.in-Ok.ensures.collected.given)) c.in-Err-ask_now.ensures.sound),
   stays-since _ _ _ (collected c.args.self.now.outgoing.link.pending (endpoint_of c.args.self.now.frontend).link.sent _ _ c.in-Ok.ensures.collected.got (ap {A = State Ends PlainHandle} (λ e. e.link.sent) (c.forget_arrived.ensures.forgotten ∙ ap {A = State Ends PlainHandle} emptied c.in-Ok.ensures.collected.given)))
       (record { memory = c.forget_arrived.ensures.rest.0 ∙ c.in-Ok.ensures.rest.0; asked = refl; incoming = refl; answer = refl }) c.in-Err-ask_now.ensures.refused,
 )

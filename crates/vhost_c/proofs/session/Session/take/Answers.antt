@@ -24,7 +24,8 @@ use Rattle.vhost_link.specs.Mem.{StreamLaw}
 use Rattle.vhost_c.specs.declared.session.Session.{Session}
 use Rattle.vhost_c.proofs.Answerable.{awaited-set, may-await, is-kept}
 use Rattle.vhost_c.proofs.Names.{names}
-use Rattle.vhost_c.proofs.Wants.{End, IsUncut, takes, uncut-prop, broken-prop}
+use Rattle.vhost_c_common.specs.View.{End, IsUncut}
+use Rattle.vhost_c.proofs.Wants.{takes, uncut-prop, broken-prop}
 use Rattle.vhost_c.proofs.session.Session.take.Goals as goal
 
 abbrev Front : Type 0
@@ -56,8 +57,8 @@ taken : (asked : Asked) (old : Front) (answer : FrontendAnswer) (new : Front) �
 taken asked old answer new t = taken-at asked (endpoint_of old) (session_of old) answer new (at-end asked old answer new t)
 
 -- the session after that
-uncut-after : (asked : Asked) (end : End) (f : Frontend) (answer : FrontendAnswer) (new : Front) → StreamLaw → TakesAt (call_of asked.call) asked.sent end f answer new → IsUncut end → IsUncut (endpoint_of new)
-uncut-after asked end f answer new law t = takes law (call_of asked.call) asked.sent.awaited (fields_of asked.sent.request) end f (answer_of answer) (endpoint_of new) (session_of new) (taken-at asked end f answer new t)
+uncut-after : (asked : Asked) (end : End) (f : Frontend) (answer : FrontendAnswer) (new : Front) → TakesAt (call_of asked.call) asked.sent end f answer new → IsUncut end → IsUncut (endpoint_of new)
+uncut-after asked end f answer new t = takes (call_of asked.call) asked.sent.awaited (fields_of asked.sent.request) end f (answer_of answer) (endpoint_of new) (session_of new) (taken-at asked end f answer new t)
 
 -- whether what came has the size of the call's answer
 sized : (profile p : Profile) (asked : Asked) (i : Incoming) (a : Awaited) (b : Bool) → p ≡ profile → a ≡ asked.sent.awaited → b ≡ is_sized p (call_of asked.call) a (header_of i.head).size → is_sized_of profile asked i ≡ b
@@ -69,19 +70,19 @@ take-requires-in-Some c = sym (c.args.self.now.awaited ∙ ap of-asked (sym c.in
 pub invariant_of-self : goal.invariant_of-self
 invariant_of-self c =
     let old = c.args.self.now.frontend in
-    let u = uncut-after c.in-Some.field-0 (emptied (endpoint_of old)) (session_of old) c.take_nothing-nothing.result c.take_nothing-nothing.new.frontend c.stream_law.ensures.stream c.take_nothing-nothing.ensures (record { uncut = c.args.self.now.uncut; broken = c.args.self.now.broken }) in
+    let u = uncut-after c.in-Some.field-0 (emptied (endpoint_of old)) (session_of old) c.take_nothing-nothing.result c.take_nothing-nothing.new.frontend c.take_nothing-nothing.ensures (record { uncut = c.args.self.now.uncut; broken = c.args.self.now.broken }) in
     record { uncut = u.uncut; broken = u.broken; awaited = c.take_nothing-nothing.ensures.quiet ∙ ap of-asked (sym c.take.ensures.after) }
 
 pub invariant_of-self-in-Failed : goal.invariant_of-self-in-Failed
 invariant_of-self-in-Failed c =
     let old = c.args.self.now.frontend in
-    let u = uncut-after c.in-Some.field-0 (endpoint_of old) (session_of old) _ c.take-in-Some.new.frontend c.stream_law.ensures.stream (at-end c.in-Some.field-0 old _ c.take-in-Some.new.frontend c.in-Failed.ensures) (record { uncut = c.args.self.now.uncut; broken = c.args.self.now.broken }) in
+    let u = uncut-after c.in-Some.field-0 (endpoint_of old) (session_of old) _ c.take-in-Some.new.frontend (at-end c.in-Some.field-0 old _ c.take-in-Some.new.frontend c.in-Failed.ensures) (record { uncut = c.args.self.now.uncut; broken = c.args.self.now.broken }) in
     record { uncut = u.uncut; broken = u.broken; awaited = c.in-Failed.ensures.quiet ∙ ap of-asked (sym c.take.ensures.after) }
 
 pub invariant_of-self-in_default : goal.invariant_of-self-in_default
 invariant_of-self-in_default c =
     let old = c.args.self.now.frontend in
-    let u = uncut-after c.in-Some.field-0 (endpoint_of old) (session_of old) _ c.take-in-Some.new.frontend c.stream_law.ensures.stream (at-end c.in-Some.field-0 old _ c.take-in-Some.new.frontend c.take-in-Some.ensures) (record { uncut = c.args.self.now.uncut; broken = c.args.self.now.broken }) in
+    let u = uncut-after c.in-Some.field-0 (endpoint_of old) (session_of old) _ c.take-in-Some.new.frontend (at-end c.in-Some.field-0 old _ c.take-in-Some.new.frontend c.take-in-Some.ensures) (record { uncut = c.args.self.now.uncut; broken = c.args.self.now.broken }) in
     record { uncut = u.uncut; broken = u.broken; awaited = c.take-in-Some.ensures.quiet ∙ ap of-asked (sym c.take.ensures.after) }
 
 pub returns-then-not-is_sized : goal.returns-then-not-is_sized

@@ -45,5 +45,12 @@ returns-in-Err c = (
     nothing_came = c.new-self.ensures;
     inactive = c.feature_of-self.ensures;
   },
-  λ n marked. record { is = cc (c.in-Err.ensures.failed n marked).0; memory = (c.in-Err.ensures.failed n marked).2; outgoing = refl; idle = c.in-Err.ensures.none },
+  λ n marked. record {
+    is = cc (c.in-Err.ensures.failed n marked).0;
+    end = c.empty.ensures ∙ ap {A = State Ends PlainHandle} emptied (c.endpoint_mut.ensures.value ∙ (c.in-Err.ensures.failed n marked).1);
+    memory = (c.in-Err.ensures.failed n marked).2;
+    outgoing = refl;
+    idle = c.in-Err.ensures.none;
+    nothing_came = c.new-self.ensures;
+  },
 )

@@ -6,6 +6,7 @@ use Rattle.vhost_connection.specs.Talk.{State}
 use Rattle.vhost_backend_req.specs.Channel as link
 use Rattle.vhost_backend_req.specs.Channel.{backend_of}
 use Rattle.vhost_c_common.specs.Carrying.{emptied}
+use Rattle.vhost_c_common.specs.View.{bare}
 use Rattle.vhost_c_channel.specs.Asking.{Head, read, other_size, not_awaited, nothing_asked, not_yet}
 use Rattle.vhost_c_channel.proofs.Calls.{received, failed, some-missing, none-missing}
 use Rattle.vhost_c_channel.proofs.asking.Channel.take.Goals as goal
@@ -17,7 +18,7 @@ pub returns-then-size-ne-NUMBER_SIZE : goal.returns-then-size-ne-NUMBER_SIZE
 returns-then-size-ne-NUMBER_SIZE c =
     let gone = c.empty.ensures ∙ ap {A = State Ends PlainHandle} emptied c.endpoint_mut.ensures.value in
     other_size c.in-Some-Some.head (none-missing _ _ c.missing.ensures.missing c.if-missing-gt0.false) (sym c.in-Some-Some.ensures.value ∙ ap {A = Option Head} Some c.in-Some-Some.field-0-is)
-    (λ is. c.if-size-ne-NUMBER_SIZE.true (c.size.ensures ∙ is)) (ap {A = State Ends PlainHandle} stream gone) (ap {A = State Ends PlainHandle} (λ e. c.args.self.now.outgoing.link.pending ++ e.link.sent) gone)
+    (λ is. c.if-size-ne-NUMBER_SIZE.true (c.size.ensures ∙ is)) (ap {A = State Ends PlainHandle} stream gone) (ap {A = State Ends PlainHandle} (λ e. c.args.self.now.outgoing.link.pending ++ e.link.sent) gone) (ap {A = State Ends PlainHandle} bare gone)
     (record { asked = c.take.ensures.after; memory = refl })
 
 pub returns-in-None : goal.returns-in-None

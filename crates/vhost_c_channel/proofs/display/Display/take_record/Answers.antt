@@ -8,7 +8,8 @@ use Rattle.vhost_connection.specs.Talk.{State}
 use Rattle.vhost_gpu_backend_req.specs.Channel as link
 use Rattle.vhost_gpu_backend_req.specs.declared.call.Awaited.{Awaited}
 use Rattle.vhost_c_common.specs.Carrying.{emptied}
-use Rattle.vhost_c_channel.specs.Display.{bare, reads, other_size, other_form, nothing_asked, not_yet}
+use Rattle.vhost_c_common.specs.View.{bare}
+use Rattle.vhost_c_channel.specs.Display.{reads, other_size, other_form, nothing_asked, not_yet}
 use Rattle.vhost_c_channel.proofs.Calls.{some-missing, none-missing}
 use Rattle.vhost_c_channel.proofs.Displays.{received, failed, same-form}
 use Rattle.vhost_c_channel.proofs.display.Display.take_record.Goals as goal
