@@ -50,10 +50,12 @@ struct used_ring {
     struct used_element elements[];
 };
 
-enum {
-    QUEUE_SIZE = 16,        /* descriptors */
-    QUEUE_ROOM = 2 * PAGE   /* the descriptors and the available ring in the first page, the used ring in the second */
-};
+#ifndef QUEUE_SIZE
+#define QUEUE_SIZE 16 /* descriptors: at most 128 */
+#endif
+
+/* The descriptors and the available ring in the first page, the used ring in the second. */
+enum { QUEUE_ROOM = 2 * PAGE };
 
 struct virtqueue {
     uint16_t index;  /* of the ring */
