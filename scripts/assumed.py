@@ -16,12 +16,8 @@ import sys
 TOP = os.path.dirname(os.path.dirname(os.path.realpath(__file__)))
 PAGE = f"{TOP}/docs/ASSUMED.md"
 
-# Definitions that a reader has to believe, each by the modules that state it.
+# Definitions that a reader has to believe, each by the modules that state it; docs/THEOREMS.md counts those of the theorem.
 READ = {
-    "the table of requests, and the runs over a stream": ("vhost_protocol", "Run"),
-    "the law of refusals under Standard": ("vhost_protocol", "Settled"),
-    "the frontend's answers": ("vhost_protocol", "AnswerTable"),
-    "lockstep of a frontend and a backend": ("vhost_pair", "Lockstep"),
     "a split queue": ("vhost_queue", "Queue"),
     "a packed queue": ("vhost_queue", "Packed"),
 }
@@ -149,7 +145,7 @@ def page():
         "## Functions in C\n\n| Code | Functions proved | Functions in C that its proof assumes |\n|---|---|---|\n" + "\n".join(assumed_rows()),
         "The kit's libraries state their contracts. The words of the verdicts in `generated/`:",
         "| Word | It says that |\n|---|---|\n" + "\n".join(word_rows()),
-        "## Definitions\n\nA reader has to believe these, with all that they are made of.\n\n| Of | Modules | Lines |\n|---|---|---|\n"
+        "## Definitions\n\nA reader has to believe those of the [theorem](THEOREMS.md), and these, with all that they are made of.\n\n| Of | Modules | Lines |\n|---|---|---|\n"
         + "\n".join(f"| {of} | {len(modules)} | {lines_in(modules):,} |" for of, modules in readers),
         "## Code that is tested only\n\n| Code | Lines |\n|---|---|\n"
         + "\n".join(f"| {of} | {lines_in(files_of(patterns)):,} |" for of, patterns in UNPROVED.items()),

@@ -1,0 +1,3 @@
+pub mod CalledOnce
+pub mod OneCall
+pub mod Joining

@@ -1,0 +1,8 @@
+-- One call that did not fail.
+use Rattle.vhost_headline.proofs.OneCall.{each-call}
+use Rattle.vhost_headline.proofs.headline.each_call.Goals as goal
+
+pub returns : goal.returns
+returns g c none =
+    each-call g.L.Link.event g.L.Link.opens g.L.Handle.Handle.kinds g.D.VhostUserBackendReqHandlerMut.gives c.args.core.now c.args.device.now c.handle_request.new.self c.handle_request.new.device c.handle_request.result
+    c.handle_request.ensures.failed c.handle_request.ensures.handled none

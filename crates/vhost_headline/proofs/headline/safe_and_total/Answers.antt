@@ -1,0 +1,8 @@
+-- One call, whatever comes.
+use Rattle.vhost_headline.proofs.OneCall.{safe-and-total}
+use Rattle.vhost_headline.proofs.headline.safe_and_total.Goals as goal
+
+pub returns : goal.returns
+returns g c =
+    safe-and-total g.L.Link.event g.L.Link.opens g.L.Handle.Handle.kinds g.D.VhostUserBackendReqHandlerMut.gives c.args.core.now c.args.device.now c.handle_request.new.self c.handle_request.new.device c.handle_request.result
+    c.handle_request.ensures.failed c.handle_request.ensures.handled
