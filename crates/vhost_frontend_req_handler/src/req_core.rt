@@ -110,6 +110,7 @@ impl<L: Link> FrontendReqCore<L> {
             → (result ≡ Err (SocketBroken (Raw n))) × (endpoint_of self.new ≡ endpoint_of self.old) × (server_in self.new ≡ server_in self.old) × (device.new ≡ device.old) }
         ensures handled { (server_in self.old).failed ≡ None
             → HandlesOne L.event D.gives (endpoint_of self.old) (server_in self.old) device.old result (endpoint_of self.new) (server_in self.new) device.new }
+        ensures idle { (server_in self.old).failed ≡ None → is_some self.new.pending ≡ false }
     {
         if let Some(number) = self.failed {
             return Err(Error::SocketBroken(IoCause::Raw(number)));
@@ -158,7 +159,8 @@ impl<L: Link> FrontendReqCore<L> {
         request: Request,
         handles: Option<Vec<L::Handle>>,
     ) -> Result<u64>
-        ensures { MeetsRow L.event D.gives self.old device.old request handles result self.new device.new }
+        ensures pending { self.new.pending ≡ self.old.pending }
+        ensures meets { MeetsRow L.event D.gives self.old device.old request handles result self.new device.new }
     {
         match self.ask(device, request, handles) {
             Asked::Answered(answer) => {

@@ -15,4 +15,4 @@ returns-in_err-request-clause-handled g c alive =
 pub returns-clause-handled : goal.returns-clause-handled
 returns-clause-handled g c alive =
     handles-request g.L.Link.event (λ (_ : Server). backend_request_of) backend_allows_handles (λ (t : Server). t.failed) kept (ReverseMeets (fitting g.D.VhostUserFrontendReqHandlerMut.gives)) (endpoint_of c.args.self.now) _ _
-    (server_in c.args.self.now) _ _ _ _ c.in_ok-request.request c.in_ok-request.handles _ c.in_ok-request.ensures (λ m reads over ready. c.answer.ensures m reads over ready)
+    (server_in c.args.self.now) _ _ _ _ c.in_ok-request.request c.in_ok-request.handles _ c.in_ok-request.ensures (λ m reads over ready. c.answer.ensures.meets m reads over ready)
