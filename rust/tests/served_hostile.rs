@@ -288,7 +288,8 @@ fn a_malformed_request_ends_the_connection() {
     counted(|| {
         let device = Shared::default();
         let (mut handler, peer) = handled(&device);
-        peer.say(&message(0, ASKS, &[]), &[]);
+        // Version 2.
+        peer.say(&message(1, 2, &[]), &[]);
         peer.say(&message(1, ASKS, &[]), &[]);
         assert_eq!("InvalidMessage", name(&handler.handle_request().unwrap_err()));
         // EPROTO.

@@ -6,13 +6,12 @@ use Rattle.vhost_message.specs.declared.cause.IoCause.TheVariants.{Raw}
 use Rattle.vhost_message.specs.declared.error.Error as declared
 use Rattle.vhost_message.specs.declared.error.Error.TheVariants.{SocketBroken}
 use Rattle.vhost_message.specs.declared.frontend_req.FrontendReq.{FrontendReq}
-use Rattle.vhost_message.specs.FrontendReq.{request_of}
 use Rattle.vhost_protocol.specs.Codes.{allows_handles}
 use Rattle.vhost_protocol.specs.DeviceCall.{Call, Answer}
 use Rattle.vhost_protocol.specs.Error.{Error, seen_result}
 use Rattle.vhost_protocol.specs.Handler.{MeetsRow, HandlesRequest}
 use Rattle.vhost_protocol.specs.Run as run
-use Rattle.vhost_protocol.specs.Session.{Session}
+use Rattle.vhost_protocol.specs.Session.{Session, heard_in}
 use Rattle.vhost_protocol.specs.Split.{Message}
 use Rattle.vhost_protocol.specs.Stream.{Cell, Item}
 use Rattle.vhost_link.specs.Law.{Event, Move, move}
@@ -46,10 +45,10 @@ module _ {L H B G Dev : Type 0} (event : L → Event H → L → Type 0) (gives 
   Meets = MeetsRow (fitting gives) opens_backend opens_gpu
 
   abbrev Whole : State L H → Session → Dev → Result ⊤ Error → State L H → Session → Dev → Type 0
-  Whole = Handled event request_of allows_handles (λ (t : Session). t.failed) kept_unsent Meets
+  Whole = Handled event heard_in allows_handles (λ (t : Session). t.failed) kept_unsent Meets
 
   abbrev One : State L H → Session → Dev → Result ⊤ declared.Error → State L H → Session → Dev → Type 0
-  One = HandlesOne event request_of allows_handles (λ (t : Session). t.failed) kept_unsent Meets
+  One = HandlesOne event heard_in allows_handles (λ (t : Session). t.failed) kept_unsent Meets
 
   -- ---- nothing else poisons
 
@@ -62,7 +61,7 @@ module _ {L H B G Dev : Type 0} (event : L → Event H → L → Type 0) (gives 
   -- ---- the device
 
   heard-once : (heard : Result (Message FrontendReq H) Error) (s : Session) (d : Dev) (answer : Result ⊤ Error) (written : List (Cell H)) (s' : Session) (d' : Dev)
-      → run.Handles request_of allows_handles (λ (t : Session). t.failed) Meets s d heard answer written s' d' → Once gives opens_backend opens_gpu s d s' d'
+      → run.Handles heard_in allows_handles (λ (t : Session). t.failed) Meets s d heard answer written s' d' → Once gives opens_backend opens_gpu s d s' d'
   heard-once (Err e) s d answer written s' d' (is, silent, same, still) = inr (still, inl same)
   heard-once (Ok m) s d answer written s' d' met = met-once gives opens_backend opens_gpu s d m answer written s' d' met
 
@@ -81,7 +80,7 @@ module _ {L H B G Dev : Type 0} (event : L → Event H → L → Type 0) (gives 
 
   entered : (old : State L H) (s : Session) (d : Dev) (answer : Result ⊤ Error) (new : State L H) (s' : Session) (d' : Dev) → s.failed ≡ None → Whole old s d answer new s' d' → MetRow old s d answer new s' d'
   entered old s d answer new s' d' alive h =
-      let e = as-entry event request_of allows_handles (λ (t : Session). t.failed) kept_unsent Meets old new s s' d d' answer alive h in
+      let e = as-entry event heard_in allows_handles (λ (t : Session). t.failed) kept_unsent Meets old new s s' d d' answer alive h in
       (e.move.handed, e.move.taken, (e.move.retries, subst (λ n. Talks event old (move e.move.handed e.move.taken e.move.retries n) new) e.failures e.talks), e.handles)
 
   -- an answer that fails is found
@@ -92,7 +91,7 @@ module _ {L H B G Dev : Type 0} (event : L → Event H → L → Type 0) (gives 
   meets-alive old s d (Ok a) new s' d' alive h none = entered old s d (Ok a) new s' d' alive h
   meets-alive old s d (Err e) new s' d' alive (inl h) none = entered old s d _ new s' d' alive h
   meets-alive old s d (Err e) new s' d' alive (inr b) none =
-      absurd (found e (breaks-of-link event request_of allows_handles (λ (t : Session). t.failed) kept_unsent Meets old s d e new s' d' b) none)
+      absurd (found e (breaks-of-link event heard_in allows_handles (λ (t : Session). t.failed) kept_unsent Meets old s d e new s' d' b) none)
 
   -- ---- by whether the session has ended
 
@@ -131,8 +130,8 @@ module _ {L H Dev : Type 0} (event : L → Event H → L → Type 0) (opens : L 
   pub safe-and-total : Ends → Goes → SafeAndTotal event opens kinds gives old d new d' result
   safe-and-total ends goes = record {
     ended = ends;
-    poisoned = λ alive c broken. unserved event request_of allows_handles (λ (t : Session). t.failed) kept_unsent (MeetsRow (fitting gives) to_backend to_gpu) (endpoint_of old) (session_in old) d result (endpoint_of new) (session_in new) d' c broken (goes alive);
-    failed = λ alive met. met-fault event request_of allows_handles (λ (t : Session). t.failed) kept_unsent (MeetsRow (fitting gives) to_backend to_gpu) (endpoint_of old) (session_in old) d result (endpoint_of new) (session_in new) d' (goes alive) met;
+    poisoned = λ alive c broken. unserved event heard_in allows_handles (λ (t : Session). t.failed) kept_unsent (MeetsRow (fitting gives) to_backend to_gpu) (endpoint_of old) (session_in old) d result (endpoint_of new) (session_in new) d' c broken (goes alive);
+    failed = λ alive met. met-fault event heard_in allows_handles (λ (t : Session). t.failed) kept_unsent (MeetsRow (fitting gives) to_backend to_gpu) (endpoint_of old) (session_in old) d result (endpoint_of new) (session_in new) d' (goes alive) met;
     sound = λ none. either ((endpoint_of new).broken ≡ (endpoint_of old).broken) (session_in old) (λ n marked. ap (λ x. x.broken) (ends n marked).1)
         (λ alive. stays-sound event gives to_backend to_gpu (endpoint_of old) (session_in old) d result (endpoint_of new) (session_in new) d' (goes alive) none);
     device = either (Once gives to_backend to_gpu (session_in old) d (session_in new) d') (session_in old) (λ n marked. inr ((ends n marked).3, inl (ends n marked).2))
