@@ -116,7 +116,7 @@ fn no_end_of_a_connection_waits_for_a_socket() {
             let device = Shared::default();
             let (mut handler, peer) = handled(&device);
             if has_failed {
-                peer.say(&message(0, ASKS, &[]), &[]);
+                peer.say(&message(1, 2, &[]), &[]);
                 handler.handle_request().unwrap_err();
             }
             peer.say(&message(3, ASKS, &[]), &[]);
