@@ -177,18 +177,20 @@ static size_t bytes_of(const char *word, uint8_t *bytes)
         return covretin_ask_##name(&session, of->numbers[1], (type)of->numbers[2]); \
     }
 
+/* generated from protocol/requests.toml: calls without an argument */
 BARE(get_features)
 BARE(set_owner)
 BARE(reset_owner)
 BARE(get_protocol_features)
 BARE(get_queue_num)
-BARE(reset_device)
-BARE(get_max_mem_slots)
-BARE(get_shmem_config)
-BARE(check_device_state)
 BARE(postcopy_advise)
 BARE(postcopy_listen)
 BARE(postcopy_end)
+BARE(reset_device)
+BARE(get_max_mem_slots)
+BARE(check_device_state)
+BARE(get_shmem_config)
+/* end */
 ONE(set_features, uint64_t)
 ONE(set_protocol_features, uint64_t)
 ONE(get_vring_base, size_t)
@@ -408,43 +410,45 @@ enum covretin_error show_answer(enum answer form)
 /* -- The calls by their names -- */
 
 static const struct call calls[] = {
+    /* generated from protocol/requests.toml: calls */
     {"get_features", "", 0, get_features, NUMBER},
     {"set_features", "l", 0, set_features, PLAIN},
     {"set_owner", "", 0, set_owner, PLAIN},
     {"reset_owner", "", 0, reset_owner, PLAIN},
-    {"get_protocol_features", "", 0, get_protocol_features, NUMBER},
-    {"set_protocol_features", "p", 0, set_protocol_features, PLAIN},
-    {"get_queue_num", "", 0, get_queue_num, NUMBER},
-    {"reset_device", "", 0, reset_device, PLAIN},
-    {"set_hdr_flags", "f", 0, NULL, PLAIN},
-    {"get_max_mem_slots", "", 0, get_max_mem_slots, NUMBER},
     {"set_mem_table", "*", 0, set_mem_table, BASES},
-    {"add_mem_region", "llllh", 0, add_mem_region, BASES},
-    {"remove_mem_region", "llllh", 0, remove_mem_region, PLAIN},
     {"set_log_base", "lllh", 3, set_log_base, PLAIN},
     {"set_log_fd", "h", 0, set_log_fd, PLAIN},
-    {"set_backend_request_fd", "h", 0, set_backend_request_fd, PLAIN},
     {"set_vring_num", "ls", 0, set_vring_num, PLAIN},
     {"set_vring_addr", "lillll", 1, set_vring_addr, PLAIN},
     {"set_vring_base", "li", 0, set_vring_base, PLAIN},
     {"get_vring_base", "l", 0, get_vring_base, NUMBER},
-    {"set_vring_call", "lh", 0, set_vring_call, PLAIN},
     {"set_vring_kick", "lh", 0, set_vring_kick, PLAIN},
+    {"set_vring_call", "lh", 0, set_vring_call, PLAIN},
     {"set_vring_err", "lh", 0, set_vring_err, PLAIN},
+    {"get_protocol_features", "", 0, get_protocol_features, NUMBER},
+    {"set_protocol_features", "p", 0, set_protocol_features, PLAIN},
+    {"get_queue_num", "", 0, get_queue_num, NUMBER},
     {"set_vring_enable", "lo", 0, set_vring_enable, PLAIN},
+    {"set_mtu", "s", 0, set_mtu, PLAIN},
+    {"set_backend_request_fd", "h", 0, set_backend_request_fd, PLAIN},
     {"get_config", "iic", 0, get_config, CONFIG},
     {"set_config", "icb", 0, set_config, PLAIN},
-    {"get_inflight_fd", "llss", 0, get_inflight_fd, INFLIGHT},
-    {"set_inflight_fd", "llssh", 0, set_inflight_fd, PLAIN},
-    {"get_shared_object", "n", 0, get_shared_object, FD},
-    {"get_shmem_config", "", 0, get_shmem_config, SHMEM},
-    {"set_device_state_fd", "dth", 0, set_device_state_fd, FD},
-    {"check_device_state", "", 0, check_device_state, PLAIN},
     {"postcopy_advise", "", 0, postcopy_advise, FD},
     {"postcopy_listen", "", 0, postcopy_listen, PLAIN},
-    {"postcopy_ack_mem_regions", "r", 0, postcopy_ack_mem_regions, PLAIN},
     {"postcopy_end", "", 0, postcopy_end, PLAIN},
-    {"set_mtu", "s", 0, set_mtu, PLAIN},
+    {"get_inflight_fd", "llss", 0, get_inflight_fd, INFLIGHT},
+    {"set_inflight_fd", "llssh", 0, set_inflight_fd, PLAIN},
+    {"reset_device", "", 0, reset_device, PLAIN},
+    {"get_max_mem_slots", "", 0, get_max_mem_slots, NUMBER},
+    {"add_mem_region", "llllh", 0, add_mem_region, BASES},
+    {"remove_mem_region", "llllh", 0, remove_mem_region, PLAIN},
+    {"get_shared_object", "n", 0, get_shared_object, FD},
+    {"set_device_state_fd", "dth", 0, set_device_state_fd, FD},
+    {"check_device_state", "", 0, check_device_state, PLAIN},
+    {"get_shmem_config", "", 0, get_shmem_config, SHMEM},
+    {"set_hdr_flags", "f", 0, NULL, PLAIN},
+    {"postcopy_ack_mem_regions", "r", 0, postcopy_ack_mem_regions, PLAIN},
+    /* end */
 };
 
 /* What a line that asks for help is told, and --help: the calls. */

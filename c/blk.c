@@ -66,13 +66,10 @@ static bool clear(const struct virtio_blk_discard_write_zeroes *range, bool is_d
     static const uint8_t zeros[SECTOR];
     int how = FALLOC_FL_KEEP_SIZE | (is_discard || range->flags != 0 ? FALLOC_FL_PUNCH_HOLE : FALLOC_FL_ZERO_RANGE);
     off_t at = (off_t)(range->sector * SECTOR), end = at + (off_t)range->num_sectors * SECTOR;
-    bool is_lacking = at != end && fallocate(image, how, at, end - at) != 0;
-    if (is_lacking && errno != EOPNOTSUPP)
-        return false;
-    for (; is_lacking && !is_discard && at < end; at += SECTOR)
-        if (pwrite(image, zeros, SECTOR, at) != SECTOR)
-            return false;
-    return true;
+    bool is_done = at == end || fallocate(image, how, at, end - at) == 0, is_lacking = !is_done && errno == EOPNOTSUPP;
+    for (is_done = is_done || is_lacking; is_done && is_lacking && !is_discard && at < end; at += SECTOR)
+        is_done = pwrite(image, zeros, SECTOR, at) == SECTOR;
+    return is_done;
 }
 
 /* Reads what the page cache has, without waiting for the file. False: more is to be done, or too much for whoever serves the rings. */

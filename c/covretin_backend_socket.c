@@ -183,21 +183,8 @@ int covretin_listener_fd(const covretin_listener *listener)
 
 /* -- The session's side of the bytes -- */
 
-static size_t missing(void *session)
-{
-    return covretin_backend_missing(session);
-}
-
-static enum covretin_error receive(void *session, const uint8_t *bytes, size_t bytes_len, const int32_t *fds, size_t fds_len)
-{
-    return covretin_backend_receive(session, bytes, bytes_len, fds, fds_len);
-}
-
-static enum covretin_error to_send(void *session, uint8_t *bytes, size_t bytes_len, int32_t *fds, size_t fds_len, size_t *byte_count,
-                                   size_t *fd_count)
-{
-    return covretin_backend_to_send(session, bytes, bytes_len, fds, fds_len, byte_count, fd_count);
-}
+TRANSPORT_BYTES(backend, covretin_backend)
+TRANSPORT_OPENS(backend, covretin_backend)
 
 static enum covretin_error next(void *session, uint32_t *call)
 {
@@ -214,26 +201,29 @@ static bool ended(void *session)
     return covretin_backend_ended(session) != 0;
 }
 
-static const struct serving_side backend_side = {{missing, receive, to_send, NULL, true, false}, next, end, ended};
+/* Gives a request without a call of its own to whoever serves it, and replies by what he says. Its descriptors are lent to him. */
+static enum covretin_error serve_other(void *session, const struct serving_hook *hook)
+{
+    uint8_t bytes[COVRETIN_MAX_MESSAGE];
+    int32_t fds[COVRETIN_MAX_FDS];
+    size_t len = 0, count = 0;
+    uint32_t request = 0;
+    bool served = hook->other != NULL && covretin_call_other(session, &request, bytes, sizeof bytes, &len) == COVRETIN_OK &&
+                  covretin_call_fds(session, fds, COVRETIN_MAX_FDS, &count) == COVRETIN_OK &&
+                  hook->other(hook->context, request, bytes, len, fds, count) == 0;
+    enum covretin_error error = served ? covretin_reply_done(session) : covretin_reply_refused(session);
+    return error == COVRETIN_BACKEND_INTERNAL_ERROR ? COVRETIN_INVALID_OPERATION : error;
+}
+
+static const struct serving_side backend_side = {
+    {backend_missing, backend_receive, backend_to_send, NULL, true, false, backend_open, backend_close}, next, end, ended,
+    COVRETIN_CALL_OTHER, serve_other};
 
 /* -- Frontends -- */
 
 enum covretin_error covretin_serve_fd(covretin_service *service, int fd)
 {
-    enum covretin_error error;
-    if (service->opaque != NULL)
-        return COVRETIN_SESSION_OPEN;
-    error = transport_check_socket(fd);
-    if (error)
-        return error;
-    error = covretin_backend_open(&service->backend);
-    if (error)
-        return error;
-    service->opaque = serving_new(&backend_side, &service->backend, fd);
-    if (service->opaque != NULL)
-        return COVRETIN_OK;
-    covretin_backend_close(&service->backend);
-    return COVRETIN_OUT_OF_MEMORY;
+    return serving_open(&service->opaque, &backend_side, &service->backend, fd);
 }
 
 /* The next frontend's socket. */
@@ -274,9 +264,7 @@ enum covretin_error covretin_accept(covretin_listener *listener, covretin_servic
 
 void covretin_hang_up(covretin_service *service)
 {
-    covretin_backend_close(&service->backend);
-    serving_free(service->opaque);
-    service->opaque = NULL;
+    serving_close(&service->opaque, &backend_side, &service->backend);
 }
 
 int covretin_service_fd(const covretin_service *service)
@@ -292,6 +280,15 @@ bool covretin_service_ended(const covretin_service *service)
 uint32_t covretin_service_request(const covretin_service *service)
 {
     return serving_request(service->opaque);
+}
+
+enum covretin_error covretin_backend_set_other(covretin_service *service, serving_other *other, void *context)
+{
+    struct serving *serving = service->opaque;
+    if (serving == NULL)
+        return COVRETIN_NO_SESSION;
+    serving->hook = (struct serving_hook){other, context};
+    return COVRETIN_OK;
 }
 
 /* -- Requests -- */

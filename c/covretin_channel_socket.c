@@ -5,59 +5,26 @@
 
 /* -- The device's session -- */
 
-static size_t missing(void *channel)
-{
-    return covretin_channel_missing(channel);
-}
+TRANSPORT_BYTES(channel, covretin_channel)
+TRANSPORT_TAKES(channel, covretin_channel)
+TRANSPORT_OPENS(channel, covretin_channel)
 
-static enum covretin_error receive(void *channel, const uint8_t *bytes, size_t bytes_len, const int32_t *fds, size_t fds_len)
-{
-    return covretin_channel_receive(channel, bytes, bytes_len, fds, fds_len);
-}
-
-static enum covretin_error to_send(void *channel, uint8_t *bytes, size_t bytes_len, int32_t *fds, size_t fds_len, size_t *byte_count,
-                                   size_t *fd_count)
-{
-    return covretin_channel_to_send(channel, bytes, bytes_len, fds, fds_len, byte_count, fd_count);
-}
-
-static enum covretin_error take_reply(void *channel)
-{
-    return covretin_channel_take(channel);
-}
-
-static const struct transport_side channel_side = {missing, receive, to_send, take_reply, false, true};
+static const struct transport_side channel_side = {channel_missing, channel_receive, channel_to_send, channel_take,
+                                                   false, true, channel_open, channel_close};
 
 enum covretin_error covretin_channel_connect_fd(covretin_channel_connection *connection, int fd)
 {
-    enum covretin_error error;
-    if (connection->opaque != NULL)
-        return COVRETIN_SESSION_OPEN;
-    error = transport_check_socket(fd);
-    if (error)
-        return error;
-    error = covretin_channel_open(&connection->channel);
-    if (error)
-        return error;
-    connection->opaque = transport_new(&channel_side, &connection->channel, fd);
-    if (connection->opaque != NULL)
-        return COVRETIN_OK;
-    covretin_channel_close(&connection->channel);
-    return COVRETIN_OUT_OF_MEMORY;
+    return transport_connect(&connection->opaque, &channel_side, &connection->channel, fd);
 }
 
 void covretin_channel_disconnect(covretin_channel_connection *connection)
 {
-    covretin_channel_close(&connection->channel);
-    if (connection->opaque != NULL)
-        transport_free(connection->opaque);
-    connection->opaque = NULL;
+    transport_disconnect(&connection->opaque, &channel_side, &connection->channel);
 }
 
 int covretin_channel_connection_fd(const covretin_channel_connection *connection)
 {
-    const struct transport *transport = connection->opaque;
-    return transport == NULL ? -1 : transport->socket;
+    return transport_fd(connection->opaque);
 }
 
 /* Takes the reply, which names no descriptor. */
@@ -82,21 +49,8 @@ enum covretin_error covretin_channel_exchange_nowait(covretin_channel_connection
 
 /* -- The frontend's session -- */
 
-static size_t server_missing(void *server)
-{
-    return covretin_channel_server_missing(server);
-}
-
-static enum covretin_error server_receive(void *server, const uint8_t *bytes, size_t bytes_len, const int32_t *fds, size_t fds_len)
-{
-    return covretin_channel_server_receive(server, bytes, bytes_len, fds, fds_len);
-}
-
-static enum covretin_error server_to_send(void *server, uint8_t *bytes, size_t bytes_len, int32_t *fds, size_t fds_len,
-                                          size_t *byte_count, size_t *fd_count)
-{
-    return covretin_channel_server_to_send(server, bytes, bytes_len, fds, fds_len, byte_count, fd_count);
-}
+TRANSPORT_BYTES(server, covretin_channel_server)
+TRANSPORT_OPENS(server, covretin_channel_server)
 
 static enum covretin_error next(void *server, uint32_t *call)
 {
@@ -108,31 +62,17 @@ static enum covretin_error end(void *server)
     return covretin_channel_server_end(server);
 }
 
-static const struct serving_side server_side = {{server_missing, server_receive, server_to_send, NULL, true, false}, next, end, NULL};
+static const struct serving_side server_side = {
+    {server_missing, server_receive, server_to_send, NULL, true, false, server_open, server_close}, next, end, NULL, 0, NULL};
 
 enum covretin_error covretin_channel_serve_fd(covretin_channel_service *service, int fd)
 {
-    enum covretin_error error;
-    if (service->opaque != NULL)
-        return COVRETIN_SESSION_OPEN;
-    error = transport_check_socket(fd);
-    if (error)
-        return error;
-    error = covretin_channel_server_open(&service->server);
-    if (error)
-        return error;
-    service->opaque = serving_new(&server_side, &service->server, fd);
-    if (service->opaque != NULL)
-        return COVRETIN_OK;
-    covretin_channel_server_close(&service->server);
-    return COVRETIN_OUT_OF_MEMORY;
+    return serving_open(&service->opaque, &server_side, &service->server, fd);
 }
 
 void covretin_channel_hang_up(covretin_channel_service *service)
 {
-    covretin_channel_server_close(&service->server);
-    serving_free(service->opaque);
-    service->opaque = NULL;
+    serving_close(&service->opaque, &server_side, &service->server);
 }
 
 int covretin_channel_service_fd(const covretin_channel_service *service)

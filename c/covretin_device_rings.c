@@ -199,10 +199,13 @@ static enum covretin_queue_error look(struct ring *ring)
     return error ? error : covretin_queue_available(&ring->queue, read16(place.addr), &ring->available);
 }
 
-/* The next descriptor of the chain, which is at this place. A packed ring's is kept in the inflight region, or was before a crash. */
+/* The next descriptor of the chain, which is at this place; or one that was read, whose rest comes. A packed ring's is kept in the
+ * inflight region, or was before a crash. */
 static enum covretin_queue_error read_descriptor(struct ring *ring, covretin_range place, bool is_kept, bool again,
                                                  covretin_descriptor *descriptor)
 {
+    if (place.len == 0)
+        return COVRETIN_QUEUE_OK;
     if (is_kept && again)
         return inflight_kept(ring, descriptor) ? COVRETIN_QUEUE_OK : COVRETIN_QUEUE_INVALID_INFLIGHT;
     memcpy(descriptor, (const void *)(uintptr_t)place.addr, sizeof *descriptor);
@@ -212,10 +215,10 @@ static enum covretin_queue_error read_descriptor(struct ring *ring, covretin_ran
 /* Reads the descriptors of the chain that is followed, to its end. */
 static enum covretin_queue_error follow(struct session *session, struct ring *ring, uint16_t *id, bool again)
 {
+    covretin_descriptor descriptor = {0};
     bool is_indirect = false;
     session->segment_count = 0;
     for (;;) {
-        covretin_descriptor descriptor;
         covretin_range place;
         bool found;
         enum covretin_queue_error error = covretin_queue_descriptor_place(&ring->queue, &place, &found);

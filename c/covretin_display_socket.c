@@ -3,63 +3,28 @@
 #include "covretin_display_socket.h"
 #include "covretin_transport.h"
 
-/* -- The session's side of the bytes -- */
-
-static size_t missing(void *display)
-{
-    return covretin_display_missing(display);
-}
-
-static enum covretin_error receive(void *display, const uint8_t *bytes, size_t bytes_len, const int32_t *fds, size_t fds_len)
-{
-    return covretin_display_receive(display, bytes, bytes_len, fds, fds_len);
-}
-
-static enum covretin_error to_send(void *display, uint8_t *bytes, size_t bytes_len, int32_t *fds, size_t fds_len, size_t *byte_count,
-                                   size_t *fd_count)
-{
-    return covretin_display_to_send(display, bytes, bytes_len, fds, fds_len, byte_count, fd_count);
-}
-
-static enum covretin_error take_reply(void *display)
-{
-    return covretin_display_take(display);
-}
-
-static const struct transport_side display_side = {missing, receive, to_send, take_reply, false, true};
-
 /* -- Connections -- */
+
+TRANSPORT_BYTES(display, covretin_display)
+TRANSPORT_TAKES(display, covretin_display)
+TRANSPORT_OPENS(display, covretin_display)
+
+static const struct transport_side display_side = {display_missing, display_receive, display_to_send, display_take,
+                                                   false, true, display_open, display_close};
 
 enum covretin_error covretin_display_connect_fd(covretin_display_connection *connection, int fd)
 {
-    enum covretin_error error;
-    if (connection->opaque != NULL)
-        return COVRETIN_SESSION_OPEN;
-    error = transport_check_socket(fd);
-    if (error)
-        return error;
-    error = covretin_display_open(&connection->display);
-    if (error)
-        return error;
-    connection->opaque = transport_new(&display_side, &connection->display, fd);
-    if (connection->opaque != NULL)
-        return COVRETIN_OK;
-    covretin_display_close(&connection->display);
-    return COVRETIN_OUT_OF_MEMORY;
+    return transport_connect(&connection->opaque, &display_side, &connection->display, fd);
 }
 
 void covretin_display_disconnect(covretin_display_connection *connection)
 {
-    covretin_display_close(&connection->display);
-    if (connection->opaque != NULL)
-        transport_free(connection->opaque);
-    connection->opaque = NULL;
+    transport_disconnect(&connection->opaque, &display_side, &connection->display);
 }
 
 int covretin_display_connection_fd(const covretin_display_connection *connection)
 {
-    const struct transport *transport = connection->opaque;
-    return transport == NULL ? -1 : transport->socket;
+    return transport_fd(connection->opaque);
 }
 
 /* -- Pixels -- */

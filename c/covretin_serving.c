@@ -7,7 +7,8 @@
 
 /* -- Its life -- */
 
-struct serving *serving_new(const struct serving_side *side, void *session, int socket)
+/* What serves a session over this socket, or NULL: an allocation failed. */
+static struct serving *new_serving(const struct serving_side *side, void *session, int socket)
 {
     struct serving *serving = calloc(1, sizeof *serving);
     if (serving == NULL)
@@ -20,17 +21,38 @@ struct serving *serving_new(const struct serving_side *side, void *session, int 
     return NULL;
 }
 
-void serving_free(struct serving *serving)
+enum covretin_error serving_open(void **opaque, const struct serving_side *side, void *session, int socket)
 {
+    enum covretin_error error;
+    if (*opaque != NULL)
+        return COVRETIN_SESSION_OPEN;
+    error = transport_check_socket(socket);
+    if (error)
+        return error;
+    error = side->bytes.open(session);
+    if (error)
+        return error;
+    *opaque = new_serving(side, session, socket);
+    if (*opaque != NULL)
+        return COVRETIN_OK;
+    side->bytes.close(session);
+    return COVRETIN_OUT_OF_MEMORY;
+}
+
+void serving_close(void **opaque, const struct serving_side *side, void *session)
+{
+    struct serving *serving = *opaque;
+    side->bytes.close(session);
     if (serving == NULL)
         return;
     transport_free(serving->transport);
     free(serving);
+    *opaque = NULL;
 }
 
 int serving_fd(const struct serving *serving)
 {
-    return serving == NULL ? -1 : serving->transport->socket;
+    return serving == NULL ? -1 : transport_fd(serving->transport);
 }
 
 bool serving_ended(const struct serving *serving)
@@ -57,6 +79,25 @@ static bool has_ended(const struct serving *serving)
     return serving->side->ended != NULL && serving->side->ended(serving->transport->session);
 }
 
+/* Checks the request that came. NOT_YET: one without a call of its own was served and replied to, and the next may come. */
+static enum covretin_error check_request(struct serving *serving, uint32_t *call)
+{
+    const struct serving_side *side = serving->side;
+    void *session = serving->transport->session;
+    uint32_t asked = 0;
+    enum covretin_error error = side->next(session, &asked);
+    serving->calling = error == COVRETIN_OK;
+    if (!serving->calling)
+        return error;
+    if (asked == 0 || asked != side->other_call) {
+        *call = asked;
+        return COVRETIN_OK;
+    }
+    error = side->other(session, &serving->hook);
+    serving->calling = error == COVRETIN_OK;
+    return error == COVRETIN_OK ? COVRETIN_NOT_YET : error;
+}
+
 /* Receives a request, and checks it. The end of the stream is what it means where it came. */
 static enum covretin_error receive_request(struct serving *serving, uint32_t *call)
 {
@@ -66,9 +107,8 @@ static enum covretin_error receive_request(struct serving *serving, uint32_t *ca
         return serving->side->end(session);
     if (error)
         return error;
-    error = serving->side->next(session, call);
-    serving->calling = error == COVRETIN_OK;
-    if (error) {
+    error = check_request(serving, call);
+    if (!serving->calling) {
         serving->refusal = error;
         transport_next(serving->transport);
     }
@@ -119,6 +159,8 @@ static enum covretin_error next_call(struct serving *serving, uint32_t *call, sh
         return error;
     *events = POLLIN;
     error = receive_request(serving, call);
+    if (serving->calling)
+        *events = POLLOUT;
     if (!serving->refusal)
         return error;
     *events = POLLOUT;
@@ -159,7 +201,10 @@ static enum covretin_error work_until(struct serving *serving, work *does, uint3
     int64_t end = transport_end_of(milliseconds);
     for (;;) {
         short events;
-        enum covretin_error error = work_nowait(serving, does, call, &events);
+        enum covretin_error error;
+        transport_may_wait(serving == NULL ? NULL : serving->transport, end < 0);
+        error = work_nowait(serving, does, call, &events);
+        transport_may_wait(serving == NULL ? NULL : serving->transport, false);
         if (error != COVRETIN_NOT_YET)
             return error;
         error = transport_wait(serving->transport->socket, events, end);

@@ -6,27 +6,40 @@
 
 #include "covretin_transport.h"
 
+/* Who is given the requests that have no call of their own; NULL: nobody. */
+typedef int serving_other(void *context, uint32_t request, const uint8_t *bytes, size_t len, const int32_t *fds, size_t count);
+
+struct serving_hook {
+    serving_other *other;
+    void *context;
+};
+
 /* The calls of a session that serves. */
 struct serving_side {
     struct transport_side bytes;
     enum covretin_error (*next)(void *session, uint32_t *call);
     enum covretin_error (*end)(void *session);
     bool (*ended)(void *session); /* whether it reads nothing more; NULL: it always does */
+    /* replies to a request that has no call of its own, which `next` gives this number: INVALID_OPERATION: nobody serves it; 0: no such */
+    uint32_t other_call;
+    enum covretin_error (*other)(void *session, const struct serving_hook *hook);
 };
 
 /* What stands behind a service; NULL: none. */
 struct serving {
     const struct serving_side *side;
     struct transport *transport;
+    struct serving_hook hook;
     bool calling;                /* a call was handed out, and what came with it is still there */
     enum covretin_error refusal; /* of a request whose acknowledgement is still to be sent, or 0 */
 };
 
-/* Serves a session over this socket, or NULL: an allocation failed. */
-struct serving *serving_new(const struct serving_side *side, void *session, int socket);
+/* Opens a session, and serves it over this socket: `opaque` is then what stands behind it; after an error both are as before.
+ * SESSION_OPEN; what transport_check_socket returns; OUT_OF_MEMORY. */
+enum covretin_error serving_open(void **opaque, const struct serving_side *side, void *session, int socket);
 
-/* Closes the socket and all that came, and frees it. */
-void serving_free(struct serving *serving);
+/* Closes it, the socket and all that came; there may be none. */
+void serving_close(void **opaque, const struct serving_side *side, void *session);
 
 /* The socket, or -1; and whether it is of no more use. */
 int serving_fd(const struct serving *serving);

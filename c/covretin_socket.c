@@ -22,28 +22,11 @@ struct exchange {
 
 /* -- The session's side of the bytes -- */
 
-static size_t missing(void *session)
-{
-    return covretin_missing(session);
-}
+TRANSPORT_BYTES(frontend, covretin)
+TRANSPORT_TAKES(frontend, covretin)
 
-static enum covretin_error receive(void *session, const uint8_t *bytes, size_t bytes_len, const int32_t *fds, size_t fds_len)
-{
-    return covretin_receive(session, bytes, bytes_len, fds, fds_len);
-}
-
-static enum covretin_error to_send(void *session, uint8_t *bytes, size_t bytes_len, int32_t *fds, size_t fds_len, size_t *byte_count,
-                                   size_t *fd_count)
-{
-    return covretin_to_send(session, bytes, bytes_len, fds, fds_len, byte_count, fd_count);
-}
-
-static enum covretin_error take_reply(void *session)
-{
-    return covretin_take(session);
-}
-
-static const struct transport_side frontend_side = {missing, receive, to_send, take_reply, false, false};
+static const struct transport_side frontend_side = {frontend_missing, frontend_receive, frontend_to_send, frontend_take,
+                                                    false, false, NULL, NULL};
 
 /* -- The reply -- */
 
@@ -191,8 +174,7 @@ void covretin_disconnect(covretin_connection *connection)
 
 int covretin_connection_fd(const covretin_connection *connection)
 {
-    const struct transport *transport = transport_of(connection);
-    return transport == NULL ? -1 : transport->socket;
+    return transport_fd(transport_of(connection));
 }
 
 enum covretin_error covretin_claim_fd(covretin_connection *connection, int32_t *fd)

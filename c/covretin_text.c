@@ -58,6 +58,7 @@ const char *covretin_version(void)
 /* -- The names of requests, as the specification has them -- */
 
 static const char *const frontend_requests[] = {
+    /* generated from protocol/requests.toml: requests of a frontend */
     [1] = "GET_FEATURES",
     [2] = "SET_FEATURES",
     [3] = "SET_OWNER",
@@ -102,9 +103,11 @@ static const char *const frontend_requests[] = {
     [42] = "SET_DEVICE_STATE_FD",
     [43] = "CHECK_DEVICE_STATE",
     [44] = "GET_SHMEM_CONFIG",
+    /* end */
 };
 
 static const char *const backend_requests[] = {
+    /* generated from protocol/requests.toml: requests of a backend */
     [1] = "IOTLB_MSG",
     [2] = "CONFIG_CHANGE_MSG",
     [3] = "VRING_HOST_NOTIFIER_MSG",
@@ -115,6 +118,7 @@ static const char *const backend_requests[] = {
     [8] = "SHARED_OBJECT_LOOKUP",
     [9] = "SHMEM_MAP",
     [10] = "SHMEM_UNMAP",
+    /* end */
 };
 
 static const char *name_of(const char *const *names, size_t count, uint32_t request)

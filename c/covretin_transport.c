@@ -277,7 +277,7 @@ uint32_t transport_request(const struct transport *transport)
     return code[0] | (uint32_t)code[1] << 8 | (uint32_t)code[2] << 16 | (uint32_t)code[3] << 24;
 }
 
-/* Receives at most so many bytes into `bytes`, without waiting. */
+/* Receives at most so many bytes into `bytes`. It waits where the call may; a socket that does not wait says NOT_YET all the same. */
 static enum covretin_error receive_piece(struct transport *transport, size_t most)
 {
     union control control;
@@ -287,7 +287,7 @@ static enum covretin_error receive_piece(struct transport *transport, size_t mos
     do {
         message.msg_control = control.bytes;
         message.msg_controllen = sizeof control.bytes;
-        got = recvmsg(transport->socket, &message, MSG_CMSG_CLOEXEC | MSG_DONTWAIT);
+        got = recvmsg(transport->socket, &message, MSG_CMSG_CLOEXEC | (transport->waits ? 0 : MSG_DONTWAIT));
     } while (got < 0 && errno == EINTR);
     if (got < 0)
         return reason();
@@ -302,6 +302,12 @@ static enum covretin_error receive_piece(struct transport *transport, size_t mos
     transport->begun = true;
     transport->end = (size_t)got;
     return COVRETIN_OK;
+}
+
+void transport_may_wait(struct transport *transport, bool waits)
+{
+    if (transport != NULL)
+        transport->waits = waits;
 }
 
 /* Hands the piece that came to the session, with the descriptors that came with it: its first, or late ones. */
@@ -359,6 +365,37 @@ void transport_free(struct transport *transport)
     close_came(transport);
     transport_close_socket(transport->socket, transport->broken && !transport->side->is_given);
     free(transport);
+}
+
+enum covretin_error transport_connect(void **opaque, const struct transport_side *side, void *session, int socket)
+{
+    enum covretin_error error;
+    if (*opaque != NULL)
+        return COVRETIN_SESSION_OPEN;
+    error = transport_check_socket(socket);
+    if (error)
+        return error;
+    error = side->open(session);
+    if (error)
+        return error;
+    *opaque = transport_new(side, session, socket);
+    if (*opaque != NULL)
+        return COVRETIN_OK;
+    side->close(session);
+    return COVRETIN_OUT_OF_MEMORY;
+}
+
+void transport_disconnect(void **opaque, const struct transport_side *side, void *session)
+{
+    side->close(session);
+    if (*opaque != NULL)
+        transport_free(*opaque);
+    *opaque = NULL;
+}
+
+int transport_fd(const struct transport *transport)
+{
+    return transport == NULL ? -1 : transport->socket;
 }
 
 enum covretin_error transport_settle(struct transport *transport, enum covretin_error error)
@@ -435,8 +472,8 @@ static enum covretin_error take_back(struct transport *transport)
 {
     static const uint8_t no_reply[12] = {0};
     int was = errno;
-    size_t missing = transport->side->missing(transport->session);
-    if (missing != 0 && transport->side->receive(transport->session, no_reply, missing, transport->fds, 0))
+    if (transport->side->missing(transport->session) != 0 &&
+        transport->side->receive(transport->session, no_reply, sizeof no_reply, transport->fds, 0))
         return COVRETIN_OUT_OF_MEMORY;
     transport->side->take(transport->session);
     transport->at = transport->end = transport->fd_count = transport->lent_len = 0;
@@ -475,7 +512,10 @@ enum covretin_error transport_exchange(struct transport *transport, transport_ta
     int64_t end = transport_end_of(milliseconds);
     for (;;) {
         short events;
-        enum covretin_error error = transport_exchange_nowait(transport, takes, of, &events);
+        enum covretin_error error;
+        transport_may_wait(transport, end < 0);
+        error = transport_exchange_nowait(transport, takes, of, &events);
+        transport_may_wait(transport, false);
         if (error != COVRETIN_NOT_YET)
             return error;
         error = transport_wait(transport->socket, events, end);

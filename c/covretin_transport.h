@@ -15,7 +15,39 @@ struct transport_side {
     enum covretin_error (*take)(void *session); /* the reply; NULL where it serves */
     bool hears_late;                            /* is told of descriptors that come amid a message, too */
     bool is_given;                              /* its socket came from the peer, who may go on with it */
+    enum covretin_error (*open)(void *session); /* with its socket, and what closes it; NULL where another does */
+    void (*close)(void *session);
 };
+
+/* Those calls of a session, as a side has them; `calls` is what their names begin with. */
+#define TRANSPORT_BYTES(name, calls) \
+    static size_t name##_missing(void *session) \
+    { \
+        return calls##_missing(session); \
+    } \
+    static enum covretin_error name##_receive(void *session, const uint8_t *bytes, size_t bytes_len, const int32_t *fds, size_t fds_len) \
+    { \
+        return calls##_receive(session, bytes, bytes_len, fds, fds_len); \
+    } \
+    static enum covretin_error name##_to_send(void *session, uint8_t *bytes, size_t bytes_len, int32_t *fds, size_t fds_len, \
+                                              size_t *byte_count, size_t *fd_count) \
+    { \
+        return calls##_to_send(session, bytes, bytes_len, fds, fds_len, byte_count, fd_count); \
+    }
+#define TRANSPORT_TAKES(name, calls) \
+    static enum covretin_error name##_take(void *session) \
+    { \
+        return calls##_take(session); \
+    }
+#define TRANSPORT_OPENS(name, calls) \
+    static enum covretin_error name##_open(void *session) \
+    { \
+        return calls##_open(session); \
+    } \
+    static void name##_close(void *session) \
+    { \
+        calls##_close(session); \
+    }
 
 /* A message goes out whole before the next is read, so both ways use `bytes`. */
 struct transport {
@@ -30,6 +62,7 @@ struct transport {
     size_t fd_count;
     const uint8_t *lent; /* the caller's: lent[0 .. lent_len) are to be sent behind all that is the session's */
     size_t lent_len;
+    bool waits;                     /* a call without a limit of time is under way: a receive waits as the socket does */
     bool begun;                     /* the awaited message has begun to come */
     uint8_t code[4];                /* the first bytes of the message that came last: the number of its request */
     size_t code_len;
@@ -46,6 +79,16 @@ struct transport *transport_new(const struct transport_side *side, void *session
 /* Closes the socket and all that came, and frees it. */
 void transport_free(struct transport *transport);
 
+/* Opens a session, and a transport over this socket, which `opaque` then is; after an error both are as before. SESSION_OPEN; what
+ * transport_check_socket returns; OUT_OF_MEMORY. */
+enum covretin_error transport_connect(void **opaque, const struct transport_side *side, void *session, int socket);
+
+/* Closes both; the transport may be none. */
+void transport_disconnect(void **opaque, const struct transport_side *side, void *session);
+
+/* The socket; -1: there is none. */
+int transport_fd(const struct transport *transport);
+
 /* Bytes to be sent behind all that the session has to send now; they stay the caller's. */
 void transport_lend(struct transport *transport, const uint8_t *bytes, size_t bytes_len);
 
@@ -55,6 +98,9 @@ enum covretin_error transport_send(struct transport *transport);
 
 /* Receives what the session misses, and hands it in. An allocation that fails leaves it here. NOT_YET: the socket has no more. */
 enum covretin_error transport_receive(struct transport *transport);
+
+/* Whether a receive may wait from now on, where there is a transport. */
+void transport_may_wait(struct transport *transport, bool waits);
 
 /* The number of the request that came last, as its header has it; 0: that much of it has not come. */
 uint32_t transport_request(const struct transport *transport);

@@ -219,14 +219,15 @@ void covretin_close(covretin_session *session);
  * sendmsg with SCM_RIGHTS). Call it until *byte_count is 0: then nothing is left. What it handed out is gone from the session,
  * so the caller sends all of it, in this order; where a sendmsg takes only a part, the rest follows without descriptors.
  * bytes_len is 1 at least, and COVRETIN_MAX_MESSAGE is enough for any request; fds_len is COVRETIN_MAX_FDS at least.
- * NO_SESSION, NO_ROOM, OUT_OF_MEMORY: the counts were not written, and nothing is gone. */
+ * NO_SESSION, NO_ROOM: the counts were not written, and nothing is gone. */
 enum covretin_error covretin_to_send(covretin_session *session, uint8_t *bytes, size_t bytes_len, int32_t *fds, size_t fds_len,
                          size_t *byte_count, size_t *fd_count);
 
-/* How many bytes to read for the reply of the call that was asked; 0 where it may be taken. First the 12 bytes of its
- * header, less what came; once these have come, those of the body that it announces, if that is no longer than a message may
- * be. 0 also where nothing is asked or awaited. Read no more than this: the system does not say at which byte descriptors
- * came. */
+/* How many bytes to read for the reply of the call that was asked, less what came; 0 where it may be taken. First the 12
+ * bytes of its header, with the record behind it where every such reply has one; a peer that refuses the protocol may send
+ * less, so take what comes. Once the header has come, what is missing of the body that it announces, if that is no longer than
+ * a message may be. 0 also where nothing is asked or awaited. Read no more than this: the system does not say at which byte
+ * descriptors came. */
 size_t covretin_missing(covretin_session *session);
 
 /* Takes in bytes of the reply: a part of those that are missing, or all, and the descriptors that came with the first of

@@ -71,9 +71,10 @@ typedef struct covretin_backend {
      COVRETIN_PROTOCOL_CONFIGURE_MEM_SLOTS | COVRETIN_PROTOCOL_SHARED_OBJECT | COVRETIN_PROTOCOL_DEVICE_STATE | \
      COVRETIN_PROTOCOL_SHMEM)
 
-/* What is asked of the device: the number of its request, or COVRETIN_CALL_POSTCOPY_ACK. Behind each the call that gives its
+/* What is asked of the device: the number of its request, or one of the last two. Behind each the call that gives its
  * arguments, if it has some, and those by which it is replied to. Each may be replied to by covretin_reply_refused. */
 enum covretin_call {
+    /* generated from protocol/requests.toml: calls */
     COVRETIN_CALL_GET_FEATURES = 1,           /* ; reply_number: the virtio features */
     COVRETIN_CALL_SET_FEATURES = 2,           /* call_number; reply_done */
     COVRETIN_CALL_SET_OWNER = 3,              /* ; reply_done */
@@ -109,7 +110,9 @@ enum covretin_call {
     COVRETIN_CALL_SET_DEVICE_STATE_FD = 42,   /* call_transfer; reply_fd: -1 to use the one that came */
     COVRETIN_CALL_CHECK_DEVICE_STATE = 43,    /* ; reply_done */
     COVRETIN_CALL_GET_SHMEM_CONFIG = 44,      /* ; reply_shmem */
-    COVRETIN_CALL_POSTCOPY_ACK = 256          /* the frontend mapped the regions of the request before; reply_done */
+    COVRETIN_CALL_POSTCOPY_ACK = 256,         /* the frontend mapped the regions of the request before; reply_done */
+    COVRETIN_CALL_OTHER = 257                 /* call_other, call_fds; reply_done: a request with no call of its own */
+    /* end */
 };
 
 /* What a request is called, by its number: a string that is never NULL, never freed and different for each of 1 to 44, also where
@@ -121,12 +124,11 @@ const char *covretin_request_text(uint32_t request);
 /* Opens a session. SESSION_OPEN; OUT_OF_MEMORY. After an error nothing changed. */
 enum covretin_error covretin_backend_open(covretin_backend *backend);
 
-/* Whose behaviour the session has from now on. Under STANDARD, as at first, whoever waits is answered, as above; a request of 1 to 44
- * that nobody serves is INVALID_OPERATION, and the session goes on; a ring may be enabled once PROTOCOL_FEATURES was offered or
- * accepted; and a memory table may be longer than its regions. Real frontends want all four. Under VHOST some refusals have no reply,
- * also where a frontend waits, the second is INVALID_MESSAGE without a reply, and the others are refused. A request of any other
- * number is INVALID_MESSAGE without a reply under both. NO_SESSION; INVALID_PARAM: there is no such profile; NOT_REPLIED: a call is
- * still to be replied to. After an error nothing changed. */
+/* Whose behaviour the session has from now on. Under STANDARD, as at first, whoever waits is answered, as above; a request of any
+ * number that has no call of its own is the device's (COVRETIN_CALL_OTHER); a ring may be enabled once PROTOCOL_FEATURES was offered
+ * or accepted; and a memory table may be longer than its regions. Real frontends want all four. Under VHOST some refusals have no
+ * reply, also where a frontend waits, the second is INVALID_MESSAGE without a reply, and the others are refused. NO_SESSION;
+ * INVALID_PARAM: there is no such profile; NOT_REPLIED: a call is still to be replied to. After an error nothing changed. */
 enum covretin_error covretin_backend_set_profile(covretin_backend *backend, enum covretin_profile profile);
 
 /* Frees what the session held; it is {0} again. Descriptors are not closed. A session that is not open stays so. */
@@ -152,7 +154,7 @@ enum covretin_error covretin_backend_end(covretin_backend *backend);
 
 /* Hands out what is to be sent, as covretin_to_send does: *byte_count bytes, and *fd_count descriptors that are to go with the
  * first of them. Call it until *byte_count is 0. COVRETIN_MAX_MESSAGE bytes are enough for any reply; fds_len is
- * COVRETIN_MAX_FDS at least. NO_SESSION, NO_ROOM, OUT_OF_MEMORY: the counts were not written, and nothing is gone. */
+ * COVRETIN_MAX_FDS at least. NO_SESSION, NO_ROOM: the counts were not written, and nothing is gone. */
 enum covretin_error covretin_backend_to_send(covretin_backend *backend, uint8_t *bytes, size_t bytes_len, int32_t *fds,
                                  size_t fds_len, size_t *byte_count, size_t *fd_count);
 
@@ -220,6 +222,14 @@ enum covretin_error covretin_call_transfer(covretin_backend *backend, uint32_t *
 
 /* Of SET_LOG_BASE: the dirty log, in memory_size, mmap_offset and fd of a region; the others are 0. */
 enum covretin_error covretin_call_log(covretin_backend *backend, covretin_region *log);
+
+/* Of OTHER: the request's number, and its body; len is *count at least, COVRETIN_MAX_MESSAGE is enough. Under STANDARD the device is asked
+ * of each request that has no call of its own; covretin_reply_refused says that nobody serves it. One that awaits a reply of its own
+ * (GET_STATUS, CREATE_CRYPTO_SESSION) ends the session either way. */
+enum covretin_error covretin_call_other(covretin_backend *backend, uint32_t *request, uint8_t *bytes, size_t len, size_t *count);
+
+/* Of OTHER: all descriptors that came with it. len is *count at least; COVRETIN_MAX_FDS is enough. */
+enum covretin_error covretin_call_fds(covretin_backend *backend, int32_t *fds, size_t len, size_t *count);
 
 /* -- Replies -------------------------------------------------------------------------------------------------------
  * Each replies to the call that is to be replied to; the bytes, if any, are then handed out by covretin_backend_to_send. 0, or

@@ -103,6 +103,14 @@ bool covretin_service_ended(const covretin_service *service);
  * covretin_request_text names it. 0 before the first, where less than that number came of the last, and without a service. */
 uint32_t covretin_service_request(const covretin_service *service);
 
+/* Gives `other` each request that has no call of its own (SEND_RARP, IOTLB_MSG, SET_STATUS, a number of the frontend's own), whole: its
+ * number, its body, and its descriptors, which are lent as those of a call are. It is asked from within covretin_next_call, which then goes
+ * on to the next. 0: it is served, and acknowledged where it asks for that; else nobody serves it, and covretin_next_call is
+ * INVALID_OPERATION, as where `other` is NULL, at first. One that awaits a reply of its own (GET_STATUS) ends the session either way. Under
+ * VHOST they are refused without it. NO_SESSION: there is no service. */
+enum covretin_error covretin_backend_set_other(covretin_service *service,
+    int (*other)(void *context, uint32_t request, const uint8_t *bytes, size_t len, const int32_t *fds, size_t count), void *context);
+
 /* -- Requests ------------------------------------------------------------------------------------------------------ */
 
 /* Sends what is still to be sent, receives the next request, and checks it. 0: *call is what is asked of the device, which is

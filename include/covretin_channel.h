@@ -94,7 +94,7 @@ enum covretin_error covretin_channel_set_shmem(covretin_channel *channel, bool o
 
 /* Hands out what is to be sent, as covretin_to_send does: *byte_count bytes, and *fd_count descriptors that are to go with the
  * first of them. Call it until *byte_count is 0. COVRETIN_MAX_MESSAGE bytes are enough for any request; fds_len is
- * COVRETIN_MAX_FDS at least. NO_SESSION, NO_ROOM, OUT_OF_MEMORY: the counts were not written, and nothing is gone. */
+ * COVRETIN_MAX_FDS at least. NO_SESSION, NO_ROOM: the counts were not written, and nothing is gone. */
 enum covretin_error covretin_channel_to_send(covretin_channel *channel, uint8_t *bytes, size_t bytes_len, int32_t *fds,
                                  size_t fds_len, size_t *byte_count, size_t *fd_count);
 
@@ -141,12 +141,14 @@ enum covretin_error covretin_channel_ask_shmem_unmap(covretin_channel *channel, 
 
 /* What a device asks: the number of its request. Behind each the calls that give its arguments. */
 enum covretin_channel_call {
+    /* generated from protocol/requests.toml: calls */
     COVRETIN_CHANNEL_CALL_CONFIG_CHANGE = 2,        /* no argument: read the configuration space again */
     COVRETIN_CHANNEL_CALL_SHARED_OBJECT_ADD = 6,    /* call_name */
     COVRETIN_CHANNEL_CALL_SHARED_OBJECT_REMOVE = 7, /* call_name */
     COVRETIN_CHANNEL_CALL_SHARED_OBJECT_LOOKUP = 8, /* call_name, call_fd */
     COVRETIN_CHANNEL_CALL_SHMEM_MAP = 9,            /* call_mmap, call_fd */
     COVRETIN_CHANNEL_CALL_SHMEM_UNMAP = 10          /* call_mmap */
+    /* end */
 };
 
 /* As covretin_request_text, of a device's requests, which are 1 to 10. */

@@ -121,7 +121,7 @@ void covretin_display_close(covretin_display *display);
 
 /* Hands out what is to be sent, as covretin_to_send does: *byte_count bytes, and *fd_count descriptors that are to go with the
  * first of them. Call it until *byte_count is 0. COVRETIN_MAX_MESSAGE bytes are enough for any request, without its pixels;
- * fds_len is COVRETIN_MAX_FDS at least. NO_SESSION, NO_ROOM, OUT_OF_MEMORY: the counts were not written, and nothing is gone. */
+ * fds_len is COVRETIN_MAX_FDS at least. NO_SESSION, NO_ROOM: the counts were not written, and nothing is gone. */
 enum covretin_error covretin_display_to_send(covretin_display *display, uint8_t *bytes, size_t bytes_len, int32_t *fds,
                                  size_t fds_len, size_t *byte_count, size_t *fd_count);
 

@@ -15,7 +15,8 @@
  *         for (;;) {
  *             covretin_queue_descriptor_place(&queue, &place, &found);
  *             if (!found) break;                                 the chain is at its end
- *             covretin_queue_step(&queue, read(place), &segment, &found);
+ *             if (place.len != 0) descriptor = read(place);      else what was read goes on in another region
+ *             covretin_queue_step(&queue, &descriptor, &segment, &found);
  *             if (found) ..                                      a segment of the request; else an indirect table follows
  *         }
  *         ..                                                     the request is served, now or later
@@ -265,9 +266,10 @@ enum covretin_queue_error covretin_queue_resubmit(covretin_queue *queue, uint16_
  * region has, and none is read at its place. OTHER_LAYOUT, NEEDS_RESET. */
 enum covretin_queue_error covretin_queue_resubmit_packed(covretin_queue *queue);
 
-/* The descriptor that is to be read next, 16 bytes, if the chain that is followed goes on; and that it was read as this: its
- * segment, or none where it names an indirect table, in which the chain goes on. CHAIN_ENDED, NEEDS_RESET; NOT_IN_GUEST to
- * HEAD_IN_USE. */
+/* The descriptor that is to be read next, 16 bytes, if the chain that is followed goes on; and that it was read as this: a
+ * segment, or none where it names an indirect table, in which the chain goes on. The segment has the descriptor's first bytes, where these
+ * lie in regions that adjoin. Then the place has no bytes, and the next step is the rest's, whatever it is given. A chain has at most as
+ * many segments as it may have descriptors, and 508. CHAIN_ENDED, NEEDS_RESET; NOT_IN_GUEST to HEAD_IN_USE. */
 enum covretin_queue_error covretin_queue_descriptor_place(covretin_queue *queue, covretin_range *place, bool *found);
 enum covretin_queue_error covretin_queue_step(covretin_queue *queue, const covretin_descriptor *descriptor, covretin_segment *segment,
                                               bool *found);

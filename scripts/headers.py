@@ -82,7 +82,7 @@ def wanted():
     found.update({f"COVRETIN_PROTOCOL_{name}": 1 << bit for name, bit in bits.items()})
     found.update({f"COVRETIN_FEATURE_{name}": 1 << bit for name, bit in virtio.items()})
     found.update({f"COVRETIN_CALL_{name}": number for name, number in codes(f"{MESSAGE}/frontend_req.rt").items()})
-    found["COVRETIN_CALL_POSTCOPY_ACK"] = 256  # beyond each request's
+    found.update({"COVRETIN_CALL_POSTCOPY_ACK": 256, "COVRETIN_CALL_OTHER": 257})  # beyond each request's
     for name, number in codes(f"{MESSAGE}/backend_req.rt").items():
         found[f"COVRETIN_CHANNEL_CALL_{re.sub('_MSG$', '', name)}"] = number
     # as in the crate, what the code calls a feature of this channel is the number of its bit

@@ -6,8 +6,9 @@
   scripts/places.py --write   writes them there
   scripts/places.py NAME..    prints the files in which these stand, whatever case, with or without _ between words: set_mtu
 
-Counted is a request without a reply of its own, of one number: NET_SET_MTU. What is generated, kept by fuzzers or recorded is not counted, since
-nobody writes it; nor are mutants, this script and its page. A crate's depth is one more than that of the deepest that it uses, by crates.txt.
+Counted is a request without a reply of its own, of one number: NET_SET_MTU. A file is by hand where it stands outside the tables that
+scripts/requests.py writes. What is kept by fuzzers or recorded is not counted, since nobody writes it; nor are generated/, mutants, this script and
+its page. A crate's depth is one more than that of the deepest that it uses, by crates.txt.
 
 Status 0; 1 where the page has other figures, which are printed.
 """
@@ -16,11 +17,12 @@ import subprocess
 import sys
 
 from build import TOP, dependencies
+from request_tables import by_hand
 
 REQUEST = "set_mtu"
 PAGE = "docs/ARCHITECTURE.md"
 MARK = re.compile(r"(?<=<!-- places.py -->\n).*?(?=\n<!-- -->)", re.DOTALL)
-LEFT_OUT = [":!scripts/places.py", f":!{PAGE}", ":!generated", ":!c/fuzz/corpus", ":!rust/fuzz", ":!rust/tests/recordings", ":!crates/*/must-fail", ":!mutants"]
+LEFT_OUT = [":!scripts/places.py", f":!{PAGE}", ":!generated", ":!c/fuzz/corpus", ":!c/real/probed", ":!rust/fuzz", ":!rust/tests/recordings", ":!crates/*/must-fail", ":!mutants"]
 
 # Where a file stands that only tests or shows.
 OF_TESTS = ("tests/", "c/tests/", "c/real/", "c/fuzz/", "c/bench/", "rust/tests/", "rust/examples/")
@@ -32,6 +34,12 @@ def files(name):
     pattern = name.replace("_", "_?")
     found = subprocess.run(["git", "-C", TOP, "grep", "-l", "-i", "-E", pattern, "--", ".", *LEFT_OUT], capture_output=True, text=True, check=False)
     return found.stdout.splitlines()
+
+
+def is_by_hand(name, path):
+    """Whether one stands in a file outside the tables that are made."""
+    with open(f"{TOP}/{path}", encoding="utf-8") as file:
+        return bool(re.search(name.replace("_", "_?"), by_hand(file.read()), re.IGNORECASE))
 
 
 def kinds(found):
@@ -67,8 +75,9 @@ def depths():
 def text():
     """The figures, as the page has them."""
     found, deep = files(REQUEST), depths()
-    code, crates, proofs, tests, pages = kinds(found)
-    return (f"NET_SET_MTU is in {len(found)} files: code {code}, in {crates} crates, proofs {proofs}, tests {tests}, pages {pages}. "
+    hand = [it for it in found if is_by_hand(REQUEST, it)]
+    code, crates, proofs, tests, pages = kinds(hand)
+    return (f"NET_SET_MTU is in {len(found)} files, by hand in {len(hand)}: code {code}, in {crates} crates, proofs {proofs}, tests {tests}, pages {pages}. "
             f"The {len(deep)} crates are {max(deep.values())} deep.")
 
 

@@ -1,7 +1,7 @@
 #!/bin/sh
 # SPDX-License-Identifier: Apache-2.0
 # Runs the proved vhost-run with each allocation failed in turn, and compares what it wrote with what it writes else: each session of the
-# scripts of lines writes all of its output with its status, or a prefix of it with status 2.
+# scripts of lines writes all of its output with its status, or a prefix of it with status 4.
 #
 # Status 0 where that holds of each run, 1 where it does not of some, 2 after wrong arguments, 3 where the program is not built. Needs a C
 # compiler, as `cc`.

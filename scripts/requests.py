@@ -1,12 +1,15 @@
 #!/usr/bin/env python3
 # SPDX-License-Identifier: Apache-2.0
-"""scripts/requests.py: whether each table of requests says what protocol/requests.toml says.
+"""scripts/requests.py: the tables of requests, from protocol/requests.toml.
 
-Compared are the requests' codes and names in Rattle, Rust and C; what the headers for C say of their arguments and replies; which calls there are, in
-C, in Rust and in lines, with the words of each; what the tap shows of each; records, codes and features on the pages of docs/protocol; and that each
-request has a script.
+Written are those that scripts/request_tables.py names: codes and names in Rattle, Rust and C; what the headers for C say of arguments and replies;
+which calls there are in lines, with their words and help, and in the players of scripts; how a log copies and compares calls; and what the tap shows
+and expects of each. Compared are others, by hand: the calls' declarations in C and Rust and those of a device; records, codes and features on the
+pages of docs/protocol; and that each request has a script.
 
-  scripts/requests.py          compares
+  scripts/requests.py          compares all
+  scripts/requests.py --write  writes the tables that are made, and copies rows for what is like another one (scripts/request_rows.py); of the
+                               others, and of what is left to be done by hand, it tells
   scripts/requests.py NAME..   prints the entries of these requests or calls, and where else they stand by the same names
 
 Status 0 where all are the same; 1 where some are not: each is printed; 2 where there is no request of a name.
@@ -18,9 +21,11 @@ import re
 import subprocess
 import sys
 
+from request_rows import rows as like_rows
+from request_tables import SOURCE, TABLES, served, written
+
 TOP = os.path.dirname(os.path.dirname(os.path.realpath(__file__)))
-SOURCE = "protocol/requests.toml"
-KEYS = {"code", "name", "call", "words", "body", "fds", "reply", "feature", "c", "shown", "reply_shown", "text"}
+KEYS = {"code", "name", "like", "call", "device", "words", "usage", "args", "body", "fds", "reply", "feature", "c", "wants", "shown", "reply_shown", "text"}
 
 # Calls for C that are forms of another one.
 FORMS_IN_C = {"set_log_base_alone", "get_config_bytes"}
@@ -36,7 +41,7 @@ def read(path):
 
 def entries():
     """The entries by their kind. Of TOML are read tables of a list, and a number or a text behind each key."""
-    found = {"frontend": [], "backend": [], "display": [], "call": []}
+    found = {"frontend": [], "backend": [], "display": [], "call": [], "asked": []}
     for number, line in enumerate(read(SOURCE).split("\n"), 1):
         head = re.fullmatch(r"\[\[(\w+)\]\]", line)
         pair = re.fullmatch(r"(\w+) = (\d+|\".*\")", line)
@@ -70,40 +75,21 @@ class Told:
             self.same(where, f"{what} {key}", said.get(key), wanted.get(key))
 
 
-def matched(text):
-    """The numbers of an enum of requests, as they are read."""
-    return {name: int(code) for code, name in re.findall(r"^ +(\d+) => Ok\(\w+::(\w+)\),", text, re.MULTILINE)}
-
-
-def numbered(text):
-    return {name: int(code) for name, code in re.findall(r"^ {4,8}([A-Z][A-Z0-9_]+) = (\d+),", text, re.MULTILINE)}
-
-
-def block(text, begins, ends="\n    }"):
-    """The part of a text from one of its lines on."""
-    return text[text.index(begins):].partition(ends)[0]
-
-
-def codes(kinds, told):
-    wanted = {kind: {it["name"]: it["code"] for it in kinds[kind]} for kind in ("frontend", "backend", "display")}
-    for kind, path in (("frontend", "vhost_message/src/frontend_req"), ("backend", "vhost_message/src/backend_req"), ("display", "vhost_gpu_message/src/gpu_backend_req")):
-        told.all(f"crates/{path}.rt", "the code of", matched(read(f"crates/{path}.rt")), wanted[kind])
-    rust = read("rust/src/vhost_user/message.rs")
-    told.all("rust/src/vhost_user/message.rs", "the code of", numbered(block(rust, "pub enum FrontendReq")), wanted["frontend"])
-    told.all("rust/src/vhost_user/message.rs", "the code of", numbered(block(rust, "pub enum BackendReq")), wanted["backend"])
-    told.all("rust/src/vhost_user/gpu_message.rs", "the code of", numbered(block(read("rust/src/vhost_user/gpu_message.rs"), "pub enum GpuBackendReq")), wanted["display"])
-    text = read("c/covretin_text.c")
-    for table, kind in (("frontend_requests", "frontend"), ("backend_requests", "backend")):
-        named = {name: int(code) for code, name in re.findall(r'\[(\d+)\] = "(\w+)"', block(text, f"{table}[]", "};"))}
-        told.all("c/covretin_text.c", "the code of", named, wanted[kind])
-
-
-def forms(kinds, told):
-    """What the headers for C say behind each number."""
-    for header, kind, prefix, cut in (("covretin_backend", "frontend", "COVRETIN_CALL_", "$^"), ("covretin_channel", "backend", "COVRETIN_CHANNEL_CALL_", "_MSG$")):
-        said = re.findall(rf"{prefix}(\w+) = (\d+),?\s*/\* (.*?) \*/", read(f"include/{header}.h"))
-        wanted = {re.sub(cut, "", it["name"]): (it["code"], it["c"]) for it in kinds[kind] if "c" in it}
-        told.all(f"include/{header}.h", "the form of", {name: (int(code), form) for name, code, form in said if name != "POSTCOPY_ACK"}, wanted)
+def tables(kinds, told, writes):
+    """The tables that are made of it: whether each stands as it is to be; or they are written."""
+    marked = subprocess.run(["git", "-C", TOP, "grep", "-l", f"generated from {SOURCE}: ", "--", ".", ":!scripts", ":!mutants"], capture_output=True, text=True, check=False)
+    told.same("scripts/request_tables.py", "the files with a table", sorted(marked.stdout.split()), sorted(TABLES))
+    for path, of in TABLES.items():
+        text = read(path)
+        wanted, wrong = written(path, text, kinds)
+        told.compared += len(of)
+        told.lines += wrong
+        if wanted != text and writes:
+            with open(f"{TOP}/{path}", "w", encoding="utf-8") as file:
+                file.write(wanted)
+        elif wanted != text:
+            at = next(at for at, (line, other) in enumerate(zip(text.split("\n"), wanted.split("\n") + [None])) if line != other)
+            told.lines.append(f"{path}:{at + 1}: its tables are not those of {SOURCE}: 'scripts/requests.py --write' writes them")
 
 
 def calls(kinds, told):
@@ -116,58 +102,10 @@ def calls(kinds, told):
     rust = set(re.findall(r"^    (?:pub )?fn (\w+)\(", read("rust/src/vhost_user/frontend.rs"), re.MULTILINE))
     for call in words:
         told.has("rust/src/vhost_user/frontend.rs", f"the call {call}", call in rust)
-    lines = dict(re.findall(r'^    \("(\w+)", "(.*?)"\),', read("crates/vhost_lines/src/call_words/why.rt"), re.MULTILINE))
-    told.all("crates/vhost_lines/src/call_words/why.rt", "the words of", lines, words)
-    asks = dict(re.findall(r'^    \{"(\w+)", "(.*?)", \d, ', read("c/ask_calls.c"), re.MULTILINE))
-    told.all("c/ask_calls.c", "the words of", asks, words)
-    named = re.findall(r'^        "(\w+)" => ', read("crates/vhost_lines/src/call_words/table.rt"), re.MULTILINE)
-    told.all("crates/vhost_lines/src/call_words/table.rt", "the call", dict.fromkeys(named, True), dict.fromkeys(words, True))
-    shown = re.findall(r"(?<= )([a-z]+_[a-z_]+)", re.sub(r"(?ms)^  postcopy_end .*?\Z", lambda it: it[0].split("\n\n")[0], block(read("vhost-run"), "  get_features  ", "\n\n")))
-    told.all("vhost-run", "the call", dict.fromkeys(shown, True), dict.fromkeys(words, True))
-
-
-def fields(constants, value):
-    """The names of the fields of an arm of the tap's layouts."""
-    value = constants.get(value.strip(), value)
-    return [name for name in re.findall(r'\("(\w*)", \d+, Form::\w+\)', value) if name]
-
-
-def shown_by(text, constants, tail_bytes):
-    """What the arms of a match show, by their requests: fields, records in brackets, and `bytes` where a body is not known more of."""
-    found = {}
-    text = re.sub(r"//.*", "", text)
-    arms = re.findall(r"^\s*(?:Ok\()?((?:[A-Z0-9_]+ \| )*[A-Z][A-Z0-9_]+)\)?( if .*?)?(?:\s*\| Err\(_\))? => (.*?)(?=,\n\s*(?://|(?:Ok\()?[A-Z]|\}|_)|\n\s*\}\n)", text, re.MULTILINE | re.DOTALL)
-    for names, condition, value in arms:
-        records = re.search(r'Tail::Records\("(\w+)", (\w+)\)', value)
-        first = re.search(r"&\[.*?\](?=[,)]|$)|\b[A-Z][A-Z_]+\b", re.sub(r"Tail::.*", "", value), re.DOTALL)
-        shown = fields(constants, first[0]) if first else []
-        if records:
-            shown.append(f"{records[1]}({' '.join(fields(constants, records[2]))})")
-        elif "Tail::Bytes" in value:
-            shown.append(tail_bytes)
-        for name in names.split(" | "):
-            if condition:
-                found.setdefault(name, []).append("request" if "request_layout" in value else " ".join(shown))
-            else:
-                found.setdefault(name, []).append(" ".join(shown).strip())
-    return found
-
-
-def tap(kinds, told):
-    path = "rust/src/tap/layout.rs"
-    text = read(path)
-    constants = dict(re.findall(r"^const (\w+): &\[Field\] =\s*(&\[.*?\]);", text, re.MULTILINE | re.DOTALL))
-    requests = shown_by(block(text, "fn request_layout", "\n}"), constants, "bytes")
-    replies = shown_by(block(text, "fn reply_layout", "\n}"), constants, "bytes")
-    channel = shown_by(block(text, "fn backend_layout", "\n}"), constants, "bytes")
-    for it in kinds["frontend"]:
-        # (what comes without a body is shown as bytes where some came all the same)
-        told.same(path, f"what is shown of {it['name']}", requests.get(it["name"]), [it.get("shown", "bytes")])
-        said = replies.get(it["name"], [])
-        wanted = it["reply_shown"]
-        told.has(path, f"what is shown of the reply to {it['name']}: {wanted}, not {said}", wanted in said or ("request" in said and wanted in requests[it["name"]]))
-    for it in kinds["backend"]:
-        told.same(path, f"what is shown of {it['name']}", channel.get(it["name"]), [it.get("shown", "bytes")])
+    for path in ("crates/vhost_device/src/device.rt", "rust/src/vhost_user/device.rs"):
+        device = set(re.findall(r"\bfn (\w+)[<(]", read(path)))
+        for call in served(kinds):
+            told.has(path, f"the device's call {call}", call in device)
 
 
 def rows(page, head):
@@ -266,9 +204,11 @@ def show(kinds, names):
 
 def main(names):
     kinds, told = entries(), Told()
-    if names:
+    if names and names != ["--write"]:
         return show(kinds, names)
-    for check in (codes, forms, calls, tap, pages, scripts):
+    like_rows(TOP, kinds, told, bool(names))
+    tables(kinds, told, bool(names))
+    for check in (calls, pages, scripts):
         check(kinds, told)
     count = sum(map(len, kinds.values()))
     print("\n".join(told.lines + [f"requests: {count} entries, {told.compared} places compared, {len(told.lines)} wrong"]))

@@ -34,7 +34,7 @@ static void receive(void)
     own_count = 0;
     while ((missing = covretin_missing(&session)) != 0 && more_bytes()) {
         struct piece piece;
-        must(missing <= COVRETIN_MAX_MESSAGE - 12 && (has_begun || missing == 12));
+        must(missing <= COVRETIN_MAX_MESSAGE - 12 && (has_begun || (missing >= 12 && missing <= 12 + 2056)));
         must(covretin_take(&session) == COVRETIN_NOT_YET);
         next_piece(missing, &piece);
         if (piece.length == 0)
@@ -87,13 +87,15 @@ static bool exchange(void)
     error = covretin_take(&session);
     if (error == COVRETIN_NOT_YET)
         return false;
-    outcome(number_of(which) + 64, error);
+    /* (a reply that is refused at its header may have brought its record, or not) */
+    bool goes_on = error == COVRETIN_OK || error == COVRETIN_BACKEND_INTERNAL_ERROR || error == COVRETIN_INCORRECT_FDS;
+    (goes_on ? outcome : last_outcome)(number_of(which) + 64, error);
     must(covretin_take(&session) == COVRETIN_NOTHING_ASKED && covretin_missing(&session) == 0);
     if (error == COVRETIN_OK)
         read_answers(&session, must_be_own);
     if (error == COVRETIN_SOCKET_BROKEN)
         is_broken();
-    return error == COVRETIN_OK || error == COVRETIN_BACKEND_INTERNAL_ERROR || error == COVRETIN_INCORRECT_FDS;
+    return goes_on;
 }
 
 /* Sets the flags, or whose behaviour the session has. */

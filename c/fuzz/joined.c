@@ -148,6 +148,7 @@ static bool is_as_asked(uint32_t call)
     case LOG:
         return called.log.memory_size == asked.log.memory_size && called.log.mmap_offset == asked.log.mmap_offset &&
                called.log.fd == asked.log.fd;
+    case OTHER: return called.index == code_of_request() && called.count == 0 && called.fds[0] == asked.fd;
     default: return true;
     }
 }
@@ -174,7 +175,8 @@ static enum covretin_error serve(void)
     outcome(512 + code_of_request(), error);
     must(may_be(error, code_of_request()));
     if (error == COVRETIN_OK) {
-        must(call == code_of_request() || call == COVRETIN_CALL_POSTCOPY_ACK);
+        must(call == code_of_request() || call == COVRETIN_CALL_POSTCOPY_ACK ||
+             (call == COVRETIN_CALL_OTHER && code_of_request() == 7));
         read_arguments(&backend, must_be_of_request);
         must(is_as_asked(call));
         error = reply_to(&backend, call, must_be_of_request);

@@ -89,7 +89,7 @@ static void step(void)
     covretin_segment segment;
     covretin_descriptor it = next_descriptor();
     bool found, was_in_ring = model.chain.in_ring;
-    if (model_descriptor_place(&place, &found) == 0 && found)
+    if (model_descriptor_place(&place, &found) == 0 && found && place.len != 0)
         it = guest_has_descriptor(place, it);
     if (DOES(STEP, covretin_queue_step(&queue, &it, &out.segment, &out.is), model_step(&it, &segment, &found))) {
         must(out.is == found);
@@ -105,10 +105,10 @@ static void step(void)
     }
 }
 
-/* A chain is followed to its end. It has one, after as many descriptors as there may be and one that names a table. */
+/* A chain is followed to its end. It has one, after as many descriptors and borders of regions as there may be and one that names a table. */
 static void follow(void)
 {
-    uint32_t left = model.chain.left + 2;
+    uint32_t left = model.chain.left + model.chain.splits + 2;
     while (model.chain.goes_on && !model.needs_reset && more_steps()) {
         step();
         must(left-- != 0);

@@ -12,8 +12,8 @@ void model_open(void)
     model.is_open = true;
     model.region_count = 0;
     model.size = model.avail = model.used = model.idx = 0;
-    model.event_idx = model.indirect_desc = model.chain.in_ring = model.chain.writing = model.chain.nests = false;
-    model.chain.entries = model.chain.next = model.chain.left = 0;
+    model.event_idx = model.indirect_desc = model.chain.in_ring = model.chain.writing = model.chain.nests = model.chain.has_rest = false;
+    model.chain.entries = model.chain.next = model.chain.left = model.chain.splits = 0;
     model_stop();
 }
 
@@ -106,6 +106,20 @@ uint64_t model_translate(bool user, uint64_t addr, uint64_t len, covretin_range 
         return 0;
     }
     return WHY(NO_QUEUE, !model.is_open) | WHY(NOT_IN_GUEST, model.is_open);
+}
+
+/* Where the first of these bytes of the guest are mapped: those that lie in the region that has the first of them. */
+static uint64_t translate_part(uint64_t addr, uint64_t len, covretin_range *range)
+{
+    for (size_t i = 0; i < model.region_count; i++) {
+        const covretin_guest_region *it = &model.regions[i];
+        uint64_t offset = addr - it->guest_addr, room = it->size - offset;
+        if (offset >= it->size)
+            continue;
+        *range = at(it->host_addr + offset, len < room ? len : room);
+        return 0;
+    }
+    return REASON(COVRETIN_QUEUE_NOT_IN_GUEST);
 }
 
 /* -- Rings -- */
@@ -241,7 +255,7 @@ uint64_t model_descriptor_place(covretin_range *place, bool *found)
 {
     *found = no_rings() == 0 && model.chain.goes_on;
     if (*found)
-        *place = at(model.chain.table + 16 * model.chain.next, 16);
+        *place = at(model.chain.table + 16 * model.chain.next, model.chain.has_rest ? 0 : 16);
     return WHY(NO_QUEUE, !model.is_open);
 }
 
@@ -293,6 +307,8 @@ static void begin(uint32_t first)
     model.chain.in_ring = model.layout == PACKED;
     model.chain.writing = false;
     model.chain.nests = model.indirect_desc;
+    model.chain.has_rest = false;
+    model.chain.splits = MOST_REGIONS - 1;
     model.chain.left = model.indirect_desc && model.size < LEAST_INDIRECT ? LEAST_INDIRECT : model.size;
     model.chain.slots = 0;
     enter(model.parts[0], model.size, first);
@@ -344,14 +360,6 @@ uint64_t model_take_packed(void)
     return reasons;
 }
 
-/* A descriptor as it is followed: what its flags are, and which comes behind it. */
-struct link {
-    uint16_t flags;
-    bool is_last; /* in a packed ring: its id is the chain's */
-    bool goes_on;
-    uint32_t next;
-};
-
 static struct link link_of(const covretin_descriptor *it)
 {
     uint32_t behind = model.chain.next + 1;
@@ -378,8 +386,11 @@ static uint64_t refused_segment(const covretin_descriptor *it, const struct link
     bool is_there = link->next < model.chain.entries;
     bool came = is_there && (link->next == model.chain.next || model.chain.came[link->next] == model.chain.stamp);
     uint64_t reasons = WHY(NOT_IN_TABLE, !is_there) | WHY(DESCRIPTOR_LOOP, came) | WHY(CHAIN_TOO_LONG, model.chain.left == 1);
-    return (link->goes_on ? reasons : 0) | WHY(READABLE_AFTER_WRITABLE, model.chain.writing && !(link->flags & WRITE)) |
-           (it->len == 0 ? REASON(COVRETIN_QUEUE_EMPTY_DESCRIPTOR) : model_translate(false, it->addr, it->len, &range));
+    uint64_t why = WHY(READABLE_AFTER_WRITABLE, model.chain.writing && !(link->flags & WRITE)) | WHY(EMPTY_DESCRIPTOR, it->len == 0);
+    why |= translate_part(it->addr, it->len, &range);
+    if (why == 0 && range.len < it->len)
+        return WHY(CHAIN_TOO_LONG, model.chain.splits == 0);
+    return why | (link->goes_on ? reasons : 0);
 }
 
 /* The chain of a packed ring went on, and is the device's where this was its last descriptor there. */
@@ -395,22 +406,44 @@ static void go_on(const covretin_descriptor *it, const struct link *link)
     model.avail = further(model.avail, model.chain.slots);
 }
 
-uint64_t model_step(const covretin_descriptor *it, covretin_segment *segment, bool *found)
+/* A segment came: the descriptor's last, or its first bytes. */
+static void give_segment(const covretin_descriptor *it, const struct link *link, covretin_segment *segment)
 {
+    uint32_t len = (uint32_t)segment->range.len;
+    model.chain.writing = segment->writable;
+    model.chain.has_rest = len < it->len;
+    if (model.chain.has_rest) {
+        model.chain.rest = (covretin_descriptor){it->addr + len, it->len - len, it->third, it->fourth};
+        model.chain.link = *link;
+        model.chain.link.is_last = false; /* (its id was read, and counts once) */
+        model.chain.splits--;
+        return;
+    }
+    model.chain.came[model.chain.next] = model.chain.stamp;
+    model.chain.left--;
+    model.chain.goes_on = link->goes_on;
+    model.chain.next = link->next;
+}
+
+uint64_t model_step(const covretin_descriptor *given, covretin_segment *segment, bool *found)
+{
+    bool has_rest = model.chain.has_rest;
+    const covretin_descriptor rest = model.chain.rest, *it = has_rest ? &rest : given;
     uint64_t reasons = no_rings();
     if (reasons == 0)
         reasons = WHY(NEEDS_RESET, model.needs_reset) | WHY(CHAIN_ENDED, !model.chain.goes_on);
     if (reasons != 0)
         return reasons;
-    struct link link = link_of(it);
+    struct link link = has_rest ? model.chain.link : link_of(it);
     bool has_id = link.is_last && it->third < model.size;
     reasons = WHY(NOT_IN_TABLE, link.is_last && !has_id) | WHY(HEAD_IN_USE, has_id && model.out[it->third] != 0);
     reasons |= link.flags & INDIRECT ? refused_table(it, &link) : refused_segment(it, &link);
     if (reasons != 0)
         return broken(reasons);
     covretin_range range;
-    model_translate(false, it->addr, it->len, &range);
-    go_on(it, &link);
+    translate_part(it->addr, it->len, &range);
+    if (!has_rest)
+        go_on(it, &link);
     *found = !(link.flags & INDIRECT);
     if (!*found) {
         model.chain.nests = false;
@@ -418,11 +451,7 @@ uint64_t model_step(const covretin_descriptor *it, covretin_segment *segment, bo
         return 0;
     }
     *segment = (covretin_segment){range, it->addr, link.flags & WRITE};
-    model.chain.came[model.chain.next] = model.chain.stamp;
-    model.chain.left--;
-    model.chain.writing = segment->writable;
-    model.chain.goes_on = link.goes_on;
-    model.chain.next = link.next;
+    give_segment(it, &link, segment);
     return 0;
 }
 

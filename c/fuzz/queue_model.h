@@ -24,6 +24,14 @@ struct start {
     bool event_idx, indirect_desc;
 };
 
+/* A descriptor as it is followed: what its flags are, and which comes behind it. */
+struct link {
+    uint16_t flags;
+    bool is_last; /* in a packed ring: its id is the chain's */
+    bool goes_on;
+    uint32_t next;
+};
+
 /* The queue as it is. A place is an index of 16 bits, or one on two rounds of a packed ring: on the first of them the wrap counter is 1. */
 extern struct model {
     bool is_open;
@@ -40,11 +48,14 @@ extern struct model {
     uint32_t asked_at;       /* and what was used then */
     uint32_t out[MOST_SIZE]; /* of how many descriptors in a ring the chain of a head, or of an id, is that the device has */
 
-    /* The chain that is followed: which descriptor of which table is next, how many may come, and which came. */
+    /* The chain that is followed: which descriptor of which table is next, how many may come, and which came; and what is left of one
+     * that goes on in another region, and how many times one may yet. */
     struct {
-        bool goes_on, in_ring, writing, nests;
+        bool goes_on, in_ring, writing, nests, has_rest;
         uint64_t table;
-        uint32_t entries, next, left, slots, stamp, came[MOST_SIZE];
+        uint32_t entries, next, left, splits, slots, stamp, came[MOST_SIZE];
+        covretin_descriptor rest;
+        struct link link;
     } chain;
 } model;
 

@@ -32,6 +32,7 @@ struct way {
 static struct {
     bool is_first, is_under_way;
     bool has_strayed; /* an allocation failed, and what follows may be other than in the first run */
+    bool is_over;     /* the last outcome was told */
     struct way way;
     size_t step, byte, descriptor, told;
     long allocations, refused, heard; /* how many there were, were refused, and were told by a call */
@@ -226,15 +227,21 @@ static bool is_of_socket(enum covretin_error error)
            error == COVRETIN_INVALID_SOCKET_FD || error == COVRETIN_NOT_UNIX_SOCKET || error == COVRETIN_NOT_STREAM_SOCKET;
 }
 
-void outcome_of(uint32_t what, uint32_t error)
+static void count(uint32_t what, uint32_t error)
 {
     note(what * 131 + error);
     must(error < sizeof tally.errors / sizeof *tally.errors);
     tally.errors[error]++;
+}
+
+void outcome_of(uint32_t what, uint32_t error)
+{
+    count(what, error);
     TELL(what, error, run.byte);
 }
 
-void outcome(uint32_t what, enum covretin_error error)
+/* An error of a session, which for want of memory goes another way from here on. */
+static void heed(enum covretin_error error)
 {
     must(!is_of_socket(error));
     if (is_starved(error)) {
@@ -242,7 +249,20 @@ void outcome(uint32_t what, enum covretin_error error)
         run.heard = run.refused;
         run.has_strayed = true;
     }
+}
+
+void outcome(uint32_t what, enum covretin_error error)
+{
+    heed(error);
     outcome_of(what, error);
+}
+
+void last_outcome(uint32_t what, enum covretin_error error)
+{
+    heed(error);
+    count(what, error);
+    TELL(what, error);
+    run.is_over = true;
 }
 
 bool is_again(enum covretin_error error)
@@ -273,7 +293,8 @@ static void run_so(struct way way, bool is_first)
     run.is_under_way = false;
     tally.runs++;
     tally.bytes += run.byte;
-    must(run.has_strayed || run.told == (run.is_first || way.end == byte_count ? told_count : told_before[way.end]));
+    size_t wanted = run.is_first || way.end == byte_count ? told_count : told_before[way.end];
+    must(run.has_strayed || run.told == wanted || (run.is_over && run.told == wanted + 1));
 }
 
 static void record(const uint8_t *data, size_t size)

@@ -78,6 +78,9 @@ void tell(const void *bytes, size_t size);
  * since the proved part has no counters of its own. */
 void outcome(uint32_t what, enum covretin_error error);
 
+/* The same of an outcome behind which nobody goes on. How many bytes came for it depends on the pieces, and is not told. */
+void last_outcome(uint32_t what, enum covretin_error error);
+
 /* The same of a call that has errors of its own, after none of which a run may go on otherwise. */
 void outcome_of(uint32_t what, uint32_t error);
 

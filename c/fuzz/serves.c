@@ -71,6 +71,21 @@ static void read_others(covretin_backend *backend)
         TELL(TRANSFER, called.index, called.second, (uint64_t)called.fd);
 }
 
+/* A request that has no call of its own: number and body, and its descriptors. */
+static void read_whole(covretin_backend *backend, void may_name(int32_t fd))
+{
+    enum covretin_error error = covretin_call_other(backend, &called.index, called.bytes, sizeof called.bytes, &called.count);
+    size_t count = 0;
+    must(covretin_call_fds(backend, called.fds, COVRETIN_MAX_FDS, &count) == error);
+    if (!is_form(OTHER, error))
+        return;
+    must(called.count <= COVRETIN_MAX_MESSAGE - 12 && count <= COVRETIN_MAX_FDS);
+    TELL(OTHER, called.index, called.count, count);
+    tell(called.bytes, called.count);
+    for (size_t i = 0; i < count; i++)
+        may_name(called.fds[i]);
+}
+
 void read_arguments(covretin_backend *backend, void may_name(int32_t fd))
 {
     called.form = NO_FORM;
@@ -79,6 +94,7 @@ void read_arguments(covretin_backend *backend, void may_name(int32_t fd))
     read_rings(backend);
     read_memory(backend, may_name);
     read_others(backend);
+    read_whole(backend, may_name);
     may_name(called.fd);
 }
 

@@ -7,7 +7,7 @@
 #include "run.h"
 
 /* The form of a call's arguments. */
-enum form { NO_FORM, NUMBER, RING, VRING, RING_FD, REGIONS, CONFIG, FD, NAME, INFLIGHT, TRANSFER, LOG };
+enum form { NO_FORM, NUMBER, RING, VRING, RING_FD, REGIONS, CONFIG, FD, NAME, INFLIGHT, TRANSFER, LOG, OTHER };
 
 /* The arguments of the call that is to be replied to. */
 struct called {
@@ -19,9 +19,9 @@ struct called {
     size_t count;
     bool listening;
     covretin_config config;
-    uint8_t bytes[COVRETIN_MAX_CONFIG], name[16];
+    uint8_t bytes[COVRETIN_MAX_MESSAGE], name[16];
     covretin_inflight inflight;
-    int32_t fd;
+    int32_t fd, fds[COVRETIN_MAX_FDS];
 };
 extern struct called called;
 

@@ -13,34 +13,6 @@
 #include <sys/socket.h>
 #include <unistd.h>
 
-enum {
-    RESET_OWNER = 4,
-    SET_LOG_BASE = 6,
-    SET_LOG_FD = 7,
-    SET_VRING_ADDR = 9,
-    SET_VRING_BASE = 10,
-    GET_VRING_BASE = 11,
-    SET_VRING_ERR = 14,
-    SET_VRING_ENABLE = 18,
-    SEND_RARP = 19,
-    NET_SET_MTU = 20,
-    SET_BACKEND_REQ_FD = 21,
-    IOTLB_MSG = 22,
-    SET_VRING_ENDIAN = 23,
-    CREATE_CRYPTO_SESSION = 26,
-    CLOSE_CRYPTO_SESSION = 27,
-    POSTCOPY_LISTEN = 29,
-    POSTCOPY_END = 30,
-    RESET_DEVICE = 34,
-    VRING_KICK = 35,
-    GET_MAX_MEM_SLOTS = 36,
-    ADD_MEM_REG = 37,
-    REM_MEM_REG = 38,
-    GET_STATUS = 40,
-    CHECK_DEVICE_STATE = 43,
-    GET_SHMEM_CONFIG = 44
-};
-
 /* How far postcopy is when the request comes. */
 enum postcopy { NO_POSTCOPY, ADVISED, LISTENING };
 

@@ -8,10 +8,7 @@
 enum {
     LIMIT = 20000,     /* milliseconds, where a test is not about time */
     REQUEST_FLAGS = 1, /* version 1 */
-    NEED_REPLY = 9,
-    SET_MEM_TABLE = 5,
-    SET_VRING_KICK = 12,
-    GPU_SET_SOCKET = 33
+    NEED_REPLY = 9
 };
 
 extern covretin_service service;

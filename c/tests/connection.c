@@ -354,6 +354,39 @@ static void goes_on_after_signals(void)
     close(peer);
 }
 
+/* Without a limit of time a call waits in the socket: amid signals, where the socket itself does not wait, and until the peer is gone. The
+ * call that never waits does not wait after it either. */
+static void waits_without_a_limit(void)
+{
+    struct sigaction on = {.sa_handler = tick}, was;
+    struct itimerval often = {{0, 1000}, {0, 1000}}, never = {{0, 0}, {0, 0}};
+    for (int does_not_wait = 0; does_not_wait < 2; does_not_wait++) {
+        uint64_t number = 0;
+        short events = 0;
+        int peer = pair_up(&device, 2), fd = covretin_connection_fd(&device);
+        if (does_not_wait && fcntl(fd, F_SETFL, fcntl(fd, F_GETFL) | O_NONBLOCK))
+            give_up("O_NONBLOCK");
+        pid_t child = trickle(peer, 5);
+        ticks = 0;
+        sigaction(SIGALRM, &on, &was);
+        setitimer(ITIMER_REAL, &often, NULL);
+        EXPECT(COVRETIN_OK, covretin_ask_get_features(session));
+        EXPECT(COVRETIN_OK, covretin_exchange(&device, -1));
+        setitimer(ITIMER_REAL, &never, NULL);
+        sigaction(SIGALRM, &was, NULL);
+        EXPECT(true, ticks > 20);
+        EXPECT(COVRETIN_OK, covretin_answer_number(session, &number));
+        EXPECT(0x40000003, number);
+        EXPECT(child, waitpid(child, NULL, 0));
+        EXPECT(COVRETIN_OK, covretin_ask_get_features(session));
+        EXPECT(COVRETIN_NOT_YET, covretin_exchange_nowait(&device, &events));
+        EXPECT(POLLIN, events);
+        close(peer);
+        EXPECT(COVRETIN_DISCONNECTED, covretin_exchange(&device, -1));
+        covretin_disconnect(&device);
+    }
+}
+
 /* A limit of connecting holds where signals come more often than the system's clock ticks. */
 static void limits_connecting_amid_signals(void)
 {
@@ -395,6 +428,7 @@ int main(void)
     RUN(limits_time);
     RUN(limits_time_of_a_trickle);
     RUN(goes_on_after_signals);
+    RUN(waits_without_a_limit);
     RUN(limits_connecting_amid_signals);
     return status();
 }

@@ -254,6 +254,8 @@ static void counts_descriptors_of_replies(void)
             size_t before = open_fds();
             EXPECT(COVRETIN_OK, covretin_ask_get_features(&device.session));
             say_header(peer, GET_FEATURES, REPLY_FLAGS, 8, files, is_late ? 0 : counts[i]);
+            if (is_late) /* else the system does not say on which byte they came */
+                EXPECT(COVRETIN_TIMED_OUT, covretin_exchange(&device, 0));
             say(peer, "\1\0\0\0\0\0\0\0", 8, files, is_late ? counts[i] : 0);
             EXPECT(counts[i] == 32 ? few : COVRETIN_FDS_LOST, covretin_exchange(&device, LIMIT));
             EXPECT(before, open_fds());

@@ -26,13 +26,13 @@ static struct {
     covretin_region regions[COVRETIN_MAX_FDS], log;
     covretin_config config;
     covretin_inflight inflight;
-    uint8_t bytes[COVRETIN_MAX_CONFIG], name[16];
+    uint8_t bytes[COVRETIN_MAX_MESSAGE], name[16];
     size_t count;
     bool listening;
-    int32_t fd;
+    int32_t fd, fds[COVRETIN_MAX_FDS];
 } got;
 
-enum { FORMS = 11 };
+enum { FORMS = 13, ALL_FDS = 12 };
 
 /* Reads the arguments by a form. */
 static enum covretin_error read_form(int form)
@@ -48,7 +48,9 @@ static enum covretin_error read_form(int form)
     case 7: return covretin_call_name(backend, got.name, sizeof got.name);
     case 8: return covretin_call_inflight(backend, &got.inflight, &got.fd);
     case 9: return covretin_call_transfer(backend, &got.direction, &got.phase, &got.fd);
-    default: return covretin_call_log(backend, &got.log);
+    case 10: return covretin_call_log(backend, &got.log);
+    case 11: return covretin_call_other(backend, &got.index, got.bytes, sizeof got.bytes, &got.count);
+    default: return covretin_call_fds(backend, got.fds, COVRETIN_MAX_FDS, &got.count);
     }
 }
 
@@ -91,6 +93,8 @@ static int read_arguments(void)
         EXPECT(true, got.log.fd == -1 || holds(got.log.fd, "sent"));
         for (size_t i = 0; form == 4 && i < got.count; i++)
             EXPECT(true, got.regions[i].fd == -1 || holds(got.regions[i].fd, "sent"));
+        for (size_t i = 0; form == ALL_FDS && i < got.count; i++)
+            EXPECT(true, holds(got.fds[i], "sent"));
     }
     return found;
 }

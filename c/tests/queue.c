@@ -64,7 +64,7 @@ static enum covretin_queue_error follow(covretin_queue *queue, covretin_segment 
     *count = 0;
     for (;;) {
         covretin_range place;
-        covretin_descriptor descriptor;
+        covretin_descriptor descriptor = {0};
         bool found;
         enum covretin_queue_error error = covretin_queue_descriptor_place(queue, &place, &found);
         if (error != 0 || !found)
@@ -223,6 +223,126 @@ static void packed_queue(void)
     HOLDS(covretin_queue_move_packed(&queue, USER, USER, USER) == COVRETIN_QUEUE_NO_QUEUE);
 }
 
+/* Three regions that adjoin for the guest, and lie apart here. */
+static covretin_queue opened_in_parts(void)
+{
+    covretin_queue queue = opened();
+    covretin_guest_region regions[3] = {{GUEST, 0x2000, USER, 0}, {GUEST + 0x2000, 0x1000, USER + SIZE, 0}, {GUEST + 0x3000, 0x1000, USER + 2 * SIZE, 0}};
+    regions[0].host_addr = (uint64_t)(uintptr_t)memory;
+    regions[1].host_addr = (uint64_t)(uintptr_t)(memory + 0x8000);
+    regions[2].host_addr = (uint64_t)(uintptr_t)(memory + 0x4000);
+    HOLDS(covretin_queue_set_regions(&queue, regions, 3) == 0);
+    return queue;
+}
+
+/* The three segments of a buffer that lies in all three regions, from 16 bytes before the second on. */
+static void expect_parts(const covretin_segment segments[3], bool writable)
+{
+    const size_t places[3] = {0x1ff0, 0x8000, 0x4000}, guest[3] = {0x1ff0, 0x2000, 0x3000}, lens[3] = {16, 0x1000, 32};
+    for (size_t i = 0; i < 3; i++) {
+        HOLDS(segments[i].range.addr == (uint64_t)(uintptr_t)(memory + places[i]) && segments[i].range.len == lens[i]);
+        HOLDS(segments[i].guest_addr == GUEST + guest[i] && segments[i].writable == writable);
+    }
+}
+
+/* A buffer in regions that adjoin is a segment of each, in their order. Its descriptor is read once: what the steps of its rest are given is
+ * nothing to them. */
+static void adjoining_regions(void)
+{
+    covretin_queue queue = opened_in_parts();
+    covretin_split_ring ring = split_ring();
+    covretin_descriptor other = {0, 0, 4, 9};
+    covretin_segment segments[8];
+    covretin_range place;
+    covretin_used used;
+    uint16_t count;
+    size_t n;
+    bool found;
+
+    HOLDS(covretin_queue_start_split(&queue, &ring) == 0);
+    put_descriptor(0, GUEST + 0x100, 8, 1, 1);
+    put_descriptor(16, GUEST + 0x1ff0, 0x1030, 3, 2);
+    put_descriptor(32, GUEST + 0x2fff, 1, 2, 0);
+    HOLDS(covretin_queue_available(&queue, 1, &count) == 0 && covretin_queue_pop(&queue, 0) == 0);
+    HOLDS(follow(&queue, segments, &n) == 0 && n == 5);
+    expect_parts(segments + 1, true);
+    HOLDS(segments[4].range.addr == (uint64_t)(uintptr_t)(memory + 0x8fff) && segments[4].range.len == 1);
+    HOLDS(covretin_queue_add_used(&queue, 0, 0x1031, &used) == 0);
+    HOLDS(covretin_queue_available(&queue, 2, &count) == 0 && covretin_queue_pop(&queue, 1) == 0);
+    put_descriptor(16, GUEST + 0x1ff0, 0x1030, 0, 0);
+    HOLDS(covretin_queue_descriptor_place(&queue, &place, &found) == 0 && found && place.len == 16);
+    get(place, &other);
+    for (size_t i = 0; i < 3; i++) {
+        HOLDS(covretin_queue_step(&queue, &other, &segments[i], &found) == 0 && found);
+        other = (covretin_descriptor){0, 0, 4, 9};
+        HOLDS(covretin_queue_descriptor_place(&queue, &place, &found) == 0 && found == (i < 2) && (!found || place.len == 0));
+    }
+    expect_parts(segments, false);
+    HOLDS(covretin_queue_step(&queue, &other, segments, &found) == COVRETIN_QUEUE_CHAIN_ENDED);
+    put_descriptor(32, GUEST + 0x3fff, 2, 0, 0);
+    HOLDS(covretin_queue_available(&queue, 3, &count) == 0 && covretin_queue_pop(&queue, 2) == 0);
+    HOLDS(follow(&queue, segments, &n) == COVRETIN_QUEUE_NOT_IN_GUEST && n == 1); /* no region goes on there */
+    covretin_queue_close(&queue);
+}
+
+/* The same in a packed ring, and in an indirect table of it: the chain is the device's by the id of its last descriptor, once. */
+static void adjoining_regions_packed(void)
+{
+    covretin_queue queue = opened_in_parts();
+    covretin_packed_ring ring = {USER, USER + 0x100, USER + 0x104, 4, 0x8000, 0x8000, false, true};
+    covretin_segment segments[8];
+    covretin_used used;
+    uint16_t count;
+    uint32_t base;
+    size_t n;
+
+    HOLDS(covretin_queue_start_packed(&queue, &ring) == 0);
+    put_descriptor(0, GUEST + 0x1ff0, 0x1030, 0, 0x81);
+    put_descriptor(16, GUEST + 0x1ff0, 0x1030, 3, 0x82);
+    HOLDS(covretin_queue_available(&queue, 0x81, &count) == 0 && count == 1);
+    HOLDS(follow(&queue, segments, &n) == 0 && n == 6);
+    expect_parts(segments, false);
+    expect_parts(segments + 3, true);
+    HOLDS(covretin_queue_base(&queue, &base) == 0 && base == 0x80008002);
+    HOLDS(covretin_queue_add_used(&queue, 3, 0x1030, &used) == 0 && covretin_queue_base(&queue, &base) == 0 && base == 0x80028002);
+    put_descriptor(32, GUEST + 0x200, 32, 1, 0x84);
+    put_descriptor(0x200, GUEST + 0x1ff0, 0x1030, 0, 0);
+    put_descriptor(0x210, GUEST + 0x1ff0, 0x1030, 0, 2);
+    HOLDS(covretin_queue_available(&queue, 0x84, &count) == 0 && count == 1);
+    HOLDS(follow(&queue, segments, &n) == 0 && n == 6);
+    expect_parts(segments, false);
+    expect_parts(segments + 3, true);
+    HOLDS(covretin_queue_add_used(&queue, 1, 0x1030, &used) == 0 && used.then.addr == (uint64_t)(uintptr_t)(memory + 46));
+    covretin_queue_close(&queue);
+}
+
+/* As many regions as there may be, which all adjoin: a chain may cross each border once. */
+static void many_borders(void)
+{
+    static covretin_guest_region regions[509];
+    static covretin_segment segments[512];
+    covretin_queue queue = opened();
+    covretin_split_ring ring = split_ring();
+    uint16_t count;
+    size_t n;
+
+    for (size_t i = 0; i < 509; i++) {
+        uint64_t at = i == 0 ? 0 : 0x1000 + 16 * (i - 1);
+        regions[i] = (covretin_guest_region){GUEST + at, i == 0 ? 0x1000 : 16, USER + at, (uint64_t)(uintptr_t)memory + at};
+    }
+    HOLDS(covretin_queue_set_regions(&queue, regions, 509) == 0);
+    HOLDS(covretin_queue_start_split(&queue, &ring) == 0);
+    put_descriptor(0, GUEST + 0xfff, 1 + 508 * 16, 1, 1);
+    put_descriptor(16, GUEST + 0xfff, 1, 0, 0);
+    HOLDS(covretin_queue_available(&queue, 1, &count) == 0 && covretin_queue_pop(&queue, 0) == 0);
+    HOLDS(follow(&queue, segments, &n) == 0 && n == 510);
+    put_descriptor(48, GUEST + 0xfff, 1 + 508 * 16, 1, 1);
+    put_descriptor(16, GUEST + 0xfff, 2, 0, 0);
+    HOLDS(covretin_queue_available(&queue, 2, &count) == 0 && covretin_queue_pop(&queue, 3) == 0);
+    HOLDS(follow(&queue, segments, &n) == COVRETIN_QUEUE_CHAIN_TOO_LONG && n == 509);
+    covretin_queue_close(&queue);
+}
+
 /* A request that was taken before a crash is followed by what was kept of it, and the ring has something else. */
 static void taken_again(void)
 {
@@ -320,6 +440,9 @@ int main(void)
     RUN(split_queue);
     RUN(refused_chains);
     RUN(packed_queue);
+    RUN(adjoining_regions);
+    RUN(adjoining_regions_packed);
+    RUN(many_borders);
     RUN(taken_again);
     RUN(packed_inflight);
     RUN(inflight_and_log);

@@ -5,12 +5,27 @@
 
 /* -- Replies of each form -- */
 
+/* How much of a body is missing before the header of its reply is there: the record, unless there may be none. */
+static size_t least(char code)
+{
+    switch (code) {
+    case 6: /* SET_LOG_BASE */
+    case 24:
+    case 28:
+    case 41: return 0;
+    case 31: return 24;
+    case 37: return 40;
+    case 44: return 2056;
+    default: return 8;
+    }
+}
+
 /* Sends what was asked, and replies: a header, such a body, and a descriptor on its first byte, or -1. What take answers. */
 static enum covretin_error replied(char code, const void *body, size_t size, int32_t fd)
 {
     const char header[12] = {code, 0, 0, 0, 5, 0, 0, 0, (char)size, (char)(size >> 8), 0, 0};
     send_all();
-    EXPECT(12, covretin_missing(&session));
+    EXPECT(12 + least(code), covretin_missing(&session));
     give(header, sizeof header, &fd, fd >= 0);
     EXPECT(size, covretin_missing(&session));
     give(body, size, fds, 0);
@@ -242,7 +257,7 @@ static void refuses_other_sizes(void)
         default: EXPECT(0, covretin_ask_get_shmem_config(&session)); break;
         }
         send_all();
-        EXPECT(12, covretin_missing(&session));
+        EXPECT(12 + least(calls[i % 8].code), covretin_missing(&session));
         give(header, sizeof header, fds, 0);
         while (covretin_missing(&session) != 0)
             give(zeros, covretin_missing(&session), fds, 0);

@@ -579,6 +579,112 @@ static void unknown_requests(void)
     }
 }
 
+/* A device that is given the requests that have no call of their own: it serves SEND_RARP and 601, and keeps a first descriptor. */
+struct whole {
+    size_t asked, len, count;
+    uint32_t request;
+    int32_t kept;
+};
+
+static int serves_some(void *context, uint32_t request, const uint8_t *bytes, size_t len, const int32_t *fds, size_t count)
+{
+    struct whole *whole = context;
+    *whole = (struct whole){whole->asked + 1, len, count, request, -1};
+    EXPECT(true, len == 0 || bytes[0] == 9);
+    for (size_t i = 0; i < count; i++)
+        EXPECT(true, holds(fds[i], i == 0 ? "first" : "second"));
+    if (count > 0 && request == 601) {
+        whole->kept = fds[0];
+        EXPECT(COVRETIN_OK, covretin_claim_call_fd(&service, fds[0]));
+    }
+    return request == 601 || request == 19 ? 0 : -1;
+}
+
+static void acknowledged_as(int peer, uint32_t code, uint32_t value)
+{
+    const uint32_t told[] = {code, REPLY_FLAGS, 8, value, 0};
+    uint32_t reply[5];
+    EXPECT((ssize_t)sizeof reply, recv(peer, reply, sizeof reply, MSG_DONTWAIT));
+    EXPECT(0, memcmp(told, reply, sizeof reply));
+}
+
+static void gives_other_requests(void)
+{
+    const uint8_t body[8] = {9};
+    struct whole whole = {.kept = -1};
+    int peer = served_pair(), files[2] = {file_of("first"), file_of("second")};
+    accept_features(peer, COVRETIN_PROTOCOL_REPLY_ACK);
+    size_t before = open_fds();
+    EXPECT(COVRETIN_OK, covretin_backend_set_other(&service, serves_some, &whole));
+    request(peer, 601, NEED_REPLY, body, sizeof body, files, 2);
+    EXPECT(COVRETIN_TIMED_OUT, covretin_next_call(&service, &call, 0));
+    EXPECT(true, whole.asked == 1 && whole.request == 601 && whole.len == 8 && whole.count == 2);
+    acknowledged_as(peer, 601, 0);
+    EXPECT(before + 1, open_fds());
+    EXPECT(true, holds(whole.kept, "first"));
+    EXPECT(COVRETIN_OTHER_CALL, covretin_claim_call_fd(&service, whole.kept));
+    close(whole.kept);
+
+    request(peer, 19, REQUEST_FLAGS, NULL, 0, NULL, 0);
+    EXPECT(COVRETIN_NOT_YET, covretin_next_call_nowait(&service, &call, &events));
+    EXPECT(POLLOUT, events);
+    EXPECT(COVRETIN_NOT_YET, covretin_next_call_nowait(&service, &call, &events));
+    EXPECT(POLLIN, events);
+    EXPECT(true, whole.asked == 2 && whole.len == 0 && whole.count == 0);
+
+    request(peer, 600, NEED_REPLY, body, 1, files, 1);
+    EXPECT(COVRETIN_INVALID_OPERATION, covretin_next_call(&service, &call, LIMIT));
+    EXPECT(true, whole.asked == 3 && whole.request == 600 && whole.len == 1 && whole.count == 1);
+    acknowledged_as(peer, 600, 1);
+    EXPECT(before, open_fds());
+
+    EXPECT(COVRETIN_OK, covretin_backend_set_other(&service, NULL, NULL));
+    request(peer, 601, NEED_REPLY, body, sizeof body, files, 2);
+    EXPECT(COVRETIN_INVALID_OPERATION, covretin_next_call(&service, &call, LIMIT));
+    EXPECT(3, whole.asked);
+    acknowledged_as(peer, 601, 1);
+    EXPECT(before, open_fds());
+
+    request(peer, SET_OWNER, NEED_REPLY, NULL, 0, NULL, 0);
+    expect_call(COVRETIN_CALL_SET_OWNER);
+    EXPECT(COVRETIN_OK, covretin_reply_done(&service.backend));
+    EXPECT(COVRETIN_OK, covretin_send_reply(&service, LIMIT));
+    acknowledged_as(peer, SET_OWNER, 0);
+    covretin_hang_up(&service);
+    EXPECT(COVRETIN_NO_SESSION, covretin_backend_set_other(&service, serves_some, &whole));
+    close(files[0]);
+    close(files[1]);
+    close(peer);
+}
+
+static int serves_all(void *context, uint32_t request, const uint8_t *bytes, size_t len, const int32_t *fds, size_t count)
+{
+    (void)bytes, (void)len, (void)fds, (void)count;
+    *(uint32_t *)context = request;
+    return 0;
+}
+
+/* One that awaits a reply of its own has none, whether it is served or not: its frontend is hung up on, and waits no more. */
+static void hangs_up_on_who_awaits_another_reply(void)
+{
+    for (int is_served = 0; is_served < 2; is_served++) {
+        uint32_t asked = 0;
+        uint8_t byte;
+        int peer = served_pair();
+        accept_features(peer, COVRETIN_PROTOCOL_REPLY_ACK);
+        size_t before = open_fds();
+        EXPECT(COVRETIN_OK, covretin_backend_set_other(&service, is_served ? serves_all : NULL, &asked));
+        request(peer, 40, NEED_REPLY, NULL, 0, NULL, 0);
+        EXPECT(is_served ? COVRETIN_SOCKET_BROKEN : COVRETIN_INVALID_OPERATION, covretin_next_call(&service, &call, LIMIT));
+        EXPECT(is_served ? 40 : 0, asked);
+        EXPECT(0, recv(peer, &byte, 1, MSG_DONTWAIT));
+        EXPECT(true, covretin_service_ended(&service));
+        EXPECT(before, open_fds());
+        covretin_hang_up(&service);
+        close(peer);
+    }
+}
+
 /* Which feature a request lacked: of the request that was read last alone. */
 static void inactive(void)
 {
@@ -718,6 +824,8 @@ int main(void)
     RUN(tells_refusals_late);
     RUN(tells_which_was_refused);
     RUN(unknown_requests);
+    RUN(gives_other_requests);
+    RUN(hangs_up_on_who_awaits_another_reply);
     RUN(inactive);
     RUN(request_texts);
     RUN(served_features);

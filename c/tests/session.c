@@ -40,11 +40,11 @@ static void out_of_turn(void)
     EXPECT(COVRETIN_NO_ROOM, covretin_to_send(&session, bytes, 0, fds, COVRETIN_MAX_FDS, &count, &fd_count));
     EXPECT(COVRETIN_NO_ROOM, covretin_to_send(&session, bytes, 1, fds, COVRETIN_MAX_FDS - 1, &count, &fd_count));
     expect_text("\1\0\0\0\1\0\0\0\0\0\0\0", 12, 0);
-    EXPECT(12, covretin_missing(&session));
+    EXPECT(20, covretin_missing(&session));
     EXPECT(COVRETIN_NOT_YET, covretin_take(&session));
     EXPECT(0, covretin_receive(&session, (const uint8_t *)"\1\0\0\0\5\0\0\0\10", 9, fds, 0));
-    EXPECT(3, covretin_missing(&session));
-    EXPECT(COVRETIN_TOO_MANY_BYTES, covretin_receive(&session, (const uint8_t *)"\0\0\0\3", 4, fds, 0));
+    EXPECT(11, covretin_missing(&session));
+    EXPECT(COVRETIN_TOO_MANY_BYTES, covretin_receive(&session, (const uint8_t *)"\0\0\0\3\0\0\100\0\0\0\0\0", 12, fds, 0));
     EXPECT(0, covretin_receive(&session, (const uint8_t *)"\0\0\0", 3, fds, 0));
     EXPECT(8, covretin_missing(&session));
     EXPECT(COVRETIN_NOT_YET, covretin_take(&session));

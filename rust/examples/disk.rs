@@ -12,7 +12,7 @@ use std::io::{self, Read, Write};
 use std::os::unix::fs::{FileExt, FileTypeExt};
 use std::process::ExitCode;
 use std::sync::atomic::{AtomicU64, Ordering};
-use std::sync::mpsc::{channel, Receiver, Sender};
+use std::sync::mpsc::{channel, Sender};
 use std::sync::{Arc, Mutex, MutexGuard, PoisonError};
 use std::thread::{sleep, spawn};
 use std::time::Duration;
@@ -60,9 +60,11 @@ fn listen(path: &OsString, image: &OsString, queues: usize) -> io::Result<()> {
     let (requests, taken, sectors) = (Mutex::new(requests), Arc::new(Mutex::new(taken)), AtomicU64::new(0));
     let disk = Arc::new(Disk { image, sectors, queues, requests, channel: Mutex::new(None) });
     for (disk, taken) in (0..THREADS).map(|_| (disk.clone(), taken.clone())) {
-        spawn(move || {
-            while let Some((request, head)) = next(&taken) {
-                disk.finish(request, head, true);
+        spawn(move || loop {
+            let job = locked(&taken).recv();
+            match job {
+                Ok((request, head)) => disk.finish(request, head, true),
+                Err(_) => return,
             }
         });
     }
@@ -85,10 +87,6 @@ fn locked<T>(it: &Mutex<T>) -> MutexGuard<'_, T> {
 
 /// A request, and its header, if that is whole.
 type Job = (Request, Option<[u8; 16]>);
-
-fn next(taken: &Mutex<Receiver<Job>>) -> Option<Job> {
-    locked(taken).recv().ok()
-}
 
 struct Disk {
     image: File,
@@ -214,9 +212,8 @@ impl Disk {
 
     /// Where so many bytes from a sector on are in the file, if there are any and the disk has them.
     fn place(&self, sector: u64, length: u64) -> io::Result<u64> {
-        let sectors = self.sectors.load(Ordering::SeqCst);
-        let is_whole = length != 0 && length % SECTOR == 0;
-        let is_inside = is_whole && sector <= sectors && length / SECTOR <= sectors - sector;
+        let end = sector.checked_add(length / SECTOR).filter(|end| *end <= self.sectors.load(Ordering::SeqCst));
+        let is_inside = length != 0 && length % SECTOR == 0 && end.is_some();
         is_inside.then_some(sector.wrapping_mul(SECTOR)).ok_or_else(|| io::ErrorKind::InvalidData.into())
     }
 

@@ -27,7 +27,7 @@ fn no_refused_request_waits_for_a_socket() {
         for (count, request, wanted) in [
             (1, message(3, ASKS, &[]), "InvalidMessage"),
             (2, message(12, ASKS, &[0; 8]), "InvalidMessage"),
-            (1, message(7, ASKS, &[]), "InvalidOperation(\"the request is not served, or not in this state of postcopy\")"),
+            (1, message(7, ASKS, &[]), "InvalidOperation(\"request not served\")"),
             (1, message(33, WANTS, &[]), "NotUnixSocket"),
             (33, message(3, ASKS, &[]), "IncorrectFds"),
             (200, message(3, ASKS, &[]), "IncorrectFds"),
@@ -59,7 +59,7 @@ fn nothing_behind_a_first_byte_waits_for_a_socket() {
         let reply = message(1, REPLIES, &[7; 8]);
         peer.say(&reply[..12], &[]);
         let others = Lingering::new(2).are_said(&peer, &reply[12..]);
-        assert_eq!(0x0707_0707_0707_0707, at_once(|| frontend.get_features()).unwrap());
+        failed("InvalidMessage", at_once(|| frontend.get_features()));
         drop(others);
     });
 }

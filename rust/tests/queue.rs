@@ -224,6 +224,41 @@ fn places_that_are_none() {
     });
 }
 
+/// A buffer that lies in regions that adjoin is a part of each.
+#[test]
+fn a_buffer_in_two_regions() {
+    counted(|| {
+        for is_packed in [false, true] {
+            let mut it = Played::new(is_packed);
+            let map =
+                |at, size, user| GuestRegion::map(&VhostUserMemoryRegion::new(GUEST + at, size, user, at), &it.file).unwrap();
+            let memory = GuestMemory::from_regions([map(0, 0x2000, USER), map(0x2000, SIZE - 0x2000, USER + SIZE)]).unwrap();
+            it.queue.set_memory(&memory).unwrap();
+            it.queue.set_ready(true).unwrap();
+            it.put(0x1ff8, b"sixteen bytes of");
+            if is_packed {
+                it.describe(16, (GUEST + 0x1fff, 512, 3, 0x80 | WRITE));
+                it.describe(0, (GUEST + 0x1ff8, 16, 3, 0x80 | NEXT));
+            } else {
+                it.describe(0, (GUEST + 0x1ff8, 16, NEXT, 1));
+                it.describe(16, (GUEST + 0x1fff, 512, WRITE, 0));
+                it.offer(0);
+            }
+            let mut chain = it.queue.pop().unwrap().unwrap();
+            assert_eq!((vec![8, 8], vec![1, 511]), (lengths(chain.readable()), lengths(chain.writable())));
+            let mut bytes = [0; 16];
+            chain.read_exact(&mut bytes).unwrap();
+            assert_eq!(b"sixteen bytes of", &bytes);
+            chain.write_all(&[7; 512]).unwrap();
+            it.queue.add_used(&chain, 512).unwrap();
+            let mut written = [0; 512];
+            it.file.read_exact_at(&mut written, 0x1fff).unwrap();
+            assert_eq!([7; 512], written);
+            assert!(it.queue.pop().unwrap().is_none());
+        }
+    });
+}
+
 #[test]
 fn regions_and_their_bytes() {
     counted(|| {

@@ -13,7 +13,8 @@ use common::*;
 use covretin::vhost_user::message::FrontendReq;
 use covretin::vhost_user::{Error, Profile, Result};
 
-const NOT_NOW: &str = "InvalidOperation(\"the request is not served, or not in this state of postcopy\")";
+const NOT_NOW: &str = "InvalidOperation(\"not in this state of postcopy\")";
+const NOT_SERVED: &str = "InvalidOperation(\"request not served\")";
 
 /// The requests of the specification that this library does not serve; and those of them that have a reply of their own.
 const UNSERVED: [u32; 9] = [7, 19, 22, 23, 26, 27, 35, 39, 40];
@@ -155,19 +156,44 @@ fn requests_that_nobody_serves() {
         for code in UNSERVED.into_iter().filter(|code| !UNSERVED_AWAITED.contains(code)) {
             for flags in [ASKS, WANTS] {
                 peer.say(&message(code, flags, &[0; 8]), &[]);
-                assert_eq!(NOT_NOW, name(&handler.handle_request().unwrap_err()), "{code}");
+                assert_eq!(NOT_SERVED, name(&handler.handle_request().unwrap_err()), "{code}");
             }
             peer.hear(&message(code, REPLIES, &1u64.to_le_bytes()));
         }
         // SET_LOG_FD brings a descriptor, which is closed; so are those of a number that is no request's.
         peer.say(&message(7, ASKS, &[]), &[&memory_file()]);
-        assert_eq!(NOT_NOW, name(&handler.handle_request().unwrap_err()));
+        assert_eq!(NOT_SERVED, name(&handler.handle_request().unwrap_err()));
         for code in [0, 45, 256, u32::MAX] {
             peer.say(&message(code, WANTS, &[0; 5]), &[&memory_file(), &memory_file()]);
-            assert_eq!(NOT_NOW, name(&handler.handle_request().unwrap_err()), "{code}");
+            assert_eq!(NOT_SERVED, name(&handler.handle_request().unwrap_err()), "{code}");
             peer.hear(&message(code, REPLIES, &1u64.to_le_bytes()));
         }
         assert_eq!([""; 0], *seen(&device).asked);
+        peer.say(&message(3, ASKS, &[]), &[]);
+        handler.handle_request().unwrap();
+    });
+}
+
+/// A request of any number that has no call of its own is the device's, whole, and acknowledged as it says; what it does not keep is closed.
+#[test]
+fn other_requests_are_the_device_s() {
+    counted(|| {
+        let device = Shared::default();
+        let (mut handler, peer) = handled(&device);
+        agree_by_hand(&device, &mut handler, &peer, ALL);
+        seen(&device).serves_others = true;
+        peer.say(&message(600, WANTS, &[9, 8]), &[&memory_file(), &memory_file()]);
+        handler.handle_request().unwrap();
+        peer.hear(&message(600, REPLIES, &0u64.to_le_bytes()));
+        assert_eq!(2, seen(&device).files.len());
+        peer.say(&message(19, ASKS, &[]), &[]);
+        handler.handle_request().unwrap();
+        seen(&device).refuses = true;
+        peer.say(&message(u32::MAX, WANTS, &[7]), &[&memory_file()]);
+        assert_eq!("MemFdSealError", name(&handler.handle_request().unwrap_err()));
+        peer.hear(&message(u32::MAX, REPLIES, &1u64.to_le_bytes()));
+        seen(&device).refuses = false;
+        assert_eq!(["other 600 [9, 8]", "other 19 []", "other 4294967295 [7]"], *seen(&device).asked);
         peer.say(&message(3, ASKS, &[]), &[]);
         handler.handle_request().unwrap();
     });
@@ -178,7 +204,7 @@ fn requests_that_nobody_serves() {
 #[test]
 fn who_would_wait_in_vain_is_hung_up_on() {
     counted(|| {
-        let unserved = UNSERVED_AWAITED.map(|code| (code, vec![0; 8], NOT_NOW));
+        let unserved = UNSERVED_AWAITED.map(|code| (code, vec![0; 8], NOT_SERVED));
         let others = [
             (17, vec![], "InactiveOperation(0x1)"),
             (11, vec![0; 4], "InvalidMessage"),
@@ -214,13 +240,13 @@ fn which_request_was_refused() {
         agree_by_hand(&device, &mut handler, &peer, ALL & !0x200);
         assert_eq!(Some(16), handler.last_request());
         peer.say(&message(39, ASKS, &[0; 8]), &[]);
-        assert_eq!(NOT_NOW, name(&handler.handle_request().unwrap_err()));
+        assert_eq!(NOT_SERVED, name(&handler.handle_request().unwrap_err()));
         assert_eq!(Some(Ok(FrontendReq::SET_STATUS)), handler.last_request().map(FrontendReq::try_from));
         peer.say(&message(25, ASKS, &[]), &[]);
         assert_eq!("InactiveOperation(0x200)", name(&handler.handle_request().unwrap_err()));
         assert_eq!(Some(25), handler.last_request());
         peer.say(&message(45, WANTS, &[0; 8]), &[]);
-        assert_eq!(NOT_NOW, name(&handler.handle_request().unwrap_err()));
+        assert_eq!(NOT_SERVED, name(&handler.handle_request().unwrap_err()));
         assert_eq!(Some(45), handler.last_request());
         for (size, wanted) in [(3, None), (4, Some(12)), (12, Some(12))] {
             let (mut handler, peer) = handled(&device);

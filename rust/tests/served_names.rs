@@ -215,6 +215,7 @@ fn calls_that_have_a_body() {
         assert!(matches!(device.set_mtu(1500), Err(Error::InvalidOperation(_))));
         assert!(matches!(device.postcopy_advice(), Err(Error::InvalidOperation(_))));
         assert!(matches!(device.get_shared_object(VhostUserSharedMsg::default()), Err(Error::InvalidOperation(_))));
+        assert!(matches!(device.other(19, &[], Vec::new()), Err(Error::InvalidOperation(_))));
         assert_eq!(VhostUserShMemConfig::default(), device.get_shmem_config().unwrap());
         for refused in [device.postcopy_listen(), device.postcopy_end(), device.postcopy_ack_mem_regions()] {
             assert!(matches!(refused, Err(Error::InvalidOperation(_))));
@@ -243,7 +244,7 @@ fn features_of_the_header() {
         .filter_map(|it| it.strip_prefix("COVRETIN_PROTOCOL_"))
         .collect();
     assert_eq!(served.join(" | "), format!("{SERVED_PROTOCOL_FEATURES:?}"));
-    // Each call of the device is a request by its name, but for one.
+    // Each call of the device is a request by its name, but for two.
     let calls = header.lines().filter_map(|it| it.trim_start().strip_prefix("COVRETIN_CALL_"));
     let calls: Vec<(&str, u32)> = calls
         .filter_map(|it| {
@@ -251,8 +252,7 @@ fn features_of_the_header() {
             Some((name, rest.split(|it: char| !it.is_ascii_digit()).next()?.parse().ok()?))
         })
         .collect();
-    assert_eq!(Some(&("POSTCOPY_ACK", 256)), calls.last());
-    assert_eq!(36, calls.len());
+    assert_eq!([("POSTCOPY_ACK", 256), ("OTHER", 257)], calls[35..]);
     for (name, number) in &calls[..35] {
         assert_eq!(*name, format!("{:?}", FrontendReq::try_from(*number).unwrap()));
     }

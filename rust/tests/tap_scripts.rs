@@ -11,6 +11,7 @@ use std::path::PathBuf;
 
 use common::tap::*;
 use common::*;
+use covretin::vhost_user::message::FrontendReq;
 
 /// A session of a script.
 #[derive(Default)]
@@ -92,7 +93,10 @@ impl Script {
         let request = self.open.pop_front();
         let is_unserved =
             request.map_or(false, |at| UNSERVED.contains(&self.messages[at].1[0])) && rest == "err InvalidOperation";
-        let is_refused = !self.is_asked && rest.starts_with("err") && !is_unserved;
+        // (one of a number that is no request's is told, whatever the device says)
+        let code = request.and_then(|at| self.messages[at].1.get(..4)?.try_into().ok()).map(u32::from_le_bytes);
+        let is_unknown = code.map_or(false, |code| FrontendReq::try_from(code).is_err());
+        let is_refused = is_unknown || !self.is_asked && rest.starts_with("err") && !is_unserved;
         self.is_asked = false;
         match request {
             Some(at) if is_refused => drop(self.refused.insert(at)),

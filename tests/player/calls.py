@@ -59,33 +59,35 @@ def inflight(words):
 
 # Calls whose arguments are words of one kind each, and in which form their answers are.
 PLAIN = {
+    # generated from protocol/requests.toml: calls of one word an argument
     "get_features": ((), "number"),
     "set_features": ((u64,), ""),
     "set_owner": ((), ""),
     "reset_owner": ((), ""),
-    "get_protocol_features": ((), "number"),
-    "set_protocol_features": ((u64,), ""),
-    "get_queue_num": ((), "number"),
-    "reset_device": ((), ""),
-    "get_max_mem_slots": ((), "number"),
     "set_log_fd": ((fd,), ""),
     "set_vring_num": ((index, u16), ""),
     "set_vring_base": ((index, u32), ""),
     "get_vring_base": ((index,), "number"),
-    "set_vring_call": ((index, fd_or_none), ""),
     "set_vring_kick": ((index, fd_or_none), ""),
+    "set_vring_call": ((index, fd_or_none), ""),
     "set_vring_err": ((index, fd_or_none), ""),
+    "get_protocol_features": ((), "number"),
+    "set_protocol_features": ((u64,), ""),
+    "get_queue_num": ((), "number"),
     "set_vring_enable": ((index, flag), ""),
-    "get_config": ((u32, u32, u32), "config"),
+    "set_mtu": ((u16,), ""),
     "set_backend_request_fd": ((fd,), ""),
-    "get_shmem_config": ((), "shmem"),
-    "set_device_state_fd": ((u32, u32, fd), "state_fd"),
-    "check_device_state": ((), ""),
+    "get_config": ((u32, u32, u32), "config"),
     "postcopy_advise": ((), "fd"),
     "postcopy_listen": ((), ""),
     "postcopy_end": ((), ""),
+    "reset_device": ((), ""),
+    "get_max_mem_slots": ((), "number"),
+    "set_device_state_fd": ((u32, u32, fd), "state_fd"),
+    "check_device_state": ((), ""),
+    "get_shmem_config": ((), "shmem"),
     "postcopy_ack_mem_regions": ((u32,), ""),
-    "set_mtu": ((u16,), ""),
+    # end
 }
 
 

@@ -7,8 +7,8 @@ from calls import SHMEM_REGIONS, inflight, numbers_text
 from library import BACKEND_INTERNAL_ERROR, ERRORS, OK, Config, Inflight, Mmap, Region, Vring, array, octets, outcome
 from words import Differs, Unreadable, bytes_of, bytes_text, expect, number_of, only_fd
 
-# How many regions a table has at most, and how many bytes of the configuration space one request.
-MAX_REGIONS, MAX_CONFIG = 32, 4084
+# How many regions a table has at most, how many bytes of the configuration space one request, and how many its body.
+MAX_REGIONS, MAX_CONFIG, MAX_BODY = 32, 4084, 4096
 
 
 def number(session):
@@ -102,12 +102,22 @@ def mapping(session):
     return [it.shmid, it.fd_offset, it.shm_offset, it.len, it.flags]
 
 
+def other(session):
+    """The number of a request that has no call of its own, its body, and its descriptors."""
+    request, some, count = c_uint32(), (c_uint8 * MAX_BODY)(), c_size_t()
+    session.call("call_other", byref(request), some, c_size_t(MAX_BODY), byref(count))
+    fds, fd_count = (c_int32 * MAX_REGIONS)(), c_size_t()
+    session.call("call_fds", fds, c_size_t(MAX_REGIONS), byref(fd_count))
+    return [request.value, bytes_text(bytes(some[:count.value])), f"[{','.join(str(fd) for fd in fds[:fd_count.value])}]"]
+
+
 def nothing(_session):
     return []
 
 
 # The calls of enum covretin_call: each one's name, what gives its arguments, and in which form it is replied to.
 BACKEND_CALLS = {
+    # generated from protocol/requests.toml: calls
     1: ("get_features", nothing, "number"),
     2: ("set_features", number, "done"),
     3: ("set_owner", nothing, "done"),
@@ -144,6 +154,8 @@ BACKEND_CALLS = {
     43: ("check_device_state", nothing, "done"),
     44: ("get_shmem_config", nothing, "shmem"),
     256: ("postcopy_ack_mem_regions", nothing, "done"),
+    257: ("other", other, "done"),
+    # end
 }
 
 # The same of enum covretin_channel_call.

@@ -148,6 +148,9 @@ class Dummy:
             raise Refused(f"InactiveFeature {PROTOCOL_FEATURES:#x}")
         self.vring_enabled[self.ring(word)] = enable == "1"
 
+    def do_other(self, _request, _body, _fds):
+        raise Refused("InvalidOperation request not served")
+
     def do_set_mtu(self, word):
         if word == "0":
             raise Refused("InvalidParam")

@@ -12,7 +12,7 @@ class Lines:
     steps = ("line", "rest", "raw", "prints", "complains", "status")
 
     def __init__(self, program, settings):
-        self.words = [program, *(["-v"] if settings.explained else [])]
+        self.words = [program, *([] if settings.explained else ["-q"])]
         self.given = b""
         self.output, self.errors = [], []
         self.is_over = False

@@ -1,5 +1,5 @@
 -- Where a call has its handles its step calls the device, and else it is refused.
-use Rattle.std.proofs.Common.{◌≡◌, ℕ, Bool, true, false, List, [], ◌∷◌, length, ◌==◌, not, ◌||◌, refl, sym}
+use Rattle.std.proofs.Common.{◌≡◌, Bool, true, false, List, [], ◌∷◌, length, ◌==◌, not, ◌||◌, refl, sym}
 use Rattle.std.proofs.lemmas.Bool.{eqb-true, false≢true}
 use Rattle.std.specs.Prelude.{Option, Some, None}
 use Rattle.vhost_message.specs.declared.frontend_req.FrontendReq.{FrontendReq}
@@ -67,3 +67,4 @@ module _ {H : Type 0} (B G : Type 0) (s : Session) (m : Message FrontendReq H) w
   fitted call.PostcopyListen = none tt
   fitted call.PostcopyEnd = none tt
   fitted call.PostcopyAckMemRegions = none tt
+  fitted (call.Other request body) = none tt

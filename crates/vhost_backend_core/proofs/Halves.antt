@@ -81,3 +81,4 @@ module _ {H : Type 0} (B G : Type 0) (s : Session) (m : Message FrontendReq H) (
   concludes call.PostcopyListen e = refl
   concludes call.PostcopyEnd e = refl
   concludes call.PostcopyAckMemRegions e = refl
+  concludes (call.Other request body) e = refl

@@ -3,7 +3,6 @@ use Rattle.std.proofs.Common.{◌≡◌, ℕ, zero, suc, ◌+◌, ◌*◌, List,
 use Rattle.std.proofs.lemmas.List.{drop-take}
 use Rattle.byteorder.specs.Numbers.{little_from-take}
 use Rattle.vhost_message.specs.declared.limits.TheConstants.{MEMORY_REGION_SIZE}
-use Rattle.vhost_message.specs.declared.records.memory.VhostUserMemoryRegion.{VhostUserMemoryRegion}
 use Rattle.vhost_message.specs.Records.{region_at, regions_of}
 
 -- so many as it says

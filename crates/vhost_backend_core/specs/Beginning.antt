@@ -127,6 +127,7 @@ step_of s m call.PostcopyAdvice = calls s m device.PostcopyAdvice
 step_of s m call.PostcopyListen = calls s m device.PostcopyListen
 step_of s m call.PostcopyEnd = calls s m device.PostcopyEnd
 step_of s m call.PostcopyAckMemRegions = calls s m device.PostcopyAckMemRegions
+step_of s m (call.Other request body) = calls s m (device.Other request body.now m.handles)
 
 -- what a request became is this step of the table
 abbrev pub step_in : {H B G : Type 0} → Session → Message FrontendReq H → Result Begun declared.Refusal → Step H B G

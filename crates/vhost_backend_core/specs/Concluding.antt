@@ -21,7 +21,6 @@ use Rattle.vhost_protocol.specs.Step.{Outcome, Step, Refused, Calls, OpensBacken
 use Rattle.vhost_protocol.specs.Written as payload
 use Rattle.vhost_protocol.specs.Written.{Payload}
 use Rattle.vhost_backend_core.specs.Beginning.{regions_in, step_of}
-use Rattle.vhost_backend_core.specs.Session.{session_of}
 use Rattle.vhost_backend_core.specs.declared.answer.DeviceAnswer.{DeviceAnswer}
 use Rattle.vhost_backend_core.specs.declared.answer.DeviceAnswer.TheVariants as answer
 use Rattle.vhost_backend_core.specs.declared.answer.Then.{Then}
@@ -279,6 +278,7 @@ answer_in b device.PostcopyEnd d = done_in d
 answer_in b device.PostcopyAckMemRegions d = done_in d
 answer_in b (device.SetLogBase l h) d = done_in d
 answer_in b (device.SetMtu n) d = done_in d
+answer_in b (device.Other request body handles) d = done_in d
 
 -- a refusal has this outcome
 abbrev pub IsRefused : {H B G : Type 0} → Session → Step H B G → Outcome H → Type 0

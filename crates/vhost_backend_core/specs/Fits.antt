@@ -1,5 +1,5 @@
 -- Whether the handles of a message are those of its call.
-use Rattle.std.specs.Prelude.{ℕ, Bool, true, false, not, ◌||◌, ◌==◌, List, length, ⊤}
+use Rattle.std.specs.Prelude.{Bool, true, false, not, ◌||◌, ◌==◌, List, length, ⊤}
 use Rattle.vhost_protocol.specs.Step.{Step, Refused}
 use Rattle.vhost_backend_core.specs.declared.call.DeviceCall.{DeviceCall}
 use Rattle.vhost_backend_core.specs.declared.call.DeviceCall.TheVariants as call

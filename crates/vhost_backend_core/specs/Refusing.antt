@@ -13,6 +13,5 @@ refusal_in refusal.NotListening = InvalidOperation (codes "postcopy not listenin
 refusal_in (refusal.InactiveFeature bits) = InactiveFeature bits
 refusal_in (refusal.InactiveOperation bits) = InactiveOperation bits
 refusal_in refusal.InvalidMessage = InvalidMessage
-refusal_in refusal.Unserved = InvalidOperation (codes "request not served")
 refusal_in refusal.IncorrectFds = IncorrectFds
 refusal_in refusal.FrontendInternalError = FrontendInternalError

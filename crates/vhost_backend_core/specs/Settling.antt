@@ -1,5 +1,5 @@
 -- What becomes of a request that the table leaves unanswered, by what was kept of it.
-use Rattle.std.specs.Prelude.{◌≡◌, Bool, true, false, not, ◌&&◌, ◌||◌, [], is_err, is_ok, if◌then◌else◌}
+use Rattle.std.specs.Prelude.{◌≡◌, true, false, not, ◌&&◌, ◌||◌, [], is_err, is_ok, if◌then◌else◌}
 use Rattle.vhost_message.specs.declared.frontend_req.FrontendReq.{FrontendReq}
 use Rattle.vhost_protocol.specs.Served.{Acknowledged, Replied}
 use Rattle.vhost_protocol.specs.Session.{Session, ack_on}

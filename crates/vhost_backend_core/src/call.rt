@@ -135,6 +135,8 @@ pub enum DeviceCall<'a> {
     PostcopyEnd,
     /// The frontend has mapped the regions.
     PostcopyAckMemRegions,
+    /// A request without a row of its own: its number, and its body. Its file descriptors are all that came with it.
+    Other(u32, &'a [u8]),
 }
 
 /// What a request becomes that is not refused without a reply.

@@ -24,8 +24,6 @@ pub enum Refusal {
     /// The bits of a protocol feature that is not accepted.
     InactiveOperation(u64),
     InvalidMessage,
-    /// InvalidOperation, under Standard: nobody serves the request.
-    Unserved,
     IncorrectFds,
     FrontendInternalError,
 }
@@ -47,7 +45,6 @@ impl Refusal {
                 Error::InactiveOperation(VhostUserProtocolFeatures::from_bits_retain(bits))
             }
             Refusal::InvalidMessage => Error::InvalidMessage,
-            Refusal::Unserved => Error::InvalidOperation("request not served"),
             Refusal::IncorrectFds => Error::IncorrectFds,
             Refusal::FrontendInternalError => Error::FrontendInternalError,
         }

@@ -82,19 +82,16 @@ impl<H: Drop, B: Drop, G: Drop> Rows<H, B, G> {
             | FrontendReq::VRING_KICK
             | FrontendReq::SET_STATUS
             | FrontendReq::GET_STATUS
-            | FrontendReq::OTHER(_) => Self::unserved(session),
+            | FrontendReq::OTHER(_) => Self::other(session, message),
         }
     }
 
-    /// A request that nobody serves.
-    fn unserved<'a>(session: &Session) -> Result<Begun<'a>>
-        ensures { (m : Message FrontendReq H) → step_in {B = B} {G = G} (session_of session.now) m result ≡ Refused (row.unserved (session_of session.now)) }
+    /// A request without a row of its own.
+    fn other<'a>(session: &Session, message: &Incoming<'a>) -> Result<Begun<'a>>
+        ensures { (hs : List H) → step_in {B = B} {G = G} (session_of session.now) (message_in message.now hs) result ≡ row.other_row (session_of session.now) (message_in message.now hs) }
     {
-        if session.is_standard() {
-            Err(Refusal::Unserved)
-        } else {
-            Err(Refusal::InvalidMessage)
-        }
+        Checks::<H>::check_valid(session.is_standard() && !message.reply)?;
+        Ok(Begun::Calls(DeviceCall::Other(message.code.into(), message.body)))
     }
 
     fn set_owner<'a>(_session: &Session, message: &Incoming<'a>) -> Result<Begun<'a>>

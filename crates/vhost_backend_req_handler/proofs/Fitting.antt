@@ -54,3 +54,4 @@ answer_fits device.PostcopyEnd b d p = tt
 answer_fits device.PostcopyAckMemRegions b d p = tt
 answer_fits (device.SetLogBase l h) b d p = tt
 answer_fits (device.SetMtu n) b d p = tt
+answer_fits (device.Other request body hs) b d p = tt

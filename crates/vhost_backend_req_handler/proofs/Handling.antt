@@ -1,6 +1,6 @@
 -- A request that was answered step by step met the row of the message that it is.
-use Rattle.std.proofs.Common.{◌≡◌, Result, refl, subst}
-use Rattle.std.specs.Prelude.{⊤}
+use Rattle.std.proofs.Common.{◌≡◌, ◌∙◌, ℤ, false, Option, None, Some, Result, refl, ap, subst}
+use Rattle.std.specs.Prelude.{⊤, is_some}
 use Rattle.vhost_message.specs.declared.error.Error as declared
 use Rattle.vhost_message.specs.declared.frontend_req.FrontendReq.{FrontendReq}
 use Rattle.vhost_protocol.specs.DeviceCall.{Call, Answer}
@@ -25,3 +25,8 @@ module _ {L H B G Dev : Type 0} (event : L → Event H → L → Type 0) (gives 
       answers-as event (Met gives opens_backend opens_gpu m (row_of m.request s m) s d) (MeetsRow (fitting gives) opens_backend opens_gpu s d m) (kept_unsent m.request s)
       (λ answer written t e met. (settled s m met.told, (met.told, met.follows, refl), met.is_answer, met.is_written, met.session)) old new s' d' result
       (subst (λ (r : FrontendReq). Answers event gives opens_backend opens_gpu m (row_of r s m) old s d result new s' d') is p)
+
+-- no call is open after a request, where none was before
+pub idle-after : {A : Type 0} (failed : Option ℤ) (before after : Option A) → (failed ≡ None → is_some after ≡ false) → ((n : ℤ) → failed ≡ Some n → after ≡ before) → is_some before ≡ false → is_some after ≡ false
+idle-after None before after idle kept none = idle refl
+idle-after (Some n) before after idle kept none = ap is_some (kept n refl) ∙ none

@@ -351,6 +351,10 @@ impl Server {
             DeviceCall::PostcopyAckMemRegions => Some(DeviceAnswer::Done(
                 device.postcopy_ack_mem_regions(),
             )),
+            DeviceCall::Other(request, body) => {
+                let files = list_of(self.alloc, handles.take());
+                Some(DeviceAnswer::Done(device.other(*request, body, files)))
+            }
         }
     }
 

@@ -144,6 +144,8 @@ impl<L: Link> SessionCore<L> {
             → (result ≡ Err (SocketBroken (Raw n))) × (endpoint_of self.new ≡ endpoint_of self.old) × (session_in self.new ≡ session_in self.old) × (device.new ≡ device.old) }
         ensures handled { (session_in self.old).failed ≡ None
             → HandlesOne L.event D.gives (λ h o. OpensAsBackend L.opens L.Handle.kinds (endpoint_of self.old).budget h o) (λ h o. OpensAsGpu L.opens L.Handle.kinds (endpoint_of self.old).budget h o) (endpoint_of self.old) (session_in self.old) device.old result (endpoint_of self.new) (session_in self.new) device.new }
+        ensures idle { (session_in self.old).failed ≡ None → is_some self.new.pending ≡ false }
+        ensures kept { (n : ℤ) → (session_in self.old).failed ≡ Some n → self.new.pending ≡ self.old.pending }
     {
         if let Some(number) = self.server.session.failed {
             return Err(Error::SocketBroken(IoCause::Raw(number)));
@@ -167,6 +169,7 @@ impl<L: Link> SessionCore<L> {
         ensures run { IfOk result (λ _. Runs L.event D.gives (λ h o. OpensAsBackend L.opens L.Handle.kinds (endpoint_of self.old).budget h o) (λ h o. OpensAsGpu L.opens L.Handle.kinds (endpoint_of self.old).budget h o) (endpoint_of self.old) (session_in self.old) device.old count out.old.items out.new.items (endpoint_of self.new) (session_in self.new) device.new) }
         ensures memory { IfErr result (λ e. (e ≡ OutOfMemory) × (endpoint_of self.new ≡ endpoint_of self.old) × (session_in self.new ≡ session_in self.old) × (device.new ≡ device.old) × (out.new.items ≡ out.old.items)) }
         ensures room { IfErr result (λ _. vec_capacity out.old < vec_len out.old + count) }
+        ensures idle { is_some self.old.pending ≡ false → is_some self.new.pending ≡ false }
     {
         if out.reserve(count).is_err() {
             return Err(Error::OutOfMemory);
@@ -193,7 +196,8 @@ impl<L: Link> SessionCore<L> {
         request: Request<FrontendReq>,
         handles: &mut Option<Vec<L::Handle>>,
     ) -> Result<()>
-        ensures { MeetsRowWith L.event L.opens L.Handle.kinds D.gives request.code self.old device.old request handles.old result self.new device.new }
+        ensures pending { self.new.pending ≡ self.old.pending }
+        ensures meets { MeetsRowWith L.event L.opens L.Handle.kinds D.gives request.code self.old device.old request handles.old result self.new device.new }
     {
         let message = Incoming::new(
             request.code,

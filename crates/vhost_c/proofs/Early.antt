@@ -16,19 +16,19 @@ use Rattle.vhost_c_common.specs.declared.incoming.Incoming.{Incoming}
 use Rattle.vhost_c_common.specs.declared.refusal.Refusal.{Refusal}
 use Rattle.vhost_c.specs.declared.session.Session.{Session}
 
--- of a reply of which nothing came, all of its header is missing
-whole : (profile : Profile) (call : FrontendCall PlainHandle) (a : Awaited) (i : Incoming) → a ≡ Reply shape.U64 → i.count ≡ 0 → missing_from profile call a i ≡ 12
+-- of a reply of which nothing came, its header and its number are missing
+whole : (profile : Profile) (call : FrontendCall PlainHandle) (a : Awaited) (i : Incoming) → a ≡ Reply shape.U64 → i.count ≡ 0 → missing_from profile call a i ≡ 20
 whole Vhost call a i is none = rw (is, none) refl
 whole Standard call a i is none = rw (is, none) refl
 
 -- so it is of the features that were asked for
-pub all-missing : (old new : Session) → Asks GetFeatures old new → missing_of new ≡ 12
+pub all-missing : (old new : Session) → Asks GetFeatures old new → missing_of new ≡ 20
 all-missing old new (sent w is queue keeps same sound) =
     ap (λ a. missing_for (remembers new).profile a new.incoming) keeps.is ∙ whole (remembers new).profile _ keeps.kept.sent.awaited new.incoming (keeps.awaited ∙ cc is) keeps.nothing_came
 all-missing old new (at_once flags is memory queue asked incoming answer end) = absurd (cc is)
 
 -- and then it is too early
-pub too-early : (s s' : Session) (outcome : Result ⊤ Refusal) → missing_of s ≡ 12 → Takes s s' outcome → outcome_number outcome ≡ 105
+pub too-early : (s s' : Session) (outcome : Result ⊤ Refusal) → missing_of s ≡ 20 → Takes s s' outcome → outcome_number outcome ≡ 105
 too-early s s' _ all (kept asked zero sized one names fine) = absurd (omega (arith, all, zero))
 too-early s s' _ all (failed asked zero sized one done) = absurd (omega (arith, all, zero))
 too-early s s' _ all (other_size asked nothing zero other one done) = absurd (omega (arith, all, zero))
@@ -38,7 +38,7 @@ too-early s s' _ all (not_yet more same) = refl
 never : (r : Refusal) → outcome_number (Err r) ≡ 0 → ⊥
 never r zero = grind arith
 
-last : {n : ℕ} {new : Option Session} (s : Session) → missing_of s ≡ 12 → By (λ s o s'. Takes s s' o) (Some s) n new → n ≡ 105
+last : {n : ℕ} {new : Option Session} (s : Session) → missing_of s ≡ 20 → By (λ s o s'. Takes s s' o) (Some s) n new → n ≡ 105
 last s all (some {s' = t} {outcome = outcome} takes) = too-early s t outcome all takes
 
 next : {n a : ℕ} {o new : Option Session} (s : Session) → By (Asking GetFeatures) (Some s) a o → By (λ s o s'. Takes s s' o) o n new → a ≡ 0 → n ≡ 105

@@ -1,4 +1,4 @@
--- The machine values of a `Holder`, and what it owns by cases. Assumes `Logic`.
+-- The machine values of what a program in C holds of a session, and what it owns by cases. Assumes `Logic`.
 use Rattle.std.proofs.Common.{◌≡◌, ℕ, List, [], ◌∷◌, ◌++◌, refl, ◌∙◌, lit<}
 use seplogic.Ra.Ura.{Ura}
 use mir.Syntax.{ty_ptr}
@@ -21,8 +21,7 @@ use Rattle.std.specs.declared.alloc.Global.{Global}
 use Rattle.std.specs.contracts.impls.GlobalAllocator.TheImpl.{ghosts}
 use Rattle.std.proofs.GlobalToken.{dealloc_token-Testable}
 use Rattle.std_alloc.specs.Box.Ownership.{box_owns}
-use Rattle.vhost_c.specs.declared.session.Session.{Session}
-use Rattle.vhost_c.specs.contracts.session.Session.{the_row}
+use denote.RattleType.{RattleType}
 use Rattle.vhost_c.specs.Holder.{held}
 
 pub ptr_typed : (p : Ptr) → Good ty_ptr (ptr_val p)
@@ -41,14 +40,14 @@ word_told p vs s = s.1.0 ∙ (λ i. vstruct (of_list (s.1.1.0 i ++ [])) ∷ [])
 pub word_made : {M : Type 1} {𝓤 : Ura M} (𝓛 : Logic 𝓤) (p : Ptr) → ent 𝓤 (emp 𝓤) (sem 𝓛 (word_own p (word p ∷ [])))
 word_made 𝓛 p = makes_shadow 𝓛 (word_own p (word p ∷ [])) (λ _. (tt, (tt, tt))) ((ptr_val p ∷ [], tt), (refl, (refl, tt)))
 
-abbrev pub boxed : Global → Ptr → Session → Fml
-boxed a = box_owns (ghosts.dealloc_token a) the_row
+abbrev pub boxed : (R : RattleType) → Global → Ptr → R.Denot → Fml
+boxed R a = box_owns (ghosts.dealloc_token a) R
 
 -- the pointer to a box may be compared with null
-pub tested : {M : Type 1} {𝓤 : Ura M} (𝓛 : Logic 𝓤) (a : Global) (p : Ptr) (x : Session) → ent 𝓤 (sem 𝓛 (boxed a p x)) (guard 𝓤 (Testable p) (sem 𝓛 (boxed a p x)))
-tested {𝓤 = 𝓤} 𝓛 a p x = fact_use 𝓤 (Testable p) (via 𝓤 _ (snd∗ 𝓤 (sem 𝓛 (lies_at the_row full_share p x)) (sem 𝓛 (ghosts.dealloc_token a (bare (lone the_row.mir)) p))) (dealloc_token-Testable 𝓛 a (bare (lone the_row.mir)) p)) (guard_i 𝓤 (Testable p) (sem 𝓛 (boxed a p x)))
+pub tested : {M : Type 1} {𝓤 : Ura M} (𝓛 : Logic 𝓤) (R : RattleType) (a : Global) (p : Ptr) (x : R.Denot) → ent 𝓤 (sem 𝓛 (boxed R a p x)) (guard 𝓤 (Testable p) (sem 𝓛 (boxed R a p x)))
+tested {𝓤 = 𝓤} 𝓛 R a p x = fact_use 𝓤 (Testable p) (via 𝓤 _ (snd∗ 𝓤 (sem 𝓛 (lies_at R full_share p x)) (sem 𝓛 (ghosts.dealloc_token a (bare (lone R.mir)) p))) (dealloc_token-Testable 𝓛 a (bare (lone R.mir)) p)) (guard_i 𝓤 (Testable p) (sem 𝓛 (boxed R a p x)))
 
 module _ {M : Type 1} {𝓤 : Ura M} {𝓛 : Logic 𝓤} {K : Type 0} {Γ : List (Item 𝓤)} {G : Goal 𝓤 𝓛.H} where
-  pub either_held : K → (p : Ptr) (v : Option Session) → (p ≡ null_ptr → v ≡ None → Seq K 𝓛 Γ G) → ((b o : ℕ) (x : Session) (a : Global) → p ≡ block_ptr b o → v ≡ Some x → Seq K 𝓛 (‵ (boxed a (block_ptr b o) x) ∷ Γ) G) → Seq K 𝓛 (‵ (held p v) ∷ Γ) G
-  either_held t null_ptr v none one = fpick t (λ e. drop t $ none refl e)
-  either_held t (block_ptr b o) v none one = fpick t (λ s. fsplit t $ fpick t (λ e. drop t $ one b o s.0 s.1 refl e))
+  pub either_held : K → (R : RattleType) (p : Ptr) (v : Option R.Denot) → (p ≡ null_ptr → v ≡ None → Seq K 𝓛 Γ G) → ((b o : ℕ) (x : R.Denot) (a : Global) → p ≡ block_ptr b o → v ≡ Some x → Seq K 𝓛 (‵ (boxed R a (block_ptr b o) x) ∷ Γ) G) → Seq K 𝓛 (‵ (held R p v) ∷ Γ) G
+  either_held t R null_ptr v none one = fpick t (λ e. drop t $ none refl e)
+  either_held t R (block_ptr b o) v none one = fpick t (λ s. fsplit t $ fpick t (λ e. drop t $ one b o s.0 s.1 refl e))

@@ -1,5 +1,5 @@
 -- How much of a reply came, and how much is missing.
-use Rattle.std.specs.Prelude.{ℕ, ◌+◌, ◌*◌, min, Bool, true, not, ◌&&◌, ◌||◌, ◌==◌, length, nat_le, if◌then◌else◌}
+use Rattle.std.specs.Prelude.{ℕ, ◌+◌, ◌-◌, ◌*◌, min, Bool, true, not, ◌&&◌, ◌||◌, ◌==◌, length, nat_lt, if◌then◌else◌}
 use Rattle.vhost_message.specs.declared.limits.TheConstants.{MAX_MSG_SIZE, MAX_MEM_REGIONS, MEMORY_REGION_SIZE, MSG_HEADER_SIZE}
 use Rattle.vhost_message.specs.FrontendReq.{request_of}
 use Rattle.vhost_message.specs.Header.{header_of}
@@ -28,9 +28,18 @@ is_sized profile call (Reply shape.Config) size = size == record_size shape.Conf
 is_sized profile call (Reply shape.Log) size = size == record_size shape.Log + behind call || is_standard profile
 is_sized profile call (Reply s) size = size == record_size s + behind call
 
--- How many bytes can be told to be missing of what is awaited: none where nobody answers. Under Standard the body is not waited for where the header decides that the answer is refused.
+-- so much of its body an answer has in any case
+abbrev pub least : Awaited → ℕ
+least Nobody = 0
+least Ack = 8
+least (Reply shape.Config) = 0
+least (Reply shape.Log) = 0
+least (Reply s) = record_size s
+
+-- How many bytes can be told to be missing of what is awaited: none where nobody answers. Before the header is there, it is the header and the least body. Under Standard the body is not waited for where the header decides that the answer is refused.
 abbrev pub missing_from : Profile → FrontendCall PlainHandle → Awaited → Incoming → ℕ
 missing_from profile call Nobody i = 0
 missing_from profile call awaited i =
-    if is_standard profile then (if nat_le MSG_HEADER_SIZE i.count && not (is_sized profile call awaited (header_of i.head).size) then 0 else missing_by request_of i)
+    if nat_lt i.count MSG_HEADER_SIZE then MSG_HEADER_SIZE + least awaited - i.count
+    else if is_standard profile then (if not (is_sized profile call awaited (header_of i.head).size) then 0 else missing_by request_of i)
     else missing_in i

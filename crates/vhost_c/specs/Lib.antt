@@ -1,12 +1,8 @@
 pub mod Answers
 pub mod Awaiting
 pub mod Backend
-pub mod BackendHolder
 pub mod Channel
-pub mod ChannelHolder
-pub mod ChannelServerHolder
 pub mod Display
-pub mod DisplayHolder
 pub mod Holder
 pub mod Incoming
 pub mod Records

@@ -1,7 +1,7 @@
 //! The arguments of the call that is to be replied to, by its form.
 
 ghost use Rattle.vhost_c_common.specs.ByNumber.{By};
-ghost use Rattle.vhost_c_backend.specs.Arguments.{number_arg, ring_arg, vring_arg, ring_fd_arg, fd_arg, inflight_arg, transfer_arg, log_arg, PutsRegions, PutsConfig, PutsName};
+ghost use Rattle.vhost_c_backend.specs.Arguments.{number_arg, ring_arg, vring_arg, ring_fd_arg, fd_arg, inflight_arg, transfer_arg, log_arg, PutsRegions, PutsConfig, PutsName, PutsOther, PutsFds};
 ghost use Rattle.vhost_c_backend.specs.Serving.{Telling, Putting};
 
 use crate::backend_holder::BackendHolder;
@@ -286,6 +286,60 @@ pub extern "C" fn covretin_call_log(
             match outcome {
                 Ok(region) => {
                     *log = region;
+                    number_of(Ok(()))
+                }
+                Err(refusal) => number_of(Err(refusal)),
+            }
+        }
+    }
+}
+
+/// Reads a request without a call of its own: its number, its body, and how long that is.
+#[unsafe(no_mangle)]
+pub extern "C" fn covretin_call_other(
+    alloc: Global,
+    backend: &mut BackendHolder,
+    request: &mut u32,
+    bytes: &mut [u8],
+    count: &mut usize,
+) -> u32
+    ensures { By (Putting (λ hs c. PutsOther c) bytes.old bytes.new (count.new, request.new)) backend.old.session result backend.new.session }
+{
+    match backend.take(alloc) {
+        None => number_of(Err(Refusal::NoSession)),
+        Some(held) => {
+            let outcome = held.other(bytes);
+            backend.put(held);
+            match outcome {
+                Ok((length, number)) => {
+                    *count = length;
+                    *request = number;
+                    number_of(Ok(()))
+                }
+                Err(refusal) => number_of(Err(refusal)),
+            }
+        }
+    }
+}
+
+/// Reads all file descriptors of such a request, and how many there are.
+#[unsafe(no_mangle)]
+pub extern "C" fn covretin_call_fds(
+    alloc: Global,
+    backend: &mut BackendHolder,
+    fds: &mut [i32],
+    count: &mut usize,
+) -> u32
+    ensures { By (Putting PutsFds fds.old fds.new (count.new, tt)) backend.old.session result backend.new.session }
+{
+    match backend.take(alloc) {
+        None => number_of(Err(Refusal::NoSession)),
+        Some(held) => {
+            let outcome = held.fds(fds);
+            backend.put(held);
+            match outcome {
+                Ok((length, _)) => {
+                    *count = length;
                     number_of(Ok(()))
                 }
                 Err(refusal) => number_of(Err(refusal)),

@@ -4,7 +4,7 @@ ghost use Rattle.std.specs.Prelude.{Option};
 ghost use Rattle.std.specs.Coded.{coded_option};
 ghost use Rattle.vhost_c_channel.specs.declared.asking.Channel.{Channel};
 ghost use Rattle.vhost_c_channel.specs.contracts.asking.Channel.{the_row};
-ghost use Rattle.vhost_c.specs.ChannelHolder.{held};
+ghost use Rattle.vhost_c.specs.Holder.{held};
 
 use crate::loose::Loose;
 use std::alloc::Global;
@@ -22,7 +22,7 @@ pub struct ChannelHolder {
 }
 
 impl Model for ChannelHolder {
-    ghost also_owns = { λ h. held h.at h.session };
+    ghost also_owns = { λ h. held the_row h.at h.session };
 }
 
 impl ChannelHolder {

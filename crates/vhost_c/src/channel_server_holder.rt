@@ -4,7 +4,7 @@ ghost use Rattle.std.specs.Prelude.{Option};
 ghost use Rattle.std.specs.Coded.{coded_option};
 ghost use Rattle.vhost_c_channel.specs.declared.serving.ChannelServer.{ChannelServer};
 ghost use Rattle.vhost_c_channel.specs.contracts.serving.ChannelServer.{the_row};
-ghost use Rattle.vhost_c.specs.ChannelServerHolder.{held};
+ghost use Rattle.vhost_c.specs.Holder.{held};
 
 use crate::loose::Loose;
 use std::alloc::Global;
@@ -22,7 +22,7 @@ pub struct ChannelServerHolder {
 }
 
 impl Model for ChannelServerHolder {
-    ghost also_owns = { λ h. held h.at h.session };
+    ghost also_owns = { λ h. held the_row h.at h.session };
 }
 
 impl ChannelServerHolder {

@@ -4,7 +4,7 @@ ghost use Rattle.std.specs.Prelude.{Option};
 ghost use Rattle.std.specs.Coded.{coded_option};
 ghost use Rattle.vhost_c_channel.specs.declared.display.Display.{Display};
 ghost use Rattle.vhost_c_channel.specs.contracts.display.Display.{the_row};
-ghost use Rattle.vhost_c.specs.DisplayHolder.{held};
+ghost use Rattle.vhost_c.specs.Holder.{held};
 
 use crate::loose::Loose;
 use std::alloc::Global;
@@ -22,7 +22,7 @@ pub struct DisplayHolder {
 }
 
 impl Model for DisplayHolder {
-    ghost also_owns = { λ h. held h.at h.session };
+    ghost also_owns = { λ h. held the_row h.at h.session };
 }
 
 impl DisplayHolder {

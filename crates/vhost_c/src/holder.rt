@@ -22,7 +22,7 @@ pub struct Holder {
 }
 
 impl Model for Holder {
-    ghost also_owns = { λ h. held h.at h.session };
+    ghost also_owns = { λ h. held the_row h.at h.session };
 }
 
 impl Holder {

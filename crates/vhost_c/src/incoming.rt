@@ -5,7 +5,7 @@ ghost use Rattle.vhost_message.specs.Header.{header_of};
 ghost use Rattle.vhost_message.specs.declared.limits.TheConstants.{MAX_MSG_SIZE as the_most, MAX_MSG_TEXT};
 ghost use Rattle.vhost_protocol.specs.Take.{record_size as size_of_record};
 ghost use Rattle.vhost_frontend_core.specs.Values.{call_of};
-ghost use Rattle.vhost_c.specs.Incoming.{behind as list_behind, is_sized as has_size, missing_from as missing_of_reply};
+ghost use Rattle.vhost_c.specs.Incoming.{behind as list_behind, is_sized as has_size, least as least_of, missing_from as missing_of_reply};
 
 use vhost_c_common::Incoming;
 use vhost_frontend_core::{Awaited, FrontendCall};
@@ -15,8 +15,9 @@ use vhost_message::{
 };
 use vhost_protocol::{Profile, Shape};
 
-/// How many bytes are known to be missing of the reply that is awaited. Under `Standard` its body is not waited for where the
-/// header decides that it is refused: that may never come.
+/// How many bytes are known to be missing of the reply that is awaited: before its header is there, that and as much of a body
+/// as each answer has. Under `Standard` its body is not waited for where the header decides that it is refused: that may never
+/// come.
 pub(crate) fn missing_from(
     incoming: &Incoming,
     profile: Profile,
@@ -29,10 +30,13 @@ pub(crate) fn missing_from(
     match awaited {
         Awaited::Nobody => 0,
         _ => {
+            if incoming.count < MSG_HEADER_SIZE {
+                return MSG_HEADER_SIZE + least(awaited) - incoming.count;
+            }
             if !profile.is_standard() {
                 return incoming.missing();
             }
-            if incoming.count >= MSG_HEADER_SIZE && !is_sized(incoming, profile, call, awaited) {
+            if !is_sized(incoming, profile, call, awaited) {
                 return 0;
             }
             incoming.missing_by::<FrontendReq>(false)
@@ -61,6 +65,19 @@ pub(crate) fn is_sized(
             size == record_size(Shape::Log) + behind(call) || profile.is_standard()
         }
         Awaited::Reply(shape) => size == record_size(shape) + behind(call),
+    }
+}
+
+/// How much of its body an answer has in any case: of configuration bytes there may be none, and the answer about a log may
+/// have any size.
+fn least(awaited: Awaited) -> usize
+    ensures size { result ≡ least_of awaited }
+    ensures within { result ≤ 2056 }
+{
+    match awaited {
+        Awaited::Nobody | Awaited::Reply(Shape::Config) | Awaited::Reply(Shape::Log) => 0,
+        Awaited::Ack => 8,
+        Awaited::Reply(shape) => record_size(shape),
     }
 }
 

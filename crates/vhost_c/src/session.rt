@@ -11,10 +11,10 @@ ghost use Rattle.vhost_frontend_core.specs.Values.{call_of};
 ghost use Rattle.vhost_protocol.specs.declared.profile.Profile.TheVariants.{Standard};
 ghost use Rattle.vhost_c.specs.Awaiting.{awaited_of};
 
-use crate::carrying::{collect, forget, forget_arrived, give, take_nothing};
+use crate::carrying::{collect, forget, forget_arrived, hand_out, receive, take_nothing};
 use crate::incoming::{is_sized, missing_from};
 use std::alloc::Global;
-use vhost_c_common::{Incoming, Outgoing, Refusal, handles_of, inactive_of};
+use vhost_c_common::{Incoming, Outgoing, Refusal, inactive_of};
 use vhost_connection::talks_law;
 use vhost_frontend_core::{
     Awaited, FrontendAnswer, FrontendCall, FrontendInternal, Profile, Sent, ask, take,
@@ -120,7 +120,7 @@ impl Session {
         if self.asked.is_some() {
             return Err(Refusal::NotTaken);
         }
-        match collect(&mut self.frontend, &mut self.outgoing.link) {
+        match collect(&mut self.frontend, &mut self.outgoing) {
             Ok(()) => {
                 forget_arrived(&mut self.frontend);
                 match self.ask_now(call) {
@@ -163,8 +163,7 @@ impl Session {
     /// Hands out a piece of what is to be sent; the answer is how many bytes and descriptors. Nothing is left to be sent
     /// where it is 0.
     ///
-    /// NoRoom: there is no room for a byte, or not for all descriptors that one may bring. OutOfMemory: an allocation
-    /// failed. After each, nothing changed.
+    /// NoRoom: there is no room for a byte, or not for all descriptors that one may bring. Then nothing changed.
     pub(crate) fn hand_out(&mut self, bytes: &mut [u8], fds: &mut [i32]) -> Outcome<(usize, usize)>
         ensures out { IfOk result (λ n. HandsOut (queued self.old) (queued self.new) bytes.new fds.new n) }
         ensures reason { IfErr result (λ r. HandsNone bytes.new fds.new r) }
@@ -174,13 +173,7 @@ impl Session {
         if bytes.is_empty() || fds.len() < MAX_ATTACHED_FD_ENTRIES {
             return Err(Refusal::NoRoom);
         }
-        match collect(&mut self.frontend, &mut self.outgoing.link) {
-            Ok(()) => match self.outgoing.hand_out(bytes, fds) {
-                Ok(counts) => Ok(counts),
-                Err(error) => Err(Refusal::Protocol(error)),
-            },
-            Err(error) => Err(Refusal::Protocol(error)),
-        }
+        Ok(hand_out(&mut self.frontend, &mut self.outgoing, bytes, fds))
     }
 
     /// How many bytes are known to be missing of the answer.
@@ -210,18 +203,10 @@ impl Session {
         if bytes.len() > self.missing() {
             return Err(Refusal::TooManyBytes);
         }
-        match handles_of(self.alloc, fds) {
-            Ok(handles) => {
-                if handles.len() > MAX_ATTACHED_FD_ENTRIES || bytes.is_empty() && !fds.is_empty() {
-                    return Err(Refusal::Protocol(Error::InvalidParam));
-                }
-                match give(&mut self.frontend, bytes, &handles) {
-                    Ok(()) => {
-                        self.incoming.add(bytes);
-                        Ok(())
-                    }
-                    Err(error) => Err(Refusal::Protocol(error)),
-                }
+        match receive(self.alloc, &mut self.frontend, bytes, fds) {
+            Ok(()) => {
+                self.incoming.add(bytes);
+                Ok(())
             }
             Err(error) => Err(Refusal::Protocol(error)),
         }

@@ -1,5 +1,6 @@
--- Regions are written one after another.
+-- Regions are written one after another, and other lists to the front of a place.
 use Rattle.std.proofs.Common.{◌≡◌, ℕ, zero, suc, ◌+◌, ◌<◌, ◌≤◌, List, [], ◌∷◌, ◌++◌, length, take, drop, slice_set, slice_index_or, refl, sym, ap, ◌∙◌, arith}
+use Rattle.std.proofs.lemmas.List.{take-append-drop}
 use Rattle.vhost_message.specs.declared.records.memory.VhostUserMemoryRegion.{VhostUserMemoryRegion}
 use Rattle.vhost_link.specs.declared.plain.PlainHandle.{PlainHandle}
 use Rattle.vhost_c_common.specs.declared.records.Region.{Region}
@@ -35,3 +36,8 @@ writes-next rs hs before places i d r lt room so-far is =
 pub length-with : (rs : List VhostUserMemoryRegion) (hs : List PlainHandle) → length (regions_with rs hs) ≡ length rs
 length-with [] hs = refl
 length-with (r ∷ rs) hs = ap suc (length-with rs (drop 1 hs))
+
+-- a list at the front of a place, which is as it was behind that
+pub fronted : {A : Type 0} (list before after : List A) (n : ℕ) → length list ≡ n → take n after ≡ list → drop n after ≡ drop n before → after ≡ list ++ drop (length list) before
+fronted list before after n is front rest =
+    sym (take-append-drop n after) ∙ ap (λ xs. xs ++ drop n after) front ∙ ap (λ xs. list ++ xs) (rest ∙ ap (λ k. drop k before) (sym is))

@@ -23,7 +23,7 @@ use Rattle.vhost_backend_core.specs.Settling.{Settles, settled_by}
 use Rattle.vhost_backend_core.specs.declared.answer.DeviceAnswer.{DeviceAnswer}
 use Rattle.vhost_backend_core.specs.declared.call.DeviceCall.{DeviceCall}
 use Rattle.vhost_backend_core.specs.declared.call.DeviceCall.TheVariants as call
-use Rattle.vhost_backend_req_handler.specs.Core.{endpoint_of}
+use Rattle.vhost_backend_req_handler.specs.Core.{endpoint_of, session_in}
 use Rattle.vhost_backend_req_handler.specs.Halves as halves
 use Rattle.vhost_backend_req_handler.specs.Halves.{Prepares, beside_then}
 use Rattle.vhost_backend_req_handler.specs.Serving.{Finishes, finished, stopped, reply_cells, kept_unsent}
@@ -38,7 +38,7 @@ use Rattle.vhost_c_backend.specs.Calls.{asked_number, call_number}
 use Rattle.vhost_c_backend.specs.Replies.{form_in}
 use Rattle.vhost_c_backend.specs.Served.{remembers, has_call, missing_of, missing_of_request}
 use Rattle.vhost_c_backend.specs.Serving as serving
-use Rattle.vhost_c_backend.specs.Serving.{Request, Channel, Display, row, IsCall, IsServed, Tells, Puts, Concludes, told, Answers, Replies, done, failed, rejected, IsDue}
+use Rattle.vhost_c_backend.specs.Serving.{Request, Channel, Display, row, IsCall, IsRead, IsServed, Tells, Puts, Concludes, told, Answers, Replies, done, failed, rejected, IsDue}
 use Rattle.vhost_c_backend.specs.declared.replies.Form.{Form}
 use Rattle.vhost_c_backend.specs.declared.served.Served.{Served}
 
@@ -63,14 +63,14 @@ handed (Some v) hs (is, some) = is
 
 -- where a message is served there is a call
 pub is-there : (s : Served) (m : Request) → IsServed m s → has_call s ≡ true
-is-there s m x = some-is s.core.pending x.pending x.is
+is-there s m x = some-is s.core.pending x.read.pending x.read.is
 
 -- it is lent
-pub lent : (s : Served) (o : Option DeviceCall)
-    → ((p : Pending PlainHandle) (m : Request) → s.core.pending ≡ Some p → Reads s.core.body.value p.request m → HandsOver p.handles m.handles → IfSome o (λ c. row (remembers s) m ≡ step_of (remembers s) m c))
-    → ((p : Pending PlainHandle) (m : Request) → s.core.pending ≡ Some p → Reads s.core.body.value p.request m → HandsOver p.handles m.handles → Makes (row (remembers s) m) → is_some o ≡ true)
-    → (m : Request) → IsServed m s → (c : DeviceCall) × (o ≡ Some c) × IsCall (remembers s) m c
-lent s o is some m x = of-some o (some x.pending m x.is x.reads x.hands (subst (λ (t : Step PlainHandle Channel Display). Makes t) (sym x.prepares.row) x.prepares.makes)) (is x.pending m x.is x.reads x.hands)
+pub lent : (k : SessionCore Ends PlainHandle) (o : Option DeviceCall)
+    → ((p : Pending PlainHandle) (m : Request) → k.pending ≡ Some p → Reads k.body.value p.request m → HandsOver p.handles m.handles → IfSome o (λ c. row (session_in k) m ≡ step_of (session_in k) m c))
+    → ((p : Pending PlainHandle) (m : Request) → k.pending ≡ Some p → Reads k.body.value p.request m → HandsOver p.handles m.handles → Makes (row (session_in k) m) → is_some o ≡ true)
+    → (m : Request) → IsRead m k → (c : DeviceCall) × (o ≡ Some c) × IsCall (session_in k) m c
+lent k o is some m x = of-some o (some x.pending m x.is x.reads x.hands (subst (λ (t : Step PlainHandle Channel Display). Makes t) (sym x.prepares.row) x.prepares.makes)) (is x.pending m x.is x.reads x.hands)
 
 -- what is told of it
 module _ {A : Type 0} (of : List PlainHandle → DeviceCall → Option A) (s : Served) (hs : List PlainHandle) (outcome : Result A Refusal) where
@@ -113,15 +113,15 @@ puts-plain puts s before after outcome c one none is = record {
 
 -- ---- the next request
 
--- one that was read is being served
-pub served : (old new : Served) (b : halves.Begins Channel Display event old.core new.core) → IsServed b.reads.message new
-served old new b = record {
+-- what was begun was read
+pub read : (old new : SessionCore Ends PlainHandle) (b : halves.Begins Channel Display event old new) → IsRead b.reads.message new
+read old new b = record {
   pending = b.pending;
   is = b.is;
   reads = b.reads.reads;
   hands = b.reads.hands;
   settles = subst {A = Session} (λ t. Settles t b.reads.message b.pending.unanswered) (sym b.session) b.settles;
-  prepares = subst {A = Session} (λ t. Prepares Channel Display t b.reads.message b.pending.then new.core.server.regions) (sym b.session) b.prepares;
+  prepares = subst {A = Session} (λ t. Prepares Channel Display t b.reads.message b.pending.then new.server.regions) (sym b.session) b.prepares;
   ready = record { broken = b.reads.hears.serves.after; faulted = b.reads.hears.serves.faulted };
 }
 
@@ -157,19 +157,20 @@ is-due s n idle is none =
     let zero : missing_of_request s ≡ 0 = omega arith in
     record { idle = idle; whole = ap (λ b. if b then 0 else missing_of_request s) idle ∙ zero }
 
-pub begins : TalksLaw → (old new : Served) (number : ℕ) (c : DeviceCall) (b : halves.Begins Channel Display event old.core new.core) → new.outgoing ≡ old.outgoing → new.incoming.count ≡ 0 → new.inactive ≡ 0 → number ≡ call_number c
-    → ((m : Request) → IsServed m new → (d : DeviceCall) × (Some c ≡ Some d) × IsCall (remembers new) m d) → IsDue old → serving.Begins number old new
-begins law old new number c b outgoing count inactive is lends due =
+pub begins : TalksLaw → (old new : Served) (number : ℕ) (b : halves.Begins Channel Display event old.core new.core) → new.outgoing ≡ old.outgoing → new.incoming.count ≡ 0 → new.inactive ≡ 0
+    → ((m : Request) → IsRead m new.core → (d : DeviceCall) × ◌≡◌ {A = Option (ℕ × Form)} (Some (number, new.form)) (Some (call_number d, form_in d)) × IsCall (remembers new) m d) → IsDue old → serving.Begins number old new
+begins law old new number b outgoing count inactive asked due =
     let cut = hears-cut law (split (heard_in (remembers old)) allows_handles) (endpoint_of old.core) (endpoint_of new.core) (Ok b.reads.message) b.reads.hears in
-    let x = served old new b in let d = lends b.reads.message x in
+    let x = read old.core new.core b in let d = asked b.reads.message x in
+    let both : ◌≡◌ {A = ℕ × Form} (number, new.form) (call_number d.0, form_in d.0) = cc d.1 in
     let makes : Makes (step_of {B = Channel} {G = Display} (remembers new) b.reads.message d.0) =
     subst {A = Step PlainHandle Channel Display} (λ t. Makes t) (sym x.prepares.row ∙ d.2) x.prepares.makes in
     record {
       due = due;
       message = b.reads.message;
       came = cut.0;
-      served = x;
-      is_number = is ∙ ap {A = DeviceCall} call_number (cc d.1) ∙ sym (asks (remembers new) b.reads.message d.0 makes) ∙ ap {A = Step PlainHandle Channel Display} asked_number (sym d.2) ∙ ap {A = Session} (λ t. asked_number (row t b.reads.message)) b.session;
+      served = record { read = x; call = d.0; makes = d.2; form = ap {A = ℕ × Form} (λ p. p.1) both };
+      is_number = ap {A = ℕ × Form} (λ p. p.0) both ∙ sym (asks (remembers new) b.reads.message d.0 makes) ∙ ap {A = Step PlainHandle Channel Display} asked_number (sym d.2) ∙ ap {A = Session} (λ t. asked_number (row t b.reads.message)) b.session;
       memory = b.session;
       queue = ap {A = Outgoing} (λ q. q.link.pending ++ (endpoint_of new.core).link.sent) outgoing ∙ ap (λ xs. old.outgoing.link.pending ++ xs) cut.1;
       nothing_came = count;
@@ -184,36 +185,36 @@ pub concludes : TalksLaw → ConcludesRow PlainHandle Channel Display → (m : R
     → ((p : Pending PlainHandle) → old.core.pending ≡ Some p → Finishes event p.request.code (settled_by p.unanswered (concluded (remembers old) p.request.need_reply (beside_then p.then old.core.server) p.then a)) (endpoint_of old.core) (remembers old) result (endpoint_of new.core) (remembers new))
     → new.outgoing ≡ old.outgoing → IsServed m old → Concludes m old.core.server.shmem a old new result
 concludes talks law m a old new result finishes outgoing x =
-    by result (subst (λ (q : Outcome PlainHandle). Finishes event x.pending.request.code q (endpoint_of old.core) s result (endpoint_of new.core) (remembers new)) (x.settles o) (finishes x.pending x.is))
+    by result (subst (λ (q : Outcome PlainHandle). Finishes event x.read.pending.request.code q (endpoint_of old.core) s result (endpoint_of new.core) (remembers new)) (x.read.settles o) (finishes x.read.pending x.read.is))
   where
     s : Session
     s = remembers old
 
     o : Outcome PlainHandle
-    o = concluded s x.pending.request.need_reply (beside_then x.pending.then old.core.server) x.pending.then a
+    o = concluded s x.read.pending.request.need_reply (beside_then x.read.pending.then old.core.server) x.read.pending.then a
 
-    same : concluded s m.need_reply (beside_then x.pending.then old.core.server) (then_of x.prepares.call) a ≡ o
-    same = sym (ap (λ need. concluded s need (beside_then x.pending.then old.core.server) x.pending.then a) x.reads.need_reply ∙ ap (λ t. concluded s m.need_reply (beside_then x.pending.then old.core.server) t a) x.prepares.next)
+    same : concluded s m.need_reply (beside_then x.read.pending.then old.core.server) (then_of x.read.prepares.call) a ≡ o
+    same = sym (ap (λ need. concluded s need (beside_then x.read.pending.then old.core.server) x.read.pending.then a) x.read.reads.need_reply ∙ ap (λ t. concluded s m.need_reply (beside_then x.read.pending.then old.core.server) t a) x.read.prepares.next)
 
-    follows : FollowsFrom {B = Channel} {G = Display} s (beside_then x.pending.then old.core.server) a (row s m) o
+    follows : FollowsFrom {B = Channel} {G = Display} s (beside_then x.read.pending.then old.core.server) a (row s m) o
     follows =
-        subst (λ (r : Step PlainHandle Channel Display). FollowsFrom {B = Channel} {G = Display} s (beside_then x.pending.then old.core.server) a r o) (sym x.prepares.row)
-        (subst (λ (q : Outcome PlainHandle). FollowsFrom {B = Channel} {G = Display} s (beside_then x.pending.then old.core.server) a (step_of s m x.prepares.call) q) same
-        (law s m x.prepares.call (beside_then x.pending.then old.core.server) a x.prepares.regions))
+        subst (λ (r : Step PlainHandle Channel Display). FollowsFrom {B = Channel} {G = Display} s (beside_then x.read.pending.then old.core.server) a r o) (sym x.read.prepares.row)
+        (subst (λ (q : Outcome PlainHandle). FollowsFrom {B = Channel} {G = Display} s (beside_then x.read.pending.then old.core.server) a (step_of s m x.read.prepares.call) q) same
+        (law s m x.read.prepares.call (beside_then x.read.pending.then old.core.server) a x.read.prepares.regions))
 
     cells : List (Cell PlainHandle)
-    cells = reply_cells x.pending.request.code (settled s m o).served
+    cells = reply_cells x.read.pending.request.code (settled s m o).served
 
     coded : cells ≡ reply_cells m.request (settled s m o).served
-    coded = ap (λ r. reply_cells r (settled s m o).served) x.reads.code
+    coded = ap (λ r. reply_cells r (settled s m o).served) x.read.reads.code
 
-    by : (r : Result ⊤ declared.Error) → Finishes event x.pending.request.code (settled s m o) (endpoint_of old.core) s r (endpoint_of new.core) (remembers new) → Concludes m old.core.server.shmem a old new r
-    by r (finished is replies session) = told (regions_for x.pending.then old.core.server.regions) o follows is
+    by : (r : Result ⊤ declared.Error) → Finishes event x.read.pending.request.code (settled s m o) (endpoint_of old.core) s r (endpoint_of new.core) (remembers new) → Concludes m old.core.server.shmem a old new r
+    by r (finished is replies session) = told (regions_for x.read.pending.then old.core.server.regions) o follows is
         (ap {A = Outgoing} (λ q. q.link.pending ++ (endpoint_of new.core).link.sent) outgoing ∙ ap (λ xs. old.outgoing.link.pending ++ xs) ((replies-told talks (endpoint_of old.core) (endpoint_of new.core) cells replies).1 ∙ ap (λ xs. (endpoint_of old.core).link.sent ++ xs) coded)
         ∙ sym (append_assoc old.outgoing.link.pending (endpoint_of old.core).link.sent (reply_cells m.request (settled s m o).served)))
         (replies-told talks (endpoint_of old.core) (endpoint_of new.core) cells replies).0
         session (sound (endpoint_of old.core) (endpoint_of new.core) replies.serves)
-    by (Err e) (stopped stops session) = serving.stopped (regions_for x.pending.then old.core.server.regions) o follows (subst (λ cs. Stops event (endpoint_of old.core) cs e (endpoint_of new.core)) coded stops) (session ∙ ap (λ r. kept_unsent r s (settled s m o).session) x.reads.code)
+    by (Err e) (stopped stops session) = serving.stopped (regions_for x.read.pending.then old.core.server.regions) o follows (subst (λ cs. Stops event (endpoint_of old.core) cs e (endpoint_of new.core)) coded stops) (session ∙ ap (λ r. kept_unsent r s (settled s m o).session) x.read.reads.code)
 
 -- ---- replies
 
@@ -249,7 +250,12 @@ pub concludes-placed : (old new : Served) (config : VhostUserShMemConfig) (core 
     → ((m : Request) → IsServed m (record old { core = core }) → Concludes m core.server.shmem a (record old { core = core }) new result) → (m : Request) → IsServed m old → Concludes m config a old new result
 concludes-placed old new config core a result is concluded m x =
     again (subst {A = SessionCore Ends PlainHandle} (λ k. (n : Request) → IsServed n (record old { core = k }) → Concludes n k.server.shmem a (record old { core = k }) new result) is concluded m
-    (record { pending = x.pending; is = x.is; reads = x.reads; hands = x.hands; prepares = x.prepares; settles = x.settles; ready = x.ready }))
+    (record {
+      read = record { pending = x.read.pending; is = x.read.is; reads = x.read.reads; hands = x.read.hands; prepares = x.read.prepares; settles = x.read.settles; ready = x.read.ready };
+      call = x.call;
+      makes = x.makes;
+      form = x.form;
+    }))
   where
     again : {r : Result ⊤ declared.Error} → Concludes m config a (placed old config) new r → Concludes m config a old new r
     again (told rs o follows is queue came memory sound) = told rs o follows is queue came memory sound

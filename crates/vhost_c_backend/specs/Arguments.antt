@@ -1,5 +1,5 @@
 -- The arguments of a call of a device, by its form.
-use Rattle.std.specs.Prelude.{◌≡◌, ◌<◌, ℕ, ℤ, negsuc, Bool, false, List, [], ◌∷◌, ◌++◌, length, drop, Option, Some, None, Result, Ok, Err, not, ◌==◌, bit_and, if◌then◌else◌, ⊤}
+use Rattle.std.specs.Prelude.{◌≡◌, ◌<◌, ℕ, ℤ, negsuc, Bool, false, List, [], ◌∷◌, ◌++◌, length, map, drop, Option, Some, None, Result, Ok, Err, not, ◌==◌, bit_and, if◌then◌else◌, ⊤}
 use Rattle.vhost_message.specs.Transfer.{direction_number, phase_number}
 use Rattle.vhost_message.specs.declared.records.memory.VhostUserMemoryRegion.{VhostUserMemoryRegion}
 use Rattle.vhost_message.specs.declared.records.vring.VhostUserVringAddr.{VhostUserVringAddr}
@@ -110,6 +110,16 @@ config_arg (call.GetConfig a) = Some ([], record { offset = a.config.offset; siz
 config_arg (call.SetConfig a bytes) = Some (bytes.now, record { offset = a.config.offset; size = a.config.size; flags = a.config.flags })
 config_arg _ = None
 
+-- the body of a request without a call of its own, and its number
+abbrev pub other_arg : DeviceCall → Option (List ℕ × ℕ)
+other_arg (call.Other request body) = Some (body.now, request)
+other_arg _ = None
+
+-- all descriptors that came with it
+abbrev pub fds_arg : List PlainHandle → DeviceCall → Option (List ℤ × ⊤)
+fds_arg hs (call.Other request body) = Some (map fd_in hs, tt)
+fds_arg hs _ = None
+
 -- A list is put at the front of a place, and how long it is; or there is no room for it.
 abbrev pub PutsAll : {A : Type 0} → List A → List A → List A → Result ℕ Refusal → Type 0
 PutsAll list before after (Ok n) = (after ≡ list ++ drop (length list) before) × (n ≡ length list)
@@ -129,6 +139,14 @@ PutsRegions hs c = PutsList (regions_arg hs c)
 -- the bytes of a call are
 abbrev pub PutsConfig : DeviceCall → List ℕ → List ℕ → Result (ℕ × Config) Refusal → Type 0
 PutsConfig c = PutsList (config_arg c)
+
+-- the body of another request is
+abbrev pub PutsOther : DeviceCall → List ℕ → List ℕ → Result (ℕ × ℕ) Refusal → Type 0
+PutsOther c = PutsList (other_arg c)
+
+-- its descriptors are
+abbrev pub PutsFds : List PlainHandle → DeviceCall → List ℤ → List ℤ → Result (ℕ × ⊤) Refusal → Type 0
+PutsFds hs c = PutsList (fds_arg hs c)
 
 -- A name is put at the front of a place; or there is no room for it, or it is none.
 abbrev pub PutsNamed : Option (List ℕ) → List ℕ → List ℕ → Result ⊤ Refusal → Type 0

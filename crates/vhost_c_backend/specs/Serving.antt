@@ -64,15 +64,22 @@ row s m = row_of m.request s m
 abbrev pub IsCall : Session → Request → DeviceCall → Type 0
 IsCall s m c = row s m ≡ step_of s m c
 
--- This message was read, and its call is to be replied to.
-pub record IsServed (m : Request) (s : Served) : Type 0 where
+-- This message was read, and its call is to be answered.
+pub record IsRead (m : Request) (k : SessionCore Ends PlainHandle) : Type 0 where
   pub pending : Pending PlainHandle
-  pub is : s.core.pending ≡ Some pending
-  pub reads : Reads s.core.body.value pending.request m
+  pub is : k.pending ≡ Some pending
+  pub reads : Reads k.body.value pending.request m
   pub hands : HandsOver pending.handles m.handles
-  pub prepares : Prepares Channel Display (remembers s) m pending.then s.core.server.regions
-  pub settles : Settles (remembers s) m pending.unanswered
-  pub ready : IsReady (endpoint_of s.core)
+  pub prepares : Prepares Channel Display (session_in k) m pending.then k.server.regions
+  pub settles : Settles (session_in k) m pending.unanswered
+  pub ready : IsReady (endpoint_of k)
+
+-- This message was read, and its call is to be replied to in the form that is kept.
+pub record IsServed (m : Request) (s : Served) : Type 0 where
+  pub read : IsRead m s.core
+  pub call : DeviceCall
+  pub makes : IsCall (remembers s) m call
+  pub form : s.form ≡ form_in call
 
 -- What is read of the call that is to be replied to: this, of its descriptors and of it, where it has that.
 pub record Tells {A : Type 0} (of : List PlainHandle → DeviceCall → Option A) (s : Served) (outcome : Result A Refusal) : Type 0 where

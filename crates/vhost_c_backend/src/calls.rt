@@ -46,5 +46,6 @@ pub(crate) fn number_of_call(call: &DeviceCall) -> u32
         DeviceCall::CheckDeviceState => 43,
         DeviceCall::GetShmemConfig => 44,
         DeviceCall::PostcopyAckMemRegions => 256,
+        DeviceCall::Other(_, _) => 257,
     }
 }

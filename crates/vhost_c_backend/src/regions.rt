@@ -1,12 +1,12 @@
 //! The regions of a call, and bytes of the configuration space: arguments that need room.
 
-ghost use Rattle.std.specs.Prelude.{◌≡◌, ◌≤◌, ◌∷◌, ◌++◌, [], length, drop};
-ghost use Rattle.vhost_c_common.specs.Records.{config_in};
-ghost use Rattle.vhost_c_backend.specs.Arguments.{region_at, regions_with, PutsAll, PutsRegions, PutsConfig, PutsName, fd_at as fd_of_index};
+ghost use Rattle.std.specs.Prelude.{◌≡◌, ◌≤◌, ◌∷◌, ◌++◌, [], length, map, drop};
+ghost use Rattle.vhost_c_common.specs.Records.{config_in, fd_in};
+ghost use Rattle.vhost_c_backend.specs.Arguments.{region_at, regions_with, PutsAll, PutsRegions, PutsConfig, PutsName, PutsOther, PutsFds, fd_at as fd_of_index};
 ghost use Rattle.vhost_backend_core.specs.Beginning.{regions_in};
 
 use vhost_backend_core::{DeviceCall, RegionTable};
-use vhost_c_common::{Config, Refusal, Region, fd_of};
+use vhost_c_common::{Config, Refusal, Region, fd_of, put_fds as write_fds};
 use vhost_link::PlainHandle;
 use vhost_message::{MAX_MEM_REGIONS, VhostUserConfig, VhostUserMemoryRegion};
 
@@ -135,6 +135,46 @@ fn part(config: VhostUserConfig) -> Config
         offset: config.offset,
         size: config.size,
         flags: config.flags,
+    }
+}
+
+/// Writes the body of a request without a call of its own to the start of a place: how long it is, and the request's number.
+///
+/// NoRoom: the place is too small. OtherCall: the call is no such request. After both, nothing was written.
+pub(crate) fn put_other(call: &DeviceCall, place: &mut [u8]) -> Outcome<(usize, u32)>
+    ensures { PutsOther call.now place.old place.new result }
+{
+    match call {
+        DeviceCall::Other(request, body) => {
+            if body.len() > place.len() {
+                return Err(Refusal::NoRoom);
+            }
+            place[..body.len()].copy_from_slice(body);
+            Ok((body.len(), *request))
+        }
+        _ => Err(Refusal::OtherCall),
+    }
+}
+
+/// Writes all file descriptors of a request without a call of its own to the start of a place: how many there are.
+///
+/// NoRoom: the place is too small. OtherCall: the call is no such request. After both, nothing was written.
+pub(crate) fn put_fds(
+    call: &DeviceCall,
+    handles: &[PlainHandle],
+    place: &mut [i32],
+) -> Outcome<(usize, ())>
+    ensures { PutsFds handles.now call.now place.old place.new result }
+{
+    match call {
+        DeviceCall::Other(_, _) => {
+            if handles.len() > place.len() {
+                return Err(Refusal::NoRoom);
+            }
+            write_fds(handles, place);
+            Ok((handles.len(), ()))
+        }
+        _ => Err(Refusal::OtherCall),
     }
 }
 

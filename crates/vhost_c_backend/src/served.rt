@@ -7,15 +7,15 @@ use crate::arguments::{
     fd_of_call, inflight_of, log_of, number_of, ring_fd_of, ring_of, transfer_of, vring_of,
 };
 use crate::calls::number_of_call;
-use crate::regions::{put_config, put_name, put_regions};
+use crate::regions::{put_config, put_fds, put_name, put_other, put_regions};
 use crate::replies::{Form, Reply, form_of};
 use std::alloc::Global;
 use vhost_backend_core::{DeviceAnswer, DeviceCall, Laws};
 use vhost_backend_req::Backend;
 use vhost_backend_req_handler::SessionCore;
 use vhost_c_common::{
-    Config, Incoming, Inflight, Outgoing, Refusal, Region, Vring, carry_out, empty, feature_of,
-    handles_of, push,
+    Config, Incoming, Inflight, Outgoing, Refusal, Region, Vring, empty, feature_of, hand_out,
+    receive,
 };
 use vhost_connection::talks_law;
 use vhost_gpu_backend_req::GpuBackend;
@@ -38,6 +38,8 @@ pub struct Served {
     incoming: Incoming,
     /// The feature that was not active, where the last request was refused for that; else 0.
     inactive: u64,
+    /// In which form the call is replied to that is to be replied to.
+    form: Form,
     alloc: Global,
 }
 
@@ -47,7 +49,9 @@ impl Served {
     ghost use Rattle.vhost_c_common.specs.View.{Hands, HandsNone, Receives, TakesNone};
     ghost use Rattle.vhost_c_backend.specs.Served.{IsNew, Choosing, missing_of, missing_of_request, end_number, queued, view, remembers, has_call};
     ghost use Rattle.vhost_c_backend.specs.Replies.{form_in};
-    ghost use Rattle.vhost_c_backend.specs.Serving.{Request, IsServed, IsCall, Nexts, Answering, AnsweringShmem, Concludes, Rests};
+    ghost use Rattle.vhost_backend_req_handler.specs.Core.{session_in};
+    ghost use Rattle.vhost_c_backend.specs.Calls.{call_number};
+    ghost use Rattle.vhost_c_backend.specs.Serving.{Request, IsRead, IsServed, IsCall, Nexts, Answering, AnsweringShmem, Concludes, Rests};
     ghost use Rattle.vhost_backend_core.specs.declared.call.DeviceCall.{DeviceCall};
     ghost use Rattle.std.specs.Prelude.{Some, None, false};
 
@@ -69,6 +73,7 @@ impl Served {
                     outgoing,
                     incoming: Incoming::new(),
                     inactive: 0,
+                    form: Form::Done,
                     alloc,
                 })
             }
@@ -114,18 +119,10 @@ impl Served {
         if bytes.len() > self.missing() {
             return Err(Refusal::TooManyBytes);
         }
-        match handles_of(self.alloc, fds) {
-            Ok(handles) => {
-                if handles.len() > MAX_ATTACHED_FD_ENTRIES || bytes.is_empty() && !fds.is_empty() {
-                    return Err(Refusal::Protocol(Error::InvalidParam));
-                }
-                match push(self.core.endpoint_mut(), bytes, &handles) {
-                    Ok(()) => {
-                        self.incoming.add(bytes);
-                        Ok(())
-                    }
-                    Err(error) => Err(Refusal::Protocol(error)),
-                }
+        match receive(self.alloc, self.core.endpoint_mut(), bytes, fds) {
+            Ok(()) => {
+                self.incoming.add(bytes);
+                Ok(())
             }
             Err(error) => Err(Refusal::Protocol(error)),
         }
@@ -147,8 +144,7 @@ impl Served {
     /// Hands out a piece of what is to be sent; the answer is how many bytes and descriptors. Nothing is left to be sent
     /// where it is 0.
     ///
-    /// NoRoom: there is no room for a byte, or not for all descriptors that one may bring. OutOfMemory: an allocation
-    /// failed. After each, nothing changed.
+    /// NoRoom: there is no room for a byte, or not for all descriptors that one may bring. Then nothing changed.
     pub fn hand_out(&mut self, bytes: &mut [u8], fds: &mut [i32]) -> Outcome<(usize, usize)>
         ensures out { IfOk result (λ n. HandsOut (queued self.old) (queued self.new) bytes.new fds.new n) }
         ensures reason { IfErr result (λ r. HandsNone bytes.new fds.new r) }
@@ -158,13 +154,8 @@ impl Served {
         if bytes.is_empty() || fds.len() < MAX_ATTACHED_FD_ENTRIES {
             return Err(Refusal::NoRoom);
         }
-        match carry_out(self.core.endpoint_mut(), &mut self.outgoing.link) {
-            Ok(()) => match self.outgoing.hand_out(bytes, fds) {
-                Ok(counts) => Ok(counts),
-                Err(error) => Err(Refusal::Protocol(error)),
-            },
-            Err(error) => Err(Refusal::Protocol(error)),
-        }
+        let end = self.core.endpoint_mut();
+        Ok(hand_out(end, &mut self.outgoing, bytes, fds))
     }
 
     /// Reads the request that came: the number of the call of the device that it became.
@@ -185,8 +176,11 @@ impl Served {
         match self.core.begin() {
             Ok(()) => {
                 self.inactive = 0;
-                match self.call() {
-                    Some(call) => Ok(number_of_call(&call)),
+                match Served::asked(&self.core) {
+                    Some((number, form)) => {
+                        self.form = form;
+                        Ok(number)
+                    }
                     None => Err(Refusal::OtherCall),
                 }
             }
@@ -195,6 +189,16 @@ impl Served {
                 self.inactive = feature_of(&error);
                 Err(Refusal::Protocol(error))
             }
+        }
+    }
+
+    /// The number of the call that is to be replied to, and in which form it is replied to.
+    fn asked(core: &SessionCore<MemLink>) -> Option<(u32, Form)>
+        ensures { (m : Request) → IsRead m core.now → (c : DeviceCall) × (result ≡ Some (call_number c, form_in c)) × IsCall (session_in core.now) m c }
+    {
+        match core.call() {
+            Some(call) => Some((number_of_call(&call), form_of(&call))),
+            None => None,
         }
     }
 
@@ -289,10 +293,10 @@ impl Served {
         ensures one { (m : Request) → IsServed m self.now → (c : DeviceCall) × (result ≡ Some (form_in c)) × IsCall (remembers self.now) m c }
         ensures none { has_call self.now ≡ false → result ≡ None }
     {
-        match self.call() {
-            Some(call) => Some(form_of(&call)),
-            None => None,
+        if self.core.has_call() {
+            return Some(self.form);
         }
+        None
     }
 
     /// What follows from a device's answer goes out.
@@ -310,7 +314,7 @@ impl Served {
 ///
 /// OtherCall: no call is to be replied to, or it has arguments of another form.
 impl Served {
-    ghost use Rattle.vhost_c_backend.specs.Arguments.{number_arg, ring_arg, vring_arg, ring_fd_arg, fd_arg, inflight_arg, transfer_arg, log_arg, PutsRegions, PutsConfig, PutsName};
+    ghost use Rattle.vhost_c_backend.specs.Arguments.{number_arg, ring_arg, vring_arg, ring_fd_arg, fd_arg, inflight_arg, transfer_arg, log_arg, PutsRegions, PutsConfig, PutsName, PutsOther, PutsFds};
     ghost use Rattle.vhost_c_backend.specs.Serving.{Tells, Puts};
 
     /// A number, or features.
@@ -425,6 +429,30 @@ impl Served {
     {
         match self.call() {
             Some(call) => log_of(&call, self.handles()).ok_or(Refusal::OtherCall),
+            None => Err(Refusal::OtherCall),
+        }
+    }
+
+    /// Writes the body of a request without a call of its own to the start of a place: how long it is, and its number.
+    ///
+    /// NoRoom: the place is too small. After each error, nothing was written.
+    pub fn other(&self, place: &mut [u8]) -> Outcome<(usize, u32)>
+        ensures { Puts (λ hs c. PutsOther c) self.now place.old place.new result }
+    {
+        match self.call() {
+            Some(call) => put_other(&call, place),
+            None => Err(Refusal::OtherCall),
+        }
+    }
+
+    /// Writes all file descriptors of such a request to the start of a place: how many there are.
+    ///
+    /// NoRoom: the place is too small. After each error, nothing was written.
+    pub fn fds(&self, place: &mut [i32]) -> Outcome<(usize, ())>
+        ensures { Puts PutsFds self.now place.old place.new result }
+    {
+        match self.call() {
+            Some(call) => put_fds(&call, self.handles(), place),
             None => Err(Refusal::OtherCall),
         }
     }

@@ -1,4 +1,6 @@
 pub mod Calls
 pub mod Displays
+pub mod Reporting
+pub mod Sizing
 pub mod Requests
 pub mod Told

@@ -1,6 +1,7 @@
 pub mod Records
 pub mod Arguments
 pub mod Asking
+pub mod Clients
 pub mod Display
 pub mod DisplayRecords
 pub mod Serving

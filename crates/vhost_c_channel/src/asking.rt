@@ -3,11 +3,12 @@
 ghost use Rattle.std.specs.Prelude.{◌≡◌, ◌≤◌, IfOk, IfErr};
 ghost use Rattle.vhost_c_channel.specs.Asking.{error_in, lacks};
 ghost use Rattle.vhost_backend_req.specs.Halves.{input_of};
+ghost use Rattle.vhost_message.specs.declared.error.Error.TheVariants.{OutOfMemory};
 
 use std::alloc::Global;
 use vhost_backend_req::{Asked, BackendInternal, ReverseCall};
 use vhost_c_common::{
-    Incoming, Outgoing, Refusal, carry_out, empty, forget_sent, handles_of, push,
+    Incoming, Outgoing, Refusal, carry_out, empty, forget_sent, hand_out, receive,
 };
 use vhost_connection::talks_law;
 use vhost_link::{MemLink, PlainHandle};
@@ -63,7 +64,8 @@ impl Channel {
     ///
     /// OutOfMemory: an allocation failed.
     pub fn new(alloc: Global) -> std::result::Result<Channel, Error>
-        ensures { IfOk result (λ s. IsNew s) }
+        ensures new { IfOk result (λ s. IsNew s) }
+        ensures memory { IfErr result (λ e. e ≡ OutOfMemory) }
     {
         let link = MemLink::new(alloc, Vec::new(alloc));
         let Ok(outgoing) = Outgoing::new(alloc) else {
@@ -104,7 +106,7 @@ impl Channel {
         if self.asked.is_some() {
             return Err(Refusal::NotTaken);
         }
-        match carry_out(self.channel.endpoint_mut(), &mut self.outgoing.link) {
+        match carry_out(self.channel.endpoint_mut(), &mut self.outgoing) {
             Ok(()) => {
                 empty(self.channel.endpoint_mut());
                 self.ask_now(call)
@@ -139,8 +141,7 @@ impl Channel {
     /// Hands out a piece of what is to be sent; the answer is how many bytes and descriptors. Nothing is left to be sent
     /// where it is 0.
     ///
-    /// NoRoom: there is no room for a byte, or not for all descriptors that one may bring. OutOfMemory: an allocation
-    /// failed. After each, nothing changed.
+    /// NoRoom: there is no room for a byte, or not for all descriptors that one may bring. Then nothing changed.
     pub fn hand_out(&mut self, bytes: &mut [u8], fds: &mut [i32]) -> Outcome<(usize, usize)>
         ensures out { IfOk result (λ n. HandsOut (queued self.old) (queued self.new) bytes.new fds.new n) }
         ensures reason { IfErr result (λ r. HandsNone bytes.new fds.new r) }
@@ -150,13 +151,8 @@ impl Channel {
         if bytes.is_empty() || fds.len() < MAX_ATTACHED_FD_ENTRIES {
             return Err(Refusal::NoRoom);
         }
-        match carry_out(self.channel.endpoint_mut(), &mut self.outgoing.link) {
-            Ok(()) => match self.outgoing.hand_out(bytes, fds) {
-                Ok(counts) => Ok(counts),
-                Err(error) => Err(Refusal::Protocol(error)),
-            },
-            Err(error) => Err(Refusal::Protocol(error)),
-        }
+        let end = self.channel.endpoint_mut();
+        Ok(hand_out(end, &mut self.outgoing, bytes, fds))
     }
 
     /// How many bytes are known to be missing of the reply. None are where none is awaited.
@@ -181,18 +177,10 @@ impl Channel {
         if bytes.len() > self.missing() {
             return Err(Refusal::TooManyBytes);
         }
-        match handles_of(self.alloc, fds) {
-            Ok(handles) => {
-                if handles.len() > MAX_ATTACHED_FD_ENTRIES || bytes.is_empty() && !fds.is_empty() {
-                    return Err(Refusal::Protocol(Error::InvalidParam));
-                }
-                match push(self.channel.endpoint_mut(), bytes, &handles) {
-                    Ok(()) => {
-                        self.incoming.add(bytes);
-                        Ok(())
-                    }
-                    Err(error) => Err(Refusal::Protocol(error)),
-                }
+        match receive(self.alloc, self.channel.endpoint_mut(), bytes, fds) {
+            Ok(()) => {
+                self.incoming.add(bytes);
+                Ok(())
             }
             Err(error) => Err(Refusal::Protocol(error)),
         }

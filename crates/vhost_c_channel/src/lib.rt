@@ -4,7 +4,9 @@
 
 mod arguments;
 mod asking;
+mod clients;
 mod display;
+mod display_clients;
 mod display_records;
 mod records;
 mod serving;

@@ -3,11 +3,12 @@
 ghost use Rattle.std.specs.Prelude.{◌≡◌, ◌≤◌, IfOk, IfErr};
 ghost use Rattle.vhost_c_common.specs.Number.{error_number};
 ghost use Rattle.vhost_c_channel.specs.Serving.{is_handed};
+ghost use Rattle.vhost_message.specs.declared.error.Error.TheVariants.{OutOfMemory};
 
 use crate::arguments::{fd_of_call, mmap_of, number_of_call, put_name};
 use crate::records::Mmap;
 use std::alloc::Global;
-use vhost_c_common::{Incoming, Outgoing, Refusal, carry_out, empty, handles_of, push};
+use vhost_c_common::{Incoming, Outgoing, Refusal, empty, hand_out, receive};
 use vhost_connection::talks_law;
 use vhost_frontend_req_handler::{FrontendReqCore, FrontendSideCall};
 use vhost_link::{MemLink, PlainHandle};
@@ -44,7 +45,8 @@ impl ChannelServer {
     ///
     /// OutOfMemory: an allocation failed.
     pub fn new(alloc: Global) -> std::result::Result<ChannelServer, Error>
-        ensures { IfOk result (λ s. IsNew s) }
+        ensures new { IfOk result (λ s. IsNew s) }
+        ensures memory { IfErr result (λ e. e ≡ OutOfMemory) }
     {
         let link = MemLink::new(alloc, Vec::new(alloc));
         let Ok(outgoing) = Outgoing::new(alloc) else {
@@ -91,18 +93,10 @@ impl ChannelServer {
         if bytes.len() > self.missing() {
             return Err(Refusal::TooManyBytes);
         }
-        match handles_of(self.alloc, fds) {
-            Ok(handles) => {
-                if handles.len() > MAX_ATTACHED_FD_ENTRIES || bytes.is_empty() && !fds.is_empty() {
-                    return Err(Refusal::Protocol(Error::InvalidParam));
-                }
-                match push(self.core.endpoint_mut(), bytes, &handles) {
-                    Ok(()) => {
-                        self.incoming.add(bytes);
-                        Ok(())
-                    }
-                    Err(error) => Err(Refusal::Protocol(error)),
-                }
+        match receive(self.alloc, self.core.endpoint_mut(), bytes, fds) {
+            Ok(()) => {
+                self.incoming.add(bytes);
+                Ok(())
             }
             Err(error) => Err(Refusal::Protocol(error)),
         }
@@ -124,8 +118,7 @@ impl ChannelServer {
     /// Hands out a piece of what is to be sent; the answer is how many bytes and descriptors. Nothing is left to be sent
     /// where it is 0.
     ///
-    /// NoRoom: there is no room for a byte, or not for all descriptors that one may bring. OutOfMemory: an allocation
-    /// failed. After each, nothing changed.
+    /// NoRoom: there is no room for a byte, or not for all descriptors that one may bring. Then nothing changed.
     pub fn hand_out(&mut self, bytes: &mut [u8], fds: &mut [i32]) -> Outcome<(usize, usize)>
         ensures out { IfOk result (λ n. HandsOut (queued self.old) (queued self.new) bytes.new fds.new n) }
         ensures reason { IfErr result (λ r. HandsNone bytes.new fds.new r) }
@@ -135,13 +128,8 @@ impl ChannelServer {
         if bytes.is_empty() || fds.len() < MAX_ATTACHED_FD_ENTRIES {
             return Err(Refusal::NoRoom);
         }
-        match carry_out(self.core.endpoint_mut(), &mut self.outgoing.link) {
-            Ok(()) => match self.outgoing.hand_out(bytes, fds) {
-                Ok(counts) => Ok(counts),
-                Err(error) => Err(Refusal::Protocol(error)),
-            },
-            Err(error) => Err(Refusal::Protocol(error)),
-        }
+        let end = self.core.endpoint_mut();
+        Ok(hand_out(end, &mut self.outgoing, bytes, fds))
     }
 
     /// Reads the request that came: the number of the call that it became.

@@ -2,7 +2,7 @@
 use Rattle.std.proofs.Common.{◌≡◌, ℕ, zero, suc, ◌<◌, Bool, true, false, List, [], ◌∷◌, ◌++◌, replicate, append_assoc, refl, sym, ap, subst, ◌∙◌, arith}
 use Rattle.std.proofs.lemmas.List.{append-nil}
 use Rattle.vhost_protocol.specs.Split.{Splits}
-use Rattle.vhost_protocol.specs.Stream.{Cell, Item, Byte, End, items, heard}
+use Rattle.vhost_protocol.specs.Stream.{Cell, Item, End, items, heard}
 use Rattle.vhost_link.specs.Ends.{Ends}
 use Rattle.vhost_link.specs.Mem.{event, HandsFront}
 use Rattle.vhost_link.specs.declared.plain.PlainHandle.{PlainHandle}

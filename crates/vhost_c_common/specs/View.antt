@@ -67,21 +67,25 @@ pub record View (R : Type 0) : Type 0 where
 abbrev pub view_of : {R : Type 0} → Outgoing → End → Incoming → R → View R
 view_of outgoing e incoming rest = record { queue = outgoing.link.pending ++ e.link.sent; came = stream e; incoming = incoming; end = bare e; rest = rest }
 
--- why nothing is handed out: there is no room for a byte, or not for all descriptors that one may bring; or memory was refused
+-- why nothing is handed out: there is no room for a byte, or not for all descriptors that one may bring
 abbrev pub HandsNone : List ℕ → List ℤ → Refusal → Type 0
 HandsNone bytes fds NoRoom = (length bytes ≡ 0) ⊎ (length fds < MAX_ATTACHED_FD_ENTRIES)
-HandsNone bytes fds (Protocol OutOfMemory) = ⊤
 HandsNone bytes fds r = ⊥
 
 -- descriptors that are not received: without a byte, more than a message may have, or with a negative one
 abbrev pub AreRefused : List ℕ → List ℤ → Type 0
 AreRefused bytes fds = ((length bytes ≡ 0) × (0 < length fds)) ⊎ ((MAX_ATTACHED_FD_ENTRIES < length fds) ⊎ Contains (map handle_in fds) None)
 
+-- why an endpoint is given nothing: there are such descriptors; or memory was refused, which bytes alone want
+abbrev pub GivesNone : List ℕ → List ℤ → Error → Type 0
+GivesNone bytes fds InvalidParam = AreRefused bytes fds
+GivesNone bytes fds OutOfMemory = 0 < length bytes
+GivesNone bytes fds e = ⊥
+
 -- why nothing is received, where so many bytes are missing: there are more, or such descriptors; or memory was refused
 abbrev pub TakesNone : ℕ → List ℕ → List ℤ → Refusal → Type 0
 TakesNone missing bytes fds TooManyBytes = missing < length bytes
-TakesNone missing bytes fds (Protocol InvalidParam) = AreRefused bytes fds
-TakesNone missing bytes fds (Protocol OutOfMemory) = ⊤
+TakesNone missing bytes fds (Protocol e) = GivesNone bytes fds e
 TakesNone missing bytes fds r = ⊥
 
 module _ {R : Type 0} where

@@ -9,9 +9,9 @@ mod profile;
 mod records;
 mod refusal;
 
-pub use carrying::{carry_out, empty, forget_sent, push};
+pub use carrying::{carry_out, empty, forget_sent, hand_out, receive};
 pub use incoming::Incoming;
 pub use outgoing::Outgoing;
 pub use profile::profile_of;
-pub use records::{Config, Inflight, Region, Vring, fd_of, handle_of, handles_of};
+pub use records::{Config, Inflight, Region, Vring, fd_of, handle_of, handles_of, put_fds};
 pub use refusal::{Refusal, feature_of, inactive_of, number_of};

@@ -1,6 +1,6 @@
 //! Records as a program in C writes them.
 
-ghost use Rattle.std.specs.Prelude.{◌≡◌, ◌≤◌, ◌⊎◌, length, take, map, Contains, None, Some, IfOk, IfErr};
+ghost use Rattle.std.specs.Prelude.{◌≡◌, ◌≤◌, ◌⊎◌, length, take, drop, map, Contains, None, Some, IfOk, IfErr};
 ghost use Rattle.vhost_message.specs.declared.error.Error.TheVariants.{InvalidParam, OutOfMemory};
 ghost use Rattle.vhost_c_common.specs.Records.{handle_in, fd_in, vring_in, inflight_in};
 
@@ -156,7 +156,8 @@ pub fn fd_of(handle: PlainHandle) -> i32
 /// Writes file descriptors to the start of a buffer.
 pub fn put_fds(handles: &[PlainHandle], fds: &mut [i32])
     requires { length handles.now ≤ length fds.old }
-    ensures { take (length handles.now) fds.new ≡ map fd_in handles.now }
+    ensures front { take (length handles.now) fds.new ≡ map fd_in handles.now }
+    ensures rest { drop (length handles.now) fds.new ≡ drop (length handles.now) fds.old }
 {
     'handles: for i in 0..handles.len() {
         fds[i] = fd_of(handles[i]);

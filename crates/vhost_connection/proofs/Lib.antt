@@ -27,3 +27,4 @@ pub mod Sized
 pub mod Serving
 pub mod Running
 mod Fronting
+mod Waited

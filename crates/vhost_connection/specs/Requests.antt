@@ -1,11 +1,12 @@
 -- A request is read, and answered.
-use Rattle.std.specs.Prelude.{◌≡◌, ℕ, ◌<◌, ◌≤◌, List, ◌++◌, take, length, Some, None, Option, Bool, true, false, ◌&&◌, ◌⊎◌, not, is_some, IsTrue, Result, Ok, Err, Vec, ⊤}
+use Rattle.std.specs.Prelude.{◌≡◌, ℕ, ◌+◌, ◌<◌, ◌≤◌, List, ◌++◌, take, length, Some, None, Option, Bool, true, false, ◌&&◌, ◌⊎◌, not, is_some, IsTrue, Result, Ok, Err, Vec, ⊤}
 use Rattle.std.specs.Global.{Global}
 use Rattle.vhost_message.specs.declared.cause.IoCause.{IoCause}
 use Rattle.vhost_message.specs.Cause.{is_retry, error_of}
 use Rattle.vhost_message.specs.declared.error.Error as declared
 use Rattle.vhost_message.specs.declared.header.VhostUserMsgHeader.{VhostUserMsgHeader}
 use Rattle.vhost_message.specs.declared.limits.TheConstants.{MAX_MSG_TEXT}
+use Rattle.vhost_message.specs.Bits.{has_bit}
 use Rattle.vhost_message.specs.Header.{header_of, header_text, is_valid_header}
 use Rattle.vhost_message.specs.MsgHeader.{fields_of, of_fields}
 use Rattle.vhost_protocol.specs.Error.{Error, seen, seen_result}
@@ -28,6 +29,17 @@ pub record Reads {R H : Type 0} (bytes : List ℕ) (request : Request R) (m : Me
   pub need_reply : request.need_reply ≡ m.need_reply
   pub len : request.len ≡ length m.body
   pub body : take request.len bytes ≡ m.body
+
+-- These bytes begin with a request that is there whole, and that may come without handles.
+pub record WaitsWhole {R : Type 0} (request_of : ℕ → Option R) (allowed : R → ℕ → Bool) (bytes : List ℕ) (request : Request R) : Type 0 where
+  pub head : 12 ≤ length bytes
+  pub valid : is_valid_header (header_of (take 12 bytes)) ≡ true
+  pub code : request_of (header_of (take 12 bytes)).code ≡ Some request.code
+  pub allows : allowed request.code 0 ≡ true
+  pub reply : request.reply ≡ has_bit (header_of (take 12 bytes)).flags 2
+  pub need_reply : request.need_reply ≡ has_bit (header_of (take 12 bytes)).flags 3
+  pub len : request.len ≡ (header_of (take 12 bytes)).size
+  pub whole : 12 + request.len ≤ length bytes
 
 module _ {R L H : Type 0} (event : L → Event H → L → Type 0) (request_of : ℕ → Option R) (allowed : R → ℕ → Bool) where
   -- A message was read, and nothing else of the stream. The endpoint has given its list of handles away only where there were some.

@@ -1,6 +1,6 @@
 //! Receiving ahead: a link is asked for more than a message needs, and only where nothing waits.
 
-ghost use Rattle.std.specs.Prelude.{◌≡◌, ◌==◌, ◌<◌, ◌≤◌, ◌++◌, [], length, take, drop, min, vec_capacity, IfOk};
+ghost use Rattle.std.specs.Prelude.{◌≡◌, ◌==◌, ◌<◌, ◌≤◌, ◌++◌, [], true, false, length, take, drop, min, vec_capacity, IfOk};
 ghost use Rattle.vhost_message.specs.declared.limits.TheConstants.{MAX_ATTACHED_FD_ENTRIES};
 ghost use Rattle.vhost_link.specs.Law.{Receives};
 ghost use Rattle.vhost_connection.specs.Ahead.{waiting, way, Asks, reads_ahead};
@@ -39,8 +39,49 @@ impl ReadAhead {
         self.start = self.end;
     }
 
+    /// What waits.
+    pub(crate) fn front(&self) -> &[u8]
+        ensures { result.now ≡ waiting self.now }
+    {
+        &self.buffer[self.start..self.end]
+    }
+
+    /// Forgets so many bytes of what waits.
+    pub(crate) fn skip(&mut self, count: usize)
+        requires { count ≤ length (waiting self.old) }
+        ensures { waiting self.new ≡ drop count (waiting self.old) }
+    {
+        self.start += count;
+    }
+
+    /// Puts bytes behind what waits, where there is room for them: whether there was.
+    pub(crate) fn add(&mut self, bytes: &[u8]) -> bool
+        ensures added { result ≡ true → waiting self.new ≡ waiting self.old ++ bytes.now }
+        ensures full { result ≡ false → waiting self.new ≡ waiting self.old }
+    {
+        if self.is_empty() {
+            self.start = 0;
+            self.end = 0;
+        }
+        self.put(bytes)
+    }
+
+    /// The same behind the last byte of the buffer that waits.
+    fn put(&mut self, bytes: &[u8]) -> bool
+        ensures added { result ≡ true → waiting self.new ≡ waiting self.old ++ bytes.now }
+        ensures full { result ≡ false → waiting self.new ≡ waiting self.old }
+    {
+        if bytes.len() > self.buffer.len() - self.end {
+            return false;
+        }
+        let end = self.end + bytes.len();
+        self.buffer[self.end..end].copy_from_slice(bytes);
+        self.end = end;
+        true
+    }
+
     /// Hands on what waits, as much as fits into the room.
-    fn take_out(&mut self, room: &mut [u8]) -> usize
+    pub(crate) fn take_out(&mut self, room: &mut [u8]) -> usize
         ensures count { result ≡ min (length (waiting self.old)) (length room.old) }
         ensures room { room.new ≡ take result (waiting self.old) ++ drop result room.old }
         ensures left { waiting self.new ≡ drop result (waiting self.old) }

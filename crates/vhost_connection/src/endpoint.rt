@@ -52,7 +52,8 @@ pub struct Endpoint<M, L: Link> {
 }
 
 impl<M: MsgHeader, L: Link> Endpoint<M, L> {
-    ghost use Rattle.std.specs.Prelude.{if◌then◌else◌, None, true, false, []};
+    ghost use Rattle.std.specs.Prelude.{if◌then◌else◌, None, true, false, [], ◌++◌};
+    ghost use Rattle.vhost_protocol.specs.Stream.{plain};
     ghost use Rattle.std.specs.Borrow.{sem, Lends};
     ghost use Rattle.vhost_connection.specs.contracts.endpoint.Endpoint.{the_row};
     ghost use Rattle.vhost_message.specs.Cause.{error_of};
@@ -166,6 +167,16 @@ impl<M: MsgHeader, L: Link> Endpoint<M, L> {
         ensures { state self.new ≡ record (state self.old) { ahead = [] } }
     {
         self.source.ahead.clear();
+    }
+
+    /// Puts bytes behind what was received ahead, where there is room for them: whether there was. They come before all that the
+    /// link hands out next. For who owns both ends of the stream.
+    #[tactic(auto, unfolding(crate::specs::State::ahead_of))]
+    pub fn push_ahead(&mut self, bytes: &[u8]) -> bool
+        ensures pushed { result ≡ true → state self.new ≡ record (state self.old) { ahead = (state self.old).ahead ++ plain bytes.now } }
+        ensures full { result ≡ false → state self.new ≡ state self.old }
+    {
+        self.source.ahead.add(bytes)
     }
 
     /// The retry limit for each message.

@@ -6,7 +6,7 @@ ghost use Rattle.vhost_backend_core.specs.Concluding.{seen_bases, seen_bytes};
 ghost use Rattle.vhost_device.specs.Answers.{seen_bits};
 ghost use Rattle.vhost_message.specs.FlagBits.{config_bits, vring_addr_bits};
 ghost use Rattle.vhost_message.specs.Transfer.{direction_number, phase_number};
-ghost use Rattle.vhost_protocol.specs.DeviceCall.{Call, Answer, SetOwner, ResetOwner, ResetDevice, GetFeatures, SetFeatures, SetMemTable, SetVringNum, SetVringAddr, SetVringBase, GetVringBase, SetVringKick, SetVringCall, SetVringErr, GetProtocolFeatures, SetProtocolFeatures, GetQueueNum, SetVringEnable, GetConfig, SetConfig, SetBackendReqFd, SetGpuSocket, GetSharedObject, GetInflightFd, SetInflightFd, GetMaxMemSlots, AddMemRegion, RemoveMemRegion, SetDeviceStateFd, CheckDeviceState, GetShmemConfig, PostcopyAdvice, PostcopyListen, PostcopyEnd, PostcopyAckMemRegions, SetLogBase, SetMtu};
+ghost use Rattle.vhost_protocol.specs.DeviceCall.{Call, Answer, SetOwner, ResetOwner, ResetDevice, GetFeatures, SetFeatures, SetMemTable, SetVringNum, SetVringAddr, SetVringBase, GetVringBase, SetVringKick, SetVringCall, SetVringErr, GetProtocolFeatures, SetProtocolFeatures, GetQueueNum, SetVringEnable, GetConfig, SetConfig, SetBackendReqFd, SetGpuSocket, GetSharedObject, GetInflightFd, SetInflightFd, GetMaxMemSlots, AddMemRegion, RemoveMemRegion, SetDeviceStateFd, CheckDeviceState, GetShmemConfig, PostcopyAdvice, PostcopyListen, PostcopyEnd, PostcopyAckMemRegions, SetLogBase, SetMtu, Other};
 ghost use Rattle.vhost_protocol.specs.Error.{seen_result};
 
 use vhost_backend_req::Backend;
@@ -221,4 +221,16 @@ pub trait VhostUserBackendReqHandlerMut: Drop {
     /// (VHOST_USER_SET_LOG_BASE).
     fn set_log_base(&mut self, log: &VhostUserLog, file: <Self::Link as Link>::Handle) -> Result<()>
         ensures { gives self.old (SetLogBase log.now file) (seen_result result) self.new };
+
+    /// Gives the device a request without a call of its own here, under `Profile::Standard`: its number, its body, and the
+    /// file descriptors that came with it. An error says that it is not served.
+    ///
+    /// Has no counterpart in `vhost`.
+    fn other(
+        &mut self,
+        request: u32,
+        body: &[u8],
+        files: Vec<<Self::Link as Link>::Handle>,
+    ) -> Result<()>
+        ensures { gives self.old (Other request body.now files.items) (seen_result result) self.new };
 }

@@ -213,4 +213,16 @@ pub trait VhostUserBackendReqHandler: Drop {
         log: &VhostUserLog,
         file: <Self::Link as Link>::Handle,
     ) -> Result<()>;
+
+    /// Gives the device a request without a call of its own here, under `Profile::Standard`: its number, its body, and the
+    /// file descriptors that came with it. An error says that it is not served.
+    ///
+    /// Has no counterpart in `vhost`.
+    fn other(
+        &self,
+        rt: &impl Wait,
+        request: u32,
+        body: &[u8],
+        files: Vec<<Self::Link as Link>::Handle>,
+    ) -> Result<()>;
 }

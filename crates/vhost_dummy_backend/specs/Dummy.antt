@@ -8,7 +8,7 @@ use Rattle.vhost_message.specs.declared.cause.IoCause.{IoCause}
 use Rattle.vhost_message.specs.declared.limits.TheConstants.{VHOST_USER_CONFIG_OFFSET}
 use Rattle.vhost_message.specs.declared.protocol_bit.TheConstants.{SHMEM}
 use Rattle.vhost_message.specs.declared.records.inflight.VhostUserInflight.{VhostUserInflight}
-use Rattle.vhost_protocol.specs.DeviceCall.{Call, Answer, SetOwner, ResetOwner, ResetDevice, GetFeatures, SetFeatures, SetMemTable, SetVringNum, SetVringAddr, SetVringBase, GetVringBase, SetVringKick, SetVringCall, SetVringErr, GetProtocolFeatures, SetProtocolFeatures, GetQueueNum, SetVringEnable, GetConfig, SetConfig, SetBackendReqFd, SetGpuSocket, GetSharedObject, GetInflightFd, SetInflightFd, GetMaxMemSlots, AddMemRegion, RemoveMemRegion, SetDeviceStateFd, CheckDeviceState, GetShmemConfig, PostcopyAdvice, PostcopyListen, PostcopyEnd, PostcopyAckMemRegions, SetLogBase, SetMtu}
+use Rattle.vhost_protocol.specs.DeviceCall.{Call, Answer, SetOwner, ResetOwner, ResetDevice, GetFeatures, SetFeatures, SetMemTable, SetVringNum, SetVringAddr, SetVringBase, GetVringBase, SetVringKick, SetVringCall, SetVringErr, GetProtocolFeatures, SetProtocolFeatures, GetQueueNum, SetVringEnable, GetConfig, SetConfig, SetBackendReqFd, SetGpuSocket, GetSharedObject, GetInflightFd, SetInflightFd, GetMaxMemSlots, AddMemRegion, RemoveMemRegion, SetDeviceStateFd, CheckDeviceState, GetShmemConfig, PostcopyAdvice, PostcopyListen, PostcopyEnd, PostcopyAckMemRegions, SetLogBase, SetMtu, Other}
 use Rattle.vhost_protocol.specs.Error.{Error, Named, InvalidParam, InvalidOperation, InactiveFeature, InactiveOperation, ReqHandlerError, OutOfMemory}
 use Rattle.vhost_protocol.specs.Features.{PROTOCOL_FEATURES, CONFIG}
 use Rattle.vhost_dummy_backend.specs.Spares.{but_last, left, IsLast, IsLastCopied}
@@ -161,3 +161,5 @@ DummyGives copies old (SetBackendReqFd channel) = λ answer new. new ≡ old
 DummyGives copies old (SetGpuSocket channel) = Answers old tt
 DummyGives copies old (SetDeviceStateFd transfer file) = Refuses old no_transfer
 DummyGives copies old CheckDeviceState = Refuses old no_transfer
+-- it serves no other request
+DummyGives copies old (Other request body files) = Refuses old (InvalidOperation (codes "request not served"))

@@ -9,6 +9,7 @@ use vhost_message::Req;
 /// "Message types").
 #[derive(Clone, Copy, Debug, PartialEq, Eq, PartialOrd, Ord)]
 pub enum GpuBackendReq {
+    // generated from protocol/requests.toml: variants
     GET_PROTOCOL_FEATURES = 1,
     SET_PROTOCOL_FEATURES = 2,
     GET_DISPLAY_INFO = 3,
@@ -21,6 +22,7 @@ pub enum GpuBackendReq {
     DMABUF_UPDATE = 10,
     GET_EDID = 11,
     DMABUF_SCANOUT2 = 12,
+    // end
 }
 
 impl From<GpuBackendReq> for u32 {
@@ -38,6 +40,7 @@ impl TryFrom<u32> for GpuBackendReq {
 
     fn try_from(value: u32) -> Result<GpuBackendReq, ()> {
         match value {
+            // generated from protocol/requests.toml: requests
             1 => Ok(GpuBackendReq::GET_PROTOCOL_FEATURES),
             2 => Ok(GpuBackendReq::SET_PROTOCOL_FEATURES),
             3 => Ok(GpuBackendReq::GET_DISPLAY_INFO),
@@ -50,6 +53,7 @@ impl TryFrom<u32> for GpuBackendReq {
             10 => Ok(GpuBackendReq::DMABUF_UPDATE),
             11 => Ok(GpuBackendReq::GET_EDID),
             12 => Ok(GpuBackendReq::DMABUF_SCANOUT2),
+            // end
             _ => Err(()),
         }
     }

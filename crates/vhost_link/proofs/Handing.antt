@@ -34,7 +34,7 @@ pub handed-is : (old new : Ends) → new.sent ≡ old.sent → new.script ≡ dr
 handed-is old new sent script wants = ap (λ x. ends new.pending x new.script new.wants) sent ∙ ap (λ x. ends new.pending old.sent x new.wants) script ∙ ap (λ x. ends new.pending old.sent (drop 1 old.script) x) wants
 
 -- where a receive could hand out nothing, there is nothing
-none-left : {H : Type 0} (cells : List (Cell H)) → length (piece cells) ≡ 0 → cells ≡ []
+pub none-left : {H : Type 0} (cells : List (Cell H)) → length (piece cells) ≡ 0 → cells ≡ []
 none-left [] e = refl
 none-left (c ∷ cells) e = absurd (omega arith)
 

@@ -1,6 +1,6 @@
 //! A link in memory.
 
-ghost use Rattle.std.specs.Prelude.{◌≡◌, [], ◌++◌, ◌<◌, ◌≤◌, length, map, nat_lt, OnOk, OnErr, IsOk, vec_capacity};
+ghost use Rattle.std.specs.Prelude.{◌≡◌, [], ◌++◌, ◌<◌, ◌≤◌, ◌==◌, length, map, take, nat_lt, OnOk, OnErr, IsOk, vec_capacity};
 ghost use Rattle.vhost_message.specs.declared.limits.TheConstants.{MAX_ATTACHED_FD_ENTRIES};
 ghost use Rattle.vhost_protocol.specs.Stream.{carrying};
 ghost use Rattle.vhost_link.specs.Law.{Sends, TakesAll, Receives};
@@ -81,6 +81,28 @@ impl MemLink {
             return Ok(());
         }
         to.pending.append(&mut from.sent)
+    }
+
+    /// Whether it has nothing to hand out.
+    pub fn is_drained(&self) -> bool
+        ensures { result ≡ (length self.now.pending == 0) }
+    {
+        self.pending.is_empty()
+    }
+
+    /// Hands out a piece of what it accepted: bytes into the room, and the descriptors of the first of them into the list. No byte
+    /// is left where it is 0.
+    pub fn hand_sent(&mut self, room: &mut [u8], handles: &mut Vec<PlainHandle>) -> usize
+        requires room { 0 < length room.old }
+        requires list { handles.old.items ≡ [] }
+        requires places { MAX_ATTACHED_FD_ENTRIES ≤ vec_capacity handles.old }
+        ensures got { self.old.sent ≡ carrying handles.new.items (take result room.new) ++ self.new.sent }
+        ensures rest { self.new ≡ record self.old { sent = self.new.sent } }
+        ensures end { result ≡ 0 → self.old.sent ≡ [] }
+        ensures few { length handles.new.items ≤ MAX_ATTACHED_FD_ENTRIES }
+        ensures places { vec_capacity handles.old ≤ vec_capacity handles.new }
+    {
+        self.sent.get(room, handles)
     }
 
     /// Forgets what it would hand out. The room for it is kept for what comes next.

@@ -23,6 +23,7 @@ request_at n = ok_or (request_of n) tt
 
 -- the number of a request
 abbrev pub request_number : FrontendReq → ℕ
+-- generated from protocol/requests.toml: numbers
 request_number GET_FEATURES = 1
 request_number SET_FEATURES = 2
 request_number SET_OWNER = 3
@@ -67,6 +68,7 @@ request_number GET_SHARED_OBJECT = 41
 request_number SET_DEVICE_STATE_FD = 42
 request_number CHECK_DEVICE_STATE = 43
 request_number GET_SHMEM_CONFIG = 44
+-- end
 request_number (OTHER n) = n
 
 -- the request has a name

@@ -9,6 +9,7 @@ use crate::req::Req;
 /// specification, "Back-end message types").
 #[derive(Clone, Copy, Debug, PartialEq, Eq, PartialOrd, Ord)]
 pub enum BackendReq {
+    // generated from protocol/requests.toml: variants
     IOTLB_MSG = 1,
     CONFIG_CHANGE_MSG = 2,
     VRING_HOST_NOTIFIER_MSG = 3,
@@ -19,6 +20,7 @@ pub enum BackendReq {
     SHARED_OBJECT_LOOKUP = 8,
     SHMEM_MAP = 9,
     SHMEM_UNMAP = 10,
+    // end
 }
 
 impl From<BackendReq> for u32 {
@@ -36,6 +38,7 @@ impl TryFrom<u32> for BackendReq {
 
     fn try_from(value: u32) -> Result<BackendReq, ()> {
         match value {
+            // generated from protocol/requests.toml: requests
             1 => Ok(BackendReq::IOTLB_MSG),
             2 => Ok(BackendReq::CONFIG_CHANGE_MSG),
             3 => Ok(BackendReq::VRING_HOST_NOTIFIER_MSG),
@@ -46,6 +49,7 @@ impl TryFrom<u32> for BackendReq {
             8 => Ok(BackendReq::SHARED_OBJECT_LOOKUP),
             9 => Ok(BackendReq::SHMEM_MAP),
             10 => Ok(BackendReq::SHMEM_UNMAP),
+            // end
             _ => Err(()),
         }
     }

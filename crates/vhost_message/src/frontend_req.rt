@@ -8,6 +8,7 @@ use crate::req::Req;
 /// What a frontend asks of a backend, by the number in the header of the message.
 #[derive(Clone, Copy, Debug, PartialEq, Eq, PartialOrd, Ord)]
 pub enum FrontendReq {
+    // generated from protocol/requests.toml: variants
     GET_FEATURES,
     SET_FEATURES,
     SET_OWNER,
@@ -52,6 +53,7 @@ pub enum FrontendReq {
     SET_DEVICE_STATE_FD,
     CHECK_DEVICE_STATE,
     GET_SHMEM_CONFIG,
+    // end
     /// A number that is no request's. It is heard under some profiles, and served by nobody.
     OTHER(u32),
 }
@@ -61,6 +63,7 @@ impl From<FrontendReq> for u32 {
 
     fn from(code: FrontendReq) -> u32 {
         match code {
+            // generated from protocol/requests.toml: numbers
             FrontendReq::GET_FEATURES => 1,
             FrontendReq::SET_FEATURES => 2,
             FrontendReq::SET_OWNER => 3,
@@ -105,6 +108,7 @@ impl From<FrontendReq> for u32 {
             FrontendReq::SET_DEVICE_STATE_FD => 42,
             FrontendReq::CHECK_DEVICE_STATE => 43,
             FrontendReq::GET_SHMEM_CONFIG => 44,
+            // end
             FrontendReq::OTHER(number) => number,
         }
     }
@@ -117,6 +121,7 @@ impl TryFrom<u32> for FrontendReq {
 
     fn try_from(value: u32) -> Result<FrontendReq, ()> {
         match value {
+            // generated from protocol/requests.toml: requests
             1 => Ok(FrontendReq::GET_FEATURES),
             2 => Ok(FrontendReq::SET_FEATURES),
             3 => Ok(FrontendReq::SET_OWNER),
@@ -161,6 +166,7 @@ impl TryFrom<u32> for FrontendReq {
             42 => Ok(FrontendReq::SET_DEVICE_STATE_FD),
             43 => Ok(FrontendReq::CHECK_DEVICE_STATE),
             44 => Ok(FrontendReq::GET_SHMEM_CONFIG),
+            // end
             _ => Err(()),
         }
     }

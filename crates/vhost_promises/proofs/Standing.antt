@@ -7,7 +7,7 @@ use Rattle.std.specs.Prelude.{⊤, IfOk, Vec, not, codes}
 use Rattle.vhost_message.specs.FrontendReq.{request_number}
 use Rattle.vhost_message.specs.declared.error.Error as declared
 use Rattle.vhost_message.specs.declared.frontend_req.FrontendReq.{FrontendReq}
-use Rattle.vhost_message.specs.declared.frontend_req.FrontendReq.TheVariants.{SET_OWNER, VRING_KICK}
+use Rattle.vhost_message.specs.declared.frontend_req.FrontendReq.TheVariants.{SET_OWNER, OTHER}
 use Rattle.vhost_protocol.specs.declared.profile.Profile.TheVariants.{Standard}
 use Rattle.vhost_protocol.specs.Codes.{allows_handles}
 use Rattle.vhost_protocol.specs.Error.{Error, InvalidOperation, seen_result}
@@ -15,7 +15,7 @@ use Rattle.vhost_protocol.specs.Run as run
 use Rattle.vhost_protocol.specs.Served.{reply, cells_of}
 use Rattle.vhost_protocol.specs.Session.{Session, fresh, heard_in}
 use Rattle.vhost_protocol.specs.Settled.{settled}
-use Rattle.vhost_protocol.specs.Step.{Outcome}
+use Rattle.vhost_protocol.specs.Step.{Outcome, with_ack}
 use Rattle.vhost_protocol.specs.Split.{Message, split, split_after, split_body, body_outcome}
 use Rattle.vhost_protocol.specs.Stream.{Cell, Item, plain}
 use Rattle.vhost_link.specs.Mem.{event, HandsFront}
@@ -29,17 +29,17 @@ use Rattle.vhost_promises.specs.Streams.{Near}
 use Rattle.vhost_promises.proofs.Known.{none-handed}
 use Rattle.vhost_promises.proofs.Serving.{Calls, Meets, asks, next}
 
--- the request that nobody serves
-abbrev kick : Message FrontendReq PlainHandle
-kick = record { request = VRING_KICK; reply = false; need_reply = false; body = replicate 8 0; handles = [] }
+-- the request of that number
+abbrev unknown : Message FrontendReq PlainHandle
+unknown = record { request = OTHER 600; reply = false; need_reply = false; body = replicate 8 0; handles = [] }
 
 module _ {B G : Type 0} (opens_backend : PlainHandle → Result B Error → Type 0) (opens_gpu : PlainHandle → Result G Error → Type 0) where
-  -- it is refused
-  unserved-row : (d d' : Device) (answer : Result ⊤ Error) (written : List (Cell PlainHandle)) (s' : Session) → Meets opens_backend opens_gpu standing d kick answer written s' d'
+  -- the device refuses it
+  unserved-row : (d d' : Device) (answer : Result ⊤ Error) (written : List (Cell PlainHandle)) (s' : Session) → Meets opens_backend opens_gpu standing d unknown answer written s' d'
       → (answer ≡ Err (InvalidOperation (codes "request not served"))) × (written ≡ []) × (s' ≡ standing) × (d' ≡ d)
-  unserved-row d d' answer written s' (o, (told, (is_o, same), is_told), is_answer, is_written, is_s) =
-      let now = is_told ∙ ap (λ (x : Outcome PlainHandle). settled standing kick x) is_o in
-      (is_answer ∙ ap (λ (x : Outcome PlainHandle). x.answer) now, is_written ∙ ap (λ (x : Outcome PlainHandle). cells_of request_number (reply VRING_KICK x.served)) now, is_s ∙ ap (λ (x : Outcome PlainHandle). x.session) now, same)
+  unserved-row d d' answer written s' (o, (told, (a, ((is_a, same), fits), is_o), is_told), is_answer, is_written, is_s) =
+      let now = is_told ∙ ap (λ (x : Outcome PlainHandle). settled standing unknown x) (is_o ∙ ap (λ x. with_ack standing unknown x) is_a) in
+      (is_answer ∙ ap (λ (x : Outcome PlainHandle). x.answer) now, is_written ∙ ap (λ (x : Outcome PlainHandle). cells_of request_number (reply (OTHER 600) x.served)) now, is_s ∙ ap (λ (x : Outcome PlainHandle). x.session) now, same)
 
   -- the device gets its owner, without a reply
   owner-row : (d d' : Device) (answer : Result ⊤ Error) (written : List (Cell PlainHandle)) (s' : Session) → d.owned ≡ false → Meets opens_backend opens_gpu standing d (asks SET_OWNER) answer written s' d'
@@ -61,7 +61,7 @@ module _ {B G : Type 0} (opens_backend : PlainHandle → Result B Error → Type
       → (a ≡ Err (InvalidOperation (codes "request not served"))) × (b ≡ Ok tt) × (written ≡ []) × (left ≡ []) × (s' ≡ standing) × (now ≡ record device { owned = true })
   unfolding split split_after split_body body_outcome
   two-of device now s' a b before left input written free is hands (n1, l1, w1, r1, s1, d1, (h1, hears1, handles1), in1, out1, (n2, l2, w2, r2, s2, d2, serves2, in2, out2, (in3, out3, s3, d3))) =
-      let first = next opens_backend opens_gpu before left (plain owner_request) kick standing s1 device d1 input n1 l1 a w1 (ap (split (heard_in standing) allows_handles) is) hands in1 h1 hears1 handles1 in
+      let first = next opens_backend opens_gpu before left (plain owner_request) unknown standing s1 device d1 input n1 l1 a w1 (ap (split (heard_in standing) allows_handles) is) hands in1 h1 hears1 handles1 in
       let (is_a, is_w1, is_s1, is_d1) = unserved-row device d1 a w1 s1 first.meets in
       let (h2, hears2, handles2) = subst (λ s. Calls opens_backend opens_gpu s device n2 b w2 s2 d2) is_s1 (subst (λ d. Calls opens_backend opens_gpu s1 d n2 b w2 s2 d2) is_d1 serves2) in
       let second = next opens_backend opens_gpu (plain owner_request) left [] (asks SET_OWNER) standing s2 device d2 l1 n2 l2 b w2 refl first.hands in2 h2 hears2 handles2 in

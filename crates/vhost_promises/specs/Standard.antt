@@ -15,9 +15,9 @@ use Rattle.vhost_promises.specs.Streams.{Near}
 abbrev pub standing : Session
 standing = record fresh { profile = Standard }
 
--- VRING_KICK, which nobody serves: its code, no flag but the version's, and eight bytes
+-- a number that is no request's, 600: it, no flag but the version's, and eight bytes
 abbrev pub unserved_request : List ℕ
-unserved_request = 35 ∷ 0 ∷ 0 ∷ 0 ∷ 1 ∷ 0 ∷ 0 ∷ 0 ∷ 8 ∷ 0 ∷ 0 ∷ 0 ∷ replicate 8 0
+unserved_request = 88 ∷ 2 ∷ 0 ∷ 0 ∷ 1 ∷ 0 ∷ 0 ∷ 0 ∷ 8 ∷ 0 ∷ 0 ∷ 0 ∷ replicate 8 0
 
 -- it, and then the device is claimed
 abbrev pub two_requests : List ℕ
@@ -27,7 +27,7 @@ two_requests = unserved_request ++ owner_request
 abbrev pub holding_two : List Cut → Ends
 holding_two cuts = record (empty cuts) { pending = plain two_requests }
 
--- The first was refused by an error of its own, nothing was written, and the second was served: nothing is left, and the device has an owner.
+-- The device refused the first, nothing was written, and the second was served: nothing is left, and the device has an owner.
 pub record GoesOn (device : Device) (old : Near) (answers : List (Result ⊤ declared.Error)) (new : Near) (s : Session) (now : Device) : Type 0 where
   pub answered : map (λ a. seen_result a) answers ≡ Err (InvalidOperation (codes "request not served")) ∷ Ok tt ∷ []
   pub written : new.link.sent ≡ old.link.sent

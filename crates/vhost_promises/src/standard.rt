@@ -63,7 +63,7 @@ fn holds_two(alloc: Global, script: Vec<Cut>) -> Result<MemLink>
 {
     let mut link = MemLink::new(alloc, script);
     let requests = [
-        35, 0, 0, 0, 1, 0, 0, 0, 8, 0, 0, 0, 0, 0, 0, 0, 0, 0, 0, 0, 3, 0, 0, 0, 1, 0, 0, 0, 0, 0,
+        88, 2, 0, 0, 1, 0, 0, 0, 8, 0, 0, 0, 0, 0, 0, 0, 0, 0, 0, 0, 3, 0, 0, 0, 1, 0, 0, 0, 0, 0,
         0, 0,
     ];
     match link.push(&requests, &[]) {

@@ -195,7 +195,7 @@ module _ (H B G : Type 0) where
   ruleset known = (silent, known-same, known-unwritten, known-refused, known-channel, known-features, known-object, known-inflight, known-state, known-check)
 
   simple-log_fd : (f : Frontend) (s : Session) (h : H) → AgreeOn f s → IsNegotiated f → Stays s (SetLogFd h) (ask f (SetLogFd h))
-  simple-log_fd f s h agree on = known-silent (SetLogFd h) _ _ _ _ _
+  simple-log_fd f s h agree on = search known depth 12
 
   -- ---- replies that change no session
 

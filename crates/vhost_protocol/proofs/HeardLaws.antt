@@ -93,11 +93,6 @@ module _ (H B G : Type 0) where
   good-channel C call s m (Ok c) next h = h c
   good-channel C call s m (Err e) next h = good-ack call (ack_on s && m.need_reply) false
 
-  -- a request that nobody serves
-  good-unserved : (call : FrontendCall H) (s : Session) (m : Message FrontendReq H) (b : Bool) → Good call (step.Refused (cond b (acknowledged s m (InvalidOperation (codes "request not served"))) (step.silently InvalidMessage)))
-  good-unserved call s m true = good-ack call (ack_on s && m.need_reply) false
-  good-unserved call s m false = tt
-
   -- ---- the frontend's tests
 
   ask-then : (s : Session) (call : FrontendCall H) (x : Result (Unit {0}) Error) (next : Asked H) → Asks s call next → Asks s call (x >> next)
@@ -182,7 +177,6 @@ module _ (H B G : Type 0) where
   well-plain f s (GetConfig o n k buffer) plain = absurd plain
   well-plain f s (AddMemRegion info) plain = absurd plain
   well-plain f s (PostcopyAckMemRegions r) plain = absurd plain
-  well-plain f s (SetLogFd h) plain = tt
   well-plain f s (SetVringCall i None) plain = search good depth 12
   well-plain f s (SetVringCall i (Some h)) plain = search good depth 12
   well-plain f s (SetVringKick i None) plain = search good depth 12

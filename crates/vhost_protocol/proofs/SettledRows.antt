@@ -23,6 +23,7 @@ refuses (device.GetVringBase i) = Some (Err InvalidParam)
 refuses (device.GetInflightFd i) = Some (Err InvalidParam)
 refuses device.GetShmemConfig = Some (Err InvalidParam)
 refuses (device.AddMemRegion region handle postcopy) = Some (Err InvalidParam)
+refuses (device.Other request body handles) = Some (Err InvalidParam)
 refuses _ = None
 
 -- what the frontend sees, and the number of the session's end

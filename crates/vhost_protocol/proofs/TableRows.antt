@@ -1,13 +1,13 @@
 -- Worked rows of the protocol table: each holds by computing.
 use Rattle.std.proofs.Common.{◌≡◌, ℕ, Bool, true, false, List, [], ◌∷◌, ◌++◌, replicate, Option, Some, None, Result, Ok, Err, refl}
-use Rattle.std.specs.Prelude.{codes, if◌then◌else◌, nat_le, flat_map, take}
+use Rattle.std.specs.Prelude.{◌==◌, codes, if◌then◌else◌, nat_le, flat_map, take}
 use Rattle.vhost_message.specs.FrontendReq.{request_number}
 use Rattle.vhost_message.specs.Records.{region_text, memory_text}
 use Rattle.vhost_message.specs.Text.{digits}
 use Rattle.vhost_message.specs.declared.frontend_req.FrontendReq.{FrontendReq}
-use Rattle.vhost_message.specs.declared.frontend_req.FrontendReq.TheVariants.{GET_FEATURES, SET_FEATURES, SET_OWNER, SET_MEM_TABLE, SET_LOG_FD, SET_VRING_NUM, SET_VRING_KICK, SET_VRING_ENABLE, NET_SET_MTU, IOTLB_MSG, GET_PROTOCOL_FEATURES, SET_CONFIG, GET_CONFIG, GPU_SET_SOCKET, SET_DEVICE_STATE_FD, GET_SHMEM_CONFIG, POSTCOPY_END, SET_BACKEND_REQ_FD}
+use Rattle.vhost_message.specs.declared.frontend_req.FrontendReq.TheVariants.{GET_FEATURES, SET_FEATURES, SET_OWNER, SET_MEM_TABLE, SET_LOG_FD, SET_VRING_NUM, SET_VRING_KICK, SET_VRING_ENABLE, NET_SET_MTU, IOTLB_MSG, SEND_RARP, GET_PROTOCOL_FEATURES, SET_CONFIG, GET_CONFIG, GPU_SET_SOCKET, SET_DEVICE_STATE_FD, GET_SHMEM_CONFIG, POSTCOPY_END, SET_BACKEND_REQ_FD}
 use Rattle.vhost_message.specs.declared.postcopy.PostcopyState.TheVariants.{Listen, End}
-use Rattle.vhost_protocol.specs.DeviceCall.{Call, Answer, SetOwner, GetFeatures, SetFeatures, SetMtu, SetVringNum, SetVringKick, SetVringEnable, GetProtocolFeatures, SetMemTable, GetConfig, SetGpuSocket, SetDeviceStateFd, SetBackendReqFd, PostcopyEnd, PostcopyAckMemRegions, GetVringBase, GetQueueNum, GetSharedObject, GetInflightFd, GetMaxMemSlots, AddMemRegion, GetShmemConfig, PostcopyAdvice}
+use Rattle.vhost_protocol.specs.DeviceCall.{Call, Answer, SetOwner, GetFeatures, SetFeatures, SetMtu, Other, SetVringNum, SetVringKick, SetVringEnable, GetProtocolFeatures, SetMemTable, GetConfig, SetGpuSocket, SetDeviceStateFd, SetBackendReqFd, PostcopyEnd, PostcopyAckMemRegions, GetVringBase, GetQueueNum, GetSharedObject, GetInflightFd, GetMaxMemSlots, AddMemRegion, GetShmemConfig, PostcopyAdvice}
 use Rattle.vhost_protocol.specs.Error.{Error, InvalidOperation, InvalidParam, InvalidMessage, InactiveFeature, InactiveOperation, InvalidSocketFd, Named}
 use Rattle.vhost_protocol.specs.Row.{row}
 use Rattle.vhost_protocol.specs.Served.{Served, reply}
@@ -62,6 +62,7 @@ device GetShmemConfig = Err InvalidParam
 device PostcopyAdvice = Ok 100
 device PostcopyEnd = Err InvalidParam
 device (SetFeatures n) = Err (InvalidOperation (codes "not owned"))
+device (Other request body handles) = if request == 0x16 then Err (InvalidOperation (codes "request not served")) else Ok tt
 device _ = Ok tt
 
 message : FrontendReq → Bool → List ℕ → List ℕ → Message FrontendReq ℕ
@@ -330,10 +331,10 @@ no_features = refl
 standard : ℕ → Session
 standard features = record (acks features) { profile = Standard }
 
--- a request that nobody serves is acknowledged, where that is wanted and on
-unserved : does (standard 8) (message IOTLB_MSG true (replicate 32 0) [])
+-- a request that has no row is the device's, whole; whether it is served is acknowledged, where that is wanted and on
+unserved : does (standard 8) (message IOTLB_MSG true (1 ∷ 2 ∷ []) (7 ∷ []))
     ≡ record {
-      call = None;
+      call = Some (Other 22 (1 ∷ 2 ∷ []) (7 ∷ []));
       answer = Err (InvalidOperation (codes "request not served"));
       text = 0x16 ∷ 0 ∷ 0 ∷ 0 ∷ 5 ∷ 0 ∷ 0 ∷ 0 ∷ 8 ∷ 0 ∷ 0 ∷ 0 ∷ 1 ∷ 0 ∷ 0 ∷ 0 ∷ 0 ∷ 0 ∷ 0 ∷ 0 ∷ [];
       handles = [];
@@ -342,10 +343,22 @@ unserved : does (standard 8) (message IOTLB_MSG true (replicate 32 0) [])
 unfolding does done_by opens device message shown acks standard
 unserved = refl
 
-unserved_quietly : does (standard 8) (message IOTLB_MSG false (replicate 32 0) [])
-    ≡ record { call = None; answer = Err (InvalidOperation (codes "request not served")); text = []; handles = []; session = standard 8 }
+unserved_quietly : does (standard 8) (message IOTLB_MSG false [] [])
+    ≡ record { call = Some (Other 22 [] []); answer = Err (InvalidOperation (codes "request not served")); text = []; handles = []; session = standard 8 }
 unfolding does done_by opens device message shown acks standard
 unserved_quietly = refl
+
+-- one that the device serves
+other_served : does (standard 8) (message SEND_RARP true (replicate 8 2) [])
+    ≡ record {
+      call = Some (Other 19 (replicate 8 2) []);
+      answer = Ok tt;
+      text = 0x13 ∷ 0 ∷ 0 ∷ 0 ∷ 5 ∷ 0 ∷ 0 ∷ 0 ∷ 8 ∷ 0 ∷ 0 ∷ 0 ∷ replicate 8 0;
+      handles = [];
+      session = standard 8;
+    }
+unfolding does done_by opens device message shown acks standard
+other_served = refl
 
 -- a ring is enabled before any features are acknowledged, where bit 30 was offered
 enabled : does (standard 0) (message SET_VRING_ENABLE false (0 ∷ 0 ∷ 0 ∷ 0 ∷ 1 ∷ 0 ∷ 0 ∷ 0 ∷ []) [])

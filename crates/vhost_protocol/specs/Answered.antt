@@ -7,7 +7,7 @@ use Rattle.vhost_message.specs.declared.records.config.VhostUserConfig.{VhostUse
 use Rattle.vhost_message.specs.declared.records.inflight.VhostUserInflight.{VhostUserInflight}
 use Rattle.vhost_message.specs.declared.records.memory.VhostUserMemoryRegion.{VhostUserMemoryRegion}
 use Rattle.vhost_message.specs.declared.records.memory.VhostUserSingleMemoryRegion.{VhostUserSingleMemoryRegion}
-use Rattle.vhost_protocol.specs.DeviceCall.{Call, Answer, SetOwner, ResetOwner, ResetDevice, GetFeatures, SetFeatures, SetMemTable, SetVringNum, SetVringAddr, SetVringBase, GetVringBase, SetVringKick, SetVringCall, SetVringErr, GetProtocolFeatures, SetProtocolFeatures, GetQueueNum, SetVringEnable, GetConfig, SetConfig, SetBackendReqFd, SetGpuSocket, GetSharedObject, GetInflightFd, SetInflightFd, GetMaxMemSlots, AddMemRegion, RemoveMemRegion, SetDeviceStateFd, CheckDeviceState, GetShmemConfig, PostcopyAdvice, PostcopyListen, PostcopyEnd, PostcopyAckMemRegions, SetLogBase, SetMtu}
+use Rattle.vhost_protocol.specs.DeviceCall.{Call, Answer, SetOwner, ResetOwner, ResetDevice, GetFeatures, SetFeatures, SetMemTable, SetVringNum, SetVringAddr, SetVringBase, GetVringBase, SetVringKick, SetVringCall, SetVringErr, GetProtocolFeatures, SetProtocolFeatures, GetQueueNum, SetVringEnable, GetConfig, SetConfig, SetBackendReqFd, SetGpuSocket, GetSharedObject, GetInflightFd, SetInflightFd, GetMaxMemSlots, AddMemRegion, RemoveMemRegion, SetDeviceStateFd, CheckDeviceState, GetShmemConfig, PostcopyAdvice, PostcopyListen, PostcopyEnd, PostcopyAckMemRegions, SetLogBase, SetMtu, Other}
 use Rattle.vhost_protocol.specs.Error.{Error, BackendInternalError}
 use Rattle.vhost_protocol.specs.Features.{REPLY_ACK}
 use Rattle.vhost_protocol.specs.Session.{Session}
@@ -123,6 +123,7 @@ answered s m PostcopyEnd = with_ack (record s { postcopy = End }) m
 answered s m PostcopyAckMemRegions = unwritten s
 answered s m (SetLogBase log handle) = replied_or_silent s (λ u. LogArea log)
 answered s m (SetMtu mtu) = with_ack s m
+answered s m (Other request body handles) = with_ack s m
 
 -- the device is called, and its answer followed
 abbrev pub calls : {H B G : Type 0} → Session → Message FrontendReq H → Call H B G → Step H B G

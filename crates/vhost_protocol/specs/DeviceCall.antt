@@ -49,6 +49,7 @@ pub data Call (H B G : Type 0) : Type 0 where
   PostcopyAckMemRegions : Call H B G
   SetLogBase : VhostUserLog → H → Call H B G
   SetMtu : (mtu : ℕ) → Call H B G
+  Other : (request : ℕ) → List ℕ → List H → Call H B G
 
 -- what a call may be answered
 abbrev pub Answer : {H B G : Type 0} → Call H B G → Type 0

@@ -6,12 +6,13 @@ use Rattle.vhost_message.specs.declared.limits.TheConstants.{MEMORY_HEAD_SIZE, M
 use Rattle.vhost_message.specs.Bits.{has_bit}
 use Rattle.vhost_message.specs.declared.frontend_req.FrontendReq.{FrontendReq}
 use Rattle.vhost_message.specs.declared.frontend_req.FrontendReq.TheVariants.{GET_FEATURES, SET_FEATURES, SET_OWNER, RESET_OWNER, SET_MEM_TABLE, SET_LOG_BASE, SET_VRING_NUM, SET_VRING_ADDR, SET_VRING_BASE, GET_VRING_BASE, SET_VRING_KICK, SET_VRING_CALL, SET_VRING_ERR, GET_PROTOCOL_FEATURES, SET_PROTOCOL_FEATURES, GET_QUEUE_NUM, SET_VRING_ENABLE, NET_SET_MTU, SET_BACKEND_REQ_FD, GET_CONFIG, SET_CONFIG, POSTCOPY_ADVISE, POSTCOPY_LISTEN, POSTCOPY_END, GET_INFLIGHT_FD, SET_INFLIGHT_FD, GPU_SET_SOCKET, RESET_DEVICE, GET_MAX_MEM_SLOTS, ADD_MEM_REG, REM_MEM_REG, GET_SHARED_OBJECT, SET_DEVICE_STATE_FD, CHECK_DEVICE_STATE, GET_SHMEM_CONFIG}
+use Rattle.vhost_message.specs.FrontendReq.{request_number}
 use Rattle.vhost_message.specs.declared.records.memory.VhostUserMemoryRegion.{VhostUserMemoryRegion}
 use Rattle.vhost_message.specs.declared.records.shared.VhostUserSharedMsg.{VhostUserSharedMsg}
 use Rattle.vhost_message.specs.Records.{u64_at, memory_of, regions_of, single_region_of, vring_state_of, vring_addr_of, config_of, inflight_of, log_of, transfer_of}
 use Rattle.vhost_message.specs.Valid.{is_valid_region, is_valid_memory, is_valid_vring_addr, is_valid_config, is_valid_inflight, is_valid_log, is_valid_uuid, is_valid_transfer}
 use Rattle.vhost_protocol.specs.Answered.{calls}
-use Rattle.vhost_protocol.specs.DeviceCall.{SetOwner, ResetOwner, ResetDevice, GetFeatures, SetFeatures, SetMemTable, SetVringNum, SetVringAddr, SetVringBase, GetVringBase, SetVringKick, SetVringCall, SetVringErr, GetProtocolFeatures, SetProtocolFeatures, GetQueueNum, SetVringEnable, GetConfig, SetConfig, SetBackendReqFd, SetGpuSocket, GetSharedObject, GetInflightFd, SetInflightFd, GetMaxMemSlots, AddMemRegion, RemoveMemRegion, SetDeviceStateFd, CheckDeviceState, GetShmemConfig, PostcopyAdvice, PostcopyListen, PostcopyEnd, PostcopyAckMemRegions, SetLogBase, SetMtu}
+use Rattle.vhost_protocol.specs.DeviceCall.{SetOwner, ResetOwner, ResetDevice, GetFeatures, SetFeatures, SetMemTable, SetVringNum, SetVringAddr, SetVringBase, GetVringBase, SetVringKick, SetVringCall, SetVringErr, GetProtocolFeatures, SetProtocolFeatures, GetQueueNum, SetVringEnable, GetConfig, SetConfig, SetBackendReqFd, SetGpuSocket, GetSharedObject, GetInflightFd, SetInflightFd, GetMaxMemSlots, AddMemRegion, RemoveMemRegion, SetDeviceStateFd, CheckDeviceState, GetShmemConfig, PostcopyAdvice, PostcopyListen, PostcopyEnd, PostcopyAckMemRegions, SetLogBase, SetMtu, Other}
 use Rattle.vhost_protocol.specs.Error.{Error, InvalidParam, InvalidOperation, InactiveFeature, InactiveOperation, InvalidMessage, IncorrectFds, FrontendInternalError}
 use Rattle.vhost_protocol.specs.Features.{PROTOCOL_FEATURES, MQ, LOG_SHMFD, MTU, BACKEND_REQ, PAGEFAULT, CONFIG, INFLIGHT_SHMFD, RESETS_DEVICE, CONFIGURE_MEM_SLOTS, SHARED_OBJECT, SHMEM}
 use Rattle.vhost_protocol.specs.Profile.{is_standard}
@@ -135,9 +136,11 @@ abbrev pub channel : {H C : Type 0} → Session → Message FrontendReq H → Re
 channel s m (Ok c) = Ok c
 channel s m (Err e) = Err (acknowledged s m e)
 
--- A request that nobody serves. Under Standard its error is none of a malformed message.
-abbrev pub unserved : {H : Type 0} → Session → Refusal H
-unserved s = silently (if is_standard s.profile then InvalidOperation (codes "request not served") else InvalidMessage)
+-- A request that has no row of its own. Under Standard the device is given it whole, and says whether it is served.
+abbrev pub other_row : {H B G : Type 0} → Session → Message FrontendReq H → Step H B G
+other_row s m = do
+  test (is_standard s.profile && not m.reply) (silently InvalidMessage)
+  calls s m (Other (request_number m.request) m.body m.handles)
 
 -- ---- the table
 
@@ -266,7 +269,7 @@ row_of POSTCOPY_END s m = do
   session_feature s PAGEFAULT
   test (is_listen s.postcopy) (silently (InvalidOperation (codes "postcopy not listening")))
   calls s m PostcopyEnd
-row_of _ s m = Refused (unserved s)
+row_of _ s m = other_row s m
 
 -- the row of a message
 abbrev pub row : {H B G : Type 0} → Session → Message FrontendReq H → Step H B G

@@ -1,5 +1,5 @@
 -- Worked examples, by computing.
-use Rattle.std.proofs.Common.{◌≡◌, true, false, Some, Ok, Err, List, [], ◌∷◌, refl}
+use Rattle.std.proofs.Common.{◌≡◌, true, false, None, Some, Ok, Err, List, [], ◌∷◌, refl}
 use Rattle.vhost_queue.specs.Chain.{Following, step}
 use Rattle.vhost_queue.specs.Inflight.{pending, settled}
 use Rattle.vhost_queue.specs.Memory.{translated}
@@ -39,7 +39,7 @@ behind_last = refl
 
 -- a chain of a queue of four, at its head: a readable segment, which goes on at 1
 abbrev head : Following
-head = record { table = 0x20000000; seen = false ∷ false ∷ false ∷ false ∷ []; next = Some 0; left = 4; writing = false; nests = false }
+head = record { table = 0x20000000; seen = false ∷ false ∷ false ∷ false ∷ []; next = Some 0; rest = None; left = 4; splits = 508; writing = false; nests = false }
 
 abbrev first : Descriptor
 first = record { addr = 0x100010; len = 16; flags = 1; next = 1 }
@@ -50,7 +50,29 @@ goes_on_at : step regions head first ≡ Ok (
 )
 goes_on_at = refl
 
--- .. and there one that goes back, one that leaves the table, and an indirect table that was not negotiated
+-- one that lies in two regions: a segment of each; what the second step is given is nothing to it
+abbrev above : GuestRegion
+above = record { guest_addr = 0x101000; size = 0x1000; user_addr = 0x7f0000200000; host_addr = 0x40000000 }
+
+abbrev rest : Descriptor
+rest = record { addr = 0x101000; len = 8; flags = 1; next = 1 }
+
+at_a_border : step (high ∷ above ∷ []) head (record first { addr = 0x100ff8 }) ≡ Ok (
+  Some (record { range = record { addr = 0x20000ff8; len = 8 }; guest_addr = 0x100ff8; writable = false }),
+  record head { rest = Some rest; splits = 507 },
+)
+at_a_border = refl
+
+behind_the_border : step (high ∷ above ∷ []) (record head { rest = Some rest; splits = 507 }) (record first { flags = 4; next = 9 }) ≡ Ok (
+  Some (record { range = record { addr = 0x40000000; len = 8 }; guest_addr = 0x101000; writable = false }),
+  record head { seen = true ∷ false ∷ false ∷ false ∷ []; next = Some 1; left = 3; splits = 507 },
+)
+behind_the_border = refl
+
+no_region_goes_on : step regions (record head { rest = Some rest; splits = 507 }) first ≡ Err NotInGuest
+no_region_goes_on = refl
+
+-- .. and behind the first one that goes back, one that leaves the table, and an indirect table that was not negotiated
 abbrev second : Following
 second = record head { seen = true ∷ false ∷ false ∷ false ∷ []; next = Some 1; left = 3 }
 

@@ -1,6 +1,6 @@
 -- What has been read of a chain, and what one descriptor more adds to it.
-use Rattle.std.proofs.Common.{◌≡◌, ℕ, ◌+◌, ◌*◌, ◌<◌, ◌≤◌, Bool, true, false, cond, List, [], ◌∷◌, ◌++◌, length, length-append, refl, sym, ap, ◌∙◌, subst, Option, Some, None, arith}
-use Rattle.std.specs.Prelude.{All, AllPairs, option_to_list}
+use Rattle.std.proofs.Common.{◌≡◌, ℕ, ◌+◌, ◌*◌, ◌<◌, true, cond, List, [], ◌∷◌, ◌++◌, length, length-append, sym, ◌∙◌, subst, Option, Some, None, arith}
+use Rattle.std.specs.Prelude.{All, option_to_list}
 use Rattle.std.proofs.lemmas.List.{append-nil}
 use Rattle.std.proofs.lemmas.List.Elements.{All-nil, All-push}
 use Rattle.std.proofs.lemmas.List.Quantifiers.{all_pairs_push}
@@ -19,14 +19,14 @@ LiesIn-within rs outer inner h w =
     (h.0, h.1, omega arith, omega arith)
 
 pub record Followed (rs : List GuestRegion) (limit : ℕ) (segments : List Segment) (f : Following) : Type 0 where
-  pub counted : length segments + f.left ≡ limit
+  pub counted : length segments + (f.left + f.splits) ≡ limit
   pub inside : All (λ s. LiesIn rs s.range) segments
   pub ordered : ReadableFirst segments
   pub written : All (λ s. s.writable ≡ true → f.writing ≡ true) segments
   pub mapped : LiesIn rs (table_of f)
 
 -- nothing has been read yet
-pub followed-none : (rs : List GuestRegion) (f : Following) → LiesIn rs (table_of f) → (xs : List Segment) → xs ≡ [] → Followed rs f.left xs f
+pub followed-none : (rs : List GuestRegion) (f : Following) → LiesIn rs (table_of f) → (xs : List Segment) → xs ≡ [] → Followed rs (f.left + f.splits) xs f
 followed-none rs f mapped xs e = rw e (record {
   counted = omega arith;
   inside = All-nil _;
@@ -50,7 +50,7 @@ followed-more {rs} {limit} {xs} {f} h s g ys e on = rw e (record {
 followed-table : {rs : List GuestRegion} {limit : ℕ} {xs : List Segment} {f : Following} → Followed rs limit xs f
     → (g : Following) → GoesOn rs f None g → Followed rs limit xs g
 followed-table {rs} {limit} {xs} {f} h g on = record {
-  counted = (let was = h.counted in let same = on.2 in omega arith);
+  counted = (let was = h.counted in let same = on.2 in let splits = on.3 in omega arith);
   inside = h.inside;
   ordered = h.ordered;
   written = λ i d lt w. on.1 ∙ h.written i d lt w;
@@ -61,15 +61,15 @@ followed-table {rs} {limit} {xs} {f} h g on = record {
 pub followed-safe : {rs : List GuestRegion} {limit : ℕ} {xs : List Segment} {f : Following} → Followed rs limit xs f → IsSafe rs limit xs
 followed-safe {rs} {limit} {xs} {f} h = record { inside = h.inside; few = (let was = h.counted in omega arith); ordered = h.ordered }
 
--- how many descriptors may be read yet, at most
+-- how many steps may come yet, at most
 abbrev pub remaining : Following → ℕ
-remaining f = 2 * f.left + cond f.nests 1 0
+remaining f = 2 * (f.left + f.splits) + cond f.nests 1 0
 
 remaining-more : (rs : List GuestRegion) (f g : Following) (s : Segment) → GoesOn rs f (Some s) g → remaining g < remaining f
 remaining-more rs f g s on = let less = on.3 in rw (on.5) (omega arith)
 
 remaining-table : (rs : List GuestRegion) (f g : Following) → GoesOn rs f None g → remaining g < remaining f
-remaining-table rs f g on = let same = on.2 in rw (on.3, on.4) (omega arith)
+remaining-table rs f g on = let same = on.2 in let splits = on.3 in rw (on.4, on.5) (omega arith)
 
 -- either, as a step's answer tells it
 pub followed-on : {rs : List GuestRegion} {limit : ℕ} {xs : List Segment} {f : Following} → Followed rs limit xs f

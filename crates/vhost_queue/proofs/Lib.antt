@@ -1,3 +1,4 @@
+pub mod Covered
 mod Examples
 pub mod Followed
 pub mod Freed

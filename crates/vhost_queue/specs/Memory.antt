@@ -1,5 +1,5 @@
 -- Guest memory: which ranges of addresses lie in one region, and where they are mapped.
-use Rattle.std.specs.Prelude.{◌≡◌, ◌<◌, ◌%◌, ◌⊎◌, false, length, slice_index_or, All, AllPairs, true, ℕ, ◌+◌, ◌-◌, ◌≤◌, ◌^◌, Bool, not, ◌&&◌, ◌||◌, List, [], ◌∷◌, ◌==◌, nat_le, nat_lt, Result, Ok, Err, Contains, if◌then◌else◌}
+use Rattle.std.specs.Prelude.{◌≡◌, ◌<◌, min, ◌%◌, ◌⊎◌, false, length, slice_index_or, All, AllPairs, true, ℕ, ◌+◌, ◌-◌, ◌≤◌, ◌^◌, Bool, not, ◌&&◌, ◌||◌, List, [], ◌∷◌, ◌==◌, nat_le, nat_lt, Result, Ok, Err, Contains, if◌then◌else◌}
 use Rattle.vhost_queue.specs.declared.error.Error.{Error}
 use Rattle.vhost_queue.specs.declared.error.Error.TheVariants.{NotInGuest, InvalidRegion, TooManyRegions, RegionOverlap, OutOfMemory, Unaligned}
 use Rattle.vhost_queue.specs.declared.memory.AddressSpace.{AddressSpace}
@@ -40,6 +40,11 @@ mapped_in space r a n = record { addr = r.host_addr + (a - base space r); len = 
 abbrev pub translated : AddressSpace → List GuestRegion → ℕ → ℕ → Result HostRange Error
 translated space [] a n = Err NotInGuest
 translated space (r ∷ rs) a n = if holds space r a n then Ok (mapped_in space r a n) else translated space rs a n
+
+-- where the first of n bytes at a guest's address are mapped: as many as lie in the region that has the first of them
+abbrev pub translated_part : List GuestRegion → ℕ → ℕ → Result HostRange Error
+translated_part [] a n = Err NotInGuest
+translated_part (r ∷ rs) a n = if holds Guest r a 1 then Ok (mapped_in Guest r a (min n (r.size - (a - r.guest_addr)))) else translated_part rs a n
 
 -- the range lies inside what one of the regions is mapped to
 abbrev pub LiesIn : List GuestRegion → HostRange → Type 0

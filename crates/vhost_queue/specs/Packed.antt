@@ -93,8 +93,15 @@ with_chain size s d (Some e) _ = Err e
 with_chain size s d None (Ok out) = Ok (out.0, gone_on size s d out.1)
 with_chain size s d None (Err e) = Err e
 
+-- the chain goes on with the rest of a descriptor that was read before
+abbrev pub resumed : State → Result (Option Segment × Following) Error → Result (Option Segment × State) Error
+resumed s (Ok out) = Ok (out.0, record s { chain = out.1 })
+resumed s (Err e) = Err e
+
 abbrev pub step_next : List GuestRegion → ℕ → State → PackedDescriptor → Option ℕ → Result (Option Segment × State) Error
-step_next rs size s d (Some i) = with_chain size s d (fault_of size s d) (step rs s.chain (as_split s i d))
+step_next rs size s d (Some i) =
+    if is_some s.chain.rest then resumed s (step rs s.chain (as_split s i d))
+    else with_chain size s d (fault_of size s d) (step rs s.chain (as_split s i d))
 step_next rs size s d None = Err ChainEnded
 
 -- the next descriptor of the chain was read

@@ -1,10 +1,9 @@
 -- What one descriptor makes of a chain, in both kinds of queue: virtio 1.2, 2.7.5 and 2.8.
 use Rattle.std.specs.Prelude.{◌≡◌, ℕ, ◌/◌, ◌%◌, ◌≤◌, Bool, true, not, All, AllPairs, ◌&&◌, ◌||◌, List, ◌==◌, nat_lt, bit_and, length, Result, Ok, Err, if◌then◌else◌}
-use Rattle.vhost_queue.specs.Memory.{translated, LiesIn}
+use Rattle.vhost_queue.specs.Memory.{translated_part, LiesIn}
 use Rattle.vhost_queue.specs.declared.error.Error.{Error}
 use Rattle.vhost_queue.specs.declared.error.Error.TheVariants.{EmptyDescriptor, ChainTooLong, ReadableAfterWritable, InvalidIndirectLength}
 use Rattle.vhost_queue.specs.declared.descriptor.Segment.{Segment}
-use Rattle.vhost_queue.specs.declared.memory.AddressSpace.TheVariants.{Guest}
 use Rattle.vhost_queue.specs.declared.memory.GuestRegion.{GuestRegion}
 use Rattle.vhost_queue.specs.declared.memory.HostRange.{HostRange}
 
@@ -23,12 +22,12 @@ abbrev pub segment_at : ℕ → ℕ → Result HostRange Error → Result Segmen
 segment_at addr flags (Ok range) = Ok (record { range = range; guest_addr = addr; writable = is_writable flags })
 segment_at addr flags (Err e) = Err e
 
--- the segment of a descriptor of these values, where a writable one came before it or not
+-- the segment of the first bytes of a descriptor of these values, those that lie in one region; where a writable one came before it or not
 abbrev pub segment_of : List GuestRegion → Bool → ℕ → ℕ → ℕ → Result Segment Error
 segment_of rs writing addr n flags =
     if writing && not (is_writable flags) then Err ReadableAfterWritable
     else if n == 0 then Err EmptyDescriptor
-    else segment_at addr flags (translated Guest rs addr n)
+    else segment_at addr flags (translated_part rs addr n)
 
 -- how many descriptors an indirect table of n bytes has, where so many may come
 abbrev pub table_entries : ℕ → ℕ → Result ℕ Error

@@ -1,4 +1,4 @@
-//! A chain of descriptors, followed one descriptor at a time.
+//! A chain of descriptors, followed one segment at a time.
 
 ghost use Rattle.std.specs.Prelude.{◌≡◌, ◌+◌, ◌*◌, ◌^◌, ◌<◌, ◌≤◌, ◌≢◌, length, take, IfOk, IfErr, OnOk, OnErr, Ok, Err, Some, None, true, false, replicate, slice_index_or};
 ghost use Rattle.std.specs.Option.{ForSome};
@@ -10,6 +10,9 @@ use crate::segment::{INDIRECT, NEXT, WRITE, segment_of};
 use crate::table::{clear, table_entries};
 use std::alloc::Global;
 
+// How many times the descriptors of a chain go on in another region: as many borders lie between the regions that there may be.
+const MAX_SPLITS: u16 = 508;
+
 /// A chain that is being followed. It is used again for the next one, since it keeps a mark for each descriptor of a table.
 #[derive(Drop)]
 pub struct DescriptorChain {
@@ -18,15 +21,18 @@ pub struct DescriptorChain {
     entries: u16,
     /// The descriptor that is to be read.
     next: Option<u16>,
-    /// How many segments may come yet.
+    /// What of it is left, where its first bytes came already.
+    rest: Option<Descriptor>,
+    /// How many descriptors may come yet, and how many times one may go on in another region.
     left: u16,
+    splits: u16,
     /// Whether a writable one came.
     writing: bool,
     /// Whether an indirect table may come.
     nests: bool,
     /// Which descriptors of the table were followed.
     seen: Vec<bool>,
-    /// How many segments a chain has at most.
+    /// How many descriptors with bytes a chain has at most.
     limit: u16,
     ghost fits: { table + 16 * entries < 2 ^ 64 },
     ghost marks: { length seen.items ≡ limit },
@@ -38,13 +44,13 @@ pub struct DescriptorChain {
 }
 
 impl DescriptorChain {
-    ghost use Rattle.vhost_queue.specs.Chain.{after, begun, following, table_of, Begins, FollowsOnce, GoesOn, limit_of, nested, next_of, place_of, step};
+    ghost use Rattle.vhost_queue.specs.Chain.{after, begun, following, gone_on, split, table_of, Begins, FollowsOnce, GoesOn, IsPart, limit_of, nested, next_of, next_value, place_of, rest_of, step};
     ghost use Rattle.vhost_queue.specs.Places.{at, Within};
     ghost use Rattle.vhost_queue.specs.Segment.{is_writable};
-    ghost use Rattle.std.specs.Prelude.{IfSome};
+    ghost use Rattle.std.specs.Prelude.{IfSome, is_some};
     ghost use Rattle.vhost_queue.specs.declared.error.Error.TheVariants.{OutOfMemory};
 
-    /// No chain yet. Each will have at most so many segments.
+    /// No chain yet. Each will have at most so many descriptors with bytes.
     pub fn new(alloc: Global, limit: u16) -> Result<DescriptorChain>
         ensures limit { IfOk result (λ chain. limit_of chain ≡ limit) }
         ensures ended { IfOk result (λ chain. (following chain).next ≡ None) }
@@ -55,7 +61,9 @@ impl DescriptorChain {
             table: 0,
             entries: 0,
             next: None,
+            rest: None,
             left: 0,
+            splits: 0,
             writing: false,
             nests: false,
             seen,
@@ -71,7 +79,7 @@ impl DescriptorChain {
         self.next = None;
     }
 
-    /// The chain begins at this descriptor of a queue's table, and may have as many segments as was said.
+    /// The chain begins at this descriptor of a queue's table, and may have as many of them as was said.
     pub fn begin(&mut self, table: u64, size: u16, nests: bool, head: u16) -> Result<()>
         requires small { size ≤ limit_of self.old }
         requires fits { table + 16 * size < 2 ^ 64 }
@@ -88,13 +96,15 @@ impl DescriptorChain {
         self.table = table;
         self.entries = size;
         self.next = Some(head);
+        self.rest = None;
         self.left = self.limit;
+        self.splits = MAX_SPLITS;
         self.writing = false;
         self.nests = nests;
         Ok(())
     }
 
-    /// The place in its table of the descriptor that is to be read next, if the chain goes on.
+    /// The place in its table of the descriptor that is next, if the chain goes on.
     pub fn next(&self) -> Option<u16>
         ensures exact { result ≡ (following self.now).next }
         ensures within { IfSome result (λ i. i < length (following self.now).seen) }
@@ -109,7 +119,14 @@ impl DescriptorChain {
         self.entries
     }
 
-    /// The 16 bytes that are to be read next, if the chain goes on.
+    /// Whether a descriptor's first bytes came, and the rest of it comes next.
+    pub fn has_rest(&self) -> bool
+        ensures { result ≡ is_some (following self.now).rest }
+    {
+        self.rest.is_some()
+    }
+
+    /// The 16 bytes that are to be read next, if the chain goes on; none of them where the rest of a descriptor comes.
     pub fn place(&self) -> Option<HostRange>
         ensures exact { result ≡ place_of (following self.now) }
         ensures within { IfSome result (λ place. Within (table_of (following self.now)) place) }
@@ -117,14 +134,15 @@ impl DescriptorChain {
         match self.next {
             Some(at) => Some(HostRange {
                 addr: self.table + DESCRIPTOR_SIZE * u64::from(at),
-                len: DESCRIPTOR_SIZE,
+                len: if self.has_rest() { 0 } else { DESCRIPTOR_SIZE },
             }),
             None => None,
         }
     }
 
-    /// The next descriptor has this value: its segment, or none where it names an indirect table; the chain goes on behind it. A
-    /// refusal names what is wrong with the value, and changes nothing.
+    /// The next descriptor has this value: a segment, or none where it names an indirect table; the chain goes on behind it. The segment
+    /// is all of the descriptor's bytes, or the first of them where these lie in more than one region. Then its rest comes next, and
+    /// the value that is given is not looked at. A refusal names what is wrong with the value, and changes nothing.
     pub fn step(
         &mut self,
         memory: &mut GuestMemory,
@@ -133,6 +151,7 @@ impl DescriptorChain {
         ensures ok { IfOk result (λ segment. step memory.old.regions.items (following self.old) descriptor ≡ Ok (segment, following self.new)) }
         ensures err { IfErr result (λ e. step memory.old.regions.items (following self.old) descriptor ≡ Err e) }
         ensures goes_on { IfOk result (λ segment. GoesOn memory.old.regions.items (following self.old) segment (following self.new)) }
+        ensures part { IfOk result (λ segment. IsPart (next_value (following self.old).rest descriptor) segment (following self.new).rest) }
         ensures once { IfOk result (λ segment. IfSome segment (λ _. FollowsOnce (following self.old) (following self.new))) }
         ensures kept { OnErr result (self.new ≡ self.old) }
         ensures limit { limit_of self.new ≡ limit_of self.old }
@@ -141,6 +160,7 @@ impl DescriptorChain {
         let Some(at) = self.next else {
             return Err(Error::ChainEnded);
         };
+        let descriptor = self.next_value(descriptor);
         if descriptor.flags & INDIRECT != 0 {
             self.enter(memory, descriptor)?;
             return Ok(None);
@@ -152,8 +172,18 @@ impl DescriptorChain {
             next: _,
         } = descriptor;
         let segment = segment_of(memory, self.writing, addr, len, flags)?;
-        self.follow(at, descriptor)?;
+        self.go_on(at, descriptor, segment.range.len)?;
         Ok(Some(segment))
+    }
+
+    // What the chain goes on with, where the next descriptor has this value.
+    fn next_value(&self, descriptor: Descriptor) -> Descriptor
+        ensures { result ≡ next_value (following self.now).rest descriptor }
+    {
+        match self.rest {
+            Some(rest) => rest,
+            None => descriptor,
+        }
     }
 
     // The chain goes on in the indirect table that this descriptor names.
@@ -178,7 +208,55 @@ impl DescriptorChain {
         self.table = table.addr;
         self.entries = entries;
         self.next = Some(0);
+        self.rest = None;
         self.nests = false;
+        Ok(())
+    }
+
+    // The chain goes on behind these first bytes of a descriptor, or all of them.
+    fn go_on(&mut self, at: u16, descriptor: Descriptor, len: u64) -> Result<()>
+        requires next { self.old.next ≡ Some at }
+        requires some { 0 < len }
+        requires most { len ≤ descriptor.len }
+        requires fits { descriptor.addr + len < 2 ^ 64 }
+        ensures ok { OnOk result (gone_on (following self.old) at descriptor len ≡ Ok (following self.new)) }
+        ensures goes_on { OnOk result (((following self.new).left + (following self.new).splits + 1 ≡ (following self.old).left + (following self.old).splits) × ((following self.new).writing ≡ is_writable descriptor.flags) × (table_of (following self.new) ≡ table_of (following self.old)) × ((following self.new).nests ≡ (following self.old).nests)) }
+        ensures whole { OnOk result ((following self.new).rest ≡ None → len ≡ descriptor.len) }
+        ensures part { OnOk result (IfSome (following self.new).rest (λ rest. (len < descriptor.len) × (rest ≡ rest_of descriptor len))) }
+        ensures once { OnOk result (FollowsOnce (following self.old) (following self.new)) }
+        ensures err { IfErr result (λ e. gone_on (following self.old) at descriptor len ≡ Err e) }
+        ensures kept { OnErr result (self.new ≡ self.old) }
+        ensures limit { limit_of self.new ≡ limit_of self.old }
+    {
+        if len < u64::from(descriptor.len) {
+            self.split(descriptor, len)
+        } else {
+            self.follow(at, descriptor)
+        }
+    }
+
+    // The chain goes on with the rest of a descriptor, behind these first bytes of it.
+    fn split(&mut self, descriptor: Descriptor, len: u64) -> Result<()>
+        requires less { len < descriptor.len }
+        requires fits { descriptor.addr + len < 2 ^ 64 }
+        ensures ok { OnOk result (split (following self.old) descriptor len ≡ Ok (following self.new)) }
+        ensures goes_on { OnOk result (((following self.new).left ≡ (following self.old).left) × ((following self.new).splits + 1 ≡ (following self.old).splits) × ((following self.new).writing ≡ is_writable descriptor.flags) × (table_of (following self.new) ≡ table_of (following self.old)) × ((following self.new).nests ≡ (following self.old).nests)) }
+        ensures rest { OnOk result ((following self.new).rest ≡ Some (rest_of descriptor len)) }
+        ensures err { IfErr result (λ e. split (following self.old) descriptor len ≡ Err e) }
+        ensures kept { OnErr result (self.new ≡ self.old) }
+        ensures limit { limit_of self.new ≡ limit_of self.old }
+    {
+        if self.splits == 0 {
+            return Err(Error::ChainTooLong);
+        }
+        self.rest = Some(Descriptor {
+            addr: descriptor.addr + len,
+            len: descriptor.len - len as u32,
+            flags: descriptor.flags,
+            next: descriptor.next,
+        });
+        self.splits -= 1;
+        self.writing = descriptor.flags & WRITE != 0;
         Ok(())
     }
 
@@ -186,7 +264,7 @@ impl DescriptorChain {
     fn follow(&mut self, at: u16, descriptor: Descriptor) -> Result<()>
         requires next { self.old.next ≡ Some at }
         ensures ok { OnOk result (after (following self.old) at descriptor ≡ Ok (following self.new)) }
-        ensures goes_on { OnOk result (((following self.new).left + 1 ≡ (following self.old).left) × ((following self.new).writing ≡ is_writable descriptor.flags) × (table_of (following self.new) ≡ table_of (following self.old)) × ((following self.new).nests ≡ (following self.old).nests)) }
+        ensures goes_on { OnOk result (((following self.new).left + 1 ≡ (following self.old).left) × ((following self.new).splits ≡ (following self.old).splits) × ((following self.new).rest ≡ None) × ((following self.new).writing ≡ is_writable descriptor.flags) × (table_of (following self.new) ≡ table_of (following self.old)) × ((following self.new).nests ≡ (following self.old).nests)) }
         ensures once { OnOk result (FollowsOnce (following self.old) (following self.new)) }
         ensures err { IfErr result (λ e. after (following self.old) at descriptor ≡ Err e) }
         ensures kept { OnErr result (self.new ≡ self.old) }
@@ -195,6 +273,7 @@ impl DescriptorChain {
         let next = self.next_of(at, descriptor)?;
         self.seen[usize::from(at)] = true;
         self.next = next;
+        self.rest = None;
         self.left -= 1;
         self.writing = descriptor.flags & WRITE != 0;
         Ok(())

@@ -18,6 +18,7 @@ mod rings;
 mod segment;
 mod serving;
 mod table;
+mod whole;
 mod wrap;
 
 pub use chain::DescriptorChain;
@@ -40,4 +41,5 @@ pub use packed_serving::{PackedShared, follow_packed, serve_next_packed, serve_p
 pub use queue::{MIN_INDIRECT_LIMIT, Queue, QueueConfig, RingWrite, UsedElem};
 pub use rings::{MAX_SIZE, Rings};
 pub use serving::{Shared, follow, serve, serve_next};
+pub use whole::follow_descriptor;
 pub use wrap::{Position, passes};

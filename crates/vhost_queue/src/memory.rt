@@ -2,7 +2,7 @@
 
 ghost use Rattle.std.specs.Prelude.{◌≡◌, ℕ, ◌+◌, ◌^◌, ◌<◌, ◌≤◌, ◌||◌, ◌++◌, ◌∷◌, [], nat_le, nat_lt, All, AllPairs, OnOk, OnErr, IfNone, IfOk, IfSome, true, false, length, slice_index_or};
 ghost use Rattle.std.specs.Bool.{OnFalse, OnTrue};
-ghost use Rattle.vhost_queue.specs.Memory.{are_apart, base, is_apart, holds, is_at, is_region, translated, AreRegions, LiesIn, Overlaps, Refuses};
+ghost use Rattle.vhost_queue.specs.Memory.{are_apart, base, is_apart, holds, is_at, is_region, translated, translated_part, AreRegions, LiesIn, Overlaps, Refuses};
 
 use crate::error::{Error, Result};
 use std::alloc::Global;
@@ -231,6 +231,29 @@ impl GuestMemory {
         Ok(HostRange {
             addr: region.host_addr + (addr - region.base(space)),
             len,
+        })
+    }
+
+    /// Where the first bytes of a range of the guest's are mapped: as many as lie in the region that has the first of them. NotInGuest:
+    /// no region has.
+    pub fn translate_part(&mut self, addr: u64, len: u64) -> Result<HostRange>
+        requires { 0 < len }
+        ensures exact { result ≡ translated_part self.old.regions.items addr len }
+        ensures kept { self.new.regions.items ≡ self.old.regions.items }
+        ensures some { IfOk result (λ range. 0 < range.len) }
+        ensures most { IfOk result (λ range. range.len ≤ len) }
+        ensures fits { IfOk result (λ range. addr + range.len < 2 ^ 64) }
+        ensures inside { IfOk result (λ range. LiesIn self.old.regions.items range) }
+    {
+        let Some(at) = self.region_of(AddressSpace::Guest, addr, 1) else {
+            return Err(Error::NotInGuest);
+        };
+        self.last = at;
+        let region = self.regions[at];
+        let offset = addr - region.guest_addr;
+        Ok(HostRange {
+            addr: region.host_addr + offset,
+            len: len.min(region.size - offset),
         })
     }
 }

@@ -89,8 +89,8 @@ pub struct PackedQueue {
 
 impl PackedQueue {
     ghost use Rattle.std.specs.Prelude.{◌⊎◌, replicate, slice_index_or, slice_set, if◌then◌else◌, IfSome, IsSome};
-    ghost use Rattle.vhost_queue.specs.Chain.{begun, place_of, table_of, Begins, FollowsOnce, GoesOn};
-    ghost use Rattle.vhost_queue.specs.Packed.{IsNew, IsSameQueue, IsToldOf, as_split, beginning, resubmitted, refused_step, fault_of, gone_on, is_last, popped, state, stepped, used, used_flags};
+    ghost use Rattle.vhost_queue.specs.Chain.{begun, place_of, step, table_of, Begins, FollowsOnce, GoesOn};
+    ghost use Rattle.vhost_queue.specs.Packed.{IsNew, IsSameQueue, IsToldOf, as_split, beginning, broken, resubmitted, resumed, refused_step, fault_of, gone_on, is_last, popped, state, stepped, used, used_flags};
     ghost use Rattle.vhost_queue.specs.PackedRings.{ring_range, driver_range, device_range};
     ghost use Rattle.vhost_queue.specs.Places.{at, Within};
     ghost use Rattle.vhost_queue.specs.Wrap.{number_of, position_of, is_available};
@@ -227,7 +227,8 @@ impl PackedQueue {
         self.in_ring
     }
 
-    /// The descriptor that is to be read next, if the chain that is followed goes on.
+    /// The descriptor that is to be read next, if the chain that is followed goes on. No bytes: one that was read goes on in another
+    /// region, and its rest comes next.
     pub fn descriptor_place(&self) -> Option<HostRange>
         ensures exact { result ≡ place_of (state self.now).chain }
         ensures within { IfSome result (λ place. Within (table_of (state self.now).chain) place) }
@@ -235,8 +236,8 @@ impl PackedQueue {
         self.chain.place()
     }
 
-    /// The next descriptor was read as this: its segment, or none where it names an indirect table. Once the last one of the ring
-    /// was read, the chain is the device's, by the id that this has.
+    /// The next descriptor was read as this: a segment, or none where it names an indirect table. Once the last one of the ring
+    /// was read, the chain is the device's, by the id that this has. Where the rest of a descriptor comes, what is given is not looked at.
     ///
     /// ChainEnded: none was to be read. NeedsReset: the queue did before. After any other the queue needs a reset.
     pub fn step(
@@ -248,7 +249,7 @@ impl PackedQueue {
         ensures err { IfErr result (λ e. stepped memory.old.regions.items self.old.rings.size (state self.old) descriptor ≡ Err e) }
         ensures goes_on { IfOk result (λ segment. GoesOn memory.old.regions.items (state self.old).chain segment (state self.new).chain) }
         ensures followed_once { IfOk result (λ segment. IfSome segment (λ _. FollowsOnce (state self.old).chain (state self.new).chain)) }
-        ensures taken_once { OnOk result (is_last (state self.old) descriptor ≡ true → slice_index_or (state self.old).out descriptor.id 0 ≡ 0) }
+        ensures taken_once { OnOk result ((state self.old).chain.rest ≡ None → is_last (state self.old) descriptor ≡ true → slice_index_or (state self.old).out descriptor.id 0 ≡ 0) }
         ensures kept { OnErr result (state self.new ≡ refused_step (state self.old)) }
         ensures rings { IsSameQueue self.old self.new }
         ensures memory { memory.new.regions.items ≡ memory.old.regions.items }
@@ -259,6 +260,9 @@ impl PackedQueue {
         let Some(at) = self.chain.next() else {
             return Err(Error::ChainEnded);
         };
+        if self.chain.has_rest() {
+            return self.resume(memory, at, descriptor);
+        }
         if let Some(error) = self.fault_of(&descriptor) {
             self.needs_reset = true;
             return Err(error);
@@ -274,6 +278,30 @@ impl PackedQueue {
                 Err(error)
             }
         }
+    }
+
+    // The chain goes on with the rest of a descriptor that was read before.
+    fn resume(
+        &mut self,
+        memory: &mut GuestMemory,
+        at: u16,
+        descriptor: PackedDescriptor,
+    ) -> Result<Option<Segment>>
+        requires next { (state self.old).chain.next ≡ Some at }
+        ensures ok { IfOk result (λ segment. resumed (state self.old) (step memory.old.regions.items (state self.old).chain (as_split (state self.old) at descriptor)) ≡ Ok (segment, state self.new)) }
+        ensures err { IfErr result (λ e. resumed (state self.old) (step memory.old.regions.items (state self.old).chain (as_split (state self.old) at descriptor)) ≡ Err e) }
+        ensures goes_on { IfOk result (λ segment. GoesOn memory.old.regions.items (state self.old).chain segment (state self.new).chain) }
+        ensures followed_once { IfOk result (λ segment. IfSome segment (λ _. FollowsOnce (state self.old).chain (state self.new).chain)) }
+        ensures kept { OnErr result (state self.new ≡ broken (state self.old)) }
+        ensures rings { IsSameQueue self.old self.new }
+        ensures memory { memory.new.regions.items ≡ memory.old.regions.items }
+    {
+        let split = self.as_split(at, &descriptor);
+        let stepped = self.chain.step(memory, split);
+        if stepped.is_err() {
+            self.needs_reset = true;
+        }
+        stepped
     }
 
     // Whether this descriptor is the chain's last in the ring.

@@ -12,7 +12,7 @@ use crate::notification::vring_need_event;
 use crate::rings::Rings;
 use std::alloc::Global;
 
-/// How many segments a chain may have at least where indirect tables were negotiated. A driver has to keep within the queue's
+/// How many descriptors a chain may have at least where indirect tables were negotiated. A driver has to keep within the queue's
 /// size (virtio 1.2, 2.7.5.3.1), and drivers do not; QEMU takes so many.
 pub const MIN_INDIRECT_LIMIT: u16 = 1024;
 
@@ -240,7 +240,8 @@ impl Queue {
         Ok(())
     }
 
-    /// The descriptor that is to be read next, if the chain that is followed goes on.
+    /// The descriptor that is to be read next, if the chain that is followed goes on. No bytes: one that was read goes on in another
+    /// region, and its rest comes next.
     pub fn descriptor_place(&self) -> Option<HostRange>
         ensures exact { result ≡ place_of (state self.now).chain }
         ensures within { IfSome result (λ place. Within (table_of (state self.now).chain) place) }
@@ -248,7 +249,8 @@ impl Queue {
         self.chain.place()
     }
 
-    /// The next descriptor was read as this: its segment, or none where it names an indirect table.
+    /// The next descriptor was read as this: a segment, or none where it names an indirect table. Where the rest of a descriptor comes,
+    /// what is given is not looked at.
     ///
     /// ChainEnded: none was to be read. NeedsReset: the queue did before. After any other the queue needs a reset.
     pub fn step(

@@ -1,6 +1,6 @@
 //! A device that serves a queue, whatever its guest writes: what the promises of this crate come to.
 
-ghost use Rattle.std.specs.Prelude.{◌≡◌, ◌++◌, option_to_list, [], false, All, OnOk, IfOk, IfSome};
+ghost use Rattle.std.specs.Prelude.{◌≡◌, ◌+◌, ◌++◌, option_to_list, [], false, All, OnOk, IfOk, IfSome};
 ghost use Rattle.vhost_queue.specs.declared.memory.HostRange.{HostRange};
 ghost use Rattle.vhost_queue.specs.Memory.{LiesIn};
 ghost use Rattle.vhost_queue.specs.Chain.{table_of, segment_limit, Begins};
@@ -46,16 +46,31 @@ pub fn follow<S: Shared>(
     requires table { LiesIn memory.old.regions.items (table_of (state queue.old).chain) }
     requires touch { (range : HostRange) → LiesIn memory.old.regions.items range → S.may_touch range }
     requires readable { (state queue.old).chain.writing ≡ false }
-    ensures safe { OnOk result (IsSafe memory.old.regions.items (state queue.old).chain.left segments.new.items) }
+    ensures safe { OnOk result (IsSafe memory.old.regions.items ((state queue.old).chain.left + (state queue.old).chain.splits) segments.new.items) }
     ensures memory { memory.new.regions.items ≡ memory.old.regions.items }
     ensures rings { IsSameQueue queue.old queue.new }
 {
     while let Some(place) = queue.descriptor_place() {
-        let descriptor = shared.read_descriptor(place);
+        let descriptor = read_next(shared, place);
         let segment = queue.step(memory, descriptor)?;
         keep(segments, segment)?;
     }
     Ok(())
+}
+
+// The value of the next descriptor. Where the rest of one comes, nothing is read.
+fn read_next<S: Shared>(shared: &mut S, place: HostRange) -> Descriptor
+    requires { S.may_touch place }
+{
+    if place.len == 0 {
+        return Descriptor {
+            addr: 0,
+            len: 0,
+            flags: 0,
+            next: 0,
+        };
+    }
+    shared.read_descriptor(place)
 }
 
 /// Serves the next chain, if one is available: whether the driver is to be told.

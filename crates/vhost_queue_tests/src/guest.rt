@@ -13,6 +13,9 @@ const HOST: u64 = 0x1000;
 
 pub(crate) const USER: u64 = 0x10000;
 
+/// Where the second of two regions begins.
+pub(crate) const BORDER: u64 = 0x800;
+
 /// The guest's memory, and of what the last request was: how many segments, and how many bytes to write.
 #[derive(Drop)]
 pub(crate) struct Guest {
@@ -39,6 +42,24 @@ impl Guest {
             user_addr: USER,
             host_addr: HOST,
         }
+    }
+
+    /// The same bytes in two regions, which adjoin for the guest.
+    pub(crate) fn two_regions() -> [GuestRegion; 2] {
+        [
+            GuestRegion {
+                guest_addr: 0,
+                size: BORDER,
+                user_addr: USER,
+                host_addr: HOST,
+            },
+            GuestRegion {
+                guest_addr: BORDER,
+                size: SIZE - BORDER,
+                user_addr: USER + SIZE,
+                host_addr: HOST + BORDER,
+            },
+        ]
     }
 
     /// Sixteen bits at an address of the guest.

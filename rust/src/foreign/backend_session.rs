@@ -8,6 +8,8 @@ use super::session::{Config, Inflight, Region, Vring};
 
 /// The greatest number of bytes of the configuration space in one message.
 pub(crate) const MAX_CONFIG: usize = 4084;
+/// COVRETIN_CALL_OTHER, which is the number of no request.
+pub(crate) const CALL_OTHER: u32 = 257;
 /// How many sizes a device's regions of shared memory have.
 const SHMEM_REGIONS: usize = 256;
 
@@ -48,6 +50,8 @@ extern "C" {
     fn covretin_call_regions(backend: &mut Raw, regions: *mut Region, len: usize, count: &mut usize, listening: &mut bool)
         -> u32;
     fn covretin_call_config(backend: &mut Raw, config: &mut Config, bytes: *mut u8, len: usize, count: &mut usize) -> u32;
+    fn covretin_call_other(backend: &mut Raw, request: &mut u32, bytes: *mut u8, len: usize, count: &mut usize) -> u32;
+    fn covretin_call_fds(backend: &mut Raw, fds: *mut i32, len: usize, count: &mut usize) -> u32;
     fn covretin_call_name(backend: &mut Raw, name: *mut u8, name_len: usize) -> u32;
     fn covretin_reply_bases(backend: &mut Raw, bases: *const u64, len: usize) -> u32;
     fn covretin_reply_config(backend: &mut Raw, bytes: *const u8, len: usize) -> u32;
@@ -79,6 +83,22 @@ impl BackendSession {
         // SAFETY: as above.
         outcome(unsafe { covretin_call_config(&mut self.0, &mut config, bytes.as_mut_ptr(), bytes.len(), &mut count) })?;
         Ok((config, count))
+    }
+
+    /// The number of a request that has no call of its own, and how many bytes of its body were written.
+    pub(crate) fn other(&mut self, bytes: &mut [u8]) -> Result<(u32, usize), Code> {
+        let (mut request, mut count) = (0, 0);
+        // SAFETY: as above.
+        outcome(unsafe { covretin_call_other(&mut self.0, &mut request, bytes.as_mut_ptr(), bytes.len(), &mut count) })?;
+        Ok((request, count))
+    }
+
+    /// How many descriptors of such a request were written.
+    pub(crate) fn fds(&mut self, fds: &mut [RawFd; MAX_FDS]) -> Result<usize, Code> {
+        let mut count = 0;
+        // SAFETY: as above.
+        outcome(unsafe { covretin_call_fds(&mut self.0, fds.as_mut_ptr(), fds.len(), &mut count) })?;
+        Ok(count)
     }
 
     pub(crate) fn name(&mut self) -> Result<[u8; 16], Code> {

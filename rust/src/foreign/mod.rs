@@ -20,7 +20,7 @@ mod signals;
 mod socket;
 mod userfault;
 
-pub(crate) use backend_session::{BackendSession, MAX_CONFIG};
+pub(crate) use backend_session::{BackendSession, CALL_OTHER, MAX_CONFIG};
 pub(crate) use channel::{ChannelServer, ChannelSession, Mmap};
 pub(crate) use closing::{numbers_of, PeerFd, PeerSocket};
 pub(crate) use display::DisplaySession;

@@ -63,7 +63,7 @@ pub(crate) struct PackedRing {
 
 /// `covretin_descriptor`.
 #[repr(C)]
-#[derive(Clone, Copy)]
+#[derive(Clone, Copy, Default)]
 pub(crate) struct Descriptor {
     pub(crate) addr: u64,
     pub(crate) len: u32,
@@ -412,7 +412,7 @@ impl CoreQueue {
         mut in_ring: impl FnMut(Descriptor) -> Result<Descriptor, Error>,
     ) -> Result<Chain, Error> {
         let mut chain = Chain { slices: Slices::of(self.seen.clone()), readable: 0, written: Vec::new(), id: 0 };
-        let mut is_indirect = false;
+        let (mut is_indirect, mut descriptor) = (false, Descriptor::default());
         loop {
             let (mut place, mut segment, mut found) = (Range::default(), Segment::default(), false);
             // SAFETY: as above; the place is of `rings`, or a table's, of `seen`.
@@ -423,10 +423,13 @@ impl CoreQueue {
             if chain.slices.count() == most {
                 return Err(Error::ChainTooLong);
             }
-            // SAFETY: as above.
-            let mut descriptor = unsafe { load_descriptor(place.addr) };
-            if !is_indirect {
-                descriptor = in_ring(descriptor)?;
+            // (else the rest of one comes, which goes on in another region)
+            if place.len != 0 {
+                // SAFETY: as above.
+                descriptor = unsafe { load_descriptor(place.addr) };
+                if !is_indirect {
+                    descriptor = in_ring(descriptor)?;
+                }
             }
             // SAFETY: as above.
             outcome(unsafe { covretin_queue_step(&mut self.raw, &descriptor, &mut segment, &mut found) })?;

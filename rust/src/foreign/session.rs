@@ -64,15 +64,22 @@ calls! {
     take_reply = covretin_take();
     set_hdr_flags = covretin_set_hdr_flags(flags: u32);
     set_profile = covretin_set_profile(profile: u32);
+    // generated from protocol/requests.toml: calls without an argument
     get_features = covretin_ask_get_features();
-    set_features = covretin_ask_set_features(features: u64);
     set_owner = covretin_ask_set_owner();
     reset_owner = covretin_ask_reset_owner();
     get_protocol_features = covretin_ask_get_protocol_features();
-    set_protocol_features = covretin_ask_set_protocol_features(features: u64);
     get_queue_num = covretin_ask_get_queue_num();
+    postcopy_advise = covretin_ask_postcopy_advise();
+    postcopy_listen = covretin_ask_postcopy_listen();
+    postcopy_end = covretin_ask_postcopy_end();
     reset_device = covretin_ask_reset_device();
     get_max_mem_slots = covretin_ask_get_max_mem_slots();
+    check_device_state = covretin_ask_check_device_state();
+    get_shmem_config = covretin_ask_get_shmem_config();
+    // end
+    set_features = covretin_ask_set_features(features: u64);
+    set_protocol_features = covretin_ask_set_protocol_features(features: u64);
     add_mem_region = covretin_ask_add_mem_region(region: &Region);
     remove_mem_region = covretin_ask_remove_mem_region(region: &Region);
     set_log_base = covretin_ask_set_log_base(base: u64, region: &Region);
@@ -89,12 +96,7 @@ calls! {
     set_backend_request_fd = covretin_ask_set_backend_request_fd(fd: i32);
     get_inflight_fd = covretin_ask_get_inflight_fd(inflight: &Inflight);
     set_inflight_fd = covretin_ask_set_inflight_fd(inflight: &Inflight, fd: i32);
-    get_shmem_config = covretin_ask_get_shmem_config();
     set_device_state_fd = covretin_ask_set_device_state_fd(direction: u32, phase: u32, fd: i32);
-    check_device_state = covretin_ask_check_device_state();
-    postcopy_advise = covretin_ask_postcopy_advise();
-    postcopy_listen = covretin_ask_postcopy_listen();
-    postcopy_end = covretin_ask_postcopy_end();
     postcopy_ack_mem_regions = covretin_ask_postcopy_ack_mem_regions(request: u32);
     set_mtu = covretin_ask_set_mtu(mtu: u16);
 }

@@ -2,7 +2,7 @@
 //! A call that the session asks of the device: whether its reply is awaited, and how a reply that came gives the device's answer.
 use super::event::{number_at, u32_at, Message};
 use super::judge::Agreed;
-use crate::foreign::{BackendSession, Code, Inflight, Outcome, Region, MAX_FDS};
+use crate::foreign::{BackendSession, Code, Inflight, Outcome, Region, CALL_OTHER, MAX_FDS};
 use crate::vhost_user::message::{FrontendReq, VhostUserHeaderFlag};
 
 /// A number that stands for a descriptor of a message. The session only passes it on.
@@ -43,24 +43,65 @@ pub(super) fn form_of(session: &mut BackendSession, call: u32) -> Result<Form, C
     use FrontendReq::*;
     let request = match FrontendReq::try_from(call) {
         Ok(request) => request,
+        Err(()) if call == CALL_OTHER => return Ok(Form::Done),
         // The frontend mapped regions.
         Err(()) => return Ok(Form::Nothing),
     };
     Ok(match request {
-        GET_FEATURES | GET_PROTOCOL_FEATURES | GET_QUEUE_NUM | GET_MAX_MEM_SLOTS => Form::Number,
-        GET_VRING_BASE => Form::Ring,
-        GET_CONFIG => Form::Config,
-        GET_SHARED_OBJECT | POSTCOPY_ADVISE => Form::Fd,
-        SET_DEVICE_STATE_FD => Form::Transfer,
-        GET_INFLIGHT_FD => Form::Inflight,
-        GET_SHMEM_CONFIG => Form::Shmem,
-        CHECK_DEVICE_STATE => Form::Told,
+        // generated from protocol/requests.toml: forms
+        GET_FEATURES => Form::Number,
+        SET_FEATURES => Form::Done,
+        SET_OWNER => Form::Done,
+        RESET_OWNER => Form::Done,
+        SET_MEM_TABLE => bases_or_done(session)?,
         SET_LOG_BASE => Form::Same,
-        SET_MEM_TABLE | ADD_MEM_REG => match session.regions(&mut [Region::NONE; MAX_FDS])? {
-            (count, true) => Form::Bases(count),
-            (_, false) => Form::Done,
-        },
-        _ => Form::Done,
+        SET_LOG_FD => Form::Done,
+        SET_VRING_NUM => Form::Done,
+        SET_VRING_ADDR => Form::Done,
+        SET_VRING_BASE => Form::Done,
+        GET_VRING_BASE => Form::Ring,
+        SET_VRING_KICK => Form::Done,
+        SET_VRING_CALL => Form::Done,
+        SET_VRING_ERR => Form::Done,
+        GET_PROTOCOL_FEATURES => Form::Number,
+        SET_PROTOCOL_FEATURES => Form::Done,
+        GET_QUEUE_NUM => Form::Number,
+        SET_VRING_ENABLE => Form::Done,
+        SEND_RARP => Form::Done,
+        NET_SET_MTU => Form::Done,
+        SET_BACKEND_REQ_FD => Form::Done,
+        IOTLB_MSG => Form::Done,
+        SET_VRING_ENDIAN => Form::Done,
+        GET_CONFIG => Form::Config,
+        SET_CONFIG => Form::Done,
+        CREATE_CRYPTO_SESSION => Form::Done,
+        CLOSE_CRYPTO_SESSION => Form::Done,
+        POSTCOPY_ADVISE => Form::Fd,
+        POSTCOPY_LISTEN => Form::Done,
+        POSTCOPY_END => Form::Done,
+        GET_INFLIGHT_FD => Form::Inflight,
+        SET_INFLIGHT_FD => Form::Done,
+        GPU_SET_SOCKET => Form::Done,
+        RESET_DEVICE => Form::Done,
+        VRING_KICK => Form::Done,
+        GET_MAX_MEM_SLOTS => Form::Number,
+        ADD_MEM_REG => bases_or_done(session)?,
+        REM_MEM_REG => Form::Done,
+        SET_STATUS => Form::Done,
+        GET_STATUS => Form::Done,
+        GET_SHARED_OBJECT => Form::Fd,
+        SET_DEVICE_STATE_FD => Form::Transfer,
+        CHECK_DEVICE_STATE => Form::Told,
+        GET_SHMEM_CONFIG => Form::Shmem,
+        // end
+    })
+}
+
+/// The form of a call that is replied to by where its regions are mapped, while postcopy listens.
+fn bases_or_done(session: &mut BackendSession) -> Result<Form, Code> {
+    Ok(match session.regions(&mut [Region::NONE; MAX_FDS])? {
+        (count, true) => Form::Bases(count),
+        (_, false) => Form::Done,
     })
 }
 

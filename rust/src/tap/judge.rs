@@ -228,9 +228,12 @@ impl Judge {
     fn given_for(&mut self, request: &Message) -> Given {
         if request.request().is_none() {
             self.complain(format!("no request has the code {}", request.code()));
-            self.tally.refused_by_the_table += 1;
-            self.remember(request.code());
-            return Given::Nothing(None);
+            // (under Standard it is the device's)
+            if self.profile == Profile::Vhost {
+                self.tally.refused_by_the_table += 1;
+                self.remember(request.code());
+                return Given::Nothing(None);
+            }
         }
         let stand_in = match self.profile {
             Profile::Standard => stands_for(request),

@@ -52,114 +52,154 @@ pub(super) enum Value {
 /// Names, and their values.
 pub(super) type Fields = Vec<(&'static str, Value)>;
 
-const NONE: &[Field] = &[];
-const MAPPED: &[Field] = &[("mapped", 8, Form::Result)];
-const RESULT: &[Field] = &[("result", 8, Form::Result)];
-const FEATURES: &[Field] = &[("features", 8, Form::Features)];
-const PROTOCOL_FEATURES: &[Field] = &[("features", 8, Form::ProtocolFeatures)];
-const RING_FD: &[Field] = &[("ring", 1, Form::Number), ("polled", 7, Form::Polled)];
-const RING_BASE: &[Field] = &[("ring", 4, Form::Number), ("base", 4, Form::Number)];
-const LOG: &[Field] = &[("size", 8, Form::Address), ("offset", 8, Form::Address)];
-const REGION: &[Field] =
-    &[("guest", 8, Form::Address), ("size", 8, Form::Address), ("user", 8, Form::Address), ("offset", 8, Form::Address)];
-const CONFIG: &[Field] = &[("offset", 4, Form::Number), ("size", 4, Form::Number), ("flags", 4, Form::ConfigFlags)];
-const INFLIGHT: &[Field] = &[
-    ("size", 8, Form::Address),
-    ("offset", 8, Form::Address),
-    ("rings", 2, Form::Number),
-    ("ring_size", 2, Form::Number),
-    ("", 4, Form::Padding),
-];
-const MAPPING: &[Field] = &[
-    ("region", 1, Form::Number),
-    ("", 7, Form::Padding),
-    ("fd_offset", 8, Form::Address),
-    ("offset", 8, Form::Address),
-    ("size", 8, Form::Address),
-    ("flags", 8, Form::Address),
-];
-const SIZE: &[Field] = &[("size", 8, Form::Address)];
+/// The fields of a body, and what stands behind them.
+type Layout = (&'static [Field], Tail);
 
-/// The fields of a request's body, and what stands behind them.
-fn request_layout(request: FrontendReq) -> (&'static [Field], Tail) {
+const UNKNOWN: Layout = (&[], Tail::Bytes);
+const MAPPED: Layout = (&[("mapped", 8, Form::Result)], Tail::End);
+const RESULT: Layout = (&[("result", 8, Form::Result)], Tail::End);
+const SIZE: Layout = (&[("size", 8, Form::Address)], Tail::End);
+
+/// The layout of a request's body. One that has none is shown all the same, where it came.
+#[rustfmt::skip]
+fn request_layout(request: FrontendReq) -> Layout {
     use FrontendReq::*;
-    let fields: &[Field] = match request {
-        SET_FEATURES => FEATURES,
-        SET_PROTOCOL_FEATURES => PROTOCOL_FEATURES,
-        SET_MEM_TABLE => return (&[("regions", 4, Form::Number), ("", 4, Form::Padding)], Tail::Records("memory", REGION)),
-        ADD_MEM_REG | REM_MEM_REG => return (&[("", 8, Form::Padding)], Tail::Records("memory", REGION)),
-        SET_LOG_BASE => LOG,
-        SET_VRING_NUM => &[("ring", 4, Form::Number), ("size", 4, Form::Number)],
-        SET_VRING_BASE => RING_BASE,
-        GET_VRING_BASE => &[("ring", 4, Form::Number), ("", 4, Form::Padding)],
-        SET_VRING_ENABLE => &[("ring", 4, Form::Number), ("enable", 4, Form::Switch)],
-        SET_VRING_ADDR => &[
-            ("ring", 4, Form::Number),
-            ("flags", 4, Form::VringFlags),
-            ("descriptors", 8, Form::Address),
-            ("used", 8, Form::Address),
-            ("available", 8, Form::Address),
-            ("log", 8, Form::Address),
-        ],
-        SET_VRING_KICK | SET_VRING_CALL | SET_VRING_ERR => RING_FD,
-        NET_SET_MTU => &[("mtu", 8, Form::Number)],
-        SET_VRING_ENDIAN => &[("ring", 4, Form::Number), ("big", 4, Form::Switch)],
-        SET_STATUS => &[("status", 8, Form::Address)],
-        VRING_KICK => &[("ring", 4, Form::Number), ("", 4, Form::Padding)],
-        GET_CONFIG | SET_CONFIG => return (CONFIG, Tail::Bytes),
-        GET_INFLIGHT_FD | SET_INFLIGHT_FD => INFLIGHT,
-        SET_DEVICE_STATE_FD => &[("direction", 4, Form::Direction), ("phase", 4, Form::Number)],
-        GET_SHARED_OBJECT | SEND_RARP | IOTLB_MSG | CREATE_CRYPTO_SESSION | CLOSE_CRYPTO_SESSION => return (NONE, Tail::Bytes),
-        // These have no body: one that came is shown all the same.
-        GET_FEATURES | SET_OWNER | RESET_OWNER | SET_LOG_FD | GET_PROTOCOL_FEATURES | GET_QUEUE_NUM | SET_BACKEND_REQ_FD => {
-            return (NONE, Tail::Bytes)
-        }
-        POSTCOPY_ADVISE | POSTCOPY_LISTEN | POSTCOPY_END | GPU_SET_SOCKET | RESET_DEVICE | GET_MAX_MEM_SLOTS | GET_STATUS => {
-            return (NONE, Tail::Bytes)
-        }
-        CHECK_DEVICE_STATE | GET_SHMEM_CONFIG => return (NONE, Tail::Bytes),
-    };
-    (fields, Tail::End)
+    match request {
+        // generated from protocol/requests.toml: requests
+        GET_FEATURES => (&[], Tail::Bytes),
+        SET_FEATURES => (&[("features", 8, Form::Features)], Tail::End),
+        SET_OWNER => (&[], Tail::Bytes),
+        RESET_OWNER => (&[], Tail::Bytes),
+        SET_MEM_TABLE => (&[("regions", 4, Form::Number), ("", 4, Form::Padding)], Tail::Records("memory", &[("guest", 8, Form::Address), ("size", 8, Form::Address), ("user", 8, Form::Address), ("offset", 8, Form::Address)])),
+        SET_LOG_BASE => (&[("size", 8, Form::Address), ("offset", 8, Form::Address)], Tail::End),
+        SET_LOG_FD => (&[], Tail::Bytes),
+        SET_VRING_NUM => (&[("ring", 4, Form::Number), ("size", 4, Form::Number)], Tail::End),
+        SET_VRING_ADDR => (&[("ring", 4, Form::Number), ("flags", 4, Form::VringFlags), ("descriptors", 8, Form::Address), ("used", 8, Form::Address), ("available", 8, Form::Address), ("log", 8, Form::Address)], Tail::End),
+        SET_VRING_BASE => (&[("ring", 4, Form::Number), ("base", 4, Form::Number)], Tail::End),
+        GET_VRING_BASE => (&[("ring", 4, Form::Number), ("", 4, Form::Padding)], Tail::End),
+        SET_VRING_KICK => (&[("ring", 1, Form::Number), ("polled", 7, Form::Polled)], Tail::End),
+        SET_VRING_CALL => (&[("ring", 1, Form::Number), ("polled", 7, Form::Polled)], Tail::End),
+        SET_VRING_ERR => (&[("ring", 1, Form::Number), ("polled", 7, Form::Polled)], Tail::End),
+        GET_PROTOCOL_FEATURES => (&[], Tail::Bytes),
+        SET_PROTOCOL_FEATURES => (&[("features", 8, Form::ProtocolFeatures)], Tail::End),
+        GET_QUEUE_NUM => (&[], Tail::Bytes),
+        SET_VRING_ENABLE => (&[("ring", 4, Form::Number), ("enable", 4, Form::Switch)], Tail::End),
+        SEND_RARP => (&[], Tail::Bytes),
+        NET_SET_MTU => (&[("mtu", 8, Form::Number)], Tail::End),
+        SET_BACKEND_REQ_FD => (&[], Tail::Bytes),
+        IOTLB_MSG => (&[], Tail::Bytes),
+        SET_VRING_ENDIAN => (&[("ring", 4, Form::Number), ("big", 4, Form::Switch)], Tail::End),
+        GET_CONFIG => (&[("offset", 4, Form::Number), ("size", 4, Form::Number), ("flags", 4, Form::ConfigFlags)], Tail::Bytes),
+        SET_CONFIG => (&[("offset", 4, Form::Number), ("size", 4, Form::Number), ("flags", 4, Form::ConfigFlags)], Tail::Bytes),
+        CREATE_CRYPTO_SESSION => (&[], Tail::Bytes),
+        CLOSE_CRYPTO_SESSION => (&[], Tail::Bytes),
+        POSTCOPY_ADVISE => (&[], Tail::Bytes),
+        POSTCOPY_LISTEN => (&[], Tail::Bytes),
+        POSTCOPY_END => (&[], Tail::Bytes),
+        GET_INFLIGHT_FD => (&[("size", 8, Form::Address), ("offset", 8, Form::Address), ("rings", 2, Form::Number), ("ring_size", 2, Form::Number), ("", 4, Form::Padding)], Tail::End),
+        SET_INFLIGHT_FD => (&[("size", 8, Form::Address), ("offset", 8, Form::Address), ("rings", 2, Form::Number), ("ring_size", 2, Form::Number), ("", 4, Form::Padding)], Tail::End),
+        GPU_SET_SOCKET => (&[], Tail::Bytes),
+        RESET_DEVICE => (&[], Tail::Bytes),
+        VRING_KICK => (&[("ring", 4, Form::Number), ("", 4, Form::Padding)], Tail::End),
+        GET_MAX_MEM_SLOTS => (&[], Tail::Bytes),
+        ADD_MEM_REG => (&[("", 8, Form::Padding)], Tail::Records("memory", &[("guest", 8, Form::Address), ("size", 8, Form::Address), ("user", 8, Form::Address), ("offset", 8, Form::Address)])),
+        REM_MEM_REG => (&[("", 8, Form::Padding)], Tail::Records("memory", &[("guest", 8, Form::Address), ("size", 8, Form::Address), ("user", 8, Form::Address), ("offset", 8, Form::Address)])),
+        SET_STATUS => (&[("status", 8, Form::Address)], Tail::End),
+        GET_STATUS => (&[], Tail::Bytes),
+        GET_SHARED_OBJECT => (&[], Tail::Bytes),
+        SET_DEVICE_STATE_FD => (&[("direction", 4, Form::Direction), ("phase", 4, Form::Number)], Tail::End),
+        CHECK_DEVICE_STATE => (&[], Tail::Bytes),
+        GET_SHMEM_CONFIG => (&[], Tail::Bytes),
+        // end
+    }
 }
 
-/// The same of a reply's body.
-fn reply_layout(request: FrontendReq, size: usize) -> (&'static [Field], Tail) {
+/// The same of its reply, whole.
+#[rustfmt::skip]
+fn whole_reply_layout(request: FrontendReq) -> Layout {
     use FrontendReq::*;
-    let fields: &[Field] = match request {
-        _ if size == 0 => &[],
-        GET_FEATURES => FEATURES,
-        GET_PROTOCOL_FEATURES => PROTOCOL_FEATURES,
-        GET_QUEUE_NUM => &[("rings", 8, Form::Number)],
-        GET_MAX_MEM_SLOTS => &[("regions", 8, Form::Number)],
-        GET_STATUS => &[("status", 8, Form::Address)],
-        GET_VRING_BASE => RING_BASE,
-        GET_SHMEM_CONFIG => return (&[("regions", 4, Form::Number), ("", 4, Form::Padding)], Tail::Records("sizes", SIZE)),
-        SET_DEVICE_STATE_FD => &[("state", 8, Form::Address)],
-        SET_MEM_TABLE | ADD_MEM_REG | REM_MEM_REG | GET_CONFIG | GET_INFLIGHT_FD if size > 8 => return request_layout(request),
-        SET_LOG_BASE if size != 8 => LOG,
-        SET_LOG_BASE => SIZE,
-        // Whether it was done. Of another size, it is shown as bytes.
-        SET_FEATURES | SET_OWNER | RESET_OWNER | SET_MEM_TABLE | SET_LOG_FD | SET_VRING_NUM | SET_VRING_ADDR => RESULT,
-        SET_VRING_BASE | SET_VRING_KICK | SET_VRING_CALL | SET_VRING_ERR | SET_PROTOCOL_FEATURES => RESULT,
-        SET_VRING_ENABLE | SEND_RARP | NET_SET_MTU => RESULT,
-        SET_BACKEND_REQ_FD | IOTLB_MSG | SET_VRING_ENDIAN | GET_CONFIG | SET_CONFIG | CREATE_CRYPTO_SESSION => RESULT,
-        CLOSE_CRYPTO_SESSION | POSTCOPY_ADVISE | POSTCOPY_LISTEN | POSTCOPY_END | GET_INFLIGHT_FD | SET_INFLIGHT_FD => RESULT,
-        GPU_SET_SOCKET | RESET_DEVICE | VRING_KICK | ADD_MEM_REG | REM_MEM_REG | SET_STATUS | GET_SHARED_OBJECT => RESULT,
-        CHECK_DEVICE_STATE => RESULT,
-    };
-    (fields, Tail::End)
+    match request {
+        // generated from protocol/requests.toml: replies
+        GET_FEATURES => (&[("features", 8, Form::Features)], Tail::End),
+        SET_FEATURES => (&[("result", 8, Form::Result)], Tail::End),
+        SET_OWNER => (&[("result", 8, Form::Result)], Tail::End),
+        RESET_OWNER => (&[("result", 8, Form::Result)], Tail::End),
+        SET_MEM_TABLE => (&[("result", 8, Form::Result)], Tail::End),
+        SET_LOG_BASE => (&[("size", 8, Form::Address), ("offset", 8, Form::Address)], Tail::End),
+        SET_LOG_FD => (&[("result", 8, Form::Result)], Tail::End),
+        SET_VRING_NUM => (&[("result", 8, Form::Result)], Tail::End),
+        SET_VRING_ADDR => (&[("result", 8, Form::Result)], Tail::End),
+        SET_VRING_BASE => (&[("result", 8, Form::Result)], Tail::End),
+        GET_VRING_BASE => (&[("ring", 4, Form::Number), ("base", 4, Form::Number)], Tail::End),
+        SET_VRING_KICK => (&[("result", 8, Form::Result)], Tail::End),
+        SET_VRING_CALL => (&[("result", 8, Form::Result)], Tail::End),
+        SET_VRING_ERR => (&[("result", 8, Form::Result)], Tail::End),
+        GET_PROTOCOL_FEATURES => (&[("features", 8, Form::ProtocolFeatures)], Tail::End),
+        SET_PROTOCOL_FEATURES => (&[("result", 8, Form::Result)], Tail::End),
+        GET_QUEUE_NUM => (&[("rings", 8, Form::Number)], Tail::End),
+        SET_VRING_ENABLE => (&[("result", 8, Form::Result)], Tail::End),
+        SEND_RARP => (&[("result", 8, Form::Result)], Tail::End),
+        NET_SET_MTU => (&[("result", 8, Form::Result)], Tail::End),
+        SET_BACKEND_REQ_FD => (&[("result", 8, Form::Result)], Tail::End),
+        IOTLB_MSG => (&[("result", 8, Form::Result)], Tail::End),
+        SET_VRING_ENDIAN => (&[("result", 8, Form::Result)], Tail::End),
+        GET_CONFIG => (&[("offset", 4, Form::Number), ("size", 4, Form::Number), ("flags", 4, Form::ConfigFlags)], Tail::Bytes),
+        SET_CONFIG => (&[("result", 8, Form::Result)], Tail::End),
+        CREATE_CRYPTO_SESSION => (&[("result", 8, Form::Result)], Tail::End),
+        CLOSE_CRYPTO_SESSION => (&[("result", 8, Form::Result)], Tail::End),
+        POSTCOPY_ADVISE => (&[("result", 8, Form::Result)], Tail::End),
+        POSTCOPY_LISTEN => (&[("result", 8, Form::Result)], Tail::End),
+        POSTCOPY_END => (&[("result", 8, Form::Result)], Tail::End),
+        GET_INFLIGHT_FD => (&[("size", 8, Form::Address), ("offset", 8, Form::Address), ("rings", 2, Form::Number), ("ring_size", 2, Form::Number), ("", 4, Form::Padding)], Tail::End),
+        SET_INFLIGHT_FD => (&[("result", 8, Form::Result)], Tail::End),
+        GPU_SET_SOCKET => (&[("result", 8, Form::Result)], Tail::End),
+        RESET_DEVICE => (&[("result", 8, Form::Result)], Tail::End),
+        VRING_KICK => (&[("result", 8, Form::Result)], Tail::End),
+        GET_MAX_MEM_SLOTS => (&[("regions", 8, Form::Number)], Tail::End),
+        ADD_MEM_REG => (&[("result", 8, Form::Result)], Tail::End),
+        REM_MEM_REG => (&[("result", 8, Form::Result)], Tail::End),
+        SET_STATUS => (&[("result", 8, Form::Result)], Tail::End),
+        GET_STATUS => (&[("status", 8, Form::Address)], Tail::End),
+        GET_SHARED_OBJECT => (&[("result", 8, Form::Result)], Tail::End),
+        SET_DEVICE_STATE_FD => (&[("state", 8, Form::Address)], Tail::End),
+        CHECK_DEVICE_STATE => (&[("result", 8, Form::Result)], Tail::End),
+        GET_SHMEM_CONFIG => (&[("regions", 4, Form::Number), ("", 4, Form::Padding)], Tail::Records("sizes", &[("size", 8, Form::Address)])),
+        // end
+    }
 }
 
-/// The fields of the body of a backend's own request, by its code.
-fn backend_layout(code: u32) -> (&'static [Field], Tail) {
+/// The same of a reply of this size: one is longer while postcopy listens, or shorter where it only says whether it was done.
+fn reply_layout(request: FrontendReq, size: usize) -> Layout {
+    use FrontendReq::*;
+    match (request, size) {
+        (_, 0) => (&[], Tail::End),
+        (SET_MEM_TABLE | ADD_MEM_REG | REM_MEM_REG, 9..) => request_layout(request),
+        (GET_CONFIG | GET_INFLIGHT_FD, ..9) => RESULT,
+        (SET_LOG_BASE, 8) => SIZE,
+        _ => whole_reply_layout(request),
+    }
+}
+
+/// The layout of the body of a backend's own request, by its code.
+#[rustfmt::skip]
+fn backend_layout(code: u32) -> Layout {
     use BackendReq::*;
-    match BackendReq::try_from(code) {
-        Ok(VRING_HOST_NOTIFIER_MSG) => {
-            (&[("ring", 8, Form::Address), ("size", 8, Form::Address), ("offset", 8, Form::Address)], Tail::End)
-        }
-        Ok(SHMEM_MAP | SHMEM_UNMAP) => (MAPPING, Tail::End),
-        Ok(IOTLB_MSG | CONFIG_CHANGE_MSG | VRING_CALL | VRING_ERR) => (NONE, Tail::Bytes),
-        Ok(SHARED_OBJECT_ADD | SHARED_OBJECT_REMOVE | SHARED_OBJECT_LOOKUP) | Err(_) => (NONE, Tail::Bytes),
+    let Ok(request) = BackendReq::try_from(code) else {
+        return UNKNOWN;
+    };
+    match request {
+        // generated from protocol/requests.toml: requests of a backend
+        IOTLB_MSG => (&[], Tail::Bytes),
+        CONFIG_CHANGE_MSG => (&[], Tail::Bytes),
+        VRING_HOST_NOTIFIER_MSG => (&[("ring", 8, Form::Address), ("size", 8, Form::Address), ("offset", 8, Form::Address)], Tail::End),
+        VRING_CALL => (&[], Tail::Bytes),
+        VRING_ERR => (&[], Tail::Bytes),
+        SHARED_OBJECT_ADD => (&[], Tail::Bytes),
+        SHARED_OBJECT_REMOVE => (&[], Tail::Bytes),
+        SHARED_OBJECT_LOOKUP => (&[], Tail::Bytes),
+        SHMEM_MAP => (&[("region", 1, Form::Number), ("", 7, Form::Padding), ("fd_offset", 8, Form::Address), ("offset", 8, Form::Address), ("size", 8, Form::Address), ("flags", 8, Form::Address)], Tail::End),
+        SHMEM_UNMAP => (&[("region", 1, Form::Number), ("", 7, Form::Padding), ("fd_offset", 8, Form::Address), ("offset", 8, Form::Address), ("size", 8, Form::Address), ("flags", 8, Form::Address)], Tail::End),
+        // end
     }
 }
 
@@ -168,11 +208,11 @@ pub(super) fn fields_of(way: Way, message: &Message) -> Fields {
     let body = message.body();
     let (fields, tail) = match (way.channel, way.from, message.request()) {
         (Channel::Backend, Side::Backend, _) => backend_layout(message.code()),
-        (Channel::Backend, Side::Frontend, _) if body.len() == 8 => (RESULT, Tail::End),
+        (Channel::Backend, Side::Frontend, _) if body.len() == 8 => RESULT,
         (Channel::Device, Side::Backend, Some(request)) => reply_layout(request, body.len()),
-        (Channel::Device, Side::Frontend, Some(request)) if is_mapped(request, body) => (MAPPED, Tail::End),
+        (Channel::Device, Side::Frontend, Some(request)) if is_mapped(request, body) => MAPPED,
         (Channel::Device, Side::Frontend, Some(request)) => request_layout(request),
-        _ => (NONE, Tail::Bytes),
+        _ => UNKNOWN,
     };
     let (mut shown, rest) = read(fields, body);
     match (tail, rest) {

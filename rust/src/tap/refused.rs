@@ -67,49 +67,77 @@ fn table_wants(body: &[u8]) -> String {
 fn wants_of(code: FrontendReq) -> &'static str {
     use FrontendReq::*;
     match code {
-        SET_FEATURES | SET_PROTOCOL_FEATURES => "8 bytes and no descriptor",
-        NET_SET_MTU => "8 bytes, a number below 65536",
-        SET_VRING_NUM | SET_VRING_BASE | GET_VRING_BASE => "8 bytes and no descriptor",
-        SET_VRING_ENABLE => "8 bytes, of which the last four are 0 or 1",
-        SET_VRING_ADDR => "40 bytes with aligned addresses and flags of 0 or 1",
-        SET_VRING_KICK | SET_VRING_CALL | SET_VRING_ERR => "8 bytes and one descriptor, or bit 8 set and none",
-        ADD_MEM_REG => "40 bytes and one descriptor",
-        REM_MEM_REG => "40 bytes",
+        // generated from protocol/requests.toml: what is wanted
+        GET_FEATURES => "no body and no descriptor",
+        SET_FEATURES => "8 bytes and no descriptor",
+        SET_OWNER => "no body and no descriptor",
+        RESET_OWNER => "no body and no descriptor",
+        SET_MEM_TABLE => "no descriptor",
         SET_LOG_BASE => "16 bytes, a size that is not 0, and one descriptor",
-        GET_CONFIG | SET_CONFIG => "a part of the first 4096 bytes, with as many bytes behind it as it says",
+        SET_LOG_FD => "no descriptor",
+        SET_VRING_NUM => "8 bytes and no descriptor",
+        SET_VRING_ADDR => "40 bytes with aligned addresses and flags of 0 or 1",
+        SET_VRING_BASE => "8 bytes and no descriptor",
+        GET_VRING_BASE => "8 bytes and no descriptor",
+        SET_VRING_KICK => "8 bytes and one descriptor, or bit 8 set and none",
+        SET_VRING_CALL => "8 bytes and one descriptor, or bit 8 set and none",
+        SET_VRING_ERR => "8 bytes and one descriptor, or bit 8 set and none",
+        GET_PROTOCOL_FEATURES => "no body and no descriptor",
+        SET_PROTOCOL_FEATURES => "8 bytes and no descriptor",
+        GET_QUEUE_NUM => "no body and no descriptor",
+        SET_VRING_ENABLE => "8 bytes, of which the last four are 0 or 1",
+        SEND_RARP => "no descriptor",
+        NET_SET_MTU => "8 bytes, a number below 65536",
+        SET_BACKEND_REQ_FD => "one descriptor",
+        IOTLB_MSG => "no descriptor",
+        SET_VRING_ENDIAN => "no descriptor",
+        GET_CONFIG => "a part of the first 4096 bytes, with as many bytes behind it as it says",
+        SET_CONFIG => "a part of the first 4096 bytes, with as many bytes behind it as it says",
+        CREATE_CRYPTO_SESSION => "no descriptor",
+        CLOSE_CRYPTO_SESSION => "no descriptor",
+        POSTCOPY_ADVISE => "no descriptor",
+        POSTCOPY_LISTEN => "no descriptor",
+        POSTCOPY_END => "no descriptor",
         GET_INFLIGHT_FD => "24 bytes, rings that are not 0",
         SET_INFLIGHT_FD => "24 bytes, rings that are not 0, and one descriptor",
-        SET_BACKEND_REQ_FD | GPU_SET_SOCKET => "one descriptor",
+        GPU_SET_SOCKET => "one descriptor",
+        RESET_DEVICE => "no body and no descriptor",
+        VRING_KICK => "no descriptor",
+        GET_MAX_MEM_SLOTS => "no body and no descriptor",
+        ADD_MEM_REG => "40 bytes and one descriptor",
+        REM_MEM_REG => "40 bytes",
+        SET_STATUS => "no descriptor",
+        GET_STATUS => "no descriptor",
         GET_SHARED_OBJECT => "16 bytes, neither all 0 nor all ones",
         SET_DEVICE_STATE_FD => "8 bytes, a direction and the phase 0, and one descriptor",
-        SET_OWNER | RESET_OWNER | RESET_DEVICE | GET_FEATURES | GET_PROTOCOL_FEATURES | GET_QUEUE_NUM | GET_MAX_MEM_SLOTS => {
-            "no body and no descriptor"
-        }
-        _ => "no descriptor",
+        CHECK_DEVICE_STATE => "no descriptor",
+        GET_SHMEM_CONFIG => "no descriptor",
+        // end
     }
 }
 
-/// Whether a request has a reply also without NEED_REPLY.
+/// The requests that have a reply also without NEED_REPLY.
+const REPLIED: &[FrontendReq] = &[
+    // generated from protocol/requests.toml: requests with a reply
+    FrontendReq::GET_FEATURES,
+    FrontendReq::SET_LOG_BASE,
+    FrontendReq::GET_VRING_BASE,
+    FrontendReq::GET_PROTOCOL_FEATURES,
+    FrontendReq::GET_QUEUE_NUM,
+    FrontendReq::GET_CONFIG,
+    FrontendReq::CREATE_CRYPTO_SESSION,
+    FrontendReq::POSTCOPY_ADVISE,
+    FrontendReq::GET_INFLIGHT_FD,
+    FrontendReq::GET_MAX_MEM_SLOTS,
+    FrontendReq::GET_STATUS,
+    FrontendReq::GET_SHARED_OBJECT,
+    FrontendReq::SET_DEVICE_STATE_FD,
+    FrontendReq::CHECK_DEVICE_STATE,
+    FrontendReq::GET_SHMEM_CONFIG,
+    // end
+];
+
+/// Whether a request is one of them.
 pub(super) fn has_own_reply(request: &Message) -> bool {
-    use FrontendReq::*;
-    matches!(
-        request.request(),
-        Some(
-            GET_FEATURES
-                | GET_PROTOCOL_FEATURES
-                | GET_QUEUE_NUM
-                | GET_MAX_MEM_SLOTS
-                | GET_VRING_BASE
-                | GET_CONFIG
-                | GET_INFLIGHT_FD
-                | GET_STATUS
-                | GET_SHARED_OBJECT
-                | GET_SHMEM_CONFIG
-                | SET_DEVICE_STATE_FD
-                | CHECK_DEVICE_STATE
-                | POSTCOPY_ADVISE
-                | CREATE_CRYPTO_SESSION
-                | SET_LOG_BASE
-        )
-    )
+    request.request().map_or(false, |it| REPLIED.contains(&it))
 }

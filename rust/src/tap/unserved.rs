@@ -17,10 +17,8 @@ pub(super) fn stands_for(message: &Message) -> Option<StandIn> {
     match message.request()? {
         // Its reply is a record of its own;
         FrontendReq::CREATE_CRYPTO_SESSION => Some(StandIn::AnyReply),
-        // a number;
+        // a number. (The device is asked of all others.)
         FrontendReq::GET_STATUS => Some(ring_request(message, FrontendReq::GET_VRING_BASE)),
-        // an acknowledgement.
-        code if is_unserved(code) => Some(ring_request(message, FrontendReq::SET_VRING_BASE)),
         _ => None,
     }
 }

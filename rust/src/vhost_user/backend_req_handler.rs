@@ -10,7 +10,7 @@ use std::time::Duration;
 use super::message::*;
 use super::served_connection::ServedConnection;
 use super::{Backend, Error, GpuBackend, Profile, Result, VhostUserBackendReqHandler};
-use crate::foreign::{option_of, BackendSession, Code, Inflight, Outcome, PeerFd, Region, MAX_CONFIG, MAX_FDS};
+use crate::foreign::{option_of, BackendSession, Code, Inflight, Outcome, PeerFd, Region, CALL_OTHER, MAX_CONFIG, MAX_FDS};
 use crate::VhostUserMemoryRegionBase;
 
 /// COVRETIN_CALL_POSTCOPY_ACK, which is the number of no request.
@@ -47,11 +47,10 @@ impl<S: VhostUserBackendReqHandler> BackendReqHandler<S> {
         self.connection.try_clone_socket()
     }
 
-    /// Whose behaviour each request has from now on. Under `Standard` whoever waits hears of a refusal, or is hung up on; a
-    /// [`FrontendReq`] that nobody serves is InvalidOperation, and the connection goes on; a ring may be enabled once
+    /// Whose behaviour each request has from now on. Under `Standard` whoever waits hears of a refusal, or is hung up on; a request of
+    /// any number that has no call of its own is the device's ([`other`](VhostUserBackendReqHandler::other)); a ring may be enabled once
     /// PROTOCOL_FEATURES was offered or accepted; and a memory table may be longer than its regions. Under `Vhost` some refusals have
-    /// no reply, the second is InvalidMessage, and the others are refused. A request of a number that is no [`FrontendReq`] is
-    /// InvalidMessage, without a reply, under both.
+    /// no reply, the second is InvalidMessage without one, and the others are refused.
     pub fn set_profile(&mut self, profile: Profile) {
         self.connection.set(|session| session.set_profile(profile as u32));
     }
@@ -114,6 +113,7 @@ impl<S: VhostUserBackendReqHandler> BackendReqHandler<S> {
         match FrontendReq::try_from(call) {
             Ok(request) => serve(device, it, request),
             Err(()) if call == POSTCOPY_ACK => it.done(device.postcopy_ack_mem_regions()),
+            Err(()) if call == CALL_OTHER => serve_other(device, it),
             Err(()) => Err(it.break_by(Error::InvalidMessage)),
         }
     }
@@ -128,15 +128,17 @@ impl<S: VhostUserBackendReqHandler> AsRawFd for BackendReqHandler<S> {
 /// Asks the device what has no arguments but numbers.
 fn serve(device: &impl VhostUserBackendReqHandler, it: &mut BackendConnection, request: FrontendReq) -> Result<()> {
     match request {
+        // generated from protocol/requests.toml: calls without an argument
         FrontendReq::GET_FEATURES => it.number(device.get_features()),
-        FrontendReq::GET_PROTOCOL_FEATURES => it.number(device.get_protocol_features().map(|features| features.bits())),
-        FrontendReq::GET_QUEUE_NUM => it.number(device.get_queue_num()),
-        FrontendReq::GET_MAX_MEM_SLOTS => it.number(device.get_max_mem_slots()),
         FrontendReq::SET_OWNER => it.done(device.set_owner()),
         FrontendReq::RESET_OWNER => it.done(device.reset_owner()),
-        FrontendReq::RESET_DEVICE => it.done(device.reset_device()),
+        FrontendReq::GET_QUEUE_NUM => it.number(device.get_queue_num()),
         FrontendReq::POSTCOPY_LISTEN => it.done(device.postcopy_listen()),
         FrontendReq::POSTCOPY_END => it.done(device.postcopy_end()),
+        FrontendReq::RESET_DEVICE => it.done(device.reset_device()),
+        FrontendReq::GET_MAX_MEM_SLOTS => it.number(device.get_max_mem_slots()),
+        // end
+        FrontendReq::GET_PROTOCOL_FEATURES => it.number(device.get_protocol_features().map(|features| features.bits())),
         FrontendReq::SET_FEATURES => it.ask(BackendSession::number, |features| device.set_features(features)),
         FrontendReq::SET_PROTOCOL_FEATURES => it.ask(BackendSession::number, |features| device.set_protocol_features(features)),
         // (the session has checked that it has 16 bits)
@@ -292,6 +294,15 @@ fn serve_transfer(device: &impl VhostUserBackendReqHandler, it: &mut BackendConn
     let direction = VhostTransferStateDirection::try_from(direction).map_err(|()| Error::InvalidMessage)?;
     let phase = VhostTransferStatePhase::try_from(phase).map_err(|()| Error::InvalidMessage)?;
     it.file(device.set_device_state_fd(direction, phase, file.into()))
+}
+
+fn serve_other(device: &impl VhostUserBackendReqHandler, it: &mut BackendConnection) -> Result<()> {
+    let mut fds = [-1; MAX_FDS];
+    let count = it.argument(|session| session.fds(&mut fds))?;
+    let files = fds[..count].iter().map(|&fd| it.claim(fd)).collect::<Result<Vec<PeerFd>>>()?;
+    let ((request, len), bytes) = it.argument_bytes(|session, bytes| session.other(bytes))?;
+    let served = device.other(request, &bytes[..len], files.into_iter().map(File::from).collect());
+    it.done(served)
 }
 
 /// A descriptor as the stream socket that it has to be.

@@ -4,7 +4,7 @@ use std::fs::File;
 use std::sync::Mutex;
 
 use super::message::*;
-use super::{Backend, Error, GpuBackend, Result};
+use super::{close_at_once, Backend, Error, GpuBackend, Result};
 #[cfg(not(feature = "compat-0_17"))]
 use crate::VhostUserMemoryRegionBase;
 
@@ -190,7 +190,17 @@ devices! {
 
         /// The frontend mapped the regions of the request before.
         fn postcopy_ack_mem_regions() -> Result<()> { Err(NO_POSTCOPY) }
+
+        /// A request that has no call of its own here, under [`Profile::Standard`](super::Profile): its number, its body, and the files
+        /// that came with it. An error says that it is not served, as no request is. `vhost` has no such call.
+        fn other(request: u32, body: &[u8], files: Vec<File>) -> Result<()> { not_served(files) }
     }
 }
 
 const NO_POSTCOPY: Error = Error::InvalidOperation("no postcopy");
+
+/// What nobody serves is closed without waiting for its peer.
+fn not_served(files: Vec<File>) -> Result<()> {
+    files.into_iter().for_each(close_at_once);
+    Err(Error::InvalidOperation("request not served"))
+}

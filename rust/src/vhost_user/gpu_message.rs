@@ -23,6 +23,7 @@ codes! {
     /// The requests of a device to its display. What each is for, the vhost-user-gpu specification says under its name.
     #[allow(missing_docs)]
     pub enum GpuBackendReq {
+        // generated from protocol/requests.toml: requests to a display
         GET_PROTOCOL_FEATURES = 1,
         SET_PROTOCOL_FEATURES = 2,
         GET_DISPLAY_INFO = 3,
@@ -35,6 +36,7 @@ codes! {
         DMABUF_UPDATE = 10,
         GET_EDID = 11,
         DMABUF_SCANOUT2 = 12,
+        // end
     }
 }
 

@@ -63,6 +63,7 @@ codes! {
     /// The requests of a frontend. What each is for, the vhost-user specification says under its name.
     #[allow(missing_docs)]
     pub enum FrontendReq {
+        // generated from protocol/requests.toml: requests of a frontend
         GET_FEATURES = 1,
         SET_FEATURES = 2,
         SET_OWNER = 3,
@@ -107,11 +108,13 @@ codes! {
         SET_DEVICE_STATE_FD = 42,
         CHECK_DEVICE_STATE = 43,
         GET_SHMEM_CONFIG = 44,
+        // end
     }
 
     /// The requests of a backend. What each is for, the vhost-user specification says under its name.
     #[allow(missing_docs)]
     pub enum BackendReq {
+        // generated from protocol/requests.toml: requests of a backend
         IOTLB_MSG = 1,
         CONFIG_CHANGE_MSG = 2,
         VRING_HOST_NOTIFIER_MSG = 3,
@@ -122,6 +125,7 @@ codes! {
         SHARED_OBJECT_LOOKUP = 8,
         SHMEM_MAP = 9,
         SHMEM_UNMAP = 10,
+        // end
     }
 
     /// Which way the state of a device goes.

@@ -193,7 +193,7 @@ impl<S: Serves> ServedConnection<S> {
     fn refuse_request(&mut self, code: Code) -> Error {
         self.end_request();
         let error = match code {
-            INVALID_OPERATION => Error::InvalidOperation("the request is not served, or not in this state of postcopy"),
+            INVALID_OPERATION => Error::InvalidOperation("not in this state of postcopy"),
             code => error_of(code, self.session.inactive()),
         };
         let error = match (self.send(), error) {

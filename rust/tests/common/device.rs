@@ -9,8 +9,8 @@ use std::time::Duration;
 
 use covretin::vhost_user::message::*;
 use covretin::vhost_user::{
-    Backend, BackendReqHandler, Error, Frontend, GpuBackend, Result, VhostUserBackendReqHandlerMut, VhostUserFrontend,
-    SERVED_PROTOCOL_FEATURES,
+    close_at_once, Backend, BackendReqHandler, Error, Frontend, GpuBackend, Result, VhostUserBackendReqHandlerMut,
+    VhostUserFrontend, SERVED_PROTOCOL_FEATURES,
 };
 use covretin::{VhostBackend, VhostUserMemoryRegionBase};
 
@@ -27,6 +27,8 @@ pub struct Noting {
     pub channels: Vec<Backend>,
     /// The displays that came.
     pub displays: Vec<GpuBackend>,
+    /// Whether it serves requests that have no call of their own.
+    pub serves_others: bool,
     /// Whether it refuses what it is asked, by MemFdSealError.
     pub refuses: bool,
     /// The file that it gives out.
@@ -213,6 +215,14 @@ impl VhostUserBackendReqHandlerMut for Noting {
     }
     fn postcopy_ack_mem_regions(&mut self) -> Result<()> {
         self.note("postcopy_ack_mem_regions")
+    }
+    fn other(&mut self, request: u32, body: &[u8], files: Vec<File>) -> Result<()> {
+        if !self.serves_others {
+            files.into_iter().for_each(close_at_once);
+            return Err(Error::InvalidOperation("request not served"));
+        }
+        self.files.extend(files);
+        self.note(format!("other {request} {body:?}"))
     }
 }
 

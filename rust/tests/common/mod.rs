@@ -9,7 +9,7 @@ pub mod random;
 pub mod tap;
 
 use std::fs::{read_dir, read_link, read_to_string, File};
-use std::io::{ErrorKind, Read, Write};
+use std::io::{self, ErrorKind, Read, Write};
 use std::mem::{size_of, size_of_val, zeroed};
 use std::os::unix::fs::MetadataExt;
 use std::os::unix::io::{AsRawFd, FromRawFd, OwnedFd, RawFd};
@@ -131,9 +131,9 @@ impl Peer {
     /// Sends these bytes, with descriptors on the first of them.
     pub fn say(&self, bytes: &[u8], fds: &[&File]) {
         let fds: Vec<RawFd> = fds.iter().map(|it| it.as_raw_fd()).collect();
-        send(&self.socket, &bytes[..1], &fds);
-        // Who refuses the first byte, for its descriptors, may be gone.
-        match (&self.socket).write_all(&bytes[1..]) {
+        // Who refuses what came before, or the first byte, for its descriptors, may be gone.
+        let sent = sent_by(&self.socket, &bytes[..1], &fds, 0);
+        match sent.and_then(|_| (&self.socket).write_all(&bytes[1..])) {
             Err(error) if error.kind() == ErrorKind::BrokenPipe => {}
             written => written.unwrap(),
         }
@@ -239,6 +239,10 @@ pub fn send(socket: &UnixStream, bytes: &[u8], fds: &[RawFd]) {
 
 /// The same, by these flags of `sendmsg`.
 pub fn send_by(socket: &UnixStream, bytes: &[u8], fds: &[RawFd], flags: i32) {
+    assert_eq!(bytes.len(), sent_by(socket, bytes, fds, flags).unwrap());
+}
+
+fn sent_by(socket: &UnixStream, bytes: &[u8], fds: &[RawFd], flags: i32) -> io::Result<usize> {
     let mut control = Control([0; CONTROL]);
     let mut piece = libc::iovec { iov_base: bytes.as_ptr() as *mut _, iov_len: bytes.len() };
     // SAFETY: the message points to what outlives it; the control data has room for all descriptors.
@@ -257,7 +261,8 @@ pub fn send_by(socket: &UnixStream, bytes: &[u8], fds: &[RawFd], flags: i32) {
             (*head).cmsg_len = libc::CMSG_LEN(length) as _;
             std::ptr::copy_nonoverlapping(fds.as_ptr().cast::<u8>(), libc::CMSG_DATA(head), length as usize);
         }
-        assert_eq!(bytes.len() as isize, libc::sendmsg(socket.as_raw_fd(), &message, flags | libc::MSG_NOSIGNAL));
+        usize::try_from(libc::sendmsg(socket.as_raw_fd(), &message, flags | libc::MSG_NOSIGNAL))
+            .map_err(|_| io::Error::last_os_error())
     }
 }
 

@@ -1,6 +1,7 @@
 //! Serving: a request comes in, and its reply goes out.
 
-ghost use Rattle.std.specs.Prelude.{◌≡◌, ◌≤◌, ◌+◌, ◌++◌, List, length, map, Ok, Some, true, false, is_some, ◌&&◌};
+ghost use Rattle.std.specs.Prelude.{◌≡◌, ◌≤◌, ◌+◌, ◌++◌, List, length, map, Ok, Some, IfSome, true, false, is_some, ◌&&◌};
+ghost use Rattle.vhost_connection.specs.Requests.{WaitsWhole};
 ghost use Rattle.vhost_message.specs.declared.cause.IoCause.{IoCause};
 ghost use Rattle.vhost_message.specs.Codes.{heard_by};
 ghost use Rattle.vhost_message.specs.Header.{is_valid_header};
@@ -11,7 +12,37 @@ use crate::endpoint::Endpoint;
 use crate::fault::break_on_fault;
 use crate::request::{Request, RequestCode};
 use vhost_link::Link;
-use vhost_message::{ByteValued, Error, Result, VhostUserMsgHeader, header_bit};
+use vhost_message::{
+    ByteValued, Error, MSG_HEADER_SIZE, MsgHeader, Result, VhostUserMsgHeader, header_bit,
+};
+
+/// The request at the front of these bytes, where it is there whole, and may come without descriptors.
+fn waiting_request<R: RequestCode>(bytes: &[u8], any_number: bool) -> Option<Request<R>>
+    ensures { IfSome result (λ q. WaitsWhole (heard_by R.code R.any any_number) R.allowed bytes.now q) }
+{
+    if bytes.len() < MSG_HEADER_SIZE {
+        return None;
+    }
+    let header = VhostUserMsgHeader::<R>::decode(&bytes[..MSG_HEADER_SIZE]);
+    let len = header.get_size() as usize;
+    if !header.is_heard(any_number) || bytes.len() - MSG_HEADER_SIZE < len {
+        return None;
+    }
+    match header.get_heard(any_number) {
+        Ok(code) => {
+            if !code.allows_handles(0) {
+                return None;
+            }
+            Some(Request {
+                code,
+                reply: header.is_reply(),
+                need_reply: header.is_need_reply(),
+                len,
+            })
+        }
+        Err(_) => None,
+    }
+}
 
 /// The flag of a reply.
 const REPLY: u32 = 1 << header_bit::REPLY;
@@ -22,7 +53,7 @@ impl<R: RequestCode, L: Link> Endpoint<VhostUserMsgHeader<R>, L> {
     ghost use Rattle.vhost_connection.specs.State.{state};
     ghost use Rattle.vhost_connection.specs.Talk.{State};
     ghost use Rattle.vhost_connection.specs.Calls.{ByOneCall};
-    ghost use Rattle.vhost_connection.specs.Requests.{ReadsRequest, RequestHead, ReadsBehind, Tells, reply_text};
+    ghost use Rattle.vhost_connection.specs.Requests.{ReadsMessage, ReadsRequest, RequestHead, ReadsBehind, Tells, reply_text};
 
     /// Reads one request: its header and descriptors, and its body whole, however it is split, to the start of `body`. Its
     /// number is one of the codes, or it may be any number.
@@ -41,6 +72,9 @@ impl<R: RequestCode, L: Link> Endpoint<VhostUserMsgHeader<R>, L> {
     {
         self.faulted = false;
         self.make_list()?;
+        if let Some(request) = self.take_waiting(any_number, body) {
+            return Ok((request, None));
+        }
         let (header, front) = self.recv_head(any_number)?;
         match self.recv_request_body(any_number, &header, front.list.as_slice().len(), body) {
             Ok(request) => Ok((request, self.give(front.list))),
@@ -48,6 +82,29 @@ impl<R: RequestCode, L: Link> Endpoint<VhostUserMsgHeader<R>, L> {
                 self.put_back(front.list);
                 Err(error)
             }
+        }
+    }
+
+    /// Takes a request that waits whole, as one that came without descriptors: its body goes to the start of `body`. None: none
+    /// does, and nothing changed.
+    #[tactic(auto, unfolding(crate::specs::State::ahead_of))]
+    fn take_waiting(&mut self, any_number: bool, body: &mut [u8]) -> Option<Request<R>>
+        requires { MAX_MSG_SIZE ≤ length body.old }
+        ensures taken { (state self.old).faulted ≡ false → (state self.old).list ≡ true
+            → IfSome result (λ q. ReadsMessage L.event (heard_by R.code R.any any_number) R.allowed (state self.old) q None body.new (state self.new)) }
+        ensures none { result ≡ None → state self.new ≡ state self.old }
+    {
+        if self.broken.is_some() {
+            return None;
+        }
+        let ahead = &mut self.source.ahead;
+        match waiting_request::<R>(ahead.front(), any_number) {
+            Some(request) => {
+                ahead.skip(MSG_HEADER_SIZE);
+                let _ = ahead.take_out(&mut body[..request.len]);
+                Some(request)
+            }
+            None => None,
         }
     }
 

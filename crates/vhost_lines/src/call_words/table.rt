@@ -31,6 +31,7 @@ pub(crate) fn call_named(
     ensures { IfOk result (λ call. called call ≡ call_named (name.now ∷ read_for name.now (texts args.now) (words_of text.entry))) }
 {
     match name {
+        // generated from protocol/requests.toml: calls
         "get_features" => Ok(bare(FrontendCall::GetFeatures, args)),
         "set_owner" => Ok(bare(FrontendCall::SetOwner, args)),
         "reset_owner" => Ok(bare(FrontendCall::ResetOwner, args)),
@@ -68,6 +69,7 @@ pub(crate) fn call_named(
         "set_mem_table" => set_mem_table(alloc, text),
         "get_config" => get_config(alloc, args),
         "set_config" => set_config(alloc, args),
+        // end
         _ => Ok(None),
     }
 }

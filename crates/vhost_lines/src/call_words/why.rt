@@ -8,6 +8,7 @@ use crate::call_words::number::{number, number_16, number_32};
 use crate::call_words::words::first_word;
 
 /// Each call, and a letter for each word behind its name, as many as it may have; `*` is any number of regions.
+// generated from protocol/requests.toml: calls
 static CALLS: [(&str, &str); 37] = [
     ("get_features", ""),
     ("set_owner", ""),
@@ -47,6 +48,7 @@ static CALLS: [(&str, &str); 37] = [
     ("get_config", "iic"),
     ("set_config", "icb"),
 ];
+// end
 
 /// The words of a region.
 static REGION: [u8; 5] = [b'l', b'l', b'l', b'l', b'h'];

@@ -15,6 +15,7 @@ pub fn is_same_call(a: &FrontendCall, b: &FrontendCall) -> bool
     ensures { IsTrue result ↔ call_of a.now ≡ call_of b.now }
 {
     match a {
+        // generated from protocol/requests.toml: calls
         FrontendCall::GetFeatures => matches!(b, FrontendCall::GetFeatures),
         FrontendCall::SetFeatures(features) =>
             matches!(b, FrontendCall::SetFeatures(other_features) if features == other_features),
@@ -77,5 +78,6 @@ pub fn is_same_call(a: &FrontendCall, b: &FrontendCall) -> bool
             matches!(b, FrontendCall::SetMtu(other_mtu) if mtu == other_mtu),
         FrontendCall::SetHdrFlags(flags) =>
             matches!(b, FrontendCall::SetHdrFlags(other_flags) if flags.bits() == other_flags.bits()),
+        // end
     }
 }

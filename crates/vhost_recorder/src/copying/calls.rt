@@ -22,6 +22,7 @@ pub fn copy_call(alloc: Global, call: &FrontendCall) -> Result<FrontendCall, All
     ensures { IfOk result (λ copy. call_of copy ≡ call_of call.now) }
 {
     Ok(match call {
+        // generated from protocol/requests.toml: calls
         FrontendCall::GetFeatures => FrontendCall::GetFeatures,
         FrontendCall::SetFeatures(features) => FrontendCall::SetFeatures(*features),
         FrontendCall::SetOwner => FrontendCall::SetOwner,
@@ -74,5 +75,6 @@ pub fn copy_call(alloc: Global, call: &FrontendCall) -> Result<FrontendCall, All
         FrontendCall::SetHdrFlags(flags) => FrontendCall::SetHdrFlags(
             VhostUserHeaderFlag::from_bits_retain(flags.bits()),
         ),
+        // end
     })
 }

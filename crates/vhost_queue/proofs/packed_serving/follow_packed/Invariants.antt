@@ -1,11 +1,11 @@
-use Rattle.std.proofs.Common.{◌≡◌}
+use Rattle.std.proofs.Common.{◌≡◌, ◌+◌}
 use Rattle.vhost_queue.proofs.Followed.{Followed, remaining}
 use Rattle.vhost_queue.specs.Packed.{state, IsSameQueue}
 use Rattle.vhost_queue.proofs.packed_serving.follow_packed.Given as goal
 
 abbrev pub invariant-loop-place : goal.invariant-loop-place
 invariant-loop-place g l = record {
-  followed : Followed l.fn.memory.regions.items (state l.fn.queue).chain.left l.segments.items (state l.queue).chain;
+  followed : Followed l.fn.memory.regions.items ((state l.fn.queue).chain.left + (state l.fn.queue).chain.splits) l.segments.items (state l.queue).chain;
   memory : l.memory.regions.items ≡ l.fn.memory.regions.items;
   rings : IsSameQueue l.fn.queue l.queue;
 }

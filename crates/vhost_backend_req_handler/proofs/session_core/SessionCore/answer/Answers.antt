@@ -12,8 +12,8 @@ use Rattle.vhost_backend_req_handler.specs.Serving.{Answers}
 use Rattle.vhost_backend_req_handler.proofs.Reading.{message_is}
 use Rattle.vhost_backend_req_handler.proofs.session_core.SessionCore.answer.Goals as goal
 
-pub returns : goal.returns
-returns g c m reads over is ready =
+pub returns-clause-meets : goal.returns-clause-meets
+returns-clause-meets g c m reads over is ready =
     let i = c.new-message.result in
     let same = message_is _ _ c.args.request c.args.handles.now m i reads over c.new-message.ensures (cc c.deref.ensures) in
     subst (λ (x : Message FrontendReq _). Answers g.L.Link.event g.D.VhostUserBackendReqHandlerMut.gives (λ h o. OpensAsBackend g.L.Link.opens g.L.Handle.Handle.kinds (endpoint_of c.args.self.now).budget h o) (λ h o. OpensAsGpu g.L.Link.opens g.L.Handle.Handle.kinds (endpoint_of c.args.self.now).budget h o)

@@ -23,4 +23,4 @@ returns-clause-handled g c alive =
     (MeetsRow (fitting g.D.VhostUserBackendReqHandlerMut.gives) (λ h o. OpensAsBackend g.L.Link.opens g.L.Handle.Handle.kinds (endpoint_of c.args.self.now).budget h o) (λ h o. OpensAsGpu g.L.Link.opens g.L.Handle.Handle.kinds (endpoint_of c.args.self.now).budget h o))
     (endpoint_of c.args.self.now) _ _ (session_in c.args.self.now) _ _ _ _ c.in_ok-request.request c.in_ok-request.handles _ (rw c.hears_any_number-any_number.ensures at c.in_ok-request.ensures)
     (λ m reads over ready. within g.L.Link.event g.D.VhostUserBackendReqHandlerMut.gives g.L.Link.opens g.L.Handle.Handle.kinds _ _ _ _ _ _ m _ (rw c.hears_any_number-any_number.ensures at c.in_ok-request.ensures).hears.serves.talks.budget
-    (meets-row g.L.Link.event _ _ _ c.in_ok-request.request.code _ _ _ _ _ _ m _ reads.code (c.answer.ensures m reads over refl ready)))
+    (meets-row g.L.Link.event _ _ _ c.in_ok-request.request.code _ _ _ _ _ _ m _ reads.code (c.answer.ensures.meets m reads over refl ready)))

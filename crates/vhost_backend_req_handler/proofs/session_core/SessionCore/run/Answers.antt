@@ -8,6 +8,7 @@ use Rattle.vhost_backend_req_handler.specs.Core.{endpoint_of, session_in}
 use Rattle.vhost_backend_req_handler.specs.Opening.{OpensAsBackend, OpensAsGpu}
 use Rattle.vhost_backend_req_handler.specs.Serving.{fitting, kept_unsent, Runs}
 use Rattle.vhost_backend_req_handler.proofs.Limits.{once-keeps, once-within}
+use Rattle.vhost_backend_req_handler.proofs.Handling.{idle-after}
 use Rattle.vhost_backend_req_handler.proofs.session_core.SessionCore.run.Goals as goal
 
 pub calls-preserved : goal.calls-preserved
@@ -26,6 +27,7 @@ calls-preserved g c =
           (c.calls.counter + 1) c.args.out.now.items xs (endpoint_of c.handle_request-answer.new.self) (session_in c.handle_request-answer.new.self) c.handle_request-answer.new.device) (sym c.push_reserved.ensures.items) more;
       budget = once-keeps g.L.Link.event _ (endpoint_of c.calls.self) (endpoint_of c.handle_request-answer.new.self) (session_in c.calls.self) (session_in c.handle_request-answer.new.self) c.calls.device c.handle_request-answer.new.device
           (session_in c.calls.self).failed c.handle_request-answer.result once ∙ c.calls.invariant.budget;
+      idle = λ none. idle-after _ _ _ c.handle_request-answer.ensures.idle c.handle_request-answer.ensures.kept (c.calls.invariant.idle none);
       room = omega (arith, c.calls.invariant.room, c.push_reserved.ensures.len, c.push_reserved.ensures.capacity, c.calls-test.true);
     }
 

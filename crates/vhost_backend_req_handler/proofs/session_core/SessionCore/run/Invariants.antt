@@ -1,6 +1,6 @@
--- So many calls were answered, and there is room for the rest.
+-- So many calls were answered, none was opened, and there is room for the rest.
 use Rattle.std.proofs.Common.{◌≡◌, ◌≤◌, ◌+◌, ◌-◌, vec_len}
-use Rattle.std.specs.Prelude.{vec_capacity}
+use Rattle.std.specs.Prelude.{vec_capacity, is_some, false}
 use Rattle.vhost_protocol.specs.Codes.{allows_handles}
 use Rattle.vhost_protocol.specs.Handler.{MeetsRow}
 use Rattle.vhost_protocol.specs.Session.{Session, heard_in}
@@ -16,5 +16,6 @@ invariant-calls g l = record {
       (MeetsRow (fitting g.D.VhostUserBackendReqHandlerMut.gives) (λ h o. OpensAsBackend g.L.Link.opens g.L.Handle.Handle.kinds (endpoint_of l.fn.self).budget h o) (λ h o. OpensAsGpu g.L.Link.opens g.L.Handle.Handle.kinds (endpoint_of l.fn.self).budget h o))
       (endpoint_of l.fn.self) (session_in l.fn.self) l.fn.device l.counter l.fn.out.items l.out.items (endpoint_of l.self) (session_in l.self) l.device;
   budget : (endpoint_of l.self).budget ≡ (endpoint_of l.fn.self).budget;
+  idle : is_some l.fn.self.pending ≡ false → is_some l.self.pending ≡ false;
   room : vec_len l.out + (l.count - l.counter) ≤ vec_capacity l.out;
 }

@@ -26,7 +26,7 @@ use Rattle.vhost_c_backend.specs.declared.served.Served.{Served}
 use Rattle.vhost_c.specs.contracts.backend_holder.BackendHolder as handle
 use Rattle.vhost_c.specs.contracts.backend_holder.BackendHolder.empty.{ended, clauses}
 use Rattle.vhost_c.specs.contracts.backend_holder.BackendHolder.empty.Key.{name as #self}
-use Rattle.vhost_c.proofs.BackendHolding.{ptr_typed, word, word_own, word_made}
+use Rattle.vhost_c.proofs.Holding.{ptr_typed, word, word_own, word_made}
 use Rattle.vhost_c.proofs.backend_holder.BackendHolder.empty.Statement.{statement}
 use Rattle.vhost_c.proofs.backend_holder.BackendHolder.empty.Code as compiled
 

@@ -26,7 +26,7 @@ use Rattle.vhost_c_channel.specs.declared.asking.Channel.{Channel}
 use Rattle.vhost_c.specs.contracts.channel_holder.ChannelHolder as handle
 use Rattle.vhost_c.specs.contracts.channel_holder.ChannelHolder.empty.{ended, clauses}
 use Rattle.vhost_c.specs.contracts.channel_holder.ChannelHolder.empty.Key.{name as #self}
-use Rattle.vhost_c.proofs.ChannelHolding.{ptr_typed, word, word_own, word_made}
+use Rattle.vhost_c.proofs.Holding.{ptr_typed, word, word_own, word_made}
 use Rattle.vhost_c.proofs.channel_holder.ChannelHolder.empty.Statement.{statement}
 use Rattle.vhost_c.proofs.channel_holder.ChannelHolder.empty.Code as compiled
 

@@ -26,7 +26,7 @@ use Rattle.vhost_c_channel.specs.declared.serving.ChannelServer.{ChannelServer}
 use Rattle.vhost_c.specs.contracts.channel_server_holder.ChannelServerHolder as handle
 use Rattle.vhost_c.specs.contracts.channel_server_holder.ChannelServerHolder.empty.{ended, clauses}
 use Rattle.vhost_c.specs.contracts.channel_server_holder.ChannelServerHolder.empty.Key.{name as #self}
-use Rattle.vhost_c.proofs.ChannelServerHolding.{ptr_typed, word, word_own, word_made}
+use Rattle.vhost_c.proofs.Holding.{ptr_typed, word, word_own, word_made}
 use Rattle.vhost_c.proofs.channel_server_holder.ChannelServerHolder.empty.Statement.{statement}
 use Rattle.vhost_c.proofs.channel_server_holder.ChannelServerHolder.empty.Code as compiled
 

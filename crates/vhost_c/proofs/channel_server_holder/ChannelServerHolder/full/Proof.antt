@@ -27,10 +27,10 @@ use Rattle.std.proofs.alloc.Global.TheLaws as heap_laws
 use Rattle.std.specs.contracts.impls.GlobalAllocator.TheImpl.{ghosts}
 use Rattle.vhost_c_channel.specs.declared.serving.ChannelServer.{ChannelServer}
 use Rattle.vhost_c_channel.specs.contracts.serving.ChannelServer as session
-use Rattle.vhost_c.specs.ChannelServerHolder.{so}
+use Rattle.vhost_c.specs.Holder.{so}
 use Rattle.vhost_c.specs.contracts.channel_server_holder.ChannelServerHolder.full.{ended, clauses}
 use Rattle.vhost_c.specs.contracts.channel_server_holder.ChannelServerHolder.full.Key.{name as #self}
-use Rattle.vhost_c.proofs.ChannelServerHolding.{word, word_own, word_made, boxed}
+use Rattle.vhost_c.proofs.Holding.{word, word_own, word_made, boxed}
 use Rattle.vhost_c.proofs.Values.{both, Loose, loose_good, loose_out}
 use Rattle.vhost_c.proofs.channel_server_holder.ChannelServerHolder.full.Statement.{statement}
 use Rattle.vhost_c.proofs.channel_server_holder.ChannelServerHolder.full.Code as compiled
@@ -50,7 +50,7 @@ full_spec 𝓤 𝓛 𝓜 𝓡 wired =
     sets ! (of_opd ! (get_in ! (fld ! refl (stop !)) (sub ! 0 refl (whole !)))) refl (tt, tt) $ sets ! (of_opd ! (get ! refl)) refl (tt, tt) $
     sets ! (agg ! (and_then ! (get ! refl) (no_more !))) refl (tt, (tt, tt)) $
     returns ! (look_at ! 0 refl) $ free_all ! refl $
-    nothing ! $ fpack ! (v ≡ Some x) (λ _. ftrue) refl $ fjoin ! $ fpack ! (ChannelServer × Global) (λ s. fsep (so (v ≡ Some s.0)) (boxed s.1 p s.0)) (x, d.alloc) $
+    nothing ! $ fpack ! (v ≡ Some x) (λ _. ftrue) refl $ fjoin ! $ fpack ! (ChannelServer × Global) (λ s. fsep (so (v ≡ Some s.0)) (boxed R s.1 p s.0)) (x, d.alloc) $
     use0 𝓛 (‵ (word_own p (word p ∷ []))) (word_made 𝓛 p) $ fjoin ! $
     use0 𝓛 (raw (fact 𝓤 (v ≡ Some x))) (fact_i 𝓤 (v ≡ Some x) (emp 𝓤) refl) $ nothing ! $ nothing ! $ fjoin ! $ keep ! (5 ∷ 0 ∷ 2 ∷ 1 ∷ []) $
     by ! (leaves 𝓛 En hs c z (word p) (record { at = p; session = v }) (tt, tt) (tt, tt)))))

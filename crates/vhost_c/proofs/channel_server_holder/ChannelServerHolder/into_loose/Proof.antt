@@ -32,7 +32,7 @@ use Rattle.vhost_c_channel.specs.contracts.serving.ChannelServer as session
 use Rattle.vhost_c.specs.contracts.channel_server_holder.ChannelServerHolder as handle
 use Rattle.vhost_c.specs.contracts.channel_server_holder.ChannelServerHolder.into_loose.{ended, clauses}
 use Rattle.vhost_c.specs.contracts.channel_server_holder.ChannelServerHolder.into_loose.Key.{name as #self}
-use Rattle.vhost_c.proofs.ChannelServerHolding.{ptr_typed, word, word_told, boxed, tested, either_held}
+use Rattle.vhost_c.proofs.Holding.{ptr_typed, word, word_told, boxed, tested, either_held}
 use Rattle.vhost_c.proofs.Values.{both, Loose, loose_good, loose_in}
 use Rattle.vhost_c.proofs.channel_server_holder.ChannelServerHolder.into_loose.Statement.{statement}
 use Rattle.vhost_c.proofs.channel_server_holder.ChannelServerHolder.into_loose.Code as compiled
@@ -47,7 +47,7 @@ into_loose_spec 𝓤 𝓛 𝓜 𝓡 wired =
     let x = z.0.3.0 in let a = z.0.3.1.0 in let told = word_told x.at z.0.4.0 are.0.0 in let hv = one (layout Z) z.0.4.1.0 ((LZ.lawful 𝓛).typed a z.0.4.1.0 are.1.0) in let h : Val = hv.0 in
     qed 𝓛 ((raw (alive 𝓛 En.signature z.0.0 z.0.1) ⊛ ‵ (owns (types_at En.signature.params z.0.0) z.0.3 z.0.4)) ∷ raw ((c z.0.0 z.0.3).requires z.1) ∷ []) ∵ move ! (1 ∷ []) $ drop ! $ split ! $ move ! (1 ∷ []) $
     fsplit ! $ fsplit ! $ drop ! $ move ! (1 ∷ []) $ fsplit ! $ rewrite ! 0 (λ (us : List Val). ‵ (Z.own_val a us)) hv.1 refl $ move ! (2 ∷ []) $
-    either_held ! x.at x.session
+    either_held ! R x.at x.session
     (λ is none. regoal ! (λ (us : List Val). prop (WpFn 𝓤 H 𝓣.C 𝓣.Λ fn us Post)) (λ i. (told ∙ ap (λ (p : Ptr). word p ∷ []) is) i ++ (hv.1 i ++ [])) refl $
     enter ! 𝓣.C 𝓣.Λ fn (word null_ptr ∷ h ∷ []) Post $ alloc_all ! (λ l. pass_all ! refl ((tt, (record { fits = lit< tt }, tt)), (hv.2, tt)) $ let Ev = env fn.locals l in
     sets ! (of_opd ! (get_in ! (fld ! refl (stop !)) (sub ! 0 refl (whole !)))) refl (ptr_typed null_ptr) $ sets ! (bin ! (get ! refl) (lit ! tt) tt) refl (tt, tt) $ first ! $ branches ! (get ! refl)
@@ -56,7 +56,7 @@ into_loose_spec 𝓤 𝓛 𝓜 𝓡 wired =
     use0 𝓛 (‵ (Out.own_val None (live 0 vnil ∷ []))) (none_of 𝓛 Lr) $ use0 𝓛 (raw (fact 𝓤 (x.session ≡ None))) (fact_i 𝓤 (x.session ≡ None) (emp 𝓤) none) $ nothing ! $ nothing ! $ fjoin ! $ nothing ! $ fjoin ! $ keep ! (5 ∷ 0 ∷ 2 ∷ 1 ∷ []) $
     by ! (leaves 𝓛 En hs c z (live 0 vnil) None (tt, (tt, tt)) (tt, (tt, tt)))) (λ wrong. absurd wrong)))
     (λ b o y heap' is some. let p : Ptr = block_ptr b o in
-    use1 𝓛 (given (Testable p) (‵ (boxed heap' p y))) (tested 𝓛 heap' p y) $ learn ! (λ t.
+    use1 𝓛 (given (Testable p) (‵ (boxed R heap' p y))) (tested 𝓛 R heap' p y) $ learn ! (λ t.
     let made : Val = both (vptr b o) h in let typed = loose_good R Z LZ ghosts b o h hv.2 in let v : Val = live 1 (vcons made vnil) in let d : Lr.Denot = record { at = p; alloc = a; value = y } in
     let good : Good (layout Out) v = (and_tt _ typed.0, (record { fits = lit< tt }, (typed.1, tt))) in
     regoal ! (λ (us : List Val). prop (WpFn 𝓤 H 𝓣.C 𝓣.Λ fn us Post)) (λ i. (told ∙ ap (λ (q : Ptr). word q ∷ []) is) i ++ (hv.1 i ++ [])) refl $

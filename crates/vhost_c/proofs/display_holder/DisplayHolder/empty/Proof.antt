@@ -26,7 +26,7 @@ use Rattle.vhost_c_channel.specs.declared.display.Display.{Display}
 use Rattle.vhost_c.specs.contracts.display_holder.DisplayHolder as handle
 use Rattle.vhost_c.specs.contracts.display_holder.DisplayHolder.empty.{ended, clauses}
 use Rattle.vhost_c.specs.contracts.display_holder.DisplayHolder.empty.Key.{name as #self}
-use Rattle.vhost_c.proofs.DisplayHolding.{ptr_typed, word, word_own, word_made}
+use Rattle.vhost_c.proofs.Holding.{ptr_typed, word, word_own, word_made}
 use Rattle.vhost_c.proofs.display_holder.DisplayHolder.empty.Statement.{statement}
 use Rattle.vhost_c.proofs.display_holder.DisplayHolder.empty.Code as compiled
 

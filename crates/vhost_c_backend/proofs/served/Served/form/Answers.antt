@@ -1,13 +1,12 @@
-use Rattle.std.proofs.Common.{Some, ap, ◌∙◌}
-use Rattle.vhost_backend_core.specs.declared.call.DeviceCall.{DeviceCall}
-use Rattle.vhost_c_backend.specs.Replies.{form_in}
+use Rattle.std.proofs.Common.{Some, ap, sym, ◌∙◌}
+use Rattle.vhost_c_backend.proofs.Serving.{is-there, not-both}
 use Rattle.vhost_c_backend.proofs.served.Served.form.Goals as goal
 
-pub returns-in-Some-clause-one : goal.returns-in-Some-clause-one
-returns-in-Some-clause-one c = λ m x. let d = c.in-Some.ensures.one m x in (d.0, ap Some (c.form_of.ensures ∙ ap {A = DeviceCall} form_in (cc d.1)), d.2)
+pub returns-then-has_call-clause-one : goal.returns-then-has_call-clause-one
+returns-then-has_call-clause-one c = λ m x. (x.call, ap Some x.form, x.makes)
 
-pub returns-in-Some-clause-none : goal.returns-in-Some-clause-none
-returns-in-Some-clause-none c = λ idle. absurd (cc (c.in-Some.ensures.none idle))
+pub returns-then-has_call-clause-none : goal.returns-then-has_call-clause-none
+returns-then-has_call-clause-none c = λ idle. absurd (not-both (sym c.has_call.ensures ∙ c.if-has_call.true) idle)
 
-pub returns-in-None-clause-one : goal.returns-in-None-clause-one
-returns-in-None-clause-one c = λ m x. absurd (cc (c.in-None.ensures.one m x).1)
+pub returns-clause-one : goal.returns-clause-one
+returns-clause-one c = λ m x. absurd (not-both (is-there c.args.self.now m x) (sym c.has_call.ensures ∙ c.if-has_call.false))

@@ -6,7 +6,7 @@ use Rattle.vhost_link.specs.declared.plain.PlainHandle.{PlainHandle}
 use Rattle.vhost_connection.specs.Talk.{State}
 use Rattle.vhost_c_common.specs.Carrying.{emptied}
 use Rattle.vhost_c_backend.specs.Served.{remembers}
-use Rattle.vhost_c_backend.proofs.Serving.{begins, served, is-due}
+use Rattle.vhost_c_backend.proofs.Serving.{begins, read, is-due}
 use Rattle.vhost_c_backend.proofs.served.Served.next.Goals as goal
 
 pub returns-then-has_call : goal.returns-then-has_call
@@ -22,7 +22,7 @@ alive (Some n) e P Q ends = absurd (cc (ends n refl).0)
 
 pub returns-in-Some : goal.returns-in-Some
 returns-in-Some c = (
-  λ unmarked. begins c.talks_law.ensures.talks c.args.self.now _ _ c.in-Some.call (c.in-Ok.ensures.begun unmarked) refl c.new-self.ensures refl c.number_of_call.ensures c.in-Some.ensures.one
+  λ unmarked. begins c.talks_law.ensures.talks c.args.self.now _ _ (c.in-Ok.ensures.begun unmarked) refl c.new-self.ensures refl c.in-Some.ensures
       (is-due c.args.self.now _ (sym c.has_call.ensures ∙ c.if-has_call.false) c.missing_of_request.ensures.missing c.if-missing_of_request-gt0.false),
   λ n marked. absurd (cc (c.in-Ok.ensures.failed n marked).0),
 )
@@ -30,7 +30,7 @@ returns-in-Some c = (
 pub returns-in-None : goal.returns-in-None
 returns-in-None c =
     let unmarked = alive (remembers c.args.self.now).failed _ _ _ c.in-Ok.ensures.failed in
-    absurd (cc (c.in-None.ensures.one (c.in-Ok.ensures.begun unmarked).reads.message (served c.args.self.now _ (c.in-Ok.ensures.begun unmarked))).1)
+    absurd (cc (c.in-None.ensures (c.in-Ok.ensures.begun unmarked).reads.message (read c.args.self.now.core _ (c.in-Ok.ensures.begun unmarked))).1)
 
 pub returns-in-Err : goal.returns-in-Err
 returns-in-Err c = (

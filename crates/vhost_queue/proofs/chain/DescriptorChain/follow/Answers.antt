@@ -1,5 +1,5 @@
 -- A mark in the list of all marks is one of the table's.
-use Rattle.std.proofs.Common.{◌≡◌, ℕ, ◌-◌, ◌<◌, List, Bool, true, false, take, set, Option, Result, Ok, refl, sym, ap, ◌∙◌}
+use Rattle.std.proofs.Common.{◌≡◌, ℕ, ◌-◌, ◌<◌, List, Bool, true, false, take, set, Option, None, Result, Ok, refl, sym, ap, ◌∙◌}
 use Rattle.std.proofs.Math.Seq.{take-set-lt}
 use Rattle.std.proofs.lemmas.List.{get_or-take}
 use Rattle.vhost_queue.specs.Chain.{Following, after, behind, next_of, following}
@@ -9,16 +9,16 @@ use Rattle.vhost_queue.specs.declared.error.Error.{Error}
 use Rattle.vhost_queue.proofs.chain.DescriptorChain.follow.Goals as goal
 
 marked : (f : Following) (d : Descriptor) (n i j : ℕ) (seen : List Bool) (next : Option ℕ) → f.seen ≡ take n seen → i < n → j ≡ i → Ok next ≡ next_of f i d
-    → after f i d ≡ Ok (record f { seen = take n (set seen j true); next = next; left = f.left - 1; writing = is_writable d.flags })
+    → after f i d ≡ Ok (record f { seen = take n (set seen j true); next = next; rest = None; left = f.left - 1; writing = is_writable d.flags })
 marked f d n i j seen next s lt same e =
-    let put : List Bool → Result Following Error = λ xs. Ok (record f { seen = xs; next = next; left = f.left - 1; writing = is_writable d.flags }) in
+    let put : List Bool → Result Following Error = λ xs. Ok (record f { seen = xs; next = next; rest = None; left = f.left - 1; writing = is_writable d.flags }) in
     let marks : set f.seen i true ≡ take n (set seen i true) = ap (λ (xs : List Bool). set xs i true) s ∙ sym (take-set-lt n seen i true lt) in
     rw same (ap (behind f i d) (sym e) ∙ ap put marks)
 
 -- .. and so is whether a descriptor has one
 pub returns-clause-once : goal.returns-clause-once
 returns-clause-once c =
-    let f = c.args.self.now in let i = c.args.at in let lt : i < f.entries = f.within _ c.requires.next in (
+    let f = c.args.self.now in let i = c.args.at in let lt : i < f.entries = f.within _ c.requires.next in λ _. (
       i,
       c.requires.next,
       get_or-take f.entries f.seen.items i false lt ∙ f.fresh _ c.requires.next,
