@@ -84,8 +84,7 @@ typedef struct covretin_request {
 
 /* A device. Each callback gets `own` of covretin_device_open. All but `request` may be NULL. */
 typedef struct covretin_device_calls {
-    /* What is offered, beside what is offered in any case: VERSION_1, EVENT_IDX, INDIRECT_DESC, LOG_ALL and PROTOCOL_FEATURES. With
-     * RING_PACKED no inflight region is offered. It was played over the tests' own rings, and not yet with QEMU. */
+    /* What is offered, beside what is offered in any case: VERSION_1, EVENT_IDX, INDIRECT_DESC, LOG_ALL and PROTOCOL_FEATURES. */
     uint64_t features;
 
     /* The same of protocol features: MQ, LOG_SHMFD, REPLY_ACK, PAGEFAULT, INFLIGHT_SHMFD, RESET_DEVICE and CONFIGURE_MEM_SLOTS are; CONFIG

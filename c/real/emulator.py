@@ -97,15 +97,15 @@ class Stream:
 class Disk:
     """The example disk, as a process over the image."""
 
-    def __init__(self, program, name="disk", **more):
-        self.program, self.path, self.more = program, f"{name}-{os.getpid()}.socket", more
+    def __init__(self, program, name="disk", rings=("2",), **more):
+        self.program, self.path, self.rings, self.more = program, f"{name}-{os.getpid()}.socket", rings, more
         self.log = open("disk.log", "ab")
         self.start()
 
     def start(self):
         # (what is freed is soon given back, so that what it holds can be measured)
         environment = dict(os.environ, ASAN_OPTIONS="quarantine_size_mb=1:thread_local_quarantine_size_kb=16", **self.more)
-        self.process = run([self.program, self.path, "image", "2"], self.log, env=environment)
+        self.process = run([self.program, self.path, "image", *self.rings], self.log, env=environment)
         wait_until(self.is_there, "the disk listens", 10)
 
     def is_there(self):

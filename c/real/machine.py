@@ -151,9 +151,9 @@ class Guest(Emulator):
 class Machine(Guest):
     """One that boots from a disk."""
 
-    def __init__(self, name, disk, *words, reconnect=0, memory="256M"):
+    def __init__(self, name, disk, *words, reconnect=0, memory="256M", rings="num-queues=2"):
         words += ("-chardev", f"socket,id=disk,path={disk.path},reconnect={reconnect}")
-        words += ("-device", "vhost-user-blk-pci,chardev=disk,num-queues=2,bootindex=1")
+        words += ("-device", f"vhost-user-blk-pci,chardev=disk,{rings},bootindex=1")
         super().__init__(name, memory, *words)
 
 
@@ -301,14 +301,12 @@ def tried_postcopy(program):
     check_blocks(count)
 
 
-def tried_killed(program):
-    """The disk is killed amid writes, and started again: nothing is lost, and the guest goes on."""
-    disk = Disk(program)
-    machine = boot("machine", disk, reconnect=1)
+def kill_amid_writes(machine, disk, times):
+    """The disk is killed so often amid writes, and started again: nothing is lost, and the guest goes on. So often it did requests again."""
     # QEMU has an inflight region for rings of 128, for which Linux has at most 128 requests under way, and more for larger ones.
     is_noted = int(machine.do("cat /sys/block/vda/mq/0/nr_tags")) <= 128
     machine.do(WRITER)
-    for _ in range(8):
+    for _ in range(times):
         before = written(machine)
         wait_until(lambda: written(machine) > before + 3, "the guest writes")
         disk.kill()
@@ -322,7 +320,32 @@ def tried_killed(program):
     with open("disk.log", encoding="utf-8") as it:
         again = it.read().count("are done again")
     tell(f"{again} disks did requests again that the inflight region had")
-    check(again == (8 if is_noted else 0), "each was killed amid a request")
+    check(again == (times if is_noted else 0), "each was killed amid a request")
+
+
+def tried_killed(program):
+    """The disk is killed amid writes."""
+    disk = Disk(program)
+    kill_amid_writes(boot("machine", disk, reconnect=1), disk, 8)
+
+
+# Features of virtio, as the guest's driver has them: of buffers in tables, of notifications by an index, of packed rings.
+OF_RINGS = {28: "indirect tables", 29: "event indices", 34: "packed rings"}
+
+
+def tried_packed(program):
+    """Linux's driver has eight packed rings, with indirect tables and event indices; and the disk is killed amid writes."""
+    disk = Disk(program, rings=("8", "packed"))
+    machine = boot("machine", disk, "-smp", "8", reconnect=1, rings="num-queues=8,packed=on")
+    features = machine.do("cat /sys/block/vda/device/features")
+    for bit, name in OF_RINGS.items():
+        check(features[bit] == "1", f"the driver accepted {name}")
+    check(machine.do("ls /sys/block/vda/mq | wc -l") == "8", "the driver has eight queues")
+    wanted = fill_system(32 << 20)
+    found = machine.do("for it in 0 1 2 3 4 5 6 7; do taskset $(printf %x $((1 << it))) dd if=/dev/vda1 of=/tmp/part$it bs=1M skip=$((4 * it)) "
+                       "count=4 iflag=direct 2>/dev/null & done; wait; cat /tmp/part? | sha256sum; rm /tmp/part?")
+    check(found.split()[0] == wanted, "what is read by all of them is what the disk has")
+    kill_amid_writes(machine, disk, 4)
 
 
 def tried_memory(program):
@@ -455,6 +478,38 @@ def tried_resized(program):
     machine.do(f"while [ $(cat /sys/block/vda/size) != {size // SECTOR + 2048} ]; do sleep 0.1; done")
     found = machine.do(f"dd if=/dev/vda bs=1M skip={size >> 20} count=1 2>/dev/null | sha256sum")
     check(found.split()[0] == hashlib.sha256(data).hexdigest(), "what is read behind the end that was is what the disk has")
+    machine.power_off()
+    disk.end()
+
+
+def put_fio():
+    """Into the image's partition the program fio of the host, with its libraries."""
+    os.makedirs("system/lib64")
+    told = subprocess.run(["ldd", shutil.which("fio")], stdout=subprocess.PIPE, check=True, text=True).stdout
+    for it in [shutil.which("fio"), *re.findall(r"/\S+", told)]:
+        shutil.copy(it, "system/lib64/")
+    words = ["mke2fs", "-q", "-F", "-t", "ext2", "-b", "4096", "-d", "system", "-E", f"offset={SYSTEM_AT * SECTOR}", "image", f"{SYSTEM_SIZE >> 10}k"]
+    subprocess.run(words, check=True, stderr=subprocess.DEVNULL)
+    shutil.rmtree("system")
+
+
+# What fio does with a gibibyte behind the partition: it writes blocks at random, 32 of them under way, and reads each back by its checksum.
+FIO = "--name=all --filename=/dev/vda --direct=1 --ioengine=libaio --iodepth=32 --rw=randwrite --bs=64k --verify=crc32c --verify_fatal=1"
+
+
+def tried_fio(program):
+    """fio in the guest writes a gibibyte, and finds what it wrote."""
+    put_fio()
+    end = os.path.getsize("image")
+    os.truncate("image", end + (1 << 30))
+    disk = Disk(program)
+    machine = boot("machine", disk)
+    machine.do("mount -t ext4 -o ro /dev/vda1 /mnt")
+    fio = "/mnt/lib64/ld-linux-x86-64.so.2 --library-path /mnt/lib64 /mnt/lib64/fio"
+    found = machine.do(f"{fio} {FIO} --offset={end} --size=1g --minimal")
+    fields = found.splitlines()[-1].split(";")
+    tell(f"{int(fields[5]) >> 10} MiB were read and {int(fields[46]) >> 10} MiB written, with {fields[4]} errors")
+    check(fields[4] == "0" and fields[5] == fields[46] == str(1 << 20), "each byte was written, and read back as it was")
     machine.power_off()
     disk.end()
 
