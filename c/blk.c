@@ -13,7 +13,6 @@
 #ifndef _GNU_SOURCE
 #define _GNU_SOURCE /* for fallocate and preadv */
 #endif
-
 #include "covretin_device.h"
 
 #include <errno.h>

@@ -1,10 +1,8 @@
 /* SPDX-License-Identifier: Apache-2.0 */
-/* A source of entropy for a virtual machine: vhost-user-rng over covretin_device.h.
+/* A source of entropy for a virtual machine, vhost-user-rng over covretin_device.h: rng PATH
  *
- *     rng PATH
- *
- * Listens at PATH and serves one frontend after another until SIGTERM or SIGINT; a second one at a time is hung up on. Prints a line for
- * each frontend that went. Status 0; 1 after wrong arguments; 2 where something failed. */
+ * Listens at PATH and serves one frontend after another until SIGTERM or SIGINT; a second one at a time is hung up on. A line says that one
+ * went. Status 0; 1 after wrong arguments; 2 where something failed. */
 #include "covretin_device.h"
 
 #include <errno.h>
@@ -23,8 +21,7 @@ static void fill(void *none, covretin_request *request)
     for (size_t i = 0; i < request->writable && filled < MOST_BYTES; i++) {
         size_t wanted = part[i].iov_len < MOST_BYTES - filled ? part[i].iov_len : MOST_BYTES - filled;
         ssize_t got = getrandom(part[i].iov_base, wanted, 0);
-        if (got > 0)
-            filled += (uint32_t)got;
+        filled += got > 0 ? (uint32_t)got : 0;
         if (got != (ssize_t)wanted)
             break;
     }
@@ -40,14 +37,14 @@ static void tell_end(void *none, enum covretin_error error)
 int main(int argc, char **argv)
 {
     static const covretin_device_calls calls = {.queues = 1, .request = fill, .ended = tell_end};
-    enum covretin_error error;
     if (argc != 2) {
         fprintf(stderr, "usage: rng PATH\n");
         return 1;
     }
     setvbuf(stdout, NULL, _IOLBF, 0); /* also in a file, so that who is killed has said what it did */
-    error = covretin_device_run(&calls, NULL, argv[1]);
-    if (error != COVRETIN_OK)
-        fprintf(stderr, "%s: %s (%s)\n", argv[1], covretin_error_text(error), strerror(errno));
-    return error == COVRETIN_OK ? 0 : 2;
+    enum covretin_error error = covretin_device_run(&calls, NULL, argv[1]);
+    if (error == COVRETIN_OK)
+        return 0;
+    fprintf(stderr, "%s: %s (%s)\n", argv[1], covretin_error_text(error), strerror(errno));
+    return 2;
 }

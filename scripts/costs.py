@@ -30,6 +30,8 @@ FIGURES = {
     "both_get_features": 1000,
     "both_get_config_256": 1000,
     "both_set_mem_table_8": 1000,
+    "queue_chain_8": 1000,
+    "queue_chain_8_apart": 1000,
     "service_queued": 1000,
     "service_trip": 200,
     "threads_get_features": 200,

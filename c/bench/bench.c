@@ -34,6 +34,10 @@ static const struct figure figures[] = {
     {"both_get_features", 20000, both_get_features, NULL},
     {"both_get_config_256", 20000, both_get_config_256, NULL},
     {"both_set_mem_table_8", 20000, both_set_mem_table_8, NULL},
+#ifndef WITHOUT_QUEUES
+    {"queue_chain_8", 50000, queue_chain_8, NULL},
+    {"queue_chain_8_apart", 50000, queue_chain_8_apart, NULL},
+#endif
     {"socket_recvmsg_apart", 20000, socket_recvmsg_apart, NULL},
     {"service_queued", 20000, service_queued, "socket_recvmsg_apart"},
     {"socket_trip", 20000, socket_trip, NULL},

@@ -40,6 +40,9 @@ work backend_get_features, backend_set_vring_num, backend_acknowledged, backend_
 work frontend_get_features, frontend_set_vring_num, frontend_acknowledged, frontend_get_config_256;
 work both_get_features, both_get_config_256, both_set_mem_table_8;
 
+/* Of a queue that sees 32 regions: a chain of eight descriptors in one, and each in another. */
+work queue_chain_8, queue_chain_8_apart;
+
 /* Those over sockets. */
 work service_queued, service_trip, threads_get_features, threads_acknowledged, threads_get_config_256;
 

@@ -3,8 +3,7 @@
 //!
 //! It has as many virtqueues as it is told, one machine at a time, and threads that do requests: reads, writes, flushes, sectors that are
 //! discarded or zeroed, and its name. A sector behind the disk's end makes the request fail; a chain that breaks a rule of virtio ends its
-//! queue until a reset. Where the file grows the guest is told. A machine has it as `entropy` says, by
-//! `-device vhost-user-blk-pci,chardev=disk,num-queues=2`.
+//! queue until a reset. Where the file grows the guest is told. A machine has it by `-device vhost-user-blk-pci,chardev=disk,num-queues=2`.
 use std::env;
 use std::ffi::OsString;
 use std::fs::{symlink_metadata, File, OpenOptions};

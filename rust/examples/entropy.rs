@@ -1,12 +1,7 @@
 // SPDX-License-Identifier: Apache-2.0
 //! A source of entropy for virtual machines, over the kit for devices: `cargo run --example entropy -- /tmp/entropy.sock`
 //!
-//! It serves one machine after another until SIGTERM or SIGINT; a second one at a time is hung up on. A machine:
-//!
-//! ```sh
-//! qemu-system-x86_64 -m 256M -machine pc,memory-backend=mem -object memory-backend-memfd,id=mem,size=256M,share=on \
-//!     -chardev socket,id=rng,path=/tmp/entropy.sock -device vhost-user-rng-pci,chardev=rng
-//! ```
+//! It serves one machine after another until SIGTERM or SIGINT; a second one at a time is hung up on. `docs/guide/c.md` has a machine.
 use std::env::args_os;
 use std::fs::File;
 use std::process::ExitCode;
@@ -39,12 +34,9 @@ impl Device for Entropy {
 }
 
 fn main() -> ExitCode {
-    let path = match args_os().nth(1) {
-        Some(path) => path,
-        None => {
-            eprintln!("usage: entropy PATH");
-            return ExitCode::from(1);
-        }
+    let Some(path) = args_os().nth(1) else {
+        eprintln!("usage: entropy PATH");
+        return ExitCode::from(1);
     };
     match File::open("/dev/urandom").and_then(|source| run(&path, Entropy(source))) {
         Ok(()) => ExitCode::SUCCESS,
