@@ -207,6 +207,11 @@ def usages(kinds, _):
 # -- Rattle --
 
 
+def helped(kinds, _):
+    """What a line that asks for help is told."""
+    return ["static HELP: &str =", f'    "the calls are {", ".join(calls(kinds))}";']
+
+
 def variants(kind, has_codes=False):
     return lambda kinds, _: [f"{it['name']}{' = ' + str(it['code']) if has_codes else ''}," for it in kinds[kind]]
 
@@ -309,7 +314,7 @@ TABLES = {
     f"{MESSAGE}/src/backend_req.rt": {"variants": variants("backend", True), "requests": read_numbers("backend", "BackendReq")},
     f"{MESSAGE}/specs/FrontendReq.antt": {"numbers": numbers_in_logic("frontend", "request_number")},
     f"{DISPLAY}/src/gpu_backend_req.rt": {"variants": variants("display", True), "requests": read_numbers("display", "GpuBackendReq")},
-    "crates/vhost_lines/src/call_words/why.rt": {"calls": words},
+    "crates/vhost_lines/src/call_words/why.rt": {"calls": words, "help": helped},
     "crates/vhost_lines/src/call_words/table.rt": {"calls": readers},
     "crates/vhost_recorder/src/comparing/calls.rt": {"calls": compared},
     "crates/vhost_recorder/src/copying/calls.rt": {"calls": copied},

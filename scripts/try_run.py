@@ -131,6 +131,15 @@ def failing_errors(program):
     same(into_file(program, b"nonsense\n", len(told) - 1, "stderr"), (4, told[:-1], b""))
 
 
+def help_lists_the_calls(program):
+    """A line that asks for help is no call, and is told which there are."""
+    status, output, errors = run(program, b"# which calls are there?\n\nhelp\n")
+    begins = b"line 3: bad call: word 1: the calls are "
+    same((status, output, errors[: len(begins)]), (1, b"", begins))
+    listed = set(errors[len(begins) :].strip().split(b", "))
+    same({line.split()[0] for line in (BEGINNING + ROUND + REFUSED + AWAITED).splitlines()} - listed, set())
+
+
 def interrupted_writes(program):
     """Each byte is a write of its own, and before each a write is interrupted."""
     cc = shutil.which("cc")
@@ -166,7 +175,16 @@ def refusals_by_replies(program):
     same([it.split(b" ", 2)[2] for it in lines], 4 * [b"err BackendInternalError", b"ok 0x40000003"])
 
 
-ROWS = [torn_input, failing_outputs, output_that_nobody_reads, failing_errors, interrupted_writes, ten_thousand_lines, refusals_by_replies]
+ROWS = [
+    torn_input,
+    failing_outputs,
+    output_that_nobody_reads,
+    failing_errors,
+    help_lists_the_calls,
+    interrupted_writes,
+    ten_thousand_lines,
+    refusals_by_replies,
+]
 
 
 def play(row, program):

@@ -7,7 +7,7 @@ use Rattle.vhost_frontend_core.specs.declared.values.answer.FrontendAnswer.{Fron
 use Rattle.vhost_pair.specs.declared.halt.Halt.{Halt}
 use Rattle.vhost_pair.specs.declared.halt.Stop.{Stop}
 use Rattle.vhost_lines.specs.Calls.{Call, call_in}
-use Rattle.vhost_lines.specs.Lines.{lines, bad_line, GivesLine}
+use Rattle.vhost_lines.specs.Lines.{lines, is_blank, bad_line, GivesLine}
 use Rattle.vhost_lines.specs.Output.{AppendsFront}
 use Rattle.vhost_lines.specs.Shown.{good_lines, AnswersCall, AnswersAll, ShowsText, ShowsFrontOf}
 
@@ -22,6 +22,10 @@ Appends-twice (Some a) (Some b) (Some c) x y first second = second ∙ ap (λ t.
 pub Appends-none : (a : Option (List ℕ)) → Appends a a []
 Appends-none None = tt
 Appends-none (Some a) = sym (append-nil a)
+
+-- a line that is a call, in front of others
+good-call : (line : List ℕ) (call : Call) → is_blank line ≡ false → Some call ≡ call_in line → (ls : List (List ℕ)) → good_lines (line ∷ ls) ≡ line ∷ good_lines ls
+good-call line call full is ls = rw full (rw (sym is) refl)
 
 module _ {V : Type 0} (Step : V → Call → Result FrontendAnswer Halt → V → Type 0) (request_of reply_of : V → Text) (stopped_of : V → Option Stop) where
   -- one line more
@@ -66,13 +70,13 @@ module _ {V : Type 0} (Step : V → Call → Result FrontendAnswer Halt → V �
 
   -- after one line more
   pub goes-more : (before : Option (List ℕ)) (start now : V) (old out left : Option (List ℕ)) (n : ℕ) (line : List ℕ) (call : Call) (text : List ℕ) (new : V) (later after : Option (List ℕ))
-      → GoesOn before start now old out left n → GivesLine left after true line → Some call ≡ call_in line
+      → GoesOn before start now old out left n → GivesLine left after true line → is_blank line ≡ false → Some call ≡ call_in line
       → AnswersCall Step request_of reply_of stopped_of now call text new → Appends out later text → GoesOn before start new old later after (n + 1)
-  goes-more None start now old out left n line call text new later after goes gives is one written = tt
-  goes-more (Some whole) start now old out left n line call text new later after goes gives is one written =
+  goes-more None start now old out left n line call text new later after goes gives full is one written = tt
+  goes-more (Some whole) start now old out left n line call text new later after goes gives full is one written =
       let given : GivesLine (Some goes.rest) after true line = rw goes.is_left at gives in
-      let good : (ls : List (List ℕ)) → good_lines (line ∷ ls) ≡ line ∷ good_lines ls = λ ls. rw (sym is) refl in
-      let bad : (ls : List (List ℕ)) → bad_line n (line ∷ ls) ≡ bad_line (n + 1) ls = λ ls. rw (sym is) refl in
+      let good : (ls : List (List ℕ)) → good_lines (line ∷ ls) ≡ line ∷ good_lines ls = good-call line call full is in
+      let bad : (ls : List (List ℕ)) → bad_line n (line ∷ ls) ≡ bad_line (n + 1) ls = λ ls. rw full (rw (sym is) refl) in
       record {
         rest = given.0;
         is_left = given.1;
@@ -83,6 +87,25 @@ module _ {V : Type 0} (Step : V → Call → Result FrontendAnswer Halt → V �
             ∙ sym (append_assoc goes.done (line ∷ []) (good_lines (lines given.0)));
         answered = answers-more start goes.done goes.shown now line call text new goes.answered (sym is) one;
         written = Appends-twice old out later goes.shown text goes.written written;
+      }
+
+  -- after a line that is passed over
+  pub goes-past : (before : Option (List ℕ)) (start now : V) (old out left : Option (List ℕ)) (n : ℕ) (line : List ℕ) (after : Option (List ℕ))
+      → GoesOn before start now old out left n → GivesLine left after true line → is_blank line ≡ true → GoesOn before start now old out after (n + 1)
+  goes-past None start now old out left n line after goes gives is = tt
+  goes-past (Some whole) start now old out left n line after goes gives is =
+      let given : GivesLine (Some goes.rest) after true line = rw goes.is_left at gives in
+      let good : (ls : List (List ℕ)) → good_lines (line ∷ ls) ≡ good_lines ls = λ ls. rw is refl in
+      let bad : (ls : List (List ℕ)) → bad_line n (line ∷ ls) ≡ bad_line (n + 1) ls = λ ls. rw is refl in
+      record {
+        rest = given.0;
+        is_left = given.1;
+        bad = goes.bad ∙ ap (bad_line n) given.2 ∙ bad (lines given.0);
+        done = goes.done;
+        shown = goes.shown;
+        good = goes.good ∙ ap (λ ls. goes.done ++ good_lines ls) given.2 ∙ ap (λ ls. goes.done ++ ls) (good (lines given.0));
+        answered = goes.answered;
+        written = goes.written;
       }
 
   -- at the end, or at a line that is no call
@@ -103,12 +126,12 @@ module _ {V : Type 0} (Step : V → Call → Result FrontendAnswer Halt → V �
       ends IsFresh whole start now old out left n fresh goes (rw empty refl)
 
   pub shown-bad : (IsFresh : V → Type 0) (before : Option (List ℕ)) (start now : V) (old out left : Option (List ℕ)) (n : ℕ) (line : List ℕ) (after : Option (List ℕ))
-      → IsFresh start → GoesOn before start now old out left n → GivesLine left after true line → None ≡ call_in line
+      → IsFresh start → GoesOn before start now old out left n → GivesLine left after true line → is_blank line ≡ false → None ≡ call_in line
       → IfSome before (λ text. ShowsText Step request_of reply_of stopped_of IsFresh text old out)
-  shown-bad IsFresh None start now old out left n line after fresh goes gives is = tt
-  shown-bad IsFresh (Some whole) start now old out left n line after fresh goes gives is =
+  shown-bad IsFresh None start now old out left n line after fresh goes gives full is = tt
+  shown-bad IsFresh (Some whole) start now old out left n line after fresh goes gives full is =
       let given : GivesLine (Some goes.rest) after true line = rw goes.is_left at gives in
-      let none : (ls : List (List ℕ)) → good_lines (line ∷ ls) ≡ [] = λ ls. rw (sym is) refl in
+      let none : (ls : List (List ℕ)) → good_lines (line ∷ ls) ≡ [] = λ ls. rw full (rw (sym is) refl) in
       ends IsFresh whole start now old out left n fresh goes (ap good_lines given.2 ∙ none (lines given.0))
 
   pub bad-end : (before : Option (List ℕ)) (start now : V) (old out left : Option (List ℕ)) (n : ℕ) (line : List ℕ) (after : Option (List ℕ))
@@ -119,11 +142,11 @@ module _ {V : Type 0} (Step : V → Call → Result FrontendAnswer Halt → V �
       sym (goes.bad ∙ ap (λ rest. bad_line n (lines rest)) empty)
 
   pub bad-found : (before : Option (List ℕ)) (start now : V) (old out left : Option (List ℕ)) (n : ℕ) (line : List ℕ) (after : Option (List ℕ))
-      → GoesOn before start now old out left n → GivesLine left after true line → None ≡ call_in line → IfSome before (λ text. Some n ≡ bad_line 1 (lines text))
-  bad-found None start now old out left n line after goes gives is = tt
-  bad-found (Some whole) start now old out left n line after goes gives is =
+      → GoesOn before start now old out left n → GivesLine left after true line → is_blank line ≡ false → None ≡ call_in line → IfSome before (λ text. Some n ≡ bad_line 1 (lines text))
+  bad-found None start now old out left n line after goes gives full is = tt
+  bad-found (Some whole) start now old out left n line after goes gives full is =
       let given : GivesLine (Some goes.rest) after true line = rw goes.is_left at gives in
-      let found : (ls : List (List ℕ)) → bad_line n (line ∷ ls) ≡ Some n = λ ls. rw (sym is) refl in
+      let found : (ls : List (List ℕ)) → bad_line n (line ∷ ls) ≡ Some n = λ ls. rw full (rw (sym is) refl) in
       sym (goes.bad ∙ ap (bad_line n) given.2 ∙ found (lines given.0))
 
   -- no line is answered yet
@@ -142,13 +165,13 @@ module _ {V : Type 0} (Step : V → Call → Result FrontendAnswer Halt → V �
 
   -- of the last line a front is shown
   pub front-next : (IsFresh : V → Type 0) (before : Option (List ℕ)) (start now : V) (old out left : Option (List ℕ)) (n : ℕ) (line : List ℕ) (call : Call) (text : List ℕ) (new : V) (later after : Option (List ℕ))
-      → IsFresh start → GoesOn before start now old out left n → GivesLine left after true line → Some call ≡ call_in line
+      → IsFresh start → GoesOn before start now old out left n → GivesLine left after true line → is_blank line ≡ false → Some call ≡ call_in line
       → AnswersCall Step request_of reply_of stopped_of now call text new → AppendsFront out later text
       → IfSome before (λ whole. ShowsFrontOf Step request_of reply_of stopped_of IsFresh whole old later)
-  front-next IsFresh None start now old out left n line call text new later after fresh goes gives is one written = tt
-  front-next IsFresh (Some whole) start now old out left n line call text new later after fresh goes gives is one (front, rest, split, written) =
+  front-next IsFresh None start now old out left n line call text new later after fresh goes gives full is one written = tt
+  front-next IsFresh (Some whole) start now old out left n line call text new later after fresh goes gives full is one (front, rest, split, written) =
       let given : GivesLine (Some goes.rest) after true line = rw goes.is_left at gives in
-      let good : (ls : List (List ℕ)) → good_lines (line ∷ ls) ≡ line ∷ good_lines ls = λ ls. rw (sym is) refl in (
+      let good : (ls : List (List ℕ)) → good_lines (line ∷ ls) ≡ line ∷ good_lines ls = good-call line call full is in (
         start,
         new,
         goes.done ++ line ∷ [],

@@ -17,3 +17,7 @@ bad_line-third = refl
 pub bad_line-none : bad_line 1 (lines (codes "get_features\nset_features 0x40000000")) ≡ None
 unfolding is_utf8 chars encode
 bad_line-none = refl
+
+pub bad_line-passed_over : bad_line 1 (lines (codes "# features\n\nget_features\n#\nnonsense\n")) ≡ Some 5
+unfolding is_utf8 chars encode
+bad_line-passed_over = refl

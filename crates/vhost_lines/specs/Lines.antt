@@ -1,5 +1,5 @@
 -- A text as lines, and what is to become of them.
-use Rattle.std.specs.Prelude.{◌≡◌, ℕ, ◌+◌, Bool, true, false, List, [], ◌∷◌, ◌++◌, Option, Some, None, is_some, ⊤, ◌==◌, if◌then◌else◌, codes, decimal}
+use Rattle.std.specs.Prelude.{◌≡◌, ℕ, ◌+◌, Bool, true, false, ◌||◌, List, [], ◌∷◌, ◌++◌, Option, Some, None, is_some, ⊤, ◌==◌, if◌then◌else◌, codes, decimal}
 use Rattle.std.specs.Io.KnownBytes.{Appends}
 use Rattle.vhost_lines.specs.Calls.{call_in}
 
@@ -13,10 +13,15 @@ abbrev pub lines : List ℕ → List (List ℕ)
 lines [] = []
 lines (byte ∷ text) = if byte == 10 then [] ∷ lines text else with_first byte (lines text)
 
--- the number of the first line that is no call, where there is one; the first of these lines has the number n
+-- whether a line is passed over: it is empty, or begins with a number sign
+abbrev pub is_blank : List ℕ → Bool
+is_blank [] = true
+is_blank (byte ∷ line) = byte == 35
+
+-- the number of the first line that is no call and is not passed over, where there is one; the first of these lines has the number n
 abbrev pub bad_line : ℕ → List (List ℕ) → Option ℕ
 bad_line n [] = None
-bad_line n (line ∷ later) = if is_some (call_in line) then bad_line (n + 1) later else Some n
+bad_line n (line ∷ later) = if is_blank line || is_some (call_in line) then bad_line (n + 1) later else Some n
 
 -- the status of a text that is read to its end, or to a line that is no call
 abbrev pub status_of : Option ℕ → ℕ

@@ -8,14 +8,14 @@ use Rattle.vhost_pair.specs.declared.halt.Stop.{Stop}
 use Rattle.vhost_pair.specs.declared.halt.Stop.TheVariants.{Premise}
 use Rattle.std.specs.Io.KnownBytes.{Appends}
 use Rattle.vhost_lines.specs.Calls.{Call, call_in}
-use Rattle.vhost_lines.specs.Lines.{lines}
+use Rattle.vhost_lines.specs.Lines.{lines, is_blank}
 use Rattle.vhost_lines.specs.Output.{AppendsFront}
 use Rattle.vhost_lines.specs.Text.{message_text, answer_text}
 
--- the lines before the first one that is no call
+-- the lines that are calls, before the first one that is none and is not passed over
 abbrev pub good_lines : List (List ℕ) → List (List ℕ)
 good_lines [] = []
-good_lines (line ∷ later) = if is_some (call_in line) then line ∷ good_lines later else []
+good_lines (line ∷ later) = if is_blank line then good_lines later else if is_some (call_in line) then line ∷ good_lines later else []
 
 -- request, reply and answer in a line
 abbrev pub line_text : Text → Text → FrontendAnswer → List ℕ

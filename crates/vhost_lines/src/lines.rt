@@ -3,7 +3,7 @@
 ghost use Rattle.std.specs.Prelude.{◌≡◌, ◌≢◌, ◌≤◌, Some, IfSome, IfOk, OnOk, codes};
 ghost use Rattle.vhost_pair.specs.declared.halt.Stop.TheVariants.{Premise};
 ghost use Rattle.std.specs.Io.KnownBytes.{Appends};
-ghost use Rattle.vhost_lines.specs.Lines.{lines, bad_line, status_of, complaint_of, Explains, GivesLine};
+ghost use Rattle.vhost_lines.specs.Lines.{lines, is_blank, bad_line, status_of, complaint_of, Explains, GivesLine};
 ghost use Rattle.vhost_lines.specs.Shown.{line_text};
 ghost use Rattle.vhost_frontend_core.specs.Values.{call_of};
 ghost use Rattle.vhost_protocol.specs.declared.profile.Profile.TheVariants.{Vhost};
@@ -27,7 +27,7 @@ use vhost_pair::{Halt, Joined, Stop};
 type Session = Joined<Device>;
 
 /// Runs the calls of the input, one a line, on one session over the example device, and writes each line's request,
-/// reply and answer.
+/// reply and answer. Empty lines are passed over, and those that begin with a number sign.
 ///
 /// The status is 0 at the end of the input; 1 after a line that is no call, which is reported to `errors`; 2 after an I/O
 /// error of a reader, a writer or a link, or a failed allocation, which is reported to `errors` in one line, and then the
@@ -131,7 +131,7 @@ fn tell<E: Write>(fault: Fault, errors: &mut E) {
     }
 }
 
-/// Answers the lines up to the end, or to one that is no call, which is then `line`; its number.
+/// Answers the lines up to the end, or to one that is no call and is not passed over, which is then `line`; its number.
 fn answer_lines<I: BufRead, W: Write>(
     alloc: Global,
     profile: Profile,
@@ -150,6 +150,9 @@ fn answer_lines<I: BufRead, W: Write>(
             Ok(true) => {}
             Ok(false) => return Ok(None),
             Err(error) => return Err(input_fault(error)),
+        }
+        if is_blank(line) {
+            continue;
         }
         match call_of(alloc, line)? {
             Some(call) => {
@@ -189,6 +192,16 @@ fn read_line<I: BufRead>(input: &mut I, line: &mut Vec<u8>) -> io::Result<bool>
         line.pop();
     }
     Ok(true)
+}
+
+/// Whether a line is passed over: it is empty, or begins with a number sign.
+fn is_blank(line: &[u8]) -> bool
+    ensures { result ≡ is_blank line.now }
+{
+    match line.first() {
+        Some(byte) => *byte == b'#',
+        None => true,
+    }
 }
 
 /// Does a call, and makes its line.

@@ -50,6 +50,12 @@ static CALLS: [(&str, &str); 37] = [
 ];
 // end
 
+/// What a line that asks for help is told.
+// generated from protocol/requests.toml: help
+static HELP: &str =
+    "the calls are get_features, set_features, set_owner, reset_owner, set_mem_table, set_log_base, set_log_fd, set_vring_num, set_vring_addr, set_vring_base, get_vring_base, set_vring_kick, set_vring_call, set_vring_err, get_protocol_features, set_protocol_features, get_queue_num, set_vring_enable, set_mtu, set_backend_request_fd, get_config, set_config, postcopy_advise, postcopy_listen, postcopy_end, get_inflight_fd, set_inflight_fd, reset_device, get_max_mem_slots, add_mem_region, remove_mem_region, get_shared_object, set_device_state_fd, check_device_state, get_shmem_config, set_hdr_flags, postcopy_ack_mem_regions";
+// end
+
 /// The words of a region.
 static REGION: [u8; 5] = [b'l', b'l', b'l', b'l', b'h'];
 
@@ -61,6 +67,7 @@ pub(crate) fn why_none(line: &[u8]) -> (u64, &'static str) {
     let (name, rest) = first_word(text);
     match letters_of(name) {
         Some(letters) => why_arguments(letters, rest),
+        None if name == "help" => (1, HELP),
         None => (1, "no call has this name"),
     }
 }
