@@ -7,8 +7,8 @@
   scripts/places.py NAME..    prints the files in which these stand, whatever case, with or without _ between words: set_mtu
 
 Counted is a request without a reply of its own, of one number: NET_SET_MTU. A file is by hand where it stands outside the tables that
-scripts/requests.py writes. What is kept by fuzzers or recorded is not counted, since nobody writes it; nor are generated/, mutants, this script and
-its page. A crate's depth is one more than that of the deepest that it uses, by crates.txt.
+scripts/requests.py writes. What is kept by fuzzers or recorded is not counted, since nobody writes it; nor are generated/, docs/exports.tsv, mutants,
+this script and its page. A crate's depth is one more than that of the deepest that it uses, by crates.txt.
 
 Status 0; 1 where the page has other figures, which are printed.
 """
@@ -22,7 +22,7 @@ from request_tables import by_hand
 REQUEST = "set_mtu"
 PAGE = "docs/ARCHITECTURE.md"
 MARK = re.compile(r"(?<=<!-- places.py -->\n).*?(?=\n<!-- -->)", re.DOTALL)
-LEFT_OUT = [":!scripts/places.py", f":!{PAGE}", ":!generated", ":!c/fuzz/corpus", ":!c/real/probed", ":!rust/fuzz", ":!rust/tests/recordings", ":!crates/*/must-fail", ":!mutants"]
+LEFT_OUT = [":!scripts/places.py", f":!{PAGE}", ":!generated", ":!docs/exports.tsv", ":!c/fuzz/corpus", ":!c/real/probed", ":!rust/fuzz", ":!rust/tests/recordings", ":!crates/*/must-fail", ":!mutants"]
 
 # Where a file stands that only tests or shows.
 OF_TESTS = ("tests/", "c/tests/", "c/real/", "c/fuzz/", "c/bench/", "rust/tests/", "rust/examples/")
