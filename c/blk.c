@@ -1,7 +1,5 @@
 /* SPDX-License-Identifier: Apache-2.0 */
-/* A disk over a file, for a virtual machine: vhost-user-blk (virtio 1.2, 5.2) over covretin_device.h.
- *
- *     blk PATH IMAGE [RINGS [ro] [packed]]
+/* A disk over a file, vhost-user-blk (virtio 1.2, 5.2) over covretin_device.h: blk PATH IMAGE [RINGS [ro] [packed]]
  *
  * Listens at PATH and serves one frontend after another until SIGTERM or SIGINT; a second one at a time is hung up on. IMAGE is a raw file,
  * which may grow meanwhile. RINGS is 1 to 8, or else 1; ro: nothing is written; packed: packed rings are offered, too.
@@ -65,8 +63,10 @@ static bool clear(const struct virtio_blk_discard_write_zeroes *range, bool is_d
     static const uint8_t zeros[SECTOR];
     int how = FALLOC_FL_KEEP_SIZE | (is_discard || range->flags != 0 ? FALLOC_FL_PUNCH_HOLE : FALLOC_FL_ZERO_RANGE);
     off_t at = (off_t)(range->sector * SECTOR), end = at + (off_t)range->num_sectors * SECTOR;
-    bool is_done = at == end || fallocate(image, how, at, end - at) == 0, is_lacking = !is_done && errno == EOPNOTSUPP;
-    for (is_done = is_done || is_lacking; is_done && is_lacking && !is_discard && at < end; at += SECTOR)
+    if (at == end || fallocate(image, how, at, end - at) == 0)
+        return true;
+    bool is_done = errno == EOPNOTSUPP;
+    for (; is_done && !is_discard && at < end; at += SECTOR)
         is_done = pwrite(image, zeros, SECTOR, at) == SECTOR;
     return is_done;
 }

@@ -7,14 +7,18 @@
 
 A row is an export: its name, which session it is of, whether it may be called with any arguments at any time, the errors that it answers beside
 OK, what a refusal leaves, and its contract. The errors and what is left are those of the relation that the contract names, which RELATIONS gives
-in words, and QUEUES for a queue; those of a call's own tests are read of the definitions; each relation is one that the file of the export uses, and each error is one of the headers for C.
+in words, and QUEUES for a queue; those of a call's own tests are read of the definitions. Each relation is one that the file of the export uses.
+Each error is one of the headers for C, and one that the definitions name which the contract reaches; where a contract does not say which errors
+there are, those of the header stand behind 'by the header'.
 
-Status 0 where the table is so; 1 where it is not, where a contract names no relation, and where an export has a premise.
+Status 0 where the table is so; 1 where it is not, where a contract names no relation, or does not reach an error, and where there is a premise.
 """
 import glob
 import os
 import re
 import sys
+
+from closures import closure, module_at, target
 
 TOP = os.path.dirname(os.path.dirname(os.path.realpath(__file__)))
 TABLE = "docs/exports.tsv"
@@ -86,7 +90,7 @@ RELATIONS = {
         "after NO_SESSION to NOT_YET nothing changed; after others nothing of the request is left, and the device is asked nothing",
     ),
     "channel's server Beginning": (
-        f"NO_SESSION NOT_REPLIED NOT_YET INVALID_MESSAGE INVALID_OPERATION INVALID_PARAM INCORRECT_FDS {SHORT}",
+        f"NO_SESSION NOT_REPLIED NOT_YET INVALID_MESSAGE {SHORT}",
         "after NO_SESSION to NOT_YET nothing changed; after others nothing of the request is left, and nobody is asked",
     ),
     "Telling": ("NO_SESSION OTHER_CALL", NOTHING),
@@ -100,7 +104,7 @@ RELATIONS = {
         "after NO_SESSION to INVALID_PARAM nothing changed; after others no call is to be replied to",
     ),
     "channel's server Answering": (
-        "NO_SESSION NOTHING_ASKED SOCKET_RETRY SOCKET_BROKEN",
+        f"NO_SESSION NOTHING_ASKED {SHORT}",
         "after NO_SESSION and NOTHING_ASKED nothing changed; after others no call is to be replied to",
     ),
 }
@@ -122,30 +126,30 @@ ASKED_ALONE = {"covretin_display_ask_update_scanout": ["OVERSIZED_MSG"]}
 # What has a contract of equations, and answers no error; and what may, all the same.
 PLAIN = ("", "")
 EQUATIONS = {
-    "covretin_log_pages": ("NOT_IN_GUEST", "nothing is told"),
-    "covretin_inflight_recover": ("INVALID_INFLIGHT NO_ROOM OUT_OF_MEMORY", "what the places hold is not said"),
-    "covretin_inflight_recover_packed": ("INVALID_INFLIGHT NO_ROOM OUT_OF_MEMORY", "what the places hold is not said"),
+    "covretin_log_pages": ("NOT_IN_GUEST", "what the places hold is not said"),
+    "covretin_inflight_recover": ("INVALID_INFLIGHT; by the header NO_ROOM OUT_OF_MEMORY", "what the places hold is not said"),
+    "covretin_inflight_recover_packed": ("INVALID_INFLIGHT; by the header NO_ROOM OUT_OF_MEMORY", "what the places hold is not said"),
 }
 
 # The same of the calls of a queue, whose contracts are written out.
 BROKEN = "the queue needs a reset; after NO_QUEUE, NOT_STARTED, OTHER_LAYOUT, NOTHING_AVAILABLE and CHAIN_ENDED nothing changed"
 QUEUES = {
     "open": ("QUEUE_OPEN OUT_OF_MEMORY", NOTHING),
-    "set_regions": ("NO_QUEUE INVALID_REGION REGION_OVERLAP TOO_MANY_REGIONS OUT_OF_MEMORY", NOTHING),
-    "add_region": ("NO_QUEUE INVALID_REGION REGION_OVERLAP TOO_MANY_REGIONS OUT_OF_MEMORY", NOTHING),
-    "remove_region": ("NO_QUEUE NO_SUCH_REGION", NOTHING),
+    "set_regions": ("NO_QUEUE; by the header INVALID_REGION REGION_OVERLAP TOO_MANY_REGIONS OUT_OF_MEMORY", NOTHING),
+    "add_region": ("NO_QUEUE; by the header INVALID_REGION REGION_OVERLAP TOO_MANY_REGIONS OUT_OF_MEMORY", NOTHING),
+    "remove_region": ("NO_QUEUE; by the header NO_SUCH_REGION", NOTHING),
     "translate": ("NO_QUEUE NOT_IN_GUEST", NOTHING),
-    "start_split": ("NO_QUEUE INVALID_SIZE NOT_IN_GUEST UNALIGNED OUT_OF_MEMORY", NOTHING),
-    "start_packed": ("NO_QUEUE INVALID_SIZE NOT_IN_GUEST UNALIGNED INVALID_BASE OUT_OF_MEMORY", NOTHING),
-    "move_split": ("NO_QUEUE NOT_STARTED OTHER_LAYOUT NOT_IN_GUEST UNALIGNED", NOTHING),
-    "move_packed": ("NO_QUEUE NOT_STARTED OTHER_LAYOUT NOT_IN_GUEST UNALIGNED", NOTHING),
+    "start_split": ("NO_QUEUE; by the header INVALID_SIZE NOT_IN_GUEST UNALIGNED OUT_OF_MEMORY", NOTHING),
+    "start_packed": ("NO_QUEUE; by the header INVALID_SIZE NOT_IN_GUEST UNALIGNED INVALID_BASE OUT_OF_MEMORY", NOTHING),
+    "move_split": ("NO_QUEUE; by the header NOT_STARTED OTHER_LAYOUT NOT_IN_GUEST UNALIGNED", NOTHING),
+    "move_packed": ("NO_QUEUE; by the header NOT_STARTED OTHER_LAYOUT NOT_IN_GUEST UNALIGNED", NOTHING),
     "stop": ("NO_QUEUE", NOTHING),
     "base": ("NO_QUEUE NOT_STARTED", NOTHING),
     "needs_reset": ("NO_QUEUE", NOTHING),
     "available_place": ("NO_QUEUE NOT_STARTED", NOTHING),
     "head_place": ("NO_QUEUE NOT_STARTED OTHER_LAYOUT NOTHING_AVAILABLE", NOTHING),
     "notification_place": ("NO_QUEUE NOT_STARTED", NOTHING),
-    "descriptor_place": ("NO_QUEUE NOT_STARTED", NOTHING),
+    "descriptor_place": ("NO_QUEUE", NOTHING),
     "set_notification": ("NO_QUEUE NOT_STARTED", NOTHING),
     "available": ("NO_QUEUE NOT_STARTED TOO_MANY_AVAILABLE NEEDS_RESET", BROKEN),
     "pop": ("NO_QUEUE NOT_STARTED OTHER_LAYOUT NOTHING_AVAILABLE NOT_IN_TABLE HEAD_IN_USE NEEDS_RESET", BROKEN),
@@ -160,6 +164,14 @@ QUEUES = {
 def read(path):
     with open(f"{TOP}/{path}", encoding="utf-8") as file:
         return file.read()
+
+
+# Errors that a contract gives by their numbers.
+NUMBERED = {
+    "NO_SESSION": "101", "NO_QUEUE": "101", "SESSION_OPEN": "102", "QUEUE_OPEN": "102", "OUT_OF_MEMORY": "24", "INVALID_PARAM": "1",
+    "DISCONNECTED": "10", "PARTIAL_MESSAGE": "9", "INVALID_MESSAGE": "5", "NOT_IN_GUEST": "9", "INVALID_INFLIGHT": "8",
+}
+USE = re.compile(r"(?m)^ *ghost use Rattle\.(\w+)\.specs\.([\w.]+?)\.\{([^}]*)\};$")
 
 
 class Wrong(Exception):
@@ -222,6 +234,29 @@ def told_of(name, of, clauses, imported, calls):
     raise Wrong("it names no relation that is known")
 
 
+def reached(clauses, text):
+    """The words of a contract, and of the definitions of the crates that it reaches."""
+    words = {word for _, clause in clauses for word in re.findall(r"\w+", clause)}
+    named = []
+    for crate, module, group in USE.findall(text):
+        for word in group.split(","):
+            there, _, here = word.strip().partition(" as ")
+            named += [target(crate, module, there)] if (here or there) in words else []
+    for path, name in closure(it for it in named if it):
+        # (the numbers of all errors are not those of this one)
+        if path.endswith(".antt") and os.path.basename(path) != "Number.antt":
+            lines = (line for line in module_at(path).items[name] if not line.strip().startswith("--"))
+            words |= {word for line in lines for word in re.findall(r"\w+", line)}
+    return words
+
+
+def unreached(errors, words):
+    """The errors that a contract cannot answer."""
+    for error in re.findall(r"[A-Z]+(?:_[A-Z]+)*", errors.partition("; by the header")[0]):
+        if error.title().replace("_", "") not in words and NUMBERED.get(error) not in words:
+            yield error
+
+
 def rows():
     """A row for each export."""
     calls = tests()
@@ -234,6 +269,9 @@ def rows():
             try:
                 clauses = clauses_of(body)
                 errors, left = told_of(name, of, clauses, imported, calls)
+                strange = list(unreached(errors, reached(clauses, text)))
+                if strange:
+                    raise Wrong(f"its contract does not reach {' '.join(strange)}")
             except Wrong as why:
                 sys.exit(f"{where}: {name}: {why}")
             yield name, of, "always", errors or "none", left or "-", "; ".join(f"{label}: {clause}" if label else clause for label, clause in clauses)
