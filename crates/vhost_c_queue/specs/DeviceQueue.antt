@@ -1,18 +1,18 @@
 -- What the calls of a program in C do to a queue of either layout.
-use Rattle.std.specs.Prelude.{◌≡◌, ◌≢◌, ◌↔◌, ℕ, ◌+◌, ◌*◌, ◌%◌, ◌^◌, ◌==◌, IsTrue, bit_and, Bool, true, false, List, Option, Some, None, Result, Ok, Err, MatchResult, if◌then◌else◌, ⊤, nat_lt}
+use Rattle.std.specs.Prelude.{◌≡◌, ◌≢◌, ◌≤◌, ◌⊎◌, ◌↔◌, ℕ, ◌+◌, ◌*◌, ◌%◌, ◌^◌, ◌==◌, IsTrue, bit_and, Bool, true, false, List, Option, Some, None, Result, Ok, Err, MatchResult, if◌then◌else◌, ⊤, nat_lt}
 use Rattle.vhost_queue.specs.Chain.{place_of}
 use Rattle.vhost_queue.specs.Memory.{LiesIn}
 use Rattle.vhost_queue.specs.Notification.{moved}
 use Rattle.vhost_queue.specs.Packed as packed
-use Rattle.vhost_queue.specs.PackedRings.{ring_range, driver_range, device_range, AreAt as ArePackedAt}
+use Rattle.vhost_queue.specs.PackedRings.{ring_range, driver_range, device_range, AreAt as ArePackedAt, Misses as MissesRing, Refuses as RefusesRing}
 use Rattle.vhost_queue.specs.Places.{at}
 use Rattle.vhost_queue.specs.Queue as split
-use Rattle.vhost_queue.specs.Rings.{table_range, avail_range, used_range, AreAt}
+use Rattle.vhost_queue.specs.Rings.{table_range, avail_range, used_range, AreAt, Misses, Refuses}
 use Rattle.vhost_queue.specs.Wrap.{number_of, position_of}
 use Rattle.vhost_queue.specs.declared.descriptor.Descriptor.{Descriptor}
 use Rattle.vhost_queue.specs.declared.descriptor.Segment.{Segment}
 use Rattle.vhost_queue.specs.declared.error.Error.{Error}
-use Rattle.vhost_queue.specs.declared.error.Error.TheVariants.{NothingAvailable}
+use Rattle.vhost_queue.specs.declared.error.Error.TheVariants.{InvalidBase, NothingAvailable, OutOfMemory}
 use Rattle.vhost_queue.specs.declared.memory.GuestRegion.{GuestRegion}
 use Rattle.vhost_queue.specs.declared.memory.HostRange.{HostRange}
 use Rattle.vhost_queue.specs.declared.packed.PackedDescriptor.{PackedDescriptor}
@@ -177,6 +177,27 @@ MovesPacked rs ring driver device q p =
     ArePackedAt rs p.rings ring driver device × LiesIn rs (ring_range p.rings) × LiesIn rs (driver_range p.rings) × LiesIn rs (device_range p.rings)
     × (p.rings.size ≡ q.rings.size) × (p.event_idx ≡ q.event_idx) × (p.indirect_desc ≡ q.indirect_desc)
     × (packed.state p ≡ record (packed.state q) { chain = record (packed.state q).chain { next = None } })
+
+-- why a split queue is not started
+abbrev pub RefusesSplit : List GuestRegion → SplitRing → Error → Type 0
+RefusesSplit rs c e = Refuses rs c.size c.desc_table c.avail_ring c.used_ring e ⊎ (e ≡ OutOfMemory)
+
+-- .. or a packed one
+abbrev pub RefusesPacked : List GuestRegion → PackedRing → Error → Type 0
+RefusesPacked rs c e =
+    RefusesRing rs c.size c.desc_ring c.driver_event c.device_event e ⊎ ((e ≡ InvalidBase) × ((c.size ≤ (position_of c.avail).index) ⊎ (c.size ≤ (position_of c.used).index))) ⊎ (e ≡ OutOfMemory)
+
+-- why the rings of a split queue stay where they are
+abbrev pub StaysSplit : List GuestRegion → ℕ → ℕ → ℕ → Ring → Refusal → Type 0
+StaysSplit rs table avail used Stopped f = f ≡ refusal.NotStarted
+StaysSplit rs table avail used (Split q) f = Because (Misses rs q.rings.size table avail used) f
+StaysSplit rs table avail used (Packed q) f = f ≡ refusal.OtherLayout
+
+-- .. or those of a packed one
+abbrev pub StaysPacked : List GuestRegion → ℕ → ℕ → ℕ → Ring → Refusal → Type 0
+StaysPacked rs ring driver device Stopped f = f ≡ refusal.NotStarted
+StaysPacked rs ring driver device (Split q) f = f ≡ refusal.OtherLayout
+StaysPacked rs ring driver device (Packed q) f = Because (MissesRing rs q.rings.size ring driver device) f
 
 abbrev pub IsSplit : (Queue → Type 0) → Ring → Type 0
 IsSplit P (Split q) = P q

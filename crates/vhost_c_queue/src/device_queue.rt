@@ -31,10 +31,11 @@ pub struct DeviceQueue {
 
 impl DeviceQueue {
     ghost use Rattle.std.specs.Prelude.{ℕ, ◌<◌, length, remove, slice_index_or, All, true, false};
-    ghost use Rattle.vhost_queue.specs.Memory.{is_at, translated};
+    ghost use Rattle.vhost_queue.specs.Memory.{is_at, translated, AreRegions, Refuses, RefusesAll};
+    ghost use Rattle.vhost_queue.specs.declared.error.Error.TheVariants.{NoSuchRegion};
     ghost use Rattle.vhost_queue.specs.Queue.{broken, popped, refused_pop, resubmitted};
     ghost use Rattle.vhost_queue.specs.declared.memory.GuestRegion.{GuestRegion};
-    ghost use Rattle.vhost_c_queue.specs.DeviceQueue.{Answers, ByLayout, HearsPacked, HearsSplit, StepsPacked, StepsSplit, Takes, TakesAgain, Because, IsPacked, IsSplit, MovesPacked, MovesSplit, StartsPacked, StartsSplit, TellsPacked, TellsSplit, UsesPacked, UsesSplit, available_place, base, descriptor_place, event_write, head_place, needs_reset, notification_place, regions};
+    ghost use Rattle.vhost_c_queue.specs.DeviceQueue.{Answers, ByLayout, HearsPacked, HearsSplit, StepsPacked, StepsSplit, Takes, TakesAgain, Because, IsPacked, IsSplit, MovesPacked, MovesSplit, RefusesPacked, RefusesSplit, StartsPacked, StartsSplit, StaysPacked, StaysSplit, TellsPacked, TellsSplit, UsesPacked, UsesSplit, available_place, base, descriptor_place, event_write, head_place, needs_reset, notification_place, regions};
     ghost use Rattle.vhost_c_queue.specs.declared.device_queue.Ring.TheVariants.{Stopped};
     ghost use Rattle.vhost_c_queue.specs.declared.refusal.Refusal.TheVariants.{NotStarted, OtherLayout};
 
@@ -70,7 +71,8 @@ impl DeviceQueue {
     /// The memory that it sees has these regions, in the place of those that it had. Its rings stay where they are mapped, until
     /// they are started again or moved. A refusal changes nothing.
     pub fn set_regions(&mut self, alloc: Global, given: &[GuestRegion]) -> Result<(), Refusal>
-        ensures ok { OnOk result (regions self.new ≡ given.now) }
+        ensures ok { OnOk result ((regions self.new ≡ given.now) × AreRegions given.now) }
+        ensures reason { IfErr result (Because (RefusesAll given.now)) }
         ensures err { OnErr result (regions self.new ≡ regions self.old) }
         ensures ring { self.new.ring ≡ self.old.ring }
     {
@@ -81,6 +83,7 @@ impl DeviceQueue {
     /// A region more. A refusal changes nothing.
     pub fn add_region(&mut self, region: GuestRegion) -> Result<(), Refusal>
         ensures ok { OnOk result (regions self.new ≡ regions self.old ++ region ∷ []) }
+        ensures reason { IfErr result (Because (Refuses (regions self.old) region)) }
         ensures err { OnErr result (regions self.new ≡ regions self.old) }
         ensures ring { self.new.ring ≡ self.old.ring }
     {
@@ -96,7 +99,8 @@ impl DeviceQueue {
         user_addr: u64,
     ) -> Result<(), Refusal>
         ensures ok { OnOk result ((at : ℕ) × (at < length (regions self.old)) × (regions self.new ≡ remove (regions self.old) at) × ((d : GuestRegion) → is_at (slice_index_or (regions self.old) at d) guest_addr size user_addr ≡ true)) }
-        ensures err { OnErr result (All (λ r. is_at r guest_addr size user_addr ≡ false) (regions self.old) × (regions self.new ≡ regions self.old)) }
+        ensures reason { IfErr result (Because (λ e. (e ≡ NoSuchRegion) × All (λ r. is_at r guest_addr size user_addr ≡ false) (regions self.old))) }
+        ensures err { OnErr result (regions self.new ≡ regions self.old) }
         ensures ring { self.new.ring ≡ self.old.ring }
     {
         self.memory.remove(guest_addr, size, user_addr)?;
@@ -124,6 +128,7 @@ impl DeviceQueue {
     /// The queue is a split one from now on, and begins there. A refusal changes nothing.
     pub fn start_split(&mut self, alloc: Global, given: SplitRing) -> Result<(), Refusal>
         ensures ok { OnOk result (IsSplit (StartsSplit (regions self.old) given) self.new.ring) }
+        ensures reason { IfErr result (Because (RefusesSplit (regions self.old) given)) }
         ensures err { OnErr result (self.new.ring ≡ self.old.ring) }
         ensures memory { regions self.new ≡ regions self.old }
     {
@@ -148,6 +153,7 @@ impl DeviceQueue {
     /// The queue is a packed one from now on, and begins there. A refusal changes nothing.
     pub fn start_packed(&mut self, alloc: Global, given: PackedRing) -> Result<(), Refusal>
         ensures ok { OnOk result (IsPacked (StartsPacked (regions self.old) given) self.new.ring) }
+        ensures reason { IfErr result (Because (RefusesPacked (regions self.old) given)) }
         ensures err { OnErr result (self.new.ring ≡ self.old.ring) }
         ensures memory { regions self.new ≡ regions self.old }
     {
@@ -186,6 +192,7 @@ impl DeviceQueue {
         used_ring: u64,
     ) -> Result<(), Refusal>
         ensures ok { OnOk result (ByLayout (MovesSplit (regions self.old) desc_table avail_ring used_ring) (λ q p. ⊥) ⊥ self.old.ring self.new.ring) }
+        ensures reason { IfErr result (StaysSplit (regions self.old) desc_table avail_ring used_ring self.old.ring) }
         ensures err { OnErr result (self.new.ring ≡ self.old.ring) }
         ensures memory { regions self.new ≡ regions self.old }
     {
@@ -209,6 +216,7 @@ impl DeviceQueue {
         device_event: u64,
     ) -> Result<(), Refusal>
         ensures ok { OnOk result (ByLayout (λ q p. ⊥) (MovesPacked (regions self.old) desc_ring driver_event device_event) ⊥ self.old.ring self.new.ring) }
+        ensures reason { IfErr result (StaysPacked (regions self.old) desc_ring driver_event device_event self.old.ring) }
         ensures err { OnErr result (self.new.ring ≡ self.old.ring) }
         ensures memory { regions self.new ≡ regions self.old }
     {

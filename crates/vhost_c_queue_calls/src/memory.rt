@@ -1,7 +1,8 @@
 //! The memory that a queue sees.
 
 ghost use Rattle.std.specs.Prelude.{◌≡◌, ◌++◌, ◌∷◌, [], ◌<◌, ℕ, Result, Ok, Err, ⊤, OnOk, OnErr, IfOk, IfErr, length, remove, slice_index_or, All, true, false};
-ghost use Rattle.vhost_queue.specs.Memory.{is_at, translated};
+ghost use Rattle.vhost_queue.specs.Memory.{is_at, translated, AreRegions, Refuses, RefusesAll};
+ghost use Rattle.vhost_queue.specs.declared.error.Error.TheVariants.{NoSuchRegion};
 ghost use Rattle.vhost_queue.specs.declared.memory.GuestRegion.{GuestRegion as Region};
 ghost use Rattle.vhost_queue.specs.declared.memory.HostRange.{HostRange as Range};
 ghost use Rattle.vhost_c_queue.specs.DeviceQueue.{Because, regions};
@@ -22,7 +23,7 @@ pub extern "C" fn covretin_queue_set_regions(
     queue: &mut QueueHolder,
     given: &[GuestRegion],
 ) -> u32
-    ensures { Calls (λ s t. (r : Result ⊤ Refusal) × (result ≡ outcome_number r) × OnOk r (regions t ≡ given.now) × OnErr r (regions t ≡ regions s) × (t.ring ≡ s.ring)) queue.old.session result queue.new.session }
+    ensures { Calls (λ s t. (r : Result ⊤ Refusal) × (result ≡ outcome_number r) × OnOk r ((regions t ≡ given.now) × AreRegions given.now) × IfErr r (Because (RefusesAll given.now)) × OnErr r (regions t ≡ regions s) × (t.ring ≡ s.ring)) queue.old.session result queue.new.session }
 {
     match queue.take(alloc) {
         None => number_of(Err(Refusal::NoQueue)),
@@ -41,7 +42,7 @@ pub extern "C" fn covretin_queue_add_region(
     queue: &mut QueueHolder,
     region: &GuestRegion,
 ) -> u32
-    ensures { Calls (λ s t. (r : Result ⊤ Refusal) × (result ≡ outcome_number r) × OnOk r (regions t ≡ regions s ++ region.now ∷ []) × OnErr r (regions t ≡ regions s) × (t.ring ≡ s.ring)) queue.old.session result queue.new.session }
+    ensures { Calls (λ s t. (r : Result ⊤ Refusal) × (result ≡ outcome_number r) × OnOk r (regions t ≡ regions s ++ region.now ∷ []) × IfErr r (Because (Refuses (regions s) region.now)) × OnErr r (regions t ≡ regions s) × (t.ring ≡ s.ring)) queue.old.session result queue.new.session }
 {
     match queue.take(alloc) {
         None => number_of(Err(Refusal::NoQueue)),
@@ -62,7 +63,7 @@ pub extern "C" fn covretin_queue_remove_region(
     size: u64,
     user_addr: u64,
 ) -> u32
-    ensures { Calls (λ s t. (r : Result ⊤ Refusal) × (result ≡ outcome_number r) × OnOk r ((at : ℕ) × (at < length (regions s)) × (regions t ≡ remove (regions s) at) × ((d : Region) → is_at (slice_index_or (regions s) at d) guest_addr size user_addr ≡ true)) × OnErr r (All (λ x. is_at x guest_addr size user_addr ≡ false) (regions s) × (regions t ≡ regions s)) × (t.ring ≡ s.ring)) queue.old.session result queue.new.session }
+    ensures { Calls (λ s t. (r : Result ⊤ Refusal) × (result ≡ outcome_number r) × OnOk r ((at : ℕ) × (at < length (regions s)) × (regions t ≡ remove (regions s) at) × ((d : Region) → is_at (slice_index_or (regions s) at d) guest_addr size user_addr ≡ true)) × IfErr r (Because (λ e. (e ≡ NoSuchRegion) × All (λ x. is_at x guest_addr size user_addr ≡ false) (regions s))) × OnErr r (regions t ≡ regions s) × (t.ring ≡ s.ring)) queue.old.session result queue.new.session }
 {
     match queue.take(alloc) {
         None => number_of(Err(Refusal::NoQueue)),

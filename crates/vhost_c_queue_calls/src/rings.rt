@@ -1,7 +1,7 @@
 //! The rings of a queue.
 
-ghost use Rattle.std.specs.Prelude.{◌≡◌, ℕ, Bool, Result, Ok, ⊤, OnOk, OnErr};
-ghost use Rattle.vhost_c_queue.specs.DeviceQueue.{ByLayout, IsPacked, IsSplit, MovesPacked, MovesSplit, StartsPacked, StartsSplit, base, needs_reset, regions};
+ghost use Rattle.std.specs.Prelude.{◌≡◌, ℕ, Bool, Result, Ok, ⊤, OnOk, OnErr, IfErr};
+ghost use Rattle.vhost_c_queue.specs.DeviceQueue.{Because, ByLayout, IsPacked, IsSplit, MovesPacked, MovesSplit, RefusesPacked, RefusesSplit, StartsPacked, StartsSplit, StaysPacked, StaysSplit, base, needs_reset, regions};
 ghost use Rattle.vhost_c_queue.specs.Number.{outcome_number};
 ghost use Rattle.vhost_c_queue.specs.declared.device_queue.Ring.TheVariants.{Stopped};
 ghost use Rattle.vhost_c_queue.specs.declared.refusal.Refusal.{Refusal};
@@ -19,7 +19,7 @@ pub extern "C" fn covretin_queue_start_split(
     queue: &mut QueueHolder,
     given: &SplitRing,
 ) -> u32
-    ensures { Calls (λ s t. (r : Result ⊤ Refusal) × (result ≡ outcome_number r) × OnOk r (IsSplit (StartsSplit (regions s) given.now) t.ring) × OnErr r (t.ring ≡ s.ring) × (regions t ≡ regions s)) queue.old.session result queue.new.session }
+    ensures { Calls (λ s t. (r : Result ⊤ Refusal) × (result ≡ outcome_number r) × OnOk r (IsSplit (StartsSplit (regions s) given.now) t.ring) × IfErr r (Because (RefusesSplit (regions s) given.now)) × OnErr r (t.ring ≡ s.ring) × (regions t ≡ regions s)) queue.old.session result queue.new.session }
 {
     match queue.take(alloc) {
         None => number_of(Err(Refusal::NoQueue)),
@@ -38,7 +38,7 @@ pub extern "C" fn covretin_queue_start_packed(
     queue: &mut QueueHolder,
     given: &PackedRing,
 ) -> u32
-    ensures { Calls (λ s t. (r : Result ⊤ Refusal) × (result ≡ outcome_number r) × OnOk r (IsPacked (StartsPacked (regions s) given.now) t.ring) × OnErr r (t.ring ≡ s.ring) × (regions t ≡ regions s)) queue.old.session result queue.new.session }
+    ensures { Calls (λ s t. (r : Result ⊤ Refusal) × (result ≡ outcome_number r) × OnOk r (IsPacked (StartsPacked (regions s) given.now) t.ring) × IfErr r (Because (RefusesPacked (regions s) given.now)) × OnErr r (t.ring ≡ s.ring) × (regions t ≡ regions s)) queue.old.session result queue.new.session }
 {
     match queue.take(alloc) {
         None => number_of(Err(Refusal::NoQueue)),
@@ -59,7 +59,7 @@ pub extern "C" fn covretin_queue_move_split(
     avail_ring: u64,
     used_ring: u64,
 ) -> u32
-    ensures { Calls (λ s t. (r : Result ⊤ Refusal) × (result ≡ outcome_number r) × OnOk r (ByLayout (MovesSplit (regions s) desc_table avail_ring used_ring) (λ q p. ⊥) ⊥ s.ring t.ring) × OnErr r (t.ring ≡ s.ring) × (regions t ≡ regions s)) queue.old.session result queue.new.session }
+    ensures { Calls (λ s t. (r : Result ⊤ Refusal) × (result ≡ outcome_number r) × OnOk r (ByLayout (MovesSplit (regions s) desc_table avail_ring used_ring) (λ q p. ⊥) ⊥ s.ring t.ring) × IfErr r (StaysSplit (regions s) desc_table avail_ring used_ring s.ring) × OnErr r (t.ring ≡ s.ring) × (regions t ≡ regions s)) queue.old.session result queue.new.session }
 {
     match queue.take(alloc) {
         None => number_of(Err(Refusal::NoQueue)),
@@ -80,7 +80,7 @@ pub extern "C" fn covretin_queue_move_packed(
     driver_event: u64,
     device_event: u64,
 ) -> u32
-    ensures { Calls (λ s t. (r : Result ⊤ Refusal) × (result ≡ outcome_number r) × OnOk r (ByLayout (λ q p. ⊥) (MovesPacked (regions s) desc_ring driver_event device_event) ⊥ s.ring t.ring) × OnErr r (t.ring ≡ s.ring) × (regions t ≡ regions s)) queue.old.session result queue.new.session }
+    ensures { Calls (λ s t. (r : Result ⊤ Refusal) × (result ≡ outcome_number r) × OnOk r (ByLayout (λ q p. ⊥) (MovesPacked (regions s) desc_ring driver_event device_event) ⊥ s.ring t.ring) × IfErr r (StaysPacked (regions s) desc_ring driver_event device_event s.ring) × OnErr r (t.ring ≡ s.ring) × (regions t ≡ regions s)) queue.old.session result queue.new.session }
 {
     match queue.take(alloc) {
         None => number_of(Err(Refusal::NoQueue)),

@@ -65,12 +65,6 @@ followed-safe {rs} {limit} {xs} {f} h = record { inside = h.inside; few = (let w
 abbrev pub remaining : Following → ℕ
 remaining f = 2 * (f.left + f.splits) + cond f.nests 1 0
 
-remaining-more : (rs : List GuestRegion) (f g : Following) (s : Segment) → GoesOn rs f (Some s) g → remaining g < remaining f
-remaining-more rs f g s on = let less = on.3 in rw (on.5) (omega arith)
-
-remaining-table : (rs : List GuestRegion) (f g : Following) → GoesOn rs f None g → remaining g < remaining f
-remaining-table rs f g on = let same = on.2 in let splits = on.3 in rw (on.4, on.5) (omega arith)
-
 -- either, as a step's answer tells it
 pub followed-on : {rs : List GuestRegion} {limit : ℕ} {xs : List Segment} {f : Following} → Followed rs limit xs f
     → (rs' : List GuestRegion) → rs' ≡ rs → (o : Option Segment) (g : Following) → GoesOn rs' f o g
@@ -82,5 +76,5 @@ followed-on {rs} {limit} {xs} {f} h rs' same None g on ys e =
     rw (e ∙ append-nil xs) (followed-table h g (subst P same on))
 
 pub remaining-on : (rs : List GuestRegion) (f : Following) (o : Option Segment) (g : Following) → GoesOn rs f o g → remaining g < remaining f
-remaining-on rs f (Some s) g on = remaining-more rs f g s on
-remaining-on rs f None g on = remaining-table rs f g on
+remaining-on rs f (Some s) g on = let less = on.3 in rw (on.5) (omega arith)
+remaining-on rs f None g on = let same = on.2 in let splits = on.3 in rw (on.4, on.5) (omega arith)

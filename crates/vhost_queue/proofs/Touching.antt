@@ -2,26 +2,13 @@
 use Rattle.std.proofs.Common.{◌≡◌, List, ap, subst, sym, ◌∙◌}
 use Rattle.vhost_queue.proofs.Followed.{LiesIn-within}
 use Rattle.vhost_queue.specs.Memory.{LiesIn}
-use Rattle.vhost_queue.specs.Packed as packed
-use Rattle.vhost_queue.specs.Queue.{IsSameQueue}
 use Rattle.vhost_queue.specs.Rings.{avail_range}
 use Rattle.vhost_queue.specs.PackedRings.{driver_range}
 use Rattle.vhost_queue.specs.Places.{Within}
 use Rattle.vhost_queue.specs.declared.memory.GuestRegion.{GuestRegion}
 use Rattle.vhost_queue.specs.declared.memory.HostRange.{HostRange}
-use Rattle.vhost_queue.specs.declared.packed.PackedQueue.{PackedQueue}
 use Rattle.vhost_queue.specs.declared.packed_rings.PackedRings.{PackedRings}
-use Rattle.vhost_queue.specs.declared.queue.Queue.{Queue}
 use Rattle.vhost_queue.specs.declared.rings.Rings.{Rings}
-
-pub same_queue : (q p o : Queue) → IsSameQueue q p → IsSameQueue p o → IsSameQueue q o
-same_queue q p o h k = (k.0 ∙ h.0, k.1 ∙ h.1, k.2 ∙ h.2)
-
-pub same_packed : (q p o : PackedQueue) → packed.IsSameQueue q p → packed.IsSameQueue p o → packed.IsSameQueue q o
-same_packed q p o h k = (k.0 ∙ h.0, k.1 ∙ h.1, k.2 ∙ h.2)
-
-pub same_regions : {a b c : List GuestRegion} → a ≡ b → b ≡ c → a ≡ c
-same_regions {a} {b} {c} e f = e ∙ f
 
 pub in_avail : (rs : List GuestRegion) (old new : Rings) (place : HostRange) → LiesIn rs (avail_range old) → new ≡ old → Within (avail_range new) place → LiesIn rs place
 in_avail rs old new place lies same w =

@@ -1,6 +1,6 @@
 -- What is kept of a split queue in the inflight region, and which heads are taken again after a crash: of the vhost-user
 -- specification, "Inflight I/O tracking".
-use Rattle.std.specs.Prelude.{◌≡◌, ℕ, ◌+◌, ◌-◌, ◌*◌, ◌≤◌, zero, suc, Bool, true, false, not, ◌&&◌, ◌||◌, List, [], ◌∷◌, length, nat_lt, Result, Ok, Err, if◌then◌else◌, slice_index_or, slice_set, replicate}
+use Rattle.std.specs.Prelude.{ℕ, ◌+◌, ◌*◌, ◌≤◌, zero, suc, Bool, true, false, not, ◌&&◌, ◌||◌, List, [], ◌∷◌, length, nat_lt, Result, Ok, Err, if◌then◌else◌, slice_index_or, slice_set, replicate}
 use Rattle.vhost_queue.specs.Notification.{moved}
 use Rattle.vhost_queue.specs.declared.error.Error.{Error}
 use Rattle.vhost_queue.specs.declared.error.Error.TheVariants.{InvalidInflight}

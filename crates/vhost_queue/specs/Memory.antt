@@ -63,6 +63,11 @@ Refuses rs region e =
 abbrev pub AreRegions : List GuestRegion → Type 0
 AreRegions rs = All (λ r. is_region r ≡ true) rs × AllPairs (λ r s. is_apart r s ≡ true) rs × (length rs ≤ 509)
 
+-- why regions are refused together
+abbrev pub RefusesAll : List GuestRegion → Error → Type 0
+RefusesAll rs e =
+    ((e ≡ InvalidRegion) × ¬ All (λ r. is_region r ≡ true) rs) ⊎ ((e ≡ TooManyRegions) × (509 < length rs)) ⊎ ((e ≡ RegionOverlap) × ¬ AllPairs (λ r s. is_apart r s ≡ true) rs) ⊎ (e ≡ OutOfMemory)
+
 -- where a part of a queue is mapped that lies at an address of the frontend's: at a multiple of this
 abbrev pub aligned : ℕ → Result HostRange Error → Result HostRange Error
 aligned n (Ok range) = if range.addr % n == 0 then Ok range else Err Unaligned

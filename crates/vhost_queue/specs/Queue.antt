@@ -1,11 +1,11 @@
 -- Where a device stands in a split queue, and what its steps make of it: virtio 1.2, 2.7.
-use Rattle.std.specs.Prelude.{ℕ, ◌+◌, ◌-◌, ◌*◌, ◌≡◌, ◌≤◌, Bool, true, false, not, ◌&&◌, ◌||◌, List, ◌==◌, nat_lt, bit_and, Option, Some, None, Result, Ok, Err, if◌then◌else◌, is_some, slice_index_or, slice_set, replicate}
+use Rattle.std.specs.Prelude.{ℕ, ◌≡◌, Bool, true, false, List, ◌==◌, nat_lt, Option, Some, None, Result, Ok, Err, if◌then◌else◌, is_some, slice_index_or, slice_set, replicate}
 use Rattle.vhost_queue.specs.Chain.{Following, begun, following, segment_limit, step}
 use Rattle.vhost_queue.specs.Notification.{moved, next_index, Passes}
 use Rattle.vhost_queue.specs.declared.descriptor.Descriptor.{Descriptor}
 use Rattle.vhost_queue.specs.declared.descriptor.Segment.{Segment}
 use Rattle.vhost_queue.specs.declared.error.Error.{Error}
-use Rattle.vhost_queue.specs.declared.error.Error.TheVariants.{NeedsReset, NothingAvailable, TooManyAvailable, NotInTable, HeadInUse, NotHandedOut, ChainEnded}
+use Rattle.vhost_queue.specs.declared.error.Error.TheVariants.{NeedsReset, NothingAvailable, TooManyAvailable, HeadInUse, NotHandedOut}
 use Rattle.vhost_queue.specs.declared.memory.GuestRegion.{GuestRegion}
 use Rattle.vhost_queue.specs.declared.queue.Queue.{Queue}
 use Rattle.vhost_queue.specs.declared.queue.QueueConfig.{QueueConfig}

@@ -1,5 +1,5 @@
 -- What a device that serves a queue may touch.
-use Rattle.std.specs.Prelude.{◌≡◌, ℕ, List}
+use Rattle.std.specs.Prelude.{List}
 use Rattle.vhost_queue.specs.Memory.{LiesIn}
 use Rattle.vhost_queue.specs.PackedRings.{ring_range, driver_range, device_range}
 use Rattle.vhost_queue.specs.Rings.{table_range, avail_range, used_range}

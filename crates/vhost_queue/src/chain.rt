@@ -160,7 +160,7 @@ impl DescriptorChain {
         let Some(at) = self.next else {
             return Err(Error::ChainEnded);
         };
-        let descriptor = self.next_value(descriptor);
+        let descriptor = self.rest.unwrap_or(descriptor);
         if descriptor.flags & INDIRECT != 0 {
             self.enter(memory, descriptor)?;
             return Ok(None);
@@ -174,16 +174,6 @@ impl DescriptorChain {
         let segment = segment_of(memory, self.writing, addr, len, flags)?;
         self.go_on(at, descriptor, segment.range.len)?;
         Ok(Some(segment))
-    }
-
-    // What the chain goes on with, where the next descriptor has this value.
-    fn next_value(&self, descriptor: Descriptor) -> Descriptor
-        ensures { result ≡ next_value (following self.now).rest descriptor }
-    {
-        match self.rest {
-            Some(rest) => rest,
-            None => descriptor,
-        }
     }
 
     // The chain goes on in the indirect table that this descriptor names.
@@ -228,24 +218,9 @@ impl DescriptorChain {
         ensures kept { OnErr result (self.new ≡ self.old) }
         ensures limit { limit_of self.new ≡ limit_of self.old }
     {
-        if len < u64::from(descriptor.len) {
-            self.split(descriptor, len)
-        } else {
-            self.follow(at, descriptor)
+        if len == u64::from(descriptor.len) {
+            return self.follow(at, descriptor);
         }
-    }
-
-    // The chain goes on with the rest of a descriptor, behind these first bytes of it.
-    fn split(&mut self, descriptor: Descriptor, len: u64) -> Result<()>
-        requires less { len < descriptor.len }
-        requires fits { descriptor.addr + len < 2 ^ 64 }
-        ensures ok { OnOk result (split (following self.old) descriptor len ≡ Ok (following self.new)) }
-        ensures goes_on { OnOk result (((following self.new).left ≡ (following self.old).left) × ((following self.new).splits + 1 ≡ (following self.old).splits) × ((following self.new).writing ≡ is_writable descriptor.flags) × (table_of (following self.new) ≡ table_of (following self.old)) × ((following self.new).nests ≡ (following self.old).nests)) }
-        ensures rest { OnOk result ((following self.new).rest ≡ Some (rest_of descriptor len)) }
-        ensures err { IfErr result (λ e. split (following self.old) descriptor len ≡ Err e) }
-        ensures kept { OnErr result (self.new ≡ self.old) }
-        ensures limit { limit_of self.new ≡ limit_of self.old }
-    {
         if self.splits == 0 {
             return Err(Error::ChainTooLong);
         }

@@ -4,7 +4,7 @@
 ghost use Rattle.std.specs.Prelude.{◌≡◌, ℕ, ◌<◌, All, [], ◌∷◌, ◌+◌, ◌≤◌, ◌⊎◌, false, replicate, IsPermutation, IfOk, IfErr, Ok, Err, length};
 ghost use Rattle.std.specs.List.Sorted.{IsNonDecreasingBy};
 ghost use Rattle.vhost_queue.specs.Inflight.{at, entry, marked, pending, settled, LiesInArea};
-ghost use Rattle.vhost_queue.specs.declared.error.Error.TheVariants.{OutOfMemory, NotInTable};
+ghost use Rattle.vhost_queue.specs.declared.error.Error.TheVariants.{OutOfMemory};
 
 use crate::error::{Error, Result};
 use crate::rings::MAX_SIZE;
@@ -110,8 +110,7 @@ pub fn recover(
         return Err(Error::InvalidInflight);
     }
     let settled = mark_batch(alloc, entries, last_batch_head, batch)?;
-    let mut again = in_flight(alloc, entries, &settled)?;
-    again.sort_unstable_by_key(|head| head.counter);
+    let again = in_flight(alloc, entries, &settled)?;
     Ok(Recovered { settled, again })
 }
 
@@ -133,7 +132,7 @@ fn mark_batch(alloc: Global, entries: &[InflightEntry], first: u16, count: u16) 
     Ok(marks)
 }
 
-// The heads in flight, but for those that are marked.
+// The heads in flight, but for those that are marked, in the order in which they were taken.
 pub(crate) fn in_flight(
     alloc: Global,
     entries: &[InflightEntry],
@@ -141,7 +140,8 @@ pub(crate) fn in_flight(
 ) -> Result<Vec<Resubmit>>
     requires few { length entries.now ≤ 32768 }
     requires same { length marks.now ≡ length entries.now }
-    ensures ok { IfOk result (λ again. again.items ≡ pending entries.now marks.now 0) }
+    ensures ok { IfOk result (λ again. IsPermutation (pending entries.now marks.now 0) again.items) }
+    ensures in_order { IfOk result (λ again. IsNonDecreasingBy (λ a. a.counter) again.items) }
     ensures err { IfErr result (λ e. e ≡ OutOfMemory) }
 {
     let mut again = Vec::new(alloc);
@@ -151,10 +151,9 @@ pub(crate) fn in_flight(
                 counter: entry.counter,
                 head: head as u16,
             };
-            if again.push(resubmit).is_err() {
-                return Err(Error::OutOfMemory);
-            }
+            again.push(resubmit).map_err(|_| Error::OutOfMemory)?;
         }
     }
+    again.sort_unstable_by_key(|head| head.counter);
     Ok(again)
 }

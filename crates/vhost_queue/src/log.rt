@@ -40,23 +40,8 @@ pub fn dirty_pages(addr: u64, len: u64, log_size: u64) -> Result<DirtyPages>
     let behind = (end - 1) / LOG_PAGE_SIZE + 1;
     Ok(DirtyPages {
         first,
-        end: least(behind, log_size),
+        end: behind.min(log_size.saturating_mul(8)),
     })
-}
-
-// The smaller of a number of pages and the number of pages that a log of so many bytes has bits for.
-fn least(pages: u64, log_size: u64) -> u64
-    ensures pages { result ≤ pages }
-    ensures log { result ≤ 8 * log_size }
-    ensures one { (result ≡ pages) ⊎ (result ≡ 8 * log_size) }
-{
-    if log_size >= pages {
-        return pages;
-    }
-    match log_size.checked_mul(8) {
-        Some(bits) if bits < pages => bits,
-        _ => pages,
-    }
 }
 
 /// The bit of a page.

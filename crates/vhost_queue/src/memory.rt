@@ -2,7 +2,7 @@
 
 ghost use Rattle.std.specs.Prelude.{◌≡◌, ℕ, ◌+◌, ◌^◌, ◌<◌, ◌≤◌, ◌||◌, ◌++◌, ◌∷◌, [], nat_le, nat_lt, All, AllPairs, OnOk, OnErr, IfNone, IfOk, IfSome, true, false, length, slice_index_or};
 ghost use Rattle.std.specs.Bool.{OnFalse, OnTrue};
-ghost use Rattle.vhost_queue.specs.Memory.{are_apart, base, is_apart, holds, is_at, is_region, translated, translated_part, AreRegions, LiesIn, Overlaps, Refuses};
+ghost use Rattle.vhost_queue.specs.Memory.{are_apart, base, is_apart, holds, is_at, is_region, translated, translated_part, AreRegions, LiesIn, Overlaps, Refuses, RefusesAll};
 
 use crate::error::{Error, Result};
 use std::alloc::Global;
@@ -84,17 +84,7 @@ impl GuestRegion {
 fn are_apart(a: u64, n: u64, b: u64, m: u64) -> bool
     ensures { result ≡ are_apart a n b m }
 {
-    ends_before(a, n, b) || ends_before(b, m, a)
-}
-
-// Whether n bytes at an address end at another or before it.
-fn ends_before(a: u64, n: u64, b: u64) -> bool
-    ensures { result ≡ nat_le (a + n) b }
-{
-    match a.checked_add(n) {
-        Some(end) => end <= b,
-        None => false,
-    }
+    (n <= b && a <= b - n) || (m <= a && b <= a - m)
 }
 
 /// The regions of a session. A look-up begins with the region that had the last range.
@@ -104,12 +94,13 @@ pub struct GuestMemory {
     last: usize,
     ghost valid: { All (λ r. is_region r ≡ true) regions.items },
     ghost apart: { AllPairs (λ r s. is_apart r s ≡ true) regions.items },
+    ghost few: { length regions.items ≤ 509 },
 }
 
 impl GuestMemory {
-    ghost use Rattle.std.specs.Prelude.{remove, Err, IfErr, ◌⊎◌};
+    ghost use Rattle.std.specs.Prelude.{remove, Err, IfErr};
     ghost use Rattle.vhost_queue.specs.declared.memory.GuestRegion.{GuestRegion};
-    ghost use Rattle.vhost_queue.specs.declared.error.Error.TheVariants.{NoSuchRegion, NotInGuest, OutOfMemory};
+    ghost use Rattle.vhost_queue.specs.declared.error.Error.TheVariants.{NoSuchRegion, NotInGuest};
 
     pub fn new(alloc: Global) -> GuestMemory
         ensures { result.regions.items ≡ [] }
@@ -138,10 +129,7 @@ impl GuestMemory {
         if self.overlaps(&region) {
             return Err(Error::RegionOverlap);
         }
-        match self.regions.push(region) {
-            Ok(()) => Ok(()),
-            Err(_) => Err(Error::OutOfMemory),
-        }
+        self.regions.push(region).map_err(|_| Error::OutOfMemory)
     }
 
     /// The region of these addresses and this size goes. NoSuchRegion: there is none, and nothing changes.
@@ -170,10 +158,12 @@ impl GuestMemory {
         None
     }
 
-    /// These regions, in the place of those that were there. Errors are those of `add`, and a refusal changes nothing.
+    /// These regions, in the place of those that were there. InvalidRegion: one of them is empty, or ends beyond 64 bits. TooManyRegions:
+    /// there are more than there may be. RegionOverlap: two of them have an address in common. A refusal changes nothing.
     pub fn set(&mut self, alloc: Global, regions: &[GuestRegion]) -> Result<()>
         ensures ok { OnOk result (self.new.regions.items ≡ regions.now) }
-        ensures reason { IfErr result (λ e. (e ≡ OutOfMemory) ⊎ ¬ AreRegions regions.now) }
+        ensures valid { OnOk result (AreRegions regions.now) }
+        ensures reason { IfErr result (RefusesAll regions.now) }
         ensures err { OnErr result (self.new.regions.items ≡ self.old.regions.items) }
     {
         let mut memory = GuestMemory::new(alloc);

@@ -260,46 +260,17 @@ impl PackedQueue {
         let Some(at) = self.chain.next() else {
             return Err(Error::ChainEnded);
         };
-        if self.chain.has_rest() {
-            return self.resume(memory, at, descriptor);
-        }
-        if let Some(error) = self.fault_of(&descriptor) {
+        let begins = !self.chain.has_rest();
+        if begins && let Some(error) = self.fault_of(&descriptor) {
             self.needs_reset = true;
             return Err(error);
         }
         let split = self.as_split(at, &descriptor);
-        match self.chain.step(memory, split) {
-            Ok(segment) => {
-                self.go_on(&descriptor);
-                Ok(segment)
-            }
-            Err(error) => {
-                self.needs_reset = true;
-                Err(error)
-            }
-        }
-    }
-
-    // The chain goes on with the rest of a descriptor that was read before.
-    fn resume(
-        &mut self,
-        memory: &mut GuestMemory,
-        at: u16,
-        descriptor: PackedDescriptor,
-    ) -> Result<Option<Segment>>
-        requires next { (state self.old).chain.next ≡ Some at }
-        ensures ok { IfOk result (λ segment. resumed (state self.old) (step memory.old.regions.items (state self.old).chain (as_split (state self.old) at descriptor)) ≡ Ok (segment, state self.new)) }
-        ensures err { IfErr result (λ e. resumed (state self.old) (step memory.old.regions.items (state self.old).chain (as_split (state self.old) at descriptor)) ≡ Err e) }
-        ensures goes_on { IfOk result (λ segment. GoesOn memory.old.regions.items (state self.old).chain segment (state self.new).chain) }
-        ensures followed_once { IfOk result (λ segment. IfSome segment (λ _. FollowsOnce (state self.old).chain (state self.new).chain)) }
-        ensures kept { OnErr result (state self.new ≡ broken (state self.old)) }
-        ensures rings { IsSameQueue self.old self.new }
-        ensures memory { memory.new.regions.items ≡ memory.old.regions.items }
-    {
-        let split = self.as_split(at, &descriptor);
         let stepped = self.chain.step(memory, split);
         if stepped.is_err() {
             self.needs_reset = true;
+        } else if begins {
+            self.go_on(&descriptor);
         }
         stepped
     }

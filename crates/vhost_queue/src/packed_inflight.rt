@@ -182,8 +182,7 @@ pub fn packed_recover(
         return Err(Error::InvalidInflight);
     }
     let free = mark_free(alloc, entries, head.free_head)?;
-    let mut again = in_flight(alloc, entries, &free)?;
-    again.sort_unstable_by_key(|head| head.counter);
+    let again = in_flight(alloc, entries, &free)?;
     Ok(PackedRecovered { head, free, again })
 }
 

@@ -5,7 +5,7 @@ ghost use Rattle.std.specs.Prelude.{◌≡◌, ◌+◌, ◌*◌, ◌^◌, ◌<�
 use crate::descriptor::DESCRIPTOR_SIZE;
 use crate::error::{Error, Result};
 use crate::memory::{GuestMemory, HostRange};
-use crate::part::part;
+use crate::part::{part, range};
 use crate::rings::MAX_SIZE;
 
 /// Where a packed queue's descriptor ring and its two areas of event suppression are mapped (virtio 1.2, 2.8).
@@ -23,10 +23,9 @@ pub struct PackedRings {
 }
 
 impl PackedRings {
-    ghost use Rattle.std.specs.Prelude.{◌⊎◌, IfErr, Err};
-    ghost use Rattle.vhost_queue.specs.Memory.{part_of, LiesIn};
-    ghost use Rattle.vhost_queue.specs.declared.error.Error.TheVariants.{InvalidSize};
-    ghost use Rattle.vhost_queue.specs.PackedRings.{ring_range, driver_range, device_range, AreAt};
+    ghost use Rattle.std.specs.Prelude.{IfErr};
+    ghost use Rattle.vhost_queue.specs.PackedRings.{ring_range, driver_range, device_range, AreAt, Refuses};
+    ghost use Rattle.vhost_queue.specs.Memory.{LiesIn};
     ghost use Rattle.vhost_queue.specs.Places.{at, Within};
 
     /// Translates the frontend's addresses of a queue of this size. InvalidSize: it is 0 or above 32768. NotInGuest: a part does
@@ -43,7 +42,7 @@ impl PackedRings {
         ensures ring { IfOk result (λ rings. LiesIn memory.old.regions.items (ring_range rings)) }
         ensures driver { IfOk result (λ rings. LiesIn memory.old.regions.items (driver_range rings)) }
         ensures device { IfOk result (λ rings. LiesIn memory.old.regions.items (device_range rings)) }
-        ensures reason { IfErr result (λ e. ((e ≡ InvalidSize) × ((size ≡ 0) ⊎ (32768 < size))) ⊎ (part_of memory.old.regions.items desc_ring (16 * size) 16 ≡ Err e) ⊎ (part_of memory.old.regions.items driver_event 4 4 ≡ Err e) ⊎ (part_of memory.old.regions.items device_event 4 4 ≡ Err e)) }
+        ensures reason { IfErr result (Refuses memory.old.regions.items size desc_ring driver_event device_event) }
         ensures memory { memory.new.regions.items ≡ memory.old.regions.items }
     {
         if size == 0 || size > MAX_SIZE {
@@ -82,10 +81,7 @@ impl PackedRings {
         ensures exact { result ≡ at (self.now.desc_ring + 16 * index + 8) 6 }
         ensures within { Within (ring_range self.now) result }
     {
-        HostRange {
-            addr: self.desc_ring + DESCRIPTOR_SIZE * u64::from(index) + 8,
-            len: 6,
-        }
+        range(self.desc_ring + DESCRIPTOR_SIZE * u64::from(index) + 8, 6)
     }
 
     /// The flags of the descriptor at an index.
@@ -94,29 +90,20 @@ impl PackedRings {
         ensures exact { result ≡ at (self.now.desc_ring + 16 * index + 14) 2 }
         ensures within { Within (ring_range self.now) result }
     {
-        HostRange {
-            addr: self.desc_ring + DESCRIPTOR_SIZE * u64::from(index) + 14,
-            len: 2,
-        }
+        range(self.desc_ring + DESCRIPTOR_SIZE * u64::from(index) + 14, 2)
     }
 
     /// Where the driver says when it wants to be told: two bytes of a place, and two of flags.
     pub fn driver_event_place(&self) -> HostRange
         ensures { result ≡ driver_range self.now }
     {
-        HostRange {
-            addr: self.driver_event,
-            len: 4,
-        }
+        range(self.driver_event, 4)
     }
 
     /// Where the device says when it wants to be told.
     pub fn device_event_place(&self) -> HostRange
         ensures { result ≡ device_range self.now }
     {
-        HostRange {
-            addr: self.device_event,
-            len: 4,
-        }
+        range(self.device_event, 4)
     }
 }

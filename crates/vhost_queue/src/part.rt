@@ -1,7 +1,8 @@
-//! A part of a queue that lies at an address of the frontend's.
+//! A part of a queue that lies at an address of the frontend's, and ranges in it.
 
 ghost use Rattle.std.specs.Prelude.{◌≡◌, ◌+◌, ◌^◌, ◌<◌, IfOk};
 ghost use Rattle.vhost_queue.specs.Memory.{part_of, LiesIn};
+ghost use Rattle.vhost_queue.specs.Places.{at};
 
 use crate::error::{Error, Result};
 use crate::memory::{AddressSpace, GuestMemory, HostRange};
@@ -19,4 +20,11 @@ pub(crate) fn part(memory: &mut GuestMemory, addr: u64, len: u64, align: u64) ->
         return Err(Error::Unaligned);
     }
     Ok(range)
+}
+
+/// So many bytes at an address.
+pub(crate) fn range(addr: u64, len: u64) -> HostRange
+    ensures { result ≡ at addr len }
+{
+    HostRange { addr, len }
 }

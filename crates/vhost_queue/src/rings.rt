@@ -1,11 +1,12 @@
 //! Where the three parts of a split queue are mapped.
 
-ghost use Rattle.std.specs.Prelude.{◌≡◌, ◌+◌, ◌*◌, ◌%◌, ◌^◌, ◌<◌, ◌≤◌, IfOk, Ok, Err};
+ghost use Rattle.std.specs.Prelude.{◌≡◌, ◌+◌, ◌*◌, ◌%◌, ◌^◌, ◌<◌, ◌≤◌, IfOk, true};
+ghost use Rattle.std.specs.Int.{is_power_of_two};
 
 use crate::descriptor::DESCRIPTOR_SIZE;
 use crate::error::{Error, Result};
 use crate::memory::{GuestMemory, HostRange};
-use crate::part::part;
+use crate::part::{part, range};
 
 /// The greatest queue.
 pub const MAX_SIZE: u16 = 32768;
@@ -19,18 +20,16 @@ pub struct Rings {
     used_ring: u64,
     ghost some: { 0 < size },
     ghost few: { size ≤ 32768 },
+    ghost power: { is_power_of_two size ≡ true },
     ghost desc_fits: { desc_table + 16 * size < 2 ^ 64 },
     ghost avail_fits: { avail_ring + (6 + 2 * size) < 2 ^ 64 },
     ghost used_fits: { used_ring + (6 + 8 * size) < 2 ^ 64 },
 }
 
 impl Rings {
-    ghost use Rattle.std.specs.Prelude.{Contains};
-    ghost use Rattle.std.specs.Prelude.{◌⊎◌, IfErr, false};
-    ghost use Rattle.std.specs.Int.{is_power_of_two};
-    ghost use Rattle.vhost_queue.specs.Memory.{part_of, LiesIn};
-    ghost use Rattle.vhost_queue.specs.declared.error.Error.TheVariants.{InvalidSize};
-    ghost use Rattle.vhost_queue.specs.Rings.{table_range, avail_range, used_range, AreAt};
+    ghost use Rattle.std.specs.Prelude.{IfErr};
+    ghost use Rattle.vhost_queue.specs.Rings.{table_range, avail_range, used_range, AreAt, Refuses};
+    ghost use Rattle.vhost_queue.specs.Memory.{LiesIn};
     ghost use Rattle.vhost_queue.specs.Places.{at, Within};
 
     /// Translates the frontend's addresses of a queue of this size. InvalidSize: it is 0, no power of two or above 32768.
@@ -47,7 +46,7 @@ impl Rings {
         ensures table { IfOk result (λ rings. LiesIn memory.old.regions.items (table_range rings)) }
         ensures avail { IfOk result (λ rings. LiesIn memory.old.regions.items (avail_range rings)) }
         ensures used { IfOk result (λ rings. LiesIn memory.old.regions.items (used_range rings)) }
-        ensures reason { IfErr result (λ e. ((e ≡ InvalidSize) × ((size ≡ 0) ⊎ (32768 < size) ⊎ (is_power_of_two size ≡ false))) ⊎ (part_of memory.old.regions.items desc_table (16 * size) 16 ≡ Err e) ⊎ (part_of memory.old.regions.items avail_ring (6 + 2 * size) 2 ≡ Err e) ⊎ (part_of memory.old.regions.items used_ring (6 + 8 * size) 4 ≡ Err e)) }
+        ensures reason { IfErr result (Refuses memory.old.regions.items size desc_table avail_ring used_ring) }
         ensures memory { memory.new.regions.items ≡ memory.old.regions.items }
     {
         if size == 0 || size > MAX_SIZE || !size.is_power_of_two() {
@@ -142,10 +141,4 @@ impl Rings {
     {
         range(self.used_ring + 4 + 8 * u64::from(self.size), 2)
     }
-}
-
-fn range(addr: u64, len: u64) -> HostRange
-    ensures { result ≡ record { addr = addr; len = len } }
-{
-    HostRange { addr, len }
 }

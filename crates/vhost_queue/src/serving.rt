@@ -156,9 +156,6 @@ pub(crate) fn keep(segments: &mut Vec<Segment>, segment: Option<Segment>) -> Res
 {
     match segment {
         None => Ok(()),
-        Some(segment) => match segments.push(segment) {
-            Ok(()) => Ok(()),
-            Err(_) => Err(Error::OutOfMemory),
-        },
+        Some(segment) => segments.push(segment).map_err(|_| Error::OutOfMemory),
     }
 }

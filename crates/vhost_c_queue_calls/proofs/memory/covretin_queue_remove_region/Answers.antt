@@ -9,4 +9,4 @@ returns-in-None c = no-queue _ _ _ _ c.in-None.ensures.taken c.in-None.ensures.l
 pub returns-in-Some : goal.returns-in-Some
 returns-in-Some c =
     called _ _ _ _ c.deref_mut.result.now c.remove_region-outcome.new.self (c.in-Some.ensures.taken ∙ ap {A = DeviceQueue} Some (sym c.deref_mut.ensures.value)) c.put.ensures
-    (c.remove_region-outcome.result, c.number_of-in-Some.ensures, c.remove_region-outcome.ensures.ok, c.remove_region-outcome.ensures.err, c.remove_region-outcome.ensures.ring)
+    (c.remove_region-outcome.result, c.number_of-in-Some.ensures, c.remove_region-outcome.ensures.ok, c.remove_region-outcome.ensures.reason, c.remove_region-outcome.ensures.err, c.remove_region-outcome.ensures.ring)

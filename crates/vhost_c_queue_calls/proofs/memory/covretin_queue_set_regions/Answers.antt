@@ -9,4 +9,4 @@ returns-in-None c = no-queue _ _ _ _ c.in-None.ensures.taken c.in-None.ensures.l
 pub returns-in-Some : goal.returns-in-Some
 returns-in-Some c =
     called _ _ _ _ c.deref_mut.result.now c.set_regions-outcome.new.self (c.in-Some.ensures.taken ∙ ap {A = DeviceQueue} Some (sym c.deref_mut.ensures.value)) c.put.ensures
-    (c.set_regions-outcome.result, c.number_of-in-Some.ensures, c.set_regions-outcome.ensures.ok, c.set_regions-outcome.ensures.err, c.set_regions-outcome.ensures.ring)
+    (c.set_regions-outcome.result, c.number_of-in-Some.ensures, c.set_regions-outcome.ensures.ok, c.set_regions-outcome.ensures.reason, c.set_regions-outcome.ensures.err, c.set_regions-outcome.ensures.ring)

@@ -9,4 +9,4 @@ returns-in-None c = no-queue _ _ _ _ c.in-None.ensures.taken c.in-None.ensures.l
 pub returns-in-Some : goal.returns-in-Some
 returns-in-Some c =
     called _ _ _ _ c.deref_mut.result.now c.move_packed-outcome.new.self (c.in-Some.ensures.taken ∙ ap {A = DeviceQueue} Some (sym c.deref_mut.ensures.value)) c.put.ensures
-    (c.move_packed-outcome.result, c.number_of-in-Some.ensures, c.move_packed-outcome.ensures.ok, c.move_packed-outcome.ensures.err, c.move_packed-outcome.ensures.memory)
+    (c.move_packed-outcome.result, c.number_of-in-Some.ensures, c.move_packed-outcome.ensures.ok, c.move_packed-outcome.ensures.reason, c.move_packed-outcome.ensures.err, c.move_packed-outcome.ensures.memory)

@@ -1,4 +1,4 @@
-use Rattle.std.proofs.Common.{◌≡◌, ◌<◌, ◌≤◌, inr, length, length-set, sym, ◌∙◌, arith}
+use Rattle.std.proofs.Common.{◌<◌, ◌≤◌, inr, length, length-set, sym, ◌∙◌, arith}
 use Rattle.vhost_queue.proofs.Marked.{marked-more, marked-refused}
 use Rattle.vhost_queue.proofs.inflight.mark_batch.Goals as goal
 

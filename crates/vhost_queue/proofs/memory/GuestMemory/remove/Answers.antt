@@ -1,4 +1,4 @@
--- One region less leaves them valid and apart.
+-- One region less leaves them valid, apart and few.
 use Rattle.std.proofs.Common.{◌≡◌, ℕ, ◌+◌, ◌<◌, List, true, length, inl, inr, arith}
 use Rattle.std.specs.Prelude.{All, remove}
 use Rattle.std.proofs.lemmas.Bool.{cases_lt}
@@ -19,4 +19,5 @@ pub invariant_of-self : goal.invariant_of-self
 invariant_of-self c = record {
   valid = rw c.remove-gone.ensures.items (All-remove (λ r. is_region r ≡ true) _ _ c.in-Some.ensures.some.0 c.args.self.now.valid);
   apart = rw c.remove-gone.ensures.items (all_pairs_remove (λ r s. is_apart r s ≡ true) _ _ c.in-Some.ensures.some.0 c.args.self.now.apart);
+  few = (let less = length-remove c.args.self.now.regions.items c.in-Some.at c.in-Some.ensures.some.0 in let few = c.args.self.now.few in rw c.remove-gone.ensures.items (omega arith));
 }

@@ -1,7 +1,7 @@
 use Rattle.std.proofs.Common.{rules}
 use Rattle.std.proofs.lemmas.List.Sorted.{IsNonDecreasingBy-from_sort_by_key}
 use Rattle.vhost_queue.specs.declared.inflight.Resubmit.{Resubmit}
-use Rattle.vhost_queue.proofs.inflight.recover.Goals as goal
+use Rattle.vhost_queue.proofs.inflight.in_flight.Goals as goal
 
 pub returns-clause-in_order : goal.returns-clause-in_order
 returns-clause-in_order c =

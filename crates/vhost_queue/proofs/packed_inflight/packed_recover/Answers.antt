@@ -1,8 +1,0 @@
-use Rattle.std.proofs.Common.{rules}
-use Rattle.std.proofs.lemmas.List.Sorted.{IsNonDecreasingBy-from_sort_by_key}
-use Rattle.vhost_queue.specs.declared.inflight.Resubmit.{Resubmit}
-use Rattle.vhost_queue.proofs.packed_inflight.packed_recover.Goals as goal
-
-pub returns-clause-in_order : goal.returns-clause-in_order
-returns-clause-in_order c =
-    IsNonDecreasingBy-from_sort_by_key (λ (a : Resubmit). a.counter) c.sort_unstable_by_key.new.self.items c.sort_unstable_by_key.ensures.sorted (λ a r q k. search rules)
