@@ -257,7 +257,7 @@ static void tell_end(void *none, enum covretin_error error)
     memset(again, 0, sizeof again);
 }
 
-static covretin_device_calls calls = {.request = take, .read_config = read_config, .config_changed = measure,
+static covretin_device_calls calls = {.request = take, .busy_poll_us = 32, .read_config = read_config, .config_changed = measure,
                                       .refused = tell_refused, .turned_away = tell_another, .ended = tell_end};
 
 int main(int argc, char **argv)

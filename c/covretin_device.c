@@ -19,7 +19,7 @@
 #include <sys/timerfd.h>
 #include <unistd.h>
 
-enum { MOST_CALLS = 256 };
+enum { MOST_CALLS = 256, MOST_TURNS = 16 };
 
 /* -- The loop -- */
 
@@ -104,7 +104,7 @@ static void take_event(struct session *session, struct ring *ring)
         ring_drop_kick(session, ring);
         ring->is_broken = true;
     }
-    ring->is_due = true;
+    ring_kicked(session, ring);
 }
 
 /* Takes what is ready. */
@@ -139,7 +139,7 @@ static void plan(struct session *session)
     bool is_due = session->is_called && session->waits == 0, is_timed = false;
     for (uint32_t i = 0; i < session->calls->queues; i++) {
         const struct ring *ring = &session->rings[i];
-        is_due = is_due || (ring->is_due && ring_is_running(session, ring));
+        is_due = is_due || ((ring->is_due || ring->is_quiet) && ring_is_running(session, ring));
         is_timed = is_timed || (ring->kick < 0 && ring_is_running(session, ring));
     }
     if (is_due)
@@ -206,6 +206,19 @@ static void tell_end(struct session *session)
     wake_up(session->stop);
 }
 
+/* One turn: calls, and the rings that are due. */
+static void serve_what_is_ready(struct session *session)
+{
+    take_events(session);
+    if (session->frontend.opaque == NULL)
+        return;
+    if (session->is_called || session->waits != 0)
+        serve_calls(session);
+    for (uint32_t i = 0; i < session->calls->queues && !has_ended(session); i++)
+        if (session->rings[i].is_due)
+            ring_serve(session, &session->rings[i]);
+}
+
 enum covretin_error covretin_device_serve(covretin_device *device)
 {
     struct session *session = device->opaque;
@@ -213,13 +226,10 @@ enum covretin_error covretin_device_serve(covretin_device *device)
     if (session == NULL)
         return COVRETIN_NO_SESSION;
     pthread_mutex_lock(&session->lock);
-    take_events(session);
+    serve_what_is_ready(session);
+    for (unsigned turn = 1; turn < MOST_TURNS && !has_ended(session) && rings_busy_poll(session); turn++)
+        serve_what_is_ready(session);
     if (session->frontend.opaque != NULL) {
-        if (session->is_called || session->waits != 0)
-            serve_calls(session);
-        for (uint32_t i = 0; i < session->calls->queues && !has_ended(session); i++)
-            if (session->rings[i].is_due)
-                ring_serve(session, &session->rings[i]);
         if (has_ended(session))
             give_up(session);
         else

@@ -5,6 +5,7 @@
 #endif
 
 #include "covretin_device_session.h"
+#include "covretin_transport.h"
 
 #include <fcntl.h>
 #include <stdio.h>
@@ -359,13 +360,14 @@ static bool take_kick(struct session *session, struct ring *ring, int32_t fd)
 static bool take_bell(struct session *session, struct bell *bell, int32_t fd)
 {
     struct bell taken = {.fd = fd, .is_pipe = fd >= 0 && is_kind(fd, "pipe:[")};
+    taken.is_socket = fd >= 0 && transport_check_socket(fd) == COVRETIN_OK;
     if (taken.is_pipe) {
         char name[32];
         snprintf(name, sizeof name, "/proc/self/fd/%d", fd);
         taken.fd = open(name, O_WRONLY | O_NONBLOCK | O_CLOEXEC);
         if (taken.fd < 0)
             return false;
-    } else if (fd >= 0 && (!is_kind(fd, "anon_inode:[eventfd]") || covretin_claim_call_fd(&session->frontend, fd)))
+    } else if (fd >= 0 && ((!taken.is_socket && !is_kind(fd, "anon_inode:[eventfd]")) || covretin_claim_call_fd(&session->frontend, fd)))
         return false;
     bell_close(bell);
     *bell = taken;

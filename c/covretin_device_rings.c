@@ -4,11 +4,13 @@
 #endif
 
 #include "covretin_device_session.h"
+#include "covretin_transport.h"
 
 #include <signal.h>
 #include <stdlib.h>
 #include <string.h>
 #include <sys/epoll.h>
+#include <sys/socket.h>
 #include <sys/syscall.h>
 #include <time.h>
 #include <unistd.h>
@@ -158,11 +160,14 @@ void ring_move(struct session *session, struct ring *ring)
     if (!ring->is_away)
         use_space(session, ring);
     ring->is_due = true;
+    ring->is_quiet = false;
 }
 
 void bell_close(struct bell *bell)
 {
-    if (bell->fd >= 0)
+    if (bell->is_socket)
+        transport_close_socket(bell->fd, false);
+    else if (bell->fd >= 0)
         close(bell->fd);
     *bell = (struct bell){.fd = -1};
 }
@@ -181,7 +186,7 @@ void ring_stop(struct session *session, struct ring *ring)
 {
     ring_drop_kick(session, ring);
     bell_close(&ring->call);
-    ring->is_started = ring->is_due = ring->is_ending = ring->is_broken = false;
+    ring->is_started = ring->is_due = ring->is_quiet = ring->is_ending = ring->is_broken = false;
     ring->broken_by = COVRETIN_QUEUE_OK;
     covretin_queue_stop(&ring->queue);
     space_release(ring->space);
@@ -196,7 +201,11 @@ static enum covretin_queue_error look(struct ring *ring)
 {
     covretin_range place;
     enum covretin_queue_error error = covretin_queue_available_place(&ring->queue, &place);
-    return error ? error : covretin_queue_available(&ring->queue, read16(place.addr), &ring->available);
+    if (error)
+        return error;
+    ring->shows = place.addr;
+    ring->shown = read16(place.addr);
+    return covretin_queue_available(&ring->queue, ring->shown, &ring->available);
 }
 
 /* The next descriptor of the chain, which is at this place; or one that was read, whose rest comes. A packed ring's is kept in the
@@ -284,18 +293,91 @@ static enum covretin_queue_error take(struct session *session, struct ring *ring
     return error;
 }
 
-/* Has the driver tell of more. Whether there is more already. */
-static bool ask_for_kicks(struct session *session, struct ring *ring)
+/* Has the driver tell of more, or not. Whether it can be asked. */
+static bool ask_for_kicks(const struct session *session, struct ring *ring, bool are_wanted)
 {
     covretin_event_write event;
-    if (covretin_queue_set_notification(&ring->queue, true, &event))
+    if (covretin_queue_set_notification(&ring->queue, are_wanted, &event))
         return false;
     if (event.place.len != 0) {
         write_bytes(event.place.addr, event.value, event.place.len);
         log_ring(session, ring, event.place);
     }
+    return true;
+}
+
+/* Has the driver tell of more. Whether there is more already. */
+static bool wait_for_kicks(const struct session *session, struct ring *ring)
+{
+    if (!ask_for_kicks(session, ring, true))
+        return false;
     atomic_thread_fence(memory_order_seq_cst);
     return look(ring) != COVRETIN_QUEUE_OK || ring->available != 0;
+}
+
+/* -- How long it is empty -- */
+
+static uint64_t now(void)
+{
+    struct timespec at;
+    clock_gettime(CLOCK_MONOTONIC, &at);
+    return (uint64_t)at.tv_sec * 1000000000 + (uint64_t)at.tv_nsec;
+}
+
+/* Whether a ring that has been empty since then is still to be looked at. */
+static bool is_soon(const struct session *session, uint64_t empty)
+{
+    return now() - empty < (uint64_t)session->calls->busy_poll_us * 1000;
+}
+
+void ring_kicked(const struct session *session, struct ring *ring)
+{
+    ring->is_due = true;
+    ring->is_quick = session->calls->busy_poll_us != 0 && is_soon(session, ring->empty);
+}
+
+/* The ring is empty. Whether it is to be served on. */
+static bool is_to_go_on(const struct session *session, struct ring *ring)
+{
+    if (session->calls->busy_poll_us != 0)
+        ring->empty = now();
+    ring->is_quiet = ring->is_quick && ask_for_kicks(session, ring, false);
+    return !ring->is_quiet && wait_for_kicks(session, ring);
+}
+
+bool rings_busy_poll(struct session *session)
+{
+    struct ring *quiet[COVRETIN_DEVICE_MAX_QUEUES];
+    size_t count = 0, found = 0;
+    uint64_t last = 0;
+    for (uint32_t i = 0; i < session->calls->queues; i++) {
+        struct ring *ring = &session->rings[i];
+        if (!ring_is_running(session, ring))
+            continue;
+        if (ring->is_due)
+            return false;
+        if (ring->is_quiet) {
+            quiet[count++] = ring;
+            last = ring->empty > last ? ring->empty : last;
+        }
+    }
+    if (count == 0)
+        return false;
+    pthread_mutex_unlock(&session->lock);
+    do
+        for (found = 0; found < count && read16(quiet[found]->shows) == quiet[found]->shown;)
+            found++;
+    while (found == count && !session->is_stopped && !session->holder.has_lost && is_soon(session, last));
+    pthread_mutex_lock(&session->lock);
+    for (size_t i = 0; found == count && i < count; i++) {
+        quiet[i]->is_quiet = quiet[i]->is_quick = false;
+        quiet[i]->is_due = wait_for_kicks(session, quiet[i]);
+    }
+    if (found == count)
+        return false;
+    quiet[found]->is_quiet = false;
+    quiet[found]->is_due = true;
+    return true;
 }
 
 /* -- Requests -- */
@@ -382,7 +464,7 @@ covretin_request *ring_take(struct session *session, struct ring *ring)
 
 void ring_serve(struct session *session, struct ring *ring)
 {
-    ring->is_due = false;
+    ring->is_due = ring->is_quiet = false;
     if (ring->broken_by != COVRETIN_QUEUE_OK && !session->holder.has_lost)
         break_ring(session, ring, ring->broken_by);
     if (is_taken_of(session, ring))
@@ -393,7 +475,7 @@ void ring_serve(struct session *session, struct ring *ring)
         enum covretin_queue_error error = take(session, ring, &id, &again);
         if (session->holder.has_lost)
             return; /* what was read may be zeros that nobody wrote */
-        if (error == COVRETIN_QUEUE_NOTHING_AVAILABLE && !ask_for_kicks(session, ring))
+        if (error == COVRETIN_QUEUE_NOTHING_AVAILABLE && !is_to_go_on(session, ring))
             return;
         if (error && error != COVRETIN_QUEUE_NOTHING_AVAILABLE)
             break_ring(session, ring, error);
@@ -407,10 +489,11 @@ void ring_serve(struct session *session, struct ring *ring)
 }
 
 /* A read of nothing, that names an eventfd which the kernel adds 1 to as it ends: that never waits, which a write may, whatever this
- * process asks for. To a pipe that nobody reads a write fails without a signal; one that is full has something to be read. */
+ * process asks for. To a pipe or socket that nobody reads a write fails without a signal; one that is full has something to be read. */
 void ring_signal(struct session *session, const struct bell *bell)
 {
     static const struct timespec at_once = {0, 0};
+    static const uint64_t one = 1;
     struct iocb request = {.aio_lio_opcode = IOCB_CMD_PREAD,
                            .aio_fildes = (uint32_t)session->empty,
                            .aio_flags = IOCB_FLAG_RESFD,
@@ -420,6 +503,10 @@ void ring_signal(struct session *session, const struct bell *bell)
     sigset_t pipe_signal, were;
     if (bell->fd < 0)
         return;
+    if (bell->is_socket) {
+        (void)!send(bell->fd, &one, sizeof one, MSG_DONTWAIT | MSG_NOSIGNAL);
+        return;
+    }
     if (!bell->is_pipe) {
         if (syscall(SYS_io_submit, session->requests, 1, list) == 1)
             syscall(SYS_io_getevents, session->requests, 1, 1, &ended, &at_once);

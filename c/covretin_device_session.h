@@ -14,10 +14,10 @@
 /* What is polled for: the kick of a ring, by its number, or one of these. */
 enum { SOCKET = COVRETIN_DEVICE_MAX_QUEUES, WAKE, STOP, TIMER, CHANNEL, CHANNEL_TIMER, MOST_READY };
 
-/* What a ring signals: an eventfd, or a pipe, opened anew. */
+/* What a ring signals: an eventfd; a pipe, opened anew; or a stream socket of the family AF_UNIX. */
 struct bell {
     int fd; /* -1: none */
-    bool is_pipe;
+    bool is_pipe, is_socket;
 };
 
 /* Entries of a packed ring's area of the inflight region that a request has, by their links, and the free list behind them. */
@@ -36,6 +36,11 @@ struct ring {
     enum covretin_queue_error broken_by; /* which is still to be told */
     bool is_away;   /* it lies in no region */
     bool is_due;    /* to be looked at */
+    bool is_quiet;  /* it is empty, and looked at before its driver is asked to tell of more: */
+    uint64_t shows; /* what is mapped here */
+    uint16_t shown; /* is not this any more then */
+    bool is_quick;  /* the last request came soon after it was empty, */
+    uint64_t empty; /* which was at this time, in nanoseconds */
     int kick;       /* -1: none */
     struct bell call, error;
     struct space *space; /* in which the ring is mapped */
@@ -125,6 +130,13 @@ void bell_close(struct bell *bell);
 
 /* Hands the requests that are there to the device, but for those of a driver that makes more without end: then the ring is still due. */
 void ring_serve(struct session *session, struct ring *ring);
+
+/* The ring was kicked. */
+void ring_kicked(const struct session *session, struct ring *ring);
+
+/* Looks at quiet rings until one shows more, for as long as the device has said, and then has their drivers tell. Whether one does; not where
+ * another is due. The lock is let go of meanwhile. */
+bool rings_busy_poll(struct session *session);
 
 /* Takes the next request of a ring that the device takes of. NULL: there is none. */
 covretin_request *ring_take(struct session *session, struct ring *ring);

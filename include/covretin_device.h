@@ -19,14 +19,14 @@
  *     covretin_device_close(&device);
  *
  * WHAT IT DOES BY ITSELF: memory regions and their hot plug, rings, kicks and calls, EVENT_IDX and INDIRECT_DESC, the dirty log, the
- * inflight region of split queues, postcopy, reset, and telling that the configuration changed. Rings that a device before left with requests
+ * inflight region, postcopy, reset, and telling that the configuration changed. Rings that a device before left with requests
  * under way are gone on with, and these are handed out again, with `again`.
  *
  * THE FRONTEND IS NOT TRUSTED. Only memory files are mapped (memfd, tmpfs, hugetlbfs), since the pages of another may be kept back by
- * whoever serves its file system. Descriptors to kick and call by are eventfds, and for calls pipes, too; none is waited for, whatever
- * its flags, and a frontend that floods a device is served in turns with its rings. A page that its file was truncated of becomes zeros at
- * its first touch, and the session ends with MEMORY_LOST; the system's own calls (pread and its like) fail there with EFAULT, and then
- * nothing is lost. That costs nothing until it happens, but takes a handler of SIGBUS, which is there from the first
+ * whoever serves its file system. Descriptors to kick and call by are eventfds, and for calls pipes and stream sockets, too; none is
+ * waited for, whatever its flags, and a frontend that floods a device is served in turns with its rings. A page that its file was truncated
+ * of becomes zeros at its first touch, and the session ends with MEMORY_LOST; the system's own calls (pread and its like) fail there with
+ * EFAULT, and then nothing is lost. That costs nothing until it happens, but takes a handler of SIGBUS, which is there from the first
  * session on and hands each other fault to the handler that was there before: install one of your own before that. Where a frontend
  * begins postcopy, whoever touches a page that has not come waits for it until the frontend hangs up, or covretin_device_stop.
  *
@@ -97,6 +97,11 @@ typedef struct covretin_device_calls {
     /* Queues whose requests are not handed out, a bit for each from the first on: the device takes them once it has something for them, as
      * a network card that has a frame. So it has none, and whoever stops such a queue is not waited for. */
     uint64_t taken_queues;
+
+    /* How long a queue that is empty is looked at before its kick is waited for, in microseconds; 0: not at all. A driver that makes one request
+     * after another is served sooner by that, while the processor is kept busy and the frontend's calls wait. Only done where the last request
+     * came as soon as that. */
+    uint32_t busy_poll_us;
 
     /* A request is the device's. */
     void (*request)(void *own, covretin_request *request);

@@ -235,6 +235,56 @@ class Emulator:
         wait_for_end(self.process, f"the machine {self.name}")
 
 
+# -- A guest --
+
+# How the first program of a guest ends, a shell: it does the lines that its console is told.
+DOES_LINES = """stty -echo
+echo "#ready"
+while read -r line; do
+    eval "$line"
+    echo "#status $?"
+done
+"""
+
+
+class Shell:
+    """That shell, as it is told what to do. It is a process's, which it has as `process`."""
+
+    def __init__(self, name, console):
+        self.name, self.console, self.seen = name, console, b""
+
+    def hear(self, pattern):
+        """Waits until the console has said this."""
+        while True:
+            found = re.search(pattern, self.seen)
+            if found:
+                self.seen = self.seen[found.end() :]
+                return found
+            part = self.console.part(f"the console of {self.name} says {pattern}")
+            self.seen += part
+            with open(f"{self.name}.said", "ab") as it:
+                it.write(part)
+
+    def begin(self, line):
+        self.console.send(line)
+
+    def ended(self):
+        """What the line that was begun printed; it has to have succeeded."""
+        found = self.hear(rb"(?s)(.*?)#status (\d+)\r?\n")
+        check(found[2] == b"0", f"the guest's command succeeds: {found[1].decode()}")
+        return found[1].decode().replace("\r", "").strip()
+
+    def do(self, line):
+        """What the guest prints for a line of its shell, which has to succeed."""
+        self.begin(line)
+        return self.ended()
+
+    def power_off(self):
+        self.begin("poweroff -f")
+        wait_for_end(self.process, f"the machine {self.name}")
+        self.console.close()
+
+
 # -- Migration --
 
 

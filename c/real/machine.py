@@ -19,7 +19,7 @@ import subprocess
 import sys
 
 from driver import Slot
-from emulator import Disk, Emulator, check, migrate, play, run, sent, tell, wait_for_end, wait_running, wait_until
+from emulator import DOES_LINES, Disk, Emulator, Shell, check, migrate, play, run, sent, tell, wait_for_end, wait_running, wait_until
 
 SECTOR = 512
 KERNEL_AT = 2048  # sectors
@@ -41,12 +41,6 @@ mount -t proc proc /proc
 mount -t sysfs sys /sys
 mount -t tmpfs tmp /tmp
 for it in MODULES; do insmod /modules/$it.ko; done
-stty -echo
-echo "#ready"
-while read -r line; do
-    eval "$line"
-    echo "#status $?"
-done
 """
 
 
@@ -61,7 +55,7 @@ def make_first_system(to):
         check(found, f"the kernel has a module {it}")
         shutil.copy(found[0], "first/modules/")
     with open("first/init", "w", encoding="ascii") as it:
-        it.write(INIT.replace("MODULES", " ".join(MODULES)))
+        it.write(INIT.replace("MODULES", " ".join(MODULES)) + DOES_LINES)
     os.chmod("first/init", 0o755)
     with open(to, "wb") as it:
         names = subprocess.run(["find", "."], cwd="first", stdout=subprocess.PIPE, check=True).stdout
@@ -105,46 +99,17 @@ def make_image(boot):
 # -- The machine --
 
 
-class Guest(Emulator):
+class Guest(Shell, Emulator):
     """QEMU with a console, on which Linux is told what to do."""
 
     def __init__(self, name, memory, *words):
         words += ("-no-reboot", "-serial", f"unix:{name}.console,server=on,wait=on")
-        super().__init__(name, "tcg", memory, *words)
-        self.console = self.connect(f"{name}.console")
-        self.seen = b""
+        Emulator.__init__(self, name, "tcg", memory, *words)
+        Shell.__init__(self, name, self.connect(f"{name}.console"))
         self.greet()
 
-    def hear(self, pattern):
-        """Waits until the console has said this."""
-        while True:
-            found = re.search(pattern, self.seen)
-            if found:
-                self.seen = self.seen[found.end() :]
-                return found
-            part = self.console.part(f"the console of {self.name} says {pattern}")
-            self.seen += part
-            with open(f"{self.name}.said", "ab") as it:
-                it.write(part)
-
-    def begin(self, line):
-        self.console.send(line)
-
-    def ended(self):
-        """What the line that was begun printed; it has to have succeeded."""
-        found = self.hear(rb"(?s)(.*?)#status (\d+)\r?\n")
-        check(found[2] == b"0", f"the guest's command succeeds: {found[1].decode()}")
-        return found[1].decode().replace("\r", "").strip()
-
-    def do(self, line):
-        """What the guest prints for a line of its shell, which has to succeed."""
-        self.begin(line)
-        return self.ended()
-
     def power_off(self):
-        self.begin("poweroff -f")
-        wait_for_end(self.process, f"the machine {self.name}")
-        self.console.close()
+        super().power_off()
         self.qmp.close()
 
 
@@ -301,10 +266,10 @@ def tried_postcopy(program):
     check_blocks(count)
 
 
-def kill_amid_writes(machine, disk, times):
+def kill_amid_writes(machine, disk, times, queue_size=128):
     """The disk is killed so often amid writes, and started again: nothing is lost, and the guest goes on. So often it did requests again."""
-    # QEMU has an inflight region for rings of 128, for which Linux has at most 128 requests under way, and more for larger ones.
-    is_noted = int(machine.do("cat /sys/block/vda/mq/0/nr_tags")) <= 128
+    # QEMU has an inflight region for rings of its queue-size, for which Linux has at most so many requests under way, and more for larger ones.
+    is_noted = int(machine.do("cat /sys/block/vda/mq/0/nr_tags")) <= queue_size
     machine.do(WRITER)
     for _ in range(times):
         before = written(machine)
@@ -336,7 +301,8 @@ OF_RINGS = {28: "indirect tables", 29: "event indices", 34: "packed rings"}
 def tried_packed(program):
     """Linux's driver has eight packed rings, with indirect tables and event indices; and the disk is killed amid writes."""
     disk = Disk(program, rings=("8", "packed"))
-    machine = boot("machine", disk, "-smp", "8", reconnect=1, rings="num-queues=8,packed=on")
+    # (QEMU 10 has larger rings than its region, 128, is for; and where a packed one goes on, that alone says)
+    machine = boot("machine", disk, "-smp", "8", reconnect=1, rings="num-queues=8,packed=on,queue-size=1024")
     features = machine.do("cat /sys/block/vda/device/features")
     for bit, name in OF_RINGS.items():
         check(features[bit] == "1", f"the driver accepted {name}")
@@ -345,7 +311,7 @@ def tried_packed(program):
     found = machine.do("for it in 0 1 2 3 4 5 6 7; do taskset $(printf %x $((1 << it))) dd if=/dev/vda1 of=/tmp/part$it bs=1M skip=$((4 * it)) "
                        "count=4 iflag=direct 2>/dev/null & done; wait; cat /tmp/part? | sha256sum; rm /tmp/part?")
     check(found.split()[0] == wanted, "what is read by all of them is what the disk has")
-    kill_amid_writes(machine, disk, 4)
+    kill_amid_writes(machine, disk, 4, 1024)
 
 
 def tried_memory(program):

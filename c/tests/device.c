@@ -384,11 +384,16 @@ static void free_queue(const struct queue *queue)
     close(queue->error);
 }
 
-static void post(struct queue *queue, uint16_t head)
+static void post_without_kick(struct queue *queue, uint16_t head)
 {
     *word_at(queue, 1, 4 + queue->posted % QUEUE_SIZE * 2) = head;
     queue->posted++;
     __atomic_store_n(word_at(queue, 1, 2), queue->posted, __ATOMIC_SEQ_CST);
+}
+
+static void post(struct queue *queue, uint16_t head)
+{
+    post_without_kick(queue, head);
     if (eventfd_write(queue->kick, 1))
         give_up("kick");
 }
@@ -971,7 +976,7 @@ static void gives_no_zeros_for_a_page_of_who_went(void)
     }
 }
 
-/* A call that is full, and would block whoever writes it; a pipe, and one that nobody reads. */
+/* A call that is full, and would block whoever writes it; a pipe, and a socket, and each once nobody reads it. */
 static void never_waits_for_a_call(void)
 {
     int ends[2];
@@ -990,17 +995,20 @@ static void never_waits_for_a_call(void)
         post(&queue, 0);
         expect_used(&queue, 0, 4);
     }
-    if (pipe2(ends, O_CLOEXEC))
-        give_up("pipe2");
-    DONE(covretin_ask_set_vring_call(&vmm.session, 0, ends[1]));
-    post(&queue, 0);
-    expect_used(&queue, 0, 4);
-    struct pollfd polled = {.fd = ends[0], .events = POLLIN};
-    EXPECT(1, poll(&polled, 1, LIMIT));
-    close(ends[0]);
-    post(&queue, 0);
-    expect_used(&queue, 0, 4);
-    close(ends[1]);
+    for (int i = 0; i < 2; i++) {
+        uint64_t count = 0;
+        if (i == 0 ? pipe2(ends, O_CLOEXEC) : socketpair(AF_UNIX, SOCK_STREAM | SOCK_CLOEXEC, 0, ends))
+            give_up("pipe2");
+        DONE(covretin_ask_set_vring_call(&vmm.session, 0, ends[1]));
+        post(&queue, 0);
+        expect_used(&queue, 0, 4);
+        EXPECT(sizeof count, read(ends[0], &count, sizeof count));
+        EXPECT(1, count);
+        close(ends[0]);
+        post(&queue, 0);
+        expect_used(&queue, 0, 4);
+        close(ends[1]);
+    }
     end();
     close(full);
     free_queue(&queue);
@@ -1414,7 +1422,7 @@ static void refuses_other_files(void)
 {
     char name[] = "/var/tmp/covretin-device-XXXXXX";
     int file = mkstemp(name), ends[2];
-    if (file < 0 || unlink(name) || ftruncate(file, SIZE) || socketpair(AF_UNIX, SOCK_STREAM, 0, ends))
+    if (file < 0 || unlink(name) || ftruncate(file, SIZE) || socketpair(AF_UNIX, SOCK_DGRAM, 0, ends))
         give_up("mkstemp");
     begin(&calls);
     negotiate(0);
@@ -1515,6 +1523,57 @@ static void polls_a_ring_without_a_kick(void)
     for (int i = 0; i < 3; i++) {
         post(&queue, 0);
         expect_used(&queue, 0, 6);
+    }
+    end();
+    free_queue(&queue);
+    free_memory();
+}
+
+/* A driver that is quick need not kick, and is told so; it is as quick as the device says. */
+static void polls_a_quick_driver(void)
+{
+    covretin_device_calls polling = calls;
+    polling.busy_poll_us = UINT32_MAX;
+    begin(&polling);
+    negotiate(0);
+    make_memory();
+    give_memory();
+    struct queue queue = make_queue(0);
+    start(&queue, 0);
+    write_request(&queue, 0, "quick");
+    for (int i = 0; i < LIMIT && __atomic_load_n(word_at(&queue, 2, 0), __ATOMIC_ACQUIRE) == 0; i++) {
+        post(&queue, 0);
+        expect_used(&queue, 0, 5);
+        usleep(1000);
+    }
+    for (int i = 0; i < 300; i++) {
+        EXPECT(1, *word_at(&queue, 2, 0)); /* no kick is wanted */
+        post_without_kick(&queue, 0);
+        expect_used(&queue, 0, 5);
+    }
+    covretin_device_stop(&device);
+    end_as(COVRETIN_STOPPED);
+    free_queue(&queue);
+    free_memory();
+}
+
+/* One that is late is waited for. */
+static void waits_for_a_late_driver(void)
+{
+    covretin_device_calls polling = calls;
+    polling.busy_poll_us = 1;
+    begin(&polling);
+    negotiate(0);
+    make_memory();
+    give_memory();
+    struct queue queue = make_queue(0);
+    start(&queue, 0);
+    write_request(&queue, 0, "late");
+    for (int i = 0; i < 20; i++) {
+        usleep(2000);
+        EXPECT(0, *word_at(&queue, 2, 0));
+        post(&queue, 0);
+        expect_used(&queue, 0, 4);
     }
     end();
     free_queue(&queue);
@@ -1638,7 +1697,9 @@ static void bear(struct queue *queue, bool is_packed)
 
 static void bears_anything_in_a_split_queue(void)
 {
-    begin(&calls);
+    covretin_device_calls polling = calls;
+    polling.busy_poll_us = 20;
+    begin(&polling);
     negotiate(COVRETIN_DEVICE_INDIRECT_DESC | COVRETIN_DEVICE_EVENT_IDX);
     make_memory();
     give_memory();
@@ -1652,7 +1713,9 @@ static void bears_anything_in_a_split_queue(void)
 
 static void bears_anything_in_a_packed_queue(void)
 {
-    begin(&calls);
+    covretin_device_calls polling = calls;
+    polling.busy_poll_us = 20;
+    begin(&polling);
     negotiate(COVRETIN_DEVICE_INDIRECT_DESC | COVRETIN_DEVICE_RING_PACKED);
     make_memory();
     give_memory();
@@ -1761,6 +1824,8 @@ int main(void)
     RUN(has_a_configuration);
     RUN(tells_of_a_changed_configuration);
     RUN(polls_a_ring_without_a_kick);
+    RUN(polls_a_quick_driver);
+    RUN(waits_for_a_late_driver);
     RUN(closes_amid_a_request);
     RUN(bears_anything_in_a_split_queue);
     RUN(bears_anything_in_a_packed_queue);

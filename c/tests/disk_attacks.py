@@ -270,9 +270,9 @@ def fill_event(fd):
     let_block(fd)
 
 
-def full_pipe():
-    """The ends of a pipe whose writers wait."""
-    ends = os.pipe()
+def full_pipe(ends=None):
+    """The ends of a pipe, or of another stream, whose writers wait."""
+    ends = ends or os.pipe()
     os.set_blocking(ends[1], False)
     try:
         while True:
@@ -293,8 +293,12 @@ def full_call(disk):
     guest.close()
 
 
-def full_pipe_for_call(disk):
-    end, call = full_pipe()
+def socket_ends():
+    return [it.detach() for it in socket.socketpair()]
+
+
+def full_pipe_for_call(disk, ends=None):
+    end, call = full_pipe(ends)
     guest = working(disk, call=call)
     let_block(call)
     guest.read(4)
@@ -308,16 +312,24 @@ def full_pipe_for_call(disk):
     os.close(end)
 
 
-def pipe_for_call_that_nobody_reads(disk):
-    end, call = os.pipe()
+def full_socket_for_call(disk):
+    full_pipe_for_call(disk, socket_ends())
+
+
+def pipe_for_call_that_nobody_reads(disk, ends=None):
+    end, call = ends or os.pipe()
     guest = working(disk, call=call)
     os.close(end)
     guest.read(4)
     guest.close()
 
 
+def socket_for_call_that_nobody_reads(disk):
+    pipe_for_call_that_nobody_reads(disk, socket_ends())
+
+
 def full_error(disk):
-    for fds in ((made_event(),), full_pipe()):
+    for fds in ((made_event(),), full_pipe(), full_pipe(socket_ends())):
         guest = working(disk)
         guest.frontend.do(SET_VRING_ERR, struct.pack("<Q", 0), [fds[-1]])
         if len(fds) == 1:
@@ -367,17 +379,17 @@ def kick_that_counts_down(disk):
 
 
 def no_eventfds(disk):
-    """What is no eventfd is refused, and nothing of it is kept."""
+    """What is no eventfd is refused, and nothing of it is kept. A call may be a stream, too."""
     guest = working(disk)
-    pipe, pair = os.pipe(), socket.socketpair()
-    for fd in (guest.file, pair[0].fileno(), *pipe, os.open("/dev/null", os.O_RDWR)):
-        refusing = (SET_VRING_KICK,) if fd in pipe else (SET_VRING_KICK, SET_VRING_CALL, SET_VRING_ERR)
+    streams, pair = (*os.pipe(), *socket_ends()), socket.socketpair(type=socket.SOCK_DGRAM)
+    for fd in (guest.file, pair[0].fileno(), *streams, os.open("/dev/null", os.O_RDWR)):
+        refusing = (SET_VRING_KICK,) if fd in streams else (SET_VRING_KICK, SET_VRING_CALL, SET_VRING_ERR)
         for code in refusing:
             check(guest.frontend.acknowledged(code, struct.pack("<Q", 0), [fd]) is False, f"request {code} is refused")
     check(guest.frontend.acknowledged(SET_BACKEND_REQ_FD, b"", [guest.file]) is False, "a channel is a socket")
     guest.read(4)
     guest.close()
-    for fd in (*pipe, fd):
+    for fd in (*streams, fd):
         os.close(fd)
     for it in pair:
         it.close()
@@ -542,7 +554,8 @@ def frontend_that_comes_again(disk):
     frontend.close()
 
 
-ATTACKS = [full_call, full_pipe_for_call, pipe_for_call_that_nobody_reads, full_error, kick_that_is_taken_back]
+ATTACKS = [full_call, full_pipe_for_call, full_socket_for_call, pipe_for_call_that_nobody_reads, socket_for_call_that_nobody_reads, full_error]
+ATTACKS += [kick_that_is_taken_back]
 ATTACKS += [kick_that_counts_down, no_eventfds]
 ATTACKS += [shortened_memory, shortened_memory_at_a_start, shortened_data, shortened_log, shortened_inflight_region]
 ATTACKS += [second_frontend, frontend_that_comes_again]

@@ -8,6 +8,7 @@ use std::env;
 use std::ffi::OsString;
 use std::fs::{symlink_metadata, File, OpenOptions};
 use std::io::{self, Read, Write};
+use std::iter::from_fn;
 use std::os::unix::fs::{FileExt, FileTypeExt};
 use std::process::ExitCode;
 use std::sync::atomic::{AtomicU64, Ordering};
@@ -59,13 +60,7 @@ fn listen(path: &OsString, image: &OsString, queues: usize) -> io::Result<()> {
     let (requests, taken, sectors) = (Mutex::new(requests), Arc::new(Mutex::new(taken)), AtomicU64::new(0));
     let disk = Arc::new(Disk { image, sectors, queues, requests, channel: Mutex::new(None) });
     for (disk, taken) in (0..THREADS).map(|_| (disk.clone(), taken.clone())) {
-        spawn(move || loop {
-            let job = locked(&taken).recv();
-            match job {
-                Ok((request, head)) => disk.finish(request, head, true),
-                Err(_) => return,
-            }
-        });
+        spawn(move || from_fn(|| locked(&taken).recv().ok()).for_each(|(request, head)| disk.finish(request, head, true)));
     }
     let looking = disk.clone();
     spawn(move || loop {
@@ -102,6 +97,10 @@ impl Device for Disk {
 
     fn features(&self) -> u64 {
         FEATURES
+    }
+
+    fn busy_poll(&self) -> Duration {
+        Duration::from_micros(32)
     }
 
     fn protocol_features(&self) -> VhostUserProtocolFeatures {

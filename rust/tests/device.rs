@@ -285,6 +285,43 @@ fn names_what_is_wrong() {
     });
 }
 
+/// A driver that is quick need not kick, and is told so; it is as quick as the device says.
+#[test]
+fn polls_a_quick_driver() {
+    counted(|| {
+        let (machine, mut ring) = begun_polling(0, 0, Duration::from_secs(1 << 20));
+        ring.write_request(0, "quick");
+        wait_until("it is quick", || {
+            ring.post(0);
+            assert_eq!((0, 5), ring.used());
+            ring.get16(2, 0) == 1
+        });
+        for _ in 0..300 {
+            assert_eq!(1, ring.get16(2, 0)); // no kick is wanted
+            ring.post_without_kick(0);
+            assert_eq!((0, 5), ring.used());
+        }
+        machine.stopper.stop();
+        machine.ends_by("Stopped");
+    });
+}
+
+/// One that is late is waited for.
+#[test]
+fn waits_for_a_late_driver() {
+    counted(|| {
+        let (machine, mut ring) = begun_polling(0, 0, Duration::from_nanos(1));
+        ring.write_request(0, "late");
+        for _ in 0..20 {
+            sleep(Duration::from_millis(2));
+            assert_eq!(0, ring.get16(2, 0));
+            ring.post(0);
+            assert_eq!((0, 4), ring.used());
+        }
+        machine.end();
+    });
+}
+
 /// Descriptors that are often right, a table of them in a buffer among these, and heads.
 fn write_anything(ring: &Ring, any: &mut Numbers, is_packed: bool) {
     for _ in 0..6 {
@@ -310,7 +347,7 @@ fn write_anything(ring: &Ring, any: &mut Numbers, is_packed: bool) {
 
 /// Whatever is in its rings, the device answers its frontend; a queue that broke is begun anew.
 fn bears_anything(offers: u64, features: u64) {
-    let (mut machine, mut ring) = begun(offers, features);
+    let (mut machine, mut ring) = begun_polling(offers, features, Duration::from_micros(20));
     let (mut any, mut broken) = (Numbers(0x1234_5678_9abc_def1), 0);
     for round in 0..4000 {
         write_anything(&ring, &mut any, offers != 0);

@@ -4,7 +4,7 @@ mod common;
 
 use std::fs::{remove_file, File};
 use std::io::{Read, Write};
-use std::os::unix::io::{AsRawFd, FromRawFd};
+use std::os::unix::io::{AsRawFd, FromRawFd, OwnedFd};
 use std::os::unix::net::{UnixListener, UnixStream};
 use std::os::unix::thread::JoinHandleExt;
 use std::path::PathBuf;
@@ -19,7 +19,7 @@ use covretin::vhost_user::message::*;
 use covretin::vhost_user::{Frontend, Listener, VhostUserFrontend};
 use covretin::VhostBackend;
 
-/// A call that is full, and would block whoever writes it; a pipe, and one that nobody reads.
+/// A call that is full, and would block whoever writes it; a pipe, and a socket, and each once nobody reads it.
 #[test]
 fn never_waits_for_a_call() {
     counted(|| {
@@ -32,14 +32,18 @@ fn never_waits_for_a_call() {
             ring.post(0);
             assert_eq!((0, 4), ring.used());
         }
-        let (reads, writes) = pipe();
-        machine.frontend.set_vring_call(0, &writes).unwrap();
-        ring.post(0);
-        assert_eq!((0, 4), ring.used());
-        assert!(is_readable(reads.as_raw_fd(), LIMIT as i32));
-        drop(reads);
-        ring.post(0);
-        assert_eq!((0, 4), ring.used());
+        let (mine, other) = UnixStream::pair().unwrap();
+        for (mut reads, writes) in [pipe(), (File::from(OwnedFd::from(mine)), File::from(OwnedFd::from(other)))] {
+            let mut count = [0; 8];
+            machine.frontend.set_vring_call(0, &writes).unwrap();
+            ring.post(0);
+            assert_eq!((0, 4), ring.used());
+            reads.read_exact(&mut count).unwrap();
+            assert_eq!(1, u64::from_ne_bytes(count));
+            drop(reads);
+            ring.post(0);
+            assert_eq!((0, 4), ring.used());
+        }
         machine.end();
     });
 }

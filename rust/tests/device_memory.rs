@@ -5,7 +5,7 @@ mod common;
 use std::io::Read;
 use std::os::unix::fs::FileExt;
 use std::os::unix::io::AsRawFd;
-use std::os::unix::net::UnixStream;
+use std::os::unix::net::UnixDatagram;
 use std::thread::sleep;
 use std::time::Duration;
 
@@ -309,7 +309,7 @@ fn refuses_other_files() {
     counted(|| {
         let mut machine = Machine::of(0);
         machine.negotiate_without_memory(0);
-        let (socket, _other) = UnixStream::pair().unwrap();
+        let (socket, _other) = UnixDatagram::pair().unwrap();
         let no_memory = VhostUserMemoryRegionInfo { mmap_handle: socket.as_raw_fd(), ..machine.region(0, MEMORY) };
         let beyond = machine.region(4096, MEMORY);
         let it = &mut machine.frontend;

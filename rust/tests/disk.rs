@@ -9,7 +9,7 @@ use std::fs::{read, read_dir, read_to_string, remove_file, write, File};
 use std::io::{ErrorKind, Read, Write};
 use std::net::{TcpListener, TcpStream};
 use std::os::unix::io::{AsRawFd, FromRawFd, OwnedFd, RawFd};
-use std::os::unix::net::UnixStream;
+use std::os::unix::net::{UnixDatagram, UnixStream};
 use std::path::PathBuf;
 use std::process::{Child, Command, Stdio};
 use std::rc::Rc;
@@ -445,7 +445,7 @@ fn calls_that_are_wanted() {
         // (it has given the second back, and waits for the third, which is the one that a call is wanted for)
         assert_eq!(ErrorKind::WouldBlock, (&guest.call).read(&mut [0; 8]).unwrap_err().kind());
         guest.still_serves();
-        assert_eq!(3, guest.memory.read_obj::<u16>(kick_at).unwrap());
+        disk.wait_until("it says when to kick again", || guest.memory.read_obj::<u16>(kick_at).unwrap() == 3);
     });
 }
 
@@ -473,8 +473,10 @@ fn pages_that_were_written() {
         assert_eq!(vec![USED, HEAD, DATA, DATA + 0x1000], logged());
         assert_eq!((0, 1), guest.ask(1, 20, &[(DATA, 512, 0)]));
         assert_eq!(vec![USED, HEAD], logged());
-        // No more once the driver's features are without it.
+        // No more once the driver's features are without it. (Until then it may have said, and noted, that it wants to be
+        // kicked again.)
         guest.frontend.set_features(FEATURES).unwrap();
+        logged();
         guest.still_serves();
         assert_eq!(Vec::<u64>::new(), logged());
     });
@@ -581,14 +583,26 @@ fn fill(mut event: &File) {
     set_waiting(event, true);
 }
 
-/// The ends of a pipe whose writers wait.
-fn full_pipe() -> [File; 2] {
+/// The ends of a pipe.
+fn pipe() -> [File; 2] {
     let mut ends = [0; 2];
     // SAFETY: there is room for two; what is made belongs to nobody else.
-    let [end, mut full] = unsafe {
-        assert_eq!(0, libc::pipe2(ends.as_mut_ptr(), libc::O_CLOEXEC | libc::O_NONBLOCK));
+    unsafe {
+        assert_eq!(0, libc::pipe2(ends.as_mut_ptr(), libc::O_CLOEXEC));
         ends.map(|fd| File::from_raw_fd(fd))
-    };
+    }
+}
+
+/// Those of two sockets.
+fn sockets() -> [File; 2] {
+    let (end, other) = UnixStream::pair().unwrap();
+    [end, other].map(|it| File::from(OwnedFd::from(it)))
+}
+
+/// Whoever writes to the second one waits; who reads the first does not.
+fn fill_stream([end, mut full]: [File; 2]) -> [File; 2] {
+    set_waiting(&end, false);
+    set_waiting(&full, false);
     while full.write(&[0; 4096]).is_ok() {}
     set_waiting(&full, true);
     [end, full]
@@ -610,13 +624,11 @@ fn a_call_that_is_full() {
     });
 }
 
-/// Some machines have a pipe: it is written to as an eventfd is.
-#[test]
-#[ignore = "needs COVRETIN_DISK"]
-fn a_call_that_is_a_pipe() {
-    attacked("pipe", |disk| {
+/// Some machines have a pipe, or a socket: it is written to as an eventfd is.
+fn serves_by_a_stream(name: &str, ends: fn() -> [File; 2]) {
+    attacked(name, |disk| {
         let mut guest = Guest::of(disk.clone());
-        let [mut end, call] = full_pipe();
+        let [mut end, call] = fill_stream(ends());
         guest.frontend.set_vring_call(0, &call).unwrap();
         for sector in 0..3 {
             guest.post(0, sector, &[(DATA, 512, WRITABLE)]);
@@ -627,6 +639,18 @@ fn a_call_that_is_a_pipe() {
         guest.call = end;
         guest.still_serves();
     });
+}
+
+#[test]
+#[ignore = "needs COVRETIN_DISK"]
+fn a_call_that_is_a_pipe() {
+    serves_by_a_stream("pipe", pipe);
+}
+
+#[test]
+#[ignore = "needs COVRETIN_DISK"]
+fn a_call_that_is_a_socket() {
+    serves_by_a_stream("socket", sockets);
 }
 
 /// It is told that it was kicked, and finds no kick: somebody else takes it.
@@ -661,9 +685,10 @@ fn a_kick_that_is_taken_back() {
 fn no_eventfds() {
     attacked("none", |disk| {
         let mut guest = Guest::of(disk.clone());
-        let [end, full] = full_pipe();
-        let (socket, _other) = UnixStream::pair().unwrap();
-        for fd in [&guest.file as &dyn AsRawFd, &socket, &end, &full] {
+        let [end, full] = fill_stream(pipe());
+        let [stream, _] = sockets();
+        let (socket, _other) = UnixDatagram::pair().unwrap();
+        for fd in [&guest.file as &dyn AsRawFd, &socket, &end, &full, &stream] {
             failed("BackendInternalError", guest.frontend.set_vring_kick(0, fd));
         }
         for fd in [&guest.file as &dyn AsRawFd, &socket] {

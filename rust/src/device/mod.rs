@@ -30,12 +30,13 @@
 //! are handed out again ([`is_again`](crate::queue::DescriptorChain::is_again)).
 //!
 //! *The frontend is not trusted.* Only memory files are mapped (memfd, tmpfs, hugetlbfs), since the pages of another may be kept back by
-//! whoever serves its file system. Descriptors to kick and call by are eventfds, and for calls pipes, too; none is waited for, whatever its
-//! flags, and a frontend that floods a device is served in turns with its rings. A region that its file was truncated of becomes zeros at
-//! its first touch, all of it, and the session ends with [`MemoryLost`](Ended::MemoryLost); the system's own calls (`preadv` and its like)
-//! fail there with EFAULT, and then nothing is lost. That costs nothing until it happens, but takes a handler of SIGBUS, which is there from
-//! the first mapping on and hands each other fault to the handler that was there before: install one of your own before that. Where a
-//! frontend begins postcopy, whoever touches a page that has not come waits for it until the frontend hangs up, or [`Stopper::stop`].
+//! whoever serves its file system. Descriptors to kick and call by are eventfds, and for calls pipes and stream sockets, too; none is waited
+//! for, whatever its flags, and a frontend that floods a device is served in turns with its rings. A region that its file was truncated of
+//! becomes zeros at its first touch, all of it, and the session ends with [`MemoryLost`](Ended::MemoryLost); the system's own calls
+//! (`preadv` and its like) fail there with EFAULT, and then nothing is lost. That costs nothing until it happens, but takes a handler of
+//! SIGBUS, which is there from the first mapping on and hands each other fault to the handler that was there before: install one of your
+//! own before that. Where a frontend begins postcopy, whoever touches a page that has not come waits for it until the frontend hangs up, or
+//! [`Stopper::stop`].
 //!
 //! *Threads*: [`Session::handle_events`] calls the device, one call at a time, and nothing else does. After it has told the end, and once a
 //! session is dropped, nothing is called. A request may be completed from any thread at any time, also then: what it points to stays
@@ -46,6 +47,7 @@
 //! [`Backend`], which knows what was accepted; and a frontend that does not take its replies is hung up on
 //! once its socket is full, where the kit in C keeps them.
 use std::sync::Arc;
+use std::time::Duration;
 use std::{error, fmt};
 
 use crate::queue;
@@ -97,6 +99,12 @@ pub trait Device: Send + Sync {
         VhostUserProtocolFeatures::empty()
     }
 
+    /// How long a queue that is empty is looked at before its kick is waited for. A driver that makes one request after another is served sooner
+    /// by that, while the processor is kept busy and the frontend's calls wait. Only done where the last request came as soon as that.
+    fn busy_poll(&self) -> Duration {
+        Duration::ZERO
+    }
+
     /// A request is the device's.
     fn request(&self, request: Request);
 
@@ -139,6 +147,9 @@ impl<D: Device + ?Sized> Device for Arc<D> {
     }
     fn protocol_features(&self) -> VhostUserProtocolFeatures {
         (**self).protocol_features()
+    }
+    fn busy_poll(&self) -> Duration {
+        (**self).busy_poll()
     }
     fn request(&self, request: Request) {
         (**self).request(request)

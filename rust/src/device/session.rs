@@ -10,12 +10,15 @@ use std::time::Duration;
 use super::calls::Calls;
 use super::shared::{Shared, Stop, SOCKET, STOP, TIMER, WAKE};
 use super::{Device, Ended, Request, MAX_QUEUES};
+use crate::foreign::Watch;
 use crate::queue;
 use crate::vhost_user::message::FrontendReq;
 use crate::vhost_user::{BackendReqHandler, Error, Listener};
 
 /// How many calls of a frontend are served before its rings are.
 const MOST_CALLS: usize = 256;
+/// How often rings that are looked at are served before all else has its turn.
+const MOST_TURNS: usize = 16;
 /// How often a ring without a kick is looked at.
 const LOOK: Duration = Duration::from_millis(1);
 
@@ -87,15 +90,14 @@ impl<D: Device> Session<D> {
     /// ended for this reason, which each further call returns, too. The frontend is hung up on at once; where the device has requests, the
     /// end is told once they are done, so that the next frontend finds nothing under way.
     pub fn handle_events(&mut self) -> Option<&Ended> {
-        self.take_events();
+        self.serve_what_is_ready();
+        for _ in 1..MOST_TURNS {
+            if self.has_ended() || !self.busy_poll() {
+                break;
+            }
+            self.serve_what_is_ready();
+        }
         if self.handler.is_some() {
-            if self.is_called || self.waits.is_some() {
-                self.serve_calls();
-            }
-            let queues = self.shared.lock().rings.len();
-            for index in 0..queues {
-                self.serve_ring(index);
-            }
             match self.has_ended() {
                 true => self.give_up(),
                 false => self.plan(),
@@ -103,6 +105,21 @@ impl<D: Device> Session<D> {
         }
         self.tell_end();
         self.ended.as_deref()
+    }
+
+    /// One turn: calls, and the rings that are due.
+    fn serve_what_is_ready(&mut self) {
+        self.take_events();
+        if self.handler.is_none() {
+            return;
+        }
+        if self.is_called || self.waits.is_some() {
+            self.serve_calls();
+        }
+        let queues = self.shared.lock().rings.len();
+        for index in 0..queues {
+            self.serve_ring(index);
+        }
     }
 
     /// The socket, as long as nobody was hung up on.
@@ -150,7 +167,7 @@ impl<D: Device> Session<D> {
                 ring.is_broken = true;
             }
         }
-        ring.is_due = true;
+        state.kicked(index, self.device.busy_poll());
     }
 
     // -- Calls --
@@ -242,7 +259,7 @@ impl<D: Device> Session<D> {
             return false; // what was read may be zeros that nobody wrote
         }
         match popped {
-            Ok(None) => queue.enable_notification() == Ok(true),
+            Ok(None) => state.empty(index, self.device.busy_poll()),
             Ok(Some(chain)) => {
                 // (before the device, which may be done with it at once)
                 state.rings[index].out += 1;
@@ -261,6 +278,36 @@ impl<D: Device> Session<D> {
         }
     }
 
+    /// Looks at the rings that are empty until one shows more, for as long as the device says, and then has their drivers tell. Whether one does;
+    /// not where another is due.
+    fn busy_poll(&self) -> bool {
+        let state = self.shared.lock();
+        let running = || (0..state.rings.len()).filter(|index| state.is_running(*index));
+        if running().any(|index| state.rings[index].is_due) {
+            return false;
+        }
+        let rings: Vec<usize> = running().filter(|index| state.rings[*index].watch.is_some()).collect();
+        let watches: Vec<Watch> = rings.iter().filter_map(|index| state.rings[*index].watch.clone()).collect();
+        let last = match rings.iter().map(|index| state.rings[*index].empty).max() {
+            Some(last) => last,
+            None => return false,
+        };
+        drop(state);
+        loop {
+            if let Some(at) = watches.iter().position(Watch::shows_more) {
+                let ring = &mut self.shared.lock().rings[rings[at]];
+                (ring.is_due, ring.watch) = (true, None);
+                return true;
+            }
+            let has_ended = self.shared.stop.is_stopped.load(Ordering::SeqCst) || self.shared.holder.has_lost();
+            if has_ended || last.elapsed() >= self.device.busy_poll() {
+                let mut state = self.shared.lock();
+                rings.iter().for_each(|index| state.wait(*index));
+                return false;
+            }
+        }
+    }
+
     fn tell_broken(&self, index: usize, error: queue::Error) {
         if error == queue::Error::OutOfMemory {
             return self.end(Ended::OutOfMemory);
@@ -272,7 +319,7 @@ impl<D: Device> Session<D> {
     fn plan(&self) {
         let mut state = self.shared.lock();
         let running: Vec<usize> = (0..state.rings.len()).filter(|index| state.is_running(*index)).collect();
-        let is_due = running.iter().any(|index| state.rings[*index].is_due);
+        let is_due = running.iter().any(|index| state.rings[*index].is_due || state.rings[*index].watch.is_some());
         let is_timed = running.iter().any(|index| state.rings[*index].kick.is_none());
         if is_due || (self.is_called && self.waits.is_none()) {
             self.shared.holder.wake();

@@ -3,10 +3,11 @@
 use std::io;
 use std::sync::atomic::{AtomicBool, Ordering};
 use std::sync::{Arc, Mutex, MutexGuard, PoisonError};
+use std::time::{Duration, Instant};
 
 use super::arrival::Arrival;
 use super::{Ended, EVENT_IDX, INDIRECT_DESC, MAX_QUEUE_SIZE, RING_PACKED};
-use crate::foreign::{Bell, Event, Holder, Kick, Polled, Ringer, Timer};
+use crate::foreign::{Bell, Event, Holder, Kick, Polled, Ringer, Timer, Watch};
 use crate::queue::{DescriptorChain, DirtyLog, Error, GuestAddress, GuestMemory, InflightRegion, Queue};
 use crate::vhost_user::message::VhostUserVirtioFeatures;
 
@@ -45,6 +46,11 @@ pub(super) struct Ring {
     pub(super) is_broken: bool,
     /// It is to be looked at.
     pub(super) is_due: bool,
+    /// It is empty, and looked at by this before its driver is asked to tell of more.
+    pub(super) watch: Option<Watch>,
+    /// The last request came soon after it was empty, which was then.
+    pub(super) is_quick: bool,
+    pub(super) empty: Instant,
     /// Requests that the device has.
     pub(super) out: usize,
 }
@@ -79,6 +85,9 @@ impl Shared {
                 is_ending: false,
                 is_broken: false,
                 is_due: false,
+                watch: None,
+                is_quick: false,
+                empty: Instant::now(),
                 out: 0,
             })
         };
@@ -149,7 +158,7 @@ impl Shared {
     pub(super) fn stop_ring(&self, ring: &mut Ring) {
         self.set_kick(ring, None);
         ring.call = None;
-        (ring.is_due, ring.is_ending, ring.is_broken) = (false, false, false);
+        (ring.is_due, ring.is_ending, ring.is_broken, ring.watch) = (false, false, false, None);
         let _ = ring.queue.set_ready(false);
     }
 }
@@ -168,6 +177,30 @@ impl State {
             && !ring.is_ending
             && !ring.is_broken
             && (ring.is_enabled || !has_to_be_enabled)
+    }
+
+    /// A ring was kicked, which is looked at for so long when it is empty.
+    pub(super) fn kicked(&mut self, index: usize, busy_poll: Duration) {
+        let ring = &mut self.rings[index];
+        ring.is_due = true;
+        ring.is_quick = !busy_poll.is_zero() && ring.empty.elapsed() < busy_poll;
+    }
+
+    /// A ring is empty. Whether it is to be served on.
+    pub(super) fn empty(&mut self, index: usize, busy_poll: Duration) -> bool {
+        let ring = &mut self.rings[index];
+        if !busy_poll.is_zero() {
+            ring.empty = Instant::now();
+        }
+        ring.watch = ring.queue.watch().filter(|_| ring.is_quick && ring.queue.disable_notification().is_ok());
+        ring.watch.is_none() && ring.queue.enable_notification() == Ok(true)
+    }
+
+    /// Has the driver of a ring that was looked at tell of more.
+    pub(super) fn wait(&mut self, index: usize) {
+        let ring = &mut self.rings[index];
+        (ring.watch, ring.is_quick) = (None, false);
+        ring.is_due = ring.queue.enable_notification() == Ok(true);
     }
 
     /// Starts a ring, by what was accepted, and by the inflight region where there is one.

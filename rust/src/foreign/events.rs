@@ -6,11 +6,13 @@ use std::io;
 use std::mem::{size_of, size_of_val, zeroed};
 use std::os::unix::fs::OpenOptionsExt;
 use std::os::unix::io::{AsRawFd, FromRawFd, OwnedFd, RawFd};
+use std::os::unix::net::UnixStream;
 use std::ptr::{addr_of, addr_of_mut, null_mut};
 use std::sync::{Arc, Mutex, PoisonError, Weak};
 use std::time::Duration;
 
-use super::closing::PeerFd;
+use super::closing::{PeerFd, PeerSocket};
+use super::socket::{is_unix_stream, send};
 
 /// A descriptor that a call of the system made, or why it made none.
 fn made(fd: libc::c_int) -> io::Result<OwnedFd> {
@@ -201,27 +203,33 @@ pub(crate) enum Bell {
     Eventfd(PeerFd),
     /// Some frontends send a pipe. It is opened anew, with flags that the frontend has no part in.
     Pipe(File),
+    /// Others send a stream socket.
+    Socket(PeerSocket),
 }
 
 impl Bell {
-    /// None: it is neither, or another user's pipe.
+    /// None: it is none of them, or another user's pipe.
     pub(crate) fn of(fd: PeerFd) -> Option<Bell> {
         if is_kind(&fd, EVENTFD) {
             return Some(Bell::Eventfd(fd));
+        }
+        if is_unix_stream(&fd).unwrap_or(false) {
+            return Some(Bell::Socket(PeerSocket::given(UnixStream::from(OwnedFd::from(fd)))));
         }
         let opened = || OpenOptions::new().write(true).custom_flags(libc::O_NONBLOCK).open(path_of(&fd));
         is_kind(&fd, "pipe:[").then(opened)?.ok().map(Bell::Pipe)
     }
 
+    /// Who reads a pipe or a socket that is full has something to read. To one that nobody reads a write fails, without a signal.
     pub(crate) fn ring(&self, ringer: &Ringer) {
         match self {
             Bell::Eventfd(fd) => ringer.ring(fd),
             Bell::Pipe(file) => write_to_pipe(file),
+            Bell::Socket(socket) => drop(send(socket, &1u64.to_ne_bytes(), &[], false)),
         }
     }
 }
 
-/// Who reads a full pipe has something to read. To one that nobody reads a write fails, without a signal.
 fn write_to_pipe(file: &File) {
     let one = 1u64;
     let at_once = libc::timespec { tv_sec: 0, tv_nsec: 0 };

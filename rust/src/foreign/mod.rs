@@ -32,9 +32,9 @@ pub(crate) use moving::{Asks, Code, Moves, Outcome, Serves, MAX_FDS, MAX_MESSAGE
 pub(crate) use queue::{
     inflight_after_used, inflight_after_used_packed, inflight_before_used, inflight_before_used_packed, inflight_keep_packed,
     inflight_recover, inflight_recover_packed, inflight_take, inflight_take_packed, log_bit_of, log_pages, Chain, CoreQueue,
-    Descriptor, InflightEntry, InflightWrite, PackedInflightHead, PackedRing, Range, Resubmit, SplitRing,
+    Descriptor, InflightEntry, InflightWrite, PackedInflightHead, PackedRing, Range, Resubmit, SplitRing, Watch,
 };
 pub(crate) use session::{Inflight, Region, Session, Vring};
 pub(crate) use signals::EndSignals;
-pub(crate) use socket::{is_ready, option_of, receive, receive_any, send, Received};
+pub(crate) use socket::{is_ready, is_unix_stream, option_of, receive, receive_any, send, Received};
 pub(crate) use userfault::Userfault;

@@ -246,6 +246,8 @@ pub(crate) struct CoreQueue {
     raw: Raw,
     seen: Arc<Regions>,
     rings: Arc<Regions>,
+    /// The place in `rings` that was looked at last for what is available, and what was there.
+    looked_at: Option<(u64, u16)>,
 }
 
 // SAFETY: the header says that a queue has no global state, and asks only that calls with the same one do not overlap; all of them take
@@ -268,7 +270,7 @@ impl CoreQueue {
         // SAFETY: as above; it is not open yet.
         outcome(unsafe { covretin_queue_open(&mut raw) })?;
         let none = Arc::new(Regions::default());
-        Ok(CoreQueue { raw, seen: none.clone(), rings: none })
+        Ok(CoreQueue { raw, seen: none.clone(), rings: none, looked_at: None })
     }
 
     /// It sees these regions from now on; rings stay where they are mapped.
@@ -322,38 +324,43 @@ impl CoreQueue {
         Ok(unsafe { load(range.addr) })
     }
 
+    /// The rings are mapped in these from now on.
+    fn map_rings(&mut self, rings: Arc<Regions>) {
+        (self.rings, self.looked_at) = (rings, None);
+    }
+
     pub(crate) fn start_split(&mut self, ring: &SplitRing) -> Result<(), Error> {
         // SAFETY: as above.
         outcome(unsafe { covretin_queue_start_split(&mut self.raw, ring) })?;
-        self.rings = self.seen.clone();
+        self.map_rings(self.seen.clone());
         Ok(())
     }
 
     pub(crate) fn start_packed(&mut self, ring: &PackedRing) -> Result<(), Error> {
         // SAFETY: as above.
         outcome(unsafe { covretin_queue_start_packed(&mut self.raw, ring) })?;
-        self.rings = self.seen.clone();
+        self.map_rings(self.seen.clone());
         Ok(())
     }
 
     pub(crate) fn move_split(&mut self, desc_table: u64, avail_ring: u64, used_ring: u64) -> Result<(), Error> {
         // SAFETY: as above.
         outcome(unsafe { covretin_queue_move_split(&mut self.raw, desc_table, avail_ring, used_ring) })?;
-        self.rings = self.seen.clone();
+        self.map_rings(self.seen.clone());
         Ok(())
     }
 
     pub(crate) fn move_packed(&mut self, desc_ring: u64, driver_event: u64, device_event: u64) -> Result<(), Error> {
         // SAFETY: as above.
         outcome(unsafe { covretin_queue_move_packed(&mut self.raw, desc_ring, driver_event, device_event) })?;
-        self.rings = self.seen.clone();
+        self.map_rings(self.seen.clone());
         Ok(())
     }
 
     pub(crate) fn stop(&mut self) {
         // SAFETY: as above.
         let _ = outcome(unsafe { covretin_queue_stop(&mut self.raw) });
-        self.rings = Arc::new(Regions::default());
+        self.map_rings(Arc::default());
     }
 
     pub(crate) fn base(&mut self) -> Result<u32, Error> {
@@ -376,8 +383,17 @@ impl CoreQueue {
         // SAFETY: as above; the place is of `rings`.
         outcome(unsafe { covretin_queue_available_place(&mut self.raw, &mut place) })?;
         // SAFETY: as above.
-        outcome(unsafe { covretin_queue_available(&mut self.raw, load(place.addr), &mut count) })?;
+        let value = unsafe { load(place.addr) };
+        self.looked_at = Some((place.addr, value));
+        // SAFETY: as above.
+        outcome(unsafe { covretin_queue_available(&mut self.raw, value, &mut count) })?;
         Ok(count)
+    }
+
+    /// What shows that more is available than was found last.
+    pub(crate) fn watch(&self) -> Option<Watch> {
+        let (place, value) = self.looked_at?;
+        Some(Watch { _rings: self.rings.clone(), place, value })
     }
 
     /// Takes the next head of a split queue, whose chain is followed then.
@@ -486,6 +502,22 @@ impl CoreQueue {
         }
         fence(Ordering::SeqCst);
         Ok(place)
+    }
+}
+
+/// Two bytes of a ring, which stay mapped as long as this is there, and what they were.
+#[derive(Clone)]
+pub(crate) struct Watch {
+    _rings: Arc<Regions>,
+    place: u64,
+    value: u16,
+}
+
+impl Watch {
+    /// Whether they are something else now.
+    pub(crate) fn shows_more(&self) -> bool {
+        // SAFETY: the place is of `_rings`, and aligned, as the queue found it.
+        unsafe { load(self.place) != self.value }
     }
 }
 

@@ -155,6 +155,11 @@ pub(crate) fn option_of(socket: &impl AsRawFd, name: libc::c_int) -> io::Result<
     read_option(socket, name)
 }
 
+/// Whether a socket is a stream of the family AF_UNIX.
+pub(crate) fn is_unix_stream(fd: &impl AsRawFd) -> io::Result<bool> {
+    Ok(option_of(fd, libc::SO_DOMAIN)? == libc::AF_UNIX && option_of(fd, libc::SO_TYPE)? == libc::SOCK_STREAM)
+}
+
 /// Whether a descriptor is of a socket that lingers.
 pub(super) fn lingers(fd: &impl AsRawFd) -> bool {
     // (l_onoff, l_linger)

@@ -5,7 +5,7 @@ use std::collections::VecDeque;
 use super::inflight::Area;
 use super::inflight_packed::PackedArea;
 use super::{DescriptorChain, DirtyLog, Error, GuestAddress, GuestMemory, InflightRegion, Result, MAX_PARTS};
-use crate::foreign::{Chain, CoreQueue, PackedRing, Range, SplitRing};
+use crate::foreign::{Chain, CoreQueue, PackedRing, Range, SplitRing, Watch};
 
 /// The greatest size of a queue that there is.
 const MAX_SIZE: u16 = 0x8000;
@@ -417,6 +417,11 @@ impl Queue {
     /// Whether the driver is to be told of what was given back since this was last asked. NotStarted.
     pub fn needs_notification(&mut self) -> Result<bool> {
         self.core.needs_notification()
+    }
+
+    /// What shows that something became available, since [`pop`](Self::pop) found nothing.
+    pub(crate) fn watch(&self) -> Option<Watch> {
+        self.core.watch()
     }
 
     /// Has the driver tell of what it makes available from now on. Whether something is available already: then it is to be taken first.

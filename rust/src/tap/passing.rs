@@ -3,7 +3,6 @@
 //! came at one time, and the rest of it when it comes. Whether anyone looks at it changes nothing.
 use std::io;
 use std::net::Shutdown;
-use std::os::unix::io::AsRawFd;
 use std::os::unix::net::UnixStream;
 use std::sync::Arc;
 use std::thread;
@@ -12,7 +11,7 @@ use super::event::{Channel, Message, Side, Way, What};
 use super::gathering::{Gathering, Received, ROOM};
 use super::open_sockets::OpenSockets;
 use super::reporter::Reporter;
-use crate::foreign::{is_ready, option_of, receive_any, send, PeerFd, PeerSocket};
+use crate::foreign::{is_ready, is_unix_stream, receive_any, send, PeerFd, PeerSocket};
 use crate::vhost_user::message::FrontendReq;
 
 /// How a stream ended that went on until the tap ended.
@@ -194,8 +193,4 @@ impl Line {
 /// Waits until a socket is ready for this, or a signal comes. Where it can't be waited for, its next call says why.
 fn wait_for(socket: &UnixStream, events: libc::c_short) {
     let _ = is_ready(socket, events, -1);
-}
-
-fn is_unix_stream(fd: &impl AsRawFd) -> io::Result<bool> {
-    Ok(option_of(fd, libc::SO_DOMAIN)? == libc::AF_UNIX && option_of(fd, libc::SO_TYPE)? == libc::SOCK_STREAM)
 }

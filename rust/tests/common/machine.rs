@@ -55,11 +55,16 @@ pub struct Its {
 pub struct Capitals {
     pub its: Mutex<Its>,
     pub offers: u64,
+    pub busy_poll: Duration,
 }
 
 impl Capitals {
     pub fn new(offers: u64) -> Arc<Capitals> {
-        Arc::new(Capitals { its: Mutex::default(), offers })
+        Capitals::polling(offers, Duration::ZERO)
+    }
+
+    pub fn polling(offers: u64, busy_poll: Duration) -> Arc<Capitals> {
+        Arc::new(Capitals { its: Mutex::default(), offers, busy_poll })
     }
 
     pub fn has<T>(&self, look: impl FnOnce(&mut Its) -> T) -> T {
@@ -92,6 +97,10 @@ impl Device for Capitals {
 
     fn protocol_features(&self) -> VhostUserProtocolFeatures {
         VhostUserProtocolFeatures::CONFIG
+    }
+
+    fn busy_poll(&self) -> Duration {
+        self.busy_poll
     }
 
     fn request(&self, request: Request) {
@@ -376,10 +385,14 @@ impl Ring {
     }
 
     pub fn post(&mut self, head: u16) {
+        self.post_without_kick(head);
+        self.kick();
+    }
+
+    pub fn post_without_kick(&mut self, head: u16) {
         self.set16(1, 4 + u64::from(self.posted % SIZE) * 2, head);
         self.posted = self.posted.wrapping_add(1);
         self.set16(1, 2, self.posted);
-        self.kick();
     }
 
     /// Waits until one more was used: which, and how many bytes were written.
@@ -422,7 +435,16 @@ pub fn bytes_of((addr, len, third, fourth): Descriptor) -> Vec<u8> {
 
 /// A machine that has begun, and its first queue.
 pub fn begun(offers: u64, features: u64) -> (Machine, Ring) {
-    let mut machine = Machine::of(offers);
+    begun_with(Capitals::new(offers), features)
+}
+
+/// The same of a device that looks at empty queues for so long.
+pub fn begun_polling(offers: u64, features: u64, busy_poll: Duration) -> (Machine, Ring) {
+    begun_with(Capitals::polling(offers, busy_poll), features)
+}
+
+fn begun_with(device: Arc<Capitals>, features: u64) -> (Machine, Ring) {
+    let mut machine = Machine::with(device, guest_memory());
     machine.negotiate(features);
     let mut ring = Ring::of(&machine, 0);
     ring.start(&mut machine.frontend, 0);
