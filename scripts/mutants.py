@@ -183,7 +183,8 @@ def rlib(crate):
 def words_for(kit, crate):
     """The words for a check of a crate over the libraries that are built."""
     uses = dependencies()
-    words = ["--crate-name", crate, "src/lib.rt", "--links", f"{crate}=", "--jobs", "1"]
+    root = "src/main.rt" if os.path.isfile(f"{TOP}/crates/{crate}/src/main.rt") else "src/lib.rt"
+    words = ["--crate-name", crate, root, "--links", f"{crate}=", "--jobs", "1"]
     if re.search(rf"(?m)^{crate} staticlib\b", read(f"{TOP}/crates.txt")):
         words += ["--crate-type", "staticlib"]
     for name in ["std", *uses[crate]]:

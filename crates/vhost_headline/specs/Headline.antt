@@ -2,8 +2,6 @@
 pub mod Words
 use Words.*
 
--- ---- premises
-
 -- no answer is an error that a link or a failed allocation may bring
 abbrev pub NothingFailed : {A : Type 0} → List (Result A Error) → Type 0
 NothingFailed answers = list_any answer_of_link answers ≡ false
@@ -11,8 +9,6 @@ NothingFailed answers = list_any answer_of_link answers ≡ false
 -- no link and no allocation stopped the run
 abbrev pub NothingStopped : {Dev : Type 0} → View Dev → Type 0
 NothingStopped run = run.stopped ≡ Some Premise → ⊥
-
--- ---- words
 
 -- Over an endpoint this came, with the ends of streams that its link told, and this was written; no call of the link failed for good.
 abbrev pub Carries : {L H : Type 0} → (L → Event H → L → Type 0) → State L H → List (Item H) → List (Cell H) → State L H → Type 0
