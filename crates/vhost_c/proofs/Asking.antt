@@ -14,8 +14,8 @@ use Rattle.vhost_protocol.specs.Written.{Written, written_cells, head_of}
 use Rattle.vhost_link.specs.Ends.{Ends}
 use Rattle.vhost_link.specs.Mem.{event, HandsFront, StreamLaw}
 use Rattle.vhost_link.specs.declared.plain.PlainHandle.{PlainHandle}
-use Rattle.vhost_connection.specs.Memory.{stream, TalksLaw}
-use Rattle.vhost_connection.specs.Talk.{State}
+use Rattle.vhost_endpoint.specs.Memory.{stream, TalksLaw}
+use Rattle.vhost_endpoint.specs.Talk.{State}
 use Rattle.vhost_frontend_core.specs.Asking as core
 use Rattle.vhost_frontend_core.specs.Asking.{AsksWithRoom, roomy, no_room, goes, fails}
 use Rattle.vhost_frontend_core.specs.Frontend.{endpoint_of, session_of, awaits}

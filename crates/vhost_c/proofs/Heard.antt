@@ -16,9 +16,9 @@ use Rattle.vhost_protocol.specs.Stream.{Cell, plain, carrying}
 use Rattle.vhost_protocol.specs.Written.{U64}
 use Rattle.vhost_link.specs.Ends.{Ends}
 use Rattle.vhost_link.specs.declared.plain.PlainHandle.{PlainHandle}
-use Rattle.vhost_connection.specs.Memory.{stream}
-use Rattle.vhost_connection.specs.declared.request.Request as code
-use Rattle.vhost_connection.specs.Talk.{State}
+use Rattle.vhost_endpoint.specs.Memory.{stream}
+use Rattle.vhost_endpoint.specs.declared.request.Request as code
+use Rattle.vhost_endpoint.specs.Talk.{State}
 use Rattle.vhost_frontend_req_handler.specs.Calling.{call_in}
 use Rattle.vhost_frontend_req_handler.specs.Core.{number_cells}
 use Rattle.vhost_frontend_req_handler.specs.declared.call.FrontendSideCall.{FrontendSideCall}

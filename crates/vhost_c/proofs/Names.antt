@@ -30,8 +30,8 @@ use Rattle.vhost_protocol.specs.declared.asked.Shape.TheVariants as shape
 use Rattle.vhost_link.specs.Ends.{Ends}
 use Rattle.vhost_link.specs.Mem.{HandsFront}
 use Rattle.vhost_link.specs.declared.plain.PlainHandle.{PlainHandle}
-use Rattle.vhost_connection.specs.Memory.{stream, TalksLaw}
-use Rattle.vhost_connection.specs.Talk.{State}
+use Rattle.vhost_endpoint.specs.Memory.{stream, TalksLaw}
+use Rattle.vhost_endpoint.specs.Talk.{State}
 use Rattle.vhost_frontend_core.specs.Taking.{unread, read}
 use Rattle.vhost_frontend_core.specs.ValueHalves.{TakesResult}
 use Rattle.vhost_c.specs.Names.{handles_of, Names}

@@ -15,7 +15,7 @@ use crate::carrying::{collect, forget, forget_arrived, hand_out, receive, take_n
 use crate::incoming::{is_sized, missing_from};
 use std::alloc::Global;
 use vhost_c_common::{Incoming, Outgoing, Refusal, inactive_of};
-use vhost_connection::talks_law;
+use vhost_endpoint::talks_law;
 use vhost_frontend_core::{
     Awaited, FrontendAnswer, FrontendCall, FrontendInternal, Profile, Sent, ask, take,
 };

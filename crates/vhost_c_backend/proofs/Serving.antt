@@ -13,22 +13,22 @@ use Rattle.vhost_protocol.specs.Stream.{Cell}
 use Rattle.vhost_link.specs.Ends.{Ends}
 use Rattle.vhost_link.specs.Mem.{event}
 use Rattle.vhost_link.specs.declared.plain.PlainHandle.{PlainHandle}
-use Rattle.vhost_connection.specs.Calls.{HandsOver}
-use Rattle.vhost_connection.specs.Memory.{TalksLaw}
-use Rattle.vhost_connection.specs.Requests.{Reads, Stops}
-use Rattle.vhost_backend_core.specs.Beginning.{handles_in, step_of, with_one, with_wanted}
-use Rattle.vhost_backend_core.specs.Concluding.{ConcludesRow, FollowsFrom, concluded, regions_for, then_of}
-use Rattle.vhost_backend_core.specs.Fits.{Makes}
-use Rattle.vhost_backend_core.specs.Settling.{Settles, settled_by}
-use Rattle.vhost_backend_core.specs.declared.answer.DeviceAnswer.{DeviceAnswer}
-use Rattle.vhost_backend_core.specs.declared.call.DeviceCall.{DeviceCall}
-use Rattle.vhost_backend_core.specs.declared.call.DeviceCall.TheVariants as call
-use Rattle.vhost_backend_req_handler.specs.Core.{endpoint_of, session_in}
-use Rattle.vhost_backend_req_handler.specs.Halves as halves
-use Rattle.vhost_backend_req_handler.specs.Halves.{Prepares, beside_then}
-use Rattle.vhost_backend_req_handler.specs.Serving.{Finishes, finished, stopped, reply_cells, kept_unsent}
-use Rattle.vhost_backend_req_handler.specs.declared.halves.Pending.{Pending}
-use Rattle.vhost_backend_req_handler.specs.declared.session_core.SessionCore.{SessionCore}
+use Rattle.vhost_endpoint.specs.Calls.{HandsOver}
+use Rattle.vhost_endpoint.specs.Memory.{TalksLaw}
+use Rattle.vhost_endpoint.specs.Requests.{Reads, Stops}
+use Rattle.vhost_serving_core.specs.Beginning.{handles_in, step_of, with_one, with_wanted}
+use Rattle.vhost_serving_core.specs.Concluding.{ConcludesRow, FollowsFrom, concluded, regions_for, then_of}
+use Rattle.vhost_serving_core.specs.Fits.{Makes}
+use Rattle.vhost_serving_core.specs.Settling.{Settles, settled_by}
+use Rattle.vhost_serving_core.specs.declared.answer.DeviceAnswer.{DeviceAnswer}
+use Rattle.vhost_serving_core.specs.declared.call.DeviceCall.{DeviceCall}
+use Rattle.vhost_serving_core.specs.declared.call.DeviceCall.TheVariants as call
+use Rattle.vhost_serving.specs.Core.{endpoint_of, session_in}
+use Rattle.vhost_serving.specs.Halves as halves
+use Rattle.vhost_serving.specs.Halves.{Prepares, beside_then}
+use Rattle.vhost_serving.specs.Serving.{Finishes, finished, stopped, reply_cells, kept_unsent}
+use Rattle.vhost_serving.specs.declared.halves.Pending.{Pending}
+use Rattle.vhost_serving.specs.declared.session_core.SessionCore.{SessionCore}
 use Rattle.vhost_c_common.proofs.Hearing.{hears-cut, replies-told}
 use Rattle.vhost_c_common.proofs.Wants.{sound}
 use Rattle.vhost_c_common.specs.declared.outgoing.Outgoing.{Outgoing}
@@ -121,7 +121,7 @@ read old new b = record {
   reads = b.reads.reads;
   hands = b.reads.hands;
   settles = subst {A = Session} (λ t. Settles t b.reads.message b.pending.unanswered) (sym b.session) b.settles;
-  prepares = subst {A = Session} (λ t. Prepares Channel Display t b.reads.message b.pending.then new.server.regions) (sym b.session) b.prepares;
+  prepares = subst {A = Session} (λ t. Prepares Channel Display t b.reads.message b.pending.then new.service.regions) (sym b.session) b.prepares;
   ready = record { broken = b.reads.hears.serves.after; faulted = b.reads.hears.serves.faulted };
 }
 
@@ -182,8 +182,8 @@ begins law old new number b outgoing count inactive asked due =
 
 -- what follows from an answer goes out
 pub concludes : TalksLaw → ConcludesRow PlainHandle Channel Display → (m : Request) (a : DeviceAnswer PlainHandle) (old new : Served) (result : Result ⊤ declared.Error)
-    → ((p : Pending PlainHandle) → old.core.pending ≡ Some p → Finishes event p.request.code (settled_by p.unanswered (concluded (remembers old) p.request.need_reply (beside_then p.then old.core.server) p.then a)) (endpoint_of old.core) (remembers old) result (endpoint_of new.core) (remembers new))
-    → new.outgoing ≡ old.outgoing → IsServed m old → Concludes m old.core.server.shmem a old new result
+    → ((p : Pending PlainHandle) → old.core.pending ≡ Some p → Finishes event p.request.code (settled_by p.unanswered (concluded (remembers old) p.request.need_reply (beside_then p.then old.core.service) p.then a)) (endpoint_of old.core) (remembers old) result (endpoint_of new.core) (remembers new))
+    → new.outgoing ≡ old.outgoing → IsServed m old → Concludes m old.core.service.shmem a old new result
 concludes talks law m a old new result finishes outgoing x =
     by result (subst (λ (q : Outcome PlainHandle). Finishes event x.read.pending.request.code q (endpoint_of old.core) s result (endpoint_of new.core) (remembers new)) (x.read.settles o) (finishes x.read.pending x.read.is))
   where
@@ -191,16 +191,16 @@ concludes talks law m a old new result finishes outgoing x =
     s = remembers old
 
     o : Outcome PlainHandle
-    o = concluded s x.read.pending.request.need_reply (beside_then x.read.pending.then old.core.server) x.read.pending.then a
+    o = concluded s x.read.pending.request.need_reply (beside_then x.read.pending.then old.core.service) x.read.pending.then a
 
-    same : concluded s m.need_reply (beside_then x.read.pending.then old.core.server) (then_of x.read.prepares.call) a ≡ o
-    same = sym (ap (λ need. concluded s need (beside_then x.read.pending.then old.core.server) x.read.pending.then a) x.read.reads.need_reply ∙ ap (λ t. concluded s m.need_reply (beside_then x.read.pending.then old.core.server) t a) x.read.prepares.next)
+    same : concluded s m.need_reply (beside_then x.read.pending.then old.core.service) (then_of x.read.prepares.call) a ≡ o
+    same = sym (ap (λ need. concluded s need (beside_then x.read.pending.then old.core.service) x.read.pending.then a) x.read.reads.need_reply ∙ ap (λ t. concluded s m.need_reply (beside_then x.read.pending.then old.core.service) t a) x.read.prepares.next)
 
-    follows : FollowsFrom {B = Channel} {G = Display} s (beside_then x.read.pending.then old.core.server) a (row s m) o
+    follows : FollowsFrom {B = Channel} {G = Display} s (beside_then x.read.pending.then old.core.service) a (row s m) o
     follows =
-        subst (λ (r : Step PlainHandle Channel Display). FollowsFrom {B = Channel} {G = Display} s (beside_then x.read.pending.then old.core.server) a r o) (sym x.read.prepares.row)
-        (subst (λ (q : Outcome PlainHandle). FollowsFrom {B = Channel} {G = Display} s (beside_then x.read.pending.then old.core.server) a (step_of s m x.read.prepares.call) q) same
-        (law s m x.read.prepares.call (beside_then x.read.pending.then old.core.server) a x.read.prepares.regions))
+        subst (λ (r : Step PlainHandle Channel Display). FollowsFrom {B = Channel} {G = Display} s (beside_then x.read.pending.then old.core.service) a r o) (sym x.read.prepares.row)
+        (subst (λ (q : Outcome PlainHandle). FollowsFrom {B = Channel} {G = Display} s (beside_then x.read.pending.then old.core.service) a (step_of s m x.read.prepares.call) q) same
+        (law s m x.read.prepares.call (beside_then x.read.pending.then old.core.service) a x.read.prepares.regions))
 
     cells : List (Cell PlainHandle)
     cells = reply_cells x.read.pending.request.code (settled s m o).served
@@ -208,13 +208,13 @@ concludes talks law m a old new result finishes outgoing x =
     coded : cells ≡ reply_cells m.request (settled s m o).served
     coded = ap (λ r. reply_cells r (settled s m o).served) x.read.reads.code
 
-    by : (r : Result ⊤ declared.Error) → Finishes event x.read.pending.request.code (settled s m o) (endpoint_of old.core) s r (endpoint_of new.core) (remembers new) → Concludes m old.core.server.shmem a old new r
-    by r (finished is replies session) = told (regions_for x.read.pending.then old.core.server.regions) o follows is
+    by : (r : Result ⊤ declared.Error) → Finishes event x.read.pending.request.code (settled s m o) (endpoint_of old.core) s r (endpoint_of new.core) (remembers new) → Concludes m old.core.service.shmem a old new r
+    by r (finished is replies session) = told (regions_for x.read.pending.then old.core.service.regions) o follows is
         (ap {A = Outgoing} (λ q. q.link.pending ++ (endpoint_of new.core).link.sent) outgoing ∙ ap (λ xs. old.outgoing.link.pending ++ xs) ((replies-told talks (endpoint_of old.core) (endpoint_of new.core) cells replies).1 ∙ ap (λ xs. (endpoint_of old.core).link.sent ++ xs) coded)
         ∙ sym (append_assoc old.outgoing.link.pending (endpoint_of old.core).link.sent (reply_cells m.request (settled s m o).served)))
         (replies-told talks (endpoint_of old.core) (endpoint_of new.core) cells replies).0
         session (sound (endpoint_of old.core) (endpoint_of new.core) replies.serves)
-    by (Err e) (stopped stops session) = serving.stopped (regions_for x.read.pending.then old.core.server.regions) o follows (subst (λ cs. Stops event (endpoint_of old.core) cs e (endpoint_of new.core)) coded stops) (session ∙ ap (λ r. kept_unsent r s (settled s m o).session) x.read.reads.code)
+    by (Err e) (stopped stops session) = serving.stopped (regions_for x.read.pending.then old.core.service.regions) o follows (subst (λ cs. Stops event (endpoint_of old.core) cs e (endpoint_of new.core)) coded stops) (session ∙ ap (λ r. kept_unsent r s (settled s m o).session) x.read.reads.code)
 
 -- ---- replies
 
@@ -243,13 +243,13 @@ module _ (gives : Form → DeviceAnswer PlainHandle → Type 0) (rejects : Form 
 
 -- a session with other regions of shared memory in their place
 abbrev pub placed : Served → VhostUserShMemConfig → Served
-placed s config = record s { core = record (s.core) { server = record (s.core.server) { shmem = config } } }
+placed s config = record s { core = record (s.core) { service = record (s.core.service) { shmem = config } } }
 
 -- they make no difference to what is served
 pub concludes-placed : (old new : Served) (config : VhostUserShMemConfig) (core : SessionCore Ends PlainHandle) (a : DeviceAnswer PlainHandle) (result : Result ⊤ declared.Error) → core ≡ (placed old config).core
-    → ((m : Request) → IsServed m (record old { core = core }) → Concludes m core.server.shmem a (record old { core = core }) new result) → (m : Request) → IsServed m old → Concludes m config a old new result
+    → ((m : Request) → IsServed m (record old { core = core }) → Concludes m core.service.shmem a (record old { core = core }) new result) → (m : Request) → IsServed m old → Concludes m config a old new result
 concludes-placed old new config core a result is concluded m x =
-    again (subst {A = SessionCore Ends PlainHandle} (λ k. (n : Request) → IsServed n (record old { core = k }) → Concludes n k.server.shmem a (record old { core = k }) new result) is concluded m
+    again (subst {A = SessionCore Ends PlainHandle} (λ k. (n : Request) → IsServed n (record old { core = k }) → Concludes n k.service.shmem a (record old { core = k }) new result) is concluded m
     (record {
       read = record { pending = x.read.pending; is = x.read.is; reads = x.read.reads; hands = x.read.hands; prepares = x.read.prepares; settles = x.read.settles; ready = x.read.ready };
       call = x.call;

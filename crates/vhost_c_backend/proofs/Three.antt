@@ -19,14 +19,14 @@ use Rattle.vhost_protocol.specs.Step.{Outcome, with_ack}
 use Rattle.vhost_protocol.specs.Stream.{Cell, plain, carrying}
 use Rattle.vhost_protocol.specs.Written.{U64}
 use Rattle.vhost_link.specs.declared.plain.PlainHandle.{PlainHandle}
-use Rattle.vhost_backend_core.specs.Concluding.{FollowsFrom, done_in, number_in}
-use Rattle.vhost_backend_core.specs.Session.{session_of}
-use Rattle.vhost_backend_core.specs.declared.answer.DeviceAnswer.{DeviceAnswer}
-use Rattle.vhost_backend_core.specs.declared.answer.DeviceAnswer.TheVariants as answer
+use Rattle.vhost_serving_core.specs.Concluding.{FollowsFrom, done_in, number_in}
+use Rattle.vhost_serving_core.specs.Session.{session_of}
+use Rattle.vhost_serving_core.specs.declared.answer.DeviceAnswer.{DeviceAnswer}
+use Rattle.vhost_serving_core.specs.declared.answer.DeviceAnswer.TheVariants as answer
 use Rattle.vhost_protocol.specs.Answered.{with_features}
-use Rattle.vhost_backend_req_handler.specs.Calling.{beside}
-use Rattle.vhost_backend_req_handler.specs.Serving.{reply_cells}
-use Rattle.vhost_backend_req_handler.specs.declared.server.Server.{Server}
+use Rattle.vhost_serving.specs.Calling.{beside}
+use Rattle.vhost_serving.specs.Serving.{reply_cells}
+use Rattle.vhost_serving.specs.declared.service.Service.{Service}
 use Rattle.vhost_c_common.specs.ByNumber.{By, none, some}
 use Rattle.vhost_c_common.specs.Moving.{TakesIn}
 use Rattle.vhost_c_common.specs.Number.{outcome_number}
@@ -34,7 +34,7 @@ use Rattle.vhost_c_common.specs.Records.{handle_in}
 use Rattle.vhost_c_common.specs.declared.refusal.Refusal.{Refusal}
 use Rattle.vhost_c_backend.specs.Calls.{asked_number}
 use Rattle.vhost_c_backend.specs.Replies.{form_in, Gives, Rejects}
-use Rattle.vhost_backend_req_handler.specs.declared.halves.Pending.{Pending}
+use Rattle.vhost_serving.specs.declared.halves.Pending.{Pending}
 use Rattle.vhost_c_backend.specs.Served.{arrived, new_session, queued, remembers, Receiving}
 use Rattle.vhost_c_backend.specs.Serving.{Request, Channel, Display, row, IsServed, Begins, Beginning, Answering, Replying, done, Concludes, told}
 use Rattle.vhost_c_backend.specs.Waiting.{IsWaiting, HasRead, bare_request, features_reply}
@@ -55,7 +55,7 @@ bare (h ∷ hs) is = absurd cc
 
 -- what a session keeps between two calls
 abbrev Kept : Type 0
-Kept = Option (Pending PlainHandle) × List ℕ × Server × ℕ
+Kept = Option (Pending PlainHandle) × List ℕ × Service × ℕ
 
 plain-text : (text : List ℕ) → carrying {H = PlainHandle} [] text ≡ plain text
 plain-text [] = refl
@@ -121,8 +121,8 @@ module _ (m : Request) (r : Reply) (memory : Session) (queue : List (Cell PlainH
   replied number has (some {s = s} {s' = t} {outcome = Err e} answers) zero = absurd (never e zero)
   replied number has (some {s = s} {s' = t} {outcome = Ok u} answers) zero = by (answers.one m has.served)
     where
-      by : Replying m (λ f a. Gives f r a) (λ f e. Rejects f r e) s.core.server.shmem s (Ok tt) t → Went m r memory queue t
-      by (done d) = concluded s.core.server.shmem d.answer (form_in d.call) s t has.waits d.is_given d.concludes
+      by : Replying m (λ f a. Gives f r a) (λ f e. Rejects f r e) s.core.service.shmem s (Ok tt) t → Went m r memory queue t
+      by (done d) = concluded s.core.service.shmem d.answer (form_in d.call) s t has.waits d.is_given d.concludes
 
 -- ---- these three
 

@@ -7,10 +7,10 @@ use Rattle.vhost_protocol.specs.declared.profile.Profile.TheVariants.{Standard}
 use Rattle.vhost_protocol.specs.Session.{Session, fresh, heard_in}
 use Rattle.vhost_protocol.specs.Stream.{Cell}
 use Rattle.vhost_link.specs.declared.plain.PlainHandle.{PlainHandle}
-use Rattle.vhost_connection.specs.Memory.{stream}
-use Rattle.vhost_backend_req_handler.specs.Core.{endpoint_of, session_in}
-use Rattle.vhost_backend_req_handler.specs.declared.halves.Pending.{Pending}
-use Rattle.vhost_backend_req_handler.specs.declared.server.Server.{Server}
+use Rattle.vhost_endpoint.specs.Memory.{stream}
+use Rattle.vhost_serving.specs.Core.{endpoint_of, session_in}
+use Rattle.vhost_serving.specs.declared.halves.Pending.{Pending}
+use Rattle.vhost_serving.specs.declared.service.Service.{Service}
 use Rattle.vhost_c_common.specs.Incoming.{missing_by}
 use Rattle.vhost_c_common.specs.Number.{error_number}
 use Rattle.vhost_c_common.specs.View as session
@@ -44,8 +44,8 @@ abbrev pub missing_of : Served → ℕ
 missing_of s = if has_call s then 0 else missing_of_request s
 
 -- it, as the contracts of all sessions see one: with the call that is to be replied to, its body, what is remembered, and which feature the last request lacked
-abbrev pub view : Served → View (Option (Pending PlainHandle) × List ℕ × Server × ℕ)
-view s = view_of s.outgoing (endpoint_of s.core) s.incoming (s.core.pending, s.core.body.value, s.core.server, s.inactive)
+abbrev pub view : Served → View (Option (Pending PlainHandle) × List ℕ × Service × ℕ)
+view s = view_of s.outgoing (endpoint_of s.core) s.incoming (s.core.pending, s.core.body.value, s.core.service, s.inactive)
 
 -- what a session answers to bytes of a request: no more may come than are missing
 abbrev pub Receiving : List ℕ → List ℤ → Served → Result ⊤ Refusal → Served → Type 0

@@ -17,21 +17,21 @@ use Rattle.vhost_protocol.specs.Step.{Step, Outcome}
 use Rattle.vhost_link.specs.Ends.{Ends}
 use Rattle.vhost_link.specs.Mem.{event}
 use Rattle.vhost_link.specs.declared.plain.PlainHandle.{PlainHandle}
-use Rattle.vhost_connection.specs.Calls.{HandsOver}
-use Rattle.vhost_connection.specs.Requests.{IsReady, Reads, Stops}
-use Rattle.vhost_backend_core.specs.Beginning.{step_of}
-use Rattle.vhost_backend_core.specs.Concluding.{FollowsFrom}
-use Rattle.vhost_backend_core.specs.Settling.{Settles}
-use Rattle.vhost_backend_core.specs.declared.answer.DeviceAnswer.{DeviceAnswer}
-use Rattle.vhost_backend_core.specs.declared.call.DeviceCall.{DeviceCall}
+use Rattle.vhost_endpoint.specs.Calls.{HandsOver}
+use Rattle.vhost_endpoint.specs.Requests.{IsReady, Reads, Stops}
+use Rattle.vhost_serving_core.specs.Beginning.{step_of}
+use Rattle.vhost_serving_core.specs.Concluding.{FollowsFrom}
+use Rattle.vhost_serving_core.specs.Settling.{Settles}
+use Rattle.vhost_serving_core.specs.declared.answer.DeviceAnswer.{DeviceAnswer}
+use Rattle.vhost_serving_core.specs.declared.call.DeviceCall.{DeviceCall}
 use Rattle.vhost_backend_req.specs.declared.backend.Backend.{Backend}
 use Rattle.vhost_gpu_backend_req.specs.declared.backend.GpuBackend.{GpuBackend}
-use Rattle.vhost_backend_req_handler.specs.Calling.{beside}
-use Rattle.vhost_backend_req_handler.specs.Core.{endpoint_of, session_in}
-use Rattle.vhost_backend_req_handler.specs.Halves.{Prepares, Refuses}
-use Rattle.vhost_backend_req_handler.specs.Serving.{reply_cells, kept_unsent}
-use Rattle.vhost_backend_req_handler.specs.declared.halves.Pending.{Pending}
-use Rattle.vhost_backend_req_handler.specs.declared.session_core.SessionCore.{SessionCore}
+use Rattle.vhost_serving.specs.Calling.{beside}
+use Rattle.vhost_serving.specs.Core.{endpoint_of, session_in}
+use Rattle.vhost_serving.specs.Halves.{Prepares, Refuses}
+use Rattle.vhost_serving.specs.Serving.{reply_cells, kept_unsent}
+use Rattle.vhost_serving.specs.declared.halves.Pending.{Pending}
+use Rattle.vhost_serving.specs.declared.session_core.SessionCore.{SessionCore}
 use Rattle.vhost_c_common.specs.Carrying.{emptied}
 use Rattle.vhost_c_common.specs.Number.{feature_in}
 use Rattle.vhost_c_common.specs.View.{StaysSound}
@@ -70,7 +70,7 @@ pub record IsRead (m : Request) (k : SessionCore Ends PlainHandle) : Type 0 wher
   pub is : k.pending ≡ Some pending
   pub reads : Reads k.body.value pending.request m
   pub hands : HandsOver pending.handles m.handles
-  pub prepares : Prepares Channel Display (session_in k) m pending.then k.server.regions
+  pub prepares : Prepares Channel Display (session_in k) m pending.then k.service.regions
   pub settles : Settles (session_in k) m pending.unanswered
   pub ready : IsReady (endpoint_of k)
 
@@ -199,7 +199,7 @@ pub record Answers (gives : Form → DeviceAnswer PlainHandle → Type 0) (rejec
   pub none : has_call old ≡ false → (outcome ≡ Err NothingAsked) × (new ≡ old)
 
 abbrev pub Answering : Reply → Served → Result ⊤ Refusal → Served → Type 0
-Answering r s outcome s' = Answers (λ f a. Gives f r a) (λ f e. Rejects f r e) s.core.server.shmem s outcome s'
+Answering r s outcome s' = Answers (λ f a. Gives f r a) (λ f e. Rejects f r e) s.core.service.shmem s outcome s'
 
 -- the same of so many regions of shared memory with these sizes, which lie in their place
 abbrev pub AnsweringShmem : ℕ → List ℕ → Served → Result ⊤ Refusal → Served → Type 0

@@ -10,20 +10,20 @@ use crate::calls::number_of_call;
 use crate::regions::{put_config, put_fds, put_name, put_other, put_regions};
 use crate::replies::{Form, Reply, form_of};
 use std::alloc::Global;
-use vhost_backend_core::{DeviceAnswer, DeviceCall, Laws};
 use vhost_backend_req::Backend;
-use vhost_backend_req_handler::SessionCore;
 use vhost_c_common::{
     Config, Incoming, Inflight, Outgoing, Refusal, Region, Vring, empty, feature_of, hand_out,
     receive,
 };
-use vhost_connection::talks_law;
+use vhost_endpoint::talks_law;
 use vhost_gpu_backend_req::GpuBackend;
 use vhost_link::{MemLink, PlainHandle};
 use vhost_message::{
     Error, FrontendReq, MAX_ATTACHED_FD_ENTRIES, MSG_HEADER_SIZE, VhostUserShMemConfig,
 };
 use vhost_protocol::Profile;
+use vhost_serving::SessionCore;
+use vhost_serving_core::{DeviceAnswer, DeviceCall, Laws};
 
 type Outcome<T> = std::result::Result<T, Refusal>;
 
@@ -49,10 +49,10 @@ impl Served {
     ghost use Rattle.vhost_c_common.specs.View.{Hands, HandsNone, Receives, TakesNone};
     ghost use Rattle.vhost_c_backend.specs.Served.{IsNew, Choosing, missing_of, missing_of_request, end_number, queued, view, remembers, has_call};
     ghost use Rattle.vhost_c_backend.specs.Replies.{form_in};
-    ghost use Rattle.vhost_backend_req_handler.specs.Core.{session_in};
+    ghost use Rattle.vhost_serving.specs.Core.{session_in};
     ghost use Rattle.vhost_c_backend.specs.Calls.{call_number};
     ghost use Rattle.vhost_c_backend.specs.Serving.{Request, IsRead, IsServed, IsCall, Nexts, Answering, AnsweringShmem, Concludes, Rests};
-    ghost use Rattle.vhost_backend_core.specs.declared.call.DeviceCall.{DeviceCall};
+    ghost use Rattle.vhost_serving_core.specs.declared.call.DeviceCall.{DeviceCall};
     ghost use Rattle.std.specs.Prelude.{Some, None, false};
 
     /// A new session.
@@ -301,7 +301,7 @@ impl Served {
 
     /// What follows from a device's answer goes out.
     fn conclude(&mut self, answer: DeviceAnswer<PlainHandle>) -> std::result::Result<(), Error>
-        ensures concluded { (m : Request) → IsServed m self.old → Concludes m self.old.core.server.shmem answer self.old self.new result }
+        ensures concluded { (m : Request) → IsServed m self.old → Concludes m self.old.core.service.shmem answer self.old self.new result }
         ensures rest { Rests self.old self.new }
     {
         talks_law();

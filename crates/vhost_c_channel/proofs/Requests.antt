@@ -9,9 +9,9 @@ use Rattle.vhost_protocol.specs.Reverse.{Server, Calls, backend_allows_handles, 
 use Rattle.vhost_protocol.specs.Split.{split}
 use Rattle.vhost_link.specs.Mem.{event}
 use Rattle.vhost_link.specs.declared.plain.PlainHandle.{PlainHandle}
-use Rattle.vhost_connection.specs.Memory.{TalksLaw}
-use Rattle.vhost_connection.specs.Requests.{IsReady}
-use Rattle.vhost_connection.specs.declared.request.Request as code
+use Rattle.vhost_endpoint.specs.Memory.{TalksLaw}
+use Rattle.vhost_endpoint.specs.Requests.{IsReady}
+use Rattle.vhost_endpoint.specs.declared.request.Request as code
 use Rattle.vhost_frontend_req_handler.specs.Calling.{call_in}
 use Rattle.vhost_frontend_req_handler.specs.Core.{endpoint_of, server_in, number_cells}
 use Rattle.vhost_frontend_req_handler.specs.Halves as halves

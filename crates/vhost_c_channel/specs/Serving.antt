@@ -13,9 +13,9 @@ use Rattle.vhost_protocol.specs.Stream.{Cell}
 use Rattle.vhost_link.specs.Ends.{Ends}
 use Rattle.vhost_link.specs.Mem.{event}
 use Rattle.vhost_link.specs.declared.plain.PlainHandle.{PlainHandle}
-use Rattle.vhost_connection.specs.Memory.{stream}
-use Rattle.vhost_connection.specs.Requests.{IsReady, Stops}
-use Rattle.vhost_connection.specs.declared.request.Request as code
+use Rattle.vhost_endpoint.specs.Memory.{stream}
+use Rattle.vhost_endpoint.specs.Requests.{IsReady, Stops}
+use Rattle.vhost_endpoint.specs.declared.request.Request as code
 use Rattle.vhost_frontend_req_handler.specs.Calling.{call_in}
 use Rattle.vhost_frontend_req_handler.specs.Core.{endpoint_of, server_in, number_cells}
 use Rattle.vhost_frontend_req_handler.specs.Halves.{Refuses}

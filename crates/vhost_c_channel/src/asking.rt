@@ -10,7 +10,7 @@ use vhost_backend_req::{Asked, BackendInternal, ReverseCall};
 use vhost_c_common::{
     Incoming, Outgoing, Refusal, carry_out, empty, forget_sent, hand_out, receive,
 };
-use vhost_connection::talks_law;
+use vhost_endpoint::talks_law;
 use vhost_link::{MemLink, PlainHandle};
 use vhost_message::{
     BackendReq, Error, IoError, MAX_ATTACHED_FD_ENTRIES, VhostUserMsgHeader,

@@ -9,7 +9,7 @@ use std::alloc::Global;
 use vhost_c_common::{
     Incoming, Outgoing, Refusal, carry_out, empty, forget_sent, hand_out, receive,
 };
-use vhost_connection::talks_law;
+use vhost_endpoint::talks_law;
 use vhost_gpu_backend_req::{Awaited, BackendInternal, GpuCall};
 use vhost_gpu_message::{VirtioGpuRespDisplayInfo, VirtioGpuRespGetEdid};
 use vhost_link::{MemLink, PlainHandle};

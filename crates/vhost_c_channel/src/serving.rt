@@ -9,7 +9,7 @@ use crate::arguments::{fd_of_call, mmap_of, number_of_call, put_name};
 use crate::records::Mmap;
 use std::alloc::Global;
 use vhost_c_common::{Incoming, Outgoing, Refusal, empty, hand_out, receive};
-use vhost_connection::talks_law;
+use vhost_endpoint::talks_law;
 use vhost_frontend_req_handler::{FrontendReqCore, FrontendSideCall};
 use vhost_link::{MemLink, PlainHandle};
 use vhost_message::{BackendReq, Error, HandlerResult, MAX_ATTACHED_FD_ENTRIES, MSG_HEADER_SIZE};

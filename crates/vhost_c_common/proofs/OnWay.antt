@@ -8,8 +8,8 @@ use Rattle.vhost_link.specs.declared.plain.PlainHandle.{PlainHandle}
 use Rattle.vhost_link.specs.Ends.{Ends, Carried}
 use Rattle.vhost_protocol.specs.Stream.{Cell, carrying, has_some, plain}
 use Rattle.vhost_link.proofs.Cells.{plain-is}
-use Rattle.vhost_connection.specs.Memory.{stream}
-use Rattle.vhost_connection.specs.Talk.{State}
+use Rattle.vhost_endpoint.specs.Memory.{stream}
+use Rattle.vhost_endpoint.specs.Talk.{State}
 use Rattle.vhost_c_common.specs.Carrying.{Collects, Gives, emptied}
 use Rattle.vhost_c_common.specs.Incoming.{Adds}
 use Rattle.vhost_c_common.specs.Records.{handle_in}

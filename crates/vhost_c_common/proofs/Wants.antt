@@ -14,8 +14,8 @@ use Rattle.vhost_link.specs.Law.{Refused, Move, Moved}
 use Rattle.vhost_link.specs.Mem.{event}
 use Rattle.vhost_link.specs.declared.cut.Cut.{Cut}
 use Rattle.vhost_link.specs.declared.plain.PlainHandle.{PlainHandle}
-use Rattle.vhost_connection.specs.Talk.{Serves, has_moved}
-use Rattle.vhost_connection.specs.Hearing.{Fails, was_broken, no_memory, fault}
+use Rattle.vhost_endpoint.specs.Talk.{Serves, has_moved}
+use Rattle.vhost_endpoint.specs.Hearing.{Fails, was_broken, no_memory, fault}
 use Rattle.vhost_c_common.specs.View.{End, IsUncut, Lasts, StaysSound}
 
 none-left : (n : ℕ) → drop {A = Cut} n [] ≡ []

@@ -2,7 +2,7 @@
 
 use std::fmt;
 use vhost_protocol::Profile;
-use vhost_serve::Options;
+use vhost_sockets::Options;
 
 /// The most connections that `PATH COUNT` asks for.
 const MAX_COUNT: u32 = 1024;

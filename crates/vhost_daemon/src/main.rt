@@ -13,8 +13,8 @@ use std::process::ExitCode;
 use std::sync::Wait;
 use std::thread::Threads;
 use std::{env, io, process};
-use vhost_backend_req_handler::Open;
-use vhost_serve::{ClaimError, Options, SocketPath, serve_path};
+use vhost_serving::Open;
+use vhost_sockets::{ClaimError, Options, SocketPath, serve_path};
 
 /// What `--version` says.
 const VERSION: &str = "vhost-daemon 0.2.0";

@@ -9,7 +9,7 @@ mod serving;
 mod socket;
 
 use std::thread;
-use vhost_connection::Listener;
+use vhost_endpoint::Listener;
 
 fn main(rt: HostRuntime) -> anyhow::Result<()> {
     serving::run(&rt)?;

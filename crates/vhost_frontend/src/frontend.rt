@@ -13,8 +13,10 @@ use crate::held::Held;
 use crate::traits::VhostUserFrontend;
 use std::alloc::{AllocError, Global};
 use std::sync::{Arc, Mutex, Wait};
-use vhost_backend::{Result, VhostBackend, VhostUserDirtyLogRegion, VhostUserMemoryRegionInfo};
 use vhost_frontend_core::{Call, Profile, Regions};
+use vhost_frontend_types::{
+    Result, VhostBackend, VhostUserDirtyLogRegion, VhostUserMemoryRegionInfo,
+};
 use vhost_link::Link;
 use vhost_message::{
     Error, FrontendReq, VhostTransferStateDirection, VhostTransferStatePhase, VhostUserConfig,

@@ -2,7 +2,7 @@
 
 ghost use Rattle.std.specs.Prelude.{◌≡◌, IfOk, IfErr};
 ghost use Rattle.vhost_message.specs.declared.error.Error.TheVariants.{OutOfMemory};
-ghost use Rattle.vhost_connection.specs.State.{fresh};
+ghost use Rattle.vhost_endpoint.specs.State.{fresh};
 ghost use Rattle.vhost_protocol.specs.FrontendCall as value;
 ghost use Rattle.vhost_protocol.specs.FrontendCall.{new_frontend};
 ghost use Rattle.vhost_protocol.specs.declared.asked.Awaited.TheVariants.{Nobody};

@@ -6,13 +6,13 @@ use Rattle.vhost_message.specs.declared.frontend_req.FrontendReq.{FrontendReq}
 use Rattle.vhost_message.specs.Bits.{has_bit}
 use Rattle.vhost_protocol.specs.Error.{Error, seen}
 use Rattle.vhost_protocol.specs.FrontendCall.{Frontend}
-use Rattle.vhost_protocol.specs.Ask.{Asked, Sends, ◌>>◌, needs_reply, message, quietly}
+use Rattle.vhost_protocol.specs.Ask.{Asked, Sends, ◌>>◌, needs_reply, message, unacknowledged}
 use Rattle.vhost_protocol.specs.declared.asked.Awaited.{Awaited}
 use Rattle.vhost_protocol.specs.Written.{Payload, Written}
 use Rattle.vhost_link.specs.Law.{Event}
-use Rattle.vhost_connection.specs.Talk.{State}
+use Rattle.vhost_endpoint.specs.Talk.{State}
 use Rattle.vhost_frontend_core.specs.Asking as asking
-use Rattle.vhost_connection.specs.Asking.{request_with}
+use Rattle.vhost_endpoint.specs.Asking.{request_with}
 use Rattle.vhost_frontend_core.specs.Asking.{Asks, AsksWithRoom, Tries}
 use Rattle.vhost_frontend_core.specs.declared.asked.Kept.{Kept}
 use Rattle.vhost_frontend_core.specs.declared.asked.Sent.{Sent}
@@ -103,5 +103,5 @@ pub message_is : {H : Type 0} (flags : ℕ) (f : Frontend) (r : FrontendReq) (p 
 message_is flags f r p hs reply need j = record { request = r; reply = reply j; need_reply = need j; payload = p; handles = hs }
 
 -- a request without NEED_REPLY
-pub quiet_is : {H : Type 0} (flags : ℕ) (f : Frontend) (r : FrontendReq) (p : Payload) (hs : List H) → has_bit flags 2 ≡ has_bit f.header_flags 2 → has_bit flags 3 ≡ false → request_with flags r p hs ≡ quietly f r p hs
-quiet_is flags f r p hs reply need = rw (reply, need) refl
+pub unacknowledged_is : {H : Type 0} (flags : ℕ) (f : Frontend) (r : FrontendReq) (p : Payload) (hs : List H) → has_bit flags 2 ≡ has_bit f.header_flags 2 → has_bit flags 3 ≡ false → request_with flags r p hs ≡ unacknowledged f r p hs
+unacknowledged_is flags f r p hs reply need = rw (reply, need) refl

@@ -25,22 +25,22 @@ use Rattle.vhost_protocol.proofs.ReplyLaws.{bare-rest}
 use Rattle.vhost_protocol.proofs.SplitLaws.{le-shorter, lt-shorter, one-more}
 use Rattle.vhost_link.specs.Law.{Event}
 use Rattle.vhost_link.proofs.Cells.{length-bytes}
-use Rattle.vhost_connection.specs.Pass.{receives}
-use Rattle.vhost_connection.specs.Talk.{State, IfSound}
-use Rattle.vhost_connection.specs.Came.{Came, Alone}
-use Rattle.vhost_connection.specs.Calls.{IsNoMessage, is_sound}
-use Rattle.vhost_connection.specs.Calls.IsNoMessage.{too_few, not_valid}
-use Rattle.vhost_connection.specs.Bare.{is_bare, ReadsOrBare}
-use Rattle.vhost_connection.specs.Hearing.{HearsReply, broken_on}
-use Rattle.vhost_connection.specs.Whole.ReadsNone.{ended, refused, short}
-use Rattle.vhost_connection.proofs.Came.{came-all, came-ended}
-use Rattle.vhost_connection.proofs.Bare.{bare-front}
-use Rattle.vhost_connection.proofs.Failing.{trouble-breaks}
+use Rattle.vhost_endpoint.specs.Pass.{receives}
+use Rattle.vhost_endpoint.specs.Talk.{State, IfSound}
+use Rattle.vhost_endpoint.specs.Came.{Came, Alone}
+use Rattle.vhost_endpoint.specs.Calls.{IsNoMessage, is_sound}
+use Rattle.vhost_endpoint.specs.Calls.IsNoMessage.{too_few, not_valid}
+use Rattle.vhost_endpoint.specs.Bare.{is_bare, ReadsOrBare}
+use Rattle.vhost_endpoint.specs.Hearing.{HearsReply, broken_on}
+use Rattle.vhost_endpoint.specs.Whole.ReadsNone.{ended, refused, short}
+use Rattle.vhost_endpoint.proofs.Came.{came-all, came-ended}
+use Rattle.vhost_endpoint.proofs.Bare.{bare-front}
+use Rattle.vhost_endpoint.proofs.Failing.{trouble-breaks}
 use Rattle.vhost_frontend_core.specs.Taking.{reply_cut}
 use Rattle.vhost_frontend_core.specs.TakingConfig.{is_reply_of, ReadsBytes, RecvsConfig}
 use Rattle.vhost_frontend_core.specs.TakingConfig.RecvsConfig.{came, unfit, crowded, bare, none, failed}
-use Rattle.vhost_connection.proofs.Handed.{hands-none, hands-some}
-use Rattle.vhost_connection.proofs.Replies.{known-is, reply_in, outcome, splits, is-whole, is-invalid}
+use Rattle.vhost_endpoint.proofs.Handed.{hands-none, hands-some}
+use Rattle.vhost_endpoint.proofs.Replies.{known-is, reply_in, outcome, splits, is-whole, is-invalid}
 
 abbrev valid : List ℕ → Bool
 valid bs = is_valid_config (config_of bs)

@@ -12,9 +12,9 @@ use Rattle.vhost_protocol.specs.declared.asked.Awaited.{Awaited}
 use Rattle.vhost_protocol.specs.declared.asked.Awaited.TheVariants.{Ack, Nobody, Reply}
 use Rattle.vhost_protocol.specs.declared.asked.Shape.{Shape}
 use Rattle.vhost_link.specs.Law.{Event}
-use Rattle.vhost_connection.specs.Hearing.{Fails, was_broken, no_memory, fault}
-use Rattle.vhost_connection.specs.Talk.{State}
-use Rattle.vhost_connection.proofs.Errors.{no_memory_error}
+use Rattle.vhost_endpoint.specs.Hearing.{Fails, was_broken, no_memory, fault}
+use Rattle.vhost_endpoint.specs.Talk.{State}
+use Rattle.vhost_endpoint.proofs.Errors.{no_memory_error}
 use Rattle.vhost_frontend_core.specs.Asking as asking
 use Rattle.vhost_frontend_core.specs.Asking.{Asks, AsksWithRoom}
 use Rattle.vhost_frontend_core.specs.declared.asked.Sent.{Sent}

@@ -14,9 +14,9 @@ use Rattle.vhost_protocol.specs.declared.asked.Awaited.{Awaited}
 use Rattle.vhost_protocol.specs.declared.asked.Awaited.TheVariants.{Reply}
 use Rattle.vhost_protocol.specs.declared.asked.Shape.{Shape}
 use Rattle.vhost_link.specs.Law.{Event}
-use Rattle.vhost_connection.specs.Pass.{sends}
-use Rattle.vhost_connection.specs.Talk.{State, Serves}
-use Rattle.vhost_connection.specs.Hearing.{Fails}
+use Rattle.vhost_endpoint.specs.Pass.{sends}
+use Rattle.vhost_endpoint.specs.Talk.{State, Serves}
+use Rattle.vhost_endpoint.specs.Hearing.{Fails}
 use Rattle.vhost_frontend_core.specs.declared.asked.Sent.{Sent}
 
 -- what a test of the code answered, as a test of the definitions

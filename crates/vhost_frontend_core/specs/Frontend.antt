@@ -5,9 +5,9 @@ use Rattle.vhost_message.specs.declared.header.VhostUserMsgHeader.{VhostUserMsgH
 use Rattle.vhost_protocol.specs.FrontendCall.{Frontend}
 use Rattle.vhost_protocol.specs.declared.asked.Awaited.{Awaited}
 use Rattle.vhost_protocol.specs.declared.asked.Awaited.TheVariants.{Nobody}
-use Rattle.vhost_connection.specs.declared.endpoint.Endpoint.{Endpoint}
-use Rattle.vhost_connection.specs.Talk.{State}
-use Rattle.vhost_connection.specs.State.{state}
+use Rattle.vhost_endpoint.specs.declared.endpoint.Endpoint.{Endpoint}
+use Rattle.vhost_endpoint.specs.Talk.{State}
+use Rattle.vhost_endpoint.specs.State.{state}
 use Rattle.vhost_frontend_core.specs.Session.{frontend_of}
 use Rattle.vhost_frontend_core.specs.declared.asked.Sent.{Sent}
 use Rattle.vhost_frontend_core.specs.declared.internal.FrontendInternal.{FrontendInternal}

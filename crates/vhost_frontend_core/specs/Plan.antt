@@ -3,14 +3,14 @@ use Rattle.std.specs.Prelude.{List, Result, Ok, Err, ⊤}
 use Rattle.vhost_message.specs.declared.error.Error as declared
 use Rattle.vhost_message.specs.declared.frontend_req.FrontendReq.{FrontendReq}
 use Rattle.vhost_protocol.specs.Error.{seen}
-use Rattle.vhost_protocol.specs.Ask.{Asked, Refuses, Sends, message, quietly, given_handle}
+use Rattle.vhost_protocol.specs.Ask.{Asked, Refuses, Sends, message, unacknowledged, given_handle}
 use Rattle.vhost_protocol.specs.FrontendCall.{FrontendCall, Frontend, SetMemTable, GetConfig, SetConfig}
 use Rattle.vhost_protocol.specs.Written as payload
 use Rattle.vhost_protocol.specs.Written.{Payload, Written}
 use Rattle.vhost_frontend_core.specs.Regions.{lent}
 use Rattle.vhost_frontend_core.specs.Session.{frontend_of, turn_needs_reply}
 use Rattle.vhost_frontend_core.specs.declared.internal.plan.Asking.{Asking}
-use Rattle.vhost_frontend_core.specs.declared.internal.plan.Asking.TheVariants.{AsFlagged, Quietly, Turning}
+use Rattle.vhost_frontend_core.specs.declared.internal.plan.Asking.TheVariants.{AsFlagged, Unacknowledged, Turning}
 use Rattle.vhost_frontend_core.specs.declared.internal.plan.Record.{Record}
 use Rattle.vhost_frontend_core.specs.declared.internal.plan.Record.TheVariants as record_
 use Rattle.vhost_frontend_core.specs.declared.internal.plan.Plan.{Plan}
@@ -37,7 +37,7 @@ record_in (record_.DeviceState t) = payload.DeviceState t
 -- a message, by how it asks for its acknowledgement
 abbrev pub asking : {H : Type 0} → Asking → Frontend → FrontendReq → Payload → List H → Written FrontendReq H
 asking AsFlagged f r payload handles = message f r payload handles
-asking Quietly f r payload handles = quietly f r payload handles
+asking Unacknowledged f r payload handles = unacknowledged f r payload handles
 asking Turning f r payload handles = record (message f r payload handles) { need_reply = turn_needs_reply f }
 
 -- the message of a plan

@@ -15,10 +15,10 @@ use Rattle.vhost_protocol.specs.Error.{seen}
 use Rattle.vhost_protocol.specs.ReplySplit.{Received}
 use Rattle.vhost_protocol.specs.Take.{answers, config_cut}
 use Rattle.vhost_link.specs.Law.{Event}
-use Rattle.vhost_connection.specs.Talk.{State}
-use Rattle.vhost_connection.specs.Calls.{HandsOver}
-use Rattle.vhost_connection.specs.Hearing.{HearsReply, Fails}
-use Rattle.vhost_connection.specs.Whole.{ReadsNone}
+use Rattle.vhost_endpoint.specs.Talk.{State}
+use Rattle.vhost_endpoint.specs.Calls.{HandsOver}
+use Rattle.vhost_endpoint.specs.Hearing.{HearsReply, Fails}
+use Rattle.vhost_endpoint.specs.Whole.{ReadsNone}
 
 -- a reply has so many configuration bytes, as its header and its bytes say
 abbrev pub is_part : {H : Type 0} → (room : ℕ) → Received H → Bool

@@ -1,7 +1,7 @@
 //! What a caller asks of a frontend, over the descriptors of any link.
 
 use crate::regions::Regions;
-use vhost_backend::{VhostUserDirtyLogRegion, VhostUserMemoryRegionInfo};
+use vhost_frontend_types::{VhostUserDirtyLogRegion, VhostUserMemoryRegionInfo};
 use vhost_message::{
     FrontendReq, VhostTransferStateDirection, VhostTransferStatePhase, VhostUserConfigFlags,
     VhostUserInflight, VhostUserProtocolFeatures, VhostUserSharedMsg, VringConfigData,

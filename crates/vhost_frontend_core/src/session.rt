@@ -116,7 +116,7 @@ impl FrontendSession {
         if self.profile.is_standard()
             && !has_bit(acked_protocol_features, protocol_bit::REPLY_ACK)
         {
-            self.quiet_flags()
+            self.unacknowledged_flags()
         } else {
             header_flags
         }
@@ -134,12 +134,12 @@ impl FrontendSession {
         if has_bit(self.acked_protocol_features, protocol_bit::REPLY_ACK) {
             self.asking_flags()
         } else {
-            self.quiet_flags()
+            self.unacknowledged_flags()
         }
     }
 
     /// The flags of a request that asks for no acknowledgement.
-    pub fn quiet_flags(&self) -> u32
+    pub fn unacknowledged_flags(&self) -> u32
         ensures reply { is_set result REPLY ≡ is_set (frontend_of self.now).header_flags REPLY }
         ensures need_reply { is_set result NEED_REPLY ≡ false }
     {

@@ -15,7 +15,7 @@ use Rattle.vhost_protocol.specs.Settled.{awaits_reply, awaits_ack, is_fatal, is_
 use Rattle.vhost_protocol.specs.Split.{Message}
 use Rattle.vhost_protocol.specs.Step.{Outcome, Step, Refused, Calls, OpensBackend, OpensGpu}
 use Rattle.vhost_protocol.specs.Stream.{Cell}
-use Rattle.vhost_backend_req_handler.specs.Serving.{fitting, kept_unsent}
+use Rattle.vhost_serving.specs.Serving.{fitting, kept_unsent}
 use Rattle.vhost_headline.specs.Headline.{Stays}
 
 module _ (H : Type 0) where

@@ -15,18 +15,18 @@ use Rattle.vhost_protocol.specs.Session.{Session, heard_in}
 use Rattle.vhost_protocol.specs.Split.{Message}
 use Rattle.vhost_protocol.specs.Stream.{Cell, Item}
 use Rattle.vhost_link.specs.Law.{Event, Move, move}
-use Rattle.vhost_connection.specs.Talk.{State, Talks, First, Trouble}
-use Rattle.vhost_connection.specs.Talk.Trouble.{was_broken, no_memory, fault}
-use Rattle.vhost_connection.specs.Serving.{Handled, HandlesOne}
-use Rattle.vhost_connection.specs.Serving.Breaks.{unread, unanswered}
-use Rattle.vhost_connection.proofs.Serving.{as-entry}
-use Rattle.vhost_backend_req_handler.specs.Serving.{fitting, kept_unsent}
+use Rattle.vhost_endpoint.specs.Talk.{State, Talks, First, Trouble}
+use Rattle.vhost_endpoint.specs.Talk.Trouble.{was_broken, no_memory, fault}
+use Rattle.vhost_endpoint.specs.Serving.{Handled, HandlesOne}
+use Rattle.vhost_endpoint.specs.Serving.Breaks.{unread, unanswered}
+use Rattle.vhost_endpoint.proofs.Serving.{as-entry}
+use Rattle.vhost_serving.specs.Serving.{fitting, kept_unsent}
 use Rattle.vhost_link.specs.declared.handle.Kind.{Kind}
 use Rattle.vhost_backend_req.specs.declared.backend.Backend.{Backend}
 use Rattle.vhost_gpu_backend_req.specs.declared.backend.GpuBackend.{GpuBackend}
-use Rattle.vhost_backend_req_handler.specs.declared.session_core.SessionCore.{SessionCore}
-use Rattle.vhost_backend_req_handler.specs.Core.{endpoint_of, session_in}
-use Rattle.vhost_backend_req_handler.specs.Opening.{OpensAsBackend, OpensAsGpu}
+use Rattle.vhost_serving.specs.declared.session_core.SessionCore.{SessionCore}
+use Rattle.vhost_serving.specs.Core.{endpoint_of, session_in}
+use Rattle.vhost_serving.specs.Opening.{OpensAsBackend, OpensAsGpu}
 use Rattle.vhost_promises.proofs.Faulting.{met-fault}
 use Rattle.vhost_promises.proofs.Unserved.{unserved}
 use Rattle.vhost_promises.proofs.Whole.{breaks-of-link}

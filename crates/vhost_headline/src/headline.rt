@@ -12,7 +12,6 @@ ghost use Rattle.vhost_protocol.specs.FrontendCall as call;
 use std::alloc::{AllocError, Global};
 use std::sync::Wait;
 use std::thread::Threads;
-use vhost_backend_req_handler::SessionCore;
 use vhost_device::VhostUserBackendReqHandlerMut;
 use vhost_frontend::Frontend;
 use vhost_frontend_core::{FrontendAnswer, FrontendCall};
@@ -21,6 +20,7 @@ use vhost_pair::{Halt, Joined};
 use vhost_promises::{Carried, carries, own_features, serves_whole};
 use vhost_protocol::Profile;
 use vhost_recorder::{Entry, Log};
+use vhost_serving::SessionCore;
 
 /// 1. Safe and total: whatever a peer sends, and however it is cut.
 pub fn safe_and_total<L: Link, D: VhostUserBackendReqHandlerMut<Link = L>>(
@@ -83,7 +83,10 @@ pub fn threads<D: VhostUserBackendReqHandlerMut<Link = MemLink>>(log: &Log<D>) -
 }
 
 /// 5. Threads: a caller of a shared frontend is told the answer to its own request, whatever others ask.
-pub fn own_answer<L: Link>(frontend: &Frontend<L>, rt: &impl Wait) -> vhost_backend::Result<u64>
+pub fn own_answer<L: Link>(
+    frontend: &Frontend<L>,
+    rt: &impl Wait,
+) -> vhost_frontend_types::Result<u64>
     ensures { IfOk result (λ features. OwnAnswer L.event call.GetFeatures (call.Number features)) }
 {
     own_features(frontend, rt)

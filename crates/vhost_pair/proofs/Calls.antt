@@ -3,7 +3,7 @@ use Rattle.std.proofs.Common.{◌≡◌, Bool, true, false, cond, [], Option, So
 use Rattle.std.specs.Prelude.{⊤}
 use Rattle.vhost_message.specs.declared.frontend_req.FrontendReq.{FrontendReq}
 use Rattle.vhost_message.specs.declared.frontend_req.FrontendReq.TheVariants.{SET_MEM_TABLE, ADD_MEM_REG}
-use Rattle.vhost_protocol.specs.Ask.{Asked, Sends, ask, param, quietly, is_mapping, given, ◌>>◌, ◌>>=◌}
+use Rattle.vhost_protocol.specs.Ask.{Asked, Sends, ask, param, unacknowledged, is_mapping, given, ◌>>◌, ◌>>=◌}
 use Rattle.vhost_protocol.specs.declared.asked.Awaited.{Awaited}
 use Rattle.vhost_protocol.specs.declared.asked.Awaited.TheVariants.{Nobody}
 use Rattle.vhost_protocol.specs.Error.{Error}
@@ -37,7 +37,7 @@ mapping-goes-on SET_MEM_TABLE e = refl
 mapping-goes-on ADD_MEM_REG e = refl
 mapping-goes-on _ e = absurd (cc e)
 
-acknowledged-goes-on : (H : Type 0) (f : Frontend) (r : FrontendReq) (b : Bool) → is_mapping r ≡ b → EndsAs {H = H} false (param b >> Sends (quietly f r (U64 0) []) Nobody f)
+acknowledged-goes-on : (H : Type 0) (f : Frontend) (r : FrontendReq) (b : Bool) → is_mapping r ≡ b → EndsAs {H = H} false (param b >> Sends (unacknowledged f r (U64 0) []) Nobody f)
 acknowledged-goes-on H f r true e = mapping-goes-on r e
 acknowledged-goes-on H f r false e = tt
 

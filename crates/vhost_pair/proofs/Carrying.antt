@@ -4,7 +4,7 @@ use Rattle.std.specs.Prelude.{is_err, IsOk, OnOk, OnErr}
 use Rattle.vhost_message.specs.declared.limits.TheConstants.{MAX_MSG_TEXT}
 use Rattle.vhost_link.specs.declared.plain.PlainHandle.{PlainHandle}
 use Rattle.vhost_link.specs.Ends.{Ends, Carried}
-use Rattle.vhost_connection.specs.Talk.{State}
+use Rattle.vhost_endpoint.specs.Talk.{State}
 use Rattle.vhost_pair.specs.OnWay.{outgoing, Carries}
 use Rattle.vhost_pair.specs.Text.{Text, text_of}
 use Rattle.vhost_pair.proofs.Running.{found, refusal}

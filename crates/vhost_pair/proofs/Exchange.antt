@@ -24,7 +24,7 @@ use Rattle.vhost_protocol.specs.Stream.{Cell, bytes}
 use Rattle.vhost_protocol.specs.Take.{take}
 use Rattle.vhost_protocol.specs.Written.{Written, written_cells}
 use Rattle.vhost_link.specs.declared.plain.PlainHandle.{PlainHandle}
-use Rattle.vhost_backend_req_handler.specs.Serving.{fitting}
+use Rattle.vhost_serving.specs.Serving.{fitting}
 use Rattle.vhost_link.specs.Mem.{event}
 use Rattle.vhost_frontend_core.specs.Taking.{Reads}
 use Rattle.vhost_frontend_core.specs.declared.asked.Sent.{Sent}

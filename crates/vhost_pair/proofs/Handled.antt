@@ -11,13 +11,13 @@ use Rattle.vhost_protocol.specs.Stream.{Cell, has_some, items}
 use Rattle.vhost_link.specs.declared.plain.PlainHandle.{PlainHandle}
 use Rattle.vhost_link.specs.Mem.{event}
 use Rattle.vhost_link.specs.Law.{Move}
-use Rattle.vhost_connection.specs.Pass.{sends}
-use Rattle.vhost_connection.specs.Hearing.{Hears}
-use Rattle.vhost_connection.specs.Requests as endpoint
-use Rattle.vhost_connection.proofs.Adding.{refused-handed}
-use Rattle.vhost_connection.proofs.Failing.{fell-talks, refused-taken}
-use Rattle.vhost_connection.specs.Talk.{First}
-use Rattle.vhost_connection.specs.Serving.{Handled, HandlesOne, Breaks, Interrupted, unread, unanswered}
+use Rattle.vhost_endpoint.specs.Pass.{sends}
+use Rattle.vhost_endpoint.specs.Hearing.{Hears}
+use Rattle.vhost_endpoint.specs.Requests as endpoint
+use Rattle.vhost_endpoint.proofs.Adding.{refused-handed}
+use Rattle.vhost_endpoint.proofs.Failing.{fell-talks, refused-taken}
+use Rattle.vhost_endpoint.specs.Talk.{First}
+use Rattle.vhost_endpoint.specs.Serving.{Handled, HandlesOne, Breaks, Interrupted, unread, unanswered}
 use Rattle.vhost_pair.specs.OnWay.{incoming, outgoing}
 use Rattle.vhost_pair.specs.Joined.{Passes, PassesBoth, Stops, StopsReply}
 use Rattle.vhost_pair.specs.Sides.{cuts_of}

@@ -13,13 +13,13 @@ use Rattle.vhost_protocol.specs.Stream.{Cell}
 use Rattle.vhost_link.specs.Ends.{Ends}
 use Rattle.vhost_link.specs.Mem.{event}
 use Rattle.vhost_link.specs.declared.plain.PlainHandle.{PlainHandle}
-use Rattle.vhost_connection.specs.Serving.{CallsUnless}
-use Rattle.vhost_connection.specs.Talk.{State}
-use Rattle.vhost_connection.proofs.Running.{wider-once}
+use Rattle.vhost_endpoint.specs.Serving.{CallsUnless}
+use Rattle.vhost_endpoint.specs.Talk.{State}
+use Rattle.vhost_endpoint.proofs.Running.{wider-once}
 use Rattle.vhost_backend_req.specs.declared.backend.Backend.{Backend}
 use Rattle.vhost_gpu_backend_req.specs.declared.backend.GpuBackend.{GpuBackend}
-use Rattle.vhost_backend_req_handler.specs.Opening.{OpensAsBackend, OpensAsGpu}
-use Rattle.vhost_backend_req_handler.specs.Serving.{HandlesOne, fitting, kept_unsent}
+use Rattle.vhost_serving.specs.Opening.{OpensAsBackend, OpensAsGpu}
+use Rattle.vhost_serving.specs.Serving.{HandlesOne, fitting, kept_unsent}
 use Rattle.vhost_pair.specs.Device.{Gives, opens, kinds, opens_backend, opens_gpu}
 
 module _ {Dev : Type 0} (gives : Gives Dev) (n : ℕ) where

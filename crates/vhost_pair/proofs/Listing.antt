@@ -12,7 +12,7 @@ use Rattle.vhost_protocol.specs.FrontendCall.{FrontendCall, Value, Frontend}
 use Rattle.vhost_protocol.specs.Stream.{first_handles, has_some}
 use Rattle.vhost_protocol.specs.Written.{Written}
 use Rattle.vhost_link.specs.declared.plain.PlainHandle.{PlainHandle}
-use Rattle.vhost_connection.specs.Serving.{keeps_list}
+use Rattle.vhost_endpoint.specs.Serving.{keeps_list}
 use Rattle.vhost_frontend_core.specs.ValueHalves.{IsProper}
 use Rattle.vhost_frontend_core.specs.declared.asked.Sent.{Sent}
 use Rattle.vhost_pair.specs.declared.halt.Stop.{Stop}

@@ -27,7 +27,7 @@ use Rattle.vhost_protocol.specs.Take.{take, take_reply, take_config, understood,
 use Rattle.vhost_protocol.specs.Written.{Payload, Empty, U64, Regions, OneRegion, Shmem, RingState, ConfigBytes, InflightArea, LogArea}
 use Rattle.vhost_link.specs.declared.plain.PlainHandle.{PlainHandle}
 use Rattle.vhost_link.specs.Ends.{Ends}
-use Rattle.vhost_connection.specs.Talk.{State}
+use Rattle.vhost_endpoint.specs.Talk.{State}
 use Rattle.vhost_frontend_core.specs.Taking.{unread, read}
 use Rattle.vhost_frontend_core.specs.ValueHalves.{TakesResult}
 use Rattle.vhost_pair.specs.Lists.{bases_in, bytes_in, records_in, IsListedFor}

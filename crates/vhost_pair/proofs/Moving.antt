@@ -26,7 +26,7 @@ use Rattle.vhost_protocol.specs.Take.{take as answer_in}
 use Rattle.vhost_protocol.specs.Written.{Written}
 use Rattle.vhost_protocol.proofs.TextLaws.{written-split}
 use Rattle.vhost_link.specs.declared.plain.PlainHandle.{PlainHandle}
-use Rattle.vhost_backend_req_handler.specs.Serving.{fitting}
+use Rattle.vhost_serving.specs.Serving.{fitting}
 use Rattle.vhost_frontend_core.specs.Values.{answer_of}
 use Rattle.vhost_frontend_core.specs.ValueHalves.{IsProper, TakesResult}
 use Rattle.vhost_frontend_core.specs.declared.asked.Sent.{Sent}

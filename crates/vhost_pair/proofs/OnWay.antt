@@ -9,7 +9,7 @@ use Rattle.vhost_link.specs.Ends.{Ends}
 use Rattle.vhost_link.specs.Law.{Move}
 use Rattle.vhost_link.specs.Mem.{event, Runs}
 use Rattle.vhost_link.proofs.MemStream.{mem-stream}
-use Rattle.vhost_connection.specs.Talk.{State, Talks}
+use Rattle.vhost_endpoint.specs.Talk.{State, Talks}
 use Rattle.vhost_pair.specs.OnWay.{incoming, outgoing}
 
 -- the cells among some items

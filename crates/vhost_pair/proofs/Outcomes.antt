@@ -46,7 +46,7 @@ use Rattle.vhost_link.specs.Ends.{Ends}
 use Rattle.vhost_link.proofs.Cells.{length-carrying}
 use Rattle.vhost_backend_req.specs.declared.backend.Backend.{Backend}
 use Rattle.vhost_gpu_backend_req.specs.declared.backend.GpuBackend.{GpuBackend}
-use Rattle.vhost_backend_req_handler.specs.Serving.{fitting}
+use Rattle.vhost_serving.specs.Serving.{fitting}
 use Rattle.vhost_pair.specs.Device.{Gives, opens_backend, opens_gpu}
 use Rattle.vhost_frontend_core.specs.ValueHalves.{IsProper}
 use Rattle.vhost_pair.proofs.Settings.{Has, kept-sent, answered-with}

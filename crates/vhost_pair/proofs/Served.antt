@@ -24,8 +24,8 @@ use Rattle.vhost_protocol.specs.Written.{Written, written_cells}
 use Rattle.vhost_protocol.proofs.TextLaws.{IsSendable, written-split}
 use Rattle.vhost_link.specs.declared.plain.PlainHandle.{PlainHandle}
 use Rattle.vhost_link.specs.Mem.{event}
-use Rattle.vhost_connection.specs.Serving.{Handled}
-use Rattle.vhost_backend_req_handler.specs.Serving.{HandlesOne, fitting, kept_unsent}
+use Rattle.vhost_endpoint.specs.Serving.{Handled}
+use Rattle.vhost_serving.specs.Serving.{HandlesOne, fitting, kept_unsent}
 use Rattle.vhost_pair.specs.declared.halt.Stop.{Stop}
 use Rattle.vhost_pair.specs.declared.halt.Stop.TheVariants.{Table, Premise}
 use Rattle.vhost_pair.specs.Device.{Gives, opens_backend, opens_gpu}

@@ -14,12 +14,12 @@ use Rattle.vhost_link.specs.Ends.{Ends}
 use Rattle.vhost_link.specs.Law.{Move}
 use Rattle.vhost_link.specs.Mem.{event, Runs}
 use Rattle.vhost_link.proofs.MemStream.{mem-stream}
-use Rattle.vhost_connection.specs.Pass.{receives, sends}
-use Rattle.vhost_connection.specs.Talk.{State, Fell, Growth, Serves, Talks, Trouble}
-use Rattle.vhost_connection.specs.Talk.Trouble.{was_broken as trouble_broken, no_memory as trouble_memory, fault as trouble_fault}
-use Rattle.vhost_connection.proofs.Errors.{no_memory_error}
-use Rattle.vhost_connection.proofs.Failing.{fell-talks, refused-taken}
-use Rattle.vhost_connection.specs.Hearing.{Fails, was_broken, no_memory, fault}
+use Rattle.vhost_endpoint.specs.Pass.{receives, sends}
+use Rattle.vhost_endpoint.specs.Talk.{State, Fell, Growth, Serves, Talks, Trouble}
+use Rattle.vhost_endpoint.specs.Talk.Trouble.{was_broken as trouble_broken, no_memory as trouble_memory, fault as trouble_fault}
+use Rattle.vhost_endpoint.proofs.Errors.{no_memory_error}
+use Rattle.vhost_endpoint.proofs.Failing.{fell-talks, refused-taken}
+use Rattle.vhost_endpoint.specs.Hearing.{Fails, was_broken, no_memory, fault}
 use Rattle.vhost_pair.specs.Joined.{Cuts, Calls, Passes, Stops}
 use Rattle.vhost_pair.specs.OnWay.{incoming, outgoing}
 use Rattle.vhost_pair.specs.Sides.{cuts_of}

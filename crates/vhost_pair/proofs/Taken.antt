@@ -4,7 +4,7 @@ use Rattle.std.proofs.lemmas.List.{append-nil}
 use Rattle.vhost_protocol.specs.Stream.{Cell, has_some, first_handles}
 use Rattle.vhost_link.specs.declared.plain.PlainHandle.{PlainHandle}
 use Rattle.vhost_link.specs.Mem.{event}
-use Rattle.vhost_connection.specs.Hearing.{HearsReply}
+use Rattle.vhost_endpoint.specs.Hearing.{HearsReply}
 use Rattle.vhost_pair.specs.OnWay.{incoming, outgoing}
 use Rattle.vhost_pair.specs.Joined.{Passes}
 use Rattle.vhost_pair.specs.Sides.{cuts_of}

@@ -8,7 +8,7 @@ use Rattle.vhost_link.specs.declared.plain.PlainHandle.{PlainHandle}
 use Rattle.vhost_link.specs.Ends.{Ends, empty}
 use Rattle.vhost_backend_req.specs.declared.backend.Backend.{Backend}
 use Rattle.vhost_gpu_backend_req.specs.declared.backend.GpuBackend.{GpuBackend}
-use Rattle.vhost_backend_req_handler.specs.Opening.{OpensAsBackend, OpensAsGpu}
+use Rattle.vhost_serving.specs.Opening.{OpensAsBackend, OpensAsGpu}
 
 -- what a device may do at each call: old state, call, answer and new state
 abbrev pub Gives : Type 0 → Type 1

@@ -29,7 +29,7 @@ use Rattle.vhost_protocol.specs.Written.{Written, head_of, written_cells}
 use Rattle.vhost_link.specs.declared.plain.PlainHandle.{PlainHandle}
 use Rattle.vhost_link.specs.declared.cut.Cut.{Cut}
 use Rattle.vhost_link.specs.Cuts.{Fails, counted, retry, failure}
-use Rattle.vhost_backend_req_handler.specs.Serving.{kept_unsent}
+use Rattle.vhost_serving.specs.Serving.{kept_unsent}
 use Rattle.vhost_pair.specs.Device.{Gives, opens_backend, opens_gpu}
 use Rattle.vhost_pair.specs.Runs as runs
 use Rattle.vhost_pair.specs.Text.{Text, text_of, no_text}

@@ -15,10 +15,10 @@ use Rattle.vhost_link.specs.declared.plain.PlainHandle.{PlainHandle}
 use Rattle.vhost_link.specs.declared.cut.Cut.{Cut}
 use Rattle.vhost_link.specs.Ends.{Ends, empty}
 use Rattle.vhost_link.specs.Mem.{event}
-use Rattle.vhost_connection.specs.State.{fresh}
-use Rattle.vhost_connection.specs.Talk.{State}
-use Rattle.vhost_backend_req_handler.specs.Core as core
-use Rattle.vhost_backend_req_handler.specs.Serving.{HandlesOne}
+use Rattle.vhost_endpoint.specs.State.{fresh}
+use Rattle.vhost_endpoint.specs.Talk.{State}
+use Rattle.vhost_serving.specs.Core as core
+use Rattle.vhost_serving.specs.Serving.{HandlesOne}
 use Rattle.vhost_frontend_core.specs.Asking.{AsksWithRoom}
 use Rattle.vhost_frontend_core.specs.Frontend as frontend
 use Rattle.vhost_frontend_core.specs.declared.asked.Sent.{Sent}

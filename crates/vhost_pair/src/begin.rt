@@ -1,8 +1,8 @@
 //! The sessions of both sides as they begin. Each is some kilobytes large, so it is made in a frame of its own.
 
 ghost use Rattle.std.specs.Prelude.{◌≡◌, IfOk, IfErr};
-ghost use Rattle.vhost_backend_req_handler.specs.Core.{endpoint_of as serving, session_in};
-ghost use Rattle.vhost_connection.specs.State.{fresh};
+ghost use Rattle.vhost_serving.specs.Core.{endpoint_of as serving, session_in};
+ghost use Rattle.vhost_endpoint.specs.State.{fresh};
 ghost use Rattle.vhost_frontend_core.specs.Frontend.{endpoint_of as asking, session_of, awaits};
 ghost use Rattle.vhost_message.specs.declared.error.Error.TheVariants.{OutOfMemory};
 ghost use Rattle.vhost_protocol.specs.FrontendCall.{new_frontend};
@@ -10,10 +10,10 @@ ghost use Rattle.vhost_protocol.specs.Session.{fresh as new_session};
 ghost use Rattle.vhost_protocol.specs.declared.asked.Awaited.TheVariants.{Nobody};
 
 use std::alloc::Global;
-use vhost_backend_req_handler::SessionCore;
 use vhost_frontend_core::FrontendInternal;
 use vhost_link::MemLink;
 use vhost_message::Result;
+use vhost_serving::SessionCore;
 
 /// The frontend's session over its end of a link.
 ///

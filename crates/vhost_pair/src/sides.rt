@@ -14,13 +14,13 @@ use crate::halt::{Halt, Stop};
 use crate::ways::{carry, copy};
 use crate::wire::Wire;
 use std::alloc::Global;
-use vhost_backend_req_handler::SessionCore;
 use vhost_device::VhostUserBackendReqHandlerMut;
 use vhost_frontend_core::{
     FrontendAnswer, FrontendCall, FrontendInternal, Profile, Sent, ask, take,
 };
 use vhost_link::{Cut, MemLink};
 use vhost_message::{Error, Result};
+use vhost_serving::SessionCore;
 
 /// What a step answered, and why the run stops with it, if it does.
 #[derive(Drop)]
@@ -40,7 +40,7 @@ pub struct Sides<D: Drop> {
 }
 
 impl<D: VhostUserBackendReqHandlerMut<Link = MemLink>> Sides<D> {
-    ghost use Rattle.vhost_backend_req_handler.specs.Core.{endpoint_of as serving_end, session_in as serving_session};
+    ghost use Rattle.vhost_serving.specs.Core.{endpoint_of as serving_end, session_in as serving_session};
     ghost use Rattle.vhost_frontend_core.specs.Awaiting.{MayAwait};
     ghost use Rattle.vhost_frontend_core.specs.Frontend.{endpoint_of as asking_end, session_of as asking_session, awaits, IsAwaited};
     ghost use Rattle.vhost_frontend_core.specs.Kept.{IsKeptFor};

@@ -1,14 +1,14 @@
 //! What goes from one side to the other.
 
 ghost use Rattle.std.specs.Prelude.{◌≡◌, ◌≤◌, [], OnOk, OnErr, IsOk, length};
-ghost use Rattle.vhost_connection.specs.State.{state};
+ghost use Rattle.vhost_endpoint.specs.State.{state};
 ghost use Rattle.vhost_message.specs.declared.limits.TheConstants.{MAX_MSG_TEXT};
 ghost use Rattle.vhost_pair.specs.OnWay.{outgoing, Carries};
 ghost use Rattle.vhost_pair.specs.Text.{text_of};
 ghost use Rattle.vhost_pair.specs.Wire.{text_in};
 
 use crate::wire::Wire;
-use vhost_connection::Endpoint;
+use vhost_endpoint::Endpoint;
 use vhost_link::MemLink;
 use vhost_message::{Error, Req, Result, VhostUserMsgHeader};
 

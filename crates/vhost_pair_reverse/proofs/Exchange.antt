@@ -24,7 +24,7 @@ use Rattle.vhost_protocol.specs.Stream.{Cell, bytes}
 use Rattle.vhost_protocol.specs.Written.{Written, U64, head_of, written_cells, header_flags}
 use Rattle.vhost_link.specs.declared.plain.PlainHandle.{PlainHandle}
 use Rattle.vhost_link.specs.Mem.{event}
-use Rattle.vhost_connection.specs.Asking.{GoesOut}
+use Rattle.vhost_endpoint.specs.Asking.{GoesOut}
 use Rattle.vhost_backend_req.specs.Channel.{Channel, backend_of}
 use Rattle.vhost_backend_req.specs.Halves.{Head, TakesHalf, IsProper}
 use Rattle.vhost_pair.specs.declared.halt.Stop.{Stop}

@@ -17,7 +17,7 @@ use Rattle.vhost_protocol.specs.Written.{Written, written_cells}
 use Rattle.vhost_protocol.proofs.TextLaws.{IsSendable, written-split}
 use Rattle.vhost_link.specs.declared.plain.PlainHandle.{PlainHandle}
 use Rattle.vhost_link.specs.Mem.{event}
-use Rattle.vhost_connection.specs.Serving.{Handled}
+use Rattle.vhost_endpoint.specs.Serving.{Handled}
 use Rattle.vhost_frontend_req_handler.specs.Handling.{HandlesOne, fitting, kept as kept_all}
 use Rattle.vhost_pair.specs.OnWay.{incoming, outgoing}
 use Rattle.vhost_pair.specs.Joined.{PassesBoth, Stops, StopsReply}

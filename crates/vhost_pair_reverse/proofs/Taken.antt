@@ -8,7 +8,7 @@ use Rattle.vhost_message.specs.MsgHeader.{fields_of}
 use Rattle.vhost_protocol.specs.IoError.{seen_io_result}
 use Rattle.vhost_protocol.specs.Reverse.{reverse_take}
 use Rattle.vhost_link.specs.Mem.{event}
-use Rattle.vhost_connection.specs.Hearing.{Fails}
+use Rattle.vhost_endpoint.specs.Hearing.{Fails}
 use Rattle.vhost_backend_req.specs.Asking as asking
 use Rattle.vhost_backend_req.specs.Asking.{RecvsNumber}
 use Rattle.vhost_backend_req.specs.Halves.{Head, TakesHalf}

@@ -11,8 +11,8 @@ use Rattle.vhost_link.specs.declared.plain.PlainHandle.{PlainHandle}
 use Rattle.vhost_link.specs.declared.cut.Cut.{Cut}
 use Rattle.vhost_link.specs.Ends.{Ends, empty}
 use Rattle.vhost_link.specs.Mem.{event}
-use Rattle.vhost_connection.specs.State.{fresh}
-use Rattle.vhost_connection.specs.Talk.{State}
+use Rattle.vhost_endpoint.specs.State.{fresh}
+use Rattle.vhost_endpoint.specs.Talk.{State}
 use Rattle.vhost_backend_req.specs.Channel.{Channel, channel, backend_of, opened}
 use Rattle.vhost_backend_req.specs.Halves.{Head, AsksValue, TakesHalf, IsProper}
 use Rattle.vhost_backend_req.specs.declared.call.Asked.{Asked}

@@ -11,10 +11,10 @@ use Rattle.vhost_protocol.specs.FrontendCall.{FrontendCall, Frontend, GetFeature
 use Rattle.vhost_protocol.specs.Written.{written_cells}
 use Rattle.vhost_protocol.specs.declared.asked.Awaited.{Awaited}
 use Rattle.vhost_link.specs.Law.{Event, Move, nothing}
-use Rattle.vhost_connection.specs.Hearing.{Fails}
-use Rattle.vhost_connection.specs.Hearing.Fails.{was_broken, no_memory, fault}
-use Rattle.vhost_connection.specs.Pass.{sends}
-use Rattle.vhost_connection.specs.Talk.{State, Serves, has_moved}
+use Rattle.vhost_endpoint.specs.Hearing.{Fails}
+use Rattle.vhost_endpoint.specs.Hearing.Fails.{was_broken, no_memory, fault}
+use Rattle.vhost_endpoint.specs.Pass.{sends}
+use Rattle.vhost_endpoint.specs.Talk.{State, Serves, has_moved}
 use Rattle.vhost_frontend.specs.Whole.{Whole}
 use Rattle.vhost_frontend.specs.Whole.Calls.{ended, answered}
 use Rattle.vhost_frontend_core.specs.Asking as core

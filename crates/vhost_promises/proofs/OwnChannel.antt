@@ -19,11 +19,11 @@ use Rattle.vhost_protocol.proofs.SettleLaws.{settled-answer}
 use Rattle.vhost_protocol.specs.Step.{Outcome, Refusal, Step, OpensBackend, acknowledged, silently, ◌>>=◌, ◌>>◌}
 use Rattle.vhost_link.specs.Law.{Event}
 use Rattle.vhost_link.specs.declared.handle.Kind.{Kind}
-use Rattle.vhost_connection.specs.Talk.{State}
+use Rattle.vhost_endpoint.specs.Talk.{State}
 use Rattle.vhost_backend_req.specs.declared.backend.Backend.{Backend}
 use Rattle.vhost_gpu_backend_req.specs.declared.backend.GpuBackend.{GpuBackend}
-use Rattle.vhost_backend_req_handler.specs.Opening.{OpensAsBackend, OpensAsGpu}
-use Rattle.vhost_backend_req_handler.specs.Serving.{HandlesOne, fitting}
+use Rattle.vhost_serving.specs.Opening.{OpensAsBackend, OpensAsGpu}
+use Rattle.vhost_serving.specs.Serving.{HandlesOne, fitting}
 use Rattle.vhost_promises.specs.Opening.{GivenItsOwn, OpensItsOwn}
 
 -- the one element of a list is all of it

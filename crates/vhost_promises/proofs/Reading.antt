@@ -20,11 +20,11 @@ use Rattle.vhost_protocol.specs.declared.asked.Shape.TheVariants as shape
 use Rattle.vhost_link.specs.Ends.{Ends}
 use Rattle.vhost_link.specs.Law.{Event}
 use Rattle.vhost_link.specs.Mem.{event}
-use Rattle.vhost_connection.specs.Memory.{stream, TalksLaw}
+use Rattle.vhost_endpoint.specs.Memory.{stream, TalksLaw}
 use Rattle.vhost_link.specs.declared.plain.PlainHandle.{PlainHandle}
-use Rattle.vhost_connection.specs.Hearing.{Fails}
-use Rattle.vhost_connection.specs.Hearing.Fails.{was_broken, no_memory, fault}
-use Rattle.vhost_connection.specs.Talk.{State}
+use Rattle.vhost_endpoint.specs.Hearing.{Fails}
+use Rattle.vhost_endpoint.specs.Hearing.Fails.{was_broken, no_memory, fault}
+use Rattle.vhost_endpoint.specs.Talk.{State}
 use Rattle.vhost_frontend.specs.Whole.{Whole}
 use Rattle.vhost_frontend.specs.Whole.Calls.{ended, answered as took}
 use Rattle.vhost_frontend_core.specs.Asking.{Asks}

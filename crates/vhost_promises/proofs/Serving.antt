@@ -16,10 +16,10 @@ use Rattle.vhost_protocol.specs.Session.{Session, fresh, heard_in}
 use Rattle.vhost_protocol.specs.Split.{Message, split, split_after, split_body, body_outcome}
 use Rattle.vhost_protocol.specs.Stream.{Cell, Item, plain}
 use Rattle.vhost_link.specs.Mem.{event, HandsFront}
-use Rattle.vhost_connection.specs.Memory.{stream, TalksLaw}
+use Rattle.vhost_endpoint.specs.Memory.{stream, TalksLaw}
 use Rattle.vhost_link.specs.declared.plain.PlainHandle.{PlainHandle}
 use Rattle.vhost_dummy_backend.specs.Dummy.{DummyGives, Does, refusal}
-use Rattle.vhost_backend_req_handler.specs.Serving.{fitting}
+use Rattle.vhost_serving.specs.Serving.{fitting}
 use Rattle.vhost_promises.specs.Example.{Device, owner_request, serving}
 use Rattle.vhost_promises.specs.Runs.{WholeServed, answer_of_link}
 use Rattle.vhost_promises.specs.Served.{ServesThree, features_reply, three_requests}

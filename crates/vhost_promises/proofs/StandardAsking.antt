@@ -17,7 +17,7 @@ use Rattle.vhost_protocol.specs.declared.asked.Awaited.TheVariants.{Reply}
 use Rattle.vhost_protocol.specs.declared.asked.Shape.TheVariants as shape
 use Rattle.vhost_protocol.specs.declared.profile.Profile.TheVariants.{Standard}
 use Rattle.vhost_link.specs.Mem.{event}
-use Rattle.vhost_connection.specs.Memory.{stream, TalksLaw}
+use Rattle.vhost_endpoint.specs.Memory.{stream, TalksLaw}
 use Rattle.vhost_link.specs.declared.plain.PlainHandle.{PlainHandle}
 use Rattle.vhost_frontend.specs.Whole.{Whole, WholeWithRoom}
 use Rattle.vhost_frontend_core.specs.Frontend.{endpoint_of, session_of}

@@ -19,7 +19,7 @@ use Rattle.vhost_protocol.specs.Step.{Outcome, with_ack}
 use Rattle.vhost_protocol.specs.Split.{Message, split, split_after, split_body, body_outcome}
 use Rattle.vhost_protocol.specs.Stream.{Cell, Item, plain}
 use Rattle.vhost_link.specs.Mem.{event, HandsFront}
-use Rattle.vhost_connection.specs.Memory.{stream, TalksLaw}
+use Rattle.vhost_endpoint.specs.Memory.{stream, TalksLaw}
 use Rattle.vhost_link.specs.declared.plain.PlainHandle.{PlainHandle}
 use Rattle.vhost_dummy_backend.specs.Dummy.{DummyGives, Does, refusal}
 use Rattle.vhost_promises.specs.Example.{Device, owner_request}

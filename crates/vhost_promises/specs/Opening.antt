@@ -10,12 +10,12 @@ use Rattle.vhost_protocol.specs.Session.{Session, heard_in}
 use Rattle.vhost_protocol.specs.Split.{Message, split}
 use Rattle.vhost_link.specs.Law.{Event}
 use Rattle.vhost_link.specs.declared.handle.Kind.{Kind}
-use Rattle.vhost_connection.specs.Hearing.{Hears}
-use Rattle.vhost_connection.specs.Talk.{State}
+use Rattle.vhost_endpoint.specs.Hearing.{Hears}
+use Rattle.vhost_endpoint.specs.Talk.{State}
 use Rattle.vhost_backend_req.specs.Opened.{IsOver}
 use Rattle.vhost_backend_req.specs.declared.backend.Backend.{Backend}
 use Rattle.vhost_gpu_backend_req.specs.declared.backend.GpuBackend.{GpuBackend}
-use Rattle.vhost_backend_req_handler.specs.Opening.{OpensLink}
+use Rattle.vhost_serving.specs.Opening.{OpensLink}
 
 module _ {L H Dev : Type 0} (opens : L → H → Result L IoCause → Type 0) (kinds : H → Result Kind IoCause → Type 0) (gives : Dev → (c : Call H (Backend L H) (GpuBackend L H)) → Answer c → Dev → Type 0) where
   -- The device was given a channel over the link that the message's one handle opened as, with this retry limit.

@@ -4,7 +4,7 @@ use Rattle.vhost_message.specs.declared.cause.IoCause.{IoCause}
 use Rattle.vhost_message.specs.declared.error.Error as declared
 use Rattle.vhost_message.specs.MsgHeader.{fields_of}
 use Rattle.vhost_message.specs.declared.frontend_req.FrontendReq.{FrontendReq}
-use Rattle.vhost_backend.specs.declared.error.Error as device
+use Rattle.vhost_frontend_types.specs.declared.error.Error as device
 use Rattle.vhost_protocol.specs.AnswerTable.{answered}
 use Rattle.vhost_protocol.specs.Ask.{Sends, ask}
 use Rattle.vhost_protocol.specs.declared.asked.Awaited.{Awaited}

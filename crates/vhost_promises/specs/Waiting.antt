@@ -12,7 +12,7 @@ use Rattle.vhost_protocol.specs.Split.{Message, split, Splits}
 use Rattle.vhost_protocol.specs.Step.{Outcome}
 use Rattle.vhost_protocol.specs.Stream.{Cell, Item, heard}
 use Rattle.vhost_link.specs.Law.{Event, Move}
-use Rattle.vhost_connection.specs.Talk.{State, Talks}
+use Rattle.vhost_endpoint.specs.Talk.{State, Talks}
 
 -- what came is this message, whole, and no more; or it is none, and why
 abbrev pub IsHeard : {H : Type 0} → Session → List (Item H) → Result (Message FrontendReq H) Error → Type 0

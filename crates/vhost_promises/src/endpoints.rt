@@ -1,15 +1,15 @@
 //! Whole messages of an endpoint.
 
 ghost use Rattle.std.specs.Prelude.{◌+◌, ◌++◌, ◌≤◌, [], IfOk, length};
-ghost use Rattle.vhost_connection.specs.Pass.{WentAtOnce};
-ghost use Rattle.vhost_connection.specs.State.{state};
+ghost use Rattle.vhost_endpoint.specs.Pass.{WentAtOnce};
+ghost use Rattle.vhost_endpoint.specs.State.{state};
 ghost use Rattle.vhost_message.specs.Header.{header_text};
 ghost use Rattle.vhost_message.specs.MsgHeader.{fields_of};
 ghost use Rattle.vhost_message.specs.Records.{config_text};
 ghost use Rattle.vhost_message.specs.declared.limits.TheConstants.{MAX_MSG_SIZE};
 ghost use Rattle.vhost_protocol.specs.Stream.{carrying};
 
-use vhost_connection::Endpoint;
+use vhost_endpoint::Endpoint;
 use vhost_link::Link;
 use vhost_message::{FrontendReq, Result, VhostUserConfig, VhostUserMsgHeader};
 

@@ -1,19 +1,19 @@
 //! Serving in two halves.
 
 ghost use Rattle.std.specs.Prelude.{◌≡◌, None, false, is_some};
-ghost use Rattle.vhost_backend_req_handler.specs.Core.{endpoint_of, session_in};
-ghost use Rattle.vhost_backend_req_handler.specs.Opening.{OpensAsBackend, OpensAsGpu};
-ghost use Rattle.vhost_backend_req_handler.specs.Serving.{HandlesOne};
+ghost use Rattle.vhost_serving.specs.Core.{endpoint_of, session_in};
+ghost use Rattle.vhost_serving.specs.Opening.{OpensAsBackend, OpensAsGpu};
+ghost use Rattle.vhost_serving.specs.Serving.{HandlesOne};
 ghost use Rattle.vhost_frontend_req_handler.specs.Core.{endpoint_of as channel_of, server_in};
 ghost use Rattle.vhost_frontend_req_handler.specs.Handling.{HandlesOne as AnswersOne};
 
-use vhost_backend_req_handler::{SessionCore, halves_law};
 use vhost_device::VhostUserBackendReqHandlerMut;
 use vhost_frontend_req_handler::{
     FrontendReqCore, VhostUserFrontendReqHandlerMut, call_device, halves_law as channel_law,
 };
 use vhost_link::Link;
 use vhost_message::{Error, Result};
+use vhost_serving::{SessionCore, halves_law};
 
 /// A request is served in two halves, with a device between them: that is one call of a handler with this device.
 pub fn serves_by_halves<L: Link, D: VhostUserBackendReqHandlerMut<Link = L>>(

@@ -23,7 +23,7 @@ use Rattle.vhost_message.specs.Text.{digits}
 use Rattle.vhost_protocol.specs.Error.{test}
 use Rattle.vhost_protocol.specs.Agreement.{IsNegotiated, IsKnown, AllKnown, StaysInStep, KeepsStep}
 use Rattle.vhost_protocol.specs.AnswerTable.{answered, after_success}
-use Rattle.vhost_protocol.specs.Ask.{Asked, Sends, ask, awaited_ack, awaited_turn, frontend_feature, needs_reply, turning, message, quietly, sends, asks_quietly, param, regions_in, handles_in, is_usable, given, ◌>>◌, ◌>>=◌}
+use Rattle.vhost_protocol.specs.Ask.{Asked, Sends, ask, awaited_ack, awaited_turn, frontend_feature, needs_reply, turning, message, unacknowledged, sends, asks_unacknowledged, param, regions_in, handles_in, is_usable, given, ◌>>◌, ◌>>=◌}
 use Rattle.vhost_protocol.specs.declared.asked.Awaited.{Awaited}
 use Rattle.vhost_protocol.specs.declared.asked.Awaited.TheVariants.{Nobody, Ack, Reply}
 use Rattle.vhost_protocol.specs.declared.asked.Shape.{Shape}
@@ -349,13 +349,13 @@ module _ (H B G : Type 0) where
   known-hushed call awaited g r e s false agreed = known-silent call awaited g r e s
 
   known-hushed_then : (call : FrontendCall H) (awaited : Awaited) (g : Frontend) (s : Session) (r : FrontendReq) (payload : Payload) (handles : List H) (e : Error) (b : Bool) (next : Step H B G)
-      → Row call awaited g r s next → Row call awaited g r s (step.◌>>◌ (test b (acknowledged s (read_as (quietly g r payload handles)) e)) next)
+      → Row call awaited g r s next → Row call awaited g r s (step.◌>>◌ (test b (acknowledged s (read_as (unacknowledged g r payload handles)) e)) next)
   known-hushed_then call awaited g s r payload handles e true next h = h
   known-hushed_then call awaited g s r payload handles e false next h = known-hushed call awaited g r e s (ack_on s) false
 
   -- and so is an agreement
   known-hushed_ack : (call : FrontendCall H) (g : Frontend) (s : Session) (r : FrontendReq) (payload : Payload) (handles : List H) (a : Result (Unit {0}) Error) → AgreeOn g s → after_success g call ≡ g
-      → IsKnown call Nobody g r (with_ack s (read_as (quietly g r payload handles)) a)
+      → IsKnown call Nobody g r (with_ack s (read_as (unacknowledged g r payload handles)) a)
   known-hushed_ack call g s r payload handles (Ok u) agree same = hush (ack_on s)
     where
       hush : (on : Bool) → IsKnown call Nobody g r (record { answer = Ok tt; served = cond (on && false) (Acknowledged true) Silent; session = s })
@@ -368,11 +368,11 @@ module _ (H B G : Type 0) where
   known-plain call f s r payload handles A a agree on same = known-ack (Option A) call f s (message f r payload handles) a (ack-agrees f s agree on) refl (λ h. subst (λ x. AgreeOn x s) (sym same) agree) (λ h last. agree)
 
   known-bases : (f : Frontend) (s : Session) (infos : List (Info H)) (payload : Payload) (handles : List H) (a : Result (Option (List ℕ)) Error) → AgreeOn f s
-      → IsKnown (SetMemTable infos) (Reply shape.Memory) f SET_MEM_TABLE (with_bases s (read_as (quietly f SET_MEM_TABLE payload handles)) (table (read_as (quietly f SET_MEM_TABLE payload handles))) a)
+      → IsKnown (SetMemTable infos) (Reply shape.Memory) f SET_MEM_TABLE (with_bases s (read_as (unacknowledged f SET_MEM_TABLE payload handles)) (table (read_as (unacknowledged f SET_MEM_TABLE payload handles))) a)
   known-bases f s infos payload handles (Ok (Some bases)) agree = go (length bases == length (table m))
     where
       m : Message FrontendReq H
-      m = read_as (quietly f SET_MEM_TABLE payload handles)
+      m = read_as (unacknowledged f SET_MEM_TABLE payload handles)
 
       go : (b : Bool) → IsKnown (SetMemTable infos) (Reply shape.Memory) f SET_MEM_TABLE (cond b (step.replied s (Regions (rebased (table m) bases)) []) (step.failed_with s m BackendInternalError))
       go true = record { to_caller = _; known = refl; agree = λ last. agree }
@@ -381,7 +381,7 @@ module _ (H B G : Type 0) where
   known-bases f s infos payload handles (Err e) agree = known-hushed (SetMemTable infos) (Reply shape.Memory) f SET_MEM_TABLE e s (ack_on s) false
 
   known-base : (f : Frontend) (s : Session) (info : Info H) (payload : Payload) (handles : List H) (r : VhostUserSingleMemoryRegion) (a : Result (Option ℕ) Error) → AgreeOn f s
-      → IsKnown (AddMemRegion info) (Reply shape.SingleMemoryRegion) f ADD_MEM_REG (with_base s (read_as (quietly f ADD_MEM_REG payload handles)) r a)
+      → IsKnown (AddMemRegion info) (Reply shape.SingleMemoryRegion) f ADD_MEM_REG (with_base s (read_as (unacknowledged f ADD_MEM_REG payload handles)) r a)
   known-base f s info payload handles r (Ok (Some base)) agree = record { to_caller = _; known = refl; agree = λ last. agree }
   known-base f s info payload handles r (Ok None) agree = known-hushed (AddMemRegion info) (Reply shape.SingleMemoryRegion) f ADD_MEM_REG BackendInternalError s (ack_on s) false
   known-base f s info payload handles r (Err e) agree = known-hushed (AddMemRegion info) (Reply shape.SingleMemoryRegion) f ADD_MEM_REG e s (ack_on s) false
@@ -399,7 +399,7 @@ module _ (H B G : Type 0) where
       payload = Regions (regions_in infos)
 
       sent : Bool → Asked H
-      sent b = cond b (asks_quietly f SET_MEM_TABLE payload (handles_in infos) shape.Memory) (sends f SET_MEM_TABLE payload (handles_in infos))
+      sent b = cond b (asks_unacknowledged f SET_MEM_TABLE payload (handles_in infos) shape.Memory) (sends f SET_MEM_TABLE payload (handles_in infos))
 
       listening : Message FrontendReq H → Bool → Step H B G
       listening m b = cond (b && length m.body == 8) (mapped_row s m) (step.◌>>◌ (test (is_valid_table s m) (acknowledged s m InvalidMessage)) (cond b (Calls (device.SetMemTable (table m) m.handles (Some true)) (with_bases s m (table m))) (Calls (device.SetMemTable (table m) m.handles (Some false)) (with_ack s m))))
@@ -408,7 +408,7 @@ module _ (H B G : Type 0) where
       aloud = read_as (message f SET_MEM_TABLE payload (handles_in infos))
 
       hushed : Message FrontendReq H
-      hushed = read_as (quietly f SET_MEM_TABLE payload (handles_in infos))
+      hushed = read_as (unacknowledged f SET_MEM_TABLE payload (handles_in infos))
 
       go : (b : Bool) → b ≡ is_listen s.postcopy → Stays s (SetMemTable infos) (sent b)
       go true same = subst (λ b. Row (SetMemTable infos) (Reply shape.Memory) f SET_MEM_TABLE s (listening hushed b)) same (search (silent, known-unwritten, known-hushed_then, known-bases) depth 12)
@@ -424,13 +424,13 @@ module _ (H B G : Type 0) where
       listening m b h = cond (b && length m.body == 8) (mapped_row s m) (step.◌>>=◌ (body 40 single_region_of always m)
           (λ r. cond b (Calls (device.AddMemRegion r h (Some true)) (with_base s m r)) (Calls (device.AddMemRegion r h (Some false)) (with_ack s m))))
 
-      go : (h : H) (b : Bool) → b ≡ is_listen s.postcopy → Stays s (AddMemRegion info) (cond b (asks_quietly f ADD_MEM_REG payload (h ∷ []) shape.SingleMemoryRegion) (sends f ADD_MEM_REG payload (h ∷ [])))
+      go : (h : H) (b : Bool) → b ≡ is_listen s.postcopy → Stays s (AddMemRegion info) (cond b (asks_unacknowledged f ADD_MEM_REG payload (h ∷ []) shape.SingleMemoryRegion) (sends f ADD_MEM_REG payload (h ∷ [])))
       go h true same = known-then (AddMemRegion info) (Reply shape.SingleMemoryRegion) f ADD_MEM_REG s _ _ _
-          (subst (λ b. Row (AddMemRegion info) (Reply shape.SingleMemoryRegion) f ADD_MEM_REG s (listening (read_as (quietly f ADD_MEM_REG payload (h ∷ []))) b h)) same (search (silent, known-base) depth 12))
+          (subst (λ b. Row (AddMemRegion info) (Reply shape.SingleMemoryRegion) f ADD_MEM_REG s (listening (read_as (unacknowledged f ADD_MEM_REG payload (h ∷ []))) b h)) same (search (silent, known-base) depth 12))
       go h false same = known-then (AddMemRegion info) (awaited_ack f) f ADD_MEM_REG s _ _ _
           (subst (λ b. Row (AddMemRegion info) (awaited_ack f) f ADD_MEM_REG s (listening (read_as (message f ADD_MEM_REG payload (h ∷ []))) b h)) same (search (silent, known-plain) depth 12))
 
-      sent : (h : H) → Stays s (AddMemRegion info) (cond (is_listen f.postcopy) (asks_quietly f ADD_MEM_REG payload (h ∷ []) shape.SingleMemoryRegion) (sends f ADD_MEM_REG payload (h ∷ [])))
+      sent : (h : H) → Stays s (AddMemRegion info) (cond (is_listen f.postcopy) (asks_unacknowledged f ADD_MEM_REG payload (h ∷ []) shape.SingleMemoryRegion) (sends f ADD_MEM_REG payload (h ∷ [])))
       sent h = go h (is_listen f.postcopy) (listens-alike f s agree)
 
   -- the frontend says that it has mapped the regions, and awaits nothing
@@ -438,7 +438,7 @@ module _ (H B G : Type 0) where
   simple-mapped f s SET_MEM_TABLE agree = go (is_listen s.postcopy)
     where
       m : Message FrontendReq H
-      m = read_as (quietly f SET_MEM_TABLE (U64 0) [])
+      m = read_as (unacknowledged f SET_MEM_TABLE (U64 0) [])
 
       listening : Bool → Step H B G
       listening b = cond (b && true) (mapped_row s m) (step.◌>>◌ (test (is_valid_table s m) (acknowledged s m InvalidMessage)) (cond b (Calls (device.SetMemTable (table m) m.handles (Some true)) (with_bases s m (table m))) (Calls (device.SetMemTable (table m) m.handles (Some false)) (with_ack s m))))

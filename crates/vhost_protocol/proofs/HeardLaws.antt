@@ -18,7 +18,7 @@ use Rattle.vhost_message.specs.declared.records.vring.VhostUserVringState.{Vhost
 use Rattle.vhost_message.specs.LongRecords.{ShMemConfigFits}
 use Rattle.vhost_message.specs.RecordLaws.{log-reads_back, single_region-reads_back, SingleRegionFits, RegionFits, VringStateFits, InflightFits, ConfigFits, LogFits}
 use Rattle.vhost_protocol.specs.Error.{test}
-use Rattle.vhost_protocol.specs.Ask.{Asked, asks, needs_reply, sends, asks_quietly, ask, param, message, quietly, log_area, regions_in, handles_in, is_usable, config, given, ◌>>◌, ◌>>=◌}
+use Rattle.vhost_protocol.specs.Ask.{Asked, asks, needs_reply, sends, asks_unacknowledged, ask, param, message, unacknowledged, log_area, regions_in, handles_in, is_usable, config, given, ◌>>◌, ◌>>=◌}
 use Rattle.vhost_protocol.specs.declared.asked.Awaited.{Awaited}
 use Rattle.vhost_protocol.specs.declared.asked.Awaited.TheVariants.{Nobody, Ack, Reply}
 use Rattle.vhost_protocol.specs.declared.asked.Shape.TheVariants as shape
@@ -308,7 +308,7 @@ module _ (H B G : Type 0) where
           bases-good : (a : Result (Option (List ℕ)) Error) → IfOk a (λ o. IfSome o (λ bases. All (λ base. base < 2 ^ 64) bases)) → IsGoodReply (SetMemTable infos) (with_bases s m (table m) a).served
           bases-good a small = good-table s infos m (table-read m (regions_in infos) refl few fits) least most fits a small
 
-      sent : (nat_le 1 n && nat_le n MAX_MEM_REGIONS && list_all is_usable infos) ≡ true → Asks s (SetMemTable infos) (cond (is_listen f.postcopy) (asks_quietly f SET_MEM_TABLE payload (handles_in infos) shape.Memory) (sends f SET_MEM_TABLE payload (handles_in infos)))
+      sent : (nat_le 1 n && nat_le n MAX_MEM_REGIONS && list_all is_usable infos) ≡ true → Asks s (SetMemTable infos) (cond (is_listen f.postcopy) (asks_unacknowledged f SET_MEM_TABLE payload (handles_in infos) shape.Memory) (sends f SET_MEM_TABLE payload (handles_in infos)))
       sent usable =
           let counted = (both (nat_le 1 n && nat_le n MAX_MEM_REGIONS) (list_all is_usable infos) usable).0 in
           let least : 1 ≤ n = leb-true 1 n (both (nat_le 1 n) (nat_le n MAX_MEM_REGIONS) counted).0 in
@@ -320,7 +320,7 @@ module _ (H B G : Type 0) where
   well-mapped f s SET_MEM_TABLE = go (is_listen s.postcopy)
     where
       m : Message FrontendReq H
-      m = read_as (quietly f SET_MEM_TABLE (U64 0) [])
+      m = read_as (unacknowledged f SET_MEM_TABLE (U64 0) [])
 
       listening : Bool → Step H B G
       listening b = cond (b && true) (mapped_row s m) (step.◌>>◌ (test (is_valid_table s m) (acknowledged s m InvalidMessage)) (cond b (Calls (device.SetMemTable (table m) m.handles (Some true)) (with_bases s m (table m))) (Calls (device.SetMemTable (table m) m.handles (Some false)) (with_ack s m))))

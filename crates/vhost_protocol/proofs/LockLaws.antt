@@ -23,7 +23,7 @@ use Rattle.vhost_protocol.specs.declared.profile.Profile.TheVariants.{Vhost, Sta
 use Rattle.vhost_protocol.specs.Agreement.{IsKnown, AllKnown, StaysInStep, IsNegotiated, is_settled_end}
 use Rattle.vhost_protocol.specs.AnswerTable.{after_success}
 use Rattle.vhost_protocol.specs.Answering.{IsHeard, AllHeard, StaysHeard, NoSilentStop}
-use Rattle.vhost_protocol.specs.Ask.{Asked, Refuses, Answers, Sends, ask, sends, sends_base, asks, message, quietly, log_area, awaited_ack, awaited_turn, frontend_feature, turning, given, ◌>>◌, ◌>>=◌}
+use Rattle.vhost_protocol.specs.Ask.{Asked, Refuses, Answers, Sends, ask, sends, sends_base, asks, message, unacknowledged, log_area, awaited_ack, awaited_turn, frontend_feature, turning, given, ◌>>◌, ◌>>=◌}
 use Rattle.vhost_protocol.specs.declared.asked.Awaited.{Awaited}
 use Rattle.vhost_protocol.specs.declared.asked.Awaited.TheVariants.{Nobody, Ack, Reply}
 use Rattle.vhost_protocol.specs.DeviceCall as device
@@ -275,7 +275,7 @@ module _ (H B G : Type 0) where
   not-quiet true e = cc e
   not-quiet false e = cc e
 
-  sent-quietly : (call : FrontendCall H) (awaited : Awaited) (f : Frontend) (s : Session) (r : FrontendReq) (payload : Payload) (handles : List H) → is_of_regions r ≡ true → AgreeOn f s → after_success f call ≡ f → SentWell s call (Sends (quietly f r payload handles) awaited f)
+  sent-quietly : (call : FrontendCall H) (awaited : Awaited) (f : Frontend) (s : Session) (r : FrontendReq) (payload : Payload) (handles : List H) → is_of_regions r ≡ true → AgreeOn f s → after_success f call ≡ f → SentWell s call (Sends (unacknowledged f r payload handles) awaited f)
   sent-quietly call awaited f s r payload handles e agree same =
       let p = plain-regions r e in
       (agree, same, p.0, p.1, record { own = λ waits plainly a. over r e call _ f s _ a; acks = λ none wants. absurd (not-quiet (ack_on s) wants) })

@@ -8,7 +8,7 @@ use Rattle.vhost_message.specs.declared.limits.TheConstants.{MAX_ATTACHED_FD_ENT
 use Rattle.vhost_message.specs.declared.frontend_req.FrontendReq.TheVariants.{SET_MEM_TABLE, ADD_MEM_REG, GET_CONFIG, SET_CONFIG, GET_SHARED_OBJECT}
 use Rattle.vhost_message.specs.declared.records.memory.VhostUserMemoryRegion.{VhostUserMemoryRegion}
 use Rattle.vhost_message.specs.declared.records.shared.VhostUserSharedMsg.{VhostUserSharedMsg}
-use Rattle.vhost_protocol.specs.Ask.{Asked, ask, param, message, config, regions_in, handles_in, is_usable, given, asks, asks_quietly, sends, ◌>>◌, ◌>>=◌}
+use Rattle.vhost_protocol.specs.Ask.{Asked, ask, param, message, config, regions_in, handles_in, is_usable, given, asks, asks_unacknowledged, sends, ◌>>◌, ◌>>=◌}
 use Rattle.vhost_protocol.specs.declared.asked.Shape.TheVariants as shape
 use Rattle.vhost_protocol.specs.Codes.{allows_handles}
 use Rattle.vhost_protocol.specs.Error.{Error}
@@ -104,7 +104,7 @@ module _ (H : Type 0) where
         few = omega (arith, handles-few infos, most);
       }
 
-      sent : (nat_le 1 (length infos) && nat_le (length infos) MAX_MEM_REGIONS && list_all is_usable infos) ≡ true → AsksSendable (cond (is_listen f.postcopy) (asks_quietly f SET_MEM_TABLE (Regions rs) (handles_in infos) shape.Memory) (sends f SET_MEM_TABLE (Regions rs) (handles_in infos)))
+      sent : (nat_le 1 (length infos) && nat_le (length infos) MAX_MEM_REGIONS && list_all is_usable infos) ≡ true → AsksSendable (cond (is_listen f.postcopy) (asks_unacknowledged f SET_MEM_TABLE (Regions rs) (handles_in infos) shape.Memory) (sends f SET_MEM_TABLE (Regions rs) (handles_in infos)))
       sent usable =
           let most = leb-true (length infos) MAX_MEM_REGIONS (both (nat_le 1 (length infos)) (nat_le (length infos) MAX_MEM_REGIONS) (both (nat_le 1 (length infos) && nat_le (length infos) MAX_MEM_REGIONS) (list_all is_usable infos) usable).0).1 in
           whole-cond (is_listen f.postcopy) _ _ (table _ _ most) (table _ _ most)

@@ -82,8 +82,8 @@ abbrev pub message : {H : Type 0} → Frontend → FrontendReq → Payload → L
 message f r payload handles = record { request = r; reply = has_bit f.header_flags 2; need_reply = needs_reply f; payload = payload; handles = handles }
 
 -- the same without NEED_REPLY
-abbrev pub quietly : {H : Type 0} → Frontend → FrontendReq → Payload → List H → Written FrontendReq H
-quietly f r payload handles = record (message f r payload handles) { need_reply = false }
+abbrev pub unacknowledged : {H : Type 0} → Frontend → FrontendReq → Payload → List H → Written FrontendReq H
+unacknowledged f r payload handles = record (message f r payload handles) { need_reply = false }
 
 -- acknowledgements are on, and the header asks for one
 abbrev pub awaited_ack : Frontend → Awaited
@@ -102,8 +102,8 @@ abbrev pub asks : {H : Type 0} → Frontend → FrontendReq → Payload → List
 asks f r payload handles shape = Sends (message f r payload handles) (Reply shape) f
 
 -- sent without NEED_REPLY, and replied to
-abbrev pub asks_quietly : {H : Type 0} → Frontend → FrontendReq → Payload → List H → Shape → Asked H
-asks_quietly f r payload handles shape = Sends (quietly f r payload handles) (Reply shape) f
+abbrev pub asks_unacknowledged : {H : Type 0} → Frontend → FrontendReq → Payload → List H → Shape → Asked H
+asks_unacknowledged f r payload handles shape = Sends (unacknowledged f r payload handles) (Reply shape) f
 
 -- A message that turns the state of both sides. Under Standard it asks for its acknowledgement wherever that was negotiated, whatever the header flags: a refusal that nobody hears would leave the sides apart.
 abbrev pub turning : {H : Type 0} → Frontend → FrontendReq → Written FrontendReq H
@@ -178,7 +178,7 @@ ask f ResetDevice = do
 ask f (SetMemTable infos) = do
   param (nat_le 1 (length infos) && nat_le (length infos) MAX_MEM_REGIONS && list_all is_usable infos)
   (if is_listen f.postcopy
-      then asks_quietly f SET_MEM_TABLE (Regions (regions_in infos)) (handles_in infos) shape.Memory
+      then asks_unacknowledged f SET_MEM_TABLE (Regions (regions_in infos)) (handles_in infos) shape.Memory
       else sends f SET_MEM_TABLE (Regions (regions_in infos)) (handles_in infos))
 ask f (SetLogBase base None) = sends_base f base
 ask f (SetLogBase base (Some r)) =
@@ -246,7 +246,7 @@ ask f (AddMemRegion info) = do
   param (not (info.region.memory_size == 0))
   h ← given info.handle
   (if is_listen f.postcopy
-      then asks_quietly f ADD_MEM_REG (OneRegion (single_region info.region)) (h ∷ []) shape.SingleMemoryRegion
+      then asks_unacknowledged f ADD_MEM_REG (OneRegion (single_region info.region)) (h ∷ []) shape.SingleMemoryRegion
       else sends f ADD_MEM_REG (OneRegion (single_region info.region)) (h ∷ []))
 ask f (RemoveMemRegion info) = do
   frontend_feature f CONFIGURE_MEM_SLOTS
@@ -273,7 +273,7 @@ ask f PostcopyEnd = do
   Sends (turning f POSTCOPY_END) (if is_standard f.profile then Reply shape.U64 else awaited_ack f) f
 ask f (PostcopyAckMemRegions r) = do
   param (is_mapping r)
-  Sends (quietly f r (U64 0) []) Nobody f
+  Sends (unacknowledged f r (U64 0) []) Nobody f
 ask f (SetMtu mtu) = do
   frontend_feature f MTU
   sends f NET_SET_MTU (U64 mtu) []

@@ -4,12 +4,12 @@ ghost use Rattle.std.specs.Prelude.{⊤};
 
 use std::alloc::Global;
 use std::sync::{Arc, Mutex, Wait};
-use vhost_backend_req_handler::BackendReqHandler;
 use vhost_device::VhostUserBackendReqHandler;
 use vhost_frontend_req_handler::{FrontendReqHandler, VhostUserFrontendReqHandlerMut};
 use vhost_link::{Kind, MemLink, PlainHandle};
 use vhost_message::{Error, HandlerResult, VhostUserMMap, VhostUserSharedMsg};
 use vhost_promises::Device;
+use vhost_serving::BackendReqHandler;
 
 /// A request: how many descriptors it has, and its bytes.
 type Sent = (usize, &'static [u8]);

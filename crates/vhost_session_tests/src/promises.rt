@@ -3,8 +3,7 @@
 use crate::example::Example;
 use std::alloc::Global;
 use std::sync::Wait;
-use vhost_backend_req_handler::SessionCore;
-use vhost_connection::Endpoint;
+use vhost_endpoint::Endpoint;
 use vhost_link::{Kind, MemLink, PlainHandle};
 use vhost_message::{
     Error, FrontendReq, IoCause, IoError, Result as Answer, VhostUserConfig, VhostUserConfigFlags,
@@ -18,6 +17,7 @@ use vhost_promises::{
 };
 use vhost_protocol::Profile;
 use vhost_recorder::{FrontendAnswer, FrontendCall, Halt, Log, Receipt, Recorded};
+use vhost_serving::SessionCore;
 
 /// The reply to GET_FEATURES: 0x40000003.
 static FEATURES: [u8; 20] = [

@@ -5,9 +5,9 @@ use std::net::Net;
 use std::os::unix::net::UnixStream;
 use std::test::Fail;
 use std::{io, thread};
-use vhost_backend_req_handler::Gate;
-use vhost_connection::Listener;
-use vhost_serve::serve;
+use vhost_endpoint::Listener;
+use vhost_serving::Gate;
+use vhost_sockets::serve;
 
 /// GET_FEATURES, and the length of its reply.
 static GET_FEATURES: [u8; 12] = [1, 0, 0, 0, 1, 0, 0, 0, 0, 0, 0, 0];

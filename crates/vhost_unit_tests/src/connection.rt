@@ -1,15 +1,15 @@
 //! What a caller knows once it has let go of what an endpoint lent.
 
 ghost use Rattle.std.specs.Prelude.{◌≡◌, None, OnOk};
-ghost use Rattle.vhost_connection.specs.State.{state};
+ghost use Rattle.vhost_endpoint.specs.State.{state};
 
 use std::alloc::Global;
-use vhost_connection::Endpoint;
+use vhost_endpoint::Endpoint;
 use vhost_link::{Link, MemLink};
 use vhost_message::{FrontendReq, MsgHeader, Result, VhostUserMsgHeader};
 
 /// Receives eight bytes, and sends a header once it has looked at them.
-#[tactic(auto, unfolding(vhost_connection::specs::State::ahead_of))]
+#[tactic(auto, unfolding(vhost_endpoint::specs::State::ahead_of))]
 fn looks_and_sends<M: MsgHeader, L: Link>(end: &mut Endpoint<M, L>, header: &M) -> Result<u8>
     ensures sound { OnOk result ((state end.new).broken ≡ None) }
     ensures budget { OnOk result ((state end.new).budget ≡ (state end.old).budget) }
@@ -21,7 +21,7 @@ fn looks_and_sends<M: MsgHeader, L: Link>(end: &mut Endpoint<M, L>, header: &M) 
 }
 
 /// Puts another link in the place of the one below.
-#[tactic(auto, unfolding(vhost_connection::specs::State::ahead_of))]
+#[tactic(auto, unfolding(vhost_endpoint::specs::State::ahead_of))]
 fn relink<M: MsgHeader, L: Link>(end: &mut Endpoint<M, L>, link: L)
     ensures { state end.new ≡ record (state end.old) { link = link } }
 {

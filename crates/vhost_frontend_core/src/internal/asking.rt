@@ -7,7 +7,7 @@ ghost use Rattle.vhost_protocol.specs.Ask.{given_handle};
 ghost use Rattle.vhost_protocol.specs.FrontendCall as calls;
 ghost use Rattle.vhost_protocol.specs.declared.asked.Awaited.TheVariants.{Reply};
 ghost use Rattle.vhost_protocol.specs.declared.asked.Shape.TheVariants.{ShMemConfig};
-ghost use Rattle.vhost_backend.specs.Region.{region_in};
+ghost use Rattle.vhost_frontend_types.specs.Region.{region_in};
 ghost use Rattle.vhost_frontend_core.specs.Kept.{KeepsPlace};
 ghost use Rattle.vhost_frontend_core.specs.Plan.{IsRecord, planned as planned_as, record_in};
 ghost use Rattle.vhost_frontend_core.specs.Regions.{info_in, lent};
@@ -18,7 +18,7 @@ use crate::asked::{Kept, Sent};
 use crate::call::Call;
 use crate::internal::FrontendInternal;
 use crate::internal::plan::{Plan, Record, planned};
-use vhost_backend::VhostUserMemoryRegionInfo;
+use vhost_frontend_types::VhostUserMemoryRegionInfo;
 use vhost_link::Link;
 use vhost_message::{
     ByteValued, Error, FrontendReq, Result, VhostUserEmpty, VhostUserShMemConfig, VhostUserU64,
@@ -26,7 +26,7 @@ use vhost_message::{
 use vhost_protocol::Awaited;
 
 impl<L: Link> FrontendInternal<L> {
-    ghost use Rattle.vhost_connection.specs.Asking.{request_with};
+    ghost use Rattle.vhost_endpoint.specs.Asking.{request_with};
     ghost use Rattle.vhost_frontend_core.specs.Asking.{Asks, AsksWithRoom, Tries};
     ghost use Rattle.vhost_frontend_core.specs.Frontend.{endpoint_of, session_of, awaits, MayAsk};
     ghost use Rattle.vhost_frontend_core.specs.Halves.{AsksHalf, AsksHalfWithRoom};

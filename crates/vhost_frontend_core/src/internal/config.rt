@@ -21,7 +21,7 @@ ghost use Rattle.vhost_frontend_core.specs.TakingConfig.{is_asked};
 use crate::asked::{Kept, Sent};
 use crate::internal::{FrontendInternal, Header};
 use crate::session::{FrontendSession, param, valid};
-use vhost_connection::break_on_fault;
+use vhost_endpoint::break_on_fault;
 use vhost_link::Link;
 use vhost_message::{
     ByteValued, Error, FrontendReq, MAX_MSG_SIZE, Result, VhostUserConfig, VhostUserConfigFlags,

@@ -11,7 +11,7 @@ ghost use Rattle.vhost_protocol.specs.Written as payload;
 ghost use Rattle.vhost_protocol.specs.declared.asked.Awaited.TheVariants.{Nobody, Reply};
 ghost use Rattle.vhost_protocol.specs.declared.asked.Shape.TheVariants as shape;
 ghost use Rattle.vhost_message.specs.VringConfig.{ring_addr};
-ghost use Rattle.vhost_connection.specs.Asking.{request_with};
+ghost use Rattle.vhost_endpoint.specs.Asking.{request_with};
 ghost use Rattle.vhost_frontend_core.specs.Asking.{tested};
 ghost use Rattle.vhost_frontend_core.specs.Plan.{IsRecord, planned as planned_as, record_in, written};
 ghost use Rattle.vhost_frontend_core.specs.Regions.{info_in, lent, log_region_in};
@@ -22,7 +22,7 @@ ghost use Rattle.vhost_frontend_core.specs.declared.internal.plan.Asking.TheVari
 use crate::call::Call;
 use crate::session::{FrontendSession, param, protocol_in};
 use bitflags::Flags;
-use vhost_backend::{VhostUserDirtyLogRegion, VhostUserMemoryRegionInfo};
+use vhost_frontend_types::{VhostUserDirtyLogRegion, VhostUserMemoryRegionInfo};
 use vhost_message::{
     Error, FrontendReq, Result, VhostUserInflight, VhostUserLog, VhostUserMsgValidator,
     VhostUserSharedMsg, VhostUserSingleMemoryRegion, VhostUserTransferDeviceState,
@@ -50,7 +50,7 @@ pub enum Asking {
     /// As the session's flags say.
     AsFlagged,
     /// Not at all, whatever they say.
-    Quietly,
+    Unacknowledged,
     /// As one does that turns the state of both sides.
     Turning,
 }
@@ -75,7 +75,7 @@ impl<'a, H> Plan<'a, H> {
     {
         match self.asking {
             Asking::AsFlagged => self.next.flags(),
-            Asking::Quietly => self.next.quiet_flags(),
+            Asking::Unacknowledged => self.next.unacknowledged_flags(),
             Asking::Turning => self.next.turn_flags(),
         }
     }
@@ -351,12 +351,12 @@ fn acks_regions<'a, H>(
     code: FrontendReq,
     handle: Option<&'a H>,
 ) -> Result<Plan<'a, H>>
-    ensures { planned_as result ≡ ask.param (ask.is_mapping code) and_then ask.Sends (ask.quietly (frontend_of session) code (payload.U64 0) (given_handle (lent handle.entry))) Nobody (frontend_of session) }
+    ensures { planned_as result ≡ ask.param (ask.is_mapping code) and_then ask.Sends (ask.unacknowledged (frontend_of session) code (payload.U64 0) (given_handle (lent handle.entry))) Nobody (frontend_of session) }
 {
     param(is_mapping(code))?;
     Ok(Plan {
         request: code,
-        asking: Asking::Quietly,
+        asking: Asking::Unacknowledged,
         body: Record::U64(0),
         handle,
         awaited: Awaited::Nobody,
@@ -508,14 +508,14 @@ fn added<'a, H>(
     handle: &'a H,
 ) -> Plan<'a, H>
     ensures { planned_as (Ok result) ≡ (if is_listen (frontend_of session).postcopy
-        then ask.asks_quietly (frontend_of session) code.ADD_MEM_REG (payload.OneRegion region) (handle.entry.now ∷ []) shape.SingleMemoryRegion
+        then ask.asks_unacknowledged (frontend_of session) code.ADD_MEM_REG (payload.OneRegion region) (handle.entry.now ∷ []) shape.SingleMemoryRegion
         else ask.sends (frontend_of session) code.ADD_MEM_REG (payload.OneRegion region) (handle.entry.now ∷ [])) }
 {
     let body = Record::OneRegion(region);
     if session.is_listening() {
         return Plan {
             request: FrontendReq::ADD_MEM_REG,
-            asking: Asking::Quietly,
+            asking: Asking::Unacknowledged,
             body,
             handle: Some(handle),
             awaited: Awaited::Reply(Shape::SingleMemoryRegion),

@@ -23,7 +23,7 @@ use vhost_message::{
 use vhost_protocol::{Awaited, Shape};
 
 impl<L: Link> FrontendInternal<L> {
-    ghost use Rattle.vhost_connection.specs.Asking.{request_with};
+    ghost use Rattle.vhost_endpoint.specs.Asking.{request_with};
     ghost use Rattle.vhost_frontend_core.specs.Asking.{AsksWithRoom, Tries};
     ghost use Rattle.vhost_frontend_core.specs.Frontend.{endpoint_of, session_of, awaits};
     ghost use Rattle.vhost_frontend_core.specs.Taking.{IsAck, RecvsTable};
@@ -54,7 +54,7 @@ impl<L: Link> FrontendInternal<L> {
     ) -> Result<Sent>
         requires few { count ≤ MAX_MEM_REGIONS }
         requires handles { length handles.now ≤ MAX_ATTACHED_FD_ENTRIES }
-        ensures asked { AsksWithRoom L.event (ask.asks_quietly (session_of self.old) SET_MEM_TABLE (payload.Regions (take count table)) (map (λ h. h.now) handles.now) shape.Memory) (endpoint_of self.old) (session_of self.old) (awaits self.old) result (endpoint_of self.new) (session_of self.new) (awaits self.new) }
+        ensures asked { AsksWithRoom L.event (ask.asks_unacknowledged (session_of self.old) SET_MEM_TABLE (payload.Regions (take count table)) (map (λ h. h.now) handles.now) shape.Memory) (endpoint_of self.old) (session_of self.old) (awaits self.old) result (endpoint_of self.new) (session_of self.new) (awaits self.new) }
         ensures kept { IfOk result (λ sent. KeepsTable (take count table) sent.kept) }
     {
         let Ok(bases) = Vec::with_capacity(self.alloc, count) else {
@@ -63,7 +63,10 @@ impl<L: Link> FrontendInternal<L> {
         let Ok(regions) = Vec::from_slice(self.alloc, &table[..count]) else {
             return Err(Error::OutOfMemory);
         };
-        let request = (self.session.quiet_flags(), Awaited::Reply(Shape::Memory));
+        let request = (
+            self.session.unacknowledged_flags(),
+            Awaited::Reply(Shape::Memory),
+        );
         match self.send_table(request, &table[..count], handles) {
             Ok(mut sent) => {
                 sent.kept = Kept::Table(KeptTable {

@@ -13,7 +13,7 @@ ghost use Rattle.vhost_protocol.specs.FrontendCall.{LogRegion};
 ghost use Rattle.vhost_protocol.specs.Profile.{is_standard};
 ghost use Rattle.vhost_protocol.specs.declared.asked.Awaited.TheVariants.{Nobody, Reply};
 ghost use Rattle.vhost_protocol.specs.declared.asked.Shape.TheVariants as shape;
-ghost use Rattle.vhost_connection.specs.Calls.{HandsOver};
+ghost use Rattle.vhost_endpoint.specs.Calls.{HandsOver};
 ghost use Rattle.vhost_frontend_core.specs.Kept.{KeepsPlace};
 ghost use Rattle.vhost_frontend_core.specs.Taking.{valued};
 ghost use Rattle.vhost_frontend_core.specs.declared.asked.Kept.TheVariants.{Region};

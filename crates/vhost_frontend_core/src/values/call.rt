@@ -8,7 +8,7 @@ ghost use Rattle.vhost_frontend_core.specs.Values.{log_region_of};
 use crate::call::Call;
 use crate::regions::{RegionInfo, Regions};
 use bitflags::Flags;
-use vhost_backend::VhostUserDirtyLogRegion;
+use vhost_frontend_types::VhostUserDirtyLogRegion;
 use vhost_link::PlainHandle;
 use vhost_message::{
     ByteValued, FrontendReq, VhostTransferStateDirection, VhostTransferStatePhase,

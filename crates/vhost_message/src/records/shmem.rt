@@ -35,7 +35,24 @@ impl VhostUserShMemConfig {
             memory_sizes,
         }
     }
+
+    /// Its numbers fit their fields. It does nothing.
+    pub fn fits_law(&self)
+        ensures { ShMemConfigFits self.now }
+    {
+        let VhostUserShMemConfig {
+            nregions: _nregions,
+            padding: _padding,
+            memory_sizes: _sizes,
+        } = *self;
+        sizes_law(&self.memory_sizes);
+    }
 }
+
+/// Numbers of 64 bits fit them.
+fn sizes_law(sizes: &[u64])
+    ensures { (k : ℕ) → slice_index sizes.now k < 2 ^ 64 }
+{}
 
 impl Default for VhostUserShMemConfig {
     ghost is_default = { λ c. c ≡ shmem_config 0 [] };

@@ -3,7 +3,7 @@
 use crate::told::{Told, done, mapped, number};
 use std::cell::RefCell;
 use std::sync::{RwLock, Wait};
-use vhost_backend::{
+use vhost_frontend_types::{
     Error, Result, VhostBackend, VhostBackendMut, VhostUserDirtyLogRegion,
     VhostUserMemoryRegionInfo, VringConfigData,
 };

@@ -1,6 +1,6 @@
 //! Plain data.
 
-use vhost_backend::{VHOST_MAX_MEMORY_REGIONS, VhostAccess, VhostIotlbMsg, VhostIotlbType};
+use vhost_frontend_types::{VHOST_MAX_MEMORY_REGIONS, VhostAccess, VhostIotlbMsg, VhostIotlbType};
 
 #[test]
 fn messages(rt: HostRuntime) {

@@ -6,11 +6,11 @@ use std::io::{Read, Write};
 use std::net::Shutdown;
 use std::os::unix::net::UnixStream;
 use std::test::Fail;
-use vhost_backend_req_handler::SessionCore;
 use vhost_device::VhostUserBackendReqHandlerMut;
 use vhost_dummy_backend::DummyBackendReqHandler;
 use vhost_link::{Link, UnixLink};
 use vhost_message::{Error, Result as Answer};
+use vhost_serving::SessionCore;
 
 /// GET_FEATURES, SET_OWNER, SET_FEATURES of 0x40000001, GET_PROTOCOL_FEATURES, SET_PROTOCOL_FEATURES of REPLY_ACK, and SET_OWNER
 /// once more, to be acknowledged.

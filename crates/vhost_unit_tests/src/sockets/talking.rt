@@ -6,8 +6,8 @@ use std::io::{Read, Write};
 use std::os::unix::net::UnixStream;
 use std::sync::Wait;
 use std::test::Fail;
-use vhost_backend::VhostBackend;
 use vhost_frontend::Frontend;
+use vhost_frontend_types::VhostBackend;
 use vhost_link::{Link, UnixLink};
 
 /// GET_FEATURES.

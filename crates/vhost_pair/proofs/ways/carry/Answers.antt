@@ -1,4 +1,4 @@
-use Rattle.vhost_connection.specs.State.{ahead_of}
+use Rattle.vhost_endpoint.specs.State.{ahead_of}
 use Rattle.vhost_pair.proofs.Carrying.{carries}
 use Rattle.vhost_pair.proofs.ways.carry.Goals as goal
 

@@ -10,9 +10,9 @@ use Rattle.vhost_protocol.specs.Session.{Session, heard_in}
 use Rattle.vhost_protocol.specs.Split.{split, split_after, split_body, body_outcome}
 use Rattle.vhost_protocol.specs.Stream.{plain}
 use Rattle.vhost_link.specs.declared.plain.PlainHandle.{PlainHandle}
-use Rattle.vhost_backend_req_handler.specs.Core.{endpoint_of, session_in}
-use Rattle.vhost_backend_req_handler.specs.Opening.{OpensAsBackend, OpensAsGpu}
-use Rattle.vhost_backend_req_handler.specs.Serving.{fitting, kept_unsent}
+use Rattle.vhost_serving.specs.Core.{endpoint_of, session_in}
+use Rattle.vhost_serving.specs.Opening.{OpensAsBackend, OpensAsGpu}
+use Rattle.vhost_serving.specs.Serving.{fitting, kept_unsent}
 use Rattle.vhost_pair.specs.Device.{opens, kinds}
 use Rattle.vhost_promises.specs.Streams.{in_body}
 use Rattle.vhost_promises.proofs.Known.{one-none}

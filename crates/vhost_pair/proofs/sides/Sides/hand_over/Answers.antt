@@ -1,6 +1,6 @@
 use Rattle.std.proofs.Common.{◌≡◌, ◌∙◌, [], refl, sym, subst}
-use Rattle.vhost_connection.specs.State.{state}
-use Rattle.vhost_backend_req_handler.specs.Core.{endpoint_of as serving, session_in}
+use Rattle.vhost_endpoint.specs.State.{state}
+use Rattle.vhost_serving.specs.Core.{endpoint_of as serving, session_in}
 use Rattle.vhost_pair.specs.Sides as sides
 use Rattle.vhost_pair.specs.Sides.{parts_of, Reached}
 use Rattle.vhost_pair.specs.Wire.{text_in}

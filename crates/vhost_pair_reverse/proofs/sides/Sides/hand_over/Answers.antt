@@ -1,5 +1,5 @@
 use Rattle.std.proofs.Common.{◌∙◌, refl, sym}
-use Rattle.vhost_connection.specs.State.{state}
+use Rattle.vhost_endpoint.specs.State.{state}
 use Rattle.vhost_frontend_req_handler.specs.Core.{endpoint_of}
 use Rattle.vhost_pair.proofs.Carrying.{carried, full, copied}
 use Rattle.vhost_pair_reverse.specs.Sides as sides
