@@ -31,9 +31,8 @@ static uint64_t protocol_features_of(const struct covretin_device_calls *calls)
 {
     return calls->protocol_features | COVRETIN_PROTOCOL_MQ | COVRETIN_PROTOCOL_LOG_SHMFD | COVRETIN_PROTOCOL_REPLY_ACK |
            COVRETIN_PROTOCOL_PAGEFAULT | COVRETIN_PROTOCOL_RESET_DEVICE | COVRETIN_PROTOCOL_CONFIGURE_MEM_SLOTS |
-           COVRETIN_PROTOCOL_INFLIGHT_SHMFD |
-           (calls->read_config != NULL ? COVRETIN_PROTOCOL_CONFIG : 0) |
-           (calls->channel != NULL || calls->config_changed != NULL ? COVRETIN_PROTOCOL_BACKEND_REQ : 0);
+           COVRETIN_PROTOCOL_INFLIGHT_SHMFD | COVRETIN_PROTOCOL_BACKEND_REQ |
+           (calls->read_config != NULL ? COVRETIN_PROTOCOL_CONFIG : 0);
 }
 
 static enum covretin_error reply(struct session *session, bool is_done)
@@ -126,10 +125,8 @@ static enum covretin_error set_backend_req_fd(struct session *session)
     bool is_taken;
     if (covretin_call_fd(&session->frontend.backend, &fd))
         return reply(session, false);
-    if (session->calls->config_changed != NULL)
+    if (session->calls->config_changed != NULL || session->calls->channel == NULL)
         return reply(session, teller_begin(session, fd) && covretin_claim_call_fd(&session->frontend, fd) == COVRETIN_OK);
-    if (session->calls->channel == NULL)
-        return reply(session, false);
     pthread_mutex_unlock(&session->lock);
     is_taken = session->calls->channel(session->own, fd, session->protocol_features);
     pthread_mutex_lock(&session->lock);

@@ -87,9 +87,8 @@ typedef struct covretin_device_calls {
     /* What is offered, beside what is offered in any case: VERSION_1, EVENT_IDX, INDIRECT_DESC, LOG_ALL and PROTOCOL_FEATURES. */
     uint64_t features;
 
-    /* The same of protocol features: MQ, LOG_SHMFD, REPLY_ACK, PAGEFAULT, INFLIGHT_SHMFD, RESET_DEVICE and CONFIGURE_MEM_SLOTS are; CONFIG
-     * where there is `read_config`, BACKEND_REQ where there is `channel` or `config_changed`. Here is what these want on the channel, as
-     * BACKEND_SEND_FD. */
+    /* The same of protocol features: MQ, LOG_SHMFD, REPLY_ACK, PAGEFAULT, INFLIGHT_SHMFD, RESET_DEVICE, CONFIGURE_MEM_SLOTS and BACKEND_REQ
+     * are; CONFIG where there is `read_config`. Here is what `channel` wants, as BACKEND_SEND_FD. */
     uint64_t protocol_features;
 
     uint32_t queues; /* 1 to COVRETIN_DEVICE_MAX_QUEUES */

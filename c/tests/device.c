@@ -1508,6 +1508,26 @@ static void tells_of_a_changed_configuration(void)
     end();
 }
 
+/* A channel that no callback wants stays open until the session ends. */
+static void keeps_a_channel_that_nobody_wants(void)
+{
+    covretin_device_calls without = calls;
+    int ends[2];
+    char byte;
+    without.config_changed = NULL;
+    begin(&without);
+    negotiate(0);
+    if (socketpair(AF_UNIX, SOCK_STREAM | SOCK_CLOEXEC, 0, ends))
+        give_up("socketpair");
+    DONE(covretin_ask_set_backend_request_fd(&vmm.session, ends[1]));
+    close(ends[1]);
+    EXPECT(-1, recv(ends[0], &byte, 1, MSG_DONTWAIT));
+    EXPECT(EAGAIN, errno);
+    end();
+    EXPECT(0, recv(ends[0], &byte, 1, 0));
+    close(ends[0]);
+}
+
 /* A ring without eventfds is looked at each millisecond. */
 static void polls_a_ring_without_a_kick(void)
 {
@@ -1823,6 +1843,7 @@ int main(void)
     RUN(refuses_other_files);
     RUN(has_a_configuration);
     RUN(tells_of_a_changed_configuration);
+    RUN(keeps_a_channel_that_nobody_wants);
     RUN(polls_a_ring_without_a_kick);
     RUN(polls_a_quick_driver);
     RUN(waits_for_a_late_driver);

@@ -104,7 +104,7 @@ impl Device for Disk {
     }
 
     fn protocol_features(&self) -> VhostUserProtocolFeatures {
-        VhostUserProtocolFeatures::CONFIG | VhostUserProtocolFeatures::BACKEND_REQ
+        VhostUserProtocolFeatures::CONFIG
     }
 
     fn request(&self, mut request: Request) {

@@ -3,7 +3,7 @@
 mod common;
 
 use std::fs::{remove_file, File};
-use std::io::{Read, Write};
+use std::io::{ErrorKind, Read, Write};
 use std::os::unix::io::{AsRawFd, FromRawFd, OwnedFd};
 use std::os::unix::net::{UnixListener, UnixStream};
 use std::os::unix::thread::JoinHandleExt;
@@ -55,6 +55,21 @@ fn pipe() -> (File, File) {
         assert_eq!(0, libc::pipe2(ends.as_mut_ptr(), libc::O_CLOEXEC));
         (File::from_raw_fd(ends[0]), File::from_raw_fd(ends[1]))
     }
+}
+
+/// A channel that the device does not want stays open until the session ends.
+#[test]
+fn keeps_a_channel_that_nobody_wants() {
+    counted(|| {
+        let (mut machine, _ring) = begun(0, 0);
+        let (mut mine, other) = UnixStream::pair().unwrap();
+        machine.frontend.set_backend_request_fd(&other).unwrap();
+        drop(other);
+        mine.set_nonblocking(true).unwrap();
+        assert_eq!(ErrorKind::WouldBlock, mine.read(&mut [0]).unwrap_err().kind());
+        machine.end();
+        assert_eq!(0, mine.read(&mut [0]).unwrap());
+    });
 }
 
 /// What the device has stays mapped, and the end is told once it is done; also where the frontend waits meanwhile for a ring to stop.

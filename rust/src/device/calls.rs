@@ -190,7 +190,10 @@ impl<D: Device> VhostUserBackendReqHandler for Calls<D> {
     }
 
     fn set_backend_req_fd(&self, channel: Backend) {
-        let features = VhostUserProtocolFeatures::from_bits_truncate(self.shared.lock().protocol_features);
+        let mut state = self.shared.lock();
+        let features = VhostUserProtocolFeatures::from_bits_truncate(state.protocol_features);
+        state.channel = Some(channel.clone());
+        drop(state);
         channel.set_reply_ack_flag(features.contains(VhostUserProtocolFeatures::REPLY_ACK));
         channel.set_config_change_flag(features.contains(VhostUserProtocolFeatures::CONFIG));
         channel.set_shared_object_flag(features.contains(VhostUserProtocolFeatures::SHARED_OBJECT));

@@ -93,8 +93,8 @@ pub trait Device: Send + Sync {
         0
     }
 
-    /// The same of protocol features: MQ, LOG_SHMFD, REPLY_ACK, PAGEFAULT, INFLIGHT_SHMFD, RESET_DEVICE and CONFIGURE_MEM_SLOTS are. CONFIG
-    /// belongs here where there is `read_config`, BACKEND_REQ where there is `channel`, with what is wanted on it, as BACKEND_SEND_FD.
+    /// The same of protocol features: MQ, LOG_SHMFD, REPLY_ACK, PAGEFAULT, INFLIGHT_SHMFD, RESET_DEVICE, CONFIGURE_MEM_SLOTS and BACKEND_REQ
+    /// are. CONFIG belongs here where there is `read_config`, and what is wanted on the channel, as BACKEND_SEND_FD.
     fn protocol_features(&self) -> VhostUserProtocolFeatures {
         VhostUserProtocolFeatures::empty()
     }
@@ -124,7 +124,7 @@ pub trait Device: Send + Sync {
     /// The device is as it was at first; it has no request.
     fn reset(&self) {}
 
-    /// The backend channel.
+    /// The backend channel. It stays open until the session ends, also where it is dropped here.
     fn channel(&self, _channel: Backend) {}
 
     /// A request of the frontend, by its number, was refused, or ended the session.
@@ -220,7 +220,8 @@ fn protocol_features_of(device: &impl Device) -> VhostUserProtocolFeatures {
         | VhostUserProtocolFeatures::REPLY_ACK
         | VhostUserProtocolFeatures::INFLIGHT_SHMFD
         | VhostUserProtocolFeatures::RESET_DEVICE
-        | VhostUserProtocolFeatures::CONFIGURE_MEM_SLOTS;
+        | VhostUserProtocolFeatures::CONFIGURE_MEM_SLOTS
+        | VhostUserProtocolFeatures::BACKEND_REQ;
     if cfg!(not(feature = "compat-0_17")) {
         features |= VhostUserProtocolFeatures::PAGEFAULT;
     }

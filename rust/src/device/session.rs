@@ -348,7 +348,7 @@ impl<D: Device> Session<D> {
             ring.queue.forget();
             ring.error = None;
         }
-        (state.log, state.inflight, state.waits) = (None, None, false);
+        (state.log, state.inflight, state.channel, state.waits) = (None, None, None, false);
     }
 
     /// Says once that the session has ended, and all its requests. What it waits for stays ready from then on.

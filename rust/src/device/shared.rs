@@ -10,6 +10,7 @@ use super::{Ended, EVENT_IDX, INDIRECT_DESC, MAX_QUEUE_SIZE, RING_PACKED};
 use crate::foreign::{Bell, Event, Holder, Kick, Polled, Ringer, Timer, Watch};
 use crate::queue::{DescriptorChain, DirtyLog, Error, GuestAddress, GuestMemory, InflightRegion, Queue};
 use crate::vhost_user::message::VhostUserVirtioFeatures;
+use crate::vhost_user::Backend;
 
 /// What is polled beside the kicks of rings, by their numbers.
 pub(super) const SOCKET: u32 = 0x100;
@@ -64,6 +65,8 @@ pub(super) struct State {
     pub(super) log: Option<DirtyLog>,
     pub(super) inflight: Option<InflightRegion>,
     pub(super) arrival: Option<Arrival>,
+    /// The backend channel: User Mode Linux has no device whose channel is closed.
+    pub(super) channel: Option<Backend>,
     /// Requests that the device has, of all rings.
     pub(super) out: usize,
     /// Whether a call waits for some of them.
@@ -99,6 +102,7 @@ impl Shared {
             log: None,
             inflight: None,
             arrival: None,
+            channel: None,
             out: 0,
             waits: false,
             is_timed: false,
