@@ -1,11 +1,10 @@
 -- Changes of the configuration space are reported, where memory is found.
-use Rattle.std.proofs.Common.{◌≡◌, ◌<◌, ◌+◌, ℕ, suc, Bool, true, false, List, [], ◌++◌, Option, None, Some, Result, Ok, Err, refl, sym, ap, subst, ◌∙◌, append_assoc, arith}
+use Rattle.std.proofs.Common.{◌≡◌, ◌<◌, ◌+◌, ℕ, suc, Bool, true, false, List, [], ◌++◌, None, Some, Result, refl, sym, ap, subst, ◌∙◌, append_assoc, arith}
 use Rattle.std.specs.Prelude.{⊤, is_some}
 use Rattle.std.proofs.lemmas.List.{append-nil}
 use Rattle.vhost_message.specs.BackendReq.{backend_request_number}
 use Rattle.vhost_message.specs.declared.backend_req.BackendReq.{BackendReq}
 use Rattle.vhost_message.specs.declared.backend_req.BackendReq.TheVariants.{CONFIG_CHANGE_MSG}
-use Rattle.vhost_message.specs.declared.error.Error as declared
 use Rattle.vhost_protocol.specs.Reverse.{Backend, HandleConfigChange, Sends, reverse_ask}
 use Rattle.vhost_protocol.specs.Stream.{Cell}
 use Rattle.vhost_protocol.specs.Written.{Written, Empty, written_cells}
@@ -14,12 +13,13 @@ use Rattle.vhost_link.specs.declared.plain.PlainHandle.{PlainHandle}
 use Rattle.vhost_endpoint.specs.Talk.{State}
 use Rattle.vhost_backend_req.specs.Channel as link
 use Rattle.vhost_backend_req.specs.Channel.{backend_of}
-use Rattle.vhost_c_common.proofs.Wants.{IsWant, list_away, by_link, broke_before, failed}
-use Rattle.vhost_c_common.specs.View.{End, IsUncut, bare}
+use Rattle.vhost_c_common.proofs.Wanting.{is-uncut, wants}
+use Rattle.vhost_c_common.proofs.Wants.{failed}
+use Rattle.vhost_c_common.specs.Memory.{WantsMemory}
+use Rattle.vhost_c_common.specs.View.{End, bare}
 use Rattle.vhost_c_common.specs.declared.refusal.Refusal.{Refusal}
-use Rattle.vhost_c_common.specs.declared.refusal.Refusal.TheVariants.{Protocol}
-use Rattle.vhost_c_channel.specs.Asking.{Agrees, IsNew, Keeps, Asks, Refused, busy, no_memory, unasked, Unasked, refuses, fails, Takes, read, other_size, not_awaited, nothing_asked, not_yet, endpoint_of, missing_for, missing_of, remembers}
-use Rattle.vhost_c_channel.specs.Clients.{IsReporting, Reports, WantsMemory, report, reports}
+use Rattle.vhost_c_channel.specs.Asking.{Agrees, IsNew, Keeps, Asks, Refused, busy, no_memory, unasked, Unasked, refuses, fails, Takes, read, other_size, not_awaited, nothing_asked, not_yet, endpoint_of, missing_for, remembers}
+use Rattle.vhost_c_channel.specs.Clients.{IsReporting, Reports, report, reports}
 use Rattle.vhost_c_channel.specs.declared.asking.Channel.{Channel}
 use Rattle.vhost_c_channel.specs.declared.asking.Feature.TheVariants.{ConfigChange}
 
@@ -39,18 +39,10 @@ asked-is w b awaited is asked =
 
 -- ---- why not
 
-wants : (old : End) (e : declared.Error) → old.broken ≡ None → IsWant old e → WantsMemory (Protocol e)
-wants old _ sound (list_away is) = tt
-wants old _ sound by_link = refl
-wants old _ sound (broke_before at) = absurd (cc (sym sound ∙ at))
-
 module _ (cells : List (Cell PlainHandle)) (s : Channel) (is : IsReporting cells s) where
-  uncut : IsUncut (bare (endpoint_of s))
-  uncut = record { uncut = is.uncut; broken = λ c at. absurd (cc (sym is.sound ∙ at)) }
-
   unasked-wants : (t : Channel) (r : Refusal) → Unasked HandleConfigChange s t r → WantsMemory r
   unasked-wants t _ (refuses e refused same) = absurd (cc (sym (ap {A = Backend} (λ x. reverse_ask x HandleConfigChange) is.memory) ∙ refused))
-  unasked-wants t _ (fails {e = e} after sends f same) = wants (bare (endpoint_of s)) e is.sound (failed (bare (endpoint_of s)) after false e f uncut).1
+  unasked-wants t _ (fails {e = e} after sends f same) = wants (bare (endpoint_of s)) e is.sound (failed (bare (endpoint_of s)) after false e f (is-uncut (bare (endpoint_of s)) is.sound is.uncut)).1
 
   pub refused-wants : (t : Channel) (r : Refusal) → Refused HandleConfigChange s t r → WantsMemory r
   refused-wants t _ (busy some same) = absurd (cc (sym (ap is_some is.asked) ∙ some))

@@ -1,5 +1,5 @@
 -- A screen is given its size, where memory is found.
-use Rattle.std.proofs.Common.{◌≡◌, ◌<◌, ◌≤◌, ◌+◌, ℕ, suc, min, true, false, List, [], ◌++◌, length, take, Option, None, Some, Result, Ok, Err, refl, sym, ap, subst, ◌∙◌, append_assoc, arith}
+use Rattle.std.proofs.Common.{◌≡◌, ◌≤◌, ◌+◌, ℕ, suc, true, false, List, [], ◌++◌, length, take, Option, None, Some, Result, refl, sym, ap, subst, ◌∙◌, append_assoc, arith}
 use Rattle.std.specs.Prelude.{⊤, is_some}
 use Rattle.std.proofs.lemmas.List.{append-nil, length-take}
 use Rattle.vhost_message.specs.declared.cause.IoCause.TheVariants as cause
@@ -11,9 +11,9 @@ use Rattle.vhost_message.specs.declared.io_error.IoError.TheVariants as place
 use Rattle.vhost_message.specs.declared.limits.TheConstants.{MAX_MSG_TEXT}
 use Rattle.vhost_gpu_message.specs.declared.records.scanout.VhostUserGpuScanout.{VhostUserGpuScanout}
 use Rattle.vhost_protocol.specs.Error.{Error, OutOfMemory, SocketRetry, Raw, seen}
-use Rattle.vhost_protocol.specs.Gpu.{GpuCall, GpuSent, SetScanout, gpu_row, gpu_head, gpu_cells, gpu_refusal, sent_by}
+use Rattle.vhost_protocol.specs.Gpu.{GpuCall, SetScanout, gpu_row, gpu_head, gpu_cells, gpu_refusal, sent_by}
 use Rattle.vhost_protocol.specs.IoError.{IoError, In, seen_io}
-use Rattle.vhost_protocol.specs.Stream.{Cell, plain}
+use Rattle.vhost_protocol.specs.Stream.{Cell}
 use Rattle.vhost_link.specs.Ends.{Ends}
 use Rattle.vhost_link.specs.Law.{Move}
 use Rattle.vhost_link.specs.Mem.{event}
@@ -25,10 +25,11 @@ use Rattle.vhost_gpu_backend_req.specs.Halves.{FrontUnsent, NotReady, Keeps, gpu
 use Rattle.vhost_gpu_backend_req.specs.Halves as halves
 use Rattle.vhost_gpu_backend_req.specs.declared.call.Awaited.{Awaited}
 use Rattle.vhost_c_common.proofs.Wants.{IsWant, list_away, by_link, broke_before, failed}
+use Rattle.vhost_c_common.specs.Memory.{WantsMemory}
 use Rattle.vhost_c_common.specs.View.{End, IsUncut, bare}
 use Rattle.vhost_c_common.specs.declared.refusal.Refusal.{Refusal}
 use Rattle.vhost_c_common.specs.declared.refusal.Refusal.TheVariants.{Protocol}
-use Rattle.vhost_c_channel.specs.Clients.{IsSizing, Sizes, WantsMemory, size, sizes}
+use Rattle.vhost_c_channel.specs.Clients.{IsSizing, Sizes, size, sizes}
 use Rattle.vhost_c_channel.specs.Display as session
 use Rattle.vhost_c_channel.specs.Display.{IsNew, Asks, Refused, Unasked, Takes, endpoint_of, error_in, mark_of, queued}
 use Rattle.vhost_c_channel.specs.declared.display.Display.{Display}

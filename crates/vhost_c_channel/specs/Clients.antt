@@ -1,22 +1,16 @@
--- What follows of the calls of a device's session for one that reports changes of the configuration space; and of those of a session with a display for one that gives a screen its size.
+-- What follows of the calls of a device's session for one that reports changes of the configuration space; of those of a frontend's for one that hears of them; and of those of a session with a display for one that gives a screen its size.
 use Rattle.std.specs.Prelude.{◌≡◌, ℕ, zero, suc, true, false, List, [], ◌∷◌, ◌++◌, None, Result, Ok, Err, ⊤}
-use Rattle.vhost_message.specs.declared.cause.IoCause.TheVariants.{Raw}
-use Rattle.vhost_message.specs.declared.errno.TheConstants.{ENOMEM}
-use Rattle.vhost_message.specs.declared.error.Error.TheVariants.{OutOfMemory, SocketRetry}
 use Rattle.vhost_protocol.specs.Stream.{Cell, plain}
 use Rattle.vhost_link.specs.declared.plain.PlainHandle.{PlainHandle}
+use Rattle.vhost_frontend_req_handler.specs.Core as core
+use Rattle.vhost_c_common.specs.Memory.{WantsMemory}
 use Rattle.vhost_c_common.specs.declared.refusal.Refusal.{Refusal}
-use Rattle.vhost_c_common.specs.declared.refusal.Refusal.TheVariants.{Protocol}
 use Rattle.vhost_c_channel.specs.Asking.{endpoint_of, queued, remembers}
 use Rattle.vhost_c_channel.specs.Display as display
+use Rattle.vhost_c_channel.specs.Serving as serving
 use Rattle.vhost_c_channel.specs.declared.asking.Channel.{Channel}
 use Rattle.vhost_c_channel.specs.declared.display.Display.{Display}
-
--- memory was refused, and nothing else is the cause
-abbrev pub WantsMemory : Refusal → Type 0
-WantsMemory (Protocol OutOfMemory) = ⊤
-WantsMemory (Protocol (SocketRetry c)) = c ≡ Raw ENOMEM
-WantsMemory r = ⊥
+use Rattle.vhost_c_channel.specs.declared.serving.ChannelServer.{ChannelServer}
 
 -- ---- changes are reported
 
@@ -41,6 +35,32 @@ pub record IsReporting (cells : List (Cell PlainHandle)) (s : Channel) : Type 0 
 abbrev pub Reports : List (Cell PlainHandle) → Result ⊤ Refusal → Channel → Type 0
 Reports cells (Ok done) s = IsReporting cells s
 Reports cells (Err r) s = WantsMemory r
+
+-- ---- changes are heard of
+
+-- what is sent to acknowledge one
+abbrev pub acknowledgement : List (Cell PlainHandle)
+acknowledgement = plain (2 ∷ 0 ∷ 0 ∷ 0 ∷ 5 ∷ 0 ∷ 0 ∷ 0 ∷ 8 ∷ 0 ∷ 0 ∷ 0 ∷ 0 ∷ 0 ∷ 0 ∷ 0 ∷ 0 ∷ 0 ∷ 0 ∷ 0 ∷ [])
+
+-- what is sent to acknowledge so many
+abbrev pub acknowledgements : ℕ → List (Cell PlainHandle)
+acknowledgements zero = []
+acknowledgements (suc n) = acknowledgements n ++ acknowledgement
+
+-- A session acknowledges requests, no call is to be replied to, nothing came, this is to be sent, it is sound, and no call of its link is cut.
+pub record IsHearing (cells : List (Cell PlainHandle)) (s : ChannelServer) : Type 0 where
+  pub queue : serving.queued s ≡ cells
+  pub came : serving.arrived s ≡ []
+  pub count : s.incoming.count ≡ 0
+  pub idle : serving.has_call s ≡ false
+  pub memory : serving.remembers s ≡ record { reply_ack = true; failed = None }
+  pub sound : (core.endpoint_of s.core).broken ≡ None
+  pub uncut : (core.endpoint_of s.core).link.script ≡ []
+
+-- Exactly this is to be sent; or memory was refused.
+abbrev pub Hears : List (Cell PlainHandle) → Result ⊤ Refusal → ChannelServer → Type 0
+Hears cells (Ok done) s = IsHearing cells s
+Hears cells (Err r) s = WantsMemory r
 
 -- ---- a screen is given its size
 

@@ -3,7 +3,8 @@
 ghost use Rattle.std.specs.Prelude.{◌≡◌, ◌++◌, List, IfOk, IfErr};
 ghost use Rattle.vhost_protocol.specs.Stream.{Cell};
 ghost use Rattle.vhost_link.specs.declared.plain.PlainHandle.{PlainHandle};
-ghost use Rattle.vhost_c_channel.specs.Clients.{report, reports, IsReporting, Reports, WantsMemory};
+ghost use Rattle.vhost_c_common.specs.Memory.{WantsMemory};
+ghost use Rattle.vhost_c_channel.specs.Clients.{report, reports, IsReporting, Reports};
 
 use crate::asking::{Channel, Feature};
 use std::alloc::Global;

@@ -10,6 +10,7 @@ mod display_clients;
 mod display_records;
 mod records;
 mod serving;
+mod serving_clients;
 
 pub use asking::{Channel, Feature};
 pub use display::Display;

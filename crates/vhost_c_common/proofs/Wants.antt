@@ -14,8 +14,11 @@ use Rattle.vhost_link.specs.Law.{Refused, Move, Moved}
 use Rattle.vhost_link.specs.Mem.{event}
 use Rattle.vhost_link.specs.declared.cut.Cut.{Cut}
 use Rattle.vhost_link.specs.declared.plain.PlainHandle.{PlainHandle}
-use Rattle.vhost_endpoint.specs.Talk.{Serves, has_moved}
+use Rattle.vhost_endpoint.specs.Talk as talk
+use Rattle.vhost_endpoint.specs.Talk.{Growth, Serves, Trouble, has_moved}
 use Rattle.vhost_endpoint.specs.Hearing.{Fails, was_broken, no_memory, fault}
+use Rattle.vhost_endpoint.specs.Requests.{Stops}
+use Rattle.vhost_protocol.specs.Stream.{Cell}
 use Rattle.vhost_c_common.specs.View.{End, IsUncut, Lasts, StaysSound}
 
 none-left : (n : ℕ) → drop {A = Cut} n [] ≡ []
@@ -67,6 +70,19 @@ failed old new between e (no_memory sound is at) u = (alike old new (ap {A = End
 failed old new between e (fault c m unbroken fell failures retries retry short broken faulted rest) u =
     let l = last fell.before new.link c fell.last (still old.link fell.before fell.talks.below fell.talks.moved u.uncut) in
     (record { uncut = l.1; broken = chosen (between || has_moved m) c new.broken broken l.0 }, error-want old c l.0)
+
+-- one that met trouble before it was served
+pub troubled : (old new : End) {limit : ℕ} {grows : Growth} {breaks : Bool} {m : Move PlainHandle} (e : declared.Error) → Trouble event old limit grows breaks m e new → IsUncut old → IsWant old e
+troubled old new _ (talk.was_broken {c = c} is none same) u = broken-want old c is (u.broken c is)
+troubled old new _ (talk.no_memory grows sound is none same) u = list_away is
+troubled old new _ (talk.fault c unbroken fell failures retries retry broken faulted rest) u =
+    error-want old c (last fell.before new.link c fell.last (still old.link fell.before fell.talks.below fell.talks.moved u.uncut)).0
+
+-- a reply that was stopped
+pub halted : (old new : End) (cells : List (Cell PlainHandle)) (e : declared.Error) → Stops event old cells e new → IsUncut old → IsWant old e
+halted old new cells e stops u =
+    subst {A = declared.Error} (λ x. IsWant old x) (sym stops.error)
+    (error-want old stops.cause (last stops.fell.before new.link stops.cause stops.fell.last (still old.link stops.fell.before stops.fell.talks.below stops.fell.talks.moved u.uncut)).0)
 
 -- what that leaves of its soundness
 retries : (c : IoCause) (old new : End) → c ≡ Raw ENOMEM → (new.broken ≡ old.broken) ⊎ ((old.broken ≡ None) × (new.broken ≡ Some c)) → Lasts (error_of c) old new

@@ -1,6 +1,7 @@
 pub mod ByNumber
 pub mod Carrying
 pub mod Incoming
+pub mod Memory
 pub mod Moving
 pub mod Number
 pub mod Profile

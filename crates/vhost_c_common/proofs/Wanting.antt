@@ -1,0 +1,75 @@
+-- What the worked consequences of all sessions have in common: a request comes whole, and a call fails for want of memory alone.
+use Rattle.std.proofs.Common.{◌≡◌, ◌<◌, ◌≤◌, ◌+◌, ◌-◌, ℕ, Bool, true, false, List, [], ◌∷◌, ◌++◌, length, map, min, take, drop, Option, Some, None, inl, inr, refl, sym, ap, ◌∙◌, arith}
+use Rattle.std.specs.Prelude.{nat_lt, if◌then◌else◌, is_some}
+use Rattle.std.proofs.lemmas.List.{take-append-drop}
+use Rattle.vhost_message.specs.Header.{header_of}
+use Rattle.vhost_message.specs.declared.error.Error as declared
+use Rattle.vhost_message.specs.declared.error.Error.TheVariants.{InvalidParam, OutOfMemory}
+use Rattle.vhost_protocol.specs.Split.{announced}
+use Rattle.vhost_protocol.specs.Stream.{Cell, carrying, plain}
+use Rattle.vhost_link.proofs.Cells.{plain-is}
+use Rattle.vhost_link.specs.declared.plain.PlainHandle.{PlainHandle}
+use Rattle.vhost_c_common.proofs.Wants.{IsWant, list_away, by_link, broke_before}
+use Rattle.vhost_c_common.specs.Incoming.{Adds, missing_by}
+use Rattle.vhost_c_common.specs.Memory.{WantsMemory}
+use Rattle.vhost_c_common.specs.Moving.{TakesIn}
+use Rattle.vhost_c_common.specs.Records.{handle_in}
+use Rattle.vhost_c_common.specs.View.{End, GivesNone, IsUncut, TakesNone}
+use Rattle.vhost_c_common.specs.declared.incoming.Incoming.{Incoming}
+use Rattle.vhost_c_common.specs.declared.refusal.Refusal.{Refusal}
+use Rattle.vhost_c_common.specs.declared.refusal.Refusal.TheVariants.{Protocol, TooManyBytes}
+
+-- ---- memory was refused
+
+-- to an end that was not broken before
+pub wants : (old : End) (e : declared.Error) → old.broken ≡ None → IsWant old e → WantsMemory (Protocol e)
+wants old _ sound (list_away is) = tt
+wants old _ sound by_link = refl
+wants old _ sound (broke_before at) = absurd (cc (sym sound ∙ at))
+
+-- no call of it is cut
+pub is-uncut : (old : End) → old.broken ≡ None → old.link.script ≡ [] → IsUncut old
+is-uncut old sound script = record { uncut = script; broken = λ c at. absurd (cc (sym sound ∙ at)) }
+
+-- bytes without a descriptor were not given to it
+given : (bytes : List ℕ) (e : declared.Error) → 0 < length bytes → GivesNone bytes [] e → WantsMemory (Protocol e)
+given bytes InvalidParam some (inl (none, fds)) = absurd (omega (arith, some, none))
+given bytes InvalidParam some (inr (inl many)) = absurd (omega (arith, many))
+given bytes InvalidParam some (inr (inr has)) = absurd (omega (arith, has.1))
+given bytes OutOfMemory some is = tt
+given bytes _ some is = absurd is
+
+-- they were not received, though no more than are missing
+pub untaken : (missing : ℕ) (bytes : List ℕ) (r : Refusal) → length bytes ≤ missing → 0 < length bytes → TakesNone missing bytes [] r → WantsMemory r
+untaken missing bytes TooManyBytes few some more = absurd (omega (arith, few, more))
+untaken missing bytes (Protocol e) few some none = given bytes e some none
+untaken missing bytes _ few some none = absurd none
+
+-- ---- a request comes whole
+
+bare : (hs : List PlainHandle) → map handle_in [] ≡ map Some hs → hs ≡ []
+bare [] is = refl
+bare (h ∷ hs) is = absurd cc
+
+-- its bytes, behind nothing
+pub comes : (bytes : List ℕ) (before after : List (Cell PlainHandle)) → before ≡ [] → TakesIn bytes [] before after → after ≡ plain bytes
+comes bytes before after none x =
+    x.got ∙ ap (λ cs. cs ++ carrying x.handles bytes) none ∙ ap (λ hs. carrying hs bytes) (bare x.handles x.of_fds) ∙ plain-is bytes
+
+-- the header is known, and nothing is missing where it announces no body
+missing-none : {R : Type 0} (code : ℕ → Option R) (n size : ℕ) (known : Bool) → n ≡ 12 → size ≡ 0 → (if nat_lt n 12 then 12 - n else if known then 12 + size - n else 0) ≡ 0
+missing-none code n size true whole none = rw (whole, none) refl
+missing-none code n size false whole none = rw whole refl
+
+module _ {R : Type 0} (code : ℕ → Option R) (bytes : List ℕ) (old new : Incoming) (nothing : old.count ≡ 0) (adds : Adds bytes old new) where
+  head-is : length bytes ≡ 12 → take 12 bytes ≡ bytes → new.head ≡ bytes ++ drop 12 new.head
+  head-is long all =
+      let count : old.count + length bytes ≡ 12 = omega (arith, nothing, long) in
+      sym (take-append-drop 12 new.head) ∙ ap (λ xs. xs ++ drop 12 new.head)
+      (ap (λ k. take k new.head) (sym count) ∙ adds.head ∙ ap (λ k. take 12 (take k old.head ++ bytes)) nothing ∙ all)
+
+  pub none-missing : length bytes ≡ 12 → take 12 bytes ≡ bytes → ((rest : List ℕ) → (header_of (bytes ++ rest)).size ≡ 0) → missing_by code new ≡ 0
+  none-missing long all none =
+      let count : new.count ≡ 12 = adds.count ∙ ap (λ k. min (k + length bytes) 18446744073709551615) nothing ∙ ap (λ k. min (0 + k) 18446744073709551615) long in
+      missing-none code new.count (header_of new.head).size (is_some (announced code (header_of new.head))) count
+      (ap (λ h. (header_of h).size) (head-is long all) ∙ none (drop 12 new.head))
