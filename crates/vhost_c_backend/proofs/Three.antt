@@ -1,5 +1,5 @@
 -- Three requests are served, one after another.
-use Rattle.std.proofs.Common.{◌≡◌, ℕ, Bool, true, false, cond, ◌&&◌, List, [], ◌∷◌, ◌++◌, map, Option, Some, None, Result, Ok, Err, ◌⊎◌, inl, inr, refl, sym, ap, subst, ◌∙◌, arith}
+use Rattle.std.proofs.Common.{◌≡◌, ℕ, Bool, true, false, cond, ◌&&◌, List, [], ◌++◌, Option, Some, None, Result, Ok, Err, ◌⊎◌, inl, inr, refl, sym, ap, subst, ◌∙◌, arith}
 use Rattle.std.specs.Prelude.{⊤, ◌||◌, not, if◌then◌else◌}
 use Rattle.std.specs.Option.{IsSomeAnd}
 use Rattle.std.proofs.lemmas.List.{append-nil}
@@ -16,10 +16,10 @@ use Rattle.vhost_protocol.specs.Settled.{awaits_reply, ended, refused_reply, say
 use Rattle.vhost_protocol.specs.Session.{Session, ack_on, heard_in}
 use Rattle.vhost_protocol.specs.Split.{split, split_after, split_body, body_outcome}
 use Rattle.vhost_protocol.specs.Step.{Outcome, with_ack}
-use Rattle.vhost_protocol.specs.Stream.{Cell, plain, carrying}
+use Rattle.vhost_protocol.specs.Stream.{Cell, plain}
 use Rattle.vhost_protocol.specs.Written.{U64}
 use Rattle.vhost_link.specs.declared.plain.PlainHandle.{PlainHandle}
-use Rattle.vhost_serving_core.specs.Concluding.{FollowsFrom, done_in, number_in}
+use Rattle.vhost_serving_core.specs.Concluding.{Beside, FollowsFrom, done_in, number_in}
 use Rattle.vhost_serving_core.specs.Session.{session_of}
 use Rattle.vhost_serving_core.specs.declared.answer.DeviceAnswer.{DeviceAnswer}
 use Rattle.vhost_serving_core.specs.declared.answer.DeviceAnswer.TheVariants as answer
@@ -27,10 +27,9 @@ use Rattle.vhost_protocol.specs.Answered.{with_features}
 use Rattle.vhost_serving.specs.Calling.{beside}
 use Rattle.vhost_serving.specs.Serving.{reply_cells}
 use Rattle.vhost_serving.specs.declared.service.Service.{Service}
+use Rattle.vhost_c_common.proofs.Wanting.{comes}
 use Rattle.vhost_c_common.specs.ByNumber.{By, none, some}
-use Rattle.vhost_c_common.specs.Moving.{TakesIn}
 use Rattle.vhost_c_common.specs.Number.{outcome_number}
-use Rattle.vhost_c_common.specs.Records.{handle_in}
 use Rattle.vhost_c_common.specs.declared.refusal.Refusal.{Refusal}
 use Rattle.vhost_c_backend.specs.Calls.{asked_number}
 use Rattle.vhost_c_backend.specs.Replies.{form_in, Gives, Rejects}
@@ -49,17 +48,9 @@ never r zero = grind arith
 
 -- ---- a request comes
 
-bare : (hs : List PlainHandle) → map handle_in [] ≡ map Some hs → hs ≡ []
-bare [] is = refl
-bare (h ∷ hs) is = absurd cc
-
 -- what a session keeps between two calls
-abbrev Kept : Type 0
+abbrev pub Kept : Type 0
 Kept = Option (Pending PlainHandle) × List ℕ × Service × ℕ
-
-plain-text : (text : List ℕ) → carrying {H = PlainHandle} [] text ≡ plain text
-plain-text [] = refl
-plain-text (b ∷ bs) = refl
 
 module _ (text : List ℕ) (m : Request) (memory : Session) (queue : List (Cell PlainHandle)) (number : ℕ) (is : split (heard_in memory) allows_handles (plain text) ≡ (Ok m, [])) (unmarked : memory.failed ≡ None) where
   read : (s : Served) {n : ℕ} {new : Option Served} → arrived s ≡ plain text → remembers s ≡ memory → queued s ≡ queue → By (Beginning number) (Some s) n new → n ≡ 0 → IsSomeAnd new (HasRead m memory queue number)
@@ -77,8 +68,7 @@ module _ (text : List ℕ) (m : Request) (memory : Session) (queue : List (Cell 
   pub coming : {old mid new : Option Served} {r n : ℕ} → IsSomeAnd old (IsWaiting memory queue) → By (Receiving text []) old r mid → By (Beginning number) mid n new → r ≡ 0 → n ≡ 0 → IsSomeAnd new (HasRead m memory queue number)
   coming waits none next zero = absurd (cc zero)
   coming waits (some {s = s} {s' = t} {outcome = Ok u} got) next zero =
-      let x : TakesIn text [] (arrived s) (arrived t) = got.0.1 in
-      read t (x.got ∙ ap (λ cs. cs ++ carrying x.handles text) waits.came ∙ ap (λ hs. carrying hs text) (bare x.handles x.of_fds) ∙ plain-text text)
+      read t (comes text (arrived s) (arrived t) waits.came got.0.1)
       (ap {A = Kept} (λ k. session_of k.2.session) got.0.3.rest ∙ waits.memory) (got.0.3.queue ∙ waits.queue) next
   coming waits (some {outcome = Err r} got) next zero = absurd (never r zero)
 
@@ -167,9 +157,14 @@ features_cells n = reply_cells GET_FEATURES (Replied (U64 n) [])
 pub features-bytes : (n : ℕ) → features_cells n ≡ plain (features_reply n)
 features-bytes n = refl
 
+-- what the request becomes where others were offered before
+pub features-given : (before n : ℕ) (f : Form) (a : DeviceAnswer PlainHandle) (b : Beside) (o : Outcome PlainHandle) → Gives f (reply.Number n) a → FollowsFrom {B = Channel} {G = Display} (offering before) b a (row (offering before) (asks GET_FEATURES)) o
+    → o ≡ with_features (offering before) (Ok n)
+features-given before n f a b o gives follows = follows ∙ ap {A = DeviceAnswer PlainHandle} (λ d. with_features (offering before) (number_in d)) (number-given f n a gives)
+
 features-went : (n : ℕ) (s : Served) → Went (asks GET_FEATURES) (reply.Number n) new_session [] s → IsWaiting (offering n) (features_cells n) s
 features-went n s w =
-    let is : w.outcome ≡ with_features new_session (Ok n) = w.follows ∙ ap {A = DeviceAnswer PlainHandle} (λ a. with_features new_session (number_in a)) (number-given w.form n w.answer w.gives) in
+    let is : w.outcome ≡ with_features new_session (Ok n) = features-given 0 n w.form w.answer (beside w.regions w.place) w.outcome w.gives w.follows in
     subst {A = Outcome PlainHandle} (λ o. IsWaiting (settled new_session (asks GET_FEATURES) o).session (reply_cells GET_FEATURES (settled new_session (asks GET_FEATURES) o).served) s) is w.waits
 
 both-false : {A : Type 0} (b : Bool) (x y : A) → (if b && false then x else y) ≡ y

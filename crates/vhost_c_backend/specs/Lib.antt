@@ -1,4 +1,5 @@
 pub mod Calls
+pub mod Clients
 pub mod Arguments
 pub mod Replies
 pub mod Served

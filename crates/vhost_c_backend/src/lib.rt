@@ -3,6 +3,7 @@
 
 mod arguments;
 mod calls;
+mod clients;
 mod regions;
 mod replies;
 mod served;

@@ -2,6 +2,7 @@
 
 ghost use Rattle.std.specs.Prelude.{◌≡◌, ◌≤◌, IfOk, IfErr, is_some};
 ghost use Rattle.vhost_c_common.specs.Number.{error_number};
+ghost use Rattle.vhost_message.specs.declared.error.Error.TheVariants.{OutOfMemory};
 
 use crate::arguments::{
     fd_of_call, inflight_of, log_of, number_of, ring_fd_of, ring_of, transfer_of, vring_of,
@@ -59,7 +60,8 @@ impl Served {
     ///
     /// OutOfMemory: an allocation failed.
     pub fn new(alloc: Global) -> std::result::Result<Served, Error>
-        ensures { IfOk result (λ s. IsNew s) }
+        ensures new { IfOk result (λ s. IsNew s) }
+        ensures memory { IfErr result (λ e. e ≡ OutOfMemory) }
     {
         let link = MemLink::new(alloc, Vec::new(alloc));
         let Ok(outgoing) = Outgoing::new(alloc) else {
