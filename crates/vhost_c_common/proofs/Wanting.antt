@@ -1,10 +1,13 @@
 -- What the worked consequences of all sessions have in common: a request comes whole, and a call fails for want of memory alone.
 use Rattle.std.proofs.Common.{◌≡◌, ◌<◌, ◌≤◌, ◌+◌, ◌-◌, ℕ, Bool, true, false, List, [], ◌∷◌, ◌++◌, length, map, min, take, drop, Option, Some, None, inl, inr, refl, sym, ap, ◌∙◌, arith}
-use Rattle.std.specs.Prelude.{nat_lt, if◌then◌else◌, is_some}
+use Rattle.std.specs.Prelude.{⊤, nat_lt, if◌then◌else◌, is_some}
 use Rattle.std.proofs.lemmas.List.{take-append-drop}
 use Rattle.vhost_message.specs.Header.{header_of}
+use Rattle.vhost_message.specs.declared.cause.IoCause.TheVariants as cause
+use Rattle.vhost_message.specs.declared.errno.TheConstants.{ENOMEM}
 use Rattle.vhost_message.specs.declared.error.Error as declared
-use Rattle.vhost_message.specs.declared.error.Error.TheVariants.{InvalidParam, OutOfMemory}
+use Rattle.vhost_message.specs.declared.error.Error.TheVariants as code
+use Rattle.vhost_protocol.specs.Error.{Error, OutOfMemory, Raw, SocketRetry, seen}
 use Rattle.vhost_protocol.specs.Split.{announced}
 use Rattle.vhost_protocol.specs.Stream.{Cell, carrying, plain}
 use Rattle.vhost_link.proofs.Cells.{plain-is}
@@ -27,16 +30,33 @@ wants old _ sound (list_away is) = tt
 wants old _ sound by_link = refl
 wants old _ sound (broke_before at) = absurd (cc (sym sound ∙ at))
 
+-- as the definitions see such an error
+abbrev pub Wanting : Error → Type 0
+Wanting OutOfMemory = ⊤
+Wanting (SocketRetry c) = c ≡ Raw ENOMEM
+Wanting e = ⊥
+
+pub wanted : (e : declared.Error) → Wanting (seen e) → WantsMemory (Protocol e)
+wanted (code.SocketRetry (cause.Raw n)) w = ap cause.Raw (cc w)
+wanted (code.SocketRetry (cause.Named name)) w = absurd (cc w)
+wanted code.OutOfMemory w = tt
+wanted _ w = absurd w
+
+pub wants-seen : (old : End) (e : declared.Error) → old.broken ≡ None → IsWant old e → Wanting (seen e)
+wants-seen old _ sound (list_away is) = tt
+wants-seen old _ sound by_link = refl
+wants-seen old _ sound (broke_before at) = absurd (cc (sym sound ∙ at))
+
 -- no call of it is cut
 pub is-uncut : (old : End) → old.broken ≡ None → old.link.script ≡ [] → IsUncut old
 is-uncut old sound script = record { uncut = script; broken = λ c at. absurd (cc (sym sound ∙ at)) }
 
 -- bytes without a descriptor were not given to it
 given : (bytes : List ℕ) (e : declared.Error) → 0 < length bytes → GivesNone bytes [] e → WantsMemory (Protocol e)
-given bytes InvalidParam some (inl (none, fds)) = absurd (omega (arith, some, none))
-given bytes InvalidParam some (inr (inl many)) = absurd (omega (arith, many))
-given bytes InvalidParam some (inr (inr has)) = absurd (omega (arith, has.1))
-given bytes OutOfMemory some is = tt
+given bytes code.InvalidParam some (inl (none, fds)) = absurd (omega (arith, some, none))
+given bytes code.InvalidParam some (inr (inl many)) = absurd (omega (arith, many))
+given bytes code.InvalidParam some (inr (inr has)) = absurd (omega (arith, has.1))
+given bytes code.OutOfMemory some is = tt
 given bytes _ some is = absurd is
 
 -- they were not received, though no more than are missing
