@@ -1,34 +1,22 @@
 -- A report that the configuration space changed is heard, and replied to.
-use Rattle.std.proofs.Common.{◌≡◌, ℕ, true, false, List, [], ◌∷◌, ◌++◌, map, Option, None, Some, Result, Ok, Err, refl, sym, ap, subst, ◌∙◌, arith}
-use Rattle.std.specs.Prelude.{Bool, ⊤, if◌then◌else◌}
+use Rattle.std.proofs.Common.{◌≡◌, ℕ, true, false, List, [], ◌∷◌, ◌++◌, Option, None, Some, Ok, Err, sym, ap, subst, ◌∙◌, arith}
 use Rattle.std.specs.Option.{IsSomeAnd}
-use Rattle.vhost_message.specs.BackendReq.{backend_request_of, backend_request_number}
-use Rattle.vhost_message.specs.Cause.{error_of, is_retry, is_break, is_denial}
-use Rattle.vhost_message.specs.declared.backend_req.BackendReq.{BackendReq}
-use Rattle.vhost_message.specs.declared.backend_req.BackendReq.TheVariants.{CONFIG_CHANGE_MSG}
-use Rattle.vhost_message.specs.declared.cause.IoCause.{IoCause}
+use Rattle.vhost_message.specs.BackendReq.{backend_request_of}
 use Rattle.vhost_message.specs.declared.error.Error as declared
-use Rattle.vhost_message.specs.declared.error.Error.TheVariants.{SocketError, SocketConnect, SocketBroken, SocketRetry}
-use Rattle.vhost_protocol.specs.Reverse.{Server, HandleConfigChange, Calls, ReverseCall, ReverseStep, backend_allows_handles, reverse_row_of, with_number}
-use Rattle.vhost_protocol.specs.Served.{Silent, Replied, reply, cells_of}
-use Rattle.vhost_protocol.specs.Split.{split, split_after, split_body, body_outcome}
-use Rattle.vhost_protocol.specs.Stream.{Cell, plain, carrying}
-use Rattle.vhost_protocol.specs.Written.{U64}
+use Rattle.vhost_protocol.specs.Reverse.{Server, backend_allows_handles}
+use Rattle.vhost_protocol.specs.Split.{split}
+use Rattle.vhost_protocol.specs.Stream.{plain}
 use Rattle.vhost_link.specs.Ends.{Ends}
 use Rattle.vhost_link.specs.declared.plain.PlainHandle.{PlainHandle}
 use Rattle.vhost_endpoint.specs.Memory.{stream}
-use Rattle.vhost_endpoint.specs.declared.request.Request as code
 use Rattle.vhost_endpoint.specs.Talk.{State}
-use Rattle.vhost_frontend_req_handler.specs.Calling.{call_in}
 use Rattle.vhost_frontend_req_handler.specs.Core.{number_cells}
 use Rattle.vhost_frontend_req_handler.specs.declared.call.FrontendSideCall.{FrontendSideCall}
-use Rattle.vhost_frontend_req_handler.specs.declared.call.FrontendSideCall.TheVariants as call
+use Rattle.vhost_c_common.proofs.Wanting.{comes}
 use Rattle.vhost_c_common.specs.ByNumber.{By, none, some}
-use Rattle.vhost_c_common.specs.Moving.{TakesIn}
 use Rattle.vhost_c_common.specs.Number.{outcome_number}
-use Rattle.vhost_c_common.specs.Records.{handle_in}
 use Rattle.vhost_c_common.specs.declared.refusal.Refusal.{Refusal}
-use Rattle.vhost_c_channel.specs.Arguments.{call_number}
+use Rattle.vhost_c_channel.proofs.Change.{Kept, acknowledged, called, change, replying, report, splits, unhanded}
 use Rattle.vhost_c_channel.specs.Serving.{Request, Acknowledges, Answering, Beginning, Begins, Concludes, IsNew, IsServed, Receiving, Replies, arrived, concluded, is_handed, queued, remembers, stopped, told}
 use Rattle.vhost_c_channel.specs.declared.serving.ChannelServer.{ChannelServer}
 use Rattle.vhost_c.specs.Channel.{OpensServer, Acknowledging, opened, was_open, no_room}
@@ -36,21 +24,7 @@ use Rattle.vhost_c.specs.Channel.{OpensServer, Acknowledging, opened, was_open, 
 never : (r : Refusal) → outcome_number (Err r) ≡ 0 → ⊥
 never r zero = grind arith
 
--- the report, and its bytes
-abbrev change : Request
-change = record { request = CONFIG_CHANGE_MSG; reply = false; need_reply = true; body = []; handles = [] }
-
-abbrev report : List ℕ
-report = 2 ∷ 0 ∷ 0 ∷ 0 ∷ 9 ∷ 0 ∷ 0 ∷ 0 ∷ 0 ∷ 0 ∷ 0 ∷ 0 ∷ []
-
-splits : split backend_request_of backend_allows_handles (plain report) ≡ (Ok change, [])
-unfolding split split_after split_body body_outcome
-splits = refl
-
--- what is remembered, and the bytes of the reply
-abbrev replying : Server
-replying = record { reply_ack = true; failed = None }
-
+-- the bytes of the reply
 abbrev done : List ℕ
 done = 2 ∷ 0 ∷ 0 ∷ 0 ∷ 5 ∷ 0 ∷ 0 ∷ 0 ∷ 8 ∷ 0 ∷ 0 ∷ 0 ∷ 0 ∷ 0 ∷ 0 ∷ 0 ∷ 0 ∷ 0 ∷ 0 ∷ 0 ∷ []
 
@@ -69,14 +43,6 @@ agreed s t fresh says = record {
   queue = (λ i. (says.outgoing i).link.pending ++ (says.end i).link.sent) ∙ fresh.empty.queue;
 }
 
-bare : (hs : List PlainHandle) → map handle_in [] ≡ map Some hs → hs ≡ []
-bare [] is = refl
-bare (h ∷ hs) is = absurd cc
-
--- what a session keeps between two calls
-abbrev Kept : Type 0
-Kept = Server × Option (code.Request BackendReq) × List ℕ × Option (FrontendSideCall PlainHandle)
-
 -- The report came whole, and is still to be read.
 record HasCome (s : ChannelServer) : Type 0 where
   came : arrived s ≡ plain report
@@ -85,9 +51,8 @@ record HasCome (s : ChannelServer) : Type 0 where
 
 received : (s t : ChannelServer) → IsListening s → Receiving report [] s (Ok tt) t → HasCome t
 received s t listens got =
-    let x : TakesIn report [] (arrived s) (arrived t) = got.0.1 in
     record {
-      came = x.got ∙ ap (λ cs. cs ++ carrying x.handles report) listens.came ∙ ap (λ hs. carrying hs report) (bare x.handles x.of_fds);
+      came = comes report (arrived s) (arrived t) listens.came got.0.1;
       memory = ap (λ (r : Kept). r.0) got.0.3.rest ∙ listens.memory;
       queue = got.0.3.queue ∙ listens.queue;
     }
@@ -102,21 +67,6 @@ record HasRead (number : ℕ) (s : ChannelServer) : Type 0 where
   memory : remembers s ≡ replying
   queue : queued s ≡ []
 
--- what the device asks
-abbrev asked : ReverseCall PlainHandle
-asked = HandleConfigChange
-
-is-change : (c : FrontendSideCall PlainHandle) → asked ≡ call_in c → call_number c ≡ 2
-is-change call.ConfigChange is = refl
-is-change (call.SharedObjectAdd n) is = absurd (cc is)
-is-change (call.SharedObjectRemove n) is = absurd (cc is)
-is-change (call.SharedObjectLookup n h) is = absurd (cc is)
-is-change (call.ShmemMap m h) is = absurd (cc is)
-is-change (call.ShmemUnmap m) is = absurd (cc is)
-
-called : (c : FrontendSideCall PlainHandle) (s : Server) → reverse_row_of CONFIG_CHANGE_MSG s change ≡ Calls (call_in c) (with_number s change) → call_number c ≡ 2
-called c s row = is-change c (cc row)
-
 read : (number : ℕ) (s t : ChannelServer) → HasCome s → Begins number s t → HasRead number t
 read number s t has b =
     let both : (Ok b.message, arrived t) ≡ (Ok change, []) = sym b.came ∙ ap (split backend_request_of backend_allows_handles) has.came ∙ splits in
@@ -128,19 +78,6 @@ read number s t has b =
 
 is-none : (e : declared.Error) → is_handed e ≡ false → told (Err e) ≡ Ok tt → ⊥
 is-none e unhanded fine = cc (unhanded, fine)
-
-unhanded : (c : IoCause) → is_handed (error_of c) ≡ false
-unhanded c = go (is_retry c) (is_break c) (is_denial c)
-  where
-    go : (r b d : Bool) → is_handed (if r then SocketRetry c else if b then SocketBroken c else if d then SocketConnect c else SocketError c) ≡ false
-    go true b d = refl
-    go false true d = refl
-    go false false true = refl
-    go false false false = refl
-
--- the reply to a request of this code, which wants one or does not
-abbrev acknowledged : BackendReq → Bool → List (Cell PlainHandle)
-acknowledged code wanted = cells_of backend_request_number (reply code (if wanted then Replied (U64 0) [] else Silent))
 
 answered : (s t : ChannelServer) (number : ℕ) (read : HasRead number s) → Replies read.served.request (Ok 0) s (Ok tt) t → queued t ≡ plain done
 answered s t number read replies = by replies.result replies.concludes replies.is_told
