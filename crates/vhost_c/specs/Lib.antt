@@ -2,6 +2,7 @@ pub mod Answers
 pub mod Awaiting
 pub mod Backend
 pub mod Channel
+pub mod Clients
 pub mod Display
 pub mod Holder
 pub mod Incoming

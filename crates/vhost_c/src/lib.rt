@@ -36,3 +36,4 @@ mod opening;
 mod profile;
 mod regions;
 mod session;
+mod session_clients;

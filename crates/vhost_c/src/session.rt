@@ -4,6 +4,7 @@ ghost use Rattle.std.specs.Prelude.{◌≡◌, ◌≤◌, [], None, IfOk, IfErr}
 ghost use Rattle.std.specs.Option.{ForSome};
 ghost use Rattle.vhost_message.specs.declared.cause.IoCause.TheVariants.{Raw};
 ghost use Rattle.vhost_message.specs.declared.errno.TheConstants.{ENOMEM};
+ghost use Rattle.vhost_message.specs.declared.error.Error.TheVariants.{OutOfMemory};
 ghost use Rattle.vhost_frontend_core.specs.Awaiting.{MayAwait};
 ghost use Rattle.vhost_frontend_core.specs.Frontend.{endpoint_of, session_of, awaits};
 ghost use Rattle.vhost_frontend_core.specs.Kept.{IsKeptFor};
@@ -63,7 +64,8 @@ impl Session {
     ///
     /// OutOfMemory: an allocation failed.
     pub(crate) fn new(alloc: Global, max_queue_num: u64) -> std::result::Result<Session, Error>
-        ensures { IfOk result (IsNew max_queue_num) }
+        ensures new { IfOk result (IsNew max_queue_num) }
+        ensures memory { IfErr result (λ e. e ≡ OutOfMemory) }
     {
         let link = MemLink::new(alloc, Vec::new(alloc));
         let Ok(outgoing) = Outgoing::new(alloc) else {
