@@ -1,5 +1,5 @@
 -- Features are offered as often as they are asked for, where memory is found.
-use Rattle.std.proofs.Common.{◌≡◌, ◌+◌, ℕ, suc, true, false, List, [], ◌++◌, None, Result, Ok, Err, inl, inr, refl, sym, ap, subst, ◌∙◌, append_assoc, arith}
+use Rattle.std.proofs.Common.{◌≡◌, ◌+◌, ℕ, suc, true, false, List, [], ◌++◌, None, Result, Ok, Err, refl, sym, ap, subst, ◌∙◌, append_assoc, arith}
 use Rattle.std.specs.Prelude.{⊤, is_some, if◌then◌else◌}
 use Rattle.std.proofs.lemmas.List.{append-nil}
 use Rattle.vhost_message.specs.declared.error.Error as declared
@@ -11,17 +11,13 @@ use Rattle.vhost_protocol.specs.Answered.{with_features}
 use Rattle.vhost_protocol.specs.Codes.{allows_handles}
 use Rattle.vhost_protocol.specs.Error.{Error}
 use Rattle.vhost_protocol.specs.Handler.{MeetsRow}
-use Rattle.vhost_protocol.specs.Run.{Handles}
 use Rattle.vhost_protocol.specs.Session.{Session, heard_in}
 use Rattle.vhost_protocol.specs.Settled.{settled}
 use Rattle.vhost_protocol.specs.Split.{split}
 use Rattle.vhost_protocol.specs.Step.{Outcome, Step}
 use Rattle.vhost_protocol.specs.Stream.{Cell, plain}
-use Rattle.vhost_link.specs.Mem.{event}
 use Rattle.vhost_link.specs.declared.plain.PlainHandle.{PlainHandle}
-use Rattle.vhost_endpoint.specs.Hearing.{Hears}
-use Rattle.vhost_endpoint.specs.Memory.{TalksLaw, stream}
-use Rattle.vhost_endpoint.specs.Serving.{unanswered, unread}
+use Rattle.vhost_endpoint.specs.Memory.{TalksLaw}
 use Rattle.vhost_serving_core.specs.Beginning.{step_of}
 use Rattle.vhost_serving_core.specs.Concluding.{FollowsFrom}
 use Rattle.vhost_serving_core.specs.Session.{session_of}
@@ -31,10 +27,9 @@ use Rattle.vhost_serving_core.specs.declared.call.DeviceCall.TheVariants as call
 use Rattle.vhost_serving.specs.Calling.{beside}
 use Rattle.vhost_serving.specs.Core.{endpoint_of}
 use Rattle.vhost_serving.specs.Halves.{uncalled, unopened}
-use Rattle.vhost_serving.specs.Serving.{HandlesOne, fitting, reply_cells}
-use Rattle.vhost_c_common.proofs.Hearing.{hears-cut}
-use Rattle.vhost_c_common.proofs.Wanting.{comes, is-uncut, none-missing, untaken, wants}
-use Rattle.vhost_c_common.proofs.Wants.{halted, troubled}
+use Rattle.vhost_serving.specs.Serving.{fitting, kept_unsent, reply_cells}
+use Rattle.vhost_c_common.proofs.Wanting.{comes, is-uncut, none-missing, refused-wants, untaken, wants}
+use Rattle.vhost_c_common.proofs.Wants.{halted}
 use Rattle.vhost_c_common.specs.Incoming.{missing_by}
 use Rattle.vhost_c_common.specs.Memory.{WantsMemory}
 use Rattle.vhost_c_common.specs.View.{End, Receives, TakesNone}
@@ -96,6 +91,10 @@ module _ (cells : List (Cell PlainHandle)) (s : Served) (is : IsOffering cells s
 
 -- ---- it is read
 
+-- its bytes are the message, whatever was offered before
+whole : (before : ℕ) (s : Session) (cells : List (Cell PlainHandle)) → s ≡ offering before → cells ≡ plain request → split (heard_in s) allows_handles cells ≡ (Ok asked, [])
+whole before s cells kept is = ap (λ xs. split (heard_in s) allows_handles xs) is ∙ ap {A = Session} (λ k. split (heard_in k) allows_handles (plain request)) kept ∙ features-splits
+
 -- It was read, and its call is to be replied to.
 pub record HasRead (before : ℕ) (cells : List (Cell PlainHandle)) (s : Served) : Type 0 where
   pub served : IsServed asked s
@@ -109,8 +108,7 @@ pub record HasRead (before : ℕ) (cells : List (Cell PlainHandle)) (s : Served)
 pub read : (before : ℕ) (cells : List (Cell PlainHandle)) (number : ℕ) (s t : Served) → HasCome before cells s → Nexts s (Ok number) t → HasRead before cells t × (number ≡ 1)
 read before cells number s t has begins =
     let b : Begins number s t = begins.0 (ap {A = Session} (λ k. k.failed) has.memory) in
-    let both : (Ok b.message, arrived t) ≡ (Ok asked, []) =
-    sym b.came ∙ ap (λ xs. split (heard_in (remembers s)) allows_handles xs) has.came ∙ ap {A = Session} (λ k. split (heard_in k) allows_handles (plain request)) has.memory ∙ features-splits in
+    let both : (Ok b.message, arrived t) ≡ (Ok asked, []) = sym b.came ∙ whole before (remembers s) (arrived s) has.memory has.came in
     let same : b.message ≡ asked = cc (ap (λ x. x.0) both) in (
       record {
         served = subst {A = Request} (λ k. IsServed k t) same b.served;
@@ -126,34 +124,16 @@ read before cells number s t has begins =
 
 -- ---- it was not
 
--- no device is called for a request that is refused
-module _ (before : ℕ) (s' : Session) (d : ⊤) (answer : Result ⊤ Error) (written : List (Cell PlainHandle)) where
-  uncalled-for : (s : Session) (m : Request) → s ≡ offering before → m ≡ asked → MeetsRow (fitting (uncalled Channel Display)) (unopened Channel Display) (unopened Channel Display) s tt m answer written s' d → ⊥
-  uncalled-for s m kept is met =
-      let again = subst {A = Session} (λ t. MeetsRow (fitting (uncalled Channel Display)) (unopened Channel Display) (unopened Channel Display) t tt m answer written s' d) kept met in
-      (subst {A = Request} (λ k. MeetsRow (fitting (uncalled Channel Display)) (unopened Channel Display) (unopened Channel Display) (offering before) tt k answer written s' d) is again).1.1.1.0
-
-  nobody : (s : Session) (heard : Result Request Error) → s ≡ offering before → heard ≡ Ok asked
-      → Handles heard_in allows_handles (λ (k : Session). k.failed) (MeetsRow (fitting (uncalled Channel Display)) (unopened Channel Display) (unopened Channel Display)) s tt heard answer written s' d → ⊥
-  nobody s (Ok m) kept is met = uncalled-for s m kept (cc is) met
-  nobody s (Err e) kept is met = absurd (cc is)
-
-module _ (law : TalksLaw) (before : ℕ) (s : Session) (kept : s ≡ offering before) (old : End) (came : stream old ≡ plain request) (sound : old.broken ≡ None) (script : old.link.script ≡ []) where
-  cut : (mid : End) (heard : Result Request Error) → Hears event (split (heard_in s) allows_handles) old heard mid → heard ≡ Ok asked
-  cut mid heard hears =
-      let both : (heard, stream mid) ≡ (Ok asked, []) =
-      sym (hears-cut law (split (heard_in s) allows_handles) old mid heard hears).0 ∙ ap (λ xs. split (heard_in s) allows_handles xs) came ∙ ap {A = Session} (λ k. split (heard_in k) allows_handles (plain request)) kept ∙ features-splits in
-      ap (λ x. x.0) both
-
-  refused : (new : End) (s' : Session) (d : ⊤) (e : declared.Error) → HandlesOne event (uncalled Channel Display) (unopened Channel Display) (unopened Channel Display) old s tt (Err e) new s' d → WantsMemory (Protocol e)
-  refused new s' d e (inl h) = absurd (nobody before s' d _ h.written s h.heard kept (cut h.mid h.heard h.hears) h.handles)
-  refused new s' d e (inr (unread part same still)) = wants old e sound (troubled old new e part.trouble (is-uncut old sound script))
-  refused new s' d e (inr (unanswered m mid hears x)) = absurd (uncalled-for before x.after d x.answer x.written s m kept (cc (cut mid (Ok m) hears)) x.meets)
+-- its row, of a device that is never called
+abbrev Meets : Session → ⊤ → Request → Result ⊤ Error → List (Cell PlainHandle) → Session → ⊤ → Type 0
+Meets = MeetsRow (fitting (uncalled Channel Display)) (unopened Channel Display) (unopened Channel Display)
 
 pub unread-wants : TalksLaw → (before : ℕ) (cells : List (Cell PlainHandle)) (s t : Served) (r : Refusal) → HasCome before cells s → Nexts s (Err r) t → WantsMemory r
 unread-wants law before cells s t (Protocol e) has denies =
     let d : Denies e s t = denies.0 (ap {A = Session} (λ k. k.failed) has.memory) in
-    refused law before (remembers s) has.memory (endpoint_of s.core) has.came has.sound has.uncut (endpoint_of d.mid) _ tt e d.refuses
+    refused-wants heard_in allows_handles (λ (k : Session). k.failed) kept_unsent Meets asked (remembers s) tt
+    (λ answer written s' d' met. (subst {A = Session} (λ k. Meets k tt asked answer written s' d') has.memory met).1.1.1.0)
+    law (endpoint_of s.core) (whole before (remembers s) (arrived s) has.memory has.came) has.sound has.uncut (endpoint_of d.mid) _ tt e d.refuses
 unread-wants law before cells s t NotReplied has (busy, same) = absurd (cc (sym busy ∙ has.idle))
 unread-wants law before cells s t NotYet has (more, same) = absurd (omega (arith, more, has.whole))
 unread-wants law before cells s t _ has denies = absurd denies

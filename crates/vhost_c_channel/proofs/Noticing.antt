@@ -1,30 +1,24 @@
 -- Changes of the configuration space are heard of, where memory is found.
-use Rattle.std.proofs.Common.{◌≡◌, ◌+◌, ℕ, suc, Bool, true, false, List, [], ◌++◌, Option, None, Result, Ok, Err, inl, inr, refl, sym, ap, subst, ◌∙◌, append_assoc, arith}
+use Rattle.std.proofs.Common.{◌≡◌, ◌+◌, ℕ, suc, Bool, true, false, List, [], ◌++◌, Option, None, Result, Ok, Err, refl, sym, ap, subst, ◌∙◌, append_assoc, arith}
 use Rattle.std.specs.Prelude.{⊤, is_some, if◌then◌else◌}
 use Rattle.std.proofs.lemmas.List.{append-nil}
 use Rattle.vhost_message.specs.BackendReq.{backend_request_of}
 use Rattle.vhost_message.specs.declared.backend_req.BackendReq.{BackendReq}
 use Rattle.vhost_message.specs.declared.error.Error as declared
-use Rattle.vhost_protocol.specs.Error.{Error}
 use Rattle.vhost_protocol.specs.Reverse.{ReverseMeets, Server, backend_allows_handles}
-use Rattle.vhost_protocol.specs.Run.{Handles}
 use Rattle.vhost_protocol.specs.Split.{split}
 use Rattle.vhost_protocol.specs.Stream.{Cell, plain}
 use Rattle.vhost_link.specs.Ends.{Ends}
-use Rattle.vhost_link.specs.Mem.{event}
 use Rattle.vhost_link.specs.declared.plain.PlainHandle.{PlainHandle}
-use Rattle.vhost_endpoint.specs.Hearing.{Hears}
 use Rattle.vhost_endpoint.specs.Memory.{TalksLaw, stream}
-use Rattle.vhost_endpoint.specs.Serving.{unanswered, unread}
 use Rattle.vhost_endpoint.specs.Talk.{State}
 use Rattle.vhost_endpoint.specs.declared.request.Request as code
 use Rattle.vhost_frontend_req_handler.specs.Core.{endpoint_of, number_cells}
 use Rattle.vhost_frontend_req_handler.specs.Halves.{uncalled}
-use Rattle.vhost_frontend_req_handler.specs.Handling.{HandlesOne, fitting}
+use Rattle.vhost_frontend_req_handler.specs.Handling.{fitting, kept}
 use Rattle.vhost_frontend_req_handler.specs.declared.call.FrontendSideCall.{FrontendSideCall}
-use Rattle.vhost_c_common.proofs.Hearing.{hears-cut}
-use Rattle.vhost_c_common.proofs.Wanting.{comes, is-uncut, none-missing, untaken, wants}
-use Rattle.vhost_c_common.proofs.Wants.{halted, troubled}
+use Rattle.vhost_c_common.proofs.Wanting.{comes, is-uncut, none-missing, refused-wants, untaken, wants}
+use Rattle.vhost_c_common.proofs.Wants.{halted}
 use Rattle.vhost_c_common.specs.Incoming.{missing_by}
 use Rattle.vhost_c_common.specs.Memory.{WantsMemory}
 use Rattle.vhost_c_common.specs.View.{End, Receives, TakesNone}
@@ -104,30 +98,11 @@ read cells number s t has begins =
 
 -- ---- it was not
 
--- nobody is called for a report that is refused
-uncalled-for : (s s' : Server) (d : ⊤) (m : Request) (answer : Result ℕ Error) (written : List (Cell PlainHandle)) → m ≡ change → ReverseMeets (fitting uncalled) s tt m answer written s' d → ⊥
-uncalled-for s s' d m answer written is met = (subst {A = Request} (λ k. ReverseMeets (fitting uncalled) s tt k answer written s' d) is met).1.1.0
-
-nobody : (s s' : Server) (d : ⊤) (heard : Result Request Error) (answer : Result ℕ Error) (written : List (Cell PlainHandle)) → heard ≡ Ok change
-    → Handles (λ (k : Server). backend_request_of) backend_allows_handles (λ (k : Server). k.failed) (ReverseMeets (fitting uncalled)) s tt heard answer written s' d → ⊥
-nobody s s' d (Ok m) answer written is met = uncalled-for s s' d m answer written (cc is) met
-nobody s s' d (Err e) answer written is met = absurd (cc is)
-
-module _ (law : TalksLaw) (old : End) (came : stream old ≡ plain report) (sound : old.broken ≡ None) (script : old.link.script ≡ []) where
-  cut : (mid : End) (heard : Result Request Error) → Hears event (split backend_request_of backend_allows_handles) old heard mid → heard ≡ Ok change
-  cut mid heard hears =
-      let both : (heard, stream mid) ≡ (Ok change, []) = sym (hears-cut law (split backend_request_of backend_allows_handles) old mid heard hears).0 ∙ ap (split backend_request_of backend_allows_handles) came ∙ splits in
-      ap (λ x. x.0) both
-
-  refused : (new : End) (s s' : Server) (d : ⊤) (e : declared.Error) → HandlesOne event uncalled old s tt (Err e) new s' d → WantsMemory (Protocol e)
-  refused new s s' d e (inl h) = absurd (nobody s s' d h.heard _ h.written (cut h.mid h.heard h.hears) h.handles)
-  refused new s s' d e (inr (unread part same still)) = wants old e sound (troubled old new e part.trouble (is-uncut old sound script))
-  refused new s s' d e (inr (unanswered m mid hears x)) = absurd (uncalled-for s x.after d m x.answer x.written (cc (cut mid (Ok m) hears)) x.meets)
-
 pub unread-wants : TalksLaw → (cells : List (Cell PlainHandle)) (s t : ChannelServer) (r : Refusal) → HasCome cells s → Nexts s (Err r) t → WantsMemory r
 unread-wants law cells s t (Protocol e) has denies =
     let d : Denies e s t = denies (ap {A = Server} (λ k. k.failed) has.memory) in
-    refused law (endpoint_of s.core) has.came has.sound has.uncut (endpoint_of d.mid) (remembers s) _ tt e d.refuses
+    refused-wants (λ (k : Server). backend_request_of) backend_allows_handles (λ (k : Server). k.failed) kept (ReverseMeets (fitting uncalled)) change (remembers s) tt (λ answer written s' d' met. met.1.1.0)
+    law (endpoint_of s.core) (ap (split backend_request_of backend_allows_handles) has.came ∙ splits) has.sound has.uncut (endpoint_of d.mid) _ tt e d.refuses
 unread-wants law cells s t NotReplied has (busy, same) = absurd (cc (sym busy ∙ has.idle))
 unread-wants law cells s t NotYet has (more, same) = absurd (omega (arith, more, has.whole))
 unread-wants law cells s t _ has denies = absurd denies

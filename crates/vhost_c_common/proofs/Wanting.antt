@@ -1,5 +1,5 @@
 -- What the worked consequences of all sessions have in common: a request comes whole, and a call fails for want of memory alone.
-use Rattle.std.proofs.Common.{◌≡◌, ◌<◌, ◌≤◌, ◌+◌, ◌-◌, ℕ, Bool, true, false, List, [], ◌∷◌, ◌++◌, length, map, min, take, drop, Option, Some, None, inl, inr, refl, sym, ap, ◌∙◌, arith}
+use Rattle.std.proofs.Common.{◌≡◌, ◌<◌, ◌≤◌, ◌+◌, ◌-◌, ℕ, Bool, true, false, List, [], ◌∷◌, ◌++◌, length, map, min, take, drop, Option, Some, None, Result, Ok, Err, ℤ, inl, inr, refl, sym, ap, subst, ◌∙◌, arith}
 use Rattle.std.specs.Prelude.{⊤, nat_lt, if◌then◌else◌, is_some}
 use Rattle.std.proofs.lemmas.List.{take-append-drop}
 use Rattle.vhost_message.specs.Header.{header_of}
@@ -8,11 +8,17 @@ use Rattle.vhost_message.specs.declared.errno.TheConstants.{ENOMEM}
 use Rattle.vhost_message.specs.declared.error.Error as declared
 use Rattle.vhost_message.specs.declared.error.Error.TheVariants as code
 use Rattle.vhost_protocol.specs.Error.{Error, OutOfMemory, Raw, SocketRetry, seen}
-use Rattle.vhost_protocol.specs.Split.{announced}
+use Rattle.vhost_protocol.specs.Run.{Handles}
+use Rattle.vhost_protocol.specs.Split.{Message, announced, split}
 use Rattle.vhost_protocol.specs.Stream.{Cell, carrying, plain}
 use Rattle.vhost_link.proofs.Cells.{plain-is}
+use Rattle.vhost_link.specs.Mem.{event}
 use Rattle.vhost_link.specs.declared.plain.PlainHandle.{PlainHandle}
-use Rattle.vhost_c_common.proofs.Wants.{IsWant, list_away, by_link, broke_before}
+use Rattle.vhost_endpoint.specs.Hearing.{Hears}
+use Rattle.vhost_endpoint.specs.Memory.{TalksLaw, stream}
+use Rattle.vhost_endpoint.specs.Serving.{HandlesOne, unanswered, unread}
+use Rattle.vhost_c_common.proofs.Hearing.{hears-cut}
+use Rattle.vhost_c_common.proofs.Wants.{IsWant, list_away, by_link, broke_before, troubled}
 use Rattle.vhost_c_common.specs.Incoming.{Adds, missing_by}
 use Rattle.vhost_c_common.specs.Memory.{WantsMemory}
 use Rattle.vhost_c_common.specs.Moving.{TakesIn}
@@ -93,3 +99,23 @@ module _ {R : Type 0} (code : ℕ → Option R) (bytes : List ℕ) (old new : In
       let count : new.count ≡ 12 = adds.count ∙ ap (λ k. min (k + length bytes) 18446744073709551615) nothing ∙ ap (λ k. min (0 + k) 18446744073709551615) long in
       missing-none code new.count (header_of new.head).size (is_some (announced code (header_of new.head))) count
       (ap (λ h. (header_of h).size) (head-is long all) ∙ none (drop 12 new.head))
+
+-- ---- a request that came is refused
+
+-- A handler that calls nobody for this message, as one of a session does that only reads.
+module _ {R S A Dev : Type 0} (request_of : S → ℕ → Option R) (allows_handles : R → ℕ → Bool) (marked : S → Option ℤ) (kept : R → S → S → S)
+    (Meets : S → Dev → Message R PlainHandle → Result A Error → List (Cell PlainHandle) → S → Dev → Type 0) (m : Message R PlainHandle) (s : S) (d : Dev)
+    (nobody : (answer : Result A Error) (written : List (Cell PlainHandle)) (s' : S) (d' : Dev) → Meets s d m answer written s' d' → ⊥) where
+  called : (heard : Result (Message R PlainHandle) Error) (answer : Result A Error) (written : List (Cell PlainHandle)) (s' : S) (d' : Dev) → heard ≡ Ok m → Handles request_of allows_handles marked Meets s d heard answer written s' d' → ⊥
+  called (Ok n) answer written s' d' is met = nobody answer written s' d' (subst {A = Message R PlainHandle} (λ k. Meets s d k answer written s' d') (cc is) met)
+  called (Err e) answer written s' d' is met = absurd (cc is)
+
+  module _ (law : TalksLaw) (old : End) (whole : split (request_of s) allows_handles (stream old) ≡ (Ok m, [])) (sound : old.broken ≡ None) (script : old.link.script ≡ []) where
+    read : (mid : End) (heard : Result (Message R PlainHandle) Error) → Hears event (split (request_of s) allows_handles) old heard mid → heard ≡ Ok m
+    read mid heard hears = ap (λ x. x.0) (sym (hears-cut law (split (request_of s) allows_handles) old mid heard hears).0 ∙ whole)
+
+    -- where it is not read, memory was refused
+    pub refused-wants : (new : End) (s' : S) (d' : Dev) (e : declared.Error) → HandlesOne event request_of allows_handles marked kept Meets old s d (Err e) new s' d' → WantsMemory (Protocol e)
+    refused-wants new s' d' e (inl h) = absurd (called h.heard _ h.written s' d' (read h.mid h.heard h.hears) h.handles)
+    refused-wants new s' d' e (inr (unread part same still)) = wants old e sound (troubled old new e part.trouble (is-uncut old sound script))
+    refused-wants new s' d' e (inr (unanswered n mid hears x)) = absurd (called (Ok n) x.answer x.written x.after d' (read mid (Ok n) hears) x.meets)
