@@ -6,6 +6,7 @@ pub mod Clients
 pub mod Display
 pub mod Holder
 pub mod Incoming
+pub mod Program
 pub mod Records
 pub mod Session
 pub mod Names

@@ -34,6 +34,7 @@ mod loose;
 mod moving;
 mod opening;
 mod profile;
+mod program;
 mod regions;
 mod session;
 mod session_clients;
