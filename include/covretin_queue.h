@@ -298,7 +298,7 @@ void covretin_inflight_after_used(uint16_t head, uint16_t idx, covretin_inflight
 
 /* What a crash left, by the entries of a queue, by last_batch_head and used_idx of its area, and by the index of its used ring: of
  * which heads the entry is to be cleared, since they were used (settled_len is entries_len), and which *count heads are to be taken
- * again, in order. INVALID_INFLIGHT, NO_ROOM, OUT_OF_MEMORY. */
+ * again, in order. INVALID_INFLIGHT, NO_ROOM, OUT_OF_MEMORY: nothing is written. */
 enum covretin_queue_error covretin_inflight_recover(const covretin_inflight_entry *entries, size_t entries_len,
                                                     uint16_t last_batch_head, uint16_t used_idx, uint16_t ring_idx, bool *settled,
                                                     size_t settled_len, covretin_resubmit *again, size_t again_len, size_t *count);
@@ -323,7 +323,7 @@ void covretin_inflight_after_used_packed(uint16_t head, uint16_t used, covretin_
 /* What a crash left, by the entries of a queue, the state of its area now and the old one, and the flags of the ring's descriptor at
  * old->used_idx: which state holds, which entries are free and are to be cleared (free_len is entries_len), and which *count requests are to
  * be taken again, in order, by their first entry. The queue goes on at used_idx in both respects: what is taken again advances it.
- * INVALID_INFLIGHT, NO_ROOM, OUT_OF_MEMORY. */
+ * INVALID_INFLIGHT, NO_ROOM, OUT_OF_MEMORY: nothing is written. */
 enum covretin_queue_error covretin_inflight_recover_packed(const covretin_inflight_entry *entries, size_t entries_len,
                                                            const covretin_packed_inflight_head *now,
                                                            const covretin_packed_inflight_head *old, uint16_t flags,

@@ -8,8 +8,7 @@
 A row is an export: its name, which session it is of, whether it may be called with any arguments at any time, the errors that it answers beside
 OK, what a refusal leaves, and its contract. The errors and what is left are those of the relation that the contract names, which RELATIONS gives
 in words, and QUEUES for a queue; those of a call's own tests are read of the definitions. Each relation is one that the file of the export uses.
-Each error is one of the headers for C, and one that the definitions name which the contract reaches; where a contract does not say which errors
-there are, those of the header stand behind 'by the header'.
+Each error is one of the headers for C, and one that the definitions name which the contract reaches.
 
 Status 0 where the table is so; 1 where it is not, where a contract names no relation, or does not reach an error, and where there is a premise.
 """
@@ -107,6 +106,7 @@ RELATIONS = {
         f"NO_SESSION NOTHING_ASKED {SHORT}",
         "after NO_SESSION and NOTHING_ASKED nothing changed; after others no call is to be replied to",
     ),
+    "RefusesRecovery": ("INVALID_INFLIGHT NO_ROOM OUT_OF_MEMORY", "the places are as before"),
 }
 
 # What comes before an ask may refuse it, too: an argument that is none.
@@ -127,8 +127,6 @@ ASKED_ALONE = {"covretin_display_ask_update_scanout": ["OVERSIZED_MSG"]}
 PLAIN = ("", "")
 EQUATIONS = {
     "covretin_log_pages": ("NOT_IN_GUEST", "what the places hold is not said"),
-    "covretin_inflight_recover": ("INVALID_INFLIGHT; by the header NO_ROOM OUT_OF_MEMORY", "what the places hold is not said"),
-    "covretin_inflight_recover_packed": ("INVALID_INFLIGHT; by the header NO_ROOM OUT_OF_MEMORY", "what the places hold is not said"),
 }
 
 # The same of the calls of a queue, whose contracts are written out.
@@ -169,7 +167,7 @@ def read(path):
 # Errors that a contract gives by their numbers.
 NUMBERED = {
     "NO_SESSION": "101", "NO_QUEUE": "101", "SESSION_OPEN": "102", "QUEUE_OPEN": "102", "OUT_OF_MEMORY": "24", "INVALID_PARAM": "1",
-    "DISCONNECTED": "10", "PARTIAL_MESSAGE": "9", "INVALID_MESSAGE": "5", "NOT_IN_GUEST": "9", "INVALID_INFLIGHT": "8",
+    "DISCONNECTED": "10", "PARTIAL_MESSAGE": "9", "INVALID_MESSAGE": "5", "NOT_IN_GUEST": "9",
 }
 USE = re.compile(r"(?m)^ *ghost use Rattle\.(\w+)\.specs\.([\w.]+?)\.\{([^}]*)\};$")
 
@@ -252,7 +250,7 @@ def reached(clauses, text):
 
 def unreached(errors, words):
     """The errors that a contract cannot answer."""
-    for error in re.findall(r"[A-Z]+(?:_[A-Z]+)*", errors.partition("; by the header")[0]):
+    for error in re.findall(r"[A-Z]+(?:_[A-Z]+)*", errors):
         if error.title().replace("_", "") not in words and NUMBERED.get(error) not in words:
             yield error
 

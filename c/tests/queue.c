@@ -403,6 +403,9 @@ static void packed_inflight(void)
     HOLDS(again[0].head == 2 && is_free[0] && is_free[1] && !is_free[2] && is_free[3]);
     HOLDS(head.free_head == 0 && head.used_idx == 1 && !head.used_wrap_counter);
     HOLDS(covretin_inflight_recover_packed(entries, 4, &now, &old, 0x80, &head, is_free, 3, again, 4, &count) == COVRETIN_QUEUE_NO_ROOM);
+    HOLDS(covretin_inflight_recover_packed(entries, 4, &now, &old, 0x80, &head, is_free, 4, again, 1, &count) == COVRETIN_QUEUE_NO_ROOM);
+    HOLDS(count == 1 && head.used_idx == 1 && again[0].head == 2 && is_free[0]);
+    HOLDS(covretin_inflight_recover_packed(entries, 4, &now, &old, 0x80, &head, is_free, 4, again, 2, &count) == 0 && count == 2);
     old.used_idx = 4;
     HOLDS(covretin_inflight_recover_packed(entries, 4, &now, &old, 0x80, &head, is_free, 4, again, 4, &count) ==
           COVRETIN_QUEUE_INVALID_INFLIGHT);
@@ -422,6 +425,9 @@ static void inflight_and_log(void)
     HOLDS(again[0].head == 1 && again[1].head == 0 && settled[2] && !settled[0]);
     HOLDS(covretin_inflight_recover(entries, 4, 2, 0, 7, settled, 4, again, 4, &count) == COVRETIN_QUEUE_INVALID_INFLIGHT);
     HOLDS(covretin_inflight_recover(entries, 4, 2, 6, 7, settled, 3, again, 4, &count) == COVRETIN_QUEUE_NO_ROOM);
+    HOLDS(covretin_inflight_recover(entries, 4, 2, 6, 7, settled, 4, again, 2, &count) == 0 && count == 2);
+    HOLDS(covretin_inflight_recover(entries, 4, 0, 6, 6, settled, 4, again, 2, &count) == COVRETIN_QUEUE_NO_ROOM && count == 2);
+    HOLDS(again[0].head == 1 && again[1].head == 0 && settled[2]);
     covretin_inflight_take(3, 42, &first, &second);
     HOLDS(first.offset == 72 && first.len == 8 && first.value == 42 && second.offset == 64 && second.len == 1 && second.value == 1);
     covretin_inflight_before_used(3, 1, &first, &second);

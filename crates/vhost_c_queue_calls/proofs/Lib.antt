@@ -1,3 +1,4 @@
 pub mod Called
 pub mod QueueHolding
+pub mod Recovered
 pub mod Values

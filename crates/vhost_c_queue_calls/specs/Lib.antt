@@ -1,3 +1,4 @@
 pub mod Calls
 pub mod Opening
 pub mod QueueHolder
+pub mod Recovering

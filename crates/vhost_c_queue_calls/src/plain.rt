@@ -1,10 +1,10 @@
 //! What needs no queue: the inflight region and the dirty log.
 
-ghost use Rattle.std.specs.Prelude.{◌≡◌, ℕ, ◌⊎◌, ◌+◌, ◌*◌, ◌/◌, ◌%◌, ◌^◌, ◌<◌, ◌≤◌, ◌↔◌, IsPermutation, Ok, Err, take};
+ghost use Rattle.std.specs.Prelude.{◌≡◌, ◌≢◌, ℕ, ◌⊎◌, ◌+◌, ◌*◌, ◌/◌, ◌%◌, ◌^◌, ◌<◌, ◌≤◌, ◌↔◌, IsPermutation, Ok, length, take};
 ghost use Rattle.std.specs.List.Sorted.{IsNonDecreasingBy};
 ghost use Rattle.vhost_queue.specs.Inflight.{at, entry, pending, settled as settled_of};
 ghost use Rattle.vhost_queue.specs.Log.{HasByte};
-ghost use Rattle.vhost_queue.specs.declared.error.Error.TheVariants.{InvalidInflight};
+ghost use Rattle.vhost_c_queue_calls.specs.Recovering.{RefusesRecovery};
 
 use std::alloc::Global;
 use vhost_c_queue::{Refusal, number_of};
@@ -93,7 +93,8 @@ pub extern "C" fn covretin_log_bit_of(page: u64, bit: &mut LogBit)
 }
 
 /// Which heads were in flight before a crash, in the order in which they were taken, and of which heads the entry is to be
-/// cleared, since they were used.
+/// cleared, since they were used. INVALID_INFLIGHT: the last batch has more entries than the queue, or one that it has not. NO_ROOM: there is
+/// no mark for each entry, or less room than heads to take again. A refusal writes nothing.
 #[unsafe(no_mangle)]
 pub extern "C" fn covretin_inflight_recover(
     alloc: Global,
@@ -106,9 +107,11 @@ pub extern "C" fn covretin_inflight_recover(
     count: &mut usize,
 ) -> u32
     ensures settled { result ≡ 0 → settled_of entries.now last_batch_head used_idx ring_idx ≡ Ok settled.new }
+    ensures count { result ≡ 0 → count.new ≡ length (pending entries.now settled.new 0) }
     ensures again { result ≡ 0 → IsPermutation (pending entries.now settled.new 0) (take count.new again.new) }
     ensures in_order { result ≡ 0 → IsNonDecreasingBy (λ a. a.counter) (take count.new again.new) }
-    ensures err { result ≡ 8 → settled_of entries.now last_batch_head used_idx ring_idx ≡ Err InvalidInflight }
+    ensures reason { (result ≡ 0) ⊎ RefusesRecovery entries.now (settled_of entries.now last_batch_head used_idx ring_idx) settled.old again.old result }
+    ensures err { result ≢ 0 → (settled.new ≡ settled.old) × (again.new ≡ again.old) × (count.new ≡ count.old) }
 {
     match recover(alloc, entries, last_batch_head, used_idx, ring_idx) {
         Ok(recovered) => {

@@ -1,11 +1,11 @@
 //! The inflight region of a packed queue, which needs no queue.
 
-ghost use Rattle.std.specs.Prelude.{◌≡◌, ◌∷◌, [], ◌+◌, ◌*◌, ◌^◌, ◌<◌, IsPermutation, Ok, Err, length, take};
+ghost use Rattle.std.specs.Prelude.{◌≡◌, ◌≢◌, ◌⊎◌, ◌∷◌, [], ◌+◌, ◌*◌, ◌^◌, ◌<◌, IsPermutation, Ok, length, take};
 ghost use Rattle.std.specs.List.Sorted.{IsNonDecreasingBy};
 ghost use Rattle.vhost_queue.specs.Inflight.{at, pending};
 ghost use Rattle.vhost_queue.specs.PackedInflight.{entry, free_in, holding, pair, places};
 ghost use Rattle.vhost_queue.specs.Wrap.{position_of};
-ghost use Rattle.vhost_queue.specs.declared.error.Error.TheVariants.{InvalidInflight};
+ghost use Rattle.vhost_c_queue_calls.specs.Recovering.{RefusesRecovery};
 
 use std::alloc::Global;
 use vhost_c_queue::{Refusal, as_packed, number_of};
@@ -80,7 +80,8 @@ pub extern "C" fn covretin_inflight_after_used_packed(
 }
 
 /// What holds after a crash: the state of the area, its free entries, and the requests that are to be taken again, in the order in which
-/// they were taken.
+/// they were taken. INVALID_INFLIGHT: the place or an entry of the free list is not in the ring, or the list does not end. NO_ROOM: there is no
+/// mark for each entry, or less room than requests to take again. A refusal writes nothing.
 #[unsafe(no_mangle)]
 pub extern "C" fn covretin_inflight_recover_packed(
     alloc: Global,
@@ -96,9 +97,11 @@ pub extern "C" fn covretin_inflight_recover_packed(
     ensures head { result ≡ 0 → head.new ≡ holding now.now old.now flags }
     ensures within { result ≡ 0 → head.new.used_idx < length entries.now }
     ensures free { result ≡ 0 → free_in entries.now (holding now.now old.now flags) ≡ Ok free.new }
+    ensures count { result ≡ 0 → count.new ≡ length (pending entries.now free.new 0) }
     ensures again { result ≡ 0 → IsPermutation (pending entries.now free.new 0) (take count.new again.new) }
     ensures in_order { result ≡ 0 → IsNonDecreasingBy (λ a. a.counter) (take count.new again.new) }
-    ensures err { result ≡ 8 → free_in entries.now (holding now.now old.now flags) ≡ Err InvalidInflight }
+    ensures reason { (result ≡ 0) ⊎ RefusesRecovery entries.now (free_in entries.now (holding now.now old.now flags)) free.old again.old result }
+    ensures err { result ≢ 0 → (head.new ≡ head.old) × (free.new ≡ free.old) × (again.new ≡ again.old) × (count.new ≡ count.old) }
 {
     match packed_recover(alloc, entries, *now, *old, flags) {
         Ok(recovered) => {
