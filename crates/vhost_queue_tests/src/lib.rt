@@ -2,11 +2,18 @@
 #![tactic(auto)]
 
 #[cfg(test)]
+mod frontend;
+#[cfg(test)]
 mod guest;
+mod reasons;
 #[cfg(test)]
 mod refusals;
 mod refused;
 #[cfg(test)]
 mod serving;
 
+pub use reasons::{
+    adds_instead, finds_again, finds_packed_again, goes_on, moves_back, moves_packed_back,
+    refuses_its_size, sets_again,
+};
 pub use refused::{gives_back, gives_back_next, gives_back_packed, takes_later, takes_nothing};
