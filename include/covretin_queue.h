@@ -332,8 +332,8 @@ enum covretin_queue_error covretin_inflight_recover_packed(const covretin_inflig
 
 /* -- The dirty log ---------------------------------------------------------------------------------------------------
  * The pages of a range of guest addresses that a log of so many bytes has bits for, from *first up to *end, which is none of them.
- * Where *first is not below *end there are none. NOT_IN_GUEST: the range ends beyond 64 bits. And the bit of a page, which is set by an
- * atomic or. */
+ * Where *first is not below *end there are none. NOT_IN_GUEST: the range ends beyond 64 bits, and nothing is
+ * written. And the bit of a page, which is set by an atomic or. */
 enum covretin_queue_error covretin_log_pages(uint64_t addr, uint64_t len, uint64_t log_size, uint64_t *first, uint64_t *end);
 void covretin_log_bit_of(uint64_t page, covretin_log_bit *bit);
 

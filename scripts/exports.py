@@ -126,7 +126,7 @@ ASKED_ALONE = {"covretin_display_ask_update_scanout": ["OVERSIZED_MSG"]}
 # What has a contract of equations, and answers no error; and what may, all the same.
 PLAIN = ("", "")
 EQUATIONS = {
-    "covretin_log_pages": ("NOT_IN_GUEST", "what the places hold is not said"),
+    "covretin_log_pages": ("NOT_IN_GUEST", "the places are as before"),
 }
 
 # The same of the calls of a queue, whose contracts are written out.
@@ -227,7 +227,7 @@ def told_of(name, of, clauses, imported, calls):
             for key in (f"{of} {word}", word):
                 if word in imported and key in RELATIONS:
                     return RELATIONS[key]
-    if all(re.match(r"\w+\.new(?:\.\w+)? ≡ |result ≡ |\(result ≡ ", clause) for _, clause in clauses):
+    if all(re.match(r"\w+\.new(?:\.\w+)? ≡ |result [≡≢] |\(result ≡ ", clause) for _, clause in clauses):
         return EQUATIONS.get(name, PLAIN)
     raise Wrong("it names no relation that is known")
 

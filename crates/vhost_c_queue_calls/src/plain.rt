@@ -71,7 +71,8 @@ pub extern "C" fn covretin_log_pages(
     end: &mut u64,
 ) -> u32
     ensures touched { result ≡ 0 → (p : ℕ) → ((first.new ≤ p) × (p < end.new)) ↔ (HasByte addr len p × (p < 8 * log_size)) }
-    ensures err { (result ≡ 0) ⊎ ((result ≡ 9) × (2 ^ 64 ≤ addr + len)) }
+    ensures reason { (result ≡ 0) ⊎ ((result ≡ 9) × (2 ^ 64 ≤ addr + len)) }
+    ensures err { result ≢ 0 → (first.new ≡ first.old) × (end.new ≡ end.old) }
 {
     match dirty_pages(addr, len, log_size) {
         Ok(pages) => {
