@@ -4,5 +4,6 @@ pub mod Followed
 pub mod Freed
 pub mod Marked
 pub mod Refused
+pub mod Stepped
 pub mod Touching
 pub mod Translating

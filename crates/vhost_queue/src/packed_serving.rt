@@ -1,6 +1,7 @@
 //! A device that serves a packed queue, whatever its guest writes: what the promises of this crate come to.
 
-ghost use Rattle.std.specs.Prelude.{◌≡◌, ◌+◌, ◌++◌, option_to_list, [], false, true, All, OnOk, IfOk};
+ghost use Rattle.std.specs.Prelude.{◌≡◌, ◌+◌, ◌++◌, ◌⊎◌, option_to_list, [], false, true, None, All, OnOk, IfOk, IfErr};
+ghost use Rattle.vhost_queue.specs.declared.error.Error.TheVariants.{NotHandedOut, OutOfMemory};
 ghost use Rattle.vhost_queue.specs.declared.memory.HostRange.{HostRange};
 ghost use Rattle.vhost_queue.specs.Memory.{LiesIn};
 ghost use Rattle.vhost_queue.specs.Chain.{table_of, segment_limit, Begins};
@@ -39,7 +40,7 @@ pub trait PackedShared {
         requires { All (λ s. may_touch s.range) segments.now };
 }
 
-/// Follows the chain that was found, to its end: its id.
+/// Follows the chain that was found, to its end: its id. OutOfMemory; after any other refusal the queue needs a reset.
 pub fn follow_packed<S: PackedShared>(
     memory: &mut GuestMemory,
     queue: &mut PackedQueue,
@@ -51,6 +52,8 @@ pub fn follow_packed<S: PackedShared>(
     requires touch { (range : HostRange) → LiesIn memory.old.regions.items range → S.may_touch range }
     requires readable { (state queue.old).chain.writing ≡ false }
     ensures safe { OnOk result (IsSafe memory.old.regions.items ((state queue.old).chain.left + (state queue.old).chain.splits) segments.new.items) }
+    ensures ended { OnOk result ((state queue.new).chain.next ≡ None) }
+    ensures reason { IfErr result (λ e. (e ≡ OutOfMemory) ⊎ ((state queue.new).needs_reset ≡ true)) }
     ensures memory { memory.new.regions.items ≡ memory.old.regions.items }
     ensures rings { IsSameQueue queue.old queue.new }
 {
@@ -81,7 +84,8 @@ fn read_next<S: PackedShared>(shared: &mut S, place: HostRange) -> PackedDescrip
     shared.read_descriptor(place)
 }
 
-/// Serves the next chain, if one is available: whether the driver is to be told.
+/// Serves the next chain, if one is available: whether the driver is to be told. NotHandedOut: the chain had no id that the device has; and
+/// those of `follow_packed`.
 pub fn serve_next_packed<S: PackedShared>(
     memory: &mut GuestMemory,
     queue: &mut PackedQueue,
@@ -90,6 +94,7 @@ pub fn serve_next_packed<S: PackedShared>(
 ) -> Result<bool>
     requires mapped { ArePackedMapped memory.old.regions.items queue.old.rings }
     requires touch { (range : HostRange) → LiesIn memory.old.regions.items range → S.may_touch range }
+    ensures reason { IfErr result (λ e. (e ≡ OutOfMemory) ⊎ (e ≡ NotHandedOut) ⊎ ((state queue.new).needs_reset ≡ true)) }
     ensures memory { memory.new.regions.items ≡ memory.old.regions.items }
     ensures rings { IsSameQueue queue.old queue.new }
 {
@@ -113,7 +118,8 @@ fn finish<S: PackedShared>(
 ) -> Result<bool>
     requires mapped { ArePackedMapped memory.now.regions.items queue.old.rings }
     requires touch { (range : HostRange) → LiesIn memory.now.regions.items range → S.may_touch range }
-    ensures { IsSameQueue queue.old queue.new }
+    ensures reason { IfErr result (λ e. e ≡ NotHandedOut) }
+    ensures rings { IsSameQueue queue.old queue.new }
 {
     let used = queue.add_used(id, len)?;
     shared.write_used(used);
@@ -121,8 +127,8 @@ fn finish<S: PackedShared>(
     Ok(queue.needs_notification(event))
 }
 
-/// Serves so many chains, or up to a refusal. Whatever the guest writes meanwhile, only ranges are touched that lie in a region
-/// that the frontend gave.
+/// Serves so many chains, or up to a refusal, which is one of `serve_next_packed`. Whatever the guest writes meanwhile, only ranges are
+/// touched that lie in a region that the frontend gave.
 pub fn serve_packed<S: PackedShared>(
     alloc: Global,
     memory: &mut GuestMemory,
@@ -132,6 +138,7 @@ pub fn serve_packed<S: PackedShared>(
 ) -> Result<()>
     requires mapped { ArePackedMapped memory.old.regions.items queue.old.rings }
     requires touch { (range : HostRange) → LiesIn memory.old.regions.items range → S.may_touch range }
+    ensures reason { IfErr result (λ e. (e ≡ OutOfMemory) ⊎ (e ≡ NotHandedOut) ⊎ ((state queue.new).needs_reset ≡ true)) }
     ensures memory { memory.new.regions.items ≡ memory.old.regions.items }
     ensures rings { IsSameQueue queue.old queue.new }
 {

@@ -1,10 +1,12 @@
 //! A device that serves a queue, whatever its guest writes: what the promises of this crate come to.
 
-ghost use Rattle.std.specs.Prelude.{◌≡◌, ◌+◌, ◌++◌, option_to_list, [], false, All, OnOk, IfOk, IfSome};
+ghost use Rattle.std.specs.Prelude.{◌≡◌, ◌+◌, ◌++◌, ◌⊎◌, option_to_list, slice_index_or, [], false, true, None, All, OnOk, IfOk, IfErr, IfNone, IfSome};
+ghost use Rattle.vhost_queue.specs.declared.error.Error.TheVariants.{OutOfMemory};
 ghost use Rattle.vhost_queue.specs.declared.memory.HostRange.{HostRange};
 ghost use Rattle.vhost_queue.specs.Memory.{LiesIn};
 ghost use Rattle.vhost_queue.specs.Chain.{table_of, segment_limit, Begins};
 ghost use Rattle.vhost_queue.specs.Segment.{IsSafe};
+ghost use Rattle.vhost_queue.specs.Notification.{next_index};
 ghost use Rattle.vhost_queue.specs.Queue.{state, IsSameQueue};
 ghost use Rattle.vhost_queue.specs.Rings.{table_range};
 ghost use Rattle.vhost_queue.specs.Serving.{AreMapped};
@@ -35,7 +37,7 @@ pub trait Shared {
         requires { All (λ s. may_touch s.range) segments.now };
 }
 
-/// Follows the chain that was taken from the queue, to its end.
+/// Follows the chain that was taken from the queue, to its end. OutOfMemory; after any other refusal the queue needs a reset.
 pub fn follow<S: Shared>(
     memory: &mut GuestMemory,
     queue: &mut Queue,
@@ -47,6 +49,9 @@ pub fn follow<S: Shared>(
     requires touch { (range : HostRange) → LiesIn memory.old.regions.items range → S.may_touch range }
     requires readable { (state queue.old).chain.writing ≡ false }
     ensures safe { OnOk result (IsSafe memory.old.regions.items ((state queue.old).chain.left + (state queue.old).chain.splits) segments.new.items) }
+    ensures ended { OnOk result ((state queue.new).chain.next ≡ None) }
+    ensures reason { IfErr result (λ e. (e ≡ OutOfMemory) ⊎ ((state queue.new).needs_reset ≡ true)) }
+    ensures kept { OnOk result (((state queue.new).next_used ≡ (state queue.old).next_used) × ((state queue.new).out ≡ (state queue.old).out)) }
     ensures memory { memory.new.regions.items ≡ memory.old.regions.items }
     ensures rings { IsSameQueue queue.old queue.new }
 {
@@ -73,7 +78,7 @@ fn read_next<S: Shared>(shared: &mut S, place: HostRange) -> Descriptor
     shared.read_descriptor(place)
 }
 
-/// Serves the next chain, if one is available: whether the driver is to be told.
+/// Serves the next chain, if one is available: whether the driver is to be told. Errors are those of `follow`.
 pub fn serve_next<S: Shared>(
     memory: &mut GuestMemory,
     queue: &mut Queue,
@@ -82,6 +87,8 @@ pub fn serve_next<S: Shared>(
 ) -> Result<bool>
     requires mapped { AreMapped memory.old.regions.items queue.old.rings }
     requires touch { (range : HostRange) → LiesIn memory.old.regions.items range → S.may_touch range }
+    ensures served { OnOk result (((state queue.new).next_avail ≡ (state queue.new).avail_idx) ⊎ ((state queue.new).next_used ≡ next_index (state queue.old).next_used)) }
+    ensures reason { IfErr result (λ e. (e ≡ OutOfMemory) ⊎ ((state queue.new).needs_reset ≡ true)) }
     ensures memory { memory.new.regions.items ≡ memory.old.regions.items }
     ensures rings { IsSameQueue queue.old queue.new }
 {
@@ -99,6 +106,10 @@ fn fetch<S: Shared>(memory: &GuestMemory, queue: &mut Queue, shared: &mut S) -> 
     requires mapped { AreMapped memory.now.regions.items queue.old.rings }
     requires touch { (range : HostRange) → LiesIn memory.now.regions.items range → S.may_touch range }
     ensures begins { IfOk result (λ head. IfSome head (λ _. Begins (table_range queue.old.rings) (segment_limit queue.old.rings.size queue.old.indirect_desc) (state queue.new).chain)) }
+    ensures none { IfOk result (λ head. IfNone head ((state queue.new).next_avail ≡ (state queue.new).avail_idx)) }
+    ensures reason { IfErr result (λ _. (state queue.new).needs_reset ≡ true) }
+    ensures used { OnOk result ((state queue.new).next_used ≡ (state queue.old).next_used) }
+    ensures taken { IfOk result (λ head. IfSome head (λ h. slice_index_or (state queue.new).out h false ≡ true)) }
     ensures rings { IsSameQueue queue.old queue.new }
 {
     let idx = shared.read_index(queue.rings().avail_idx_place());
@@ -121,7 +132,9 @@ fn finish<S: Shared>(
 ) -> Result<bool>
     requires mapped { AreMapped memory.now.regions.items queue.old.rings }
     requires touch { (range : HostRange) → LiesIn memory.now.regions.items range → S.may_touch range }
-    ensures { IsSameQueue queue.old queue.new }
+    ensures used { OnOk result ((state queue.new).next_used ≡ next_index (state queue.old).next_used) }
+    ensures reason { IfErr result (λ _. slice_index_or (state queue.old).out head false ≡ false) }
+    ensures rings { IsSameQueue queue.old queue.new }
 {
     let elem = queue.add_used(head, len)?;
     shared.write_used(elem);
@@ -129,8 +142,8 @@ fn finish<S: Shared>(
     Ok(queue.needs_notification(value))
 }
 
-/// Serves so many chains, or up to a refusal. Whatever the guest writes meanwhile, only ranges are touched that lie in a region
-/// that the frontend gave.
+/// Serves so many chains, or up to a refusal, which is one of `follow`. Whatever the guest writes meanwhile, only ranges are
+/// touched that lie in a region that the frontend gave.
 pub fn serve<S: Shared>(
     alloc: Global,
     memory: &mut GuestMemory,
@@ -140,6 +153,7 @@ pub fn serve<S: Shared>(
 ) -> Result<()>
     requires mapped { AreMapped memory.old.regions.items queue.old.rings }
     requires touch { (range : HostRange) → LiesIn memory.old.regions.items range → S.may_touch range }
+    ensures reason { IfErr result (λ e. (e ≡ OutOfMemory) ⊎ ((state queue.new).needs_reset ≡ true)) }
     ensures memory { memory.new.regions.items ≡ memory.old.regions.items }
     ensures rings { IsSameQueue queue.old queue.new }
 {
@@ -152,7 +166,8 @@ pub fn serve<S: Shared>(
 
 /// Appends the segment, if there is one.
 pub(crate) fn keep(segments: &mut Vec<Segment>, segment: Option<Segment>) -> Result<()>
-    ensures { OnOk result (segments.new.items ≡ segments.old.items ++ option_to_list segment) }
+    ensures ok { OnOk result (segments.new.items ≡ segments.old.items ++ option_to_list segment) }
+    ensures reason { IfErr result (λ e. e ≡ OutOfMemory) }
 {
     match segment {
         None => Ok(()),

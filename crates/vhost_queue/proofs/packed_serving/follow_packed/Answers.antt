@@ -6,7 +6,7 @@ use Rattle.vhost_queue.proofs.packed_serving.follow_packed.Goals as goal
 pub loop-place-preserved : goal.loop-place-preserved
 loop-place-preserved g c =
     let was = c.loop-place.invariant in let step = c.in_ok-segment.ensures in record {
-      followed = followed-on was.followed _ was.memory c.in_ok-segment.segment (state c.step.new.self).chain step.goes_on _ c.in_ok-keep.ensures;
+      followed = followed-on was.followed _ was.memory c.in_ok-segment.segment (state c.step.new.self).chain step.goes_on _ c.in_ok-keep.ensures.ok;
       memory = step.memory ∙ was.memory;
       rings = (step.rings.0 ∙ was.rings.0, step.rings.1 ∙ was.rings.1, step.rings.2 ∙ was.rings.2);
     }
