@@ -16,4 +16,7 @@ pub use reasons::{
     adds_instead, finds_again, finds_packed_again, goes_on, moves_back, moves_packed_back,
     refuses_its_size, sets_again,
 };
-pub use refused::{gives_back, gives_back_next, gives_back_packed, takes_later, takes_nothing};
+pub use refused::{
+    gives_back, gives_back_next, gives_back_packed, stops_for_the_driver, takes_later,
+    takes_nothing,
+};

@@ -2,10 +2,16 @@
 
 ghost use Rattle.std.specs.Prelude.{◌≡◌, ◌≢◌, true, false, slice_index_or, Err};
 ghost use Rattle.vhost_queue.specs.declared.error.Error.TheVariants.{NeedsReset};
+ghost use Rattle.vhost_queue.specs.declared.memory.HostRange.{HostRange};
+ghost use Rattle.vhost_queue.specs.Memory.{LiesIn};
 ghost use Rattle.vhost_queue.specs.Queue.{state};
+ghost use Rattle.vhost_queue.specs.Serving.{AreMapped};
 ghost use Rattle.vhost_queue.specs.Packed as packed;
 
-use vhost_queue::{Descriptor, Error, GuestMemory, PackedDescriptor, PackedQueue, Queue};
+use std::alloc::Global;
+use vhost_queue::{
+    Descriptor, Error, GuestMemory, PackedDescriptor, PackedQueue, Queue, Shared, serve,
+};
 
 /// A head that the device has is given back after a refused step. True.
 pub fn gives_back(
@@ -71,6 +77,24 @@ pub fn gives_back_next(queue: &mut Queue, not_out: u16, head: u16) -> bool
             Ok(elem) => elem.idx == before.wrapping_add(1),
             Err(_) => false,
         },
+    }
+}
+
+/// A device that stops serving lacks memory, or its driver broke a rule. True.
+pub fn stops_for_the_driver<S: Shared>(
+    alloc: Global,
+    memory: &mut GuestMemory,
+    queue: &mut Queue,
+    shared: &mut S,
+    steps: u32,
+) -> bool
+    requires mapped { AreMapped memory.old.regions.items queue.old.rings }
+    requires touch { (range : HostRange) → LiesIn memory.old.regions.items range → S.may_touch range }
+    ensures { result ≡ true }
+{
+    match serve(alloc, memory, queue, shared, steps) {
+        Ok(()) => true,
+        Err(error) => error == Error::OutOfMemory || queue.needs_reset(),
     }
 }
 
