@@ -7,6 +7,8 @@ pub mod Display
 pub mod Holder
 pub mod Incoming
 pub mod Program
+pub mod Joined
 pub mod Records
 pub mod Session
 pub mod Names
+pub mod Wire

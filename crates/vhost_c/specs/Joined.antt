@@ -1,0 +1,246 @@
+-- A frontend's session and a backend's, joined: what the one hands out the other receives, in any pieces, and a device answers.
+use Rattle.std.specs.Prelude.{◌≡◌, ◌⊎◌, ◌<◌, ◌^◌, ℕ, All, Bool, true, false, List, [], ◌∷◌, ◌++◌, map, Some, None, Result, Ok, Err, ⊤, is_some, if◌then◌else◌}
+use Rattle.vhost_message.specs.Bits.{has_bit}
+use Rattle.vhost_message.specs.declared.frontend_req.FrontendReq.{FrontendReq}
+use Rattle.vhost_message.specs.declared.error.Error.TheVariants.{OutOfMemory, SocketRetry}
+use Rattle.vhost_message.specs.RecordLaws.{InflightFits}
+use Rattle.vhost_protocol.specs.Agreement.{Negotiates}
+use Rattle.vhost_protocol.specs.declared.profile.Profile.TheVariants.{Standard}
+use Rattle.vhost_protocol.specs.DeviceCall as device
+use Rattle.vhost_protocol.specs.DeviceCall.{Call, Answer}
+use Rattle.vhost_protocol.specs.Error.{Error, seen}
+use Rattle.vhost_protocol.specs.Features.{PROTOCOL_FEATURES}
+use Rattle.vhost_protocol.specs.FrontendCall.{FrontendCall, Frontend, GetFeatures, SetHdrFlags, Value, Nothing}
+use Rattle.vhost_protocol.specs.Ask.{Sends, ask}
+use Rattle.vhost_protocol.specs.declared.asked.Awaited.{Awaited}
+use Rattle.vhost_protocol.specs.Codes.{allows_handles}
+use Rattle.vhost_protocol.specs.Handler.{Meets}
+use Rattle.vhost_protocol.specs.Joined.{AgreeOn, Shown, JoinedStep, JoinedRun, read_as}
+use Rattle.vhost_protocol.specs.Served.{Replied}
+use Rattle.vhost_protocol.specs.Session.{heard_in}
+use Rattle.vhost_protocol.specs.Session.{Session as Memory}
+use Rattle.vhost_protocol.specs.Split.{split}
+use Rattle.vhost_protocol.specs.Step.{Outcome}
+use Rattle.vhost_protocol.specs.Stream.{has_some}
+use Rattle.vhost_protocol.specs.Written.{Payload, Written}
+use Rattle.vhost_link.specs.declared.plain.PlainHandle.{PlainHandle}
+use Rattle.vhost_serving_core.specs.Concluding.{Beside, answer_in}
+use Rattle.vhost_serving_core.specs.declared.answer.DeviceAnswer.{DeviceAnswer}
+use Rattle.vhost_serving.specs.Core as core
+use Rattle.vhost_serving.specs.Serving.{reply_cells}
+use Rattle.vhost_frontend_core.specs.Frontend as frontend
+use Rattle.vhost_frontend_core.specs.ValueHalves.{IsProper}
+use Rattle.vhost_frontend_core.specs.Values.{answer_of, call_of}
+use Rattle.vhost_frontend_core.specs.declared.values.call.FrontendCall as code
+use Rattle.vhost_c_common.specs.Records.{inflight_in}
+use Rattle.vhost_c_common.specs.declared.refusal.Refusal.{Refusal}
+use Rattle.vhost_c_common.specs.declared.refusal.Refusal.TheVariants.{Protocol}
+use Rattle.vhost_c_backend.specs.Replies.{fits, Gives, IsBad}
+use Rattle.vhost_c_backend.specs.Served as served
+use Rattle.vhost_c_backend.specs.Serving.{Channel, Display, Request, IsServed}
+use Rattle.vhost_c_backend.specs.declared.replies.Form.{Form}
+use Rattle.vhost_c_backend.specs.declared.replies.Form.TheVariants as form
+use Rattle.vhost_c_backend.specs.declared.replies.Reply.{Reply}
+use Rattle.vhost_c_backend.specs.declared.replies.Reply.TheVariants as reply
+use Rattle.vhost_c_backend.specs.declared.served.Served.{Served}
+use Rattle.vhost_c.specs.Session as session
+use Rattle.vhost_c.specs.declared.session.Session.{Session}
+use Rattle.vhost_c.specs.declared.wire.Halt.{Halt}
+use Rattle.vhost_c.specs.declared.wire.Halt.TheVariants as halt
+
+-- ---- the device
+
+-- in which form a call is replied to
+abbrev pub form_of : Call PlainHandle Channel Display → Form
+form_of device.GetFeatures = form.Number
+form_of device.GetProtocolFeatures = form.Number
+form_of device.GetQueueNum = form.Number
+form_of device.GetMaxMemSlots = form.Number
+form_of (device.SetMemTable regions handles (Some listens)) = form.Table listens
+form_of (device.AddMemRegion region handle (Some listens)) = form.Region listens
+form_of (device.GetVringBase index) = form.Ring
+form_of (device.GetConfig offset size flags) = form.Config
+form_of (device.GetSharedObject name) = form.Fd
+form_of device.PostcopyAdvice = form.Fd
+form_of (device.SetDeviceStateFd transfer handle) = form.StateFd
+form_of (device.GetInflightFd area) = form.Inflight
+form_of device.GetShmemConfig = form.Shmem
+form_of _ = form.Done
+
+-- What a reply answers to a call of this form. Where it has another form, or an argument that is not allowed, it is a refusal.
+abbrev pub Says : Form → Reply → DeviceAnswer PlainHandle → Type 0
+Says f r x = Gives f r x ⊎ (((fits f r ≡ false) ⊎ IsBad r) × Gives f reply.Refused x)
+
+-- A device that answers any call by this reply.
+abbrev pub replies : Reply → ⊤ → (c : Call PlainHandle Channel Display) → Answer c → ⊤ → Type 0
+replies r d c a d' = (x : DeviceAnswer PlainHandle) × Says (form_of c) r x × (b : Beside) × (a ≡ answer_in b c x)
+
+-- the numbers of a reply have the bits of their types
+abbrev pub IsSized : Reply → Type 0
+IsSized (reply.Number n) = n < 2 ^ 64
+IsSized (reply.Ring index n) = (index < 2 ^ 32) × (n < 2 ^ 32)
+IsSized (reply.Bases bases) = All (λ base. base < 2 ^ 64) bases.now
+IsSized (reply.Inflight area fd) = InflightFits (inflight_in area)
+IsSized _ = ⊤
+
+-- it opens no channel, since its caller has the descriptors
+abbrev pub opens : {C : Type 0} → PlainHandle → Result C Error → Type 0
+opens h opened = ⊥
+
+-- ---- both sessions
+
+-- Both are in step, and keep to the specification: they agree, no call is open, nothing is to be sent, nothing waits, and nothing broke them. Requests are not sent as replies. The bit is that of all features that the device offers.
+pub record AreInStep (bit : Bool) (f : Session) (b : Served) : Type 0 where
+  pub agree : AgreeOn (session.remembers f) (served.remembers b)
+  pub negotiates : Negotiates bit (session.remembers f)
+  pub plain : has_bit (session.remembers f).header_flags 2 ≡ false
+  pub standard : (session.remembers f).profile ≡ Standard
+  pub goes_on : (served.remembers b).failed ≡ None
+  pub unasked : f.asked ≡ None
+  pub idle : served.has_call b ≡ false
+  pub no_request : (session.queued f ≡ []) × (served.arrived b ≡ []) × (b.incoming.count ≡ 0)
+  pub no_reply : served.queued b ≡ []
+  pub sound : ((frontend.endpoint_of f.frontend).broken ≡ None) × ((core.endpoint_of b.core).broken ≡ None) × ((core.endpoint_of b.core).link.script ≡ [])
+
+-- if a reply offers features, they have the bit, or have it not
+abbrev pub Offers : Bool → FrontendCall PlainHandle → Reply → Type 0
+Offers bit GetFeatures (reply.Number n) = has_bit n PROTOCOL_FEATURES ≡ bit
+Offers bit _ _ = ⊤
+
+-- memory was refused
+abbrev pub is_want : Refusal → Bool
+is_want (Protocol OutOfMemory) = true
+is_want (Protocol (SocketRetry c)) = true
+is_want _ = false
+
+-- from a call on, requests are not sent as replies
+abbrev pub IsPlain : FrontendCall PlainHandle → Type 0
+IsPlain (SetHdrFlags flags) = has_bit flags 2 ≡ false
+IsPlain _ = ⊤
+
+-- what a call was answered that is no error: it is kept, but of the one call without a message
+abbrev pub answer_to : FrontendCall PlainHandle → Session → Result (Value PlainHandle) Error
+answer_to (SetHdrFlags flags) f = Ok Nothing
+answer_to _ f = answer_of f.answer
+
+-- what a call was answered
+abbrev pub result_of : FrontendCall PlainHandle → Session → Result ⊤ Refusal → Result (Value PlainHandle) Error → Type 0
+result_of call f (Ok done) result = result ≡ answer_to call f
+result_of call f (Err (Protocol e)) result = result ≡ Err (seen e)
+result_of call f (Err r) result = ⊥
+
+-- an outcome that is no answer where memory was refused
+abbrev pub halted : {A : Type 0} → (Refusal → A) → Refusal → Result A Halt
+halted answers why = if is_want why then Err (halt.WantsMemory why) else Ok (answers why)
+
+-- The request of a call goes out, and this becomes of it by its row, whose call the device answers by this reply.
+pub record Meeting (call : FrontendCall PlainHandle) (r : Reply) (f : Session) (b : Served) (w : Written FrontendReq PlainHandle) (o : Outcome PlainHandle) : Type 0 where
+  pub awaited : Awaited
+  pub after : Frontend
+  pub asked : ask (session.remembers f) call ≡ Sends w awaited after
+  pub meets : Meets (replies r) opens opens (served.remembers b) tt (read_as w) o tt
+
+-- A message of a call brings a descriptor: its request, or its reply.
+pub data Brings (call : FrontendCall PlainHandle) (r : Reply) (f : Session) (b : Served) : Type 0 where
+  request : (w : Written FrontendReq PlainHandle) (awaited : Awaited) (after : Frontend) → ask (session.remembers f) call ≡ Sends w awaited after → has_some w.handles ≡ true → Brings call r f b
+  replied : (w : Written FrontendReq PlainHandle) (o : Outcome PlainHandle) → Meeting call r f b w o → (payload : Payload) (hs : List PlainHandle) → o.served ≡ Replied payload hs → has_some hs ≡ true → Brings call r f b
+
+-- What becomes of a call that a device answers so. It is a step of the protocol, of its own table, and both are in step again; or memory was refused, or a descriptor was to go over, or the backend's session has ended by its row. No answer is waited for in vain.
+abbrev pub Joins : Bool → FrontendCall PlainHandle → Reply → Session → Served → Result (Result ⊤ Refusal) Halt → Session → Served → Type 0
+Joins bit call r f b (Ok outcome) f' b' =
+    (shown : Shown PlainHandle) × JoinedStep (replies r) opens opens (session.remembers f) (served.remembers b) tt call shown (session.remembers f') (served.remembers b') tt
+    × result_of call f' outcome shown.result × (shown.last ≡ false) × AreInStep bit f' b'
+Joins bit call r f b (Err (halt.WantsMemory why)) f' b' = is_want why ≡ true
+Joins bit call r f b (Err halt.Silent) f' b' = ⊥
+Joins bit call r f b (Err halt.Descriptors) f' b' = Brings call r f b
+Joins bit call r f b (Err halt.Ended) f' b' = (w : Written FrontendReq PlainHandle) × (o : Outcome PlainHandle) × Meeting call r f b w o × (served.remembers b' ≡ o.session) × (is_some (served.remembers b').failed ≡ true)
+
+-- ---- many calls
+
+-- the calls, each with the reply at its place
+abbrev pub steps_of : List code.FrontendCall → List Reply → List (FrontendCall PlainHandle × Reply)
+steps_of (c ∷ cs) (r ∷ rs) = (call_of c, r) ∷ steps_of cs rs
+steps_of _ _ = []
+
+-- Requests are not sent as replies, and each call is made of what its types hold. No reply offers other features than the bit says.
+abbrev pub AreAllowed : Bool → List (FrontendCall PlainHandle × Reply) → Type 0
+AreAllowed bit [] = ⊤
+AreAllowed bit (step ∷ steps) = IsPlain step.0 × IsProper step.0 × IsSized step.1 × Offers bit step.0 step.1 × AreAllowed bit steps
+
+-- calls one after another, each of which is done
+abbrev pub AllJoin : Bool → List (FrontendCall PlainHandle × Reply) → Session → Served → Session → Served → Type 0
+AllJoin bit [] f b f' b' = (f' ≡ f) × (b' ≡ b)
+AllJoin bit (step ∷ steps) f b f' b' = (g : Session) × (t : Served) × (outcome : Result ⊤ Refusal) × Joins bit step.0 step.1 f b (Ok outcome) g t × AllJoin bit steps g t f' b'
+
+-- a device that answers each call by some reply
+abbrev pub any_reply : ⊤ → (c : Call PlainHandle Channel Display) → Answer c → ⊤ → Type 0
+any_reply d c a d' = (r : Reply) × replies r d c a d'
+
+-- They are a joined run of the protocol, in lockstep, with these answers; and both are in step again.
+pub record InLockstep (bit : Bool) (steps : List (FrontendCall PlainHandle × Reply)) (f : Session) (b : Served) (f' : Session) (b' : Served) : Type 0 where
+  pub each : AllJoin bit steps f b f' b'
+  pub answers : List (FrontendCall PlainHandle × Result (Value PlainHandle) Error)
+  pub of_calls : map (λ a. a.0) answers ≡ map (λ s. s.0) steps
+  pub run : JoinedRun any_reply opens opens (session.remembers f) (served.remembers b) tt answers (session.remembers f') (served.remembers b') tt
+  pub in_step : AreInStep bit f' b'
+
+-- The calls before one that was not done.
+pub record UpTo (bit : Bool) (steps : List (FrontendCall PlainHandle × Reply)) (f : Session) (b : Served) (h : Halt) (f' : Session) (b' : Served) : Type 0 where
+  pub before : List (FrontendCall PlainHandle × Reply)
+  pub step : FrontendCall PlainHandle × Reply
+  pub later : List (FrontendCall PlainHandle × Reply)
+  pub all : steps ≡ before ++ step ∷ later
+  pub front : Session
+  pub back : Served
+  pub done : InLockstep bit before f b front back
+  pub halts : Joins bit step.0 step.1 front back (Err h) f' b'
+
+-- what becomes of calls that a device answers so
+abbrev pub JoinsAll : Bool → List (FrontendCall PlainHandle × Reply) → Session → Served → Result ⊤ Halt → Session → Served → Type 0
+JoinsAll bit steps f b (Ok done) f' b' = InLockstep bit steps f b f' b'
+JoinsAll bit steps f b (Err h) f' b' = UpTo bit steps f b h f' b'
+
+-- Two new sessions were joined, and these calls are in lockstep: each was done, and both are in step.
+pub record JoinsNew (bit : Bool) (max_queue_num : ℕ) (steps : List (FrontendCall PlainHandle × Reply)) (f' : Session) (b' : Served) : Type 0 where
+  pub front : Session
+  pub back : Served
+  pub fresh : session.IsNew max_queue_num front × served.IsNew back
+  pub lockstep : InLockstep bit steps front back f' b'
+
+-- ---- the backend alone
+
+-- Exactly this message came, without descriptors, and nothing is to be sent; nothing broke the session, and it has not ended.
+pub record IsDue (m : Request) (s : Served) : Type 0 where
+  pub came : split (heard_in (served.remembers s)) allows_handles (served.arrived s) ≡ (Ok m, [])
+  pub whole : served.missing_of s ≡ 0
+  pub bare : m.handles ≡ []
+  pub idle : served.has_call s ≡ false
+  pub goes_on : (served.remembers s).failed ≡ None
+  pub queue : served.queued s ≡ []
+  pub sound : ((core.endpoint_of s.core).broken ≡ None) × ((core.endpoint_of s.core).link.script ≡ [])
+
+-- It was read, and its call is to be answered.
+pub record IsOpen (m : Request) (s : Served) : Type 0 where
+  pub read : IsServed m s
+  pub bare : m.handles ≡ []
+  pub came : served.arrived s ≡ []
+  pub count : s.incoming.count ≡ 0
+  pub queue : served.queued s ≡ []
+  pub sound : ((core.endpoint_of s.core).broken ≡ None) × ((core.endpoint_of s.core).link.script ≡ [])
+
+-- It met its row, by a device that answers by this reply; what became of it is to be sent, and nothing waits.
+pub record IsMet (m : Request) (r : Reply) (before : Memory) (new : Served) : Type 0 where
+  pub outcome : Outcome PlainHandle
+  pub meets : Meets (replies r) opens opens before tt m outcome tt
+  pub memory : served.remembers new ≡ outcome.session
+  pub queue : served.queued new ≡ reply_cells m.request outcome.served
+  pub came : served.arrived new ≡ []
+  pub idle : served.has_call new ≡ false
+  pub count : new.incoming.count ≡ 0
+  pub sound : ((core.endpoint_of new.core).broken ≡ None) × ((core.endpoint_of new.core).link.script ≡ [])
+
+-- it did; or memory was refused
+abbrev pub Serves : Request → Reply → Memory → Result ⊤ Halt → Served → Type 0
+Serves m r before (Ok done) new = IsMet m r before new
+Serves m r before (Err (halt.WantsMemory why)) new = is_want why ≡ true
+Serves m r before (Err _) new = ⊥
