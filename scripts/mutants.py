@@ -245,7 +245,7 @@ def judged_function(crate, function, told):
     if not found:
         return f"the checker says nothing of {function.name}"
     name, line = found.groups()
-    if line == "proved":
+    if line.partition(",")[0] == "proved":  # (and it may wait, say)
         return PROVED
     own = re.escape("proofs/" + name.replace("::", "/"))
     errors = re.findall(rf"(?m)^(?:\./)?{own}/\w+\.antt:\d+:\d+: error: (.*)$", told)
