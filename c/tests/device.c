@@ -1508,24 +1508,36 @@ static void tells_of_a_changed_configuration(void)
     end();
 }
 
-/* A channel that no callback wants stays open until the session ends. */
-static void keeps_a_channel_that_nobody_wants(void)
+/* Its end of a channel that the device was given. */
+static int given_channel(void)
 {
-    covretin_device_calls without = calls;
     int ends[2];
-    char byte;
-    without.config_changed = NULL;
-    begin(&without);
-    negotiate(0);
     if (socketpair(AF_UNIX, SOCK_STREAM | SOCK_CLOEXEC, 0, ends))
         give_up("socketpair");
     DONE(covretin_ask_set_backend_request_fd(&vmm.session, ends[1]));
     close(ends[1]);
-    EXPECT(-1, recv(ends[0], &byte, 1, MSG_DONTWAIT));
+    return ends[0];
+}
+
+/* A channel that no callback wants stays open until another one comes, or the session ends; the frontend may close it. */
+static void keeps_a_channel_that_nobody_wants(void)
+{
+    covretin_device_calls without = calls;
+    char byte;
+    without.config_changed = NULL;
+    begin(&without);
+    negotiate(0);
+    int first = given_channel();
+    EXPECT(-1, recv(first, &byte, 1, MSG_DONTWAIT));
     EXPECT(EAGAIN, errno);
+    close(given_channel());
+    EXPECT(0, recv(first, &byte, 1, 0));
+    close(first);
+    DONE(covretin_ask_get_config(&vmm.session, 0, 4, 0));
+    int last = given_channel();
     end();
-    EXPECT(0, recv(ends[0], &byte, 1, 0));
-    close(ends[0]);
+    EXPECT(0, recv(last, &byte, 1, 0));
+    close(last);
 }
 
 /* A ring without eventfds is looked at each millisecond. */

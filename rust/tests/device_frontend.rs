@@ -57,18 +57,25 @@ fn pipe() -> (File, File) {
     }
 }
 
-/// A channel that the device does not want stays open until the session ends.
+/// A channel that the device does not want stays open until another one comes, or the session ends; the frontend may close it.
 #[test]
 fn keeps_a_channel_that_nobody_wants() {
     counted(|| {
         let (mut machine, _ring) = begun(0, 0);
-        let (mut mine, other) = UnixStream::pair().unwrap();
-        machine.frontend.set_backend_request_fd(&other).unwrap();
-        drop(other);
-        mine.set_nonblocking(true).unwrap();
-        assert_eq!(ErrorKind::WouldBlock, mine.read(&mut [0]).unwrap_err().kind());
+        let mut given = || {
+            let (mine, other) = UnixStream::pair().unwrap();
+            machine.frontend.set_backend_request_fd(&other).unwrap();
+            mine.set_nonblocking(true).unwrap();
+            mine
+        };
+        let mut first = given();
+        assert_eq!(ErrorKind::WouldBlock, first.read(&mut [0]).unwrap_err().kind());
+        drop(given());
+        assert_eq!(0, first.read(&mut [0]).unwrap());
+        let mut last = given();
+        machine.frontend.get_features().unwrap();
         machine.end();
-        assert_eq!(0, mine.read(&mut [0]).unwrap());
+        assert_eq!(0, last.read(&mut [0]).unwrap());
     });
 }
 
