@@ -215,11 +215,21 @@ void transport_lend(struct transport *transport, const uint8_t *bytes, size_t by
     transport->lent_len = bytes_len;
 }
 
+/* Whether what is to be sent is a message whole, from its header on: nothing is behind it then, since a session has one at a time. */
+static bool is_last(const struct transport *transport)
+{
+    const uint8_t *size = transport->bytes + 8;
+    if (transport->at == transport->end || transport->end < 12)
+        return false;
+    return (size[0] | (uint32_t)size[1] << 8 | (uint32_t)size[2] << 16 | (uint32_t)size[3] << 24) == transport->end - 12;
+}
+
 enum covretin_error transport_send(struct transport *transport)
 {
     for (;;) {
+        bool was_last = is_last(transport);
         enum covretin_error error = send_piece(transport);
-        if (error)
+        if (error || was_last)
             return error;
         transport->at = transport->end = 0;
         error = transport->side->to_send(transport->session, transport->bytes, sizeof transport->bytes, transport->fds,
@@ -228,6 +238,7 @@ enum covretin_error transport_send(struct transport *transport)
             return error;
         if (transport->end == 0)
             return send_bytes(transport, &transport->lent, &transport->lent_len);
+        transport->sent = transport->end;
     }
 }
 
@@ -310,35 +321,46 @@ void transport_may_wait(struct transport *transport, bool waits)
         transport->waits = waits;
 }
 
-/* Hands the piece that came to the session, with the descriptors that came with it: its first, or late ones. */
-static enum covretin_error hand_in(struct transport *transport)
+/* Hands the session what it misses of the piece that came, with the descriptors that came with it: its first, or late ones. */
+static enum covretin_error hand_in(struct transport *transport, size_t missing)
 {
     const int32_t *fds = transport->late_count != 0 ? transport->late : transport->came;
     size_t count = transport->late_count != 0 ? transport->late_count : transport->untold;
-    enum covretin_error error = transport->side->receive(transport->session, transport->bytes, transport->end, fds, count);
+    size_t left = transport->end - transport->at;
+    size_t part = left < missing ? left : missing;
+    enum covretin_error error =
+        transport->side->receive(transport->session, transport->bytes + transport->at, part, fds, count);
     if (error)
         return error;
     close_all(transport->late, &transport->late_count);
     transport->untold = 0;
-    transport->end = 0;
+    transport->at += part;
     return COVRETIN_OK;
+}
+
+/* How many bytes to receive at once where so many are missing. A reply is all that may come, and may be as long as its request: so its
+ * header and its body come by one call. Of a request no more than is missing, since the system does not say at which byte descriptors
+ * came. */
+static size_t at_once(const struct transport *transport, size_t missing)
+{
+    size_t most = transport->begun || transport->side->take == NULL || missing > transport->sent ? missing : transport->sent;
+    return most < sizeof transport->bytes ? most : sizeof transport->bytes;
 }
 
 enum covretin_error transport_receive(struct transport *transport)
 {
     for (;;) {
+        size_t missing = transport->side->missing(transport->session);
         enum covretin_error error;
-        if (transport->end == 0) {
-            size_t missing = transport->side->missing(transport->session);
-            if (missing == 0)
-                return COVRETIN_OK;
-            if (missing > sizeof transport->bytes)
-                missing = sizeof transport->bytes;
-            error = receive_piece(transport, missing);
+        if (missing == 0)
+            return COVRETIN_OK;
+        if (transport->at == transport->end) {
+            transport->at = transport->end = 0;
+            error = receive_piece(transport, at_once(transport, missing));
             if (error)
                 return error;
         }
-        error = hand_in(transport);
+        error = hand_in(transport, missing);
         if (error)
             return error;
     }
@@ -500,8 +522,13 @@ enum covretin_error transport_exchange_nowait(struct transport *transport, trans
         wanted = POLLIN;
         error = transport_receive(transport);
     }
-    if (!error)
-        error = takes(of);
+    if (!error) {
+        bool is_last = transport->at == transport->end;
+        /* (the system does not say whether descriptors came with the reply or with what is behind it) */
+        error = is_last || transport->came_count == 0 ? takes(of) : COVRETIN_INVALID_MESSAGE;
+        if (!is_last) /* nobody awaits it */
+            transport_settle(transport, COVRETIN_INVALID_MESSAGE);
+    }
     if (error == COVRETIN_NOT_YET)
         *events = wanted;
     return transport_settle(transport, error);

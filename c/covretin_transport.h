@@ -57,6 +57,7 @@ struct transport {
     enum covretin_error broken; /* what ended the connection, or 0; each call then returns it again, */
     int broken_errno;           /* with this errno */
     size_t at, end;             /* bytes[at .. end) are to be sent, or to be handed to the session */
+    size_t sent;                /* how many bytes the session handed out last */
     uint8_t bytes[COVRETIN_MAX_MESSAGE];
     int32_t fds[COVRETIN_MAX_FDS]; /* the caller's, to go with bytes[at] */
     size_t fd_count;

@@ -12,7 +12,8 @@
  *     covretin_disconnect(&device);
  *
  * No call raises SIGPIPE or lets a descriptor pass to a program that is executed; a signal interrupts none. Nothing is read
- * beyond the message that is awaited, but for the record of a reply that its header refuses.
+ * beyond the message that is awaited, but for the record of a reply that its header refuses, and for what came behind a reply
+ * that is shorter than its request: that ends the connection.
  *
  * WHO OWNS WHAT
  * The connection: a variable of type covretin_connection, {0} at first, belongs to the caller; it is not copied or written by

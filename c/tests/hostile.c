@@ -99,6 +99,40 @@ static void leaves_what_comes_unasked(void)
     close(peer);
 }
 
+/* An acknowledgement of a longer request, and bytes behind it in the same piece: the call succeeds, and the connection has ended. */
+static void awaits_nothing_behind_a_reply(void)
+{
+    const uint8_t config[64] = {0}, behind[40] = {SET_CONFIG, [4] = REPLY_FLAGS, [8] = 8, [20] = GET_FEATURES, [24] = REPLY_FLAGS, [28] = 8};
+    int peer = pair_up(&device, 2);
+    negotiate(&device, peer, COVRETIN_PROTOCOL_CONFIG | COVRETIN_PROTOCOL_REPLY_ACK);
+    EXPECT(COVRETIN_OK, covretin_set_hdr_flags(session, COVRETIN_NEED_REPLY));
+    EXPECT(COVRETIN_OK, covretin_ask_set_config(session, 0, 0, config, sizeof config));
+    say(peer, behind, sizeof behind, NULL, 0);
+    EXPECT(COVRETIN_OK, covretin_exchange(&device, LIMIT));
+    EXPECT(COVRETIN_INVALID_MESSAGE, ask_features());
+    expect_broken(COVRETIN_INVALID_MESSAGE);
+    covretin_disconnect(&device);
+    close(peer);
+}
+
+/* A reply with neither descriptor nor body, and both behind it: no file of theirs is named. */
+static void names_nothing_from_behind_a_reply(void)
+{
+    const uint8_t reply[12] = {GET_SHARED_OBJECT, [4] = REPLY_FLAGS}, behind[16] = {0};
+    int peer = pair_up(&device, 2), sent = file_of("the backend's");
+    int32_t fd = -1;
+    negotiate(&device, peer, COVRETIN_PROTOCOL_SHARED_OBJECT);
+    EXPECT(COVRETIN_OK, covretin_ask_get_shared_object(session, (const uint8_t[16]){1}, 16));
+    say(peer, reply, sizeof reply, NULL, 0);
+    say(peer, behind, sizeof behind, &sent, 1);
+    EXPECT(COVRETIN_INVALID_MESSAGE, covretin_exchange(&device, LIMIT));
+    EXPECT(COVRETIN_OTHER_ANSWER, covretin_claim_fd(&device, &fd));
+    expect_broken(COVRETIN_INVALID_MESSAGE);
+    covretin_disconnect(&device);
+    close(sent);
+    close(peer);
+}
+
 /* -- Descriptors -- */
 
 /* Replies with descriptors that are due to nobody: too many, where none may be, on later bytes, with a refusal. */
@@ -441,6 +475,8 @@ int main(void)
     RUN(never_names_a_file_of_its_own);
     RUN(reads_no_further);
     RUN(leaves_what_comes_unasked);
+    RUN(awaits_nothing_behind_a_reply);
+    RUN(names_nothing_from_behind_a_reply);
     RUN(closes_what_nobody_takes);
     RUN(hands_over_what_was_sent);
     RUN(more_than_a_message_has);

@@ -83,15 +83,23 @@ impl<S: Asks> Connection<S> {
         // (a panic amid a call would leave it so)
         self.broken = Some(libc::EIO);
         let end = end_after(self.timeout);
-        match self.send(behind, end) {
-            Ok(()) => {}
+        let sent = match self.send(behind, end) {
+            Ok(sent) => sent,
             Err(Unsent::Whole(error)) => return Err(self.take_back(error, take)),
             Err(Unsent::Part(error)) => return Err(self.break_by(error)),
+        };
+        let (fds, is_last) = self.receive_all(sent, end).map_err(|error| self.break_by(error))?;
+        let taken = match take(&mut self.session) {
+            Ok(value) => {
+                self.broken = None;
+                Ok((value, fds))
+            }
+            Err(code) => Err(self.refusal(code)),
+        };
+        if !is_last {
+            self.broken = Some(libc::EPROTO);
         }
-        let fds = self.receive_all(end).map_err(|error| self.break_by(error))?;
-        let value = take(&mut self.session).map_err(|code| self.refusal(code))?;
-        self.broken = None;
-        Ok((value, fds))
+        taken
     }
 
     /// Reads the reply that was taken last.
@@ -104,14 +112,14 @@ impl<S: Asks> Connection<S> {
         take_from(&mut fds, fd).map(File::from).map_err(|error| self.break_by(error))
     }
 
-    /// Sends the request, with what is behind it.
+    /// Sends the request, with what is behind it: how many bytes the request had.
     fn send(&mut self, behind: &[u8], end: End) -> Sending {
-        send_all(&self.socket, &mut self.session, &mut self.bytes, end)?;
-        match behind {
-            [] => Ok(()),
+        let sent = send_all(&self.socket, &mut self.session, &mut self.bytes, end)?;
+        if !behind.is_empty() {
             // (the request is out)
-            behind => Ok(send_piece(&self.socket, behind, &[], end).map_err(Error::from)?),
+            send_piece(&self.socket, behind, &[], end).map_err(Error::from)?;
         }
+        Ok(sent)
     }
 
     /// Takes a call back of which nothing was sent, for this reason: the session and the connection are as before it.
@@ -138,31 +146,51 @@ impl<S: Asks> Connection<S> {
         self.session.undo()
     }
 
-    /// Receives what is missing of the reply: the descriptors that came with its first byte.
-    fn receive_all(&mut self, end: End) -> Result<Vec<PeerFd>> {
+    /// Receives what is missing of the reply to a request of so many bytes: the descriptors that came with its first byte, and whether
+    /// nothing came behind it, which nobody would await.
+    ///
+    /// The reply is all that may come, and may be as long as its request: so its header and its body come by one call. InvalidMessage:
+    /// descriptors came, and bytes behind the reply, to which they may belong.
+    fn receive_all(&mut self, sent: usize, end: End) -> Result<(Vec<PeerFd>, bool)> {
         let mut fds = Vec::new();
-        // (how many of them came with the first byte, once that has come)
-        let mut kept = None;
-        loop {
-            let missing = self.session.missing().min(MAX_MESSAGE);
-            if missing == 0 {
-                return Ok(fds);
-            }
-            let count = receive_piece(&self.socket, &mut self.bytes[..missing], &mut fds, end)?;
-            if count == 0 {
-                return Err(Error::PartialMessage);
-            }
-            // The protocol gives no meaning to descriptors behind a reply's first byte: those are closed here.
-            let numbers = match kept {
-                None => numbers_of(&fds),
-                Some(kept) => {
-                    fds.truncate(kept);
-                    &[]
-                }
-            };
-            self.session.receive(&self.bytes[..count], numbers).map_err(|code| self.error_of(code))?;
-            kept = Some(fds.len());
+        let missing = self.session.missing();
+        if missing == 0 {
+            return Ok((fds, true));
         }
+        let count = self.receive_piece(missing.max(sent), &mut fds, end)?;
+        let mut at = count.min(missing);
+        self.hand_in(0, at, numbers_of(&fds))?;
+        let kept = fds.len();
+        loop {
+            match self.session.missing() {
+                0 if at < count && !fds.is_empty() => return Err(Error::InvalidMessage),
+                0 => return Ok((fds, at == count)),
+                missing if at < count => {
+                    let part = missing.min(count - at);
+                    self.hand_in(at, part, &[])?;
+                    at += part;
+                }
+                missing => {
+                    let part = self.receive_piece(missing, &mut fds, end)?;
+                    // The protocol gives no meaning to descriptors behind a reply's first byte: those are closed here.
+                    fds.truncate(kept);
+                    self.hand_in(0, part, &[])?;
+                }
+            }
+        }
+    }
+
+    /// Receives so many bytes at most: how many.
+    fn receive_piece(&mut self, most: usize, fds: &mut Vec<PeerFd>, end: End) -> Result<usize> {
+        match receive_piece(&self.socket, &mut self.bytes[..most.min(MAX_MESSAGE)], fds, end)? {
+            0 => Err(Error::PartialMessage),
+            count => Ok(count),
+        }
+    }
+
+    /// Hands the session so many bytes, with these descriptors.
+    fn hand_in(&mut self, at: usize, count: usize, fds: &[RawFd]) -> Result<()> {
+        self.session.receive(&self.bytes[at..at + count], fds).map_err(|code| self.error_of(code))
     }
 
     /// Ends the connection by this error.

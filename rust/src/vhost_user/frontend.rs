@@ -409,7 +409,7 @@ impl VhostUserFrontend for Frontend {
         }
         let mut node = self.node();
         node.call(|session| session.get_config(offset, flags.bits(), buf))?;
-        let mut bytes = vec![0; buf.len()];
+        let mut bytes = buf.to_vec();
         let (config, count) = node.answer(|session| session.answer_config(&mut bytes))?;
         bytes.truncate(count);
         Ok((VhostUserConfig { offset: config.offset, size: config.size, flags: config.flags }, bytes))

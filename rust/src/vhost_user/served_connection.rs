@@ -215,9 +215,11 @@ impl<S: Serves> ServedConnection<S> {
 
     fn send(&mut self) -> Result<()> {
         let end = end_after(self.send_timeout);
-        let sent = send_all(&self.socket, &mut self.session, &mut self.bytes, end);
-        // Also where nothing was sent: who waits for a reply is hung up on.
-        sent.map_err(|unsent| self.break_by(unsent.into()))
+        match send_all(&self.socket, &mut self.session, &mut self.bytes, end) {
+            Ok(_) => Ok(()),
+            // Also where nothing was sent: who waits for a reply is hung up on.
+            Err(unsent) => Err(self.break_by(unsent.into())),
+        }
     }
 
     /// Ends the connection by this error.

@@ -43,21 +43,23 @@ impl From<Unsent> for Error {
     }
 }
 
-/// Whether it was sent.
-pub(super) type Sending = result::Result<(), Unsent>;
+/// How many bytes were sent.
+pub(super) type Sending = result::Result<usize, Unsent>;
 
 /// Sends all that a session hands out, which is put into `bytes` piece by piece. It has one message to send at a time, which `bytes`
 /// has room for.
 pub(super) fn send_all(socket: &UnixStream, session: &mut impl Moves, bytes: &mut [u8; MAX_MESSAGE], end: End) -> Sending {
     let mut fds = [-1; MAX_FDS];
+    let mut sent = 0;
     loop {
         let (byte_count, fd_count) = session.next_to_send(bytes, &mut fds).map_err(|code| error_of(code, 0))?;
         if byte_count == 0 {
-            return Ok(());
+            return Ok(sent);
         }
         send_piece(socket, &bytes[..byte_count], &fds[..fd_count], end)?;
+        sent += byte_count;
         if is_whole(&bytes[..byte_count]) {
-            return Ok(());
+            return Ok(sent);
         }
     }
 }
@@ -71,7 +73,7 @@ fn is_whole(bytes: &[u8]) -> bool {
 }
 
 /// Sends all of these bytes, the descriptors with the first of them. There is at least one byte.
-pub(super) fn send_piece(socket: &UnixStream, bytes: &[u8], fds: &[RawFd], end: End) -> Sending {
+pub(super) fn send_piece(socket: &UnixStream, bytes: &[u8], fds: &[RawFd], end: End) -> result::Result<(), Unsent> {
     match send(socket, bytes, fds, end.is_none()) {
         Ok(count) if count == bytes.len() => Ok(()),
         sent => send_rest(socket, bytes, fds, end, sent),
@@ -80,7 +82,13 @@ pub(super) fn send_piece(socket: &UnixStream, bytes: &[u8], fds: &[RawFd], end: 
 
 /// The same, of which this was sent at first.
 #[cold]
-fn send_rest(socket: &UnixStream, bytes: &[u8], mut fds: &[RawFd], end: End, mut sent: io::Result<usize>) -> Sending {
+fn send_rest(
+    socket: &UnixStream,
+    bytes: &[u8],
+    mut fds: &[RawFd],
+    end: End,
+    mut sent: io::Result<usize>,
+) -> result::Result<(), Unsent> {
     let mut left = bytes;
     loop {
         match sent {
