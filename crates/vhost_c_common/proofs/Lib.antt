@@ -1,4 +1,6 @@
+pub mod Balancing
 pub mod ByNumber
+pub mod Claiming
 pub mod Heads
 pub mod Hearing
 pub mod OnWay

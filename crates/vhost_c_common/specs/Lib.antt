@@ -1,5 +1,6 @@
 pub mod ByNumber
 pub mod Carrying
+pub mod Held
 pub mod Incoming
 pub mod Memory
 pub mod Moving

@@ -3,6 +3,7 @@
 #![tactic(auto)]
 
 mod carrying;
+mod held;
 mod incoming;
 mod outgoing;
 mod profile;
@@ -10,6 +11,7 @@ mod records;
 mod refusal;
 
 pub use carrying::{carry_out, empty, forget_sent, hand_out, receive};
+pub use held::Held;
 pub use incoming::Incoming;
 pub use outgoing::Outgoing;
 pub use profile::profile_of;
