@@ -3,7 +3,7 @@ use Rattle.std.proofs.Common.{◌≡◌, ℕ, ◌+◌, ℤ, Bool, true, false, L
 use Rattle.std.proofs.lemmas.List.Sums.{sum_by-append}
 use Rattle.std.specs.Prelude.{cond}
 use Rattle.std.specs.Ordering.{int_eq}
-use Rattle.vhost_c_common.specs.Held.{times, held_times, claimable, let_go, HoldsNone, IsSame, Arrives, Released, Claimed, HandsLoose, Balances, IsSettled}
+use Rattle.vhost_c_common.specs.Held.{times, held_times, claimable, let_go, HoldsNone, IsSame, Arrives, Released, Claimed, HandsLoose, Abandons, LetsGo, Balances, IsSettled}
 use Rattle.vhost_c_common.specs.declared.held.Held.{Held}
 
 pub times-append : (n : ℤ) (xs ys : List ℤ) → times n (xs ++ ys) ≡ times n xs + times n ys
@@ -37,6 +37,15 @@ module _ (n : ℤ) (old new : Held) where
   handed-times before count after h =
       let own : times n (claimable new) ≡ times n (claimable old) = ap (times n) h.own in
       let loose : times n (let_go old) ≡ times n (let_go new) + times n (take count after) = ap (times n) h.loose ∙ times-append n (let_go new) (take count after) in omega arith
+
+pub ends-times : (n : ℤ) (was is : Bool) (old new : Held) → LetsGo was is old new → held_times n new ≡ held_times n old
+ends-times n true false old new e = released-times n old new e
+ends-times n true true old new e = ap (held_times n) e
+ends-times n false is old new e = ap (held_times n) e
+
+pub abandons-times : (n : ℤ) (is_open : Bool) (old new : Held) → Abandons is_open old new → held_times n new ≡ held_times n old
+abandons-times n true old new a = ap (held_times n) a
+abandons-times n false old new a = released-times n old new a
 
 -- where none is held any more, each that came was claimed or handed out
 pub settled : (came claimed handed : List ℤ) (h : Held) → Balances came claimed handed h → HoldsNone h → IsSettled came claimed handed

@@ -79,6 +79,11 @@ abbrev pub Abandons : Bool → Held → Held → Type 0
 Abandons true old new = new ≡ old
 Abandons false old new = Released old new
 
+-- what becomes of those of a call, which was open before, and is after: where it is answered, nobody will claim what it left; else the same are held
+abbrev pub LetsGo : Bool → Bool → Held → Held → Type 0
+LetsGo true false old new = Released old new
+LetsGo was is old new = new ≡ old
+
 -- Each number came as often as it was claimed, was handed out and is held.
 abbrev pub Balances : List ℤ → List ℤ → List ℤ → Held → Type 0
 Balances came claimed handed h = (n : ℤ) → times n came ≡ times n claimed + times n handed + held_times n h

@@ -3,6 +3,7 @@
 ghost use Rattle.std.specs.Prelude.{◌≡◌, ◌≤◌, ◌+◌, length, vec_capacity};
 
 use std::alloc::{AllocError, Global};
+use vhost_message::{Error, Result};
 
 /// The descriptors that came with messages, by their numbers: each is claimed once, or handed out once.
 #[derive(Drop)]
@@ -15,7 +16,8 @@ pub struct Held {
 }
 
 impl Held {
-    ghost use Rattle.std.specs.Prelude.{◌≡◌, ◌≤◌, ◌+◌, ℕ, List, IfOk, OnOk, OnErr, length};
+    ghost use Rattle.std.specs.Prelude.{◌≡◌, ◌≤◌, ◌+◌, ℕ, List, IfErr, OnOk, length};
+    ghost use Rattle.vhost_c_common.specs.View.{GivesNone};
     ghost use Rattle.vhost_c_common.specs.Held.{HasRoom, HoldsNone, IsSame, Arrives, Released, Claims, HandsLoose};
 
     /// None.
@@ -28,10 +30,30 @@ impl Held {
         }
     }
 
+    /// Makes room for these, which come with bytes.
+    ///
+    /// InvalidParam: they come without a byte. OutOfMemory: an allocation failed. The same are held, whatever the result.
+    pub fn make_room(&mut self, bytes: &[u8], fds: &[i32]) -> Result<()>
+        ensures room { OnOk result (HasRoom (length fds.now) self.new) }
+        ensures same { IsSame self.old self.new }
+        ensures reason { IfErr result (λ e. GivesNone bytes.now fds.now e) }
+    {
+        if fds.is_empty() {
+            return Ok(());
+        }
+        if bytes.is_empty() {
+            return Err(Error::InvalidParam);
+        }
+        match self.reserve(fds.len()) {
+            Ok(()) => Ok(()),
+            Err(AllocError) => Err(Error::OutOfMemory),
+        }
+    }
+
     /// Makes room for so many more.
     ///
     /// AllocError: an allocation failed. The same are held, whatever the result.
-    pub fn make_room(&mut self, count: usize) -> std::result::Result<(), AllocError>
+    fn reserve(&mut self, count: usize) -> std::result::Result<(), AllocError>
         ensures room { OnOk result (HasRoom count self.new) }
         ensures same { IsSame self.old self.new }
     {
