@@ -1,3 +1,4 @@
+pub mod Keeping
 pub mod Offering
 pub mod Placing
 pub mod Serving

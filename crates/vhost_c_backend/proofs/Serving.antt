@@ -31,6 +31,8 @@ use Rattle.vhost_serving.specs.declared.halves.Pending.{Pending}
 use Rattle.vhost_serving.specs.declared.session_core.SessionCore.{SessionCore}
 use Rattle.vhost_c_common.proofs.Hearing.{hears-cut, replies-told}
 use Rattle.vhost_c_common.proofs.Wants.{sound}
+use Rattle.vhost_c_common.specs.Held.{LetsGo, Released}
+use Rattle.vhost_c_common.specs.declared.held.Held.{Held}
 use Rattle.vhost_c_common.specs.declared.outgoing.Outgoing.{Outgoing}
 use Rattle.vhost_c_common.specs.declared.refusal.Refusal.{Refusal}
 use Rattle.vhost_c_common.specs.declared.refusal.Refusal.TheVariants.{Protocol, NothingAsked, OtherCall}
@@ -157,9 +159,9 @@ is-due s n idle is none =
     let zero : missing_of_request s ≡ 0 = omega arith in
     record { idle = idle; whole = ap (λ b. if b then 0 else missing_of_request s) idle ∙ zero }
 
-pub begins : TalksLaw → (old new : Served) (number : ℕ) (b : halves.Begins Channel Display event old.core new.core) → new.outgoing ≡ old.outgoing → new.incoming.count ≡ 0 → new.inactive ≡ 0
+pub begins : TalksLaw → (old new : Served) (number : ℕ) (b : halves.Begins Channel Display event old.core new.core) → new.outgoing ≡ old.outgoing → new.incoming.count ≡ 0 → new.inactive ≡ 0 → new.held ≡ old.held
     → ((m : Request) → IsRead m new.core → (d : DeviceCall) × ◌≡◌ {A = Option (ℕ × Form)} (Some (number, new.form)) (Some (call_number d, form_in d)) × IsCall (remembers new) m d) → IsDue old → serving.Begins number old new
-begins law old new number b outgoing count inactive asked due =
+begins law old new number b outgoing count inactive held asked due =
     let cut = hears-cut law (split (heard_in (remembers old)) allows_handles) (endpoint_of old.core) (endpoint_of new.core) (Ok b.reads.message) b.reads.hears in
     let x = read old.core new.core b in let d = asked b.reads.message x in
     let both : ◌≡◌ {A = ℕ × Form} (number, new.form) (call_number d.0, form_in d.0) = cc d.1 in
@@ -175,6 +177,7 @@ begins law old new number b outgoing count inactive asked due =
       queue = ap {A = Outgoing} (λ q. q.link.pending ++ (endpoint_of new.core).link.sent) outgoing ∙ ap (λ xs. old.outgoing.link.pending ++ xs) cut.1;
       nothing_came = count;
       inactive = inactive;
+      held = held;
       sound = sound (endpoint_of old.core) (endpoint_of new.core) b.reads.hears.serves;
     }
 
@@ -218,28 +221,44 @@ concludes talks law m a old new result finishes outgoing x =
 
 -- ---- replies
 
+-- nothing became of those that are held
+same-ends : (b : Bool) (h : Held) → LetsGo b b h h
+same-ends true h = refl
+same-ends false h = refl
+
+some-open : (b : Bool) → ¬ (b ≡ false) → b ≡ true
+some-open true isnt = refl
+some-open false isnt = absurd (isnt refl)
+
 module _ (gives : Form → DeviceAnswer PlainHandle → Type 0) (rejects : Form → Refusal → Type 0) (place : VhostUserShMemConfig) (old : Served) where
   pub by-nothing : ((m : Request) → IsServed m old → (c : DeviceCall) × (None ≡ Some (form_in c)) × IsCall (remembers old) m c) → Answers gives rejects place old (Err NothingAsked) old
-  by-nothing one = record { one = λ m x. absurd (cc (one m x).1); none = λ idle. (refl, refl) }
+  by-nothing one = record { one = λ m x. absurd (cc (one m x).1); none = λ idle. (refl, refl); held = same-ends (has_call old) old.held }
 
   module _ (f : Form) (one : (m : Request) → IsServed m old → (c : DeviceCall) × (Some f ≡ Some (form_in c)) × IsCall (remembers old) m c) (none : has_call old ≡ false → Some f ≡ None) where
+    open-before : has_call old ≡ true
+    open-before = some-open (has_call old) (λ idle. cc (none idle))
+
     pub by-rejection : (r : Refusal) → rejects f r → Answers gives rejects place old (Err r) old
     by-rejection r is = record {
       one = λ m x. let c = one m x in let same : f ≡ form_in c.0 = cc c.1 in rejected (record { call = c.0; makes = c.2; is_rejected = subst (λ g. rejects g r) same is; same = refl });
       none = λ idle. absurd (cc (none idle));
+      held = same-ends (has_call old) old.held;
     }
 
-    module _ (new : Served) (a : DeviceAnswer PlainHandle) (given : gives f a) (rest : serving.Rests old new) where
+    module _ (new : Served) (a : DeviceAnswer PlainHandle) (given : gives f a) (rest : serving.Rests old new) (released : Released old.held new.held) where
       replies : (result : Result ⊤ declared.Error) → ((m : Request) → IsServed m old → Concludes m place a old new result) → (m : Request) → IsServed m old → Replies m gives place old result new
       replies result concluded m x =
           let c = one m x in let same : f ≡ form_in c.0 = cc c.1 in
           record { call = c.0; makes = c.2; answer = a; is_given = subst (λ g. gives g a) same given; concludes = concluded m x; rest = rest }
 
+      ends : LetsGo (has_call old) (has_call new) old.held new.held
+      ends = subst (λ b. LetsGo b (has_call new) old.held new.held) (sym open-before) (subst (λ b. LetsGo true b old.held new.held) (sym rest.idle) released)
+
       pub by-success : ((m : Request) → IsServed m old → Concludes m place a old new (Ok tt)) → Answers gives rejects place old (Ok tt) new
-      by-success concluded = record { one = λ m x. done (replies (Ok tt) concluded m x); none = λ idle. absurd (cc (none idle)) }
+      by-success concluded = record { one = λ m x. done (replies (Ok tt) concluded m x); none = λ idle. absurd (cc (none idle)); held = ends }
 
       pub by-failure : (e : declared.Error) → ((m : Request) → IsServed m old → Concludes m place a old new (Err e)) → Answers gives rejects place old (Err (Protocol e)) new
-      by-failure e concluded = record { one = λ m x. failed (replies (Err e) concluded m x); none = λ idle. absurd (cc (none idle)) }
+      by-failure e concluded = record { one = λ m x. failed (replies (Err e) concluded m x); none = λ idle. absurd (cc (none idle)); held = ends }
 
 -- a session with other regions of shared memory in their place
 abbrev pub placed : Served → VhostUserShMemConfig → Served

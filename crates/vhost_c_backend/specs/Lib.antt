@@ -1,5 +1,6 @@
 pub mod Calls
 pub mod Clients
+pub mod HeldClients
 pub mod Arguments
 pub mod Replies
 pub mod Served

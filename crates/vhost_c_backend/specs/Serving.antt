@@ -33,6 +33,7 @@ use Rattle.vhost_serving.specs.Serving.{reply_cells, kept_unsent}
 use Rattle.vhost_serving.specs.declared.halves.Pending.{Pending}
 use Rattle.vhost_serving.specs.declared.session_core.SessionCore.{SessionCore}
 use Rattle.vhost_c_common.specs.Carrying.{emptied}
+use Rattle.vhost_c_common.specs.Held.{LetsGo, Released}
 use Rattle.vhost_c_common.specs.Number.{feature_in}
 use Rattle.vhost_c_common.specs.View.{StaysSound}
 use Rattle.vhost_c_common.specs.declared.refusal.Refusal.{Refusal}
@@ -107,7 +108,7 @@ pub record IsDue (s : Served) : Type 0 where
   pub idle : has_call s ≡ false
   pub whole : missing_of s ≡ 0
 
--- The request that came is a message, as its stream is split, and it became this call of the device. What is to be sent and what is remembered are as before. It lacks no feature.
+-- The request that came is a message, as its stream is split, and it became this call of the device, which may claim the descriptors that came with it. What is to be sent and what is remembered are as before. It lacks no feature.
 pub record Begins (number : ℕ) (old new : Served) : Type 0 where
   pub due : IsDue old
   pub message : Request
@@ -118,9 +119,10 @@ pub record Begins (number : ℕ) (old new : Served) : Type 0 where
   pub queue : queued new ≡ queued old
   pub nothing_came : new.incoming.count ≡ 0
   pub inactive : new.inactive ≡ 0
+  pub held : new.held ≡ old.held
   pub sound : StaysSound (endpoint_of old.core) (endpoint_of new.core)
 
--- It was refused, or trouble came first; the device is asked nothing, and nothing of the request is left. Which feature it lacks is kept, if that is why.
+-- It was refused, or trouble came first; the device is asked nothing, nothing of the request is left, and nobody will claim what came with it. Which feature it lacks is kept, if that is why.
 pub record Denies (e : declared.Error) (old new : Served) : Type 0 where
   pub due : IsDue old
   pub mid : SessionCore Ends PlainHandle
@@ -131,8 +133,9 @@ pub record Denies (e : declared.Error) (old new : Served) : Type 0 where
   pub idle : has_call new ≡ false
   pub nothing_came : new.incoming.count ≡ 0
   pub inactive : new.inactive ≡ feature_in e
+  pub held : Released old.held new.held
 
--- The session has ended, which it says; it reads nothing more, and what came is forgotten.
+-- The session has ended, which it says; it reads nothing more, what came is forgotten, and nobody will claim what came with it.
 pub record Ended (n : ℤ) (e : declared.Error) (old new : Served) : Type 0 where
   pub is : e ≡ SocketBroken (Raw n)
   pub end : endpoint_of new.core ≡ emptied (endpoint_of old.core)
@@ -140,6 +143,7 @@ pub record Ended (n : ℤ) (e : declared.Error) (old new : Served) : Type 0 wher
   pub outgoing : new.outgoing ≡ old.outgoing
   pub idle : has_call new ≡ false
   pub nothing_came : new.incoming.count ≡ 0
+  pub held : Released old.held new.held
 
 -- What a session answers where it is to read the next request: the number of a call, or why not. One that has ended says so.
 abbrev pub Nexts : Served → Result ℕ Refusal → Served → Type 0
@@ -193,10 +197,11 @@ pub data Replying (m : Request) (gives : Form → DeviceAnswer PlainHandle → T
   failed : {e : declared.Error} {new : Served} → Replies m gives place old (Err e) new → Replying m gives rejects place old (Err (Protocol e)) new
   rejected : {r : Refusal} {new : Served} → Stays m rejects old r new → Replying m gives rejects place old (Err r) new
 
--- What a session answers to a reply: one goes to the call of the message that was read, and none where there is none.
+-- What a session answers to a reply: one goes to the call of the message that was read, and none where there is none. What came with a call that was replied to, and was not claimed, nobody will claim.
 pub record Answers (gives : Form → DeviceAnswer PlainHandle → Type 0) (rejects : Form → Refusal → Type 0) (place : VhostUserShMemConfig) (old : Served) (outcome : Result ⊤ Refusal) (new : Served) : Type 0 where
   pub one : (m : Request) → IsServed m old → Replying m gives rejects place old outcome new
   pub none : has_call old ≡ false → (outcome ≡ Err NothingAsked) × (new ≡ old)
+  pub held : LetsGo (has_call old) (has_call new) old.held new.held
 
 abbrev pub Answering : Reply → Served → Result ⊤ Refusal → Served → Type 0
 Answering r s outcome s' = Answers (λ f a. Gives f r a) (λ f e. Rejects f r e) s.core.service.shmem s outcome s'

@@ -4,6 +4,7 @@
 mod arguments;
 mod calls;
 mod clients;
+mod held_clients;
 mod regions;
 mod replies;
 mod served;

@@ -13,8 +13,8 @@ use crate::replies::{Form, Reply, form_of};
 use std::alloc::Global;
 use vhost_backend_req::Backend;
 use vhost_c_common::{
-    Config, Incoming, Inflight, Outgoing, Refusal, Region, Vring, empty, feature_of, hand_out,
-    receive,
+    Config, Held, Incoming, Inflight, Outgoing, Refusal, Region, Vring, empty, feature_of,
+    hand_out, receive,
 };
 use vhost_endpoint::talks_law;
 use vhost_gpu_backend_req::GpuBackend;
@@ -31,12 +31,14 @@ type Outcome<T> = std::result::Result<T, Refusal>;
 /// A link in memory is asked once: what it can't do it will not do.
 const BUDGET: u32 = 0;
 
-/// A session: what it reads and replies, what is to be sent, and how much came of the next request.
+/// A session: what it reads and replies, what is to be sent, how much came of the next request, and the descriptors that came.
 #[derive(Drop)]
 pub struct Served {
     core: SessionCore<MemLink>,
     outgoing: Outgoing,
     incoming: Incoming,
+    /// Those of the call that is to be replied to, and those that nobody will claim.
+    held: Held,
     /// The feature that was not active, where the last request was refused for that; else 0.
     inactive: u64,
     /// In which form the call is replied to that is to be replied to.
@@ -46,9 +48,10 @@ pub struct Served {
 
 impl Served {
     ghost use Rattle.vhost_message.specs.declared.limits.TheConstants.{MAX_MSG_TEXT};
+    ghost use Rattle.vhost_c_common.specs.Held.{Gets, HandsLoose, Abandons, Released};
     ghost use Rattle.vhost_c_common.specs.Moving.{HandsOut};
     ghost use Rattle.vhost_c_common.specs.View.{Hands, HandsNone, Receives, TakesNone};
-    ghost use Rattle.vhost_c_backend.specs.Served.{IsNew, Choosing, missing_of, missing_of_request, end_number, queued, view, remembers, has_call};
+    ghost use Rattle.vhost_c_backend.specs.Served.{IsNew, Choosing, Claiming, missing_of, missing_of_request, end_number, is_first, queued, view, remembers, has_call};
     ghost use Rattle.vhost_c_backend.specs.Replies.{form_in};
     ghost use Rattle.vhost_serving.specs.Core.{session_in};
     ghost use Rattle.vhost_c_backend.specs.Calls.{call_number};
@@ -74,6 +77,7 @@ impl Served {
                     core,
                     outgoing,
                     incoming: Incoming::new(),
+                    held: Held::new(alloc),
                     inactive: 0,
                     form: Form::Done,
                     alloc,
@@ -117,12 +121,17 @@ impl Served {
     pub fn receive(&mut self, bytes: &[u8], fds: &[i32]) -> Outcome<()>
         ensures received { Receives (missing_of self.old) bytes.now fds.now (view self.old) result (view self.new) }
         ensures reason { IfErr result (λ r. TakesNone (missing_of self.old) bytes.now fds.now r) }
+        ensures held { Gets fds.now (is_first self.old) self.old.held result self.new.held }
     {
         if bytes.len() > self.missing() {
             return Err(Refusal::TooManyBytes);
         }
+        if let Err(error) = self.held.make_room(bytes, fds) {
+            return Err(Refusal::Protocol(error));
+        }
         match receive(self.alloc, self.core.endpoint_mut(), bytes, fds) {
             Ok(()) => {
+                self.held.arrive(fds, self.incoming.count == 0);
                 self.incoming.add(bytes);
                 Ok(())
             }
@@ -152,6 +161,7 @@ impl Served {
         ensures reason { IfErr result (λ r. HandsNone bytes.new fds.new r) }
         ensures refused { IfErr result (λ _. queued self.new ≡ queued self.old) }
         ensures rest { Hands (view self.old) (view self.new) }
+        ensures held { self.new.held ≡ self.old.held }
     {
         if bytes.is_empty() || fds.len() < MAX_ATTACHED_FD_ENTRIES {
             return Err(Refusal::NoRoom);
@@ -188,6 +198,7 @@ impl Served {
             }
             Err(error) => {
                 empty(self.core.endpoint_mut());
+                self.held.release();
                 self.inactive = feature_of(&error);
                 Err(Refusal::Protocol(error))
             }
@@ -305,10 +316,50 @@ impl Served {
     fn conclude(&mut self, answer: DeviceAnswer<PlainHandle>) -> std::result::Result<(), Error>
         ensures concluded { (m : Request) → IsServed m self.old → Concludes m self.old.core.service.shmem answer self.old self.new result }
         ensures rest { Rests self.old self.new }
+        ensures held { Released self.old.held self.new.held }
     {
         talks_law();
         Laws::<PlainHandle, Backend<MemLink>, GpuBackend<MemLink>>::concludes_row();
+        self.held.release();
         self.core.conclude(answer)
+    }
+
+    /// Claims a descriptor of the call that is to be replied to: it came with the first byte of its request, and is the caller's
+    /// from now on.
+    ///
+    /// OtherCall: no call is to be replied to, or none of its descriptors has this number that was not claimed. Then nothing
+    /// changed.
+    pub fn claim(&mut self, fd: i32) -> Outcome<()>
+        ensures { Claiming fd self.old result self.new }
+    {
+        if !self.core.has_call() {
+            return Err(Refusal::OtherCall);
+        }
+        if self.held.claim(fd) {
+            Ok(())
+        } else {
+            Err(Refusal::OtherCall)
+        }
+    }
+
+    /// Hands out descriptors that nobody will claim, to the front of a place: how many. They are the caller's from now on, which
+    /// closes them. None is left where it is 0 and the place has room.
+    pub fn unclaimed(&mut self, place: &mut [i32]) -> usize
+        ensures out { HandsLoose self.old.held place.old result place.new self.new.held }
+        ensures rest { self.new ≡ record self.old { held = self.new.held } }
+    {
+        self.held.hand_out(place)
+    }
+
+    /// The rest of the request that is received will never come: nobody will claim what came with it. A call that is to be replied
+    /// to keeps its own.
+    pub fn abandon(&mut self)
+        ensures abandoned { Abandons (has_call self.old) self.old.held self.new.held }
+        ensures rest { self.new ≡ record self.old { held = self.new.held } }
+    {
+        if !self.core.has_call() {
+            self.held.release();
+        }
     }
 }
 

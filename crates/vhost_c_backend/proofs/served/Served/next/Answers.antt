@@ -22,7 +22,7 @@ alive (Some n) e P Q ends = absurd (cc (ends n refl).0)
 
 pub returns-in-Some : goal.returns-in-Some
 returns-in-Some c = (
-  λ unmarked. begins c.talks_law.ensures.talks c.args.self.now _ _ (c.in-Ok.ensures.begun unmarked) refl c.new-self.ensures refl c.in-Some.ensures
+  λ unmarked. begins c.talks_law.ensures.talks c.args.self.now _ _ (c.in-Ok.ensures.begun unmarked) refl c.new-self.ensures refl refl c.in-Some.ensures
       (is-due c.args.self.now _ (sym c.has_call.ensures ∙ c.if-has_call.false) c.missing_of_request.ensures.missing c.if-missing_of_request-gt0.false),
   λ n marked. absurd (cc (c.in-Ok.ensures.failed n marked).0),
 )
@@ -44,6 +44,7 @@ returns-in-Err c = (
     idle = c.in-Err.ensures.none;
     nothing_came = c.new-self.ensures;
     inactive = c.feature_of-self.ensures;
+    held = c.release.ensures;
   },
   λ n marked. record {
     is = cc (c.in-Err.ensures.failed n marked).0;
@@ -52,5 +53,6 @@ returns-in-Err c = (
     outgoing = refl;
     idle = c.in-Err.ensures.none;
     nothing_came = c.new-self.ensures;
+    held = c.release.ensures;
   },
 )
